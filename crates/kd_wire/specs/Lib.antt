@@ -1,0 +1,4 @@
+pub mod Area
+pub mod Header
+pub mod Walk
+pub mod Front

@@ -1,0 +1,43 @@
+ghost use Rattle.std.specs.Prelude.{◌≡◌, List, IfOk, IfErr, IsOkAnd};
+ghost use Rattle.kd_wire.specs.Area.{Piece, IsArea, IsCutAt};
+
+use crate::walk::{Front, Pieces, front_of, pieces_over};
+use thiserror::Error;
+
+/// An option has no length byte, or fewer bytes left than its length says.
+#[derive(Clone, Copy, Debug, PartialEq, Eq, Error)]
+#[error("Cut {at}")]
+pub struct Cut {
+    /// The offset of the option's code byte in the area.
+    pub at: usize,
+}
+
+/// The pieces of an area of options, in order, without pads and End (RFC 2132 section 3.1, 3.2).
+/// What follows an End is not looked at, and an area may end without one.
+///
+/// # Errors
+///
+/// `Cut` where the area holds an option that is cut off.
+pub fn pieces(area: &[u8]) -> Result<Pieces<'_>, Cut>
+    ensures found { IfOk result (λ list. IsArea area.now list) }
+    ensures cut { IfErr result (λ fault. IsCutAt area.now fault.at) }
+    ensures only { (list : List Piece) → IsArea area.now list
+        → IsOkAnd result (λ found. found ≡ list) }
+{
+    let mut left = area;
+    let mut at = 0;
+    loop {
+        match front_of(left) {
+            Front::End => return Ok(pieces_over(area)),
+            Front::Pad(rest) => {
+                left = rest;
+                at += 1;
+            }
+            Front::Piece(_, value, rest) => {
+                left = rest;
+                at += 2 + value.len();
+            }
+            Front::Cut => return Err(Cut { at }),
+        }
+    }
+}
