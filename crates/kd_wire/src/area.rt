@@ -1,4 +1,4 @@
-ghost use Rattle.std.specs.Prelude.{◌≡◌, List, IfOk, IfErr, IsOkAnd};
+ghost use Rattle.std.specs.Prelude.{◌≡◌, ◌<◌, List, length, IfOk, IfErr, IsOkAnd};
 ghost use Rattle.kd_wire.specs.Area.{Piece, IsArea, IsCutAt};
 
 use crate::walk::{Front, Pieces, front_of, pieces_over};
@@ -21,6 +21,7 @@ pub struct Cut {
 pub fn pieces(area: &[u8]) -> Result<Pieces<'_>, Cut>
     ensures found { IfOk result (λ list. IsArea area.now list) }
     ensures cut { IfErr result (λ fault. IsCutAt area.now fault.at) }
+    ensures within { IfErr result (λ fault. fault.at < length area.now) }
     ensures only { (list : List Piece) → IsArea area.now list
         → IsOkAnd result (λ found. found ≡ list) }
 {

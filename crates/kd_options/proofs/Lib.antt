@@ -1,0 +1,6 @@
+pub mod Relays
+pub mod Joins
+pub mod Maps
+pub mod Composed
+pub mod Rules
+pub mod SeenCodes

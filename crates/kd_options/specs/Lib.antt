@@ -1,0 +1,10 @@
+pub mod Joined
+pub mod Joining
+pub mod Faults
+pub mod Kind
+pub mod Options
+pub mod Areas
+pub mod Message
+pub mod Relay
+pub mod RelayWalk
+pub mod RelayFront

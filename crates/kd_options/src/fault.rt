@@ -1,0 +1,115 @@
+ghost use Rattle.std.specs.Prelude.{◌≡◌};
+ghost use Rattle.kd_options.specs.Faults.{read_fault_number, address_option_code};
+
+use kd_wire::WireFault;
+use std::alloc::AllocError;
+use std::fmt;
+use thiserror::Error;
+
+/// An option that holds one IPv4 address (RFC 2132 sections 9.1 and 9.7).
+#[derive(Clone, Copy, Debug, PartialEq, Eq)]
+pub enum AddressOption {
+    /// Option 50, the address that a client asks for.
+    RequestedAddress,
+    /// Option 54, the server that a client speaks to.
+    ServerIdentifier,
+}
+
+impl AddressOption {
+    /// The option's code.
+    pub fn code(self) -> u8
+        ensures { result ≡ address_option_code self }
+    {
+        match self {
+            AddressOption::RequestedAddress => 50,
+            AddressOption::ServerIdentifier => 54,
+        }
+    }
+}
+
+impl fmt::Display for AddressOption {
+    fn fmt<W: fmt::Write>(&self, f: &mut fmt::Formatter<W>) -> fmt::Result {
+        write!(f, "{}", self.code())
+    }
+}
+
+/// Why a datagram reads as no message.
+#[derive(Clone, Copy, Debug, PartialEq, Eq, Error)]
+pub enum ReadFault {
+    /// The bytes have no header of a DHCP message.
+    #[error("{0}")]
+    Header(WireFault),
+    /// An option has no length byte, or fewer bytes left than its length says; the offset of its code
+    /// byte in the datagram.
+    #[error("Cut {0}")]
+    Cut(usize),
+    /// Option 53, the message type, is absent (RFC 2132 section 9.6).
+    #[error("NoType")]
+    NoType,
+    /// Option 53 is not one byte from 1 to 8.
+    #[error("BadType")]
+    BadType,
+    /// Option 50 or 54 has not the 4 bytes of an address.
+    #[error("BadOption {0}")]
+    BadOption(AddressOption),
+    /// There is no memory for the options.
+    #[error("Memory")]
+    Memory,
+}
+
+impl ReadFault {
+    /// The fault's number: 1 to 9, or 91 for want of memory.
+    pub fn number(self) -> u8
+        ensures { result ≡ read_fault_number self }
+    {
+        match self {
+            ReadFault::Header(fault) => fault.number(),
+            ReadFault::Cut(_) => 5,
+            ReadFault::NoType => 6,
+            ReadFault::BadType => 7,
+            ReadFault::BadOption(AddressOption::RequestedAddress) => 8,
+            ReadFault::BadOption(AddressOption::ServerIdentifier) => 9,
+            ReadFault::Memory => 91,
+        }
+    }
+}
+
+impl From<WireFault> for ReadFault {
+    ghost use Rattle.kd_options.specs.declared.fault.ReadFault.TheVariants.{Header};
+
+    ghost from_gives = { λ fault e. e ≡ Header fault };
+
+    fn from(fault: WireFault) -> ReadFault {
+        ReadFault::Header(fault)
+    }
+}
+
+// Why the areas of a datagram give no options.
+#[derive(Clone, Copy)]
+pub(crate) enum AreaFault {
+    Cut(usize),
+    Memory,
+}
+
+impl From<AllocError> for AreaFault {
+    ghost use Rattle.kd_options.specs.declared.fault.AreaFault.TheVariants.{Memory};
+
+    ghost from_gives = { λ _ e. e ≡ Memory };
+
+    fn from(_error: AllocError) -> AreaFault {
+        AreaFault::Memory
+    }
+}
+
+impl From<AreaFault> for ReadFault {
+    ghost use Rattle.kd_options.specs.Faults.{read_fault_of};
+
+    ghost from_gives = { λ fault e. e ≡ read_fault_of fault };
+
+    fn from(fault: AreaFault) -> ReadFault {
+        match fault {
+            AreaFault::Cut(at) => ReadFault::Cut(at),
+            AreaFault::Memory => ReadFault::Memory,
+        }
+    }
+}

@@ -1,0 +1,18 @@
+//! DHCP messages: their options over all areas in use, joined (RFC 2131, 2132, 3396), and the
+//! sub-options of relay information (RFC 3046).
+//!
+//! What this layer promises to the one above: `Message::read` answers the message that a datagram's
+//! bytes read as, or the first fault in order (`specs/Message.antt`); each reader's answer is exact in
+//! terms of that message (`specs/Joined.antt`, `specs/Relay.antt`). A message borrows its datagram.
+#![tactic(auto)]
+
+mod areas;
+mod fault;
+mod joining;
+mod kind;
+mod message;
+mod relay;
+
+pub use fault::{AddressOption, ReadFault};
+pub use kind::MessageType;
+pub use message::Message;

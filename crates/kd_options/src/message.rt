@@ -1,0 +1,176 @@
+ghost use Rattle.std.specs.Prelude.{◌≡◌, ◌∷◌, [], nat_eq, option_copied, option_map, slice_get, IfOk, IfErr, IsSomeAnd, MatchResult, Some};
+ghost use Rattle.std.specs.Map.{lookup};
+ghost use Rattle.kd_options.specs.Joined.{value_of};
+ghost use Rattle.kd_options.specs.Joining.{entries_of};
+ghost use Rattle.kd_options.specs.Kind.{type_number};
+ghost use Rattle.kd_options.specs.Message.{Seen, Reads, IsFirstFault, mac_of};
+ghost use Rattle.kd_options.specs.Options.{IsType, option_fault, may_be_address};
+ghost use Rattle.kd_options.specs.Relay.{IsRelayList, firsts};
+ghost use Rattle.kd_options.specs.RelayWalk.{relay_list};
+ghost use Rattle.kd_options.specs.declared.fault.ReadFault.TheVariants.{Memory};
+
+use crate::areas::options_in;
+use crate::fault::{AddressOption, ReadFault};
+use crate::joining::{Value, entry_in, value_in};
+use crate::kind::{MessageType, type_of_number};
+use crate::relay::{sub_option, sub_option_at};
+use indexmap::IndexMap;
+use kd_wire::Header;
+use std::alloc::Global;
+use std::marker::Model;
+
+/// A readable DHCP message (RFC 2131 section 2). It borrows its datagram: an option of one piece is a
+/// slice of it, and an option of several pieces is joined (RFC 3396).
+#[derive(Debug, Drop)]
+pub struct Message<'a> {
+    head: Header,
+    size: usize,
+    fields: IndexMap<u8, Value<'a>>,
+}
+
+impl<'a> Model for Message<'a> {
+    ghost use Rattle.kd_options.specs.Joining.{entries_of};
+    ghost use Rattle.kd_options.specs.Message.{Seen};
+    ghost use Rattle.kd_options.specs.Options.{IsReadable};
+
+    ghost Value = { Seen };
+
+    ghost view = { λ m. record { header = m.head; len = m.size; options = entries_of m.fields.entries } };
+
+    ghost invariant = { λ m. IsReadable (entries_of m.fields.entries) };
+}
+
+impl<'a> Message<'a> {
+    /// The message that a datagram reads as. Memory is taken for the table of options and for the
+    /// options that are joined.
+    ///
+    /// # Errors
+    ///
+    /// The first that applies of a header's fault, `Cut` in the first area that is cut, `NoType`,
+    /// `BadType`, and `BadOption` of 50 and of 54; or `Memory` in place of any later answer.
+    pub fn read(alloc: Global, bytes: &'a [u8]) -> Result<Message<'a>, ReadFault>
+        ensures found { IfOk result (λ m. Reads bytes.now m) }
+        ensures fault { IfErr result (λ fault. IsFirstFault fault bytes.now) }
+        ensures only { (m : Seen) → Reads bytes.now m
+            → MatchResult result (λ found. found ≡ m) (λ fault. fault ≡ Memory) }
+    {
+        let head = Header::read(bytes)?;
+        let fields = options_in(alloc, bytes)?;
+        match fault_in(&fields) {
+            Some(fault) => Err(fault),
+            None => Ok(Message {
+                head,
+                size: bytes.len(),
+                fields,
+            }),
+        }
+    }
+
+    /// The header's fields.
+    pub fn header(&self) -> Header
+        ensures { result ≡ self.now.header }
+    {
+        self.head
+    }
+
+    /// The number of bytes of the datagram, 240 to 4,096.
+    pub fn len(&self) -> usize
+        ensures { result ≡ self.now.len }
+    {
+        self.size
+    }
+
+    /// The message type (RFC 2132 section 9.6).
+    pub fn kind(&self) -> MessageType
+        ensures { value_of 53 self.now.options ≡ Some (type_number result ∷ []) }
+    {
+        type_in(&self.fields)
+    }
+
+    /// The hardware address: the first `hlen` bytes of `chaddr`, at most 16.
+    pub fn mac(&self) -> &[u8]
+        ensures { result.now ≡ mac_of self.now.header }
+    {
+        let len = usize::from(self.head.hlen).min(16);
+        &self.head.chaddr[..len]
+    }
+
+    /// The joined value of an option, which may be empty, or `None` where it is absent.
+    pub fn option(&self, code: u8) -> Option<&[u8]>
+        ensures { option_copied result ≡ value_of code self.now.options }
+    {
+        value_in(&self.fields, code)
+    }
+
+    /// The option at an index, in order of first appearance.
+    pub fn option_at(&self, index: usize) -> Option<(u8, &[u8])>
+        ensures { option_map (λ p. (p.0, p.1.now)) result ≡ slice_get self.now.options index }
+    {
+        entry_in(&self.fields, index)
+    }
+
+    /// The first sub-option of this code in the relay information, option 82 (RFC 3046 section 2).
+    pub fn relay(&self, code: u8) -> Option<&[u8]>
+        ensures list { IsRelayList (value_of 82 self.now.options) (relay_list self.now.options) }
+        ensures value { option_copied result ≡ lookup (nat_eq code) (relay_list self.now.options) }
+    {
+        match self.option(82) {
+            Some(value) => sub_option(value, code),
+            None => None,
+        }
+    }
+
+    /// The sub-option of the relay information at an index, each code once, in order of first
+    /// appearance.
+    pub fn relay_at(&self, index: usize) -> Option<(u8, &[u8])>
+        ensures list { IsRelayList (value_of 82 self.now.options) (relay_list self.now.options) }
+        ensures value { option_map (λ p. (p.0, p.1.now)) result
+            ≡ slice_get (firsts (relay_list self.now.options)) index }
+    {
+        match self.option(82) {
+            Some(value) => sub_option_at(value, index),
+            None => None,
+        }
+    }
+}
+
+// The message type of readable options.
+#[tactic(auto, using(crate::proofs::Rules::type_is))]
+fn type_in(fields: &IndexMap<u8, Value<'_>>) -> MessageType
+    requires { IsSomeAnd (value_of 53 (entries_of fields.now.entries)) IsType }
+    ensures { value_of 53 (entries_of fields.now.entries) ≡ Some (type_number result ∷ []) }
+{
+    match value_in(fields, 53) {
+        Some(value) => type_of_number(value[0]),
+        None => unreachable!(),
+    }
+}
+
+// The first fault of the options.
+#[tactic(auto, unfolding(crate::specs::Options::option_fault))]
+fn fault_in(fields: &IndexMap<u8, Value<'_>>) -> Option<ReadFault>
+    ensures { result ≡ option_fault (entries_of fields.now.entries) }
+{
+    match value_in(fields, 53) {
+        None => return Some(ReadFault::NoType),
+        Some([1..=8]) => {}
+        Some(_) => return Some(ReadFault::BadType),
+    }
+    if !may_be_address(value_in(fields, 50)) {
+        return Some(ReadFault::BadOption(AddressOption::RequestedAddress));
+    }
+    if !may_be_address(value_in(fields, 54)) {
+        return Some(ReadFault::BadOption(AddressOption::ServerIdentifier));
+    }
+    None
+}
+
+// An address has four bytes, where it is there.
+fn may_be_address(value: Option<&[u8]>) -> bool
+    ensures { result ≡ may_be_address (option_copied value.entry) }
+{
+    match value {
+        Some(value) => value.len() == 4,
+        None => true,
+    }
+}
