@@ -1,5 +1,5 @@
 -- The first sub-option of each code, told by a table of the codes that were met.
-use Rattle.std.proofs.Common.{◌≡◌, ℕ, zero, suc, ◌-◌, ◌<◌, Bool, true, false, List, [], ◌∷◌, length, refl, ap, ◌∙◌, eqb-true, get_or, set, get_or-set_same, get_or-set_other, arith}
+use Rattle.std.proofs.Common.{◌≡◌, ℕ, zero, suc, ◌+◌, ◌-◌, ◌<◌, ◌≤◌, Bool, true, false, List, [], ◌∷◌, length, refl, sym, ap, ◌∙◌, eqb-true, get_or, set, get_or-set_same, get_or-set_other, arith}
 use Rattle.std.specs.Prelude.{◌==◌, not, filter, slice_get, if◌then◌else◌}
 use Rattle.std.specs.List.{list_all}
 use Rattle.std.proofs.lemmas.Bool.{eqb-false, false≢true}
@@ -54,3 +54,39 @@ all_false [] each k = refl
 all_false (true ∷ xs) each k = absurd (false≢true each)
 all_false (false ∷ xs) each zero = refl
 all_false (false ∷ xs) each (suc k) = all_false xs each k
+
+-- how many codes were met
+abbrev pub marks : List Bool → ℕ
+marks [] = 0
+marks (true ∷ xs) = 1 + marks xs
+marks (false ∷ xs) = marks xs
+
+pub marks-none : (xs : List Bool) → ((k : ℕ) → get_or xs k false ≡ false) → marks xs ≡ 0
+marks-none [] nothing = refl
+marks-none (true ∷ xs) nothing = absurd (false≢true (sym (nothing 0)))
+marks-none (false ∷ xs) nothing = marks-none xs (λ k. nothing (suc k))
+
+marks-le : (xs : List Bool) → marks xs ≤ length xs
+marks-le [] = omega arith
+marks-le (true ∷ xs) = let most = marks-le xs in omega (arith, most)
+marks-le (false ∷ xs) = let most = marks-le xs in omega (arith, most)
+
+-- while a code is not met, fewer were met than there are
+pub marks-lt : (xs : List Bool) (k : ℕ) → get_or xs k false ≡ false → k < length xs → marks xs < length xs
+marks-lt [] k unmet within = absurd (omega (arith, within))
+marks-lt (true ∷ xs) zero unmet within = absurd (false≢true (sym unmet))
+marks-lt (true ∷ xs) (suc k) unmet within =
+    let less : marks xs < length xs = marks-lt xs k unmet (omega (arith, within)) in omega (arith, less)
+marks-lt (false ∷ xs) zero unmet within = let most = marks-le xs in omega (arith, most)
+marks-lt (false ∷ xs) (suc k) unmet within =
+    let less : marks xs < length xs = marks-lt xs k unmet (omega (arith, within)) in omega (arith, less)
+
+-- one code more
+pub marks-set : (xs : List Bool) (k : ℕ) → get_or xs k false ≡ false → k < length xs → marks (set xs k true) ≡ marks xs + 1
+marks-set [] k unmet within = absurd (omega (arith, within))
+marks-set (true ∷ xs) zero unmet within = absurd (false≢true (sym unmet))
+marks-set (true ∷ xs) (suc k) unmet within =
+    let more : marks (set xs k true) ≡ marks xs + 1 = marks-set xs k unmet (omega (arith, within)) in omega (arith, more)
+marks-set (false ∷ xs) zero unmet within = omega arith
+marks-set (false ∷ xs) (suc k) unmet within =
+    let more : marks (set xs k true) ≡ marks xs + 1 = marks-set xs k unmet (omega (arith, within)) in omega (arith, more)

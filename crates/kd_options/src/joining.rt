@@ -1,4 +1,4 @@
-ghost use Rattle.std.specs.Prelude.{◌≡◌, ◌++◌, nat_eq, option_copied, option_map, slice_get, OnOk};
+ghost use Rattle.std.specs.Prelude.{◌≡◌, ◌+◌, ◌^◌, ◌<◌, IsSome, ◌++◌, nat_eq, option_copied, option_map, slice_get, OnOk};
 ghost use Rattle.kd_options.specs.Joined.{value_of};
 ghost use Rattle.kd_options.specs.Joining.{bytes_of, entries_of, joined_into};
 
@@ -72,8 +72,10 @@ pub(crate) fn entry_in<'m>(
     options: &'m IndexMap<u8, Value<'_>>,
     index: usize,
 ) -> Option<(u8, &'m [u8])>
-    ensures { option_map (λ p. (p.0, p.1.now)) result ≡ slice_get (entries_of options.now.entries) index }
+    ensures value { option_map (λ p. (p.0, p.1.now)) result ≡ slice_get (entries_of options.now.entries) index }
+    ensures within { IsSome result → index + 1 < 2 ^ 64 }
 {
+    let _count = options.len();
     match options.get_index(index) {
         Some((code, value)) => Some((*code, value.as_slice())),
         None => None,

@@ -12,6 +12,8 @@ mod joining;
 mod kind;
 mod message;
 mod relay;
+#[cfg(test)]
+mod tests;
 
 pub use fault::{AddressOption, ReadFault};
 pub use kind::MessageType;

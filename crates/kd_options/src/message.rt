@@ -1,4 +1,4 @@
-ghost use Rattle.std.specs.Prelude.{◌≡◌, ◌∷◌, [], nat_eq, option_copied, option_map, slice_get, IfOk, IfErr, IsSomeAnd, MatchResult, Some};
+ghost use Rattle.std.specs.Prelude.{◌≡◌, ◌+◌, ◌^◌, ◌<◌, IsSome, ◌∷◌, [], nat_eq, option_copied, option_map, slice_get, IfOk, IfErr, IsSomeAnd, MatchResult, Some};
 ghost use Rattle.std.specs.Map.{lookup};
 ghost use Rattle.kd_options.specs.Joined.{value_of};
 ghost use Rattle.kd_options.specs.Joining.{entries_of};
@@ -91,8 +91,8 @@ impl<'a> Message<'a> {
     pub fn mac(&self) -> &[u8]
         ensures { result.now ≡ mac_of self.now.header }
     {
-        let len = usize::from(self.head.hlen).min(16);
-        &self.head.chaddr[..len]
+        let header = &self.head;
+        &header.chaddr[..usize::from(header.hlen).min(16)]
     }
 
     /// The joined value of an option, which may be empty, or `None` where it is absent.
@@ -104,7 +104,8 @@ impl<'a> Message<'a> {
 
     /// The option at an index, in order of first appearance.
     pub fn option_at(&self, index: usize) -> Option<(u8, &[u8])>
-        ensures { option_map (λ p. (p.0, p.1.now)) result ≡ slice_get self.now.options index }
+        ensures value { option_map (λ p. (p.0, p.1.now)) result ≡ slice_get self.now.options index }
+        ensures within { IsSome result → index + 1 < 2 ^ 64 }
     {
         entry_in(&self.fields, index)
     }
@@ -126,6 +127,7 @@ impl<'a> Message<'a> {
         ensures list { IsRelayList (value_of 82 self.now.options) (relay_list self.now.options) }
         ensures value { option_map (λ p. (p.0, p.1.now)) result
             ≡ slice_get (firsts (relay_list self.now.options)) index }
+        ensures within { IsSome result → index < 256 }
     {
         match self.option(82) {
             Some(value) => sub_option_at(value, index),

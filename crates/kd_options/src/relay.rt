@@ -1,4 +1,4 @@
-ghost use Rattle.std.specs.Prelude.{◌≡◌, ◌∷◌, ℕ, [], true, false, MatchOption, length, slice_index_or, nat_eq, option_copied, option_map, slice_get};
+ghost use Rattle.std.specs.Prelude.{◌≡◌, ◌<◌, IsSome, ◌∷◌, ℕ, [], true, false, MatchOption, length, slice_index_or, nat_eq, option_copied, option_map, slice_get};
 ghost use Rattle.std.specs.Map.{lookup};
 ghost use Rattle.kd_options.specs.Relay.{firsts};
 ghost use Rattle.kd_options.specs.RelayWalk.{are_whole_from, subs_from, sub_options_of};
@@ -106,12 +106,14 @@ fn sub_options(value: &[u8]) -> SubOptions<'_>
 pub(crate) fn sub_option(value: &[u8], code: u8) -> Option<&[u8]>
     ensures { option_copied result ≡ lookup (nat_eq code) (sub_options_of value.now) }
 {
+    let mut found = None;
     for (own, sub) in sub_options(value) {
         if own == code {
-            return Some(sub);
+            found = Some(sub);
+            break;
         }
     }
-    None
+    found
 }
 
 // A table of all codes, of which none was met.
@@ -124,7 +126,8 @@ fn no_codes() -> [bool; 256]
 
 // The sub-option at an index, each code once, in order of first appearance.
 pub(crate) fn sub_option_at(value: &[u8], index: usize) -> Option<(u8, &[u8])>
-    ensures { option_map (λ p. (p.0, p.1.now)) result ≡ slice_get (firsts (sub_options_of value.now)) index }
+    ensures value { option_map (λ p. (p.0, p.1.now)) result ≡ slice_get (firsts (sub_options_of value.now)) index }
+    ensures within { IsSome result → index < 256 }
 {
     let mut seen = no_codes();
     let mut before = index;

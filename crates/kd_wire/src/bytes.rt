@@ -35,6 +35,7 @@ impl Bytes {
     pub fn into_vec(self) -> Vec<u8>
         ensures { result.items ≡ self }
     {
-        self.content
+        let Bytes { content } = self;
+        content
     }
 }

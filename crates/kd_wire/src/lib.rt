@@ -10,6 +10,8 @@
 mod area;
 mod bytes;
 mod header;
+#[cfg(test)]
+mod tests;
 mod walk;
 
 pub use area::{Cut, pieces};
