@@ -39,4 +39,4 @@ returns-then-before-eq0-clause-within c = λ there.
     let new : get_or c.loop-code.seen c.in-Some.code false ≡ false = ap (λ k. get_or c.loop-code.seen k false) (sym c.from.ensures) ∙ c.if-seen-from.false in
     let within : c.in-Some.code < length c.loop-code.seen = grind (arith, i.1) in
     let fewer = marks-lt c.loop-code.seen c.in-Some.code new within in
-        omega (arith, fewer, i.1, i.2, c.if-before-eq0.true)
+    omega (arith, fewer, i.1, i.2, c.if-before-eq0.true)
