@@ -1,0 +1,4 @@
+pub mod Flags
+pub mod Lines
+pub mod Orders
+pub mod Shown

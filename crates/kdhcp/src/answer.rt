@@ -1,0 +1,93 @@
+ghost use Rattle.std.specs.Prelude.{◌≡◌, ◌++◌, IfOk, codes, string_bytes};
+ghost use Rattle.std.specs.Fmt.{decimal};
+ghost use Rattle.hex.specs.Hex.{decode_of};
+ghost use Rattle.kdhcp.specs.Printed.{Answers, IsRefusal, IsSuccess, ShowsDatagram, ShowsDecoded};
+ghost use Rattle.kdhcp.specs.Show.{line_feed};
+
+use crate::order::{LineFault, Order};
+use crate::show::show;
+use crate::status::exit_status;
+use hex::FromHexError;
+use kd_options::{Message, ReadFault};
+use kd_wire::Bytes;
+use std::alloc::{AllocError, Global};
+use std::fmt::Display;
+
+/// What an order prints, and the program's exit status.
+#[derive(Debug, Drop)]
+pub struct Printed {
+    /// What goes to standard output.
+    pub out: Bytes,
+    /// What goes to standard error: nothing, or one fault line.
+    pub fault: Bytes,
+    /// The exit status.
+    pub status: u8,
+}
+
+/// What an order prints that needs nothing but its words.
+///
+/// # Errors
+///
+/// Want of memory alone: every other fault is printed.
+pub fn answer(alloc: Global, order: &Order) -> Result<Printed, AllocError>
+    ensures { IfOk result (Answers order.now) }
+{
+    match order {
+        Order::Help(text) => Ok(success(alloc, text.clone()?)),
+        Order::Show { hex } => answer_show(alloc, hex.as_str()),
+    }
+}
+
+// The lines of the datagram in a word.
+fn answer_show(alloc: Global, word: &str) -> Result<Printed, AllocError>
+    ensures { IfOk result (ShowsDecoded (decode_of word.now)) }
+{
+    match hex::decode(alloc, word) {
+        Ok(bytes) => show_datagram(alloc, bytes.as_slice()),
+        Err(FromHexError::OutOfMemory) => Err(AllocError),
+        Err(_) => refusal(alloc, LineFault::CommandLine.number(), &LineFault::CommandLine),
+    }
+}
+
+// The lines of a datagram, or its first fault.
+fn show_datagram(alloc: Global, bytes: &[u8]) -> Result<Printed, AllocError>
+    ensures { IfOk result (ShowsDatagram bytes.now) }
+{
+    match Message::read(alloc, bytes) {
+        Ok(message) => Ok(success(alloc, show(alloc, &message)?)),
+        Err(ReadFault::Memory) => Err(AllocError),
+        Err(fault) => refusal(alloc, fault.number(), &fault),
+    }
+}
+
+// A text on standard output and nothing else.
+fn success(alloc: Global, text: String) -> Printed
+    ensures { IsSuccess (string_bytes text) result }
+{
+    Printed {
+        out: Bytes::own(text.into_bytes()),
+        fault: Bytes::own(Vec::new(alloc)),
+        status: 0,
+    }
+}
+
+// A fault's line on standard error, and its exit status.
+fn refusal<F: Display>(alloc: Global, number: u8, fault: &F) -> Result<Printed, AllocError>
+    ensures { IfOk result (IsRefusal number) }
+{
+    let name = format!(in alloc; "{fault}")?;
+    let line = fault_line(alloc, number, name.as_str())?;
+    Ok(Printed {
+        out: Bytes::own(Vec::new(alloc)),
+        fault: Bytes::own(line.into_bytes()),
+        status: exit_status(number),
+    })
+}
+
+// `fault NUMBER NAME`, and the operands behind the name.
+fn fault_line(alloc: Global, number: u8, name: &str) -> Result<String, AllocError>
+    ensures { IfOk result (λ line. string_bytes line
+        ≡ codes "fault " ++ decimal number ++ codes " " ++ name.now ++ line_feed) }
+{
+    format!(in alloc; "fault {number} {name}\n")
+}

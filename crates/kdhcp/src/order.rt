@@ -1,0 +1,49 @@
+ghost use Rattle.std.specs.Prelude.{◌≡◌};
+ghost use Rattle.kdhcp.specs.Order.{fault_number};
+ghost use Rattle.kdhcp.specs.declared.order.LineFault.TheVariants.{Memory};
+
+use std::alloc::AllocError;
+use thiserror::Error;
+
+/// What the command line asks for.
+#[derive(Debug, Drop)]
+pub enum Order {
+    /// The help text, for standard output.
+    Help(String),
+    /// The lines of one datagram.
+    Show {
+        /// The datagram's bytes, as the word gives them.
+        hex: String,
+    },
+}
+
+/// Why the words are no order.
+#[derive(Clone, Copy, Debug, PartialEq, Eq, Error)]
+pub enum LineFault {
+    /// The words are not as the help text says.
+    #[error("CommandLine")]
+    CommandLine,
+    /// Memory ran out.
+    #[error("Memory")]
+    Memory,
+}
+
+impl LineFault {
+    /// The fault's number, as the program prints it.
+    pub fn number(self) -> u8
+        ensures { result ≡ fault_number self }
+    {
+        match self {
+            LineFault::CommandLine => 98,
+            LineFault::Memory => 91,
+        }
+    }
+}
+
+impl From<AllocError> for LineFault {
+    ghost from_gives = { λ _ e. e ≡ Memory };
+
+    fn from(_error: AllocError) -> LineFault {
+        LineFault::Memory
+    }
+}

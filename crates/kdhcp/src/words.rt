@@ -1,0 +1,96 @@
+ghost use Rattle.std.specs.Prelude.{◌≡◌, ◌↔◌, IfErr, IfOk, codes, false, map};
+ghost use Rattle.std.specs.String.{string_bytes};
+ghost use Rattle.clap.specs.Words.{Text, app_of, first_value, found_of, kind_of};
+ghost use Rattle.clap.specs.Words.{subcommand_rows_of};
+ghost use Rattle.clap.specs.declared.builder.command.Command.TheViews.{out-Command};
+ghost use Rattle.kdhcp.specs.Line.{IsHelpLine, IsShowLine};
+ghost use Rattle.kdhcp.specs.Order.{AsksFor, HasFault, HelpsUnlessFull, IsShow, ShowsUnlessFull};
+ghost use Rattle.kdhcp.specs.Order.{command_line, hex_of, show_line};
+ghost use Rattle.kdhcp.specs.Steps.{AnswersKind, ShowsIfThere};
+
+use crate::order::{LineFault, Order};
+use clap::error::ErrorKind;
+use clap::{Arg, ArgMatches, Command};
+use std::alloc::{AllocError, Global};
+
+/// The order that the words give, which are those behind the program's name.
+///
+/// # Errors
+///
+/// `CommandLine` where the words are no command of the program, and `Memory`.
+pub fn order(alloc: Global, words: &[String]) -> Result<Order, LineFault>
+    ensures order { IfOk result (AsksFor (map string_bytes words.now)) }
+    ensures fault { IfErr result (HasFault (map string_bytes words.now)) }
+    ensures only { (hex : Text) → IsShow (map string_bytes words.now) hex
+        → ShowsUnlessFull hex result }
+    ensures line { (hex : Text) → IsShow (map string_bytes words.now) hex
+        ↔ IsShowLine (map string_bytes words.now) hex }
+    ensures help { IsHelpLine (map string_bytes words.now) → HelpsUnlessFull result }
+{
+    let command = kdhcp(alloc)?;
+    match command.try_get_matches_from(words) {
+        Ok(matches) => asked_for(alloc, &matches),
+        Err(error) => answer_to(alloc, &error),
+    }
+}
+
+// The whole command line.
+fn kdhcp<'a>(alloc: Global) -> Result<Command<'a>, AllocError>
+    ensures { IfOk result (λ c. app_of c ≡ command_line) }
+{
+    Command::new(alloc, "kdhcp")
+        .about("A DHCPv4 server that tells what it reads")
+        .bin_name("kdhcp")?
+        .no_binary_name(true)
+        .subcommand_required(true)
+        .subcommand(show(alloc)?)
+}
+
+// `show HEX`.
+fn show<'a>(alloc: Global) -> Result<Command<'a>, AllocError>
+    ensures app { IfOk result (λ c. app_of c ≡ show_line) }
+    ensures local { IfOk result (λ c. (out-Command c).has_globals ≡ false) }
+{
+    let hex = Arg::new(alloc, "HEX")
+        .help("The bytes of a datagram, two hexadecimal digits each")
+        .required(true);
+    Command::new(alloc, "show")
+        .about("Print the lines of one datagram")
+        .arg(hex)
+}
+
+// What matches of the command line ask for.
+fn asked_for(alloc: Global, matches: &ArgMatches<'_>) -> Result<Order, LineFault>
+    ensures { ShowsIfThere (hex_of (subcommand_rows_of matches.now)) result }
+{
+    match matches.subcommand() {
+        Some(("show", inner)) => shown(alloc, inner),
+        _ => Err(LineFault::CommandLine),
+    }
+}
+
+// What matches of `show` ask for.
+fn shown(alloc: Global, matches: &ArgMatches<'_>) -> Result<Order, LineFault>
+    ensures { ShowsIfThere (first_value (found_of matches.now) (codes "HEX")) result }
+{
+    match matches.get_str("HEX") {
+        Some(text) => Ok(Order::Show {
+            hex: String::from_str(alloc, text)?,
+        }),
+        None => Err(LineFault::CommandLine),
+    }
+}
+
+// Where the words give no matches, help or a fault.
+fn answer_to(alloc: Global, error: &clap::Error) -> Result<Order, LineFault>
+    ensures { AnswersKind (kind_of error.now) result }
+{
+    match error.kind() {
+        ErrorKind::DisplayHelp => Ok(Order::Help(format!(in alloc; "{error}")?)),
+        ErrorKind::OutOfMemory => Err(LineFault::Memory),
+        _ => Err(LineFault::CommandLine),
+    }
+}
+
+#[cfg(test)]
+mod tests;

@@ -1,0 +1,73 @@
+use super::order;
+use crate::order::{LineFault, Order};
+
+// The order that these words give.
+fn read(rt: &HostRuntime, words: &[&str]) -> Result<Order, LineFault> {
+    let mut owned = Vec::new(rt.alloc());
+    for word in words {
+        let word = String::from_str(rt.alloc(), word)?;
+        owned.push(word).map_err(|_| LineFault::Memory)?;
+    }
+    order(rt.alloc(), &owned)
+}
+
+#[test]
+fn show_has_its_text(rt: HostRuntime) {
+    let rows: [(&[&str], &str); 6] = [
+        (&["show", "0a0b"], "0a0b"),
+        (&["show", "not hexadecimal"], "not hexadecimal"),
+        (&["show", "--", "-a"], "-a"),
+        (&["show", "a", "--"], "a"),
+        (&["show", ""], ""),
+        (&["show", "-"], "-"),
+    ];
+    for (words, wanted) in rows {
+        match read(&rt, words) {
+            Ok(Order::Show { hex }) => assert_eq!(rt; hex.as_str(), wanted),
+            other => panic!(rt; "{words:?}: {other:?}"),
+        }
+    }
+}
+
+#[test]
+fn help_is_an_order(rt: HostRuntime) {
+    let rows: [(&[&str], &str); 7] = [
+        (&["--help"], "Usage: kdhcp <COMMAND>"),
+        (&["-h"], "Usage: kdhcp <COMMAND>"),
+        (&["help"], "Usage: kdhcp <COMMAND>"),
+        (&["help", "show"], "Usage: kdhcp show <HEX>"),
+        (&["show", "--help"], "Usage: kdhcp show <HEX>"),
+        (&["show", "-h"], "Usage: kdhcp show <HEX>"),
+        (&["show", "a", "--help"], "Usage: kdhcp show <HEX>"),
+    ];
+    for (words, usage) in rows {
+        match read(&rt, words) {
+            Ok(Order::Help(text)) => assert!(rt; text.contains(usage), "{words:?}: {text}"),
+            other => panic!(rt; "{words:?}: {other:?}"),
+        }
+    }
+}
+
+#[test]
+fn other_words_are_a_mistake(rt: HostRuntime) {
+    let rows: [&[&str]; 12] = [
+        &[],
+        &["--", "show", "a"],
+        &["--help=yes"],
+        &[""],
+        &["show"],
+        &["show", "a", "b"],
+        &["show", "-a"],
+        &["--nope"],
+        &["nope"],
+        &["--version"],
+        &["help", "nope"],
+        &["show", "--nope", "--help"],
+    ];
+    for words in rows {
+        match read(&rt, words) {
+            Err(LineFault::CommandLine) => (),
+            other => panic!(rt; "{words:?}: {other:?}"),
+        }
+    }
+}
