@@ -1,5 +1,5 @@
 -- Lines of the entries of a list, one entry after another.
-use Rattle.std.proofs.Common.{◌≡◌, ℕ, zero, suc, ◌+◌, ◌<◌, List, [], ◌∷◌, ◌++◌, length, take, Option, Some, None, refl, sym, ap, ◌∙◌, arith, append_assoc, true≢false, is_some}
+use Rattle.std.proofs.Common.{◌≡◌, ℕ, zero, suc, ◌+◌, ◌<◌, List, [], ◌∷◌, ◌++◌, length, take, Some, None, refl, sym, ap, ◌∙◌, arith, append_assoc, true≢false, is_some}
 use Rattle.std.specs.Prelude.{slice_get}
 use Rattle.std.specs.List.{flat_map}
 use Rattle.kd_wire.specs.Area.{Piece}
@@ -20,7 +20,7 @@ module _ (line : Piece → List ℕ) where
       let same : p ≡ q = cc in append_none (line q) ∙ ap line (sym same)
   entry_more (q ∷ list) (suc i) p at =
       let next : suc i + 1 ≡ suc (i + 1) = omega arith in
-          rw next (ap (λ x. line q ++ x) (entry_more list i p at) ∙ sym (append_assoc (line q) (flat_map line (take i list)) (line p)))
+      rw next (ap (λ x. line q ++ x) (entry_more list i p at) ∙ sym (append_assoc (line q) (flat_map line (take i list)) (line p)))
 
 -- an entry stands within the list
 pub entry_within : (list : List Piece) (i : ℕ) (p : Piece) → Some p ≡ slice_get list i → i < length list

@@ -45,7 +45,11 @@ fn answer_show(alloc: Global, word: &str) -> Result<Printed, AllocError>
     match hex::decode(alloc, word) {
         Ok(bytes) => show_datagram(alloc, bytes.as_slice()),
         Err(FromHexError::OutOfMemory) => Err(AllocError),
-        Err(_) => refusal(alloc, LineFault::CommandLine.number(), &LineFault::CommandLine),
+        Err(_) => refusal(
+            alloc,
+            LineFault::CommandLine.number(),
+            &LineFault::CommandLine,
+        ),
     }
 }
 

@@ -105,7 +105,13 @@ fn put_relays(alloc: Global, out: &mut String, message: &Message<'_>) -> Result<
 }
 
 // The line of an option or a sub-option.
-fn put_entry(alloc: Global, out: &mut String, word: &str, code: u8, value: &[u8]) -> Result<(), AllocError>
+fn put_entry(
+    alloc: Global,
+    out: &mut String,
+    word: &str,
+    code: u8,
+    value: &[u8],
+) -> Result<(), AllocError>
     ensures { OnOk result (string_bytes out.new ≡ string_bytes out.old ++ entry_line word.now (code, value.now)) }
 {
     put_number(out, word, u16::from(code))?;

@@ -1,4 +1,4 @@
-use Rattle.std.proofs.Common.{rules, ◌≡◌, append_assoc}
+use Rattle.std.proofs.Common.{rules, append_assoc}
 use Rattle.kdhcp.proofs.answer.fault_line.Goals as goal
 
 pub returns : goal.returns

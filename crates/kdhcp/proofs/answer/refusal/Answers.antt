@@ -1,5 +1,4 @@
-use Rattle.std.proofs.Common.{◌≡◌, ap, ◌∙◌, rules}
-use Rattle.std.specs.Prelude.{string_bytes}
+use Rattle.std.proofs.Common.{ap, ◌∙◌, rules}
 use Rattle.kdhcp.proofs.answer.refusal.Goals as goal
 
 pub returns : goal.returns

@@ -1,8 +1,6 @@
-use Rattle.std.proofs.Common.{◌≡◌, ◌≤◌, ◌-◌, ◌++◌, take, length}
+use Rattle.std.proofs.Common.{◌≡◌, ◌-◌, ◌++◌, take, length}
 use Rattle.std.specs.Prelude.{string_bytes}
 use Rattle.std.specs.List.{flat_map}
-use Rattle.kd_options.specs.Relay.{firsts}
-use Rattle.kd_options.specs.RelayWalk.{relay_list}
 use Rattle.kdhcp.specs.Show.{option_line}
 use Rattle.kdhcp.proofs.show.put_options.Given as goal
 

@@ -1,4 +1,4 @@
-use Rattle.std.proofs.Common.{◌≡◌, ◌≤◌, ◌-◌, ◌++◌, take, length}
+use Rattle.std.proofs.Common.{◌≡◌, ◌-◌, ◌++◌, take, length}
 use Rattle.std.specs.Prelude.{string_bytes}
 use Rattle.std.specs.List.{flat_map}
 use Rattle.kd_options.specs.Relay.{firsts}
