@@ -11,6 +11,9 @@ use indexmap::IndexMap;
 use kd_wire::{Pieces, pieces};
 use std::alloc::{AllocError, Global};
 
+// Room for as many options as a client sends, so that the table seldom grows.
+const USUAL_OPTIONS: usize = 14;
+
 // The options of a datagram over all areas that its option 52 puts to use, joined.
 pub(crate) fn options_in<'a>(
     alloc: Global,
@@ -23,7 +26,7 @@ pub(crate) fn options_in<'a>(
     ensures only { (options : List Piece) → HasOptions bytes.now options → MatchResult result
         (λ found. entries_of found.entries ≡ options) (λ fault. fault ≡ Memory) }
 {
-    let mut options = IndexMap::new(alloc);
+    let mut options = IndexMap::with_capacity(alloc, USUAL_OPTIONS)?;
     add_area(alloc, &mut options, true, field_of(bytes), 240)?;
     let (file, sname) = overload_of(value_in(&options, 52));
     add_area(alloc, &mut options, file, &bytes[108..236], 108)?;

@@ -42,7 +42,10 @@ fn each_field_stands_at_its_offset(rt: HostRuntime) -> Result<(), Fail> {
     }
     bytes.extend_from_slice(&COOKIE)?;
     let header = Header::read(&bytes)?;
-    assert_eq!(rt; [header.op, header.htype, header.hlen, header.hops], [2, 1, 2, 3]);
+    assert_eq!(rt;
+        [header.op, header.htype, header.hlen, header.hops],
+        [2, 1, 2, 3]
+    );
     assert_eq!(rt; header.xid, 0x0405_0607);
     assert_eq!(rt; header.secs, 0x0809);
     assert_eq!(rt; header.flags, 0x0a0b);
@@ -101,6 +104,9 @@ fn faults_have_their_numbers_and_names(rt: HostRuntime) -> Result<(), Fail> {
         assert_eq!(rt; fault.number(), number);
         assert_eq!(rt; format!(in rt.alloc(); "{fault}")?.as_str(), name);
     }
-    assert_eq!(rt; format!(in rt.alloc(); "{}", Cut { at: 3 })?.as_str(), "Cut 3");
+    assert_eq!(rt;
+        format!(in rt.alloc(); "{}", Cut { at: 3 })?.as_str(),
+        "Cut 3"
+    );
     Ok(())
 }

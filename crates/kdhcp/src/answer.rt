@@ -95,3 +95,8 @@ fn fault_line(alloc: Global, number: u8, name: &str) -> Result<String, AllocErro
 {
     format!(in alloc; "fault {number} {name}\n")
 }
+
+#[cfg(test)]
+mod samples;
+#[cfg(test)]
+mod tests;

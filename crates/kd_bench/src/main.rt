@@ -1,0 +1,73 @@
+//! Reads one datagram many times, so that its time can be taken from outside: `kd_bench discover 2000000`
+//! or `kd_bench pieces 100000`. It prints how many options were read in all, and no time.
+#![tactic(auto)]
+
+use kd_options::Message;
+use std::alloc::{AllocError, Global};
+use std::io;
+
+fn main(rt: HostRuntime) -> io::Result<()> {
+    let words: Vec<String> = std::env::args(&rt)?.collect(rt.alloc())?;
+    let is_pieces = words.get(1).is_some_and(|word| word.as_str() == "pieces");
+    let rounds = words
+        .get(2)
+        .and_then(|word| word.parse().ok())
+        .unwrap_or(10);
+    let bytes = if is_pieces {
+        pieces(rt.alloc())?
+    } else {
+        discover(rt.alloc())?
+    };
+    let read = read_again(rt.alloc(), bytes.as_slice(), rounds);
+    println!(rt; "{read}")
+}
+
+// How often the datagram was read with an option 60, of so many rounds.
+fn read_again(alloc: Global, bytes: &[u8], rounds: u32) -> u32 {
+    let mut read = 0u32;
+    for _ in 0..rounds {
+        if let Ok(message) = Message::read(alloc, bytes) {
+            if message.option(60).is_some() {
+                read = read.wrapping_add(1);
+            }
+        }
+    }
+    read
+}
+
+// The header of a client's datagram, and the cookie.
+fn head(alloc: Global) -> Result<Vec<u8>, AllocError> {
+    let mut bytes = Vec::from_slice(alloc, &[1, 1, 6, 0, 0, 0, 0, 1])?;
+    bytes.resize(28, 0)?;
+    bytes.extend_from_slice(&[10, 0, 0, 0, 0, 1])?;
+    bytes.resize(236, 0)?;
+    bytes.extend_from_slice(&[99, 130, 83, 99])?;
+    Ok(bytes)
+}
+
+// A DISCOVER of 300 bytes with 8 options.
+fn discover(alloc: Global) -> Result<Vec<u8>, AllocError> {
+    let mut bytes = head(alloc)?;
+    bytes.extend_from_slice(
+        b"\x35\x01\x01\x3d\x07\x01\x0a\x00\x00\x00\x00\x01\x32\x04\xc0\x00\x02\x0a",
+    )?;
+    bytes.extend_from_slice(
+        b"\x39\x02\x05\xdc\x3c\x06udhcp1\x0c\x03box\x37\x04\x01\x03\x06\x0f\x74\x01\x01\xff",
+    )?;
+    bytes.resize(300, 0)?;
+    Ok(bytes)
+}
+
+// A datagram of 4,096 bytes in 100 pieces: a type, and 99 pieces of 36 bytes over 33 codes.
+fn pieces(alloc: Global) -> Result<Vec<u8>, AllocError> {
+    let mut bytes = head(alloc)?;
+    bytes.extend_from_slice(&[53, 1, 1])?;
+    for _ in 0..3 {
+        for code in 60..93u8 {
+            bytes.extend_from_slice(&[code, 36])?;
+            bytes.extend_from_slice(&[code; 36])?;
+        }
+    }
+    bytes.resize(4096, 0)?;
+    Ok(bytes)
+}
