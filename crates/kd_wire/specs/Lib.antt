@@ -2,3 +2,4 @@ pub mod Area
 pub mod Header
 pub mod Walk
 pub mod Front
+pub mod Put

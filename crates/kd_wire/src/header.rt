@@ -73,7 +73,7 @@ const HEADER_AND_COOKIE: usize = 240;
 
 const LONGEST_DATAGRAM: usize = 4096;
 
-const COOKIE: u32 = 0x6382_5363;
+pub(crate) const COOKIE: u32 = 0x6382_5363;
 
 impl Header {
     /// The header of a datagram of 240 to 4,096 bytes with the cookie of RFC 2131 section 3.

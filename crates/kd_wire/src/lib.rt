@@ -10,6 +10,7 @@
 mod area;
 mod bytes;
 mod header;
+mod put;
 #[cfg(test)]
 mod tests;
 mod walk;
@@ -17,4 +18,5 @@ mod walk;
 pub use area::{Cut, pieces};
 pub use bytes::Bytes;
 pub use header::{Header, WireFault};
+pub use put::{put_end, put_piece, write_header};
 pub use walk::Pieces;
