@@ -8,3 +8,4 @@ pub mod Message
 pub mod Relay
 pub mod RelayWalk
 pub mod RelayFront
+pub mod Reply

@@ -9,12 +9,16 @@
 mod areas;
 mod fault;
 mod joining;
+mod item;
 mod kind;
 mod message;
 mod relay;
+mod reply;
 #[cfg(test)]
 mod tests;
 
 pub use fault::{AddressOption, ReadFault};
+pub use item::{Item, Items};
 pub use kind::MessageType;
 pub use message::Message;
+pub use reply::Reply;
