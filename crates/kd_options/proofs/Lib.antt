@@ -4,3 +4,4 @@ pub mod Maps
 pub mod Composed
 pub mod Rules
 pub mod SeenCodes
+pub mod Puts

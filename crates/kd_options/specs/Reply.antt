@@ -46,14 +46,21 @@ kept room items = kept_from (base_cost items) room items
 abbrev pub Fits : ℕ → List Item → Type 0
 Fits room items = base_cost items + 1 ≤ room
 
+-- the first k pieces of a value: 255 bytes each, and what is left
+abbrev pub first_pieces : ℕ → List ℕ → ℕ → List Piece
+first_pieces code value k = map (λ j. (code, slice_chunk value 255 j)) (range_with_len 0 k)
+
 -- the pieces of an item
 abbrev pub pieces_of : Item → List Piece
-pieces_of item =
-    map (λ k. (item.code, slice_chunk item.value 255 k)) (range_with_len 0 (piece_count (length item.value)))
+pieces_of item = first_pieces item.code item.value (piece_count (length item.value))
 
 -- the bytes of pieces
 abbrev pub pieces_text : List Piece → List ℕ
 pieces_text pieces = flat_map (λ p. spelled (piece p.0 p.1)) pieces
+
+-- the bytes of the first k pieces
+abbrev pub first_text : ℕ → List ℕ → ℕ → List ℕ
+first_text code value k = pieces_text (first_pieces code value k)
 
 -- zeros up to 300 bytes
 abbrev pub padded : List ℕ → List ℕ

@@ -1,8 +1,10 @@
 ghost use Rattle.std.specs.Prelude.{◌≡◌, ◌+◌, ◌^◌, ◌<◌, ◌≤◌, ◌↔◌, IsTrue, MatchOption, length};
-ghost use Rattle.kd_options.specs.Reply.{Fits, base_cost, cost_of, piece_count};
+ghost use Rattle.kd_wire.specs.Area.{IsCode};
+ghost use Rattle.kd_wire.specs.Put.{with_bytes_at};
+ghost use Rattle.kd_options.specs.Reply.{Fits, base_cost, cost_of, first_text, item_cost, piece_count, pieces_of, pieces_text};
 
 use crate::item::{Item, Items};
-use kd_wire::Header;
+use kd_wire::{Header, put_piece};
 
 /// A reply before it is written: its header, and its options in order.
 #[derive(Debug, Drop)]
@@ -53,4 +55,33 @@ fn pieces(len: usize) -> usize
     ensures { result ≡ piece_count len }
 {
     len.div_ceil(PIECE).max(1)
+}
+
+// Writes an item's pieces at a place, and answers the place behind them.
+fn put_item(out: &mut [u8], at: usize, item: &Item) -> usize
+    requires code { IsCode item.now.code }
+    requires few { length item.now.value < 2 ^ 16 }
+    requires room { at + item_cost item.now ≤ length out.old }
+    ensures written { out.new ≡ with_bytes_at at (pieces_text (pieces_of item.now)) out.old }
+    ensures next { result ≡ at + item_cost item.now }
+{
+    put_value(out, at, item.code, item.value.as_slice())
+}
+
+// Writes a value in pieces of 255 bytes and a last one of at most 255.
+fn put_value(out: &mut [u8], at: usize, code: u8, value: &[u8]) -> usize
+    requires code { IsCode code }
+    requires few { length value.now < 2 ^ 16 }
+    requires room { at + cost_of (length value.now) ≤ length out.old }
+    ensures written { out.new
+        ≡ with_bytes_at at (first_text code value.now (piece_count (length value.now))) out.old }
+    ensures next { result ≡ at + cost_of (length value.now) }
+{
+    let mut next = at;
+    for k in 0..pieces(value.len()) {
+        let from = k * PIECE;
+        let to = value.len().min(from + PIECE);
+        next = put_piece(out, next, code, &value[from..to]);
+    }
+    next
 }
