@@ -5,3 +5,4 @@ pub mod Composed
 pub mod Rules
 pub mod SeenCodes
 pub mod Puts
+pub mod Keeping

@@ -25,6 +25,10 @@ item_cost item = cost_of (length item.value)
 abbrev pub obligatory_cost : Item → ℕ
 obligatory_cost item = if item.obligatory then item_cost item else 0
 
+-- what an item costs that may be left out
+abbrev pub optional_cost : Item → ℕ
+optional_cost item = if item.obligatory then 0 else item_cost item
+
 -- what header, cookie and all obligatory items cost
 abbrev pub base_cost : List Item → ℕ
 base_cost items = 240 + sum_by obligatory_cost items
@@ -58,6 +62,10 @@ pieces_of item = first_pieces item.code item.value (piece_count (length item.val
 abbrev pub pieces_text : List Piece → List ℕ
 pieces_text pieces = flat_map (λ p. spelled (piece p.0 p.1)) pieces
 
+-- the bytes of items
+abbrev pub items_text : List Item → List ℕ
+items_text items = pieces_text (flat_map pieces_of items)
+
 -- the bytes of the first k pieces
 abbrev pub first_text : ℕ → List ℕ → ℕ → List ℕ
 first_text code value k = pieces_text (first_pieces code value k)
@@ -69,4 +77,4 @@ padded text = text ++ replicate (300 - length text) 0
 -- a reply's text: header and cookie, the kept items in order, End, zeros up to 300 bytes
 unfoldable pub reply_text : Header → ℕ → List Item → List ℕ
 reply_text header room items =
-    padded (header_bytes header ++ pieces_text (flat_map pieces_of (kept room items)) ++ 255 ∷ [])
+    padded (header_bytes header ++ items_text (kept room items) ++ 255 ∷ [])

@@ -1,7 +1,7 @@
-ghost use Rattle.std.specs.Prelude.{◌≡◌, ◌+◌, ◌^◌, ◌<◌, ◌≤◌, ◌↔◌, IsTrue, MatchOption, length};
+ghost use Rattle.std.specs.Prelude.{◌≡◌, ◌+◌, ◌^◌, ◌<◌, ◌≤◌, ◌↔◌, All, IsTrue, MatchOption, length};
 ghost use Rattle.kd_wire.specs.Area.{IsCode};
 ghost use Rattle.kd_wire.specs.Put.{with_bytes_at};
-ghost use Rattle.kd_options.specs.Reply.{Fits, base_cost, cost_of, first_text, item_cost, piece_count, pieces_of, pieces_text};
+ghost use Rattle.kd_options.specs.Reply.{Fits, base_cost, cost_of, first_text, item_cost, items_text, kept, optional_cost, piece_count, pieces_of, pieces_text};
 
 use crate::item::{Item, Items};
 use kd_wire::{Header, put_piece};
@@ -55,6 +55,41 @@ fn pieces(len: usize) -> usize
     ensures { result ≡ piece_count len }
 {
     len.div_ceil(PIECE).max(1)
+}
+
+// Writes the kept items behind the header, and answers the place behind them. The obligatory items leave
+// this much of the room.
+fn put_items(out: &mut [u8], items: &[Item], room_left: usize) -> usize
+    requires codes { All (λ item. IsCode item.code) items.now }
+    requires most { length out.old < 2 ^ 16 }
+    requires room { room_left + base_cost items.now + 1 ≡ length out.old }
+    ensures written { out.new ≡ with_bytes_at 240 (items_text (kept (length out.old) items.now)) out.old }
+    ensures next { result ≡ 240 + length (items_text (kept (length out.old) items.now)) }
+    ensures within { result < length out.old }
+{
+    let mut at = 240;
+    let mut left = room_left;
+    for item in items {
+        let Some(less) = left_beside(left, item) else {
+            continue;
+        };
+        left = less;
+        at = put_item(out, at, item);
+    }
+    at
+}
+
+// What an item leaves of the room that the obligatory ones leave: an obligatory one takes none of it.
+fn left_beside(left: usize, item: &Item) -> Option<usize>
+    requires { left < 2 ^ 16 }
+    ensures { MatchOption result (left < optional_cost item.now)
+        (λ less. less + optional_cost item.now ≡ left) }
+{
+    if item.obligatory {
+        Some(left)
+    } else {
+        less_cost(left, item.value.as_slice().len())
+    }
 }
 
 // Writes an item's pieces at a place, and answers the place behind them.
