@@ -1,16 +1,17 @@
 -- The kept items, written one behind another.
-use Rattle.std.proofs.Common.{◌≡◌, ℕ, zero, suc, ◌+◌, ◌<◌, ◌≤◌, Bool, true, false, List, [], ◌∷◌, ◌++◌, length, drop, get_or, refl, sym, ap, ◌∙◌, arith, append_assoc, length-append, le-leb}
+use Rattle.std.proofs.Common.{◌≡◌, ℕ, zero, suc, ◌+◌, ◌<◌, ◌≤◌, Bool, true, false, List, [], ◌∷◌, ◌++◌, length, drop, take, max, replicate, get_or, refl, sym, ap, ◌∙◌, arith, append_assoc, length-append, le-leb}
 use Rattle.std.specs.Prelude.{sum_by, nat_le, if◌then◌else◌}
 use Rattle.std.specs.List.{flat_map}
 use Rattle.std.proofs.lemmas.Bool.{lt-leb}
 use Rattle.std.proofs.lemmas.Grind.{flat_map-append}
-use Rattle.std.proofs.lemmas.List.{append-nil, drop_more}
+use Rattle.std.proofs.lemmas.List.{append-nil, drop_more, length-replicate, take_at}
 use Rattle.std.proofs.lemmas.List.Sums.{sum_by-drop_more}
 use Rattle.kd_wire.specs.Area.{Piece, piece, spelled}
 use Rattle.kd_wire.specs.Put.{with_bytes_at}
+use Rattle.kd_wire.specs.declared.header.Header.{Header}
 use Rattle.kd_options.specs.declared.item.Item.{Item}
-use Rattle.kd_options.specs.Reply.{base_cost, item_cost, items_text, kept, kept_from, obligatory_cost, optional_cost, pieces_of, pieces_text}
-use Rattle.kd_options.proofs.Puts.{put_then, put_none, length-all_text}
+use Rattle.kd_options.specs.Reply.{base_cost, item_cost, items_text, kept, kept_from, obligatory_cost, optional_cost, pieces_of, pieces_text, reply_text, unpadded}
+use Rattle.kd_options.proofs.Puts.{put_then, put_none, length-all_text, padded_is}
 
 -- what the obligatory items from here on cost
 abbrev pub rest : List Item → ℕ → ℕ
@@ -105,3 +106,18 @@ module _ (items : List Item) (room : ℕ) (old : List ℕ) (i at left : ℕ) (ne
         at_is = omega (arith, place, p.at_is, own, ap length (items_text-append p.done x), length-append (items_text p.done) (pieces_text (pieces_of x)));
         room_is = omega (arith, p.room_is, more, both, leaves, place);
       }
+
+-- a room of zeros, written into and cut off, is the reply's text
+pub reply_is : (header : Header) (room : ℕ) (items given : List Item) (slice out vec new : List ℕ) (end n len cut : ℕ)
+    → slice ≡ replicate n 0 → n ≡ room → given ≡ items
+    → out ≡ unpadded header (length slice) given ++ drop end slice → end ≡ length (unpadded header (length slice) given) → end ≤ length slice
+    → length out ≡ length slice → len ≡ length slice → cut ≡ max end 300 → new ≡ take cut (take len (out ++ drop (length out) vec)) → 300 ≤ room
+    → new ≡ reply_text header room items
+reply_is header room items given slice out vec new end n len cut zeros full same is place within kept_len vec_len cut_is new_is least =
+    let all : slice ≡ replicate room 0 = zeros ∙ ap (λ k. replicate k 0) full in
+    let size : length slice ≡ room = ap length all ∙ length-replicate room 0 in
+    let text = unpadded header room items in
+    let out_is : out ≡ text ++ drop end (replicate room 0) = is ∙ (λ i. unpadded header (size i) (same i) ++ drop end (all i)) in
+    let end_is : end ≡ length text = place ∙ (λ i. length (unpadded header (size i) (same i))) in
+    let inner : take len (out ++ drop (length out) vec) ≡ out = take_at out (drop (length out) vec) len (kept_len ∙ sym vec_len) in
+        new_is ∙ ap (take cut) inner ∙ (λ i. take (cut_is i) (out_is i)) ∙ padded_is text room end end_is (omega (arith, end_is, within, size)) least

@@ -1,14 +1,15 @@
 -- Bytes put one behind another, and the pieces of a value.
-use Rattle.std.proofs.Common.{◌≡◌, ℕ, zero, suc, ◌+◌, ◌*◌, ◌-◌, ◌<◌, ◌≤◌, min, List, [], ◌∷◌, ◌++◌, length, take, drop, refl, sym, ap, ◌∙◌, arith, append_assoc, length-append, length-take, length-drop, drop-drop}
+use Rattle.std.proofs.Common.{◌≡◌, ℕ, zero, suc, max, replicate, ◌+◌, ◌*◌, ◌-◌, ◌<◌, ◌≤◌, min, List, [], ◌∷◌, ◌++◌, length, take, drop, refl, sym, ap, ◌∙◌, arith, append_assoc, length-append, length-take, length-drop, drop-drop}
 use Rattle.std.specs.Prelude.{map}
 use Rattle.std.specs.List.{flat_map, range_with_len}
+use Rattle.std.proofs.Math.Seq.{take-append-add}
 use Rattle.std.specs.Fork.{slice_chunk}
-use Rattle.std.proofs.lemmas.List.{take_at, drop_at, append-nil, take-append-drop, take_min}
+use Rattle.std.proofs.lemmas.List.{take_at, drop_at, append-nil, drop-replicate, take-append-drop, take-replicate, take_min}
 use Rattle.std.proofs.lemmas.Grind.{flat_map-append}
 use Rattle.std.proofs.lemmas.List.{map-append}
 use Rattle.kd_wire.specs.Area.{Piece, piece, spelled}
 use Rattle.kd_wire.specs.Put.{with_bytes_at}
-use Rattle.kd_options.specs.Reply.{cost_of, first_pieces, first_text, piece_count, pieces_text}
+use Rattle.kd_options.specs.Reply.{cost_of, first_pieces, first_text, padded, piece_count, pieces_text}
 
 -- two puts side by side are one
 pub put_then : (at : ℕ) (a b old mid new : List ℕ) (next : ℕ) → mid ≡ with_bytes_at at a old → next ≡ at + length a → new ≡ with_bytes_at next b mid → at + length a ≤ length old → new ≡ with_bytes_at at (a ++ b) old
@@ -79,3 +80,20 @@ length-all_text code value =
     let n = length value in
     let all : n ≤ 255 * piece_count n = omega arith in
         omega (arith, length-first_text code value (piece_count n), all)
+
+-- what is put behind a header of 240 bytes stands behind it
+pub behind_header : (head body old first new : List ℕ) → length head ≡ 240 → first ≡ head ++ drop 240 old → new ≡ with_bytes_at 240 body first → new ≡ (head ++ body) ++ drop (length (head ++ body)) old
+behind_header head body old first new size is put =
+    let front : take 240 first ≡ head = ap (take 240) is ∙ take_at head (drop 240 old) 240 size in
+    let place : 240 + length body ≡ length (head ++ body) = omega (arith, size, length-append head body) in
+    let behind : drop (240 + length body) first ≡ drop (length (head ++ body)) old =
+        sym (drop-drop (length body) 240 first) ∙ ap (drop (length body)) (ap (drop 240) is ∙ drop_at head (drop 240 old) 240 size) ∙ drop-drop (length body) 240 old ∙ ap (λ k. drop k old) place in
+        put ∙ ap (λ x. x ++ body ++ drop (240 + length body) first) front ∙ ap (λ x. head ++ body ++ x) behind
+
+-- zeros up to 300 bytes are left of a room of zeros
+pub padded_is : (text : List ℕ) (room end : ℕ) → end ≡ length text → length text ≤ room → 300 ≤ room → take (max end 300) (text ++ drop end (replicate room 0)) ≡ padded text
+padded_is text room end place within least =
+    let count : max end 300 ≡ length text + (300 - length text) = omega (arith, place) in
+    let fits : 300 - length text ≤ room - end = omega (arith, place, within, least) in
+        ap (λ n. take n (text ++ drop end (replicate room 0))) count ∙ take-append-add text (drop end (replicate room 0)) (300 - length text)
+        ∙ ap (λ x. text ++ take (300 - length text) x) (drop-replicate end room 0) ∙ ap (λ x. text ++ x) (take-replicate (300 - length text) (room - end) 0 fits)

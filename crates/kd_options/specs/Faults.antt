@@ -7,6 +7,8 @@ use Rattle.kd_options.specs.declared.fault.AreaFault.{AreaFault}
 use Rattle.kd_options.specs.declared.fault.AreaFault.TheVariants as areas
 use Rattle.kd_options.specs.declared.fault.ReadFault.{ReadFault}
 use Rattle.kd_options.specs.declared.fault.ReadFault.TheVariants as faults
+use Rattle.kd_options.specs.declared.fault.WriteFault.{WriteFault}
+use Rattle.kd_options.specs.declared.fault.WriteFault.TheVariants as writes
 
 -- the code of each option that holds an address (RFC 2132 sections 9.1 and 9.7)
 abbrev pub address_option_code : AddressOption → ℕ
@@ -27,3 +29,8 @@ read_fault_number faults.Memory = 91
 abbrev pub read_fault_of : AreaFault → ReadFault
 read_fault_of (areas.Cut at) = faults.Cut at
 read_fault_of areas.Memory = faults.Memory
+
+-- the number of each fault of writing a reply
+abbrev pub write_fault_number : WriteFault → ℕ
+write_fault_number writes.TooLong = 10
+write_fault_number writes.Memory = 91

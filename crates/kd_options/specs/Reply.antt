@@ -1,12 +1,14 @@
 -- The text of a reply: which items are kept (our own profile of RFC 2132 section 9.10 on room), and how
 -- they are written (RFC 2131 section 2, RFC 2132 section 2, RFC 3396 section 6).
-use Rattle.std.specs.Prelude.{◌≡◌, ℕ, ◌+◌, ◌-◌, ◌*◌, ◌≤◌, max, Bool, nat_le, List, [], ◌∷◌, ◌++◌, length, map, replicate, sum_by, if◌then◌else◌}
+use Rattle.std.specs.Prelude.{◌≡◌, ℕ, ◌+◌, ◌-◌, ◌*◌, ◌<◌, ◌≤◌, max, Bool, nat_le, List, [], ◌∷◌, ◌++◌, length, map, replicate, sum_by, if◌then◌else◌}
 use Rattle.std.specs.Int.{div_ceil}
 use Rattle.std.specs.List.{flat_map, range_with_len}
 use Rattle.std.specs.Fork.{slice_chunk}
 use Rattle.kd_wire.specs.Area.{Piece, piece, spelled}
 use Rattle.kd_wire.specs.Header.{header_bytes}
 use Rattle.kd_wire.specs.declared.header.Header.{Header}
+use Rattle.kd_options.specs.declared.fault.WriteFault.{WriteFault}
+use Rattle.kd_options.specs.declared.fault.WriteFault.TheVariants.{TooLong, Memory}
 use Rattle.kd_options.specs.declared.item.Item.{Item}
 
 -- how many pieces a value of n bytes has: pieces of 255 and a last one, and one for an empty value
@@ -74,7 +76,15 @@ first_text code value k = pieces_text (first_pieces code value k)
 abbrev pub padded : List ℕ → List ℕ
 padded text = text ++ replicate (300 - length text) 0
 
--- a reply's text: header and cookie, the kept items in order, End, zeros up to 300 bytes
-unfoldable pub reply_text : Header → ℕ → List Item → List ℕ
-reply_text header room items =
-    padded (header_bytes header ++ items_text (kept room items) ++ 255 ∷ [])
+-- header and cookie, the kept items in order, End
+abbrev pub unpadded : Header → ℕ → List Item → List ℕ
+unpadded header room items = header_bytes header ++ (items_text (kept room items) ++ 255 ∷ [])
+
+-- a reply's text: that, and zeros up to 300 bytes
+abbrev pub reply_text : Header → ℕ → List Item → List ℕ
+reply_text header room items = padded (unpadded header room items)
+
+-- what a fault of writing means: the obligatory items do not fit; want of memory may come at any reply
+abbrev pub IsWriteFault : ℕ → List Item → WriteFault → Type 0
+IsWriteFault room items TooLong = room < base_cost items + 1
+IsWriteFault room items Memory = Unit {0}

@@ -1,5 +1,5 @@
 ghost use Rattle.std.specs.Prelude.{◌≡◌};
-ghost use Rattle.kd_options.specs.Faults.{read_fault_number, address_option_code};
+ghost use Rattle.kd_options.specs.Faults.{read_fault_number, write_fault_number, address_option_code};
 
 use kd_wire::WireFault;
 use std::alloc::AllocError;
@@ -81,6 +81,39 @@ impl From<WireFault> for ReadFault {
 
     fn from(fault: WireFault) -> ReadFault {
         ReadFault::Header(fault)
+    }
+}
+
+/// Why a reply is not written.
+#[derive(Clone, Copy, Debug, PartialEq, Eq, Error)]
+pub enum WriteFault {
+    /// The obligatory options do not fit in the room.
+    #[error("TooLong")]
+    TooLong,
+    /// There is no memory for the reply's bytes.
+    #[error("Memory")]
+    Memory,
+}
+
+impl WriteFault {
+    /// The fault's number: 10, or 91 for want of memory.
+    pub fn number(self) -> u8
+        ensures { result ≡ write_fault_number self }
+    {
+        match self {
+            WriteFault::TooLong => 10,
+            WriteFault::Memory => 91,
+        }
+    }
+}
+
+impl From<AllocError> for WriteFault {
+    ghost use Rattle.kd_options.specs.declared.fault.WriteFault.TheVariants.{Memory};
+
+    ghost from_gives = { λ _ e. e ≡ Memory };
+
+    fn from(_error: AllocError) -> WriteFault {
+        WriteFault::Memory
     }
 }
 

@@ -17,7 +17,7 @@ mod reply;
 #[cfg(test)]
 mod tests;
 
-pub use fault::{AddressOption, ReadFault};
+pub use fault::{AddressOption, ReadFault, WriteFault};
 pub use item::{Item, Items};
 pub use kind::MessageType;
 pub use message::Message;

@@ -1,10 +1,12 @@
-ghost use Rattle.std.specs.Prelude.{◌≡◌, ◌+◌, ◌^◌, ◌<◌, ◌≤◌, ◌↔◌, All, IsTrue, MatchOption, length};
+ghost use Rattle.std.specs.Prelude.{◌≡◌, ◌+◌, ◌^◌, ◌<◌, ◌≤◌, ◌↔◌, ◌++◌, All, IfErr, IfOk, IsTrue, MatchOption, OnOk, drop, length, replicate};
 ghost use Rattle.kd_wire.specs.Area.{IsCode};
 ghost use Rattle.kd_wire.specs.Put.{with_bytes_at};
-ghost use Rattle.kd_options.specs.Reply.{Fits, base_cost, cost_of, first_text, item_cost, items_text, kept, optional_cost, piece_count, pieces_of, pieces_text};
+ghost use Rattle.kd_options.specs.Reply.{Fits, IsWriteFault, base_cost, cost_of, first_text, item_cost, items_text, kept, optional_cost, piece_count, pieces_of, pieces_text, reply_text, unpadded};
 
+use crate::fault::WriteFault;
 use crate::item::{Item, Items};
-use kd_wire::{Header, put_piece};
+use kd_wire::{Header, put_end, put_piece, write_header};
+use std::alloc::{AllocError, Global};
 
 /// A reply before it is written: its header, and its options in order.
 #[derive(Debug, Drop)]
@@ -15,7 +17,9 @@ pub struct Reply {
     pub items: Items,
 }
 
+// The longest piece of a value, and the shortest reply.
 const PIECE: usize = 255;
+const LEAST: usize = 300;
 
 impl Reply {
     /// The obligatory options fit in this many bytes, with header, cookie and End.
@@ -24,6 +28,53 @@ impl Reply {
     {
         room_left(self.items.as_slice(), usize::from(room)).is_some()
     }
+
+    /// The bytes of the reply: header and cookie, each obligatory option, each other option that fits
+    /// beside them and those before it, End, and zeros up to 300 bytes. A value of more than 255 bytes is
+    /// written in pieces (RFC 3396). Takes memory for the room.
+    ///
+    /// # Errors
+    ///
+    /// `TooLong` exactly where `fits` is false, and `Memory`.
+    pub fn write(&self, alloc: Global, room: u16) -> Result<Vec<u8>, WriteFault>
+        requires least { 300 ≤ room }
+        requires codes { All (λ item. IsCode item.code) self.now.items }
+        ensures found { IfOk result (λ bytes. bytes.items ≡ reply_text self.now.header room self.now.items) }
+        ensures within { IfOk result (λ bytes. length bytes.items ≤ room) }
+        ensures fits { OnOk result (Fits room self.now.items) }
+        ensures fault { IfErr result (IsWriteFault room self.now.items) }
+    {
+        let items = self.items.as_slice();
+        let Some(left) = room_left(items, usize::from(room)) else {
+            return Err(WriteFault::TooLong);
+        };
+        let mut out = zeros(alloc, usize::from(room))?;
+        let end = write_into(out.as_mut_slice(), &self.header, items, left);
+        out.truncate(end.max(LEAST));
+        Ok(out)
+    }
+}
+
+// So many zeros.
+fn zeros(alloc: Global, len: usize) -> Result<Vec<u8>, AllocError>
+    ensures { IfOk result (λ bytes. bytes.items ≡ replicate len 0) }
+{
+    vec![in alloc; 0; len]
+}
+
+// Writes header, cookie, the kept items and End, and answers the place behind them.
+fn write_into(out: &mut [u8], header: &Header, items: &[Item], room_left: usize) -> usize
+    requires codes { All (λ item. IsCode item.code) items.now }
+    requires most { length out.old < 2 ^ 16 }
+    requires room { room_left + base_cost items.now + 1 ≡ length out.old }
+    ensures written { out.new
+        ≡ unpadded header.now (length out.old) items.now ++ drop result out.old }
+    ensures next { result ≡ length (unpadded header.now (length out.old) items.now) }
+    ensures within { result ≤ length out.old }
+{
+    write_header(out, header);
+    let end = put_items(out, items, room_left);
+    put_end(out, end)
 }
 
 // What is left of the room beside header, cookie, all obligatory options and End.

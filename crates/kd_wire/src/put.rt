@@ -10,7 +10,8 @@ use byteorder::{BigEndian, ByteOrder};
 /// Writes a header and the cookie over the first 240 bytes (RFC 2131 sections 2 and 3).
 pub fn write_header(out: &mut [u8], header: &Header)
     requires { 240 ≤ length out.old }
-    ensures { out.new ≡ header_bytes header.now ++ drop 240 out.old }
+    ensures written { out.new ≡ header_bytes header.now ++ drop 240 out.old }
+    ensures len { length (header_bytes header.now) ≡ 240 }
 {
     put_bytes(out, 0, &[header.op, header.htype, header.hlen, header.hops]);
     put_u32(out, 4, header.xid);
