@@ -34,8 +34,8 @@ length-item_text x = length-all_text x.code x.value
 items_text-append : (done : List Item) (x : Item) → items_text (done ++ x ∷ []) ≡ items_text done ++ pieces_text (pieces_of x)
 items_text-append done x =
     let put : Piece → List ℕ = λ p. spelled (piece p.0 p.1) in
-        ap (flat_map put) (flat_map-append pieces_of done (x ∷ []) ∙ ap (λ ps. flat_map pieces_of done ++ ps) (append-nil (pieces_of x)))
-        ∙ flat_map-append put (flat_map pieces_of done) (pieces_of x)
+    ap (flat_map put) (flat_map-append pieces_of done (x ∷ []) ∙ ap (λ ps. flat_map pieces_of done ++ ps) (append-nil (pieces_of x)))
+    ∙ flat_map-append put (flat_map pieces_of done) (pieces_of x)
 
 both_costs : (x : Item) → obligatory_cost x + optional_cost x ≡ item_cost x
 both_costs x = by x.obligatory refl
@@ -100,9 +100,9 @@ module _ (items : List Item) (room : ℕ) (old : List ℕ) (i at left : ℕ) (ne
       record {
         done = p.done ++ x ∷ [];
         kept_is = p.kept_is ∙ ap (λ l. p.done ++ kept_from (at + rest items i) room l) (drop_is items i x less is) ∙ ap (λ k. p.done ++ k) keeps
-        ∙ ap (λ u. p.done ++ x ∷ kept_from u room (drop (i + 1) items)) used ∙ sym (append_assoc p.done (x ∷ []) (kept_from (at' + rest items (i + 1)) room (drop (i + 1) items)));
+            ∙ ap (λ u. p.done ++ x ∷ kept_from u room (drop (i + 1) items)) used ∙ sym (append_assoc p.done (x ∷ []) (kept_from (at' + rest items (i + 1)) room (drop (i + 1) items)));
         is = put_then 240 (items_text p.done) (pieces_text (pieces_of x)) old new next at p.is p.at_is put (omega (arith, p.at_is, p.room_is, size))
-        ∙ ap (λ t. with_bytes_at 240 t old) (sym (items_text-append p.done x));
+            ∙ ap (λ t. with_bytes_at 240 t old) (sym (items_text-append p.done x));
         at_is = omega (arith, place, p.at_is, own, ap length (items_text-append p.done x), length-append (items_text p.done) (pieces_text (pieces_of x)));
         room_is = omega (arith, p.room_is, more, both, leaves, place);
       }
@@ -120,4 +120,4 @@ reply_is header room items given slice out vec new end n len cut zeros full same
     let out_is : out ≡ text ++ drop end (replicate room 0) = is ∙ (λ i. unpadded header (size i) (same i) ++ drop end (all i)) in
     let end_is : end ≡ length text = place ∙ (λ i. length (unpadded header (size i) (same i))) in
     let inner : take len (out ++ drop (length out) vec) ≡ out = take_at out (drop (length out) vec) len (kept_len ∙ sym vec_len) in
-        new_is ∙ ap (take cut) inner ∙ (λ i. take (cut_is i) (out_is i)) ∙ padded_is text room end end_is (omega (arith, end_is, within, size)) least
+    new_is ∙ ap (take cut) inner ∙ (λ i. take (cut_is i) (out_is i)) ∙ padded_is text room end end_is (omega (arith, end_is, within, size)) least

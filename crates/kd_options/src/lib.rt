@@ -8,8 +8,8 @@
 
 mod areas;
 mod fault;
-mod joining;
 mod item;
+mod joining;
 mod kind;
 mod message;
 mod relay;

@@ -19,6 +19,7 @@ pub struct Reply {
 
 // The longest piece of a value, and the shortest reply.
 const PIECE: usize = 255;
+
 const LEAST: usize = 300;
 
 impl Reply {
@@ -171,3 +172,6 @@ fn put_value(out: &mut [u8], at: usize, code: u8, value: &[u8]) -> usize
     }
     next
 }
+
+#[cfg(test)]
+mod tests;

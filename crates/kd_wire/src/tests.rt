@@ -110,3 +110,28 @@ fn faults_have_their_numbers_and_names(rt: HostRuntime) -> Result<(), Fail> {
     );
     Ok(())
 }
+
+#[test]
+fn a_written_header_reads_back(rt: HostRuntime) -> Result<(), Fail> {
+    let mut bytes = Vec::from_slice(rt.alloc(), &[2])?;
+    for i in 1..236u8 {
+        bytes.push(i)?;
+    }
+    bytes.extend_from_slice(&COOKIE)?;
+    bytes.push(7)?;
+    let header = Header::read(&bytes)?;
+    let mut out = [9; 241];
+    write_header(&mut out, &header);
+    bytes.pop();
+    bytes.push(9)?;
+    assert!(rt; out.as_slice() == bytes.as_slice());
+    Ok(())
+}
+
+#[test]
+fn a_piece_and_an_end_are_written_in_place(rt: HostRuntime) {
+    let mut out = [9; 8];
+    assert_eq!(rt; put_piece(&mut out, 1, 60, b"kd"), 5);
+    assert_eq!(rt; put_end(&mut out, 5), 6);
+    assert_eq!(rt; out, [9, 60, 2, 107, 100, 255, 9, 9]);
+}

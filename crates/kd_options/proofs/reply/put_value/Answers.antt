@@ -12,7 +12,7 @@ put_piece-next-requires-clause-room c =
     let k = c.loop-k.k in
     let less : k < piece_count (length value) = omega (arith, c.loop-k-test.true, c.pieces-k-end.ensures) in
     let chunk = ap length (chunk_is value k c.min-to.result c.min-to.ensures) in
-        omega (arith, chunk, c.loop-k.invariant.1, next_within c.args.code value k less, c.requires.room, c.loop-k.auto.out)
+    omega (arith, chunk, c.loop-k.invariant.1, next_within c.args.code value k less, c.requires.room, c.loop-k.auto.out)
 
 pub loop-k-preserved : goal.loop-k-preserved
 loop-k-preserved c =
@@ -29,7 +29,7 @@ loop-k-preserved c =
     let put = c.put_piece-next.ensures.written ∙ ap (λ x. with_bytes_at c.loop-k.next (spelled (piece code x)) c.loop-k.out) chunk in
     let more = ap length (first_text-more code value k) ∙ length-append before next_piece in (
       put_then at before next_piece old c.loop-k.out c.put_piece-next.new.out c.loop-k.next c.loop-k.invariant.0 c.loop-k.invariant.1 put fits
-      ∙ ap (λ x. with_bytes_at at x old) (sym (first_text-more code value k)),
+          ∙ ap (λ x. with_bytes_at at x old) (sym (first_text-more code value k)),
       omega (arith, c.put_piece-next.ensures.next, ap length chunk, c.loop-k.invariant.1, more),
     )
 
@@ -38,4 +38,4 @@ returns-clause-next c =
     let code = c.args.code in
     let value = c.args.value.now in
     let last : c.loop-k.k ≡ piece_count (length value) = omega (arith, c.loop-k-test.false, c.pieces-k-end.ensures, c.loop-k.auto.k-end) in
-        c.loop-k.invariant.1 ∙ ap (λ j. c.args.at + length (first_text code value j)) last ∙ ap (λ n. c.args.at + n) (length-all_text code value)
+    c.loop-k.invariant.1 ∙ ap (λ j. c.args.at + length (first_text code value j)) last ∙ ap (λ n. c.args.at + n) (length-all_text code value)

@@ -15,5 +15,5 @@ returns-clause-written c =
     (omega (arith, c.put_items-end.ensures.next, c.put_items-end.ensures.within)) in
     let whole = behind_header head (body ++ 255 ∷ []) old first c.put_end.new.out c.write_header.ensures.len c.write_header.ensures.written put in
     let end : length (head ++ (body ++ 255 ∷ [])) ≡ c.put_end.result =
-        omega (arith, c.put_end.ensures.next, c.put_items-end.ensures.next, c.write_header.ensures.len, length-append head (body ++ 255 ∷ []), length-append body (255 ∷ [])) in
-        whole ∙ ap (λ n. head ++ (body ++ 255 ∷ []) ++ drop n old) end ∙ ap (λ room. unpadded c.args.header.now room items ++ drop c.put_end.result old) c.write_header.auto.out
+    omega (arith, c.put_end.ensures.next, c.put_items-end.ensures.next, c.write_header.ensures.len, length-append head (body ++ 255 ∷ []), length-append body (255 ∷ [])) in
+    whole ∙ ap (λ n. head ++ (body ++ 255 ∷ []) ++ drop n old) end ∙ ap (λ room. unpadded c.args.header.now room items ++ drop c.put_end.result old) c.write_header.auto.out

@@ -1,4 +1,4 @@
-use Rattle.std.proofs.Common.{refl, rules, ◌∙◌, ap, ◌++◌, [], ◌∷◌}
+use Rattle.std.proofs.Common.{refl, rules, [], ◌∷◌}
 use Rattle.byteorder.specs.Endian.{big_bytes}
 use Rattle.kd_wire.specs.Header.{header_bytes, cookie}
 use Rattle.kd_wire.proofs.Written.{written_none, written_more}
@@ -21,4 +21,4 @@ returns c =
     let w9 = written_more old _ 44 _ h.sname _ 64 w8 c.put_bytes-3.ensures (search rules) in
     let w10 = written_more old _ 108 _ h.file _ 128 w9 c.put_bytes-4.ensures (search rules) in
     let w11 = written_more old _ 236 _ (big_bytes 4 cookie) _ 4 w10 c.put_u32-6.ensures refl in
-        record { written = w11.is; len = w11.place }
+    record { written = w11.is; len = w11.place }
