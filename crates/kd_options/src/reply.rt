@@ -1,4 +1,4 @@
-ghost use Rattle.std.specs.Prelude.{◌≡◌, ◌+◌, ◌^◌, ◌<◌, ◌≤◌, ◌↔◌, ◌++◌, All, IfErr, IfOk, IsTrue, MatchOption, OnOk, drop, length, replicate};
+ghost use Rattle.std.specs.Prelude.{◌≡◌, ◌+◌, ◌^◌, ◌<◌, ◌≤◌, ◌↔◌, ◌++◌, IfErr, IfOk, IsTrue, MatchOption, OnOk, drop, length, replicate};
 ghost use Rattle.kd_wire.specs.Area.{IsCode};
 ghost use Rattle.kd_wire.specs.Put.{with_bytes_at};
 ghost use Rattle.kd_options.specs.Reply.{Fits, IsWriteFault, base_cost, cost_of, first_text, item_cost, items_text, kept, optional_cost, piece_count, pieces_of, pieces_text, reply_text, unpadded};
@@ -38,8 +38,7 @@ impl Reply {
     ///
     /// `TooLong` exactly where `fits` is false, and `Memory`.
     pub fn write(&self, alloc: Global, room: u16) -> Result<Vec<u8>, WriteFault>
-        requires least { 300 ≤ room }
-        requires codes { All (λ item. IsCode item.code) self.now.items }
+        requires { 300 ≤ room }
         ensures found { IfOk result (λ bytes. bytes.items ≡ reply_text self.now.header room self.now.items) }
         ensures within { IfOk result (λ bytes. length bytes.items ≤ room) }
         ensures fits { OnOk result (Fits room self.now.items) }
@@ -65,7 +64,6 @@ fn zeros(alloc: Global, len: usize) -> Result<Vec<u8>, AllocError>
 
 // Writes header, cookie, the kept items and End, and answers the place behind them.
 fn write_into(out: &mut [u8], header: &Header, items: &[Item], room_left: usize) -> usize
-    requires codes { All (λ item. IsCode item.code) items.now }
     requires most { length out.old < 2 ^ 16 }
     requires room { room_left + base_cost items.now + 1 ≡ length out.old }
     ensures written { out.new
@@ -112,7 +110,6 @@ fn pieces(len: usize) -> usize
 // Writes the kept items behind the header, and answers the place behind them. The obligatory items leave
 // this much of the room.
 fn put_items(out: &mut [u8], items: &[Item], room_left: usize) -> usize
-    requires codes { All (λ item. IsCode item.code) items.now }
     requires most { length out.old < 2 ^ 16 }
     requires room { room_left + base_cost items.now + 1 ≡ length out.old }
     ensures written { out.new ≡ with_bytes_at 240 (items_text (kept (length out.old) items.now)) out.old }

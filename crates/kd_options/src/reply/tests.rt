@@ -1,3 +1,5 @@
+ghost use Rattle.kd_wire.specs.Area.{IsCode};
+
 use super::*;
 use kd_wire::Bytes;
 use std::test::Fail;
@@ -21,7 +23,9 @@ fn header() -> Header {
     }
 }
 
-fn item(alloc: Global, code: u8, value: &[u8], obligatory: bool) -> Result<Item, AllocError> {
+fn item(alloc: Global, code: u8, value: &[u8], obligatory: bool) -> Result<Item, AllocError>
+    requires { IsCode code }
+{
     let value = Bytes::own(Vec::from_slice(alloc, value)?);
     Ok(Item {
         code,
@@ -31,7 +35,9 @@ fn item(alloc: Global, code: u8, value: &[u8], obligatory: bool) -> Result<Item,
 }
 
 // An ACK of server 192.0.2.1 with one option more.
-fn ack(alloc: Global, code: u8, value: &[u8], obligatory: bool) -> Result<Reply, AllocError> {
+fn ack(alloc: Global, code: u8, value: &[u8], obligatory: bool) -> Result<Reply, AllocError>
+    requires { IsCode code }
+{
     let mut list = Vec::new(alloc);
     list.push(item(alloc, 53, b"\x05", true)?)?;
     list.push(item(alloc, 54, b"\xc0\x00\x02\x01", true)?)?;
