@@ -1,6 +1,6 @@
 -- The kept items, written one behind another.
-use Rattle.std.proofs.Common.{◌≡◌, ℕ, zero, suc, ◌+◌, ◌<◌, ◌≤◌, Bool, true, false, List, [], ◌∷◌, ◌++◌, length, drop, take, max, replicate, get_or, refl, sym, ap, ◌∙◌, arith, append_assoc, length-append, le-leb}
-use Rattle.std.specs.Prelude.{sum_by, nat_le, if◌then◌else◌}
+use Rattle.std.proofs.Common.{◌≡◌, ℕ, ◌+◌, ◌<◌, ◌≤◌, Bool, true, false, List, [], ◌∷◌, ◌++◌, length, drop, take, max, replicate, get_or, refl, sym, ap, ◌∙◌, arith, append_assoc, length-append, le-leb}
+use Rattle.std.specs.Prelude.{sum_by}
 use Rattle.std.specs.List.{flat_map}
 use Rattle.std.proofs.lemmas.Bool.{lt-leb}
 use Rattle.std.proofs.lemmas.Grind.{flat_map-append}

@@ -1,7 +1,7 @@
 -- Bytes put one behind another, and the pieces of a value.
-use Rattle.std.proofs.Common.{◌≡◌, ℕ, zero, suc, max, replicate, ◌+◌, ◌*◌, ◌-◌, ◌<◌, ◌≤◌, min, List, [], ◌∷◌, ◌++◌, length, take, drop, refl, sym, ap, ◌∙◌, arith, append_assoc, length-append, length-take, length-drop, drop-drop}
+use Rattle.std.proofs.Common.{◌≡◌, ℕ, zero, suc, max, replicate, ◌+◌, ◌*◌, ◌-◌, ◌<◌, ◌≤◌, min, List, [], ◌∷◌, ◌++◌, length, take, drop, sym, ap, ◌∙◌, arith, append_assoc, length-append, length-take, length-drop, drop-drop}
 use Rattle.std.specs.Prelude.{map}
-use Rattle.std.specs.List.{flat_map, range_with_len}
+use Rattle.std.specs.List.{range_with_len}
 use Rattle.std.proofs.Math.Seq.{take-append-add}
 use Rattle.std.specs.Fork.{slice_chunk}
 use Rattle.std.proofs.lemmas.List.{take_at, drop_at, append-nil, drop-replicate, take-append-drop, take-replicate, take_min}
@@ -9,7 +9,7 @@ use Rattle.std.proofs.lemmas.Grind.{flat_map-append}
 use Rattle.std.proofs.lemmas.List.{map-append}
 use Rattle.kd_wire.specs.Area.{Piece, piece, spelled}
 use Rattle.kd_wire.specs.Put.{with_bytes_at}
-use Rattle.kd_options.specs.Reply.{cost_of, first_pieces, first_text, padded, piece_count, pieces_text}
+use Rattle.kd_options.specs.Reply.{cost_of, first_text, padded, piece_count, pieces_text}
 
 -- two puts side by side are one
 pub put_then : (at : ℕ) (a b old mid new : List ℕ) (next : ℕ) → mid ≡ with_bytes_at at a old → next ≡ at + length a → new ≡ with_bytes_at next b mid → at + length a ≤ length old → new ≡ with_bytes_at at (a ++ b) old

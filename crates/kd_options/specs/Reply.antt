@@ -1,6 +1,6 @@
 -- The text of a reply: which items are kept (our own profile of RFC 2132 section 9.10 on room), and how
 -- they are written (RFC 2131 section 2, RFC 2132 section 2, RFC 3396 section 6).
-use Rattle.std.specs.Prelude.{◌≡◌, ℕ, ◌+◌, ◌-◌, ◌*◌, ◌<◌, ◌≤◌, max, Bool, nat_le, List, [], ◌∷◌, ◌++◌, length, map, replicate, sum_by, if◌then◌else◌}
+use Rattle.std.specs.Prelude.{ℕ, ◌+◌, ◌-◌, ◌*◌, ◌<◌, ◌≤◌, max, nat_le, List, [], ◌∷◌, ◌++◌, length, map, replicate, sum_by, if◌then◌else◌}
 use Rattle.std.specs.Int.{div_ceil}
 use Rattle.std.specs.List.{flat_map, range_with_len}
 use Rattle.std.specs.Fork.{slice_chunk}

@@ -1,4 +1,4 @@
-use Rattle.std.proofs.Common.{refl, length}
+use Rattle.std.proofs.Common.{refl}
 use Rattle.kd_options.proofs.Keeping.{putting_none, putting_skip, putting_item}
 use Rattle.kd_options.proofs.reply.put_items.Goals as goal
 

@@ -1,8 +1,8 @@
-use Rattle.std.proofs.Common.{◌≡◌, ◌+◌, ◌*◌, ◌-◌, ◌<◌, ◌≤◌, arith, ap, ◌∙◌, sym, length, length-append, take, drop}
+use Rattle.std.proofs.Common.{◌≡◌, ◌+◌, ◌<◌, ◌≤◌, arith, ap, ◌∙◌, sym, length, length-append}
 use Rattle.std.specs.Fork.{slice_chunk}
 use Rattle.kd_wire.specs.Area.{piece, spelled}
 use Rattle.kd_wire.specs.Put.{with_bytes_at}
-use Rattle.kd_options.specs.Reply.{cost_of, first_text, piece_count}
+use Rattle.kd_options.specs.Reply.{first_text, piece_count}
 use Rattle.kd_options.proofs.Puts.{put_then, chunk_is, next_within, first_text-more, length-all_text}
 use Rattle.kd_options.proofs.reply.put_value.Goals as goal
 

@@ -1,4 +1,4 @@
-use Rattle.std.proofs.Common.{◌≡◌, ◌+◌, ◌++◌, ◌∷◌, [], arith, ap, ◌∙◌, sym, length, drop, length-append}
+use Rattle.std.proofs.Common.{◌≡◌, ◌++◌, ◌∷◌, [], arith, ap, ◌∙◌, length, drop, length-append}
 use Rattle.kd_wire.specs.Header.{header_bytes}
 use Rattle.kd_options.specs.Reply.{items_text, kept, unpadded}
 use Rattle.kd_options.proofs.Puts.{put_then, behind_header}

@@ -1,0 +1,42 @@
+// A library to preload: the FAIL_AT-th request for memory is refused. With FAIL_TELL it says at the end
+// how many requests there were.
+#include <errno.h>
+#include <stdio.h>
+#include <stdlib.h>
+#include <unistd.h>
+
+extern void *__libc_malloc(size_t);
+extern void *__libc_calloc(size_t, size_t);
+extern void *__libc_realloc(void *, size_t);
+extern void *__libc_memalign(size_t, size_t);
+
+static long asked = 0, refused = -2;
+
+static int is_refused(void) {
+    if (refused == -2) {
+        const char *at = getenv("FAIL_AT");
+        refused = at ? atol(at) : -1;
+    }
+    if (++asked != refused)
+        return 0;
+    errno = ENOMEM;
+    return 1;
+}
+
+void *malloc(size_t n) { return is_refused() ? NULL : __libc_malloc(n); }
+void *calloc(size_t a, size_t b) { return is_refused() ? NULL : __libc_calloc(a, b); }
+void *realloc(void *p, size_t n) { return is_refused() ? NULL : __libc_realloc(p, n); }
+void *aligned_alloc(size_t a, size_t n) { return is_refused() ? NULL : __libc_memalign(a, n); }
+
+int posix_memalign(void **out, size_t a, size_t n) {
+    void *p = is_refused() ? NULL : __libc_memalign(a, n);
+    if (!p)
+        return ENOMEM;
+    *out = p;
+    return 0;
+}
+
+__attribute__((destructor)) static void tell(void) {
+    if (getenv("FAIL_TELL"))
+        dprintf(2, "asked=%ld\n", asked);
+}

@@ -1,0 +1,50 @@
+#!/usr/bin/env bash
+# Refuses each request for memory in turn: of the built program over many command lines, where the answer
+# must be `fault 91 Memory` or the one that it gives with ample memory; and of the tests that expect such
+# a refusal, once more in the call that they repeat. Run it at the top, after `rt ci`; it needs cc.
+set -euo pipefail
+cd "$(dirname "${BASH_SOURCE[0]}")/../.."
+room=$(mktemp -d)
+trap 'rm -rf "$room"' EXIT
+cc -shared -fPIC -O1 -o "$room/fail.so" docs/fail-alloc/fail.c
+
+asked_by() { FAIL_TELL=1 LD_PRELOAD=$room/fail.so "$@" 2>&1 >/dev/null | sed -n 's/^asked=//p'; }
+
+all=0 memory=0 same=0 other=0
+each_refusal() {
+    local words=("$@") want status n
+    want=$("${words[@]}" 2>&1) && status=0 || status=$?
+    for n in $(seq 1 "$(asked_by "${words[@]}")"); do
+        local got now=0
+        got=$(FAIL_AT=$n LD_PRELOAD=$room/fail.so "${words[@]}" 2>&1) || now=$?
+        all=$((all + 1))
+        if [ "$now $got" = "1 fault 91 Memory" ]; then memory=$((memory + 1))
+        elif [ "$now $got" = "$status $want" ]; then same=$((same + 1))
+        else
+            other=$((other + 1))
+            echo "refusal $n of ${words[*]:0:2}: status $now, ${got:0:200}"
+        fi
+    done
+}
+
+for hex in examples/samples/*.hex; do each_refusal crates/kdhcp/out/kdhcp show "$(cat "$hex")"; done
+for words in "show abcd" "show 0g" "show -- -a" "--help" "help show" "show" "show a b" "nope" ""; do
+    # shellcheck disable=SC2086
+    each_refusal crates/kdhcp/out/kdhcp $words
+done
+echo "program: runs=$all memory=$memory same=$same other=$other"
+
+all=0 passed=0 building=0 other=0
+for test in kd_options:tests kd_options:reply::tests kdhcp:answer::tests; do
+    run=(crates/"${test%%:*}"/out/"${test%%:*}"_tests "${test#*:}"::want_of_memory_is_answered_as_such)
+    for n in $(seq 1 "$(asked_by "${run[@]}")"); do
+        all=$((all + 1))
+        if got=$(FAIL_AT=$n LD_PRELOAD=$room/fail.so "${run[@]}" 2>&1); then passed=$((passed + 1))
+        elif [[ $got == *AllocError* || $got == *OutOfMemory* ]]; then building=$((building + 1))
+        else
+            other=$((other + 1))
+            echo "refusal $n of ${run[*]}: $got"
+        fi
+    done
+done
+echo "tests: runs=$all passed=$passed refused_before_the_call=$building other=$other"
