@@ -28,8 +28,15 @@ impl AddressOption {
 }
 
 impl fmt::Display for AddressOption {
+    ghost use Rattle.std.specs.Prelude.{Some};
+    ghost use Rattle.std.specs.Fmt.{decimal};
+    ghost use Rattle.kd_options.specs.Faults.{address_option_code};
+
+    ghost output = { λ option. Some (decimal (address_option_code option)) };
+
     fn fmt<W: fmt::Write>(&self, f: &mut fmt::Formatter<W>) -> fmt::Result {
-        write!(f, "{}", self.code())
+        let code = self.code();
+        write!(f, "{code}")
     }
 }
 
