@@ -34,17 +34,18 @@ for words in "show abcd" "show 0g" "show -- -a" "--help" "help show" "show" "sho
 done
 echo "program: runs=$all memory=$memory same=$same other=$other"
 
-all=0 passed=0 building=0 other=0
+all=0 passed=0 building=0 second=0 other=0
 for test in kd_options:tests kd_options:reply::tests kdhcp:answer::tests; do
     run=(crates/"${test%%:*}"/out/"${test%%:*}"_tests "${test#*:}"::want_of_memory_is_answered_as_such)
     for n in $(seq 1 "$(asked_by "${run[@]}")"); do
         all=$((all + 1))
         if got=$(FAIL_AT=$n LD_PRELOAD=$room/fail.so "${run[@]}" 2>&1); then passed=$((passed + 1))
         elif [[ $got == *AllocError* || $got == *OutOfMemory* ]]; then building=$((building + 1))
+        elif [[ $got == *Memory* ]]; then second=$((second + 1))
         else
             other=$((other + 1))
             echo "refusal $n of ${run[*]}: $got"
         fi
     done
 done
-echo "tests: runs=$all passed=$passed refused_before_the_call=$building other=$other"
+echo "tests: runs=$all passed=$passed refused_beside_the_call=$building refused_in_the_repeated_call=$second other=$other"
