@@ -180,6 +180,28 @@ fn show_prints_the_first_fault(rt: HostRuntime) -> Result<(), Fail> {
 }
 
 #[test]
+fn a_datagram_cut_at_each_length_has_its_fault(rt: HostRuntime) -> Result<(), Fail> {
+    let hex = datagram(rt.alloc(), "", "", "3501013c026b64ff")?;
+    let whole = hex::decode(rt.alloc(), hex.as_str())?;
+    for len in 0..248 {
+        let mut cut = whole.clone()?;
+        cut.truncate(len);
+        let hex = hex::encode(rt.alloc(), cut.as_slice())?;
+        let printed = shown(rt.alloc(), hex.as_str())?;
+        let (fault, status) = match len {
+            0..=239 => ("fault 1 Short\n", 3),
+            240 => ("fault 6 NoType\n", 3),
+            241 | 242 => ("fault 5 Cut 240\n", 3),
+            244..=246 => ("fault 5 Cut 243\n", 3),
+            _ => ("", 0),
+        };
+        assert!(rt; printed.fault.as_slice() == fault.as_bytes(), "{len} bytes");
+        assert_eq!(rt; printed.status, status, "{len} bytes");
+    }
+    Ok(())
+}
+
+#[test]
 fn options_may_stand_in_file_and_sname(rt: HostRuntime) -> Result<(), Fail> {
     for (sname, file, options, rest, fault) in AREAS {
         let hex = datagram(rt.alloc(), sname, file, options)?;
