@@ -1,0 +1,16 @@
+//! The server: events in, replies out, and the replay of a day's lines.
+//!
+//! What this layer promises to the one above: an event is answered as the history of events says, over
+//! the lease table that the server stands at (`specs/History.antt`, `specs/Change.antt`); `replay` reads
+//! lines and writes the text of exactly that history (`specs/Lines.antt`, `specs/Text.antt`).
+#![tactic(auto)]
+
+mod destination;
+mod event;
+mod fault;
+mod reason;
+
+pub use destination::{Destination, Mode, Ports};
+pub use event::{Event, Handled, Response};
+pub use fault::{ReplayFault, ServeFault};
+pub use reason::Reason;
