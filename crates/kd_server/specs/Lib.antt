@@ -1,2 +1,9 @@
 pub mod Reason
 pub mod Faults
+pub mod Client
+pub mod Builtin
+pub mod Plan
+pub mod ReplyOf
+pub mod Destination
+pub mod Change
+pub mod Step

@@ -5,12 +5,17 @@
 //! lines and writes the text of exactly that history (`specs/Lines.antt`, `specs/Text.antt`).
 #![tactic(auto)]
 
+mod client;
 mod destination;
 mod event;
 mod fault;
+mod plan;
 mod reason;
+mod reply;
+mod sending;
 
 pub use destination::{Destination, Mode, Ports};
 pub use event::{Event, Handled, Response};
 pub use fault::{ReplayFault, ServeFault};
+
 pub use reason::Reason;

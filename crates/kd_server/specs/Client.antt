@@ -1,0 +1,54 @@
+-- What a message says of its client (RFC 2131 sections 2 and 4.2, RFC 2132 sections 9.6, 9.8, 9.10 and
+-- 9.14): its type, who the client is, which options it asks for, and how long a reply may be.
+use Rattle.std.specs.Prelude.{ℕ, ◌+◌, ◌-◌, ◌*◌, max, min, Bool, true, ◌||◌, ◌==◌, List, [], ◌∷◌, Option, Some, None, if◌then◌else◌}
+use Rattle.std.specs.List.{list_any}
+use Rattle.kd_options.specs.Joined.{value_of}
+use Rattle.kd_options.specs.Message.{Seen, mac_of}
+use Rattle.kd_wire.specs.declared.header.Header.{Header}
+
+-- the first byte of a value, and 0 where there is none
+abbrev pub first_byte : Option (List ℕ) → ℕ
+first_byte None = 0
+first_byte (Some []) = 0
+first_byte (Some (b ∷ bytes)) = b
+
+-- the number of a message's type
+abbrev pub kind_of : Seen → ℕ
+kind_of m = first_byte (value_of 53 m.options)
+
+-- a message that servers send: its op is 2, or it is an OFFER, an ACK or a NAK
+abbrev pub is_from_server : Seen → Bool
+is_from_server m = m.header.op == 2 || kind_of m == 2 || kind_of m == 5 || kind_of m == 6
+
+-- the identity that the hardware gives: 0, the kind of link layer, and the address, where there is one
+abbrev pub hardware_identity : ℕ → List ℕ → Option (List ℕ)
+hardware_identity htype [] = None
+hardware_identity htype (b ∷ mac) = Some (0 ∷ htype ∷ b ∷ mac)
+
+-- the identity of a client with this client identifier: 1 and it, where it is there and not empty
+abbrev pub identity_by : Option (List ℕ) → Option (List ℕ) → Option (List ℕ)
+identity_by None hardware = hardware
+identity_by (Some []) hardware = hardware
+identity_by (Some (b ∷ bytes)) hardware = Some (1 ∷ b ∷ bytes)
+
+-- who the client is: by option 61, else by its hardware
+abbrev pub identity : Seen → Option (List ℕ)
+identity m = identity_by (value_of 61 m.options) (hardware_identity m.header.htype (mac_of m.header))
+
+-- a code is asked for: it stands in option 55, or that is absent
+abbrev pub is_asked_in : ℕ → Option (List ℕ) → Bool
+is_asked_in code None = true
+is_asked_in code (Some list) = list_any (λ c. c == code) list
+
+-- the message asks for this option
+abbrev pub asks_for : ℕ → Seen → Bool
+asks_for code m = is_asked_in code (value_of 55 m.options)
+
+-- the greatest message that the client takes: option 57 where it has two bytes, else 576
+abbrev pub greatest_by : Option (List ℕ) → ℕ
+greatest_by (Some (a ∷ b ∷ [])) = a * 256 + b
+greatest_by other = 576
+
+-- the room for a reply: what is left of that behind the headers of IP and UDP, from 548 to 1472 bytes
+abbrev pub room_of : Seen → ℕ
+room_of m = min 1472 (max 576 (greatest_by (value_of 57 m.options)) - 28)

@@ -1,0 +1,45 @@
+-- One event of a history: a datagram at a moment, over a table of leases. What a message changes is a
+-- parameter.
+use Rattle.std.specs.Prelude.{◌≡◌, ℕ, ◌^◌, ◌<◌, max, ◌⊎◌}
+use Rattle.kd_options.specs.Message.{Seen, Reads}
+use Rattle.kd_server.specs.Client.{room_of}
+use Rattle.kd_server.specs.Destination.{destination_of}
+use Rattle.kd_server.specs.Plan.{Outcome}
+use Rattle.kd_server.specs.Plan.Outcome.{planned, quiet}
+use Rattle.kd_server.specs.ReplyOf.{IsReplyText, reply_header}
+use Rattle.kd_server.specs.declared.destination.Ports.{Ports}
+use Rattle.kd_server.specs.declared.event.Event.{Event}
+use Rattle.kd_server.specs.declared.event.Handled.{Handled}
+use Rattle.kd_server.specs.declared.event.Response.{Response}
+use Rattle.kd_server.specs.declared.event.Response.TheVariants as responses
+use Rattle.kd_server.specs.declared.reason.Reason.TheVariants as reasons
+
+-- what is sent for a message that gets this: a planned reply's text, to its destination; else the reason
+abbrev pub Responds : Ports → Seen → Outcome → Response → Type 0
+Responds ports m (quiet reason) response = response ≡ responses.Quiet reason
+Responds ports m (planned kind yiaddr options) (responses.Quiet reason) = ⊥
+Responds ports m (planned kind yiaddr options) (responses.Reply destination text) =
+    (destination ≡ destination_of m.header kind yiaddr ports)
+    × IsReplyText (reply_header kind yiaddr m.header) (room_of m) options text
+
+module _ {Table : Type 0} (latest : Table → ℕ) (Changes : Table → Seen → ℕ → Table → Outcome → Type 0) (ports : Ports) where
+  -- the datagram reads as no message: nothing is sent, and nothing changes
+  pub record IsUnreadable (old : Table) (event : Event) (response : Response) (new : Table) : Type 0 where
+    pub unreadable : (m : Seen) → Reads event.bytes m → ⊥
+    pub quiet : response ≡ responses.Quiet reasons.Unreadable
+    pub table : new ≡ old
+
+  -- the datagram reads as a message, which changes the table, and gets what is sent
+  pub record IsAnswered (old : Table) (event : Event) (now : ℕ) (response : Response) (new : Table) : Type 0 where
+    pub message : Seen
+    pub reads : Reads event.bytes message
+    pub outcome : Outcome
+    pub changes : Changes old message now new outcome
+    pub responds : Responds ports message outcome response
+
+  -- one event: its moment is below 2^40, and counts as the latest change where that is later
+  pub record IsStep (old : Table) (event : Event) (handled : Handled) (new : Table) : Type 0 where
+    pub early : event.moment < 2 ^ 40
+    pub now : handled.now ≡ max event.moment (latest old)
+    pub done : IsUnreadable old event handled.response new
+        ⊎ IsAnswered old event handled.now handled.response new

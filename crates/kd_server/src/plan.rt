@@ -1,0 +1,27 @@
+use kd_options::Reply;
+
+// What a planned reply is (RFC 2131 sections 3.1 and 4.3).
+#[derive(Clone, Copy, Debug, PartialEq, Eq)]
+pub(crate) enum PlanKind {
+    // An OFFER of an address.
+    Offer,
+    // An ACK that grants an address.
+    Ack,
+    // An ACK of an INFORM, which grants settings alone.
+    InformAck,
+    // A NAK.
+    Nak,
+}
+
+// A reply before it is written and sent.
+#[derive(Debug, Drop)]
+pub(crate) struct Plan {
+    // What the reply is.
+    pub(crate) kind: PlanKind,
+    // The client's new address, or zero.
+    pub(crate) yiaddr: u32,
+    // The reply.
+    pub(crate) reply: Reply,
+    // The bytes that it may have, 548 to 1472.
+    pub(crate) room: u16,
+}
