@@ -6,4 +6,5 @@ pub mod Plan
 pub mod ReplyOf
 pub mod Destination
 pub mod Change
+pub mod Decision
 pub mod Step

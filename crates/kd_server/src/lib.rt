@@ -12,6 +12,7 @@ mod fault;
 mod plan;
 mod reason;
 mod reply;
+mod rules;
 mod sending;
 
 pub use destination::{Destination, Mode, Ports};

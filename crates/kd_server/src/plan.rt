@@ -1,3 +1,4 @@
+use crate::reason::Reason;
 use kd_options::Reply;
 
 // What a planned reply is (RFC 2131 sections 3.1 and 4.3).
@@ -24,4 +25,13 @@ pub(crate) struct Plan {
     pub(crate) reply: Reply,
     // The bytes that it may have, 548 to 1472.
     pub(crate) room: u16,
+}
+
+// What the rules answer for a message.
+#[derive(Debug, Drop)]
+pub(crate) enum Decision {
+    // A reply is sent.
+    Plan(Plan),
+    // Nothing is sent.
+    Quiet(Reason),
 }
