@@ -8,3 +8,5 @@ pub mod Destination
 pub mod Change
 pub mod Decision
 pub mod Step
+pub mod Responding
+pub mod Standing

@@ -14,9 +14,11 @@ mod reason;
 mod reply;
 mod rules;
 mod sending;
+mod server;
 
 pub use destination::{Destination, Mode, Ports};
 pub use event::{Event, Handled, Response};
 pub use fault::{ReplayFault, ServeFault};
 
 pub use reason::Reason;
+pub use server::Server;

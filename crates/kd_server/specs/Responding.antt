@@ -1,0 +1,47 @@
+-- The steps in which a server answers a datagram. Proofs tie these to the history's one event; no public
+-- contract cites them.
+use Rattle.std.specs.Prelude.{◌≡◌, List, ℕ, ◌⊎◌, Option, Some, None}
+use Rattle.kd_options.specs.Message.{Seen, Reads}
+use Rattle.kd_options.specs.Reply.{reply_text}
+use Rattle.kd_server.specs.Change.{outcome_of}
+use Rattle.kd_server.specs.Decision.{IsUnserved}
+use Rattle.kd_server.specs.Destination.{destination_of}
+use Rattle.kd_server.specs.Plan.{Outcome}
+use Rattle.kd_server.specs.Step.{Responds}
+use Rattle.kd_server.specs.declared.destination.Ports.{Ports}
+use Rattle.kd_server.specs.declared.event.Response.{Response}
+use Rattle.kd_server.specs.declared.event.Response.TheVariants as responses
+use Rattle.kd_server.specs.declared.fault.ServeFault.{ServeFault}
+use Rattle.kd_server.specs.declared.fault.ServeFault.TheVariants.{Unsupported, MomentTooLarge, Memory}
+use Rattle.kd_server.specs.declared.plan.Plan.{Plan}
+use Rattle.kd_server.specs.declared.reason.Reason.TheVariants as reasons
+
+-- a planned reply is sent
+abbrev pub IsSent : Ports → Seen → Plan → Response → Type 0
+IsSent ports m plan (responses.Quiet reason) = ⊥
+IsSent ports m plan (responses.Reply destination text) =
+    (destination ≡ destination_of m.header plan.kind plan.yiaddr ports)
+    × (text ≡ reply_text plan.reply.header plan.room plan.reply.items)
+
+-- what is sent for a message that gets this, where it gets anything
+abbrev pub IsAnswer : Ports → Seen → Option Outcome → Response → Type 0
+IsAnswer ports m None response = ⊥
+IsAnswer ports m (Some outcome) response = Responds ports m outcome response
+
+-- a datagram reads as a message, which gets what is sent
+pub record IsAnswerTo (ports : Ports) (bytes : List ℕ) (response : Response) : Type 0 where
+  pub message : Seen
+  pub reads : Reads bytes message
+  pub answer : IsAnswer ports message (outcome_of message) response
+
+-- what is sent for a datagram
+abbrev pub IsResponse : Ports → List ℕ → Response → Type 0
+IsResponse ports bytes response =
+    (((m : Seen) → Reads bytes m → ⊥) × (response ≡ responses.Quiet reasons.Unreadable))
+    ⊎ IsAnswerTo ports bytes response
+
+-- why nothing is decided for a datagram
+abbrev pub IsUnanswered : List ℕ → ServeFault → Type 0
+IsUnanswered bytes (Unsupported kind) = (m : Seen) × Reads bytes m × IsUnserved m (Unsupported kind)
+IsUnanswered bytes MomentTooLarge = ⊥
+IsUnanswered bytes Memory = Unit {0}

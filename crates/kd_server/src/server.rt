@@ -1,0 +1,106 @@
+ghost use Rattle.std.specs.Prelude.{◌≡◌, ◌≤◌, IfErr, IfOk};
+ghost use Rattle.kd_options.specs.Reply.{Fits};
+ghost use Rattle.kd_server.specs.Change.{outcome_of};
+ghost use Rattle.kd_server.specs.Decision.{IsUnserved};
+ghost use Rattle.kd_server.specs.Responding.{IsAnswer, IsResponse, IsSent, IsUnanswered};
+ghost use Rattle.kd_server.specs.Standing.{Fails, Gives};
+ghost use Rattle.kd_server.specs.declared.fault.ServeFault.TheVariants.{Memory};
+
+use crate::destination::Ports;
+use crate::event::{Handled, Response};
+use crate::fault::ServeFault;
+use crate::plan::{Decision, Plan};
+use crate::reason::Reason;
+use crate::rules::decide;
+use crate::sending::destination;
+use kd_options::{Message, ReadFault, WriteFault};
+use kd_wire::Bytes;
+use std::alloc::Global;
+use std::marker::Model;
+
+/// A server over the built-in configuration: its address is 192.0.2.1, its one subnet 192.0.2.0/24, and no
+/// address is leased.
+#[derive(Debug, Drop)]
+pub struct Server {
+    ports: Ports,
+    alloc: Global,
+}
+
+impl Model for Server {
+    ghost use Rattle.kd_server.specs.Standing.{Standing};
+
+    ghost Value = { Standing };
+
+    ghost view = { λ s. record { ports = s.ports; table = tt } };
+}
+
+// Moments are below this, 2^40 seconds.
+const MOMENTS: u64 = 0x100_0000_0000;
+
+impl Server {
+    /// A server with these ports. It keeps the allocator for its calls, and takes no memory itself.
+    pub fn builtin(alloc: Global, ports: Ports) -> Server
+        ensures { result ≡ record { ports = ports; table = tt } }
+    {
+        Server { ports, alloc }
+    }
+
+    /// What is sent for a datagram at a moment, in whole seconds (RFC 2131 section 4.3).
+    ///
+    /// # Errors
+    ///
+    /// `MomentTooLarge` where the moment is not below 2^40, `Unsupported` where the datagram is a client's
+    /// message of another type than INFORM, and `Memory`. Nothing is changed then.
+    pub fn handle(&mut self, moment: u64, bytes: &[u8]) -> Result<Handled, ServeFault>
+        ensures handled { IfOk result (λ handled.
+            Gives self.old (record { moment = moment; bytes = bytes.now }) handled self.new) }
+        ensures failed { IfErr result (λ fault.
+            Fails self.old (record { moment = moment; bytes = bytes.now }) fault self.new) }
+    {
+        if moment >= MOMENTS {
+            return Err(ServeFault::MomentTooLarge);
+        }
+        let response = respond(self.alloc, self.ports, bytes)?;
+        Ok(Handled {
+            now: moment,
+            response,
+        })
+    }
+}
+
+// What is sent for a datagram.
+fn respond(alloc: Global, ports: Ports, bytes: &[u8]) -> Result<Response, ServeFault>
+    ensures found { IfOk result (IsResponse ports bytes.now) }
+    ensures fault { IfErr result (IsUnanswered bytes.now) }
+{
+    match Message::read(alloc, bytes) {
+        Ok(message) => answer(alloc, ports, &message),
+        Err(ReadFault::Memory) => Err(ServeFault::Memory),
+        Err(_) => Ok(Response::Quiet(Reason::Unreadable)),
+    }
+}
+
+// What is sent for a message.
+fn answer(alloc: Global, ports: Ports, message: &Message<'_>) -> Result<Response, ServeFault>
+    ensures found { IfOk result (IsAnswer ports message.now (outcome_of message.now)) }
+    ensures fault { IfErr result (IsUnserved message.now) }
+{
+    match decide(alloc, message)? {
+        Decision::Quiet(reason) => Ok(Response::Quiet(reason)),
+        Decision::Plan(plan) => sent(alloc, ports, message, &plan),
+    }
+}
+
+// A planned reply, as it is sent.
+fn sent(alloc: Global, ports: Ports, message: &Message<'_>, plan: &Plan) -> Result<Response, ServeFault>
+    requires fits { Fits plan.now.room plan.now.reply.items }
+    requires least { 300 ≤ plan.now.room }
+    ensures found { IfOk result (IsSent ports message.now plan.now) }
+    ensures fault { IfErr result (λ fault. fault ≡ Memory) }
+{
+    match plan.reply.write(alloc, plan.room) {
+        Ok(bytes) => Ok(Response::Reply(destination(message, plan, ports), Bytes::own(bytes))),
+        Err(WriteFault::Memory) => Err(ServeFault::Memory),
+        Err(WriteFault::TooLong) => unreachable!(),
+    }
+}
