@@ -19,6 +19,5 @@ mod server;
 pub use destination::{Destination, Mode, Ports};
 pub use event::{Event, Handled, Response};
 pub use fault::{ReplayFault, ServeFault};
-
 pub use reason::Reason;
 pub use server::Server;

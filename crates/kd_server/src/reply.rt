@@ -64,7 +64,12 @@ pub(crate) fn is_short(reply: &Reply, room: u16) -> bool
 }
 
 // Puts an option that is always written behind the others.
-pub(crate) fn put_obligatory(alloc: Global, list: &mut Vec<Item>, code: u8, value: &[u8]) -> Result<(), AllocError>
+pub(crate) fn put_obligatory(
+    alloc: Global,
+    list: &mut Vec<Item>,
+    code: u8,
+    value: &[u8],
+) -> Result<(), AllocError>
     requires { IsCode code }
     ensures { OnOk result (map option_in list.new.items ≡ map option_in list.old.items ++ obligatory code value.now) }
 {
@@ -72,7 +77,12 @@ pub(crate) fn put_obligatory(alloc: Global, list: &mut Vec<Item>, code: u8, valu
 }
 
 // Puts an option of the message as it came, where it is there.
-pub(crate) fn put_returned(alloc: Global, list: &mut Vec<Item>, code: u8, value: Option<&[u8]>) -> Result<(), AllocError>
+pub(crate) fn put_returned(
+    alloc: Global,
+    list: &mut Vec<Item>,
+    code: u8,
+    value: Option<&[u8]>,
+) -> Result<(), AllocError>
     requires { IsCode code }
     ensures { OnOk result (map option_in list.new.items
         ≡ map option_in list.old.items ++ returned code (option_copied value.entry)) }
@@ -84,7 +94,13 @@ pub(crate) fn put_returned(alloc: Global, list: &mut Vec<Item>, code: u8, value:
 }
 
 // Puts a configured option, where the client asks for it.
-pub(crate) fn put_configured(alloc: Global, list: &mut Vec<Item>, asked: bool, code: u8, value: &[u8]) -> Result<(), AllocError>
+pub(crate) fn put_configured(
+    alloc: Global,
+    list: &mut Vec<Item>,
+    asked: bool,
+    code: u8,
+    value: &[u8],
+) -> Result<(), AllocError>
     requires { IsCode code }
     ensures { OnOk result (map option_in list.new.items ≡ map option_in list.old.items ++ configured asked code value.now) }
 {
@@ -95,7 +111,13 @@ pub(crate) fn put_configured(alloc: Global, list: &mut Vec<Item>, asked: bool, c
     }
 }
 
-fn put_option(alloc: Global, list: &mut Vec<Item>, code: u8, value: &[u8], obligatory: bool) -> Result<(), AllocError>
+fn put_option(
+    alloc: Global,
+    list: &mut Vec<Item>,
+    code: u8,
+    value: &[u8],
+    obligatory: bool,
+) -> Result<(), AllocError>
     requires { IsCode code }
     ensures { OnOk result (map option_in list.new.items ≡ map option_in list.old.items
         ++ record { code = code; value = value.now; obligatory = obligatory } ∷ []) }

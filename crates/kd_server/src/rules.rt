@@ -73,7 +73,13 @@ fn inform_items(alloc: Global, message: &Message<'_>) -> Result<Items, AllocErro
     put_obligatory(alloc, &mut list, 53, &[5])?;
     put_obligatory(alloc, &mut list, 54, &SERVER_ADDRESS.to_be_bytes())?;
     put_returned(alloc, &mut list, 61, message.option(61))?;
-    put_configured(alloc, &mut list, asks_for(message, 1), 1, &[255, 255, 255, 0])?;
+    put_configured(
+        alloc,
+        &mut list,
+        asks_for(message, 1),
+        1,
+        &[255, 255, 255, 0],
+    )?;
     put_returned(alloc, &mut list, 82, message.option(82))?;
     Ok(Items::own(list))
 }

@@ -92,7 +92,12 @@ fn answer(alloc: Global, ports: Ports, message: &Message<'_>) -> Result<Response
 }
 
 // A planned reply, as it is sent.
-fn sent(alloc: Global, ports: Ports, message: &Message<'_>, plan: &Plan) -> Result<Response, ServeFault>
+fn sent(
+    alloc: Global,
+    ports: Ports,
+    message: &Message<'_>,
+    plan: &Plan,
+) -> Result<Response, ServeFault>
     requires fits { Fits plan.now.room plan.now.reply.items }
     requires least { 300 ≤ plan.now.room }
     ensures found { IfOk result (IsSent ports message.now plan.now) }
@@ -104,3 +109,6 @@ fn sent(alloc: Global, ports: Ports, message: &Message<'_>, plan: &Plan) -> Resu
         Err(WriteFault::TooLong) => unreachable!(),
     }
 }
+
+#[cfg(test)]
+mod tests;
