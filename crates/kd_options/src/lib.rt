@@ -11,6 +11,7 @@ mod fault;
 mod item;
 mod joining;
 mod kind;
+pub mod laws;
 mod message;
 mod relay;
 mod reply;
