@@ -1,5 +1,5 @@
--- The law of replies: what a reply has to be (RFC 2131 section 2, RFC 2132 sections 9.1, 9.6, 9.7), and the
--- message that its text reads back as (RFC 3396).
+-- What a reply has to be (RFC 2131 section 2, RFC 2132 sections 9.1, 9.6, 9.7), and the message that its
+-- text reads back as (RFC 3396 section 7): what the law of replies speaks of.
 use Rattle.std.specs.Prelude.{◌≡◌, ◌≢◌, ◌⊎◌, ℕ, ◌^◌, ◌<◌, ◌≤◌, true, nat_eq, List, [], ◌∷◌, length, map}
 use Rattle.std.specs.List.{AllByRecursion, IsDistinct}
 use Rattle.kd_wire.specs.Area.{Piece}
@@ -9,16 +9,16 @@ use Rattle.kd_options.specs.Options.{IsAddress, IsType}
 use Rattle.kd_options.specs.Reply.{kept, reply_text}
 use Rattle.kd_options.specs.declared.item.Item.{Item}
 
--- numbers that are bytes
+-- bytes: numbers from 0 to 255
 abbrev pub AreBytes : List ℕ → Type 0
-AreBytes bytes = AllByRecursion (λ b. b < 2 ^ 8) bytes
+AreBytes bytes = AllByRecursion (λ b. b < 256) bytes
 
 -- a field of n bytes
 pub record IsField (n : ℕ) (bytes : List ℕ) : Type 0 where
   pub size : length bytes ≡ n
   pub bytes_are : AreBytes bytes
 
--- a header's fields: numbers of one, two and four bytes, and three fields of bytes
+-- a header's fields have their ranges and lengths: numbers of one, two and four bytes, and bytes
 pub record IsHeader (header : Header) : Type 0 where
   pub op : header.op < 2 ^ 8
   pub htype : header.htype < 2 ^ 8
@@ -35,14 +35,15 @@ pub record IsHeader (header : Header) : Type 0 where
   pub sname : IsField 64 header.sname
   pub file : IsField 128 header.file
 
--- an item of a reply: its code, which the item's type bounds, is not 52; 50 and 54 are addresses
+-- an item of a reply: not option 52, an address where it is option 50 or 54, and its value is bytes; that
+-- its code is from 1 to 254 is part of its type
 pub record IsItem (item : Item) : Type 0 where
   pub plain : item.code ≢ 52
   pub requested : item.code ≡ 50 → IsAddress item.value
   pub server : item.code ≡ 54 → IsAddress item.value
   pub bytes_are : AreBytes item.value
 
--- the first item is the message type, obligatory
+-- the first item is the message type, and obligatory
 abbrev pub BeginsWithType : List Item → Type 0
 BeginsWithType [] = ⊥
 BeginsWithType (item ∷ items) = (item.code ≡ 53) × (item.obligatory ≡ true) × IsType item.value
@@ -51,7 +52,8 @@ BeginsWithType (item ∷ items) = (item.code ≡ 53) × (item.obligatory ≡ tru
 abbrev pub item_codes : List Item → List ℕ
 item_codes items = map (λ item. item.code) items
 
--- what a reply has to be, and its room
+-- a reply and its room: a header of op 1 or 2, items with distinct codes, the message type first, and the
+-- room of a datagram of 576 to 1,500 bytes beside 28 for IP and UDP
 pub record IsReply (header : Header) (room : ℕ) (items : List Item) : Type 0 where
   pub fields : IsHeader header
   pub op : (header.op ≡ 1) ⊎ (header.op ≡ 2)
@@ -61,11 +63,11 @@ pub record IsReply (header : Header) (room : ℕ) (items : List Item) : Type 0 w
   pub least : 548 ≤ room
   pub most : room ≤ 1472
 
--- the options that items are, each with its whole value
+-- items as options: each code with its whole value
 abbrev pub item_options : List Item → List Piece
 item_options items = map (λ item. (item.code, item.value)) items
 
--- the message that a reply's text reads back as: its header, the text's length, and its kept items
+-- what a reply's text reads back as: the reply's header, the text's length, and the kept items
 abbrev pub read_back : Header → ℕ → List Item → Seen
 read_back header room items = record {
   header = header;

@@ -11,5 +11,4 @@ pub fn text_reads()
     ensures { (header : Header) (room : ℕ) (items : List Item) → IsReply header room items
         → Fits room items
         → Reads (reply_text header room items) (read_back header room items) }
-{
-}
+{}
