@@ -10,7 +10,7 @@ use Rattle.kd_wire.specs.Area.{IsArea, IsCode, IsSlot, Piece, Slot, piece, piece
 use Rattle.kd_options.specs.Joined.{value_of}
 use Rattle.kd_options.specs.Laws.{BeginsWithType, IsItem, item_options}
 use Rattle.kd_options.specs.Options.{IsAddress, IsReadable, IsType}
-use Rattle.kd_options.specs.Reply.{items_text, piece_count, pieces_of, pieces_text}
+use Rattle.kd_options.specs.Reply.{items_text, piece_count, pieces_of}
 use Rattle.kd_options.specs.declared.item.Item.{Item}
 
 -- a code that no item has is absent

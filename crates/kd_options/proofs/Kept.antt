@@ -1,5 +1,5 @@
 -- What holds of items and of those of them that are kept.
-use Rattle.std.proofs.Common.{◌≡◌, ℕ, ◌+◌, ◌<◌, ◌≤◌, Bool, true, false, List, [], ◌∷◌, ◌++◌, length, refl, sym, ap, ◌∙◌, arith, length-append, leb-true, subst}
+use Rattle.std.proofs.Common.{◌≡◌, ℕ, ◌+◌, ◌≤◌, Bool, true, false, List, [], ◌∷◌, length, refl, sym, ap, ◌∙◌, arith, length-append, leb-true, subst}
 use Rattle.std.specs.Prelude.{nat_le, nat_eq, sum_by, if◌then◌else◌}
 use Rattle.std.specs.List.{flat_map, AllByRecursion, IsDistinct}
 use Rattle.std.proofs.lemmas.Grind.{flat_map-append}

@@ -1,5 +1,5 @@
 -- A header's bytes read back as the header (RFC 2131 section 2).
-use Rattle.std.proofs.Common.{◌≡◌, ℕ, ◌+◌, ◌-◌, ◌*◌, ◌^◌, ◌<◌, ◌≤◌, Bool, true, false, List, [], ◌∷◌, ◌++◌, length, take, drop, Result, Ok, Err, refl, sym, ap, ◌∙◌, arith, append_assoc, length-append, drop-drop, eq-eqb, inl, inr, slice_index}
+use Rattle.std.proofs.Common.{◌≡◌, ℕ, ◌+◌, ◌-◌, ◌*◌, ◌^◌, ◌<◌, ◌≤◌, Bool, true, false, List, [], ◌∷◌, ◌++◌, length, take, drop, Ok, Err, refl, sym, ap, ◌∙◌, arith, append_assoc, length-append, drop-drop, eq-eqb, inl, inr, slice_index}
 use Rattle.std.specs.Prelude.{◌⊎◌, ◌==◌, ◌||◌, not, nat_lt, if◌then◌else◌}
 use Rattle.std.specs.Int.{bytes_high_first}
 use Rattle.std.proofs.lemmas.Bool.{le-ltb}
@@ -7,7 +7,6 @@ use Rattle.std.proofs.lemmas.List.{take_at, drop_at}
 use Rattle.std.proofs.lemmas.Nat.{from_be_bytes-to_be_bytes_2, from_be_bytes-to_be_bytes_4}
 use Rattle.kd_wire.specs.Header.{bytes_at, cookie, header_bytes, header_of, header_read, number_at}
 use Rattle.kd_wire.specs.declared.header.Header.{Header}
-use Rattle.kd_wire.specs.declared.header.WireFault.{WireFault}
 use Rattle.kd_wire.specs.declared.header.WireFault.TheVariants.{Short, Long, Cookie, BadOp}
 use Rattle.kd_options.specs.Laws.{IsHeader}
 
