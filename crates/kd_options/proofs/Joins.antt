@@ -2,28 +2,25 @@
 use Rattle.std.proofs.Common.{◌≡◌, ℕ, Bool, true, false, List, [], ◌∷◌, ◌++◌, refl, sym, ap, subst, ◌∙◌, append_assoc, eq-eqb, ne_eqb, eqb-true}
 use Rattle.std.specs.Prelude.{◌==◌, if◌then◌else◌, not, filter, map}
 use Rattle.std.proofs.lemmas.Bool.{eqb-false}
+use Rattle.std.proofs.lemmas.List.{append-nil}
 use Rattle.kd_wire.specs.Area.{Piece}
 use Rattle.kd_options.specs.Joined.{joined, codes, options_of}
 use Rattle.kd_options.specs.Joining.{joined_into}
 
 -- the value of the first option with this code, or nothing
-abbrev content : ℕ → List Piece → List ℕ
+abbrev pub content : ℕ → List Piece → List ℕ
 content code [] = []
 content code (o ∷ options) = if o.0 == code then o.1 else content code options
 
 -- the options with other codes
-abbrev without : ℕ → List Piece → List Piece
+abbrev pub without : ℕ → List Piece → List Piece
 without code options = filter (λ o. not (o.0 == code)) options
 
 -- the options with one piece more in front
-abbrev adds : Piece → List Piece → List Piece
+abbrev pub adds : Piece → List Piece → List Piece
 adds p options = (p.0, p.1 ++ content p.0 options) ∷ without p.0 options
 
-append_none : (xs : List ℕ) → xs ++ [] ≡ xs
-append_none [] = refl
-append_none (x ∷ xs) = ap (λ r. x ∷ r) (append_none xs)
-
-flip : (a b : ℕ) → (a == b) ≡ false → (b == a) ≡ false
+pub flip : (a b : ℕ) → (a == b) ≡ false → (b == a) ≡ false
 flip a b differs = ne_eqb b a (λ e. eqb-false a b differs (sym e))
 
 -- a code that is one of two that differ is not the other
@@ -66,7 +63,7 @@ content-options_of code (p ∷ pieces) =
     by true t rest = rw t (ap (λ x. p.1 ++ x) (ap (λ x. content x (options_of pieces)) (eqb-true p.0 code t) ∙ rest))
     by false t rest = rw t (content-without code p.0 (options_of pieces) t ∙ rest)
 
-options_of-cons : (p : Piece) (pieces : List Piece) → options_of (p ∷ pieces) ≡ adds p (options_of pieces)
+pub options_of-cons : (p : Piece) (pieces : List Piece) → options_of (p ∷ pieces) ≡ adds p (options_of pieces)
 options_of-cons p pieces = options_of-cons_by p pieces (content-options_of p.0 pieces)
 
 content-joined_into-same : (code : ℕ) (value : List ℕ) (options : List Piece) → content code (joined_into code value options) ≡ content code options ++ value
@@ -125,6 +122,6 @@ joined_into-adds code p value options = by (p.0 == code) refl
 
 -- one piece more is joined to the options of those before it
 pub options_of-append : (pieces : List Piece) (code : ℕ) (value : List ℕ) → options_of (pieces ++ (code, value) ∷ []) ≡ joined_into code value (options_of pieces)
-options_of-append [] code value = rw (eq-eqb code code refl) (λ i. (code, append_none value i) ∷ [])
+options_of-append [] code value = rw (eq-eqb code code refl) (λ i. (code, append-nil value i) ∷ [])
 options_of-append (p ∷ pieces) code value =
     options_of-cons p (pieces ++ (code, value) ∷ []) ∙ ap (adds p) (options_of-append pieces code value) ∙ sym (joined_into-adds code p value (options_of pieces)) ∙ ap (joined_into code value) (sym (options_of-cons p pieces))

@@ -6,3 +6,8 @@ pub mod Rules
 pub mod SeenCodes
 pub mod Puts
 pub mod Keeping
+pub mod ReadBack
+pub mod Kept
+pub mod ItemOptions
+pub mod Pieces
+pub mod TextReads

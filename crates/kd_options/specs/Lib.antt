@@ -9,3 +9,4 @@ pub mod Relay
 pub mod RelayWalk
 pub mod RelayFront
 pub mod Reply
+pub mod Laws

@@ -247,3 +247,9 @@ fn want_of_memory_is_answered_as_such(rt: HostRuntime) -> Result<(), Fail> {
     assert_eq!(rt; joined_over_three_areas(rt.alloc(), &bytes), Ok(true));
     Ok(())
 }
+
+#[test]
+fn the_law_of_replies_is_called(_rt: HostRuntime) -> Result<(), Fail> {
+    laws::text_reads();
+    Ok(())
+}

@@ -1,6 +1,7 @@
 ghost use Rattle.kd_wire.specs.Area.{IsCode};
 
 use super::*;
+use crate::message::Message;
 use kd_wire::Bytes;
 use std::test::Fail;
 
@@ -98,6 +99,29 @@ fn a_long_value_is_cut_in_pieces_of_255(rt: HostRuntime) -> Result<(), Fail> {
             assert!(rt; bytes.get(506..510) == Some([43, 1, 7, 255].as_slice()));
         }
     }
+    Ok(())
+}
+
+// An option of two pieces and an empty one are read as they were.
+#[test]
+fn a_reply_reads_back_as_its_header_and_items(rt: HostRuntime) -> Result<(), Fail> {
+    let mut list = ack(rt.alloc(), 43, &[7; 300], true)?.items.into_vec();
+    list.push(item(rt.alloc(), 60, b"", false)?)?;
+    let reply = Reply {
+        header: header(),
+        items: Items::own(list),
+    };
+    let bytes = reply.write(rt.alloc(), 1472)?;
+    let message = Message::read(rt.alloc(), &bytes)?;
+    assert!(rt; message.header() == reply.header);
+    for (index, item) in reply.items.as_slice().iter().enumerate() {
+        let is = match message.option_at(index) {
+            Some((code, value)) => code == item.code && value == item.value.as_slice(),
+            None => false,
+        };
+        assert!(rt; is, "item {index}");
+    }
+    assert!(rt; message.option_at(4).is_none());
     Ok(())
 }
 
