@@ -1,2 +1,4 @@
-pub mod Reason
 pub mod Faults
+pub mod Lines
+pub mod Parts
+pub mod Reason

@@ -5,12 +5,17 @@
 //! lines and writes the text of exactly that history (`specs/Lines.antt`, `specs/Text.antt`).
 #![tactic(auto)]
 
+mod ahead;
 mod destination;
+mod ends;
 mod event;
 mod fault;
+mod lines;
 mod reason;
+mod room;
 
 pub use destination::{Destination, Mode, Ports};
+pub use ends::{EndFailed, Sink, Source};
 pub use event::{Event, Handled, Response};
 pub use fault::{ReplayFault, ServeFault};
 pub use reason::Reason;
