@@ -1,5 +1,6 @@
--- What the private functions that read lines take and leave: for the proofs, no promise names it.
+-- What the private functions that read and write lines take and leave: for the proofs, no promise names it.
 use Rattle.std.specs.Prelude.{◌≡◌, ℕ, ◌+◌, ◌<◌, ◌≤◌, ◌==◌, false, List, [], ◌∷◌, ◌++◌, Option, Some, length}
+use Rattle.std.specs.Io.KnownBytes.{Appends}
 use Rattle.kd_server.specs.Lines.{line_limit, lines_of}
 use Rattle.kd_server.specs.declared.ahead.Part.{Part}
 use Rattle.kd_server.specs.declared.ahead.Part.TheVariants as part
@@ -59,3 +60,10 @@ pub record FindsIn (found : Found) (all : List ℕ) (left : Option (List ℕ)) (
   pub rest : List ℕ
   pub known : left ≡ Some rest
   pub finds : Finds found (lines_of all) text (lines_of rest)
+
+-- bytes from the front are written, and no others
+pub record WritesPart (old new : Option (List ℕ)) (bytes : List ℕ) : Type 0 where
+  pub part : List ℕ
+  pub more : List ℕ
+  pub cut : bytes ≡ part ++ more
+  pub written : Appends old new part

@@ -10,9 +10,12 @@ mod destination;
 mod ends;
 mod event;
 mod fault;
+mod line;
 mod lines;
 mod reason;
 mod room;
+mod text;
+mod writing;
 
 pub use destination::{Destination, Mode, Ports};
 pub use ends::{EndFailed, Sink, Source};
