@@ -1,5 +1,7 @@
 pub mod Faults
+pub mod History
 pub mod Lines
 pub mod Parts
 pub mod Reason
+pub mod Replay
 pub mod Text

@@ -14,6 +14,8 @@ mod line;
 mod lines;
 mod reason;
 mod room;
+mod running;
+mod serves;
 mod text;
 mod writing;
 
