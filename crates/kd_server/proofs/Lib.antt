@@ -1,0 +1,4 @@
+pub mod Histories
+pub mod Looking
+pub mod Spelling
+pub mod Texts

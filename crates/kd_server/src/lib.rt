@@ -5,18 +5,28 @@
 //! lines and writes the text of exactly that history (`specs/Lines.antt`, `specs/Text.antt`).
 #![tactic(auto)]
 
+mod ahead;
 mod client;
 mod destination;
+mod ends;
 mod event;
 mod fault;
+mod line;
+mod lines;
 mod plan;
 mod reason;
 mod reply;
+mod room;
 mod rules;
+mod running;
 mod sending;
 mod server;
+mod serves;
+mod text;
+mod writing;
 
 pub use destination::{Destination, Mode, Ports};
+pub use ends::{EndFailed, Sink, Source};
 pub use event::{Event, Handled, Response};
 pub use fault::{ReplayFault, ServeFault};
 pub use reason::Reason;
