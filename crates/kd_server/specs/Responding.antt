@@ -1,6 +1,6 @@
 -- The steps in which a server answers a datagram. Proofs tie these to the history's one event; no public
 -- contract cites them.
-use Rattle.std.specs.Prelude.{◌≡◌, List, ℕ, ◌⊎◌, Option, Some, None}
+use Rattle.std.specs.Prelude.{◌≡◌, List, ℕ, ◌<◌, ◌≤◌, ◌^◌, ◌⊎◌, length, Option, Some, None}
 use Rattle.kd_options.specs.Message.{Seen, Reads}
 use Rattle.kd_options.specs.Reply.{reply_text}
 use Rattle.kd_server.specs.Change.{outcome_of}
@@ -45,3 +45,9 @@ abbrev pub IsUnanswered : List ℕ → ServeFault → Type 0
 IsUnanswered bytes (Unsupported kind) = (m : Seen) × Reads bytes m × IsUnserved m (Unsupported kind)
 IsUnanswered bytes MomentTooLarge = ⊥
 IsUnanswered bytes Memory = Unit {0}
+
+-- what is sent has at most 1,472 bytes, and goes to an address and a port
+abbrev pub IsSmall : Response → Type 0
+IsSmall (responses.Reply destination bytes) =
+    (length bytes ≤ 1472) × (destination.address < 2 ^ 32) × (destination.port < 2 ^ 16)
+IsSmall (responses.Quiet reason) = Unit {0}

@@ -1,18 +1,22 @@
-ghost use Rattle.std.specs.Prelude.{◌≡◌, ◌≤◌, IfErr, IfOk};
+ghost use Rattle.std.specs.Prelude.{◌≡◌, ◌≤◌, IfErr, IfOk, length};
 ghost use Rattle.kd_options.specs.Reply.{Fits};
 ghost use Rattle.kd_server.specs.Change.{outcome_of};
 ghost use Rattle.kd_server.specs.Decision.{IsUnserved};
-ghost use Rattle.kd_server.specs.Responding.{IsAnswer, IsResponse, IsSent, IsUnanswered};
+ghost use Rattle.kd_server.specs.History.{Runs};
+ghost use Rattle.kd_server.specs.Responding.{IsAnswer, IsResponse, IsSent, IsSmall, IsUnanswered};
 ghost use Rattle.kd_server.specs.Standing.{Fails, Gives};
+ghost use Rattle.kd_server.specs.Text.{line_of, line_room};
 ghost use Rattle.kd_server.specs.declared.fault.ServeFault.TheVariants.{Memory};
 
 use crate::destination::Ports;
-use crate::event::{Handled, Response};
+use crate::event::{Event, Handled, Response};
 use crate::fault::ServeFault;
 use crate::plan::{Decision, Plan};
 use crate::reason::Reason;
 use crate::rules::decide;
+use crate::running::run_with;
 use crate::sending::destination;
+use crate::serves::Serves;
 use kd_options::{Message, ReadFault, WriteFault};
 use kd_wire::Bytes;
 use std::alloc::Global;
@@ -51,9 +55,11 @@ impl Server {
     ///
     /// `MomentTooLarge` where the moment is not below 2^40, `Unsupported` where the datagram is a client's
     /// message of another type than INFORM, and `Memory`. Nothing is changed then.
+    #[tactic(auto, using(crate::proofs::Fitting::line_fits))]
     pub fn handle(&mut self, moment: u64, bytes: &[u8]) -> Result<Handled, ServeFault>
         ensures handled { IfOk result (λ handled.
             Gives self.old (record { moment = moment; bytes = bytes.now }) handled self.new) }
+        ensures room { IfOk result (λ handled. length (line_of handled) ≤ line_room) }
         ensures failed { IfErr result (λ fault.
             Fails self.old (record { moment = moment; bytes = bytes.now }) fault self.new) }
     {
@@ -66,11 +72,35 @@ impl Server {
             response,
         })
     }
+
+    /// Handles events one after another, up to the first fault. The list for all of them is grown first.
+    ///
+    /// # Errors
+    ///
+    /// Beside the list of what was handled, the fault of the next event; or `Memory` before the first.
+    pub fn run(&mut self, events: &[Event]) -> (Vec<Handled>, Option<ServeFault>)
+        ensures { Runs Gives Fails events.now result.0.items result.1 self.old self.new }
+    {
+        run_with(self.alloc, self, events)
+    }
+}
+
+impl Serves for Server {
+    ghost use Rattle.kd_server.specs.Standing.{Fails, Gives};
+
+    ghost gives = { Gives };
+
+    ghost fails = { Fails };
+
+    fn handle(&mut self, moment: u64, bytes: &[u8]) -> Result<Handled, ServeFault> {
+        Server::handle(self, moment, bytes)
+    }
 }
 
 // What is sent for a datagram.
 fn respond(alloc: Global, ports: Ports, bytes: &[u8]) -> Result<Response, ServeFault>
     ensures found { IfOk result (IsResponse ports bytes.now) }
+    ensures small { IfOk result IsSmall }
     ensures fault { IfErr result (IsUnanswered bytes.now) }
 {
     match Message::read(alloc, bytes) {
@@ -83,6 +113,7 @@ fn respond(alloc: Global, ports: Ports, bytes: &[u8]) -> Result<Response, ServeF
 // What is sent for a message.
 fn answer(alloc: Global, ports: Ports, message: &Message<'_>) -> Result<Response, ServeFault>
     ensures found { IfOk result (IsAnswer ports message.now (outcome_of message.now)) }
+    ensures small { IfOk result IsSmall }
     ensures fault { IfErr result (IsUnserved message.now) }
 {
     match decide(alloc, message)? {
@@ -100,7 +131,9 @@ fn sent(
 ) -> Result<Response, ServeFault>
     requires fits { Fits plan.now.room plan.now.reply.items }
     requires least { 300 ≤ plan.now.room }
+    requires most { plan.now.room ≤ 1472 }
     ensures found { IfOk result (IsSent ports message.now plan.now) }
+    ensures small { IfOk result IsSmall }
     ensures fault { IfErr result (λ fault. fault ≡ Memory) }
 {
     match plan.reply.write(alloc, plan.room) {
