@@ -1,3 +1,4 @@
+pub mod Going
 pub mod Histories
 pub mod Looking
 pub mod Spelling

@@ -1,4 +1,5 @@
 pub mod Faults
+pub mod Handling
 pub mod History
 pub mod Lines
 pub mod Parts

@@ -13,6 +13,7 @@ mod fault;
 mod line;
 mod lines;
 mod reason;
+mod replaying;
 mod room;
 mod running;
 mod serves;

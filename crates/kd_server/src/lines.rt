@@ -36,7 +36,11 @@ pub(crate) fn next_line<S: Source>(
         match ahead.take_part(line) {
             Part::Last => return Ok(Found::Line),
             Part::Open => {}
-            Part::None => return Ok(if line.is_empty() { Found::End } else { Found::Line }),
+            Part::None => return Ok(if line.is_empty() {
+                Found::End
+            } else {
+                Found::Line
+            }),
             Part::TooLong => return Ok(Found::TooLong),
         }
     }
