@@ -3,10 +3,10 @@ use Rattle.std.proofs.Common.{◌≡◌, ℕ, ◌+◌, List, [], ◌∷◌, ◌+
 use Rattle.std.specs.Prelude.{Option, Ok, Err}
 use Rattle.std.specs.Io.KnownBytes.{prepend_known}
 use Rattle.std.proofs.lemmas.List.{append-nil, flat_map_more}
-use Rattle.kd_server.specs.Handling.{EndsLine, HandlesLine}
+use Rattle.kd_server.specs.Handling.{EndsLine, GivesOne, HandlesLine}
 use Rattle.kd_server.specs.Lines.{IsEventLine, lines_of}
 use Rattle.kd_server.specs.Parts.{FindsIn}
-use Rattle.kd_server.specs.Replay.{Did, Ends, IsNoEvent, Leaves, most_lines}
+use Rattle.kd_server.specs.Replay.{Did, Ends, Handles, IsNoEvent, Leaves, most_lines}
 use Rattle.kd_server.specs.Text.{line_of}
 use Rattle.kd_server.specs.declared.event.Event.{Event}
 use Rattle.kd_server.specs.declared.event.Handled.{Handled}
@@ -20,6 +20,17 @@ pub none_ahead : {ahead : List ℕ} {left : Option (List ℕ)} {input : List ℕ
 none_ahead none e = rw (none, e) refl
 
 module _ {H : Type 0} (gives : H → Event → Handled → H → Type 0) where
+  pub handles_none : (server : H) → Handles gives 0 server server
+  handles_none server = record { events = []; list = []; counted = refl; history = refl }
+
+  pub handles_more : (count : ℕ) (server mid new : H) → Handles gives count server mid → GivesOne gives mid new → Handles gives (count + 1) server new
+  handles_more count server mid new h one = record {
+    events = h.events ++ one.event ∷ [];
+    list = h.list ++ one.handled ∷ [];
+    counted = omega (arith, length-append h.events (one.event ∷ []), h.counted);
+    history = more_history gives server h.events h.list mid one.event one.handled new h.history one.given;
+  }
+
   did_none : (server : H) (old : List ℕ) → Did gives [] server server old old
   did_none server old = record { events = []; list = []; spelled = tt; history = refl; written = sym (append-nil old) }
 

@@ -9,6 +9,12 @@ use Rattle.kd_server.specs.declared.fault.ReplayFault.{ReplayFault}
 use Rattle.kd_server.specs.declared.fault.ServeFault.{ServeFault}
 
 module _ {H : Type 0} (gives : H → Event → Handled → H → Type 0) where
+  -- an event is handled
+  pub record GivesOne (server new : H) : Type 0 where
+    pub event : Event
+    pub handled : Handled
+    pub given : gives server event handled new
+
   -- a line's event is handled, and its text is written
   pub record HandlesLine (line : List ℕ) (server new : H) (old : List ℕ) (contents : Option (List ℕ)) : Type 0 where
     pub event : Event

@@ -1,10 +1,10 @@
-ghost use Rattle.std.specs.Prelude.{◌≡◌, ◌+◌, ◌≤◌, List, [], Some, IfErr, IfOk, MatchResult, OnErr, OnOk, ℕ, false, true, length, vec_capacity};
+ghost use Rattle.std.specs.Prelude.{◌≡◌, ◌+◌, ◌≤◌, ◌⊎◌, List, [], Some, IfErr, IfOk, MatchResult, OnErr, OnOk, ℕ, false, true, length, vec_capacity};
 ghost use Rattle.std.specs.Io.KnownBytes.{Appends};
 ghost use Rattle.std.specs.Result.{IsErrOf};
-ghost use Rattle.kd_server.specs.Handling.{EndsLine, HandlesLine};
+ghost use Rattle.kd_server.specs.Handling.{EndsLine, GivesOne, HandlesLine};
 ghost use Rattle.kd_server.specs.Lines.{line_limit};
 ghost use Rattle.kd_server.specs.Parts.{WritesPart};
-ghost use Rattle.kd_server.specs.Replay.{Leaves};
+ghost use Rattle.kd_server.specs.Replay.{Handles, Leaves, most_lines};
 ghost use Rattle.kd_server.specs.Text.{line_of, line_room};
 ghost use Rattle.kd_server.specs.declared.fault.ReplayFault.TheVariants as faults;
 
@@ -57,6 +57,9 @@ pub(crate) fn replay_with<R: Source, W: Sink, H: Serves>(
     requires sink { W.has_failed sink.old ≡ false }
     ensures replayed { (input old : List ℕ) → R.remaining source.old ≡ Some input → W.contents sink.old ≡ Some old
         → Leaves H.gives H.fails (R.has_failed source.new ≡ true) result input server.old server.new old (W.contents sink.new) }
+    ensures counted { IfOk result (λ count. Handles H.gives count server.old server.new) }
+    ensures read { IsErrOf result faults.Read
+        → (R.has_failed source.new ≡ true) ⊎ Handles H.gives most_lines server.old server.new }
     ensures write { IsErrOf result faults.Write → W.has_failed sink.new ≡ true }
 {
     let mut work = Work::new(alloc)?;
@@ -93,6 +96,8 @@ fn replay_line<W: Sink, H: Serves>(
         → HandlesLine H.gives line.now server.old server.new old (W.contents sink.new)) }
     ensures ended { IfErr result (λ fault. (old : List ℕ) → W.contents sink.old ≡ Some old
         → EndsLine H.gives H.fails fault number line.now server.old server.new old (W.contents sink.new)) }
+    ensures given { OnOk result (GivesOne H.gives server.old server.new) }
+    ensures read { ¬ IsErrOf result faults.Read }
     ensures write { IsErrOf result faults.Write → W.has_failed sink.new ≡ true }
     ensures room { vec_capacity room.old ≤ vec_capacity room.new }
 {

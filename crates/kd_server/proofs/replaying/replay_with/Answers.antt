@@ -1,7 +1,7 @@
 use Rattle.std.proofs.Common.{◌≡◌, arith}
 use Rattle.std.proofs.lemmas.Result.{err_from_is_err_and}
 use Rattle.kd_server.specs.Replay.{most_lines}
-use Rattle.kd_server.proofs.Going.{going_line, going_none, leaves_end, leaves_line, leaves_memory, leaves_more, leaves_more_long, leaves_read, leaves_too_long, none_ahead}
+use Rattle.kd_server.proofs.Going.{going_line, going_none, handles_more, handles_none, leaves_end, leaves_line, leaves_memory, leaves_more, leaves_more_long, leaves_read, leaves_too_long, none_ahead}
 use Rattle.kd_server.proofs.replaying.replay_with.Goals as goal
 
 pub returns-in_err-work-clause-replayed : goal.returns-in_err-work-clause-replayed
@@ -13,6 +13,7 @@ pub loop-number-init : goal.loop-number-init
 loop-number-init g c = record {
   line = c.in_ok-work.ensures.line;
   room = c.in_ok-work.ensures.room;
+  handled = handles_none g.H.Serves.gives c.args.server.now;
   going = λ input old known told. going_none g.H.Serves.gives input c.args.server.now old _ _ (none_ahead c.in_ok-work.ensures.ahead known) told;
 }
 
@@ -45,6 +46,7 @@ pub loop-number-preserved : goal.loop-number-preserved
 loop-number-preserved g c = record {
   line = omega (arith, c.loop-number.invariant.line, c.in-Ok-Line.ensures.room);
   room = omega (arith, c.loop-number.invariant.room, c.in_ok-replay_line-in-Ok-Line.ensures.room);
+  handled = handles_more g.H.Serves.gives _ _ _ _ c.loop-number.invariant.handled c.in_ok-replay_line-in-Ok-Line.ensures.given;
   going = λ input old known told.
       let going = c.loop-number.invariant.going input old known told in
       let found = rw c.in-Ok-Line.field-0-is at (c.in-Ok-Line.ensures.found going.rest going.known) in
