@@ -7,6 +7,8 @@
 
 mod ahead;
 mod destination;
+#[cfg(test)]
+mod doubles;
 mod ends;
 mod event;
 mod fault;
