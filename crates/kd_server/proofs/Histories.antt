@@ -1,7 +1,7 @@
 -- A history, and the runs and lines that it is of, grow by one event.
-use Rattle.std.proofs.Common.{◌≡◌, ℕ, ◌+◌, ◌<◌, List, [], ◌∷◌, ◌++◌, Some, None, refl, sym, ap, ◌∙◌, arith, length, take, drop, get_or, inl, inr, subst}
-use Rattle.std.proofs.lemmas.List.{append-nil, drop_more, take-append-drop, take_more, take_all}
-use Rattle.kd_server.specs.History.{Halts, History, NoMemory, Runs}
+use Rattle.std.proofs.Common.{◌≡◌, ℕ, ◌+◌, ◌<◌, List, [], ◌∷◌, ◌++◌, Some, refl, sym, ap, ◌∙◌, length, take, drop, get_or, inl, inr, subst}
+use Rattle.std.proofs.lemmas.List.{drop_more, take-append-drop, take_more}
+use Rattle.kd_server.specs.History.{Halts, History, Runs}
 use Rattle.kd_server.specs.Lines.{IsEventLine}
 use Rattle.kd_server.specs.Replay.{AreEvents}
 use Rattle.kd_server.specs.declared.event.Event.{Event}

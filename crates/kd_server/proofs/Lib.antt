@@ -1,4 +1,5 @@
 pub mod Fitting
+pub mod Going
 pub mod Histories
 pub mod Looking
 pub mod Spelling

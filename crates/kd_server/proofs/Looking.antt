@@ -5,7 +5,7 @@ use Rattle.std.specs.List.{slice_range}
 use Rattle.std.specs.Io.KnownBytes.{Consumes, IsAtEnd, prepend_known}
 use Rattle.std.proofs.lemmas.Bool.{eqb-false, eqb-true}
 use Rattle.std.proofs.lemmas.List.{append-nil, drop-drop, drop_more, drop-take, take-append-drop, take_all}
-use Rattle.memchr.specs.Find.{IsFirstByte, NoneBefore, Nowhere, Passes, is_byte}
+use Rattle.memchr.specs.Find.{IsFirstByte, Nowhere, Passes, is_byte}
 use Rattle.kd_server.specs.Lines.{line_limit, lines_of, with_front}
 use Rattle.kd_server.specs.Parts.{FindsIn, FindsTooLong, HasNo, TakesAll, TakesLast, TakesTooLong}
 use Rattle.kd_server.specs.declared.lines.Found.TheVariants as found

@@ -4,6 +4,7 @@ pub mod Client
 pub mod Decision
 pub mod Destination
 pub mod Faults
+pub mod Handling
 pub mod History
 pub mod Lines
 pub mod Parts

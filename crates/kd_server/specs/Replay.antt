@@ -33,6 +33,13 @@ IsNoEvent line = (event : Event) → ¬ IsEventLine line event
 
 -- the relation that says what one event gives
 module _ {H : Type 0} (gives : H → Event → Handled → H → Type 0) where
+  -- so many events are handled
+  pub record Handles (count : ℕ) (server new : H) : Type 0 where
+    pub events : List Event
+    pub list : List Handled
+    pub counted : length events ≡ count
+    pub history : History gives server events list new
+
   -- lines are handled: they are events that have a history, and what is written is the text of it
   pub record Did (lines : List (List ℕ)) (server new : H) (old out : List ℕ) : Type 0 where
     pub events : List Event

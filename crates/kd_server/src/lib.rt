@@ -8,6 +8,8 @@
 mod ahead;
 mod client;
 mod destination;
+#[cfg(test)]
+mod doubles;
 mod ends;
 mod event;
 mod fault;
@@ -15,6 +17,7 @@ mod line;
 mod lines;
 mod plan;
 mod reason;
+mod replaying;
 mod reply;
 mod room;
 mod rules;
@@ -30,4 +33,4 @@ pub use ends::{EndFailed, Sink, Source};
 pub use event::{Event, Handled, Response};
 pub use fault::{ReplayFault, ServeFault};
 pub use reason::Reason;
-pub use server::Server;
+pub use server::{Server, replay};

@@ -83,3 +83,6 @@ fn bytes_in(alloc: Global, text: &[u8]) -> Result<Option<Bytes>, AllocError>
         },
     }
 }
+
+#[cfg(test)]
+mod tests;

@@ -46,3 +46,6 @@ pub(crate) fn next_line<S: Source>(
     }
     unreachable!()
 }
+
+#[cfg(test)]
+mod tests;

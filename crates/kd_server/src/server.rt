@@ -1,18 +1,23 @@
-ghost use Rattle.std.specs.Prelude.{◌≡◌, ◌≤◌, IfErr, IfOk, length};
+ghost use Rattle.std.specs.Prelude.{◌≡◌, ◌≤◌, ◌⊎◌, ℕ, List, Some, true, false, IfErr, IfOk, length};
+ghost use Rattle.std.specs.Result.{IsErrOf};
 ghost use Rattle.kd_options.specs.Reply.{Fits};
 ghost use Rattle.kd_server.specs.Change.{outcome_of};
 ghost use Rattle.kd_server.specs.Decision.{IsUnserved};
 ghost use Rattle.kd_server.specs.History.{Runs};
+ghost use Rattle.kd_server.specs.Replay.{Handles, Leaves, most_lines};
 ghost use Rattle.kd_server.specs.Responding.{IsAnswer, IsResponse, IsSent, IsSmall, IsUnanswered};
 ghost use Rattle.kd_server.specs.Standing.{Fails, Gives};
 ghost use Rattle.kd_server.specs.Text.{line_of, line_room};
+ghost use Rattle.kd_server.specs.declared.fault.ReplayFault.TheVariants as faults;
 ghost use Rattle.kd_server.specs.declared.fault.ServeFault.TheVariants.{Memory};
 
 use crate::destination::Ports;
+use crate::ends::{Sink, Source};
 use crate::event::{Event, Handled, Response};
-use crate::fault::ServeFault;
+use crate::fault::{ReplayFault, ServeFault};
 use crate::plan::{Decision, Plan};
 use crate::reason::Reason;
+use crate::replaying::replay_with;
 use crate::rules::decide;
 use crate::running::run_with;
 use crate::sending::destination;
@@ -95,6 +100,33 @@ impl Serves for Server {
     fn handle(&mut self, moment: u64, bytes: &[u8]) -> Result<Handled, ServeFault> {
         Server::handle(self, moment, bytes)
     }
+}
+
+/// Handles the events of the source's lines, one after another, and writes a line for each to the sink, up
+/// to the first fault; says how many were handled. An input line has a moment in decimal, a space, and a
+/// datagram in hexadecimal.
+///
+/// # Errors
+///
+/// `Read` where the source fails, or has more than 1,000,000 lines; `BadLine` at a line that is no event;
+/// `Serve` with the fault of a line's event; `Write` where the sink fails; `Memory`. What was handled
+/// before stands written.
+pub fn replay<R: Source, W: Sink>(
+    alloc: Global,
+    source: &mut R,
+    sink: &mut W,
+    server: &mut Server,
+) -> Result<u64, ReplayFault>
+    requires source { R.has_failed source.old ≡ false }
+    requires sink { W.has_failed sink.old ≡ false }
+    ensures replayed { (input old : List ℕ) → R.remaining source.old ≡ Some input → W.contents sink.old ≡ Some old
+        → Leaves Gives Fails (R.has_failed source.new ≡ true) result input server.old server.new old (W.contents sink.new) }
+    ensures counted { IfOk result (λ count. Handles Gives count server.old server.new) }
+    ensures read { IsErrOf result faults.Read
+        → (R.has_failed source.new ≡ true) ⊎ Handles Gives most_lines server.old server.new }
+    ensures write { IsErrOf result faults.Write → W.has_failed sink.new ≡ true }
+{
+    replay_with(alloc, source, sink, server)
 }
 
 // What is sent for a datagram.

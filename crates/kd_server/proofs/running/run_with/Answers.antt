@@ -1,4 +1,4 @@
-use Rattle.std.proofs.Common.{◌<◌, ap, ◌∙◌, arith, length}
+use Rattle.std.proofs.Common.{◌<◌, arith, length}
 use Rattle.kd_server.proofs.Histories.{next_event, runs_fault, runs_none}
 use Rattle.kd_server.proofs.running.run_with.Goals as goal
 
