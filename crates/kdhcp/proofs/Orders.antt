@@ -8,12 +8,13 @@ use Rattle.std.proofs.lemmas.List.Elements.{All-cons, All-nil}
 use Rattle.std.proofs.lemmas.Str.{IsUtf8-string_bytes}
 use Rattle.std.specs.Box.{box_value}
 use Rattle.std.specs.String.{string_bytes}
-use Rattle.clap.specs.Words.{App, HasMatchesOf, IsAmong, Kinds, Row, Text, fault_of, first_of, is_simple, is_simple_and_free, subcommand_name_of, subcommand_of, subcommand_rows, subcommand_rows_of}
+use Rattle.clap.specs.Words.{found_of, first_value, rows_of, App, HasMatchesOf, IsAmong, Kinds, Row, Text, fault_of, first_of, is_simple, is_simple_and_free, subcommand_name_of, subcommand_of, subcommand_rows, subcommand_rows_of}
 use Rattle.clap.specs.declared.error.kind.ErrorKind.{ErrorKind}
 use Rattle.clap.specs.declared.error.kind.ErrorKind.TheVariants.{DisplayHelp, OutOfMemory}
 use Rattle.clap.specs.declared.parser.matches.ArgMatches.{ArgMatches}
 use Rattle.clap.specs.declared.parser.matches.ArgMatches.TheViews.{out-ArgMatches, out-SubCommand}
 use Rattle.clap.specs.declared.parser.matches.SubCommand.{SubCommand}
+use Rattle.clap.proofs.WalkLemmas.{first_value-rows}
 use Rattle.clap.proofs.OnLiterals.{clap_on_literals}
 use Rattle.kdhcp.specs.Order.{Asked, Asks, AsksFor, GivesUnlessFull, HasFault, HelpsUnlessFull, asked_by, asked_of, command_line, given_by, replays, shows}
 use Rattle.kdhcp.proofs.Lines.{clap_from_line, one_asked, some_line}
@@ -124,7 +125,7 @@ names : (m : ArgMatches) → option_map (λ p. p.0) (subcommand_rows_of m) ≡ s
 names m = names_in (out-ArgMatches m).subcommand
 
 -- what the subcommand of this name asks for
-pub at_name : (m : ArgMatches) (name wanted : Text) (rows : List Row) → Some name ≡ subcommand_name_of m
+at_name : (m : ArgMatches) (name wanted : Text) (rows : List Row) → Some name ≡ subcommand_name_of m
     → Some rows ≡ option_map (λ p. p.1) (subcommand_rows_of m) → name ≡ wanted
     → asked_of (subcommand_rows_of m) ≡ asked_by wanted rows
 at_name m name wanted rows named has is = go (subcommand_rows_of m) (named ∙ sym (names m)) has
@@ -136,3 +137,13 @@ at_name m name wanted rows named has is = go (subcommand_rows_of m) (named ∙ s
         let is_name : p.0 ≡ wanted = let same : Some name ≡ Some p.0 = n in cc in
         let is_rows : p.1 ≡ rows = let same : Some rows ≡ Some p.1 = h in cc in
         ap₂ asked_by is_name is_rows
+
+-- what is made of the text of this subcommand
+pub at_text : (m inner : ArgMatches) (name wanted id : Text) (f : Text → Asked) (r : Result Order LineFault) → Some name ≡ subcommand_name_of m
+    → Some (rows_of (found_of inner)) ≡ option_map (λ p. p.1) (subcommand_rows_of m) → name ≡ wanted
+    → asked_by wanted (rows_of (found_of inner)) ≡ option_map f (first_of id (rows_of (found_of inner)))
+    → GivesIfThere (option_map f (first_value (found_of inner) id)) r → GivesIfThere (asked_of (subcommand_rows_of m)) r
+at_text m inner name wanted id f r named has is asks gives =
+    let same : option_map f (first_value (found_of inner) id) ≡ asked_of (subcommand_rows_of m) =
+    ap (option_map f) (first_value-rows (found_of inner) id) ∙ sym (at_name m name wanted (rows_of (found_of inner)) named has is ∙ asks) in
+    subst (λ o. GivesIfThere o r) same gives

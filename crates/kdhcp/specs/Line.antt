@@ -26,18 +26,10 @@ pub record IsTextLine (name : Text) (words : List Text) (text : Text) : Type 0 w
 abbrev pub IsBareLine : Text → List Text → Type 0
 IsBareLine name words = (words ≡ name ∷ []) ⊎ (words ≡ name ∷ codes "--" ∷ [])
 
--- the words are `show` with this text
-abbrev pub IsShowLine : List Text → Text → Type 0
-IsShowLine words hex = IsTextLine (codes "show") words hex
-
--- the words are `replay`
-abbrev pub IsReplayLine : List Text → Type 0
-IsReplayLine words = IsBareLine (codes "replay") words
-
 -- the words are a line that asks for this
 abbrev pub IsLine : List Text → Asked → Type 0
-IsLine words (shows hex) = IsShowLine words hex
-IsLine words replays = IsReplayLine words
+IsLine words (shows hex) = IsTextLine (codes "show") words hex
+IsLine words replays = IsBareLine (codes "replay") words
 
 -- the names of the subcommands
 abbrev pub subcommands : List Text

@@ -70,14 +70,6 @@ pub record Asks (words : List Text) (asked : Asked) : Type 0 where
   pub whole : fault_of command_line words ≡ []
   pub entered : asked_of (subcommand_of command_line words) ≡ Some asked
 
--- the words are no mistake, and `show` has this text
-abbrev pub IsShow : List Text → Text → Type 0
-IsShow words hex = Asks words (shows hex)
-
--- the words are no mistake, and the subcommand is `replay`
-abbrev pub IsReplay : List Text → Type 0
-IsReplay words = Asks words replays
-
 -- the first step at which the words fail may be a request for help
 abbrev pub IsHelp : List Text → Type 0
 IsHelp words = IsAmong DisplayHelp (fault_of command_line words)
@@ -90,8 +82,8 @@ IsMistake words =
 -- the words ask for this order
 abbrev pub AsksFor : List Text → Order → Type 0
 AsksFor words (Help text) = IsHelp words
-AsksFor words (Show hex) = IsShow words (string_bytes hex)
-AsksFor words Replay = IsReplay words
+AsksFor words (Show hex) = Asks words (shows (string_bytes hex))
+AsksFor words Replay = Asks words replays
 
 -- the words have this fault; memory may run out at any words
 abbrev pub HasFault : List Text → LineFault → Type 0

@@ -1,9 +1,8 @@
 -- What the steps of reading an order answer.
-use Rattle.std.specs.Prelude.{◌≡◌, ◌≢◌, Option, Some, None, Result, Ok, Err, option_map}
-use Rattle.clap.specs.Words.{Text}
+use Rattle.std.specs.Prelude.{◌≡◌, ◌≢◌, Option, Some, None, Result, Ok, Err}
 use Rattle.clap.specs.declared.error.kind.ErrorKind.{ErrorKind}
 use Rattle.clap.specs.declared.error.kind.ErrorKind.TheVariants.{DisplayHelp, OutOfMemory}
-use Rattle.kdhcp.specs.Order.{Asked, shows, GivesUnlessFull}
+use Rattle.kdhcp.specs.Order.{Asked, GivesUnlessFull}
 use Rattle.kdhcp.specs.declared.order.LineFault.{LineFault}
 use Rattle.kdhcp.specs.declared.order.LineFault.TheVariants.{CommandLine, Memory}
 use Rattle.kdhcp.specs.declared.order.Order.{Order}
@@ -18,10 +17,6 @@ IsMistakeUnlessFull (Err fault) = Unit {0}
 abbrev pub GivesIfThere : Option Asked → Result Order LineFault → Type 0
 GivesIfThere (Some asked) r = GivesUnlessFull asked r
 GivesIfThere None r = IsMistakeUnlessFull r
-
--- the text is shown where there is one, and it is a mistake where there is none
-abbrev pub ShowsIfThere : Option Text → Result Order LineFault → Type 0
-ShowsIfThere hex r = GivesIfThere (option_map (λ text. shows text) hex) r
 
 -- an error of this kind is help, a mistake, or memory that ran out
 abbrev pub AnswersKind : ErrorKind → Result Order LineFault → Type 0

@@ -1,12 +1,12 @@
-ghost use Rattle.std.specs.Prelude.{◌≡◌, ◌↔◌, IfErr, IfOk, codes, false, map};
+ghost use Rattle.std.specs.Prelude.{◌≡◌, ◌↔◌, IfErr, IfOk, codes, false, map, option_map};
 ghost use Rattle.std.specs.String.{string_bytes};
 ghost use Rattle.clap.specs.Words.{app_of, first_value, found_of, kind_of};
 ghost use Rattle.clap.specs.Words.{subcommand_rows_of};
 ghost use Rattle.clap.specs.declared.builder.command.Command.TheViews.{out-Command};
 ghost use Rattle.kdhcp.specs.Line.{IsHelpLine, IsLine};
 ghost use Rattle.kdhcp.specs.Order.{Asked, Asks, AsksFor, GivesUnlessFull, HasFault};
-ghost use Rattle.kdhcp.specs.Order.{HelpsUnlessFull, asked_of, command_line, replay_line, show_line};
-ghost use Rattle.kdhcp.specs.Steps.{AnswersKind, GivesIfThere, ShowsIfThere};
+ghost use Rattle.kdhcp.specs.Order.{HelpsUnlessFull, asked_of, command_line, replay_line, show_line, shows};
+ghost use Rattle.kdhcp.specs.Steps.{AnswersKind, GivesIfThere};
 
 use crate::order::{LineFault, Order};
 use clap::error::ErrorKind;
@@ -81,7 +81,8 @@ fn asked_for(alloc: Global, matches: &ArgMatches<'_>) -> Result<Order, LineFault
 
 // What matches of `show` ask for.
 fn shown(alloc: Global, matches: &ArgMatches<'_>) -> Result<Order, LineFault>
-    ensures { ShowsIfThere (first_value (found_of matches.now) (codes "HEX")) result }
+    ensures { GivesIfThere (option_map (λ hex. shows hex)
+        (first_value (found_of matches.now) (codes "HEX"))) result }
 {
     match matches.get_str("HEX") {
         Some(text) => Ok(Order::Show {
