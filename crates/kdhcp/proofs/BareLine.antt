@@ -1,5 +1,5 @@
 -- Which words are a line of a subcommand that has no words of its own, by the walk of clap over them.
-use Rattle.std.proofs.Common.{◌≡◌, ◌⊎◌, ◌∙◌, sym, ap, ap₂, refl, subst, inl, inr, true, false, List, [], ◌∷◌, codes, Some, None}
+use Rattle.std.proofs.Common.{◌≡◌, ◌⊎◌, ◌∙◌, sym, ap, ap₂, refl, subst, inl, inr, false, List, [], ◌∷◌, codes, Some}
 use Rattle.std.specs.List.{All}
 use Rattle.std.specs.Str.{IsUtf8}
 use Rattle.std.proofs.lemmas.List.Elements.{All-head}
@@ -11,7 +11,7 @@ use Rattle.clap.proofs.OnLiterals.{clap_on_literals}
 use Rattle.kdhcp.specs.Line.{IsBareLine, IsHelpFlag, is_flag}
 use Rattle.kdhcp.specs.Order.{command_line}
 use Rattle.kdhcp.proofs.Flags.{FlagsFail, flags_fail, neither, no_dashes, no_flag, no_long, no_short}
-use Rattle.kdhcp.proofs.Level.{dashed, found, leaf, level, start, step_down, step_up}
+use Rattle.kdhcp.proofs.Level.{dashed, found, leaf, level, start, step_down}
 use Rattle.kdhcp.proofs.Top.{IsSub, line_fault, line_found}
 
 -- a subcommand of this name and no more, as clap builds it

@@ -1,5 +1,5 @@
 -- The walk of clap over the words behind a subcommand, whichever it is.
-use Rattle.std.proofs.Common.{◌≡◌, ◌∙◌, ap, false, true, List, [], ◌∷◌, None}
+use Rattle.std.proofs.Common.{◌≡◌, ◌∙◌, ap, false, true, List, [], ◌∷◌}
 use Rattle.std.specs.Prelude.{fold}
 use Rattle.clap.specs.Words.{App, Kinds, Row, Shape, Text}
 use Rattle.clap.specs.Kinds.{or_else}

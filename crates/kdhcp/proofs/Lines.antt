@@ -24,8 +24,8 @@ replay = record { met = refl; ours = refl; found = refl }
 asked_in : (name : Text) (rest : List Text) → IsOneOf name subcommands → All IsUtf8 rest → fault_of command_line (name ∷ rest) ≡ []
     → (asked : Asked) × IsLine (name ∷ rest) asked
 asked_in name rest (inl is) texts none = rw is (
-  let got = text_in (codes "show") (codes "HEX") rest show texts (rw is at none) in
-  (shows got.0, got.1))
+    let got = text_in (codes "show") (codes "HEX") rest show texts (rw is at none) in
+    (shows got.0, got.1))
 asked_in name rest (inr (inl is)) texts none = rw is (replays, bare_in (codes "replay") rest replay texts (rw is at none))
 asked_in name rest (inr (inr never)) texts none = absurd never
 

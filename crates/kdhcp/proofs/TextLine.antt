@@ -1,5 +1,5 @@
 -- Which words are a line of a subcommand with one text, by the walk of clap over them.
-use Rattle.std.proofs.Common.{◌≡◌, ◌⊎◌, ◌∙◌, sym, ap, ap₂, refl, subst, inl, inr, ℕ, true, false, Bool, List, [], ◌∷◌, codes, Option, Some, None}
+use Rattle.std.proofs.Common.{◌≡◌, ◌⊎◌, ◌∙◌, sym, ap, ap₂, refl, subst, inl, inr, true, false, Bool, List, [], ◌∷◌, codes, Some, None}
 use Rattle.std.specs.List.{All}
 use Rattle.std.specs.Str.{bytes_eq, IsUtf8}
 use Rattle.std.proofs.lemmas.List.Elements.{All-head, All-tail}
@@ -163,8 +163,7 @@ module _ (name id : Text) where
     pub text_passes : (ws : List Text) (text : Text) → IsSub name (one name id) → IsTextLine name ws text
         → (rows : List Row) × (fault_of command_line ws ≡ []) × (subcommand_of command_line ws ≡ Some (name, rows)) × (first_of id rows ≡ Some text)
     text_passes ws text sub h =
-        let got = passes h.behind text h.text_behind in
-        (
+        let got = passes h.behind text h.text_behind in (
           found (one name id) start h.behind,
           ap (λ x. fault_of command_line x) h.named ∙ line_fault name (one name id) h.behind sub ∙ got.0,
           ap (λ x. subcommand_of command_line x) h.named ∙ line_found name (one name id) h.behind sub,
