@@ -8,7 +8,7 @@ use Rattle.std.proofs.lemmas.Str.{is_utf8-from_IsUtf8}
 use Rattle.clap.specs.Lexer.{long_of, short_of}
 use Rattle.clap.specs.Words.{Kinds, Rule, Text}
 use Rattle.clap.specs.Kinds.{or_else}
-use Rattle.clap.specs.Walk.{Held, arg_by_long, arg_by_short}
+use Rattle.clap.specs.Walk.{Held, arg_by_long, arg_by_short, has_long, has_short}
 use Rattle.clap.specs.Simple.{filled, help_rule, with_index}
 use Rattle.clap.specs.Faults.{bundle_fault, flag_word_fault, flags_fault, long_fault, react_fault, settle_fault, short_fault}
 use Rattle.clap.specs.declared.error.kind.ErrorKind.TheVariants.{DisplayHelp}
@@ -23,6 +23,10 @@ help_built = with_index 1 (filled help_rule)
 pub neither : (a b : Kinds) → or_else a b ≡ [] → (a ≡ []) × (b ≡ [])
 neither [] b h = (refl, h)
 neither (k ∷ ks) b h = cc
+
+pub then_none : (a : Kinds) → or_else a [] ≡ a
+then_none [] = refl
+then_none (k ∷ ks) = refl
 
 -- ---- words that are no flags
 
@@ -59,6 +63,15 @@ no_short (b ∷ c ∷ rest) h = rw h refl
 pub record FlagsFail (c : List Rule) : Type 0 where
   pub long : (name : Text) → (arg_by_long c name ≡ None) ⊎ (arg_by_long c name ≡ Some help_built)
   pub short : (x : ℕ) → (arg_by_short c x ≡ None) ⊎ (arg_by_short c x ≡ Some help_built)
+
+-- rules that have the flags for help and no others
+pub flags_fail : (c : List Rule) → ((name : Text) → arg_by_long c name ≡ (if has_long help_built name then Some help_built else None))
+    → ((x : ℕ) → arg_by_short c x ≡ (if has_short help_built x then Some help_built else None)) → FlagsFail c
+flags_fail c long short = record { long = λ name. go (has_long help_built name) (arg_by_long c name) (long name); short = λ x. go (has_short help_built x) (arg_by_short c x) (short x) }
+  where
+    go : (t : Bool) (o : Option Rule) → o ≡ (if t then Some help_built else None) → (o ≡ None) ⊎ (o ≡ Some help_built)
+    go true o e = inr e
+    go false o e = inl e
 
 asks : (c : List Rule) (h : Held) → react_fault c false help_built [] h ≡ [] → ⊥
 asks c h none =

@@ -1,5 +1,5 @@
 -- From what clap says of a parse to the order that the words give.
-use Rattle.std.proofs.Common.{◌≡◌, ◌⊎◌, ◌∙◌, sym, ap, refl, subst, inl, inr, true, List, [], ◌∷◌, map, codes, Option, Some, None, Result, Ok, Err}
+use Rattle.std.proofs.Common.{◌≡◌, ◌⊎◌, ◌∙◌, sym, ap, ap₂, refl, subst, inl, inr, true, List, [], ◌∷◌, map, Option, Some, None, Result, Ok, Err}
 use Rattle.std.specs.Result.{IfErr, IfOk}
 use Rattle.std.specs.Prelude.{Box, String, option_map}
 use Rattle.std.specs.List.{All}
@@ -8,20 +8,21 @@ use Rattle.std.proofs.lemmas.List.Elements.{All-cons, All-nil}
 use Rattle.std.proofs.lemmas.Str.{IsUtf8-string_bytes}
 use Rattle.std.specs.Box.{box_value}
 use Rattle.std.specs.String.{string_bytes}
-use Rattle.clap.specs.Words.{App, HasMatchesOf, IsAmong, Kinds, Row, Text, fault_of, first_of, is_simple, is_simple_and_free, subcommand_name_of, subcommand_of, subcommand_rows, subcommand_rows_of}
+use Rattle.clap.specs.Words.{found_of, first_value, rows_of, App, HasMatchesOf, IsAmong, Kinds, Row, Text, fault_of, first_of, is_simple, is_simple_and_free, subcommand_name_of, subcommand_of, subcommand_rows, subcommand_rows_of}
 use Rattle.clap.specs.declared.error.kind.ErrorKind.{ErrorKind}
 use Rattle.clap.specs.declared.error.kind.ErrorKind.TheVariants.{DisplayHelp, OutOfMemory}
 use Rattle.clap.specs.declared.parser.matches.ArgMatches.{ArgMatches}
 use Rattle.clap.specs.declared.parser.matches.ArgMatches.TheViews.{out-ArgMatches, out-SubCommand}
 use Rattle.clap.specs.declared.parser.matches.SubCommand.{SubCommand}
+use Rattle.clap.proofs.WalkLemmas.{first_value-rows}
 use Rattle.clap.proofs.OnLiterals.{clap_on_literals}
-use Rattle.kdhcp.specs.Order.{AsksFor, HasFault, HelpsUnlessFull, IsShow, ShowsUnlessFull, command_line, hex_of}
-use Rattle.kdhcp.proofs.Lines.{some_line}
-use Rattle.kdhcp.specs.Steps.{AnswersKind, ShowsIfThere}
+use Rattle.kdhcp.specs.Order.{Asked, Asks, AsksFor, GivesUnlessFull, HasFault, HelpsUnlessFull, asked_by, asked_of, command_line, given_by, replays, shows}
+use Rattle.kdhcp.proofs.Lines.{clap_from_line, one_asked, some_line}
+use Rattle.kdhcp.specs.Steps.{AnswersKind, GivesIfThere}
 use Rattle.kdhcp.specs.declared.order.LineFault.{LineFault}
 use Rattle.kdhcp.specs.declared.order.LineFault.TheVariants.{CommandLine, Memory}
 use Rattle.kdhcp.specs.declared.order.Order.{Order}
-use Rattle.kdhcp.specs.declared.order.Order.TheVariants.{Help, Show}
+use Rattle.kdhcp.specs.declared.order.Order.TheVariants.{Help, Show, Replay}
 
 -- clap tells the matches of this command line, and the kinds of its faults
 is_told : is_simple command_line ≡ true
@@ -36,7 +37,7 @@ is_free = refl
 pub record Answers (ws : List Text) (r : Result Order LineFault) : Type 0 where
   pub order : IfOk r (AsksFor ws)
   pub fault : IfErr r (HasFault ws)
-  pub only : (hex : Text) → IsShow ws hex → ShowsUnlessFull hex r
+  pub only : (asked : Asked) → Asks ws asked → GivesUnlessFull asked r
   pub help : fault_of command_line ws ≡ DisplayHelp ∷ [] → HelpsUnlessFull r
 
 -- a text is UTF-8
@@ -44,22 +45,29 @@ pub are_texts : {Z : Type 0} (ws : List (String Z)) → All IsUtf8 (map string_b
 are_texts [] = All-nil IsUtf8
 are_texts (w ∷ ws) = All-cons IsUtf8 (string_bytes w) (map string_bytes ws) (IsUtf8-string_bytes w) (are_texts ws)
 
+-- an order gives what the words ask for
+asks_for : (ws : List Text) (order : Order) (asked : Asked) → given_by order ≡ Some asked → Asks ws asked → AsksFor ws order
+asks_for ws (Help text) asked gives h = cc
+asks_for ws (Show hex) asked gives h = let is : shows (string_bytes hex) ≡ asked = cc in subst (Asks ws) (sym is) h
+asks_for ws Replay asked gives h = let is : replays ≡ asked = cc in subst (Asks ws) (sym is) h
+
 -- where clap finds no fault
-pub at_matches : (ws : List Text) (o : Option Text) (r : Result Order LineFault) → All IsUtf8 ws → fault_of command_line ws ≡ []
-    → hex_of (subcommand_of command_line ws) ≡ o → ShowsIfThere o r → Answers ws r
-at_matches ws None r texts none is shows =
+pub at_matches : (ws : List Text) (o : Option Asked) (r : Result Order LineFault) → All IsUtf8 ws → fault_of command_line ws ≡ []
+    → asked_of (subcommand_of command_line ws) ≡ o → GivesIfThere o r → Answers ws r
+at_matches ws None r texts none is gives =
     let line = some_line ws texts none in
-    let bad : Some line.0 ≡ None = sym line.1.text ∙ is in
+    let bad : Some line.0 ≡ None = sym (clap_from_line ws line.0 line.1).entered ∙ is in
     cc
-at_matches ws (Some hex) (Ok (Show text)) texts none is shows = record {
-  order = record { whole = none; text = is ∙ ap (λ t. Some t) (sym shows) };
-  fault = tt;
-  only = λ other h. let same : Some other ≡ Some hex = sym h.text ∙ is in cc;
-  help = λ h. let bad : DisplayHelp ∷ [] ≡ [] = sym h ∙ none in cc;
-}
-at_matches ws (Some hex) (Ok (Help text)) texts none is shows = absurd shows
-at_matches ws (Some hex) (Err CommandLine) texts none is shows = absurd shows
-at_matches ws (Some hex) (Err Memory) texts none is shows = record { order = tt; fault = tt; only = λ other h. tt; help = λ h. tt }
+at_matches ws (Some asked) (Ok order) texts none is gives =
+    let here : Asks ws asked = record { whole = none; entered = is } in
+    record {
+      order = asks_for ws order asked gives here;
+      fault = tt;
+      only = λ other h. gives ∙ ap (λ x. Some x) (one_asked ws asked other here h);
+      help = λ h. let bad : DisplayHelp ∷ [] ≡ [] = sym h ∙ none in cc;
+    }
+at_matches ws (Some asked) (Err CommandLine) texts none is gives = absurd gives
+at_matches ws (Some asked) (Err Memory) texts none is gives = record { order = tt; fault = tt; only = λ other h. tt; help = λ h. tt }
 
 -- no kind stands in an empty list
 none_among : (k : ErrorKind) (ks : Kinds) → ks ≡ [] → IsAmong k ks → ⊥
@@ -72,32 +80,32 @@ one_among k ks is h = elim (subst (IsAmong k) is h) [ inl same ↦ same | inr ne
 -- where clap's fault has this kind
 pub at_kind : (ws : List Text) (k : ErrorKind) (r : Result Order LineFault)
     → ((k ≡ OutOfMemory) ⊎ IsAmong k (fault_of command_line ws)) → AnswersKind k r → Answers ws r
-at_kind ws k (Ok (Show hex)) h answers = absurd answers
 at_kind ws k (Ok (Help text)) (inl full) answers = let bad : DisplayHelp ≡ OutOfMemory = sym answers ∙ full in cc
 at_kind ws k (Ok (Help text)) (inr among) answers = record {
   order = subst (λ x. IsAmong x (fault_of command_line ws)) answers among;
   fault = tt;
-  only = λ hex h. none_among k (fault_of command_line ws) h.whole among;
+  only = λ asked h. absurd (none_among k (fault_of command_line ws) h.whole among);
   help = λ h. tt;
 }
+at_kind ws k (Ok order) h answers = absurd answers
 at_kind ws k (Err CommandLine) (inl full) answers = absurd (answers.1 full)
 at_kind ws k (Err CommandLine) (inr among) answers = record {
   order = tt;
   fault = (k, among, answers.0);
-  only = λ hex h. none_among k (fault_of command_line ws) h.whole among;
+  only = λ asked h. none_among k (fault_of command_line ws) h.whole among;
   help = λ h. answers.0 (one_among k (fault_of command_line ws) h among);
 }
-at_kind ws k (Err Memory) h answers = record { order = tt; fault = tt; only = λ hex g. tt; help = λ g. tt }
+at_kind ws k (Err Memory) h answers = record { order = tt; fault = tt; only = λ asked g. tt; help = λ g. tt }
 
 -- ---- the same, from a parse of a command line that is ours
 
 pub from_matches : (a : App) (ws : List Text) (m : ArgMatches) (r : Result Order LineFault) → All IsUtf8 ws → a ≡ command_line
     → HasMatchesOf a ws m → (is_simple_and_free a ≡ true → fault_of a ws ≡ [])
-    → ShowsIfThere (hex_of (subcommand_rows_of m)) r → Answers ws r
-from_matches a ws m r texts is matches none shows =
+    → GivesIfThere (asked_of (subcommand_rows_of m)) r → Answers ws r
+from_matches a ws m r texts is matches none gives =
     let ours : HasMatchesOf command_line ws m = subst (λ x. HasMatchesOf x ws m) is matches in
     let whole : fault_of command_line ws ≡ [] = subst (λ x. is_simple_and_free x ≡ true → fault_of x ws ≡ []) is none is_free in
-    at_matches ws (hex_of (subcommand_rows_of m)) r texts whole (sym (ap hex_of (ours is_told).1)) shows
+    at_matches ws (asked_of (subcommand_rows_of m)) r texts whole (sym (ap asked_of (ours is_told).1)) gives
 
 pub from_error : (a : App) (ws : List Text) (k : ErrorKind) (r : Result Order LineFault) → a ≡ command_line
     → (is_simple_and_free a ≡ true → (k ≡ OutOfMemory) ⊎ IsAmong k (fault_of a ws))
@@ -116,16 +124,26 @@ names_in (Some b) = refl
 names : (m : ArgMatches) → option_map (λ p. p.0) (subcommand_rows_of m) ≡ subcommand_name_of m
 names m = names_in (out-ArgMatches m).subcommand
 
--- the matches of the subcommand `show` have the text
-pub at_show : (m : ArgMatches) (name : Text) (rows : List Row) → Some name ≡ subcommand_name_of m
-    → Some rows ≡ option_map (λ p. p.1) (subcommand_rows_of m) → name ≡ codes "show"
-    → hex_of (subcommand_rows_of m) ≡ first_of (codes "HEX") rows
-at_show m name rows named has show = go (subcommand_rows_of m) (named ∙ sym (names m)) has
+-- what the subcommand of this name asks for
+at_name : (m : ArgMatches) (name wanted : Text) (rows : List Row) → Some name ≡ subcommand_name_of m
+    → Some rows ≡ option_map (λ p. p.1) (subcommand_rows_of m) → name ≡ wanted
+    → asked_of (subcommand_rows_of m) ≡ asked_by wanted rows
+at_name m name wanted rows named has is = go (subcommand_rows_of m) (named ∙ sym (names m)) has
   where
     go : (o : Option (Text × List Row)) → Some name ≡ option_map (λ p. p.0) o → Some rows ≡ option_map (λ p. p.1) o
-        → hex_of o ≡ first_of (codes "HEX") rows
+        → asked_of o ≡ asked_by wanted rows
     go None n h = cc
     go (Some p) n h =
-        let is_name : p.0 ≡ codes "show" = let same : Some name ≡ Some p.0 = n in cc in
+        let is_name : p.0 ≡ wanted = let same : Some name ≡ Some p.0 = n in cc in
         let is_rows : p.1 ≡ rows = let same : Some rows ≡ Some p.1 = h in cc in
-        rw (is_name, is_rows) refl
+        ap₂ asked_by is_name is_rows
+
+-- what is made of the text of this subcommand
+pub at_text : (m inner : ArgMatches) (name wanted id : Text) (f : Text → Asked) (r : Result Order LineFault) → Some name ≡ subcommand_name_of m
+    → Some (rows_of (found_of inner)) ≡ option_map (λ p. p.1) (subcommand_rows_of m) → name ≡ wanted
+    → asked_by wanted (rows_of (found_of inner)) ≡ option_map f (first_of id (rows_of (found_of inner)))
+    → GivesIfThere (option_map f (first_value (found_of inner) id)) r → GivesIfThere (asked_of (subcommand_rows_of m)) r
+at_text m inner name wanted id f r named has is asks gives =
+    let same : option_map f (first_value (found_of inner) id) ≡ asked_of (subcommand_rows_of m) =
+    ap (option_map f) (first_value-rows (found_of inner) id) ∙ sym (at_name m name wanted (rows_of (found_of inner)) named has is ∙ asks) in
+    subst (λ o. GivesIfThere o r) same gives

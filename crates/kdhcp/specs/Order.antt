@@ -1,7 +1,7 @@
 -- The orders of the command line, over what the crate `clap` makes of a command line and words: the
 -- command line itself, which words give which order, and the numbers of the faults.
 use Rattle.std.specs.Prelude.{◌≡◌, ◌≢◌, ℕ, true, List, [], Option, Some, None, Result}
-use Rattle.std.specs.Prelude.{Ok, Err, codes, option_and_then, if◌then◌else◌}
+use Rattle.std.specs.Prelude.{Ok, Err, codes, option_and_then, option_map, if◌then◌else◌}
 use Rattle.std.specs.Str.{bytes_eq}
 use Rattle.std.specs.String.{string_bytes}
 use Rattle.clap.specs.Words.{App, IsAmong, Row, Rule, Text, fault_of, first_of, new_app, new_rule}
@@ -12,7 +12,7 @@ use Rattle.clap.specs.declared.error.kind.ErrorKind.TheVariants.{DisplayHelp}
 use Rattle.kdhcp.specs.declared.order.LineFault.{LineFault}
 use Rattle.kdhcp.specs.declared.order.LineFault.TheVariants.{CommandLine, Memory}
 use Rattle.kdhcp.specs.declared.order.Order.{Order}
-use Rattle.kdhcp.specs.declared.order.Order.TheVariants.{Help, Show}
+use Rattle.kdhcp.specs.declared.order.Order.TheVariants.{Help, Show, Replay}
 
 -- the number that a fault is printed with
 abbrev pub fault_number : LineFault → ℕ
@@ -21,34 +21,54 @@ fault_number Memory = 91
 
 -- ---- the command line
 
--- the argument HEX, which has to be there
-abbrev pub hex_rule : Rule
-hex_rule = record (new_rule (codes "HEX")) { required = true }
+-- an argument that has to be there
+abbrev pub needed : Text → Rule
+needed id = record (new_rule id) { required = true }
+
+-- a subcommand with one argument, which has to be there
+abbrev pub text_line : Text → Text → App
+text_line name id = with_rule (new_app name) (needed id)
 
 -- `show HEX`
 abbrev pub show_line : App
-show_line = with_rule (new_app (codes "show")) hex_rule
+show_line = text_line (codes "show") (codes "HEX")
 
--- the program, with no word for its name, and one subcommand that has to be there
+-- `replay`
+abbrev pub replay_line : App
+replay_line = new_app (codes "replay")
+
+-- the program, with no word for its name, and a subcommand that has to be there
 abbrev pub program_line : App
 program_line = on_top (λ s. record s { no_binary_name = true; subcommand_required = true })
     (new_app (codes "kdhcp"))
 
 -- the whole command line
 abbrev pub command_line : App
-command_line = with_subcommand program_line show_line.top
+command_line = with_subcommand (with_subcommand program_line show_line.top) replay_line.top
 
 -- ---- what the words ask for
 
--- the value of HEX, where the subcommand is `show`
-abbrev pub hex_of : Option (Text × List Row) → Option Text
-hex_of = option_and_then (λ p. if bytes_eq p.0 (codes "show") then first_of (codes "HEX") p.1
-    else None)
+-- what a subcommand asks for
+pub data Asked : Type 0 where
+  -- the lines of the datagram in this text
+  shows : Text → Asked
+  -- the events of standard input, replayed
+  replays : Asked
 
--- the words are no mistake, and `show` has this text
-pub record IsShow (words : List Text) (hex : Text) : Type 0 where
+-- what the subcommand of this name asks for, with these matches
+abbrev pub asked_by : Text → List Row → Option Asked
+asked_by name rows =
+    if bytes_eq name (codes "show") then option_map (λ hex. shows hex) (first_of (codes "HEX") rows)
+    else (if bytes_eq name (codes "replay") then Some replays else None)
+
+-- the same of the subcommand that was entered, if one was
+abbrev pub asked_of : Option (Text × List Row) → Option Asked
+asked_of = option_and_then (λ p. asked_by p.0 p.1)
+
+-- the words are no mistake, and their subcommand asks for this
+pub record Asks (words : List Text) (asked : Asked) : Type 0 where
   pub whole : fault_of command_line words ≡ []
-  pub text : hex_of (subcommand_of command_line words) ≡ Some hex
+  pub entered : asked_of (subcommand_of command_line words) ≡ Some asked
 
 -- the first step at which the words fail may be a request for help
 abbrev pub IsHelp : List Text → Type 0
@@ -61,24 +81,30 @@ IsMistake words =
 
 -- the words ask for this order
 abbrev pub AsksFor : List Text → Order → Type 0
-AsksFor words (Show hex) = IsShow words (string_bytes hex)
 AsksFor words (Help text) = IsHelp words
+AsksFor words (Show hex) = Asks words (shows (string_bytes hex))
+AsksFor words Replay = Asks words replays
 
 -- the words have this fault; memory may run out at any words
 abbrev pub HasFault : List Text → LineFault → Type 0
 HasFault words CommandLine = IsMistake words
 HasFault words Memory = Unit {0}
 
--- the answer shows this text, or memory ran out
-abbrev pub ShowsUnlessFull : Text → Result Order LineFault → Type 0
-ShowsUnlessFull hex (Ok (Show text)) = string_bytes text ≡ hex
-ShowsUnlessFull hex (Ok (Help text)) = ⊥
-ShowsUnlessFull hex (Err CommandLine) = ⊥
-ShowsUnlessFull hex (Err Memory) = Unit {0}
+-- what the order gives that a subcommand can ask for
+abbrev pub given_by : Order → Option Asked
+given_by (Help text) = None
+given_by (Show hex) = Some (shows (string_bytes hex))
+given_by Replay = Some replays
+
+-- the answer gives what was asked, or memory ran out
+abbrev pub GivesUnlessFull : Asked → Result Order LineFault → Type 0
+GivesUnlessFull asked (Ok order) = given_by order ≡ Some asked
+GivesUnlessFull asked (Err CommandLine) = ⊥
+GivesUnlessFull asked (Err Memory) = Unit {0}
 
 -- the answer is help, or memory ran out
 abbrev pub HelpsUnlessFull : Result Order LineFault → Type 0
-HelpsUnlessFull (Ok (Show text)) = ⊥
 HelpsUnlessFull (Ok (Help text)) = Unit {0}
+HelpsUnlessFull (Ok order) = ⊥
 HelpsUnlessFull (Err CommandLine) = ⊥
 HelpsUnlessFull (Err Memory) = Unit {0}

@@ -12,7 +12,7 @@ use Rattle.kdhcp.specs.Show.{show_text, line_feed}
 use Rattle.kdhcp.specs.Status.{status_of}
 use Rattle.kdhcp.specs.declared.answer.Printed.{Printed}
 use Rattle.kdhcp.specs.declared.order.Order.{Order}
-use Rattle.kdhcp.specs.declared.order.Order.TheVariants.{Help, Show}
+use Rattle.kdhcp.specs.declared.order.Order.TheVariants.{Help, Show, Replay}
 
 -- this text and nothing else
 pub record IsSuccess (text : List ℕ) (p : Printed) : Type 0 where
@@ -44,7 +44,14 @@ abbrev pub ShowsDecoded : Result (List ℕ) FromHexError → Printed → Type 0
 ShowsDecoded (Ok bytes) p = ShowsDatagram bytes p
 ShowsDecoded (Err error) p = IsRefusal 98 p
 
--- what each order prints
+-- the order prints something that its words alone tell
+abbrev pub IsPrinted : Order → Type 0
+IsPrinted (Help text) = Unit {0}
+IsPrinted (Show hex) = Unit {0}
+IsPrinted Replay = ⊥
+
+-- what each such order prints
 abbrev pub Answers : Order → Printed → Type 0
 Answers (Help text) p = IsSuccess (string_bytes text) p
 Answers (Show hex) p = ShowsDecoded (decode_of (string_bytes hex)) p
+Answers Replay p = ⊥

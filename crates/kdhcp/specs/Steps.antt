@@ -1,27 +1,26 @@
 -- What the steps of reading an order answer.
 use Rattle.std.specs.Prelude.{◌≡◌, ◌≢◌, Option, Some, None, Result, Ok, Err}
-use Rattle.clap.specs.Words.{Text}
 use Rattle.clap.specs.declared.error.kind.ErrorKind.{ErrorKind}
 use Rattle.clap.specs.declared.error.kind.ErrorKind.TheVariants.{DisplayHelp, OutOfMemory}
-use Rattle.kdhcp.specs.Order.{ShowsUnlessFull}
+use Rattle.kdhcp.specs.Order.{Asked, GivesUnlessFull}
 use Rattle.kdhcp.specs.declared.order.LineFault.{LineFault}
 use Rattle.kdhcp.specs.declared.order.LineFault.TheVariants.{CommandLine, Memory}
 use Rattle.kdhcp.specs.declared.order.Order.{Order}
-use Rattle.kdhcp.specs.declared.order.Order.TheVariants.{Help, Show}
+use Rattle.kdhcp.specs.declared.order.Order.TheVariants.{Help}
 
 -- a mistake, or memory ran out
 abbrev pub IsMistakeUnlessFull : Result Order LineFault → Type 0
 IsMistakeUnlessFull (Ok order) = ⊥
 IsMistakeUnlessFull (Err fault) = Unit {0}
 
--- the text is shown where there is one, and it is a mistake where there is none
-abbrev pub ShowsIfThere : Option Text → Result Order LineFault → Type 0
-ShowsIfThere (Some hex) r = ShowsUnlessFull hex r
-ShowsIfThere None r = IsMistakeUnlessFull r
+-- what is asked is given where something is, and it is a mistake where nothing is
+abbrev pub GivesIfThere : Option Asked → Result Order LineFault → Type 0
+GivesIfThere (Some asked) r = GivesUnlessFull asked r
+GivesIfThere None r = IsMistakeUnlessFull r
 
 -- an error of this kind is help, a mistake, or memory that ran out
 abbrev pub AnswersKind : ErrorKind → Result Order LineFault → Type 0
-AnswersKind kind (Ok (Show hex)) = ⊥
 AnswersKind kind (Ok (Help text)) = kind ≡ DisplayHelp
+AnswersKind kind (Ok order) = ⊥
 AnswersKind kind (Err CommandLine) = (kind ≢ DisplayHelp) × (kind ≢ OutOfMemory)
 AnswersKind kind (Err Memory) = Unit {0}

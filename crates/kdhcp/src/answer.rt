@@ -1,7 +1,8 @@
 ghost use Rattle.std.specs.Prelude.{◌≡◌, ◌++◌, IfOk, codes, string_bytes};
 ghost use Rattle.std.specs.Fmt.{decimal};
 ghost use Rattle.hex.specs.Hex.{decode_of};
-ghost use Rattle.kdhcp.specs.Printed.{Answers, IsRefusal, IsSuccess, ShowsDatagram, ShowsDecoded};
+ghost use Rattle.kdhcp.specs.Printed.{Answers, IsPrinted, IsRefusal, IsSuccess, ShowsDatagram};
+ghost use Rattle.kdhcp.specs.Printed.{ShowsDecoded};
 ghost use Rattle.kdhcp.specs.Show.{line_feed};
 
 use crate::order::{LineFault, Order};
@@ -30,11 +31,13 @@ pub struct Printed {
 ///
 /// Want of memory alone: every other fault is printed.
 pub fn answer(alloc: Global, order: &Order) -> Result<Printed, AllocError>
+    requires { IsPrinted order.now }
     ensures { IfOk result (Answers order.now) }
 {
     match order {
         Order::Help(text) => Ok(success(alloc, text.clone()?)),
         Order::Show { hex } => answer_show(alloc, hex.as_str()),
+        Order::Replay => unreachable!(),
     }
 }
 

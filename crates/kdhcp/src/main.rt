@@ -33,8 +33,15 @@ fn main(rt: HostRuntime) -> io::Result<ExitCode> {
 
 // What the words behind the program's name ask for.
 fn printed(rt: &HostRuntime) -> Result<Printed, LineFault> {
-    let order = ordered(rt)?;
-    Ok(answer(rt.alloc(), &order)?)
+    match ordered(rt)? {
+        Order::Replay => replayed(rt),
+        order => Ok(answer(rt.alloc(), &order)?),
+    }
+}
+
+// The events of standard input, replayed. NOT YET: a mistake on the command line until then.
+fn replayed(_rt: &HostRuntime) -> Result<Printed, LineFault> {
+    Err(LineFault::CommandLine)
 }
 
 // The order in the words behind the program's name.

@@ -15,6 +15,8 @@ pub enum Order {
         /// The datagram's bytes, as the word gives them.
         hex: String,
     },
+    /// The events of standard input, replayed.
+    Replay,
 }
 
 /// Why the words are no order.

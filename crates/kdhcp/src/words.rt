@@ -1,12 +1,12 @@
-ghost use Rattle.std.specs.Prelude.{◌≡◌, ◌↔◌, IfErr, IfOk, codes, false, map};
+ghost use Rattle.std.specs.Prelude.{◌≡◌, ◌↔◌, IfErr, IfOk, codes, false, map, option_map};
 ghost use Rattle.std.specs.String.{string_bytes};
-ghost use Rattle.clap.specs.Words.{Text, app_of, first_value, found_of, kind_of};
+ghost use Rattle.clap.specs.Words.{app_of, first_value, found_of, kind_of};
 ghost use Rattle.clap.specs.Words.{subcommand_rows_of};
 ghost use Rattle.clap.specs.declared.builder.command.Command.TheViews.{out-Command};
-ghost use Rattle.kdhcp.specs.Line.{IsHelpLine, IsShowLine};
-ghost use Rattle.kdhcp.specs.Order.{AsksFor, HasFault, HelpsUnlessFull, IsShow, ShowsUnlessFull};
-ghost use Rattle.kdhcp.specs.Order.{command_line, hex_of, show_line};
-ghost use Rattle.kdhcp.specs.Steps.{AnswersKind, ShowsIfThere};
+ghost use Rattle.kdhcp.specs.Line.{IsHelpLine, IsLine};
+ghost use Rattle.kdhcp.specs.Order.{Asked, Asks, AsksFor, GivesUnlessFull, HasFault};
+ghost use Rattle.kdhcp.specs.Order.{HelpsUnlessFull, asked_of, command_line, replay_line, show_line, shows};
+ghost use Rattle.kdhcp.specs.Steps.{AnswersKind, GivesIfThere};
 
 use crate::order::{LineFault, Order};
 use clap::error::ErrorKind;
@@ -21,10 +21,10 @@ use std::alloc::{AllocError, Global};
 pub fn order(alloc: Global, words: &[String]) -> Result<Order, LineFault>
     ensures order { IfOk result (AsksFor (map string_bytes words.now)) }
     ensures fault { IfErr result (HasFault (map string_bytes words.now)) }
-    ensures only { (hex : Text) → IsShow (map string_bytes words.now) hex
-        → ShowsUnlessFull hex result }
-    ensures line { (hex : Text) → IsShow (map string_bytes words.now) hex
-        ↔ IsShowLine (map string_bytes words.now) hex }
+    ensures only { (asked : Asked) → Asks (map string_bytes words.now) asked
+        → GivesUnlessFull asked result }
+    ensures line { (asked : Asked) → Asks (map string_bytes words.now) asked
+        ↔ IsLine (map string_bytes words.now) asked }
     ensures help { IsHelpLine (map string_bytes words.now) → HelpsUnlessFull result }
 {
     let command = kdhcp(alloc)?;
@@ -43,7 +43,8 @@ fn kdhcp<'a>(alloc: Global) -> Result<Command<'a>, AllocError>
         .bin_name("kdhcp")?
         .no_binary_name(true)
         .subcommand_required(true)
-        .subcommand(show(alloc)?)
+        .subcommand(show(alloc)?)?
+        .subcommand(replay(alloc))
 }
 
 // `show HEX`.
@@ -59,19 +60,29 @@ fn show<'a>(alloc: Global) -> Result<Command<'a>, AllocError>
         .arg(hex)
 }
 
+// `replay`.
+fn replay<'a>(alloc: Global) -> Command<'a>
+    ensures app { app_of result ≡ replay_line }
+    ensures local { (out-Command result).has_globals ≡ false }
+{
+    Command::new(alloc, "replay").about("Replay the events of standard input")
+}
+
 // What matches of the command line ask for.
 fn asked_for(alloc: Global, matches: &ArgMatches<'_>) -> Result<Order, LineFault>
-    ensures { ShowsIfThere (hex_of (subcommand_rows_of matches.now)) result }
+    ensures { GivesIfThere (asked_of (subcommand_rows_of matches.now)) result }
 {
     match matches.subcommand() {
         Some(("show", inner)) => shown(alloc, inner),
+        Some(("replay", _)) => Ok(Order::Replay),
         _ => Err(LineFault::CommandLine),
     }
 }
 
 // What matches of `show` ask for.
 fn shown(alloc: Global, matches: &ArgMatches<'_>) -> Result<Order, LineFault>
-    ensures { ShowsIfThere (first_value (found_of matches.now) (codes "HEX")) result }
+    ensures { GivesIfThere (option_map (λ hex. shows hex)
+        (first_value (found_of matches.now) (codes "HEX"))) result }
 {
     match matches.get_str("HEX") {
         Some(text) => Ok(Order::Show {

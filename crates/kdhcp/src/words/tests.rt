@@ -30,8 +30,19 @@ fn show_has_its_text(rt: HostRuntime) {
 }
 
 #[test]
+fn replay_is_an_order(rt: HostRuntime) {
+    let rows: [&[&str]; 2] = [&["replay"], &["replay", "--"]];
+    for words in rows {
+        match read(&rt, words) {
+            Ok(Order::Replay) => (),
+            other => panic!(rt; "{words:?}: {other:?}"),
+        }
+    }
+}
+
+#[test]
 fn help_is_an_order(rt: HostRuntime) {
-    let rows: [(&[&str], &str); 7] = [
+    let rows: [(&[&str], &str); 11] = [
         (&["--help"], "Usage: kdhcp <COMMAND>"),
         (&["-h"], "Usage: kdhcp <COMMAND>"),
         (&["help"], "Usage: kdhcp <COMMAND>"),
@@ -39,6 +50,10 @@ fn help_is_an_order(rt: HostRuntime) {
         (&["show", "--help"], "Usage: kdhcp show <HEX>"),
         (&["show", "-h"], "Usage: kdhcp show <HEX>"),
         (&["show", "a", "--help"], "Usage: kdhcp show <HEX>"),
+        (&["help", "replay"], "Usage: kdhcp replay"),
+        (&["replay", "--help"], "Usage: kdhcp replay"),
+        (&["replay", "-h"], "Usage: kdhcp replay"),
+        (&["replay", "--help", "x"], "Usage: kdhcp replay"),
     ];
     for (words, usage) in rows {
         match read(&rt, words) {
@@ -50,7 +65,7 @@ fn help_is_an_order(rt: HostRuntime) {
 
 #[test]
 fn other_words_are_a_mistake(rt: HostRuntime) {
-    let rows: [&[&str]; 12] = [
+    let rows: [&[&str]; 18] = [
         &[],
         &["--", "show", "a"],
         &["--help=yes"],
@@ -63,6 +78,12 @@ fn other_words_are_a_mistake(rt: HostRuntime) {
         &["--version"],
         &["help", "nope"],
         &["show", "--nope", "--help"],
+        &["replay", "x"],
+        &["replay", "--nope"],
+        &["replay", "-a"],
+        &["replay", "--", "x"],
+        &["replay", "--", "--"],
+        &["--", "replay"],
     ];
     for words in rows {
         match read(&rt, words) {

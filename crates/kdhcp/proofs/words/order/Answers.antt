@@ -6,9 +6,9 @@ use Rattle.kdhcp.proofs.Orders.{are_texts, from_error, from_matches}
 use Rattle.kdhcp.proofs.words.order.Goals as goal
 
 pub returns-in_err-command-clause-line : goal.returns-in_err-command-clause-line
-returns-in_err-command-clause-line c hex =
+returns-in_err-command-clause-line c asked =
     let ws = map string_bytes c.args.words.now in
-    (line_from_clap ws hex (are_texts c.args.words.now), clap_from_line ws hex)
+    (line_from_clap ws asked (are_texts c.args.words.now), clap_from_line ws asked)
 
 pub returns-in-Ok : goal.returns-in-Ok
 returns-in-Ok c =
@@ -20,7 +20,7 @@ returns-in-Ok c =
       order = given.order;
       fault = given.fault;
       only = given.only;
-      line = λ hex. (line_from_clap ws hex texts, clap_from_line ws hex);
+      line = λ asked. (line_from_clap ws asked texts, clap_from_line ws asked);
       help = λ h. given.help (help_line ws h);
     }
 
@@ -34,6 +34,6 @@ returns-in-Err c =
       order = given.order;
       fault = given.fault;
       only = given.only;
-      line = λ hex. (line_from_clap ws hex texts, clap_from_line ws hex);
+      line = λ asked. (line_from_clap ws asked texts, clap_from_line ws asked);
       help = λ h. given.help (help_line ws h);
     }
