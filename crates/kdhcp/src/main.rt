@@ -1,47 +1,37 @@
-//! The program `kdhcp`: it reads the words behind its name, and prints what they ask for.
+//! The program `kdhcp`: it reads the words behind its name, and does what they ask for.
 //!
-//! `order` reads the words (`specs/Order.antt`, `specs/Line.antt`), `answer` gives what they print
-//! (`specs/Printed.antt`, `specs/Show.antt`), and this page writes it to the standard streams.
+//! `order` reads the words (`specs/Order.antt`, `specs/Line.antt`), `answer` gives what an order prints that
+//! needs nothing but its words (`specs/Printed.antt`, `specs/Show.antt`), and `replayed` replays the events
+//! of a source into a sink. This page ties them to the standard streams.
 #![tactic(auto)]
+
+ghost use Rattle.std.specs.Prelude.{false};
 
 mod answer;
 mod order;
 mod show;
 mod status;
+mod streams;
 mod words;
 
 use answer::{Printed, answer};
+use kd_server::{Ports, ReplayFault, Server, replay};
 use order::{LineFault, Order};
 use std::io;
 use std::io::Write;
 use std::process::ExitCode;
+use status::{exit_status, replay_status};
+use streams::{Input, Output};
 
 fn main(rt: HostRuntime) -> io::Result<ExitCode> {
-    match printed(&rt) {
-        Ok(printed) => {
-            rt.stdout().write_all(printed.out.as_slice())?;
-            rt.stderr().write_all(printed.fault.as_slice())?;
-            Ok(ExitCode::from(printed.status))
-        }
-        Err(fault) => {
-            let number = fault.number();
-            eprintln!(rt; "fault {number} {fault}")?;
-            Ok(ExitCode::from(status::exit_status(number)))
-        }
+    match ordered(&rt) {
+        Ok(Order::Replay) => replayed(&rt),
+        Ok(order) => match answer(rt.alloc(), &order) {
+            Ok(printed) => print(&rt, &printed),
+            Err(error) => refuse(&rt, LineFault::from(error)),
+        },
+        Err(fault) => refuse(&rt, fault),
     }
-}
-
-// What the words behind the program's name ask for.
-fn printed(rt: &HostRuntime) -> Result<Printed, LineFault> {
-    match ordered(rt)? {
-        Order::Replay => replayed(rt),
-        order => Ok(answer(rt.alloc(), &order)?),
-    }
-}
-
-// The events of standard input, replayed. NOT YET: a mistake on the command line until then.
-fn replayed(_rt: &HostRuntime) -> Result<Printed, LineFault> {
-    Err(LineFault::CommandLine)
 }
 
 // The order in the words behind the program's name.
@@ -52,4 +42,37 @@ fn ordered(rt: &HostRuntime) -> Result<Order, LineFault> {
         Err(_) => return Err(LineFault::CommandLine),
     };
     words::order(rt.alloc(), &words)
+}
+
+// Prints what an order gives.
+fn print(rt: &HostRuntime, printed: &Printed) -> io::Result<ExitCode> {
+    rt.stdout().write_all(printed.out.as_slice())?;
+    rt.stderr().write_all(printed.fault.as_slice())?;
+    Ok(ExitCode::from(printed.status))
+}
+
+// Prints why the words are no order, or get no answer.
+fn refuse(rt: &HostRuntime, fault: LineFault) -> io::Result<ExitCode> {
+    let number = fault.number();
+    eprintln!(rt; "fault {number} {fault}")?;
+    Ok(ExitCode::from(exit_status(number)))
+}
+
+// Replays the events of standard input to standard output, as a server on the standard's ports.
+fn replayed(rt: &HostRuntime) -> io::Result<ExitCode> {
+    let mut source = Input::over(rt.reader());
+    let mut sink = Output::over(io::writer(rt));
+    let ports = Ports {
+        server: 67,
+        client: 68,
+    };
+    let mut server = Server::builtin(rt.alloc(), ports);
+    match replay(rt.alloc(), &mut source, &mut sink, &mut server) {
+        Ok(_) => Ok(ExitCode::SUCCESS),
+        Err(fault) => {
+            let number = fault.number();
+            eprintln!(rt; "fault {number} {fault}")?;
+            Ok(ExitCode::from(replay_status(fault)))
+        }
+    }
 }
