@@ -1,9 +1,9 @@
 -- A replay that goes on: the lines so far are handled, and the rest of the input is not read.
-use Rattle.std.proofs.Common.{◌≡◌, ℕ, ◌+◌, List, [], ◌∷◌, ◌++◌, Some, refl, sym, ap, ◌∙◌, arith, append_assoc, length, length-append, inl, inr}
+use Rattle.std.proofs.Common.{◌≡◌, ℕ, ◌+◌, List, [], ◌∷◌, ◌++◌, Some, None, refl, sym, ap, ◌∙◌, arith, append_assoc, length, length-append, inl, inr}
 use Rattle.std.specs.Prelude.{Option, Ok, Err}
-use Rattle.std.specs.Io.KnownBytes.{prepend_known}
+use Rattle.std.specs.Io.KnownBytes.{Appends, prepend_known}
 use Rattle.std.proofs.lemmas.List.{append-nil, flat_map_more}
-use Rattle.kd_server.specs.Handling.{EndsLine, GivesOne, HandlesLine}
+use Rattle.kd_server.specs.Handling.{EndsEvent, HandlesEvent}
 use Rattle.kd_server.specs.Lines.{IsEventLine, lines_of}
 use Rattle.kd_server.specs.Parts.{FindsIn}
 use Rattle.kd_server.specs.Replay.{Did, Ends, Handles, IsNoEvent, Leaves, most_lines}
@@ -16,6 +16,11 @@ use Rattle.kd_server.specs.declared.fault.ServeFault.{ServeFault}
 use Rattle.kd_server.specs.declared.lines.Found.TheVariants as found
 use Rattle.kd_server.proofs.Histories.{more_events, more_history}
 
+appended : (old new : Option (List ℕ)) (text out : List ℕ) → Appends old new text → old ≡ Some out → new ≡ Some (out ++ text)
+appended None new text out p e = absurd (cc)
+appended (Some xs) None text out p e = absurd p
+appended (Some xs) (Some ys) text out p e = let same : xs ≡ out = cc in ap (λ l. Some l) (p ∙ ap (λ x. x ++ text) same)
+
 pub none_ahead : {ahead : List ℕ} {left : Option (List ℕ)} {input : List ℕ} → ahead ≡ [] → left ≡ Some input → prepend_known ahead left ≡ Some input
 none_ahead none e = rw (none, e) refl
 
@@ -23,12 +28,13 @@ module _ {H : Type 0} (gives : H → Event → Handled → H → Type 0) where
   pub handles_none : (server : H) → Handles gives 0 server server
   handles_none server = record { events = []; list = []; counted = refl; history = refl }
 
-  pub handles_more : (count : ℕ) (server mid new : H) → Handles gives count server mid → GivesOne gives mid new → Handles gives (count + 1) server new
-  handles_more count server mid new h one = record {
-    events = h.events ++ one.event ∷ [];
+  pub handles_more : (count : ℕ) (server mid new : H) (event : Event) (contents contents' : Option (List ℕ)) → Handles gives count server mid → HandlesEvent gives event mid new contents contents'
+      → Handles gives (count + 1) server new
+  handles_more count server mid new event contents contents' h one = record {
+    events = h.events ++ event ∷ [];
     list = h.list ++ one.handled ∷ [];
-    counted = omega (arith, length-append h.events (one.event ∷ []), h.counted);
-    history = more_history gives server h.events h.list mid one.event one.handled new h.history one.given;
+    counted = omega (arith, length-append h.events (event ∷ []), h.counted);
+    history = more_history gives server h.events h.list mid event one.handled new h.history one.given;
   }
 
   did_none : (server : H) (old : List ℕ) → Did gives [] server server old old
@@ -60,28 +66,20 @@ module _ {H : Type 0} (gives : H → Event → Handled → H → Type 0) where
       record { before = []; rest = input; out = old; known = known; lines = refl; count = refl; told = told; did = did_none server old }
 
   pub going_line : (input : List ℕ) (server : H) (old : List ℕ) (number : ℕ) (mid : H) (left contents : Option (List ℕ)) (g : Going input server old number mid left contents)
-      (left' : Option (List ℕ)) (text : List ℕ) (new : H) (contents' : Option (List ℕ)) → FindsIn found.Line g.rest left' text → HandlesLine gives text mid new g.out contents'
-      → Going input server old (number + 1) new left' contents'
-  going_line input server old number mid left contents g left' text new contents' f h = record {
+      (left' : Option (List ℕ)) (text : List ℕ) (event : Event) (new : H) (contents' : Option (List ℕ)) → FindsIn found.Line g.rest left' text → IsEventLine text event
+      → HandlesEvent gives event mid new contents contents' → Going input server old (number + 1) new left' contents'
+  going_line input server old number mid left contents g left' text event new contents' f is h = record {
     before = g.before ++ text ∷ [];
     rest = f.rest;
     out = g.out ++ line_of h.handled;
     known = f.known;
     lines = g.lines ∙ ap (λ r. g.before ++ r) f.finds.0 ∙ sym (append_assoc g.before (text ∷ []) (lines_of f.rest));
     count = omega (arith, length-append g.before (text ∷ []), g.count);
-    told = h.told;
-    did = did_more g.before server mid old g.out text h.event h.handled new g.did h.spelled h.given;
+    told = appended contents contents' (line_of h.handled) g.out h.appended g.told;
+    did = did_more g.before server mid old g.out text event h.handled new g.did is h.given;
   }
 
 module _ {H : Type 0} (gives : H → Event → Handled → H → Type 0) (fails : H → Event → ServeFault → H → Type 0) where
-  ends_more : (source_failed : Type 0) (fault : ReplayFault) (number : ℕ) (lines : List (List ℕ)) (server new : H) (old out : List ℕ)
-      → Ends gives fails ⊥ fault number lines server new old out → Ends gives fails source_failed fault number lines server new old out
-  ends_more source_failed (faults.BadLine k) number lines server new old out e = e
-  ends_more source_failed (faults.Serve fault) number lines server new old out e = e
-  ends_more source_failed faults.Write number lines server new old out e = e
-  ends_more source_failed faults.Read number lines server new old out e = (elim e.0 [ inl h ↦ absurd h | inr h ↦ inr h ], e.1, e.2)
-  ends_more source_failed faults.Memory number lines server new old out e = e
-
   module _ (source_failed : Type 0) (input : List ℕ) (server : H) (old : List ℕ) (number : ℕ) (mid : H) (left contents : Option (List ℕ)) (g : Going gives input server old number mid left contents) where
     pub leaves_end : (left' : Option (List ℕ)) (text : List ℕ) → FindsIn found.End g.rest left' text → Leaves gives fails source_failed (Ok number) input server mid old contents
     leaves_end left' text f =
@@ -107,11 +105,20 @@ module _ {H : Type 0} (gives : H → Event → Handled → H → Type 0) (fails 
         let none : IsNoEvent f.finds.first = λ event p. omega (arith, p.short, f.finds.long) in
         stopped (faults.BadLine (number + 1)) mid g.out contents g.told (rw f.finds.all (refl, none, refl, refl))
 
-    pub leaves_line : (left' : Option (List ℕ)) (text : List ℕ) (fault : ReplayFault) (new : H) (contents' : Option (List ℕ)) → FindsIn found.Line g.rest left' text
-        → EndsLine gives fails fault (number + 1) text mid new g.out contents' → Leaves gives fails source_failed (Err fault) input server new old contents'
-    leaves_line left' text fault new contents' f e =
-        let ends = ends_more source_failed fault (number + 1) (text ∷ lines_of f.rest) mid new g.out e.out (e.ends (lines_of f.rest)) in
-        stopped fault new e.out contents' e.told (rw f.finds.0 ends)
+    pub leaves_bad : (left' : Option (List ℕ)) (text : List ℕ) → FindsIn found.Line g.rest left' text → IsNoEvent text
+        → Leaves gives fails source_failed (Err (faults.BadLine (number + 1))) input server mid old contents
+    leaves_bad left' text f none = stopped (faults.BadLine (number + 1)) mid g.out contents g.told (rw f.finds.0 (refl, none, refl, refl))
+
+    pub leaves_event : (left' : Option (List ℕ)) (text : List ℕ) (event : Event) (fault : ReplayFault) (new : H) (contents' : Option (List ℕ)) → FindsIn found.Line g.rest left' text
+        → IsEventLine text event → EndsEvent gives fails fault event mid new contents contents' → Leaves gives fails source_failed (Err fault) input server new old contents'
+    leaves_event left' text event (faults.BadLine k) new contents' f is e = absurd e
+    leaves_event left' text event (faults.Serve fault) new contents' f is e =
+        stopped (faults.Serve fault) new g.out contents' (e.2 ∙ g.told) (rw f.finds.0 (record { event = event; spelled = is; failed = e.0; other = e.1 }, refl))
+    leaves_event left' text event faults.Write new contents' f is e =
+        stopped faults.Write new (g.out ++ e.cut.part) contents' (appended contents contents' e.cut.part g.out e.cut.written g.told)
+        (rw f.finds.0 (record { event = event; handled = e.handled; part = e.cut.part; more = e.cut.more; spelled = is; given = e.given; cut = e.cut.cut; written = refl }))
+    leaves_event left' text event faults.Read new contents' f is e = absurd e
+    leaves_event left' text event faults.Memory new contents' f is e = stopped faults.Memory new g.out contents' (e.1 ∙ g.told) (e.0, refl)
 
     -- there is one line too many
     module _ (all : number ≡ most_lines) where

@@ -1,31 +1,33 @@
--- What the private functions that handle a line leave: for the proofs, no promise names it.
-use Rattle.std.specs.Prelude.{◌≡◌, ℕ, List, ◌∷◌, ◌++◌, Option, Some}
-use Rattle.kd_server.specs.Lines.{IsEventLine}
-use Rattle.kd_server.specs.Replay.{Ends}
+-- What the private functions that handle an event leave: for the proofs, no promise names it.
+use Rattle.std.specs.Prelude.{◌≡◌, ◌≢◌, ℕ, List, Option}
+use Rattle.std.specs.Io.KnownBytes.{Appends}
+use Rattle.kd_server.specs.Parts.{WritesPart}
 use Rattle.kd_server.specs.Text.{line_of}
 use Rattle.kd_server.specs.declared.event.Event.{Event}
 use Rattle.kd_server.specs.declared.event.Handled.{Handled}
 use Rattle.kd_server.specs.declared.fault.ReplayFault.{ReplayFault}
+use Rattle.kd_server.specs.declared.fault.ReplayFault.TheVariants as faults
 use Rattle.kd_server.specs.declared.fault.ServeFault.{ServeFault}
+use Rattle.kd_server.specs.declared.fault.ServeFault.TheVariants as serving
 
 module _ {H : Type 0} (gives : H → Event → Handled → H → Type 0) where
-  -- an event is handled
-  pub record GivesOne (server new : H) : Type 0 where
-    pub event : Event
+  -- an event is handled, and its text is written
+  pub record HandlesEvent (event : Event) (server new : H) (contents written : Option (List ℕ)) : Type 0 where
     pub handled : Handled
     pub given : gives server event handled new
+    pub appended : Appends contents written (line_of handled)
 
-  -- a line's event is handled, and its text is written
-  pub record HandlesLine (line : List ℕ) (server new : H) (old : List ℕ) (contents : Option (List ℕ)) : Type 0 where
-    pub event : Event
+  -- an event is handled, and a front of its text is written
+  pub record CutsEvent (event : Event) (server new : H) (contents written : Option (List ℕ)) : Type 0 where
     pub handled : Handled
-    pub spelled : IsEventLine line event
     pub given : gives server event handled new
-    pub told : contents ≡ Some (old ++ line_of handled)
+    pub cut : WritesPart contents written (line_of handled)
 
 module _ {H : Type 0} (gives : H → Event → Handled → H → Type 0) (fails : H → Event → ServeFault → H → Type 0) where
-  -- a replay ends at a line, whatever lines follow it
-  pub record EndsLine (fault : ReplayFault) (number : ℕ) (line : List ℕ) (server new : H) (old : List ℕ) (contents : Option (List ℕ)) : Type 0 where
-    pub out : List ℕ
-    pub told : contents ≡ Some out
-    pub ends : (later : List (List ℕ)) → Ends gives fails ⊥ fault number (line ∷ later) server new old out
+  -- what a fault of handling an event and of writing its text leaves
+  abbrev pub EndsEvent : ReplayFault → Event → H → H → Option (List ℕ) → Option (List ℕ) → Type 0
+  EndsEvent faults.Memory event server new contents written = (new ≡ server) × (written ≡ contents)
+  EndsEvent (faults.Serve fault) event server new contents written = fails server event fault new × (fault ≢ serving.Memory) × (written ≡ contents)
+  EndsEvent faults.Write event server new contents written = CutsEvent gives event server new contents written
+  EndsEvent faults.Read event server new contents written = ⊥
+  EndsEvent (faults.BadLine number) event server new contents written = ⊥

@@ -1,7 +1,7 @@
 ghost use Rattle.std.specs.Prelude.{◌≡◌, ◌+◌, ◌≤◌, ◌⊎◌, List, [], Some, IfErr, IfOk, MatchResult, OnErr, OnOk, ℕ, false, true, length, vec_capacity};
 ghost use Rattle.std.specs.Io.KnownBytes.{Appends};
 ghost use Rattle.std.specs.Result.{IsErrOf};
-ghost use Rattle.kd_server.specs.Handling.{EndsLine, GivesOne, HandlesLine};
+ghost use Rattle.kd_server.specs.Handling.{EndsEvent, HandlesEvent};
 ghost use Rattle.kd_server.specs.Lines.{line_limit};
 ghost use Rattle.kd_server.specs.Parts.{WritesPart};
 ghost use Rattle.kd_server.specs.Replay.{Handles, Leaves, most_lines};
@@ -10,7 +10,7 @@ ghost use Rattle.kd_server.specs.declared.fault.ReplayFault.TheVariants as fault
 
 use crate::ahead::Ahead;
 use crate::ends::{EndFailed, Sink, Source};
-use crate::event::Handled;
+use crate::event::{Event, Handled};
 use crate::fault::{ReplayFault, ServeFault};
 use crate::line::event_in;
 use crate::lines::{Found, LINE_LIMIT, next_line};
@@ -66,7 +66,10 @@ pub(crate) fn replay_with<R: Source, W: Sink, H: Serves>(
     for number in 0..MOST_LINES {
         match next_line(&mut work.ahead, source, &mut work.line) {
             Ok(Found::Line) => {
-                replay_line(alloc, sink, server, &work.line, number + 1, &mut work.room)?;
+                let Some(event) = event_in(alloc, &work.line)? else {
+                    return Err(ReplayFault::BadLine(number + 1));
+                };
+                replay_event(sink, server, &event, &mut work.room)?;
             }
             Ok(Found::End) => return Ok(number),
             Ok(Found::TooLong) => return Err(ReplayFault::BadLine(number + 1)),
@@ -81,29 +84,21 @@ pub(crate) fn replay_with<R: Source, W: Sink, H: Serves>(
     }
 }
 
-// Handles the event of the line with this number, and writes its text.
-fn replay_line<W: Sink, H: Serves>(
-    alloc: Global,
+// Handles an event, and writes its text.
+fn replay_event<W: Sink, H: Serves>(
     sink: &mut W,
     server: &mut H,
-    line: &[u8],
-    number: u64,
+    event: &Event,
     room: &mut Vec<u8>,
 ) -> Result<(), ReplayFault>
-    requires short { length line.now ≤ line_limit }
-    requires room { line_room ≤ vec_capacity room.old }
-    ensures handled { OnOk result ((old : List ℕ) → W.contents sink.old ≡ Some old
-        → HandlesLine H.gives line.now server.old server.new old (W.contents sink.new)) }
-    ensures ended { IfErr result (λ fault. (old : List ℕ) → W.contents sink.old ≡ Some old
-        → EndsLine H.gives H.fails fault number line.now server.old server.new old (W.contents sink.new)) }
-    ensures given { OnOk result (GivesOne H.gives server.old server.new) }
-    ensures read { ¬ IsErrOf result faults.Read }
+    requires { line_room ≤ vec_capacity room.old }
+    ensures handled { OnOk result
+        (HandlesEvent H.gives event.now server.old server.new (W.contents sink.old) (W.contents sink.new)) }
+    ensures ended { IfErr result (λ fault.
+        EndsEvent H.gives H.fails fault event.now server.old server.new (W.contents sink.old) (W.contents sink.new)) }
     ensures write { IsErrOf result faults.Write → W.has_failed sink.new ≡ true }
     ensures room { vec_capacity room.old ≤ vec_capacity room.new }
 {
-    let Some(event) = event_in(alloc, line)? else {
-        return Err(ReplayFault::BadLine(number));
-    };
     match server.handle(event.moment, event.bytes.as_slice()) {
         Ok(handled) => match write_handled(sink, room, &handled) {
             Ok(()) => Ok(()),

@@ -9,7 +9,11 @@ fn a_line_is_a_moment_a_space_and_hexadecimal(rt: HostRuntime) -> Result<(), Fai
         ("0 aBCd", 0, b"\xab\xcd"),
         ("00000000000000000005 00", 5, b"\x00"),
         ("1099511627776 01", 1_099_511_627_776, b"\x01"),
-        ("18446744073709551615 00", 18_446_744_073_709_551_615, b"\x00"),
+        (
+            "18446744073709551615 00",
+            18_446_744_073_709_551_615,
+            b"\x00",
+        ),
     ];
     for (line, moment, bytes) in table {
         assert!(rt; line.len() < 100);

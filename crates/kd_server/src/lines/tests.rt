@@ -66,7 +66,10 @@ fn lines_end_at_line_feeds_and_at_the_end(rt: HostRuntime) -> Result<(), Fail> {
 fn a_source_that_fails_ends_the_lines(rt: HostRuntime) -> Result<(), Fail> {
     for most in [1, 2, 1_000_000] {
         let out = print_four(rt.alloc(), b"a\nb", most, true)?;
-        assert!(rt; out.as_slice() == b"[a]failedfailedfailed".as_slice(), "by {most}");
+        assert!(rt;
+            out.as_slice() == b"[a]failedfailedfailed".as_slice(),
+            "by {most}"
+        );
     }
     Ok(())
 }

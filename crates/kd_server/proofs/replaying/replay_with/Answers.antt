@@ -1,7 +1,7 @@
 use Rattle.std.proofs.Common.{◌≡◌, arith}
 use Rattle.std.proofs.lemmas.Result.{err_from_is_err_and}
 use Rattle.kd_server.specs.Replay.{most_lines}
-use Rattle.kd_server.proofs.Going.{going_line, going_none, handles_more, handles_none, leaves_end, leaves_line, leaves_memory, leaves_more, leaves_more_long, leaves_read, leaves_too_long, none_ahead}
+use Rattle.kd_server.proofs.Going.{going_line, going_none, handles_more, handles_none, leaves_bad, leaves_end, leaves_event, leaves_memory, leaves_more, leaves_more_long, leaves_read, leaves_too_long, none_ahead}
 use Rattle.kd_server.proofs.replaying.replay_with.Goals as goal
 
 pub returns-in_err-work-clause-replayed : goal.returns-in_err-work-clause-replayed
@@ -16,15 +16,6 @@ loop-number-init g c = record {
   handled = handles_none g.H.Serves.gives c.args.server.now;
   going = λ input old known told. going_none g.H.Serves.gives input c.args.server.now old _ _ (none_ahead c.in_ok-work.ensures.ahead known) told;
 }
-
-pub returns-in_err-replay_line-in-Ok-Line-clause-replayed :
-    goal.returns-in_err-replay_line-in-Ok-Line-clause-replayed
-returns-in_err-replay_line-in-Ok-Line-clause-replayed g c = λ input old known told.
-    let p = err_from_is_err_and c.from_residual-in_err-replay_line-in-Ok-Line.result c.from_residual-in_err-replay_line-in-Ok-Line.ensures.1 in
-    let going = c.loop-number.invariant.going input old known told in
-    let found = rw c.in-Ok-Line.field-0-is at (c.in-Ok-Line.ensures.found going.rest going.known) in
-    let ended = rw c.deref.ensures.value at (c.in_err-replay_line-in-Ok-Line.ensures.ended going.out going.told) in
-    rw (p.1, p.2) (leaves_line g.H.Serves.gives g.H.Serves.fails _ _ _ _ _ _ _ _ going _ _ _ _ _ found ended)
 
 pub returns-in-Ok-End-clause-replayed : goal.returns-in-Ok-End-clause-replayed
 returns-in-Ok-End-clause-replayed g c = λ input old known told.
@@ -41,18 +32,6 @@ returns-in-Ok-TooLong-clause-replayed g c = λ input old known told.
 pub returns-in-Err-clause-replayed : goal.returns-in-Err-clause-replayed
 returns-in-Err-clause-replayed g c = λ input old known told.
     leaves_read g.H.Serves.gives g.H.Serves.fails _ _ _ _ _ _ _ _ (c.loop-number.invariant.going input old known told) c.in-Err.ensures.failed
-
-pub loop-number-preserved : goal.loop-number-preserved
-loop-number-preserved g c = record {
-  line = omega (arith, c.loop-number.invariant.line, c.in-Ok-Line.ensures.room);
-  room = omega (arith, c.loop-number.invariant.room, c.in_ok-replay_line-in-Ok-Line.ensures.room);
-  handled = handles_more g.H.Serves.gives _ _ _ _ c.loop-number.invariant.handled c.in_ok-replay_line-in-Ok-Line.ensures.given;
-  going = λ input old known told.
-      let going = c.loop-number.invariant.going input old known told in
-      let found = rw c.in-Ok-Line.field-0-is at (c.in-Ok-Line.ensures.found going.rest going.known) in
-      let handled = rw c.deref.ensures.value at (c.in_ok-replay_line-in-Ok-Line.ensures.handled going.out going.told) in
-      going_line g.H.Serves.gives _ _ _ _ _ _ _ going _ _ _ _ found handled;
-}
 
 pub returns-in-Ok-End-next_line-clause-replayed : goal.returns-in-Ok-End-next_line-clause-replayed
 returns-in-Ok-End-next_line-clause-replayed g c = λ input old known told.
@@ -80,3 +59,35 @@ returns-in-Ok-TooLong-next_line-clause-replayed g c = λ input old known told.
 pub returns-clause-replayed : goal.returns-clause-replayed
 returns-clause-replayed g c = λ input old known told.
     leaves_read g.H.Serves.gives g.H.Serves.fails _ _ _ _ _ _ _ _ (c.loop-number.invariant.going input old known told) c.in-Err-next_line.ensures.failed
+
+pub returns-in_err-event-in-Ok-Line-clause-replayed : goal.returns-in_err-event-in-Ok-Line-clause-replayed
+returns-in_err-event-in-Ok-Line-clause-replayed g c = λ input old known told.
+    let p = err_from_is_err_and c.from_residual-in_err-event-in-Ok-Line.result c.from_residual-in_err-event-in-Ok-Line.ensures.1 in
+    rw (p.1, p.2) (leaves_memory g.H.Serves.gives g.H.Serves.fails _ _ _ _ _ _ _ _ (c.loop-number.invariant.going input old known told))
+
+pub returns-in_default-clause-replayed : goal.returns-in_default-clause-replayed
+returns-in_default-clause-replayed g c = λ input old known told.
+    let going = c.loop-number.invariant.going input old known told in
+    let found = rw c.in-Ok-Line.field-0-is at (c.in-Ok-Line.ensures.found going.rest going.known) in
+    let none = rw (c.in_default.is, c.deref.ensures.value) at c.in_ok-event-in-Ok-Line.ensures in
+    leaves_bad g.H.Serves.gives g.H.Serves.fails _ _ _ _ _ _ _ _ going _ _ found none
+
+pub returns-in_err-replay_event-in-Ok-Line-clause-replayed : goal.returns-in_err-replay_event-in-Ok-Line-clause-replayed
+returns-in_err-replay_event-in-Ok-Line-clause-replayed g c = λ input old known told.
+    let p = err_from_is_err_and c.from_residual-in_err-replay_event-in-Ok-Line.result c.from_residual-in_err-replay_event-in-Ok-Line.ensures.1 in
+    let going = c.loop-number.invariant.going input old known told in
+    let found = rw c.in-Ok-Line.field-0-is at (c.in-Ok-Line.ensures.found going.rest going.known) in
+    let is = rw (c.in-Some.is, c.deref.ensures.value) at c.in_ok-event-in-Ok-Line.ensures in
+    rw (p.1, p.2) (leaves_event g.H.Serves.gives g.H.Serves.fails _ _ _ _ _ _ _ _ going _ _ _ _ _ _ found is c.in_err-replay_event-in-Ok-Line.ensures.ended)
+
+pub loop-number-preserved : goal.loop-number-preserved
+loop-number-preserved g c = record {
+  line = omega (arith, c.loop-number.invariant.line, c.in-Ok-Line.ensures.room);
+  room = omega (arith, c.loop-number.invariant.room, c.in_ok-replay_event-in-Ok-Line.ensures.room);
+  handled = handles_more g.H.Serves.gives _ _ _ _ _ _ _ c.loop-number.invariant.handled c.in_ok-replay_event-in-Ok-Line.ensures.handled;
+  going = λ input old known told.
+      let going = c.loop-number.invariant.going input old known told in
+      let found = rw c.in-Ok-Line.field-0-is at (c.in-Ok-Line.ensures.found going.rest going.known) in
+      let is = rw (c.in-Some.is, c.deref.ensures.value) at c.in_ok-event-in-Ok-Line.ensures in
+      going_line g.H.Serves.gives _ _ _ _ _ _ _ going _ _ _ _ _ found is c.in_ok-replay_event-in-Ok-Line.ensures.handled;
+}
