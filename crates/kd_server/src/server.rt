@@ -176,4 +176,6 @@ fn sent(
 }
 
 #[cfg(test)]
+mod replays;
+#[cfg(test)]
 mod tests;

@@ -39,7 +39,7 @@ fn kdhcp<'a>(alloc: Global) -> Result<Command<'a>, AllocError>
     ensures { IfOk result (λ c. app_of c ≡ command_line) }
 {
     Command::new(alloc, "kdhcp")
-        .about("A DHCPv4 server that tells what it reads")
+        .about("A DHCPv4 server that replays what it is sent")
         .bin_name("kdhcp")?
         .no_binary_name(true)
         .subcommand_required(true)

@@ -4,7 +4,7 @@ use crate::plan::PlanKind;
 use kd_options::{Items, MessageType, Reply};
 use std::test::Fail;
 
-const PORTS: Ports = Ports {
+pub(crate) const PORTS: Ports = Ports {
     server: 67,
     client: 68,
 };
@@ -12,7 +12,7 @@ const PORTS: Ports = Ports {
 // The fields of a message that the rows below differ in, and its options field: all in hexadecimal, where
 // an underscore parts what belongs together.
 #[derive(Clone, Copy)]
-struct Fields {
+pub(crate) struct Fields {
     op: u8,
     hlen: u8,
     flags: &'static str,
@@ -22,13 +22,25 @@ struct Fields {
 }
 
 // An INFORM of the client 0a0000000001, which has the address 192.0.2.77.
-const INFORM: Fields = Fields {
+pub(crate) const INFORM: Fields = Fields {
     op: 1,
     hlen: 6,
     flags: "0000",
     ciaddr: "c000024d",
     giaddr: "00000000",
     options: "350108_ff",
+};
+
+// A DISCOVER of that client.
+pub(crate) const DISCOVER: Fields = Fields {
+    options: "350101",
+    ..INFORM
+};
+
+// An INFORM whose client does not say its address.
+pub(crate) const NAMELESS: Fields = Fields {
+    ciaddr: "00000000",
+    ..INFORM
 };
 
 // Bytes at the end.
@@ -40,7 +52,7 @@ fn put(bytes: &mut Vec<u8>, text: &str) -> Result<(), Fail> {
     Ok(())
 }
 
-fn message(alloc: Global, fields: &Fields) -> Result<Vec<u8>, Fail> {
+pub(crate) fn message(alloc: Global, fields: &Fields) -> Result<Vec<u8>, Fail> {
     let mut bytes = Vec::from_slice(alloc, &[fields.op, 1, fields.hlen, 0, 0, 0, 0, 1, 0, 0])?;
     put(&mut bytes, fields.flags)?;
     put(&mut bytes, fields.ciaddr)?;
@@ -54,7 +66,11 @@ fn message(alloc: Global, fields: &Fields) -> Result<Vec<u8>, Fail> {
 }
 
 // The bytes of the reply to that message with these options, End, and zeros up to 300 bytes.
-fn reply(alloc: Global, fields: &Fields, options: &'static str) -> Result<Vec<u8>, Fail> {
+pub(crate) fn reply(
+    alloc: Global,
+    fields: &Fields,
+    options: &'static str,
+) -> Result<Vec<u8>, Fail> {
     let reply = Fields {
         op: 2,
         options,

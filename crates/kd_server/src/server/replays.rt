@@ -1,0 +1,211 @@
+use super::*;
+use crate::doubles::{Giving, Keeping};
+use kd_options::MessageType;
+use std::test::Fail;
+
+// What a replay of this input answers, and what it leaves written. The source gives at most so many bytes a
+// call, and fails behind them or ends; the sink takes as many a call, up to a limit at which it fails.
+#[derive(Clone, Copy)]
+struct Case {
+    input: &'static str,
+    step: usize,
+    source_fails: bool,
+    sink_limit: usize,
+    result: Result<u64, ReplayFault>,
+    output: &'static str,
+}
+
+const WHOLE: Case = Case {
+    input: "",
+    step: 100_000,
+    source_fails: false,
+    sink_limit: 100_000,
+    result: Ok(0),
+    output: "",
+};
+
+const CASES: [Case; 13] = [
+    WHOLE,
+    Case {
+        input: "5 \n",
+        result: Ok(1),
+        output: "5 quiet 1 Unreadable\n",
+        ..WHOLE
+    },
+    Case {
+        input: "5 \n6 00",
+        result: Ok(2),
+        output: "5 quiet 1 Unreadable\n6 quiet 1 Unreadable\n",
+        ..WHOLE
+    },
+    Case {
+        input: "5 \n6 00",
+        step: 1,
+        result: Ok(2),
+        output: "5 quiet 1 Unreadable\n6 quiet 1 Unreadable\n",
+        ..WHOLE
+    },
+    Case {
+        input: "5 0g",
+        result: Err(ReplayFault::BadLine(1)),
+        ..WHOLE
+    },
+    Case {
+        input: "5 \n\n6 00",
+        result: Err(ReplayFault::BadLine(2)),
+        output: "5 quiet 1 Unreadable\n",
+        ..WHOLE
+    },
+    Case {
+        input: "5 \n5 00\r\n6 \n",
+        result: Err(ReplayFault::BadLine(2)),
+        output: "5 quiet 1 Unreadable\n",
+        ..WHOLE
+    },
+    Case {
+        input: "1099511627775 \n1099511627776 \n",
+        result: Err(ReplayFault::Serve(ServeFault::MomentTooLarge)),
+        output: "1099511627775 quiet 1 Unreadable\n",
+        ..WHOLE
+    },
+    Case {
+        input: "5 \n6 ",
+        source_fails: true,
+        result: Err(ReplayFault::Read),
+        output: "5 quiet 1 Unreadable\n",
+        ..WHOLE
+    },
+    Case {
+        source_fails: true,
+        result: Err(ReplayFault::Read),
+        ..WHOLE
+    },
+    Case {
+        input: "5 \n",
+        sink_limit: 3,
+        result: Err(ReplayFault::Write),
+        output: "5 q",
+        ..WHOLE
+    },
+    Case {
+        input: "5 \n",
+        step: 1,
+        sink_limit: 3,
+        result: Err(ReplayFault::Write),
+        output: "5 q",
+        ..WHOLE
+    },
+    Case {
+        input: "5 \n6 \n",
+        sink_limit: 21,
+        result: Err(ReplayFault::Write),
+        output: "5 quiet 1 Unreadable\n",
+        ..WHOLE
+    },
+];
+
+#[test]
+fn a_replay_writes_a_line_for_each_event(rt: HostRuntime) -> Result<(), Fail> {
+    for case in CASES {
+        let mut source = Giving::new(case.input.as_bytes(), case.step, case.source_fails);
+        let mut sink = Keeping::new(rt.alloc(), case.step.max(1), case.sink_limit);
+        let mut server = Server::builtin(rt.alloc(), tests::PORTS);
+        let result = replay(rt.alloc(), &mut source, &mut sink, &mut server);
+        assert_eq!(rt; result, case.result, "{}", case.input);
+        assert!(rt; sink.as_slice() == case.output.as_bytes(), "{}", case.input);
+    }
+    Ok(())
+}
+
+// A message that is not served ends the list, and nothing is written for it.
+#[test]
+fn an_unsupported_message_ends_a_replay(rt: HostRuntime) -> Result<(), Fail> {
+    let discover = tests::message(rt.alloc(), &tests::DISCOVER)?;
+    let hex = hex::encode(rt.alloc(), discover.as_slice())?;
+    let input = format!(in rt.alloc(); "1 \n2 {hex}\n3 \n")?;
+    let mut source = Giving::new(input.as_bytes(), 64, false);
+    let mut sink = Keeping::new(rt.alloc(), 64, 100_000);
+    let mut server = Server::builtin(rt.alloc(), tests::PORTS);
+    let result = replay(rt.alloc(), &mut source, &mut sink, &mut server);
+    let fault = ServeFault::Unsupported(MessageType::Discover);
+    assert_eq!(rt; result, Err(ReplayFault::Serve(fault)));
+    assert!(rt; sink.as_slice() == b"1 quiet 1 Unreadable\n".as_slice());
+    let text = format!(in rt.alloc(); "{}", ReplayFault::Serve(fault))?;
+    assert_eq!(rt; text.as_str(), "Serve Unsupported 1");
+    Ok(())
+}
+
+// An INFORM, then one whose client does not say its address.
+#[test]
+fn an_inform_is_a_line_and_its_reply_another(rt: HostRuntime) -> Result<(), Fail> {
+    let inform = tests::message(rt.alloc(), &tests::INFORM)?;
+    let nameless = tests::message(rt.alloc(), &tests::NAMELESS)?;
+    let reply = tests::reply(
+        rt.alloc(),
+        &tests::INFORM,
+        "350105_3604c0000201_0104ffffff00_ff",
+    )?;
+    let input = format!(in rt.alloc();
+        "1000 {}\n1000 {}\n",
+        hex::encode(rt.alloc(), inform.as_slice())?,
+        hex::encode_upper(rt.alloc(), nameless.as_slice())?
+    )?;
+    let output = format!(in rt.alloc();
+        "1000 reply unicast 192.0.2.77:68 {}\n1000 quiet 10 NoCiaddr\n",
+        hex::encode(rt.alloc(), reply.as_slice())?
+    )?;
+    let mut source = Giving::new(input.as_bytes(), 100, false);
+    let mut sink = Keeping::new(rt.alloc(), 100, 100_000);
+    let mut server = Server::builtin(rt.alloc(), tests::PORTS);
+    let result = replay(rt.alloc(), &mut source, &mut sink, &mut server);
+    assert_eq!(rt; result, Ok(2));
+    assert!(rt; sink.as_slice() == output.as_bytes());
+    Ok(())
+}
+
+// A line of 131,072 bytes is read, and one of a byte more is not.
+#[test]
+fn a_line_may_be_long(rt: HostRuntime) -> Result<(), Fail> {
+    for (len, want) in [(131_072, Ok(1)), (131_073, Err(ReplayFault::BadLine(1)))] {
+        let mut input = Vec::from_slice(rt.alloc(), b"5 ")?;
+        if len % 2 == 1 {
+            input.insert(0, b'5')?;
+        }
+        input.resize(len, b'0')?;
+        let mut source = Giving::new(input.as_slice(), 50_000, false);
+        let mut sink = Keeping::new(rt.alloc(), 100, 100_000);
+        let mut server = Server::builtin(rt.alloc(), tests::PORTS);
+        let result = replay(rt.alloc(), &mut source, &mut sink, &mut server);
+        assert_eq!(rt; result, want, "{len} bytes");
+    }
+    Ok(())
+}
+
+// Events that are run give what they give one by one; a fault ends the list, and nothing is left out.
+#[test]
+fn a_run_ends_at_the_first_fault(rt: HostRuntime) -> Result<(), Fail> {
+    let inform = tests::message(rt.alloc(), &tests::INFORM)?;
+    let mut events = Vec::new(rt.alloc());
+    for (moment, bytes) in [(1, inform), (2, Vec::new(rt.alloc()))] {
+        events.push(Event {
+            moment,
+            bytes: Bytes::own(bytes),
+        })?;
+    }
+    let mut server = Server::builtin(rt.alloc(), tests::PORTS);
+    let (list, fault) = server.run(&events);
+    assert_eq!(rt; (list.len(), fault), (2, None));
+    assert!(rt; matches!(list[0].response, Response::Reply(..)));
+    assert!(rt; matches!(list[1].response, Response::Quiet(Reason::Unreadable)));
+    events.push(Event {
+        moment: 1 << 40,
+        bytes: Bytes::own(Vec::new(rt.alloc())),
+    })?;
+    events.push(Event {
+        moment: 3,
+        bytes: Bytes::own(Vec::new(rt.alloc())),
+    })?;
+    let (list, fault) = server.run(&events);
+    assert_eq!(rt; (list.len(), fault), (2, Some(ServeFault::MomentTooLarge)));
+    Ok(())
+}
