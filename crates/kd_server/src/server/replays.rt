@@ -104,13 +104,25 @@ const CASES: [Case; 13] = [
     },
 ];
 
+// The replay's answer, and the sink behind it.
+fn replayed(
+    alloc: Global,
+    input: &str,
+    ends: (usize, bool, usize),
+) -> (Result<u64, ReplayFault>, Keeping) {
+    let (step, source_fails, sink_limit) = ends;
+    let mut source = Giving::new(input.as_bytes(), step, source_fails);
+    let mut sink = Keeping::new(alloc, step.max(1), sink_limit);
+    let mut server = Server::builtin(alloc, tests::PORTS);
+    let result = replay(alloc, &mut source, &mut sink, &mut server);
+    (result, sink)
+}
+
 #[test]
 fn a_replay_writes_a_line_for_each_event(rt: HostRuntime) -> Result<(), Fail> {
     for case in CASES {
-        let mut source = Giving::new(case.input.as_bytes(), case.step, case.source_fails);
-        let mut sink = Keeping::new(rt.alloc(), case.step.max(1), case.sink_limit);
-        let mut server = Server::builtin(rt.alloc(), tests::PORTS);
-        let result = replay(rt.alloc(), &mut source, &mut sink, &mut server);
+        let ends = (case.step, case.source_fails, case.sink_limit);
+        let (result, sink) = replayed(rt.alloc(), case.input, ends);
         assert_eq!(rt; result, case.result, "{}", case.input);
         assert!(rt; sink.as_slice() == case.output.as_bytes(), "{}", case.input);
     }
@@ -123,10 +135,7 @@ fn an_unsupported_message_ends_a_replay(rt: HostRuntime) -> Result<(), Fail> {
     let discover = tests::message(rt.alloc(), &tests::DISCOVER)?;
     let hex = hex::encode(rt.alloc(), discover.as_slice())?;
     let input = format!(in rt.alloc(); "1 \n2 {hex}\n3 \n")?;
-    let mut source = Giving::new(input.as_bytes(), 64, false);
-    let mut sink = Keeping::new(rt.alloc(), 64, 100_000);
-    let mut server = Server::builtin(rt.alloc(), tests::PORTS);
-    let result = replay(rt.alloc(), &mut source, &mut sink, &mut server);
+    let (result, sink) = replayed(rt.alloc(), input.as_str(), (64, false, 100_000));
     let fault = ServeFault::Unsupported(MessageType::Discover);
     assert_eq!(rt; result, Err(ReplayFault::Serve(fault)));
     assert!(rt; sink.as_slice() == b"1 quiet 1 Unreadable\n".as_slice());
@@ -154,10 +163,7 @@ fn an_inform_is_a_line_and_its_reply_another(rt: HostRuntime) -> Result<(), Fail
         "1000 reply unicast 192.0.2.77:68 {}\n1000 quiet 10 NoCiaddr\n",
         hex::encode(rt.alloc(), reply.as_slice())?
     )?;
-    let mut source = Giving::new(input.as_bytes(), 100, false);
-    let mut sink = Keeping::new(rt.alloc(), 100, 100_000);
-    let mut server = Server::builtin(rt.alloc(), tests::PORTS);
-    let result = replay(rt.alloc(), &mut source, &mut sink, &mut server);
+    let (result, sink) = replayed(rt.alloc(), input.as_str(), (100, false, 100_000));
     assert_eq!(rt; result, Ok(2));
     assert!(rt; sink.as_slice() == output.as_bytes());
     Ok(())
@@ -167,15 +173,10 @@ fn an_inform_is_a_line_and_its_reply_another(rt: HostRuntime) -> Result<(), Fail
 #[test]
 fn a_line_may_be_long(rt: HostRuntime) -> Result<(), Fail> {
     for (len, want) in [(131_072, Ok(1)), (131_073, Err(ReplayFault::BadLine(1)))] {
-        let mut input = Vec::from_slice(rt.alloc(), b"5 ")?;
-        if len % 2 == 1 {
-            input.insert(0, b'5')?;
-        }
-        input.resize(len, b'0')?;
-        let mut source = Giving::new(input.as_slice(), 50_000, false);
-        let mut sink = Keeping::new(rt.alloc(), 100, 100_000);
-        let mut server = Server::builtin(rt.alloc(), tests::PORTS);
-        let result = replay(rt.alloc(), &mut source, &mut sink, &mut server);
+        let moment = if len % 2 == 1 { "55 " } else { "5 " };
+        let zeros = "0".repeat(rt.alloc(), len - moment.len())?;
+        let input = format!(in rt.alloc(); "{moment}{zeros}")?;
+        let (result, _) = replayed(rt.alloc(), input.as_str(), (50_000, false, 100_000));
         assert_eq!(rt; result, want, "{len} bytes");
     }
     Ok(())
