@@ -39,7 +39,7 @@ fn printed(rt: &HostRuntime) -> Result<Printed, LineFault> {
     }
 }
 
-// The events of standard input, replayed. NOT YET: a mistake on the command line until then.
+// The events of standard input, replayed. To come: until then it is a mistake on the command line.
 fn replayed(_rt: &HostRuntime) -> Result<Printed, LineFault> {
     Err(LineFault::CommandLine)
 }
