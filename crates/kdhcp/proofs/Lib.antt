@@ -1,4 +1,5 @@
 pub mod BareLine
+pub mod Commands
 pub mod Flags
 pub mod Level
 pub mod Lines

@@ -121,10 +121,18 @@ fn replayed(
 #[test]
 fn a_replay_writes_a_line_for_each_event(rt: HostRuntime) -> Result<(), Fail> {
     for case in CASES {
-        let ends = (case.step, case.source_fails, case.sink_limit);
-        let (result, sink) = replayed(rt.alloc(), case.input, ends);
-        assert_eq!(rt; result, case.result, "{}", case.input);
-        assert!(rt; sink.as_slice() == case.output.as_bytes(), "{}", case.input);
+        let Case {
+            input,
+            step,
+            source_fails,
+            sink_limit,
+            result: want,
+            output,
+        } = case;
+        let ends = (step, source_fails, sink_limit);
+        let (result, sink) = replayed(rt.alloc(), input, ends);
+        assert_eq!(rt; result, want, "{input}");
+        assert!(rt; sink.as_slice() == output.as_bytes(), "{input}");
     }
     Ok(())
 }
