@@ -34,8 +34,26 @@ for words in "show abcd" "show 0g" "show -- -a" "--help" "help show" "show" "sho
 done
 echo "program: runs=$all memory=$memory same=$same other=$other"
 
+# A replay writes whole lines of the events before the one that met the refusal, and answers 91.
+all=0 memory=0 same=0 other=0
+lines=examples/replay/informs.lines replies=examples/replay/informs.replies
+asked=$(FAIL_TELL=1 LD_PRELOAD=$room/fail.so crates/kdhcp/out/kdhcp replay 2>&1 >/dev/null <"$lines" | sed -n 's/^asked=//p')
+for n in $(seq 1 "$asked"); do
+    status=0
+    FAIL_AT=$n LD_PRELOAD=$room/fail.so crates/kdhcp/out/kdhcp replay <"$lines" >"$room/out" 2>"$room/err" || status=$?
+    all=$((all + 1))
+    if [ $status = 0 ] && cmp -s "$room/out" "$replies"; then same=$((same + 1))
+    elif [ $status = 1 ] && [ "$(cat "$room/err")" = "fault 91 Memory" ] &&
+        head -n "$(wc -l <"$room/out")" "$replies" | cmp -s - "$room/out"; then memory=$((memory + 1))
+    else
+        other=$((other + 1))
+        echo "refusal $n of a replay: status $status, $(cat "$room/err")"
+    fi
+done
+echo "replay: runs=$all memory=$memory same=$same other=$other"
+
 all=0 passed=0 building=0 second=0 other=0
-for test in kd_options:tests kd_options:reply::tests kdhcp:answer::tests; do
+for test in kd_options:tests kd_options:reply::tests kd_server:server::replays kdhcp:answer::tests; do
     run=(crates/"${test%%:*}"/out/"${test%%:*}"_tests "${test#*:}"::want_of_memory_is_answered_as_such)
     for n in $(seq 1 "$(asked_by "${run[@]}")"); do
         all=$((all + 1))

@@ -218,3 +218,41 @@ fn a_run_ends_at_the_first_fault(rt: HostRuntime) -> Result<(), Fail> {
     assert_eq!(rt; (list.len(), fault), (2, Some(ServeFault::MomentTooLarge)));
     Ok(())
 }
+
+// With a refused request for memory a replay, a run and an event answer want of memory, and the same call
+// made again gives what it gives with ample memory.
+#[test]
+fn want_of_memory_is_answered_as_such(rt: HostRuntime) -> Result<(), Fail> {
+    let inform = tests::message(rt.alloc(), &tests::INFORM)?;
+    let hex = hex::encode(rt.alloc(), inform.as_slice())?;
+    let input = format!(in rt.alloc(); "5 \n1000 {hex}\n")?;
+    let mut events = Vec::new(rt.alloc());
+    events.push(Event {
+        moment: 5,
+        bytes: Bytes::own(inform),
+    })?;
+    let mut server = Server::builtin(rt.alloc(), tests::PORTS);
+    let (first, sink) = replayed(rt.alloc(), input.as_str(), (1000, false, 100_000));
+    match first {
+        Err(ReplayFault::Memory) | Err(ReplayFault::Write) => assert!(rt;
+            sink.as_slice().len() <= 21
+        ),
+        other => assert_eq!(rt; other, Ok(2)),
+    }
+    assert_eq!(rt;
+        replayed(rt.alloc(), input.as_str(), (1000, false, 100_000)).0,
+        Ok(2)
+    );
+    let (list, fault) = server.run(&events);
+    assert!(rt; fault == Some(ServeFault::Memory) || fault.is_none());
+    assert_eq!(rt; list.len(), usize::from(fault.is_none()));
+    let (list, fault) = server.run(&events);
+    assert_eq!(rt; (list.len(), fault), (1, None));
+    match server.handle(5, events[0].bytes.as_slice()) {
+        Err(fault) => assert_eq!(rt; fault, ServeFault::Memory),
+        Ok(handled) => assert!(rt; matches!(handled.response, Response::Reply(..))),
+    }
+    let again = server.handle(5, events[0].bytes.as_slice())?;
+    assert!(rt; matches!(again.response, Response::Reply(..)));
+    Ok(())
+}
