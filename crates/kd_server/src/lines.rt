@@ -36,11 +36,8 @@ pub(crate) fn next_line<S: Source>(
         match ahead.take_part(line) {
             Part::Last => return Ok(Found::Line),
             Part::Open => {}
-            Part::None => return Ok(if line.is_empty() {
-                Found::End
-            } else {
-                Found::Line
-            }),
+            Part::None if line.is_empty() => return Ok(Found::End),
+            Part::None => return Ok(Found::Line),
             Part::TooLong => return Ok(Found::TooLong),
         }
     }
