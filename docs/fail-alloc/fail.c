@@ -1,5 +1,7 @@
 // A library to preload: the FAIL_AT-th request for memory is refused. With FAIL_TELL it says at the end
-// how many requests there were.
+// how many requests there were. With SHORT_IO each read and each write moves one byte.
+#define _GNU_SOURCE
+#include <dlfcn.h>
 #include <errno.h>
 #include <stdio.h>
 #include <stdlib.h>
@@ -34,6 +36,22 @@ int posix_memalign(void **out, size_t a, size_t n) {
         return ENOMEM;
     *out = p;
     return 0;
+}
+
+static size_t at_once(size_t n) { return n > 1 && getenv("SHORT_IO") ? 1 : n; }
+
+ssize_t read(int fd, void *bytes, size_t n) {
+    static ssize_t (*next)(int, void *, size_t);
+    if (!next)
+        next = (ssize_t (*)(int, void *, size_t))dlsym(RTLD_NEXT, "read");
+    return next(fd, bytes, at_once(n));
+}
+
+ssize_t write(int fd, const void *bytes, size_t n) {
+    static ssize_t (*next)(int, const void *, size_t);
+    if (!next)
+        next = (ssize_t (*)(int, const void *, size_t))dlsym(RTLD_NEXT, "write");
+    return next(fd, bytes, at_once(n));
 }
 
 __attribute__((destructor)) static void tell(void) {

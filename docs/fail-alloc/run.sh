@@ -52,6 +52,10 @@ for n in $(seq 1 "$asked"); do
 done
 echo "replay: runs=$all memory=$memory same=$same other=$other"
 
+# Reads and writes of one byte each change nothing.
+SHORT_IO=1 LD_PRELOAD=$room/fail.so crates/kdhcp/out/kdhcp replay <"$lines" | cmp - "$replies"
+echo "replay byte by byte: the same"
+
 all=0 passed=0 building=0 second=0 other=0
 for test in kd_options:tests kd_options:reply::tests kd_server:server::replays kdhcp:answer::tests; do
     run=(crates/"${test%%:*}"/out/"${test%%:*}"_tests "${test#*:}"::want_of_memory_is_answered_as_such)
