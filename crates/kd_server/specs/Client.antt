@@ -1,10 +1,9 @@
 -- What a message says of its client (RFC 2131 sections 2 and 4.2, RFC 2132 sections 9.6, 9.8, 9.10 and
 -- 9.14): its type, who the client is, which options it asks for, and how long a reply may be.
-use Rattle.std.specs.Prelude.{ℕ, ◌+◌, ◌-◌, ◌*◌, max, min, Bool, true, ◌||◌, ◌==◌, List, [], ◌∷◌, Option, Some, None, if◌then◌else◌}
+use Rattle.std.specs.Prelude.{ℕ, ◌+◌, ◌-◌, ◌*◌, max, min, Bool, true, ◌||◌, ◌==◌, List, [], ◌∷◌, Option, Some, None}
 use Rattle.std.specs.List.{list_any}
 use Rattle.kd_options.specs.Joined.{value_of}
 use Rattle.kd_options.specs.Message.{Seen, mac_of}
-use Rattle.kd_wire.specs.declared.header.Header.{Header}
 
 -- the first byte of a value, and 0 where there is none
 abbrev pub first_byte : Option (List ℕ) → ℕ

@@ -1,6 +1,6 @@
 -- The reply to a message: its header, whether its options fit, and its text (RFC 2131 sections 4.1 and
 -- 4.3, table 3).
-use Rattle.std.specs.Prelude.{◌≡◌, ℕ, ◌+◌, ◌≤◌, Bool, not, ◌==◌, List, map, replicate, length, nat_le, sum_by, bit_or, if◌then◌else◌}
+use Rattle.std.specs.Prelude.{◌≡◌, ℕ, ◌+◌, Bool, ◌==◌, List, map, replicate, length, nat_le, sum_by, bit_or, if◌then◌else◌}
 use Rattle.kd_options.specs.Reply.{cost_of, reply_text}
 use Rattle.kd_options.specs.declared.item.Item.{Item}
 use Rattle.kd_server.specs.Plan.{ReplyOption, option_in}

@@ -1,6 +1,6 @@
 -- What a server stands at, and what it does with an event: it answers as the history says, over the rules
 -- of `Change`.
-use Rattle.std.specs.Prelude.{◌≡◌, ℕ, ◌^◌, ◌≤◌, ◌<◌}
+use Rattle.std.specs.Prelude.{◌≡◌, ◌^◌, ◌≤◌, ◌<◌}
 use Rattle.kd_options.specs.Message.{Seen, Reads}
 use Rattle.kd_server.specs.Change.{Changes, Table, latest}
 use Rattle.kd_server.specs.Decision.{IsUnserved}
