@@ -17,10 +17,10 @@ mod words;
 use answer::{Printed, answer};
 use kd_server::{Ports, ReplayFault, Server, replay};
 use order::{LineFault, Order};
+use status::{exit_status, replay_status};
 use std::io;
 use std::io::Write;
 use std::process::ExitCode;
-use status::{exit_status, replay_status};
 use streams::{Input, Output};
 
 fn main(rt: HostRuntime) -> io::Result<ExitCode> {

@@ -25,6 +25,7 @@ impl<R: Read + Drop> Input<R> {
 
 impl<R: Read + Drop> Source for Input<R> {
     ghost remaining = { λ s. R.remaining s.reader };
+
     ghost has_failed = { λ s. s.failed };
 
     fn read(&mut self, buf: &mut [u8]) -> Result<usize, EndFailed> {
@@ -62,6 +63,7 @@ impl<W: Write + Drop> Output<W> {
 
 impl<W: Write + Drop> Sink for Output<W> {
     ghost contents = { λ s. W.contents s.writer };
+
     ghost has_failed = { λ s. s.failed };
 
     fn write(&mut self, bytes: &[u8]) -> Result<usize, EndFailed> {
