@@ -60,7 +60,7 @@ impl Server {
     ///
     /// `MomentTooLarge` where the moment is not below 2^40, `Unsupported` where the datagram is a client's
     /// message of another type than INFORM, and `Memory`. Nothing is changed then.
-    #[tactic(auto, using(crate::proofs::Fitting::line_fits))]
+    #[tactic(auto, using(crate::proofs::Fitting::handled_fits))]
     pub fn handle(&mut self, moment: u64, bytes: &[u8]) -> Result<Handled, ServeFault>
         ensures handled { IfOk result (λ handled.
             Gives self.old (record { moment = moment; bytes = bytes.now }) handled self.new) }
