@@ -4,4 +4,5 @@ pub mod Lexical
 pub mod Names
 pub mod Grammar
 pub mod Faults
+pub mod Reading
 pub mod View
