@@ -1,2 +1,4 @@
 pub mod Options
 pub mod Sound
+pub mod Tokens
+pub mod Readings

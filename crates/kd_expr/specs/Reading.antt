@@ -135,6 +135,10 @@ member_at deeper at = seq (sign 40) (λ _. seq deeper.name (λ s. seq (sign 41) 
 unfoldable pub one_operand : Deeper → Reader Tree
 one_operand deeper = seq (sign 40) (λ _. seq deeper.any (λ a. seq (sign 41) (λ _. done a)))
 
+-- a group
+unfoldable pub group_at : Deeper → Reader Tree
+group_at deeper = seq (sign 40) (λ at. seq deeper.any (λ a. seq (sign 41) (λ _. done (Group at a))))
+
 -- two operands in brackets
 unfoldable pub two_operands : Deeper → Reader (Tree × Tree)
 two_operands deeper =
@@ -184,7 +188,7 @@ primary_at deeper (AddressAt at bytes ∷ ts) = Some (Literal at bytes, ts)
 primary_at deeper (NumberAt at n ∷ ts) = if nat_lt n (2 ^ 32) then Some (Int at n, ts) else None
 primary_at deeper (MinusAt at n ∷ ts) = None
 primary_at deeper (NameAt at name ∷ ts) = named_at deeper at name ts
-primary_at deeper (SignAt at b ∷ ts) = seq (one_operand deeper) (λ a. done (Group at a)) (SignAt at b ∷ ts)
+primary_at deeper (SignAt at b ∷ ts) = group_at deeper (SignAt at b ∷ ts)
 primary_at deeper (BadAt at ∷ ts) = None
 
 -- at most k further operands behind the first, grouped to the left
