@@ -2,3 +2,5 @@ pub mod Options
 pub mod Sound
 pub mod Tokens
 pub mod Readings
+pub mod Complete
+pub mod Productions
