@@ -4,3 +4,4 @@ pub mod Tokens
 pub mod Readings
 pub mod Complete
 pub mod Productions
+pub mod Numbers

@@ -1,6 +1,6 @@
 -- The grammar of class tests (Kea Administrator Reference Manual, chapter Client Classification): which
 -- tokens spell which tree. `or`, `and` and `+` group to the left; ranges and the nesting are part of it.
-use Rattle.std.specs.Prelude.{◌≡◌, ℕ, zero, suc, ◌+◌, ◌*◌, ◌-◌, ◌%◌, ◌^◌, ◌<◌, ◌≤◌, ℤ, pos, negsuc, ◌==◌, nat_le, List, [], ◌∷◌, ◌++◌, length, codes, Option, Some, None, if◌then◌else◌}
+use Rattle.std.specs.Prelude.{◌≡◌, ℕ, zero, suc, ◌+◌, ◌*◌, ◌-◌, ◌%◌, ◌^◌, ◌<◌, ◌≤◌, ℤ, pos, negsuc, ◌==◌, ◌&&◌, nat_le, List, [], ◌∷◌, ◌++◌, length, codes, Option, Some, None, if◌then◌else◌}
 use Rattle.kd_expr.specs.Lexical.{Lexeme, StringAt, HexAt, AddressAt, NumberAt, MinusAt, NameAt, SignAt, Scans}
 use Rattle.kd_expr.specs.Names.{code_named, field_named}
 use Rattle.kd_expr.specs.Tree.{Tree, Literal, Int, OptionValue, RelayValue, FieldValue, OptionExists, RelayExists, Member, Equal, Not, And, Or, Group, Concat, IfElse, Substring, HexString, Lower, Upper, IntToText, at_of}
@@ -39,9 +39,13 @@ LeftAt at = SignAt at 91
 abbrev pub RightAt : ℕ → Lexeme
 RightAt at = SignAt at 93
 
--- the value of a hexadecimal digit
+-- the value of a hexadecimal digit of either case, and 0 for another byte
 abbrev pub hex_digit : ℕ → ℕ
-hex_digit d = if nat_le 97 d then d - 87 else if nat_le 65 d then d - 55 else d - 48
+hex_digit d =
+    if nat_le 48 d && nat_le d 57 then d - 48
+    else if nat_le 65 d && nat_le d 70 then d - 55
+    else if nat_le 97 d && nat_le d 102 then d - 87
+    else 0
 
 -- the bytes of an even number of hexadecimal digits, two a byte
 abbrev pub hex_pairs : List ℕ → List ℕ

@@ -5,4 +5,5 @@ pub mod Names
 pub mod Grammar
 pub mod Faults
 pub mod Reading
+pub mod Gives
 pub mod View

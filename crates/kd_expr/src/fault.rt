@@ -3,6 +3,7 @@ ghost use Rattle.kd_expr.specs.Faults.{expr_fault_number, type_fault_number};
 ghost use Rattle.kd_expr.specs.declared.fault.ExprFault.TheVariants as faults;
 ghost use Rattle.kd_expr.specs.declared.fault.SyntaxFault.TheVariants as inner;
 
+use crate::node::Node;
 use std::alloc::{AllocError, AllocFailed};
 use thiserror::Error;
 
@@ -93,6 +94,16 @@ impl From<AllocError> for SyntaxFault {
     ghost from_gives = { λ _ e. e ≡ Memory };
 
     fn from(_error: AllocError) -> SyntaxFault {
+        SyntaxFault::Memory
+    }
+}
+
+impl From<AllocFailed<Node>> for SyntaxFault {
+    ghost use Rattle.kd_expr.specs.declared.fault.SyntaxFault.TheVariants.{Memory};
+
+    ghost from_gives = { λ _ e. e ≡ Memory };
+
+    fn from(_error: AllocFailed<Node>) -> SyntaxFault {
         SyntaxFault::Memory
     }
 }

@@ -10,7 +10,13 @@
 #![tactic(auto)]
 
 mod fault;
+mod forms;
+mod literal;
+mod names;
 mod node;
+mod number;
+mod parser;
+mod take;
 mod token;
 
 pub use fault::{ExprFault, TypeFault};
