@@ -5,3 +5,5 @@ pub mod Readings
 pub mod Complete
 pub mod Productions
 pub mod Numbers
+pub mod Spans
+pub mod Addresses

@@ -5,5 +5,6 @@ pub mod Names
 pub mod Grammar
 pub mod Faults
 pub mod Reading
+pub mod Lexing
 pub mod Gives
 pub mod View

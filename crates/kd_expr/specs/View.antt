@@ -1,5 +1,5 @@
 -- What contracts see of nodes and tokens: the tree and the lexemes without memory.
-use Rattle.std.specs.Prelude.{ℕ, List, map}
+use Rattle.std.specs.Prelude.{ℕ, List, [], ◌∷◌, map}
 use Rattle.kd_expr.specs.Address.{decimal}
 use Rattle.kd_expr.specs.Lexical.{Lexeme, StringAt, HexAt, AddressAt, NumberAt, MinusAt, NameAt, SignAt, BadAt}
 use Rattle.kd_expr.specs.Tree.{Tree, Literal, Int, OptionValue, RelayValue, FieldValue, OptionExists, RelayExists, Member, Equal, Not, And, Or, Group, Concat, IfElse, Substring, HexString, Lower, Upper, IntToText}
@@ -36,7 +36,7 @@ tree_of (nodes.IntToText' at p a) = IntToText at (tree_of a)
 abbrev pub lexeme_at : ℕ → Kind → Lexeme
 lexeme_at at (kinds.Text bytes) = StringAt at bytes.now
 lexeme_at at (kinds.Hex digits) = HexAt at digits.now
-lexeme_at at (kinds.Address bytes) = AddressAt at bytes
+lexeme_at at (kinds.Address a b c d) = AddressAt at (a ∷ b ∷ c ∷ d ∷ [])
 lexeme_at at (kinds.Number digits) = NumberAt at (decimal digits.now)
 lexeme_at at (kinds.Minus digits) = MinusAt at (decimal digits.now)
 lexeme_at at (kinds.Name name) = NameAt at name.now

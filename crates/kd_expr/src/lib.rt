@@ -9,8 +9,11 @@
 //! (`specs/Tree.antt`, `specs/View.antt`).
 #![tactic(auto)]
 
+mod address;
+mod class;
 mod fault;
 mod forms;
+mod lexer;
 mod literal;
 mod names;
 mod node;
@@ -19,5 +22,6 @@ mod parser;
 mod take;
 mod token;
 
+pub use address::read_address;
 pub use fault::{ExprFault, TypeFault};
 pub use node::{Field, Node};

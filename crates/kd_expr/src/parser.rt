@@ -160,8 +160,8 @@ fn primary_of<'t, 'a>(
             let bytes = hex_bytes_of(source.alloc, digits)?;
             Ok((Node::Literal { at, bytes }, rest))
         }
-        Kind::Address(address) => {
-            let bytes = bytes_of(source.alloc, &address)?;
+        Kind::Address(a, b, c, d) => {
+            let bytes = bytes_of(source.alloc, &[a, b, c, d])?;
             Ok((Node::Literal { at, bytes }, rest))
         }
         Kind::Number(digits) => match number(digits) {

@@ -13,7 +13,7 @@ pub(crate) enum Kind<'a> {
     // The digits after `0x`.
     Hex(&'a [u8]),
     // The four bytes of an IPv4 address.
-    Address([u8; 4]),
+    Address(u8, u8, u8, u8),
     // Decimal digits.
     Number(&'a [u8]),
     // Decimal digits after a minus.
