@@ -7,3 +7,7 @@ pub mod Productions
 pub mod Numbers
 pub mod Spans
 pub mod Addresses
+pub mod Lexed
+pub mod Words
+pub mod Texts
+pub mod Count

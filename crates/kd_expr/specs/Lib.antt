@@ -6,5 +6,7 @@ pub mod Grammar
 pub mod Faults
 pub mod Reading
 pub mod Lexing
+pub mod Size
+pub mod Typing
 pub mod Gives
 pub mod View

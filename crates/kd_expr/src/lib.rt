@@ -11,6 +11,7 @@
 
 mod address;
 mod class;
+mod expr;
 mod fault;
 mod forms;
 mod lexer;
@@ -19,9 +20,14 @@ mod names;
 mod node;
 mod number;
 mod parser;
+mod reader;
 mod take;
 mod token;
+mod typing;
 
 pub use address::read_address;
+pub use expr::{Expr, Typed, type_of};
 pub use fault::{ExprFault, TypeFault};
 pub use node::{Field, Node};
+pub use reader::read;
+pub use typing::ValueType;
