@@ -11,3 +11,4 @@ pub mod Lexed
 pub mod Words
 pub mod Texts
 pub mod Count
+pub mod TextRead

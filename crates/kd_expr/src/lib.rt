@@ -22,6 +22,8 @@ mod number;
 mod parser;
 mod reader;
 mod take;
+#[cfg(test)]
+mod tests;
 mod token;
 mod typing;
 
