@@ -48,17 +48,17 @@ pub part_complete : (digits : List ℕ) (value : ℕ) (rest : List ℕ) → IsPa
 unfolding part
 part_complete digits value rest h e =
     rw (front_word is_digit digits rest h.digits e, behind_word is_digit digits rest h.digits e, le-leb 1 (length digits) h.some, le-leb (length digits) 3 h.few, le-leb (decimal digits) 255 (subst (λ v. v ≤ 255) h.is h.small))
-      (ap (λ v. Some (v, rest)) (sym h.is))
+    (ap (λ v. Some (v, rest)) (sym h.is))
 
 pub next_sound : (text : List ℕ) (value : ℕ) (rest : List ℕ) → ◌≡◌ {A = Option (ℕ × List ℕ)} (next_part text) (Some (value, rest)) → (tail : List ℕ) × (text ≡ 46 ∷ tail) × ReadsPart tail value rest
 unfolding next_part
 next_sound [] value rest e = none_is {a = (value, rest)} e
 next_sound (b ∷ text) value rest e =
     let at : (k : Bool) → (b == 46) ≡ k → ◌≡◌ {A = Option (ℕ × List ℕ)} (if k then part text else None) (Some (value, rest)) → (tail : List ℕ) × (b ∷ text ≡ 46 ∷ tail) × ReadsPart tail value rest
-          = λ k. elim k as (λ k. (b == 46) ≡ k → ◌≡◌ {A = Option (ℕ × List ℕ)} (if k then part text else None) (Some (value, rest)) → (tail : List ℕ) × (b ∷ text ≡ 46 ∷ tail) × ReadsPart tail value rest) [
-            true ↦ λ is h. (text, ap (λ v. v ∷ text) (eqb-true b 46 is), part_sound text value rest h)
-          | false ↦ λ _ h. none_is {a = (value, rest)} h
-          ] in
+    = λ k. elim k as (λ k. (b == 46) ≡ k → ◌≡◌ {A = Option (ℕ × List ℕ)} (if k then part text else None) (Some (value, rest)) → (tail : List ℕ) × (b ∷ text ≡ 46 ∷ tail) × ReadsPart tail value rest) [
+      | true ↦ λ is h. (text, ap (λ v. v ∷ text) (eqb-true b 46 is), part_sound text value rest h)
+      | false ↦ λ _ h. none_is {a = (value, rest)} h
+    ] in
     at (b == 46) refl e
 
 pub nothing_left : (rest : List ℕ) → is_empty rest ≡ true → rest ≡ []
@@ -86,7 +86,7 @@ address_sound text a e =
     let r = next_sound x.first.1 y.first.0 y.first.1 y.is in
     let s = next_sound y.first.1 z.first.0 z.first.1 z.is in
     subst (λ v. IsAddress text v) last.1
-      (address_from p.fits q.2.fits r.2.fits s.2.fits p.is q.1 q.2.is r.1 r.2.is s.1 (s.2.is ∙ ap (λ v. s.2.digits ++ v) (nothing_left z.first.1 last.0)))
+    (address_from p.fits q.2.fits r.2.fits s.2.fits p.is q.1 q.2.is r.1 r.2.is s.1 (s.2.is ∙ ap (λ v. s.2.digits ++ v) (nothing_left z.first.1 last.0)))
 
 pub next_complete : (digits : List ℕ) (value : ℕ) (rest : List ℕ) → IsPart digits value → Ends is_digit rest → ◌≡◌ {A = Option (ℕ × List ℕ)} (next_part (46 ∷ (digits ++ rest))) (Some (value, rest))
 unfolding next_part

@@ -126,4 +126,3 @@ substring_reads at o c d e {us} {x} {y} h i j rest =
 pub class_reads : (n at o k c : ℕ) (name rest : _) → 1 ≤ length name → length name ≤ 255 → Answers (member_at (reading.below (suc n)) at (SignAt o 40 ∷ StringAt k name ∷ SignAt c 41 ∷ rest)) (Member at name) rest
 unfolding member_at reading.below
 class_reads n at o k c name rest least most = rw (le-leb 1 (length name) least, le-leb (length name) 255 most) refl
-

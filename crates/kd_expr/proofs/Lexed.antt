@@ -71,24 +71,24 @@ hex_made at x (d ∷ ds) rest p some each e = hex_word p each e
 other_sound : (at : ℕ) (run rest : List ℕ) (x : Lexeme) → Ends in_run rest → or_else (hex_digits run) (λ digits. Some (HexAt at digits)) (and_then (address_of run) (λ a. Some (AddressAt at a))) ≡ Some x → Word at run rest x
 other_sound at run rest x h e =
     let there : (o : Option (List ℕ)) → hex_digits run ≡ o → or_else o (λ digits. Some (HexAt at digits)) (and_then (address_of run) (λ a. Some (AddressAt at a))) ≡ Some x → Word at run rest x
-          = λ o. elim o as (λ o. hex_digits run ≡ o → or_else o (λ digits. Some (HexAt at digits)) (and_then (address_of run) (λ a. Some (AddressAt at a))) ≡ Some x → Word at run rest x) [
-            None ↦ λ _ k.
-              let c = came_from (address_of run) (λ a. Some (AddressAt at a)) x k in
-              subst (λ v. Word at run rest v) (some_is c.gives) (address_word (address_sound run c.first c.is) h)
-          | Some digits ↦ λ is k.
-              let hex = hex_sound run digits is in
-              subst (λ v. Word at run rest v) (some_is k) (subst (λ v. Word at v rest (HexAt at digits)) (sym hex.is) (hex_made at hex.x digits rest hex.is_prefix hex.some hex.each h))
-          ] in
+    = λ o. elim o as (λ o. hex_digits run ≡ o → or_else o (λ digits. Some (HexAt at digits)) (and_then (address_of run) (λ a. Some (AddressAt at a))) ≡ Some x → Word at run rest x) [
+      | None ↦ λ _ k.
+          let c = came_from (address_of run) (λ a. Some (AddressAt at a)) x k in
+          subst (λ v. Word at run rest v) (some_is c.gives) (address_word (address_sound run c.first c.is) h)
+      | Some digits ↦ λ is k.
+          let hex = hex_sound run digits is in
+          subst (λ v. Word at run rest v) (some_is k) (subst (λ v. Word at v rest (HexAt at digits)) (sym hex.is) (hex_made at hex.x digits rest hex.is_prefix hex.some hex.each h))
+    ] in
     there (hex_digits run) refl e
 
 run_token_sound : (at d : ℕ) (ds rest : List ℕ) (x : Lexeme) → Ends in_run rest → run_token at (d ∷ ds) ≡ Some x → Word at (d ∷ ds) rest x
 unfolding run_token
 run_token_sound at d ds rest x h e =
     let there : (k : Bool) → all_pass is_digit (d ∷ ds) ≡ k → (if k then Some (NumberAt at (decimal (d ∷ ds))) else or_else (hex_digits (d ∷ ds)) (λ digits. Some (HexAt at digits)) (and_then (address_of (d ∷ ds)) (λ a. Some (AddressAt at a)))) ≡ Some x → Word at (d ∷ ds) rest x
-          = λ k. elim k as (λ k. all_pass is_digit (d ∷ ds) ≡ k → (if k then Some (NumberAt at (decimal (d ∷ ds))) else or_else (hex_digits (d ∷ ds)) (λ digits. Some (HexAt at digits)) (and_then (address_of (d ∷ ds)) (λ a. Some (AddressAt at a)))) ≡ Some x → Word at (d ∷ ds) rest x) [
-            true ↦ λ is k. subst (λ v. Word at (d ∷ ds) rest v) (some_is k) (number_word (all_pass_is is_digit (d ∷ ds) is) h)
-          | false ↦ λ _ k. other_sound at (d ∷ ds) rest x h k
-          ] in
+    = λ k. elim k as (λ k. all_pass is_digit (d ∷ ds) ≡ k → (if k then Some (NumberAt at (decimal (d ∷ ds))) else or_else (hex_digits (d ∷ ds)) (λ digits. Some (HexAt at digits)) (and_then (address_of (d ∷ ds)) (λ a. Some (AddressAt at a)))) ≡ Some x → Word at (d ∷ ds) rest x) [
+      | true ↦ λ is k. subst (λ v. Word at (d ∷ ds) rest v) (some_is k) (number_word (all_pass_is is_digit (d ∷ ds) is) h)
+      | false ↦ λ _ k. other_sound at (d ∷ ds) rest x h k
+    ] in
     there (all_pass is_digit (d ∷ ds)) refl e
 
 -- a run at the front of bytes that begin with a digit
@@ -103,7 +103,7 @@ run_sound at b bytes x rest digit e =
       word = front_of in_run (b ∷ bytes);
       is = front_behind in_run (b ∷ bytes) ∙ ap (λ v. front_of in_run (b ∷ bytes) ++ v) both.1;
       spelled = subst (λ v. Word at v rest x) (sym front_is)
-        (run_token_sound at b (front_of in_run bytes) rest x (subst (λ v. Ends in_run v) both.1 (ends_behind in_run (b ∷ bytes))) token_is);
+          (run_token_sound at b (front_of in_run bytes) rest x (subst (λ v. Ends in_run v) both.1 (ends_behind in_run (b ∷ bytes))) token_is);
     }
 
 minus_made : (at : ℕ) (run rest : List ℕ) → 1 ≤ length run → Each is_digit run → Ends in_run rest → Word at (45 ∷ run) rest (MinusAt at (decimal run))
@@ -121,7 +121,7 @@ minus_sound at bytes x rest e =
       word = 45 ∷ front_of in_run bytes;
       is = ap (λ v. 45 ∷ v) (front_behind in_run bytes ∙ ap (λ v. front_of in_run bytes ++ v) both.1);
       spelled = subst (λ v. Word at (45 ∷ front_of in_run bytes) rest v) (token.1 ∙ both.0)
-        (minus_made at (front_of in_run bytes) rest (leb-true 1 (length (front_of in_run bytes)) tests.0) (all_pass_is is_digit (front_of in_run bytes) tests.1) (subst (λ v. Ends in_run v) both.1 (ends_behind in_run bytes)));
+          (minus_made at (front_of in_run bytes) rest (leb-true 1 (length (front_of in_run bytes)) tests.0) (all_pass_is is_digit (front_of in_run bytes) tests.1) (subst (λ v. Ends in_run v) both.1 (ends_behind in_run bytes)));
     }
 
 pub letter_in_name : (b : ℕ) → is_letter b ≡ true → in_name b ≡ true
@@ -136,7 +136,7 @@ name_sound at b bytes x rest letter e =
       word = front_of in_name (b ∷ bytes);
       is = front_behind in_name (b ∷ bytes) ∙ ap (λ v. front_of in_name (b ∷ bytes) ++ v) both.1;
       spelled = subst (λ v. Word at (front_of in_name (b ∷ bytes)) rest v) both.0
-        (subst (λ v. Word at v rest (NameAt at v)) (sym front_is)
+          (subst (λ v. Word at v rest (NameAt at v)) (sym front_is)
           (name_word letter (each_front in_name bytes) (subst (λ v. Ends in_name v) both.1 (ends_behind in_name (b ∷ bytes)))));
     }
 
@@ -175,8 +175,8 @@ unfolding cut
 cut_sound at [] x rest e = none_is {a = (x, rest)} e
 cut_sound at (b ∷ bytes) x rest e =
     by_byte at b 39 bytes x rest _ _ (string_sound at bytes x rest)
-      (by_test at b bytes x rest (is_digit b) _ _ (run_sound at b bytes x rest)
-      (by_byte at b 45 bytes x rest _ _ (minus_sound at bytes x rest)
-      (by_test at b bytes x rest (is_letter b) _ _ (name_sound at b bytes x rest)
-      (by_byte at b 61 bytes x rest _ _ (equal_sound at bytes x rest)
-      (sign_sound at b bytes x rest))))) e
+    (by_test at b bytes x rest (is_digit b) _ _ (run_sound at b bytes x rest)
+    (by_byte at b 45 bytes x rest _ _ (minus_sound at bytes x rest)
+    (by_test at b bytes x rest (is_letter b) _ _ (name_sound at b bytes x rest)
+    (by_byte at b 61 bytes x rest _ _ (equal_sound at bytes x rest)
+    (sign_sound at b bytes x rest))))) e

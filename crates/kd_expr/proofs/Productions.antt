@@ -8,7 +8,6 @@ use Rattle.kd_expr.specs.Reading.{Reader, Deeper, and_then, seq, either, one, do
 use Rattle.kd_expr.specs.Tree.{Tree, Literal, Int, OptionValue, RelayValue, FieldValue, OptionExists, RelayExists, Member, Equal, Not, And, Or, Group, Concat, IfElse, Substring, HexString, Lower, Upper, IntToText, at_of}
 use Rattle.kd_expr.specs.declared.node.Field.{Field}
 use Rattle.kd_expr.specs.declared.node.Field.TheVariants.{Length}
-
 use Rattle.kd_expr.proofs.Complete.{Answers, Refuses, InHand, hand_ends, chain_one, chain_more, StopsCompare, Stops, ReadsAny, Complete, any_complete, group_reads, one_reads, two_read, ifelse_reads, substring_reads, class_reads, code_reads, less_true}
 
 literal_reads : (n at : ℕ) (s : List ℕ) (rest : List Lexeme) → Answers (primary_at (reading.below n) (StringAt at s ∷ rest)) (Literal at s) rest
@@ -118,17 +117,17 @@ negation_below n at ts rest t e = negation_reads (reading.below (suc n)) at ts r
 -- what the grammar allows at a level, its reader gives
 pub complete : {l : Level} {n : ℕ} {us : List Lexeme} {t : Tree} → Spells l n us t → Complete l n us t
 complete (or_one {n = n} {ts = ts} {t = t} s) = record {
-  reads = λ rest stops no_and. or_first n (ts ++ rest) rest t (hand_ends (complete s rest stops) no_and)
+  reads = λ rest stops no_and. or_first n (ts ++ rest) rest t (hand_ends (complete s rest stops) no_and);
 }
 complete (or_more {n = n} o {us = us} {vs = vs} {a = a} {b = b} s r) = record {
   reads = λ rest stops no_and.
-    subst (λ v. InHand (or_at (reading.below n)) (word (codes "or")) (and_at (reading.below n)) or_of v rest (or_of a b)) (sym (append_assoc us (NameAt o (codes "or") ∷ vs) rest))
-      (chain_more (NameAt o (codes "or")) o vs rest ((complete s).reads (NameAt o (codes "or") ∷ (vs ++ rest)) (record { no_plus = refl; no_equal = refl }) refl) refl (hand_ends (complete r rest stops) no_and))
+      subst (λ v. InHand (or_at (reading.below n)) (word (codes "or")) (and_at (reading.below n)) or_of v rest (or_of a b)) (sym (append_assoc us (NameAt o (codes "or") ∷ vs) rest))
+      (chain_more (NameAt o (codes "or")) o vs rest ((complete s).reads (NameAt o (codes "or") ∷ (vs ++ rest)) (record { no_plus = refl; no_equal = refl }) refl) refl (hand_ends (complete r rest stops) no_and));
 }
 complete (and_one {n = n} {ts = ts} {t = t} s) = λ rest stops. and_first n (ts ++ rest) rest t (complete s rest stops)
 complete (and_more {n = n} o {us = us} {vs = vs} {a = a} {b = b} s r) = λ rest stops.
     subst (λ v. InHand (and_at (reading.below n)) (word (codes "and")) (not_at (reading.below n)) and_of v rest (and_of a b)) (sym (append_assoc us (NameAt o (codes "and") ∷ vs) rest))
-      (chain_more (NameAt o (codes "and")) o vs rest (complete s (NameAt o (codes "and") ∷ (vs ++ rest)) (record { no_plus = refl; no_equal = refl })) refl (complete r rest stops))
+    (chain_more (NameAt o (codes "and")) o vs rest (complete s (NameAt o (codes "and") ∷ (vs ++ rest)) (record { no_plus = refl; no_equal = refl })) refl (complete r rest stops))
 complete (not_none {n = n} {ts = ts} {t = t} s) = λ rest stops. let c = complete s rest stops in not_without n (ts ++ rest) rest t c.0 c.1
 complete (negated {n = n} {at = at} {ts = ts} {t = t} s) = λ rest stops. negation_below n at (ts ++ rest) rest t (complete s rest stops)
 complete (compare_one {n = n} {ts = ts} {t = t} s) = λ rest stops. let c = complete s rest in (compare_alone n (ts ++ rest) rest t (hand_ends c.0 stops.no_plus) stops, c.1)
@@ -142,7 +141,7 @@ complete (sum_one {n = n} {ts = ts} {t = t} s) = λ rest. let c = complete s res
 complete (sum_more {n = n} o {us = us} {vs = vs} {a = a} {b = b} s r) = λ rest.
     let c = complete s (SignAt o 43 ∷ (vs ++ rest)) in (
       subst (λ v. InHand (sum_at (reading.below n)) (sign 43) (primary_at (reading.below n)) sum_of v rest (sum_of a b)) (sym (append_assoc us (SignAt o 43 ∷ vs) rest))
-        (chain_more (SignAt o 43) o vs rest c.0 refl (complete r rest).0),
+          (chain_more (SignAt o 43) o vs rest c.0 refl (complete r rest).0),
       subst (λ v. Refuses (word (codes "not") v)) (sym (append_assoc us (SignAt o 43 ∷ vs) rest)) c.1,
     )
 complete (string {n = n} {at = at} {s = s}) = λ rest. (literal_reads n at s rest, refl)

@@ -51,10 +51,10 @@ Behind m at name us t = Spells primary_level m (NameAt at name ∷ us) t
 name_sound : (P : List ℕ → List Lexeme → Tree → Type 0) (name w : List ℕ) (r s : Reader Tree) → IsSound (P w) r → IsSound (P name) s → IsSound (P name) (if bytes_eq name w then r else s)
 name_sound P name w r s hr hs =
     let at : (k : Bool) → bytes_eq name w ≡ k → IsSound (P name) (if k then r else s)
-          = λ k. elim k as (λ k. bytes_eq name w ≡ k → IsSound (P name) (if k then r else s)) [
-            true ↦ λ is. let F : List ℕ → Type 0 = λ v. IsSound (P v) r in subst F (sym ((bytes_eq-Decides name w).0 is)) hr
-          | false ↦ λ _. hs
-          ] in
+    = λ k. elim k as (λ k. bytes_eq name w ≡ k → IsSound (P name) (if k then r else s)) [
+      | true ↦ λ is. let F : List ℕ → Type 0 = λ v. IsSound (P v) r in subst F (sym ((bytes_eq-Decides name w).0 is)) hr
+      | false ↦ λ _. hs
+    ] in
     at (bytes_eq name w) refl
 
 option_from : (m at : ℕ) (c : ℕ × Bool) (us : List Lexeme) → InBrackets option_code us c → IsSound (λ ws t. Behind m at (codes "option") (us ++ ws) t) (done (if c.1 then OptionExists at c.0 else OptionValue at c.0))
@@ -240,40 +240,40 @@ module _ (m : ℕ) (d : Deeper) (s : DeeperIsSound m d) where
   unfolding sum_at
   sum_sound =
       chain_sound (Spells sum_level m) (Spells primary_level m) (sign_at 43) (primary_at d) sum_of (primary_sound m d s)
-        (λ us a h. sum_one h) (sign_between m 43 sum_level primary_level sum_of (λ o us vs a c p q. sum_more o p q))
+      (λ us a h. sum_one h) (sign_between m 43 sum_level primary_level sum_of (λ o us vs a c p q. sum_more o p q))
 
   compare_sound : IsSound (Spells compare_level m) (compare_at d)
   unfolding compare_at
   compare_sound =
       seq_sound (Spells sum_level m) (Spells compare_level m) (sum_at d) _ sum_sound (λ a us h.
-        either_one_sound (λ ws t. Spells compare_level m (us ++ ws) t) (sign_at 61) _ (done a)
-          (λ x o e. seq_sound (Spells sum_level m) (λ ws t. Spells compare_level m (us ++ x ∷ ws) t) (sum_at d) _ sum_sound (λ b vs r.
-            done_sound (λ ws t. Spells compare_level m (us ++ x ∷ (vs ++ ws)) t) (Equal (at_of a) a b)
-              (subst (λ v. Spells compare_level m (us ++ x ∷ v) (Equal (at_of a) a b)) (sym (append-nil vs))
-              (subst (λ y. Spells compare_level m (us ++ y ∷ vs) (Equal (at_of a) a b)) (sym (sign_is 61 x o e)) (equal o h r)))))
-          (done_sound (λ ws t. Spells compare_level m (us ++ ws) t) a (subst (λ v. Spells compare_level m v a) (sym (append-nil us)) (compare_one h))))
+      either_one_sound (λ ws t. Spells compare_level m (us ++ ws) t) (sign_at 61) _ (done a)
+      (λ x o e. seq_sound (Spells sum_level m) (λ ws t. Spells compare_level m (us ++ x ∷ ws) t) (sum_at d) _ sum_sound (λ b vs r.
+      done_sound (λ ws t. Spells compare_level m (us ++ x ∷ (vs ++ ws)) t) (Equal (at_of a) a b)
+      (subst (λ v. Spells compare_level m (us ++ x ∷ v) (Equal (at_of a) a b)) (sym (append-nil vs))
+      (subst (λ y. Spells compare_level m (us ++ y ∷ vs) (Equal (at_of a) a b)) (sym (sign_is 61 x o e)) (equal o h r)))))
+      (done_sound (λ ws t. Spells compare_level m (us ++ ws) t) a (subst (λ v. Spells compare_level m v a) (sym (append-nil us)) (compare_one h))))
 
   not_sound : IsSound (Spells not_level m) (not_at d)
   unfolding not_at
   not_sound =
       either_one_sound (Spells not_level m) (word_at (codes "not")) _ (compare_at d)
-        (λ x o e. at_front (Spells not_level m) _ (word_is (codes "not") x o e)
-          (seq_sound (Inner not_level m) (λ ws t. Spells not_level m (NameAt o (codes "not") ∷ ws) t) d.operand _ s.operand (λ a us i.
-            done_sound (λ ws t. Spells not_level m (NameAt o (codes "not") ∷ (us ++ ws)) t) (Not o a)
-              (subst (λ v. Spells not_level m (NameAt o (codes "not") ∷ v) (Not o a)) (sym (append-nil us)) (negation_made i)))))
-        (weaker (Spells compare_level m) (Spells not_level m) (compare_at d) (λ us a h. not_none h) compare_sound)
+      (λ x o e. at_front (Spells not_level m) _ (word_is (codes "not") x o e)
+      (seq_sound (Inner not_level m) (λ ws t. Spells not_level m (NameAt o (codes "not") ∷ ws) t) d.operand _ s.operand (λ a us i.
+      done_sound (λ ws t. Spells not_level m (NameAt o (codes "not") ∷ (us ++ ws)) t) (Not o a)
+      (subst (λ v. Spells not_level m (NameAt o (codes "not") ∷ v) (Not o a)) (sym (append-nil us)) (negation_made i)))))
+      (weaker (Spells compare_level m) (Spells not_level m) (compare_at d) (λ us a h. not_none h) compare_sound)
 
   and_sound : IsSound (Spells and_level m) (and_at d)
   unfolding and_at
   and_sound =
       chain_sound (Spells and_level m) (Spells not_level m) (word_at (codes "and")) (not_at d) and_of not_sound
-        (λ us a h. and_one h) (word_between m (codes "and") and_level not_level and_of (λ o us vs a c p q. and_more o p q))
+      (λ us a h. and_one h) (word_between m (codes "and") and_level not_level and_of (λ o us vs a c p q. and_more o p q))
 
   or_sound : IsSound (Spells or_level m) (or_at d)
   unfolding or_at
   or_sound =
       chain_sound (Spells or_level m) (Spells and_level m) (word_at (codes "or")) (and_at d) or_of and_sound
-        (λ us a h. or_one h) (word_between m (codes "or") or_level and_level or_of (λ o us vs a c p q. or_more o p q))
+      (λ us a h. or_one h) (word_between m (codes "or") or_level and_level or_of (λ o us vs a c p q. or_more o p q))
 
 inner_sound : (l : Level) (n : ℕ) (r : Reader Tree) → IsSound (Spells l n) r → IsSound (Inner l (suc n)) r
 inner_sound l n r h = weaker (Spells l n) (Inner l (suc n)) r (λ us t s. inner s) h

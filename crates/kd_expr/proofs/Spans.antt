@@ -9,50 +9,50 @@ pub front_is : (p : ℕ → Bool) (bytes : List ℕ) → take (prefix_len p byte
 front_is p [] = refl
 front_is p (b ∷ bytes) =
     let at : (k : Bool) → take (cond k (1 + prefix_len p bytes) 0) (b ∷ bytes) ≡ (if k then b ∷ front_of p bytes else [])
-          = λ k. elim k as (λ k. take (cond k (1 + prefix_len p bytes) 0) (b ∷ bytes) ≡ (if k then b ∷ front_of p bytes else [])) [
-            true ↦ rw (one-add (prefix_len p bytes)) (ap (λ v. b ∷ v) (front_is p bytes))
-          | false ↦ refl
-          ] in
+    = λ k. elim k as (λ k. take (cond k (1 + prefix_len p bytes) 0) (b ∷ bytes) ≡ (if k then b ∷ front_of p bytes else [])) [
+      | true ↦ rw (one-add (prefix_len p bytes)) (ap (λ v. b ∷ v) (front_is p bytes))
+      | false ↦ refl
+    ] in
     at (p b)
 
 pub behind_is : (p : ℕ → Bool) (bytes : List ℕ) → drop (prefix_len p bytes) bytes ≡ behind_of p bytes
 behind_is p [] = refl
 behind_is p (b ∷ bytes) =
     let at : (k : Bool) → drop (cond k (1 + prefix_len p bytes) 0) (b ∷ bytes) ≡ (if k then behind_of p bytes else b ∷ bytes)
-          = λ k. elim k as (λ k. drop (cond k (1 + prefix_len p bytes) 0) (b ∷ bytes) ≡ (if k then behind_of p bytes else b ∷ bytes)) [
-            true ↦ rw (one-add (prefix_len p bytes)) (behind_is p bytes)
-          | false ↦ refl
-          ] in
+    = λ k. elim k as (λ k. drop (cond k (1 + prefix_len p bytes) 0) (b ∷ bytes) ≡ (if k then behind_of p bytes else b ∷ bytes)) [
+      | true ↦ rw (one-add (prefix_len p bytes)) (behind_is p bytes)
+      | false ↦ refl
+    ] in
     at (p b)
 
 pub each_front : (p : ℕ → Bool) (bytes : List ℕ) → Each p (front_of p bytes)
 each_front p [] = tt
 each_front p (b ∷ bytes) =
     let at : (k : Bool) → p b ≡ k → Each p (if k then b ∷ front_of p bytes else [])
-          = λ k. elim k as (λ k. p b ≡ k → Each p (if k then b ∷ front_of p bytes else [])) [
-            true ↦ λ e. (e, each_front p bytes)
-          | false ↦ λ e. tt
-          ] in
+    = λ k. elim k as (λ k. p b ≡ k → Each p (if k then b ∷ front_of p bytes else [])) [
+      | true ↦ λ e. (e, each_front p bytes)
+      | false ↦ λ e. tt
+    ] in
     at (p b) refl
 
 pub ends_behind : (p : ℕ → Bool) (bytes : List ℕ) → Ends p (behind_of p bytes)
 ends_behind p [] = tt
 ends_behind p (b ∷ bytes) =
     let at : (k : Bool) → p b ≡ k → Ends p (if k then behind_of p bytes else b ∷ bytes)
-          = λ k. elim k as (λ k. p b ≡ k → Ends p (if k then behind_of p bytes else b ∷ bytes)) [
-            true ↦ λ e. ends_behind p bytes
-          | false ↦ λ e. e
-          ] in
+    = λ k. elim k as (λ k. p b ≡ k → Ends p (if k then behind_of p bytes else b ∷ bytes)) [
+      | true ↦ λ e. ends_behind p bytes
+      | false ↦ λ e. e
+    ] in
     at (p b) refl
 
 pub front_behind : (p : ℕ → Bool) (bytes : List ℕ) → bytes ≡ front_of p bytes ++ behind_of p bytes
 front_behind p [] = refl
 front_behind p (b ∷ bytes) =
     let at : (k : Bool) → b ∷ bytes ≡ (if k then b ∷ front_of p bytes else []) ++ (if k then behind_of p bytes else b ∷ bytes)
-          = λ k. elim k as (λ k. b ∷ bytes ≡ (if k then b ∷ front_of p bytes else []) ++ (if k then behind_of p bytes else b ∷ bytes)) [
-            true ↦ ap (λ v. b ∷ v) (front_behind p bytes)
-          | false ↦ refl
-          ] in
+    = λ k. elim k as (λ k. b ∷ bytes ≡ (if k then b ∷ front_of p bytes else []) ++ (if k then behind_of p bytes else b ∷ bytes)) [
+      | true ↦ ap (λ v. b ∷ v) (front_behind p bytes)
+      | false ↦ refl
+    ] in
     at (p b)
 
 pub front_word : (p : ℕ → Bool) (word rest : List ℕ) → Each p word → Ends p rest → front_of p (word ++ rest) ≡ word
@@ -69,10 +69,10 @@ pub all_pass_is : (p : ℕ → Bool) (bytes : List ℕ) → all_pass p bytes ≡
 all_pass_is p [] _ = tt
 all_pass_is p (b ∷ bytes) h =
     let at : (k : Bool) → p b ≡ k → is_empty (if k then behind_of p bytes else b ∷ bytes) ≡ true → Each p (b ∷ bytes)
-          = λ k. elim k as (λ k. p b ≡ k → is_empty (if k then behind_of p bytes else b ∷ bytes) ≡ true → Each p (b ∷ bytes)) [
-            true ↦ λ e m. (e, all_pass_is p bytes m)
-          | false ↦ λ e m. absurd (cc)
-          ] in
+    = λ k. elim k as (λ k. p b ≡ k → is_empty (if k then behind_of p bytes else b ∷ bytes) ≡ true → Each p (b ∷ bytes)) [
+      | true ↦ λ e m. (e, all_pass_is p bytes m)
+      | false ↦ λ e m. absurd (cc)
+    ] in
     at (p b) refl h
 
 pub all_pass_each : (p : ℕ → Bool) (bytes : List ℕ) → Each p bytes → all_pass p bytes ≡ true

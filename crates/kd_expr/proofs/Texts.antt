@@ -113,16 +113,16 @@ tokens_sound (suc k) at [] h g = finished
 tokens_sound zero at (b ∷ bytes) h g = absurd (omega (arith, h))
 tokens_sound (suc k) at (b ∷ bytes) h g =
     let word : (o : Option (Lexeme × List ℕ)) → cut at (b ∷ bytes) ≡ o → Good (after_cut k at (b ∷ bytes) o) → Scans at (b ∷ bytes) (after_cut k at (b ∷ bytes) o)
-          = λ o. elim o as (λ o. cut at (b ∷ bytes) ≡ o → Good (after_cut k at (b ∷ bytes) o) → Scans at (b ∷ bytes) (after_cut k at (b ∷ bytes) o)) [
-            None ↦ λ _ g. absurd g
-          | Some x ↦ λ is g. scans_word at (b ∷ bytes) x.0 x.1 _ (cut_sound at (b ∷ bytes) x.0 x.1 is)
-              (tokens_sound k (at + (length (b ∷ bytes) - length x.1)) x.1 (omega (arith, h, cut_shorter at (b ∷ bytes) x.0 x.1 is)) (good_tail x.0 _ g))
-          ] in
+    = λ o. elim o as (λ o. cut at (b ∷ bytes) ≡ o → Good (after_cut k at (b ∷ bytes) o) → Scans at (b ∷ bytes) (after_cut k at (b ∷ bytes) o)) [
+      | None ↦ λ _ g. absurd g
+      | Some x ↦ λ is g. scans_word at (b ∷ bytes) x.0 x.1 _ (cut_sound at (b ∷ bytes) x.0 x.1 is)
+          (tokens_sound k (at + (length (b ∷ bytes) - length x.1)) x.1 (omega (arith, h, cut_shorter at (b ∷ bytes) x.0 x.1 is)) (good_tail x.0 _ g))
+    ] in
     let here : (v : Bool) → is_blank b ≡ v → Good (if v then tokens_from k (at + 1) bytes else after_cut k at (b ∷ bytes) (cut at (b ∷ bytes))) → Scans at (b ∷ bytes) (if v then tokens_from k (at + 1) bytes else after_cut k at (b ∷ bytes) (cut at (b ∷ bytes)))
-          = λ v. elim v as (λ v. is_blank b ≡ v → Good (if v then tokens_from k (at + 1) bytes else after_cut k at (b ∷ bytes) (cut at (b ∷ bytes))) → Scans at (b ∷ bytes) (if v then tokens_from k (at + 1) bytes else after_cut k at (b ∷ bytes) (cut at (b ∷ bytes)))) [
-            true ↦ λ is g. blank is (tokens_sound k (at + 1) bytes (omega (arith, h)) g)
-          | false ↦ λ _ g. word (cut at (b ∷ bytes)) refl g
-          ] in
+    = λ v. elim v as (λ v. is_blank b ≡ v → Good (if v then tokens_from k (at + 1) bytes else after_cut k at (b ∷ bytes) (cut at (b ∷ bytes))) → Scans at (b ∷ bytes) (if v then tokens_from k (at + 1) bytes else after_cut k at (b ∷ bytes) (cut at (b ∷ bytes)))) [
+      | true ↦ λ is g. blank is (tokens_sound k (at + 1) bytes (omega (arith, h)) g)
+      | false ↦ λ _ g. word (cut at (b ∷ bytes)) refl g
+    ] in
     here (is_blank b) refl g
 
 word_scanned : (k at b : ℕ) (word others rest : List ℕ) (x : Lexeme) → word ≡ b ∷ others → is_blank b ≡ false → ◌≡◌ {A = Option (Lexeme × List ℕ)} (cut at (word ++ rest)) (Some (x, rest)) → tokens_from (suc k) at (word ++ rest) ≡ x ∷ tokens_from k (at + length word) rest
@@ -220,7 +220,7 @@ pub word_left : (done : List Lexeme) (at b : ℕ) (bytes rest : List ℕ) (x : L
 word_left done at b bytes rest x after all is no_blank e l =
     let here : Left done at (b ∷ bytes) all = subst (λ v. Left done at v all) is l in
     subst (λ v. Left (done ++ x ∷ []) (at + (length v - length after)) after all) (sym is)
-      (word_left_at done at b bytes x after all here.0 here.1 no_blank (ap (λ v. cut at v) (sym is) ∙ e) here.2)
+    (word_left_at done at b bytes x after all here.0 here.1 no_blank (ap (λ v. cut at v) (sym is) ∙ e) here.2)
 
 bad_left_at : (done : List Lexeme) (at b : ℕ) (bytes : List ℕ) (all : List Lexeme) (k : ℕ) → length (b ∷ bytes) ≤ k → is_blank b ≡ false → cut at (b ∷ bytes) ≡ None → done ++ tokens_from k at (b ∷ bytes) ≡ all → done ++ BadAt at ∷ [] ≡ all
 unfolding tokens_from

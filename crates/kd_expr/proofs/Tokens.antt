@@ -41,11 +41,11 @@ pub data IsSuffix : Lexeme → Bool → Type 0 where
 pub suffix_is : (x : Lexeme) (b : Bool) → suffix x ≡ Some b → IsSuffix x b
 suffix_is (NameAt at name) b e =
     let at_hex : (k : Bool) → bytes_eq name (codes "hex") ≡ k → ◌≡◌ {A = Option Bool} (if k then Some false else if bytes_eq name (codes "exists") then Some true else None) (Some b) → IsSuffix (NameAt at name) b
-          = λ k. elim k as (λ k. bytes_eq name (codes "hex") ≡ k → ◌≡◌ {A = Option Bool} (if k then Some false else if bytes_eq name (codes "exists") then Some true else None) (Some b) → IsSuffix (NameAt at name) b) [
-            true ↦ λ is h. subst (λ v. IsSuffix (NameAt at v) b) (sym ((bytes_eq-Decides name (codes "hex")).0 is)) (subst (λ v. IsSuffix (NameAt at (codes "hex")) v) (some_is h) hex)
-          | false ↦ λ _ h. let both = if_some (bytes_eq name (codes "exists")) h in
-              subst (λ v. IsSuffix (NameAt at v) b) (sym ((bytes_eq-Decides name (codes "exists")).0 both.0)) (subst (λ v. IsSuffix (NameAt at (codes "exists")) v) both.1 exists)
-          ] in
+    = λ k. elim k as (λ k. bytes_eq name (codes "hex") ≡ k → ◌≡◌ {A = Option Bool} (if k then Some false else if bytes_eq name (codes "exists") then Some true else None) (Some b) → IsSuffix (NameAt at name) b) [
+      | true ↦ λ is h. subst (λ v. IsSuffix (NameAt at v) b) (sym ((bytes_eq-Decides name (codes "hex")).0 is)) (subst (λ v. IsSuffix (NameAt at (codes "hex")) v) (some_is h) hex)
+      | false ↦ λ _ h. let both = if_some (bytes_eq name (codes "exists")) h in
+          subst (λ v. IsSuffix (NameAt at v) b) (sym ((bytes_eq-Decides name (codes "exists")).0 both.0)) (subst (λ v. IsSuffix (NameAt at (codes "exists")) v) both.1 exists)
+    ] in
     at_hex (bytes_eq name (codes "hex")) refl e
 suffix_is _ b e = none_is e
 

@@ -75,9 +75,9 @@ starts_with at (z ∷ s) tail a rest each some is runs ends = run_complete at z 
 address_runs : (at : ℕ) (text a rest : List ℕ) → IsAddress text a → Ends in_run rest → Cuts (cut at (text ++ rest)) (AddressAt at a) rest
 address_runs at _ _ rest (four s t u v {a = a} {b = b} {c = c} {d = d} p q r w) ends =
     starts_with at s (t ++ 46 ∷ (u ++ 46 ∷ v)) (a ∷ b ∷ c ∷ d ∷ []) rest p.digits p.some
-      (address_complete (s ++ 46 ∷ (t ++ 46 ∷ (u ++ 46 ∷ v))) (a ∷ b ∷ c ∷ d ∷ []) (four s t u v p q r w))
-      (each_append in_run s (46 ∷ (t ++ 46 ∷ (u ++ 46 ∷ v))) (part_runs p) (refl, each_append in_run t (46 ∷ (u ++ 46 ∷ v)) (part_runs q) (refl, each_append in_run u (46 ∷ v) (part_runs r) (refl, part_runs w))))
-      ends
+    (address_complete (s ++ 46 ∷ (t ++ 46 ∷ (u ++ 46 ∷ v))) (a ∷ b ∷ c ∷ d ∷ []) (four s t u v p q r w))
+    (each_append in_run s (46 ∷ (t ++ 46 ∷ (u ++ 46 ∷ v))) (part_runs p) (refl, each_append in_run t (46 ∷ (u ++ 46 ∷ v)) (part_runs q) (refl, each_append in_run u (46 ∷ v) (part_runs r) (refl, part_runs w))))
+    ends
 
 minus_complete : (at d : ℕ) (ds rest : List ℕ) → Each is_digit (d ∷ ds) → Ends in_run rest → Cuts (cut at (45 ∷ ((d ∷ ds) ++ rest))) (MinusAt at (decimal (d ∷ ds))) rest
 unfolding cut minus_cut

@@ -113,6 +113,6 @@ tokens_from zero at (b ∷ bytes) = []
 tokens_from (suc k) at (b ∷ bytes) =
     if is_blank b then tokens_from k (at + 1) bytes
     else elim (cut at (b ∷ bytes)) [
-        None ↦ BadAt at ∷ []
+      | None ↦ BadAt at ∷ []
       | Some x ↦ x.0 ∷ tokens_from k (at + (length (b ∷ bytes) - length x.1)) x.1
     ]

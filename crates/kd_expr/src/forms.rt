@@ -60,7 +60,14 @@ fn form_of<'t, 'a>(
         Ok((Node::Concat { at, left, right }, rest))
     } else if name == b"hexstring".as_slice() {
         let (operand, separator, rest) = two_operands(source, tokens, depth)?;
-        Ok((Node::HexString { at, operand, separator }, rest))
+        Ok((
+            Node::HexString {
+                at,
+                operand,
+                separator,
+            },
+            rest,
+        ))
     } else if name == b"lcase".as_slice() {
         let (operand, rest) = one_operand(source, tokens, depth)?;
         Ok((Node::Lower { at, operand }, rest))
@@ -157,5 +164,13 @@ fn substring_of<'t, 'a>(
     let (length, rest) = length_of(rest, source.end)?;
     let (_, rest) = expect_sign(rest, b')', source.end)?;
     let operand = Box::new(source.alloc, operand)?;
-    Ok((Node::Substring { at, operand, start, length }, rest))
+    Ok((
+        Node::Substring {
+            at,
+            operand,
+            start,
+            length,
+        },
+        rest,
+    ))
 }

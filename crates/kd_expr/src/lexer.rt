@@ -26,7 +26,10 @@ pub(crate) fn tokens_of<'a>(alloc: Global, text: &'a [u8]) -> Result<Vec<Token<'
                     rest = after;
                 }
                 None => {
-                    tokens.push(Token { at, kind: Kind::Bad })?;
+                    tokens.push(Token {
+                        at,
+                        kind: Kind::Bad,
+                    })?;
                     return Ok(tokens);
                 }
             }
@@ -55,7 +58,13 @@ fn word_at<'a>(at: usize, bytes: &'a [u8]) -> Option<(Token<'a>, &'a [u8])>
     } else if b == 61 {
         equal_at(at, rest)
     } else if is_sign(b) {
-        Some((Token { at, kind: Kind::Sign(b) }, rest))
+        Some((
+            Token {
+                at,
+                kind: Kind::Sign(b),
+            },
+            rest,
+        ))
     } else {
         None
     }
@@ -68,7 +77,13 @@ fn string_at<'a>(at: usize, bytes: &'a [u8]) -> Option<(Token<'a>, &'a [u8])>
 {
     let (text, behind) = split(Class::InString, bytes);
     match behind {
-        [b, rest @ ..] if *b == 39 => Some((Token { at, kind: Kind::Text(text) }, rest)),
+        [b, rest @ ..] if *b == 39 => Some((
+            Token {
+                at,
+                kind: Kind::Text(text),
+            },
+            rest,
+        )),
         _ => None,
     }
 }
@@ -89,13 +104,22 @@ fn run_token<'a>(at: usize, run: &'a [u8]) -> Option<Token<'a>>
     ensures { option_map (λ x. lexeme_of x) result ≡ run_token at run.now }
 {
     if all_of(Class::Digit, run) {
-        return Some(Token { at, kind: Kind::Number(run) });
+        return Some(Token {
+            at,
+            kind: Kind::Number(run),
+        });
     }
     if let Some(digits) = hex_digits(run) {
-        return Some(Token { at, kind: Kind::Hex(digits) });
+        return Some(Token {
+            at,
+            kind: Kind::Hex(digits),
+        });
     }
     let [a, b, c, d] = address_of(run)?;
-    Some(Token { at, kind: Kind::Address(a, b, c, d) })
+    Some(Token {
+        at,
+        kind: Kind::Address(a, b, c, d),
+    })
 }
 
 // The digits behind a hexadecimal prefix.
@@ -106,7 +130,11 @@ fn hex_digits(run: &[u8]) -> Option<&[u8]>
     let [zero, x, digits @ ..] = run else {
         return None;
     };
-    if *zero == 48 && (*x == 120 || *x == 88) && digits.len() >= 1 && all_of(Class::HexDigit, digits) {
+    if *zero == 48
+        && (*x == 120 || *x == 88)
+        && digits.len() >= 1
+        && all_of(Class::HexDigit, digits)
+    {
         Some(digits)
     } else {
         None
@@ -120,7 +148,13 @@ fn minus_at<'a>(at: usize, bytes: &'a [u8]) -> Option<(Token<'a>, &'a [u8])>
 {
     let (digits, rest) = split(Class::InRun, bytes);
     if digits.len() >= 1 && all_of(Class::Digit, digits) {
-        Some((Token { at, kind: Kind::Minus(digits) }, rest))
+        Some((
+            Token {
+                at,
+                kind: Kind::Minus(digits),
+            },
+            rest,
+        ))
     } else {
         None
     }
@@ -132,7 +166,13 @@ fn name_at<'a>(at: usize, bytes: &'a [u8]) -> Option<(Token<'a>, &'a [u8])>
     ensures { option_map (λ x. (lexeme_of x.0, x.1.now)) result ≡ name_cut at bytes.now }
 {
     let (name, rest) = split(Class::InName, bytes);
-    Some((Token { at, kind: Kind::Name(name) }, rest))
+    Some((
+        Token {
+            at,
+            kind: Kind::Name(name),
+        },
+        rest,
+    ))
 }
 
 // An equality sign, behind its first byte.
@@ -141,7 +181,13 @@ fn equal_at<'a>(at: usize, bytes: &'a [u8]) -> Option<(Token<'a>, &'a [u8])>
     ensures { option_map (λ x. (lexeme_of x.0, x.1.now)) result ≡ equal_cut at bytes.now }
 {
     match bytes {
-        [b, rest @ ..] if *b == 61 => Some((Token { at, kind: Kind::Sign(61) }, rest)),
+        [b, rest @ ..] if *b == 61 => Some((
+            Token {
+                at,
+                kind: Kind::Sign(61),
+            },
+            rest,
+        )),
         _ => None,
     }
 }

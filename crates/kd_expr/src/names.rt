@@ -83,7 +83,13 @@ pub(crate) fn packet_of<'t, 'a>(
 {
     let (_, rest) = expect_sign(tokens, b'.', source.end)?;
     let (_, rest) = expect_word(rest, b"len", source.end)?;
-    Ok((Node::Field { at, field: Field::Length }, rest))
+    Ok((
+        Node::Field {
+            at,
+            field: Field::Length,
+        },
+        rest,
+    ))
 }
 
 // What stands behind `member`.
@@ -129,7 +135,10 @@ fn name_deeper<'t, 'a>(
 }
 
 // The code of an option, by number or by name.
-fn option_code<'t, 'a>(tokens: &'t [Token<'a>], end: usize) -> Result<(u8, &'t [Token<'a>]), SyntaxFault>
+fn option_code<'t, 'a>(
+    tokens: &'t [Token<'a>],
+    end: usize,
+) -> Result<(u8, &'t [Token<'a>]), SyntaxFault>
     ensures reads { Gives (λ x. (x.0, lexemes x.1.now)) result (one option_code (lexemes tokens.now)) }
     ensures shorter { IfOk result (λ x. length x.1.now < length tokens.now) }
 {
@@ -151,7 +160,10 @@ fn option_code<'t, 'a>(tokens: &'t [Token<'a>], end: usize) -> Result<(u8, &'t [
 }
 
 // The code of a sub-option.
-fn relay_code<'t, 'a>(tokens: &'t [Token<'a>], end: usize) -> Result<(u8, &'t [Token<'a>]), SyntaxFault>
+fn relay_code<'t, 'a>(
+    tokens: &'t [Token<'a>],
+    end: usize,
+) -> Result<(u8, &'t [Token<'a>]), SyntaxFault>
     ensures reads { Gives (λ x. (x.0, lexemes x.1.now)) result (one relay_code (lexemes tokens.now)) }
     ensures shorter { IfOk result (λ x. length x.1.now < length tokens.now) }
 {
@@ -169,7 +181,10 @@ fn relay_code<'t, 'a>(tokens: &'t [Token<'a>], end: usize) -> Result<(u8, &'t [T
 }
 
 // Whether `exists` stands there, or `hex`.
-fn suffix<'t, 'a>(tokens: &'t [Token<'a>], end: usize) -> Result<(bool, &'t [Token<'a>]), SyntaxFault>
+fn suffix<'t, 'a>(
+    tokens: &'t [Token<'a>],
+    end: usize,
+) -> Result<(bool, &'t [Token<'a>]), SyntaxFault>
     ensures reads { Gives (λ x. (x.0, lexemes x.1.now)) result (one suffix (lexemes tokens.now)) }
     ensures shorter { IfOk result (λ x. length x.1.now < length tokens.now) }
 {
@@ -185,7 +200,10 @@ fn suffix<'t, 'a>(tokens: &'t [Token<'a>], end: usize) -> Result<(bool, &'t [Tok
 }
 
 // The part of a message that a name stands for.
-fn field<'t, 'a>(tokens: &'t [Token<'a>], end: usize) -> Result<(Field, &'t [Token<'a>]), SyntaxFault>
+fn field<'t, 'a>(
+    tokens: &'t [Token<'a>],
+    end: usize,
+) -> Result<(Field, &'t [Token<'a>]), SyntaxFault>
     ensures reads { Gives (λ x. (x.0, lexemes x.1.now)) result (one field_of (lexemes tokens.now)) }
     ensures shorter { IfOk result (λ x. length x.1.now < length tokens.now) }
 {
@@ -203,7 +221,10 @@ fn field<'t, 'a>(tokens: &'t [Token<'a>], end: usize) -> Result<(Field, &'t [Tok
 }
 
 // A number of 32 bits, which may have a minus in front.
-pub(crate) fn signed_of<'t, 'a>(tokens: &'t [Token<'a>], end: usize) -> Result<(i32, &'t [Token<'a>]), SyntaxFault>
+pub(crate) fn signed_of<'t, 'a>(
+    tokens: &'t [Token<'a>],
+    end: usize,
+) -> Result<(i32, &'t [Token<'a>]), SyntaxFault>
     ensures reads { Gives (λ x. (x.0, lexemes x.1.now)) result (one signed (lexemes tokens.now)) }
     ensures shorter { IfOk result (λ x. length x.1.now < length tokens.now) }
 {

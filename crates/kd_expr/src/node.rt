@@ -2,7 +2,6 @@ ghost use Rattle.std.specs.Prelude.{◌≡◌};
 ghost use Rattle.kd_expr.specs.Tree.{at_of};
 ghost use Rattle.kd_expr.specs.View.{tree_of};
 
-
 use kd_wire::Bytes;
 
 /// What `pkt4.` and `pkt.` name: a part of the message's header, its type, or its length.
@@ -34,45 +33,114 @@ pub enum Field {
 #[derive(Debug, Drop)]
 pub enum Node {
     /// A string, hexadecimal digits or an IPv4 address: a byte string.
-    Literal { at: usize, bytes: Bytes },
+    Literal {
+        at: usize,
+        bytes: Bytes,
+    },
     /// A number.
-    Int { at: usize, value: u32 },
+    Int {
+        at: usize,
+        value: u32,
+    },
     /// `option[code].hex`.
-    Option { at: usize, code: u8 },
+    Option {
+        at: usize,
+        code: u8,
+    },
     /// `relay4[code].hex`.
-    Relay { at: usize, code: u8 },
+    Relay {
+        at: usize,
+        code: u8,
+    },
     /// `pkt4.field` or `pkt.len`.
-    Field { at: usize, field: Field },
+    Field {
+        at: usize,
+        field: Field,
+    },
     /// `option[code].exists`.
-    OptionExists { at: usize, code: u8 },
+    OptionExists {
+        at: usize,
+        code: u8,
+    },
     /// `relay4[code].exists`.
-    RelayExists { at: usize, code: u8 },
+    RelayExists {
+        at: usize,
+        code: u8,
+    },
     /// `member('name')`.
-    Member { at: usize, name: Bytes },
+    Member {
+        at: usize,
+        name: Bytes,
+    },
     /// `left == right`.
-    Equal { at: usize, left: Box<Node>, right: Box<Node> },
+    Equal {
+        at: usize,
+        left: Box<Node>,
+        right: Box<Node>,
+    },
     /// `not operand`.
-    Not { at: usize, operand: Box<Node> },
+    Not {
+        at: usize,
+        operand: Box<Node>,
+    },
     /// `left and right`.
-    And { at: usize, left: Box<Node>, right: Box<Node> },
+    And {
+        at: usize,
+        left: Box<Node>,
+        right: Box<Node>,
+    },
     /// `left or right`.
-    Or { at: usize, left: Box<Node>, right: Box<Node> },
+    Or {
+        at: usize,
+        left: Box<Node>,
+        right: Box<Node>,
+    },
     /// `(operand)`.
-    Group { at: usize, operand: Box<Node> },
+    Group {
+        at: usize,
+        operand: Box<Node>,
+    },
     /// `left + right` or `concat(left, right)`.
-    Concat { at: usize, left: Box<Node>, right: Box<Node> },
+    Concat {
+        at: usize,
+        left: Box<Node>,
+        right: Box<Node>,
+    },
     /// `ifelse(test, yes, no)`.
-    IfElse { at: usize, test: Box<Node>, yes: Box<Node>, no: Box<Node> },
+    IfElse {
+        at: usize,
+        test: Box<Node>,
+        yes: Box<Node>,
+        no: Box<Node>,
+    },
     /// `substring(operand, start, length)`; no length is `all`.
-    Substring { at: usize, operand: Box<Node>, start: i32, length: Option<i32> },
+    Substring {
+        at: usize,
+        operand: Box<Node>,
+        start: i32,
+        length: Option<i32>,
+    },
     /// `hexstring(operand, separator)`.
-    HexString { at: usize, operand: Box<Node>, separator: Box<Node> },
+    HexString {
+        at: usize,
+        operand: Box<Node>,
+        separator: Box<Node>,
+    },
     /// `lcase(operand)`.
-    Lower { at: usize, operand: Box<Node> },
+    Lower {
+        at: usize,
+        operand: Box<Node>,
+    },
     /// `ucase(operand)`.
-    Upper { at: usize, operand: Box<Node> },
+    Upper {
+        at: usize,
+        operand: Box<Node>,
+    },
     /// `uint32totext(operand)`.
-    IntToText { at: usize, operand: Box<Node> },
+    IntToText {
+        at: usize,
+        operand: Box<Node>,
+    },
 }
 
 impl Node {

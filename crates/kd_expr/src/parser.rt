@@ -106,7 +106,14 @@ fn compare_of<'t, 'a>(
             let at = first.at();
             let first = Box::new(source.alloc, first)?;
             let right = Box::new(source.alloc, second)?;
-            Ok((Node::Equal { at, left: first, right }, left))
+            Ok((
+                Node::Equal {
+                    at,
+                    left: first,
+                    right,
+                },
+                left,
+            ))
         }
         None => Ok((first, rest)),
     }

@@ -40,7 +40,10 @@ pub(crate) fn sign<'t, 'a>(tokens: &'t [Token<'a>], wanted: u8) -> Option<(usize
 }
 
 // The place of this keyword, and what follows it.
-pub(crate) fn word<'t, 'a>(tokens: &'t [Token<'a>], wanted: &[u8]) -> Option<(usize, &'t [Token<'a>])>
+pub(crate) fn word<'t, 'a>(
+    tokens: &'t [Token<'a>],
+    wanted: &[u8],
+) -> Option<(usize, &'t [Token<'a>])>
     ensures reads { option_map (λ x. (x.0, lexemes x.1.now)) result ≡ word wanted.now (lexemes tokens.now) }
     ensures shorter { IfSome result (λ x. length x.1.now < length tokens.now) }
 {

@@ -2,8 +2,8 @@ use super::*;
 use std::alloc::{AllocError, Global};
 use std::test::Fail;
 
-// Texts that are no expression, with the number and the place of the fault.
-const FAULTS: [(&[u8], u8, usize); 177] = [
+// Faults of each kind, and which of two comes first.
+const FIRST_FAULTS: [(&[u8], u8, usize); 20] = [
     (b"option[host-nam].exists", 25, 7),
     (b"'a' == ", 21, 7),
     (b"4294967296 == 1", 22, 0),
@@ -24,6 +24,10 @@ const FAULTS: [(&[u8], u8, usize); 177] = [
     (b"option[or].hex", 25, 7),
     (b"OR", 21, 0),
     (b"Option[1].hex == 'a'", 21, 0),
+];
+
+// Runs of digits, letters and dots that are no token.
+const FAULTS_IN_RUNS: [(&[u8], u8, usize); 13] = [
     (b"1or", 20, 0),
     (b"'a' === 'b'", 20, 6),
     (b"0x", 20, 0),
@@ -37,6 +41,10 @@ const FAULTS: [(&[u8], u8, usize); 177] = [
     (b"1.2.3.", 20, 0),
     (b"1.2.3.4.", 20, 0),
     (b"1.2.3.999 == 1", 20, 0),
+];
+
+// Faults in a substring.
+const FAULTS_IN_SUBSTRING: [(&[u8], u8, usize); 19] = [
     (b"substring('a',-5a,1)", 20, 14),
     (b"substring('a',-5.,1)", 20, 14),
     (b"substring('a',-,1)", 20, 14),
@@ -56,6 +64,10 @@ const FAULTS: [(&[u8], u8, usize); 177] = [
     (b"substring('a',0,1,", 21, 17),
     (b"substring", 21, 9),
     (b"substring(", 21, 10),
+];
+
+// Faults in forms with operands.
+const FAULTS_IN_FORMS: [(&[u8], u8, usize); 19] = [
     (b"concat('a')", 21, 10),
     (b"concat('a','b','c')", 21, 14),
     (b"concat", 21, 6),
@@ -75,6 +87,10 @@ const FAULTS: [(&[u8], u8, usize); 177] = [
     (b"ucase", 21, 5),
     (b"uint32totext(1,2)", 21, 14),
     (b"uint32totext", 21, 12),
+];
+
+// Faults in `member` and `option`.
+const FAULTS_IN_OPTIONS: [(&[u8], u8, usize); 26] = [
     (b"member()", 21, 7),
     (b"member('')", 21, 7),
     (b"member(1)", 21, 7),
@@ -101,6 +117,10 @@ const FAULTS: [(&[u8], u8, usize); 177] = [
     (b"option[256].hex", 22, 7),
     (b"option[4294967296].hex", 22, 7),
     (b"option[99999999999999999999].hex", 22, 7),
+];
+
+// Faults in `relay4`, `pkt4` and `pkt`.
+const FAULTS_IN_FIELDS: [(&[u8], u8, usize); 18] = [
     (b"relay4", 21, 6),
     (b"relay4[", 21, 7),
     (b"relay4[host-name].hex", 21, 7),
@@ -119,6 +139,10 @@ const FAULTS: [(&[u8], u8, usize); 177] = [
     (b"pkt.", 21, 4),
     (b"pkt.mac", 21, 4),
     (b"pkt.len.x", 21, 7),
+];
+
+// Operators without an operand.
+const FAULTS_IN_OPERATORS: [(&[u8], u8, usize); 15] = [
     (b"not", 21, 3),
     (b"not not", 21, 7),
     (b"not and", 21, 4),
@@ -134,6 +158,10 @@ const FAULTS: [(&[u8], u8, usize); 177] = [
     (b"'a' + not option[1].exists", 21, 6),
     (b"== 'a'", 21, 0),
     (b"'a' == == 'b'", 21, 7),
+];
+
+// Brackets without their pair, and tokens behind an expression.
+const FAULTS_IN_BRACKETS: [(&[u8], u8, usize); 20] = [
     (b"(", 21, 1),
     (b"()", 21, 1),
     (b")", 21, 0),
@@ -154,6 +182,10 @@ const FAULTS: [(&[u8], u8, usize); 177] = [
     (b"all", 21, 0),
     (b"exists", 21, 0),
     (b"hex", 21, 0),
+];
+
+// Bytes that begin no token, and numbers that are too large.
+const FAULTS_IN_BYTES: [(&[u8], u8, usize); 27] = [
     (b"'a\nb'", 20, 0),
     (b"'", 20, 0),
     (b"'a' == 'b", 20, 7),
@@ -266,8 +298,16 @@ const UNTYPED: [(&[u8], u8, usize); 25] = [
     (b"option[1].exists and 1", 26, 21),
     (b"option[1].exists or 'a'", 26, 20),
     (b"ifelse('a','b','c') == 'd'", 26, 7),
-    (b"ifelse(option[1].exists,option[2].exists,'c') == 'd'", 27, 24),
-    (b"ifelse(option[1].exists,'b',option[2].exists) == 'd'", 27, 28),
+    (
+        b"ifelse(option[1].exists,option[2].exists,'c') == 'd'",
+        27,
+        24,
+    ),
+    (
+        b"ifelse(option[1].exists,'b',option[2].exists) == 'd'",
+        27,
+        28,
+    ),
     (b"substring(option[1].exists,0,1) == 'a'", 27, 10),
     (b"hexstring('a',option[1].exists) == 'a'", 27, 14),
     (b"concat(option[1].exists,'a') == 'a'", 27, 7),
@@ -292,10 +332,33 @@ fn seen(fault: ExprFault) -> (u8, usize) {
     (fault.number(), at)
 }
 
+// The number and the place of the fault of a text.
+fn fault_of(alloc: Global, text: &[u8]) -> Option<(u8, usize)> {
+    match read(alloc, text) {
+        Ok(_expr) => None,
+        Err(fault) => Some(seen(fault)),
+    }
+}
+
 // The same of a fault of typing.
 fn seen_type(fault: TypeFault) -> (u8, usize) {
     match fault {
-        TypeFault::WantsBool(at) | TypeFault::WantsBytes(at) | TypeFault::WantsInt(at) => (fault.number(), at),
+        TypeFault::WantsBool(at) | TypeFault::WantsBytes(at) | TypeFault::WantsInt(at) => (
+            fault.number(),
+            at,
+        ),
+    }
+}
+
+// The fault of an expression, which the expression that comes back has too.
+fn type_fault_of(expr: Expr) -> Option<(u8, usize)> {
+    match type_of(expr) {
+        Ok(_typed) => None,
+        Err((fault, again)) => match type_of(again) {
+            Ok(_typed) => None,
+            Err((second, _again)) if second == fault => Some(seen_type(fault)),
+            Err((_second, _again)) => None,
+        },
     }
 }
 
@@ -317,9 +380,65 @@ fn nodes_of(alloc: Global, text: &[u8]) -> Option<u32> {
 }
 
 #[test]
-fn faults_stand_at_the_first_token_that_cannot(rt: HostRuntime) {
-    for (text, number, at) in FAULTS {
-        assert_eq!(rt; read(rt.alloc(), text).err().map(seen), Some((number, at)), "{text:?}");
+fn faults_of_kinds_stand_in_their_order(rt: HostRuntime) {
+    for (text, number, at) in FIRST_FAULTS {
+        assert_eq!(rt; fault_of(rt.alloc(), text), Some((number, at)), "{text:?}");
+    }
+}
+
+#[test]
+fn runs_that_are_no_token_are_bad(rt: HostRuntime) {
+    for (text, number, at) in FAULTS_IN_RUNS {
+        assert_eq!(rt; fault_of(rt.alloc(), text), Some((number, at)), "{text:?}");
+    }
+}
+
+#[test]
+fn a_substring_has_two_numbers(rt: HostRuntime) {
+    for (text, number, at) in FAULTS_IN_SUBSTRING {
+        assert_eq!(rt; fault_of(rt.alloc(), text), Some((number, at)), "{text:?}");
+    }
+}
+
+#[test]
+fn forms_have_their_operands(rt: HostRuntime) {
+    for (text, number, at) in FAULTS_IN_FORMS {
+        assert_eq!(rt; fault_of(rt.alloc(), text), Some((number, at)), "{text:?}");
+    }
+}
+
+#[test]
+fn members_and_options_have_their_parts(rt: HostRuntime) {
+    for (text, number, at) in FAULTS_IN_OPTIONS {
+        assert_eq!(rt; fault_of(rt.alloc(), text), Some((number, at)), "{text:?}");
+    }
+}
+
+#[test]
+fn relay_and_packet_have_their_parts(rt: HostRuntime) {
+    for (text, number, at) in FAULTS_IN_FIELDS {
+        assert_eq!(rt; fault_of(rt.alloc(), text), Some((number, at)), "{text:?}");
+    }
+}
+
+#[test]
+fn operators_have_their_operands(rt: HostRuntime) {
+    for (text, number, at) in FAULTS_IN_OPERATORS {
+        assert_eq!(rt; fault_of(rt.alloc(), text), Some((number, at)), "{text:?}");
+    }
+}
+
+#[test]
+fn brackets_pair_and_expressions_end(rt: HostRuntime) {
+    for (text, number, at) in FAULTS_IN_BRACKETS {
+        assert_eq!(rt; fault_of(rt.alloc(), text), Some((number, at)), "{text:?}");
+    }
+}
+
+#[test]
+fn bytes_outside_tokens_are_bad(rt: HostRuntime) {
+    for (text, number, at) in FAULTS_IN_BYTES {
+        assert_eq!(rt; fault_of(rt.alloc(), text), Some((number, at)), "{text:?}");
     }
 }
 
@@ -327,7 +446,11 @@ fn faults_stand_at_the_first_token_that_cannot(rt: HostRuntime) {
 fn nesting_ends_at_64(rt: HostRuntime) -> Result<(), Fail> {
     for (part, times, end, number, at) in NESTED {
         let text = repeated(rt.alloc(), part, times, end)?;
-        assert_eq!(rt; read(rt.alloc(), &text).err().map(seen), Some((number, at)), "{times} {part:?}");
+        assert_eq!(rt;
+            read(rt.alloc(), &text).err().map(seen),
+            Some((number, at)),
+            "{times} {part:?}"
+        );
     }
     Ok(())
 }
@@ -335,7 +458,10 @@ fn nesting_ends_at_64(rt: HostRuntime) -> Result<(), Fail> {
 #[test]
 fn a_text_has_at_most_4096_bytes(rt: HostRuntime) -> Result<(), Fail> {
     let text = repeated(rt.alloc(), b" ", 4096, b"")?;
-    assert_eq!(rt; read(rt.alloc(), &text).err(), Some(ExprFault::Expected(4096)));
+    assert_eq!(rt;
+        read(rt.alloc(), &text).err(),
+        Some(ExprFault::Expected(4096))
+    );
     let text = repeated(rt.alloc(), b" ", 4097, b"")?;
     assert_eq!(rt; read(rt.alloc(), &text).err(), Some(ExprFault::TooLong));
     Ok(())
@@ -356,7 +482,11 @@ fn long_and_deep_texts_are_read_and_typed(rt: HostRuntime) -> Result<(), Fail> {
             text.extend_from_slice(close)?;
         }
         text.extend_from_slice(b" == ''")?;
-        assert_eq!(rt; nodes_of(rt.alloc(), &text), Some(nodes), "{times} {part:?}");
+        assert_eq!(rt;
+            nodes_of(rt.alloc(), &text),
+            Some(nodes),
+            "{times} {part:?}"
+        );
     }
     Ok(())
 }
@@ -365,13 +495,7 @@ fn long_and_deep_texts_are_read_and_typed(rt: HostRuntime) -> Result<(), Fail> {
 fn type_faults_stand_at_the_operand(rt: HostRuntime) -> Result<(), Fail> {
     for (text, number, at) in UNTYPED {
         let expr = read(rt.alloc(), text)?;
-        match type_of(expr) {
-            Ok(_) => assert!(rt; false, "{text:?} is typed"),
-            Err((fault, expr)) => {
-                assert_eq!(rt; seen_type(fault), (number, at), "{text:?}");
-                assert!(rt; type_of(expr).is_err(), "{text:?}");
-            }
-        }
+        assert_eq!(rt; type_fault_of(expr), Some((number, at)), "{text:?}");
     }
     Ok(())
 }

@@ -27,7 +27,9 @@ pub(crate) fn type_of_node(node: &Node) -> Result<ValueType, TypeFault>
         Node::Literal { .. } | Node::Option { .. } | Node::Relay { .. } => Ok(ValueType::Bytes),
         Node::Int { .. } => Ok(ValueType::Int),
         Node::Field { field, .. } => Ok(type_of_field(*field)),
-        Node::OptionExists { .. } | Node::RelayExists { .. } | Node::Member { .. } => Ok(ValueType::Bool),
+        Node::OptionExists { .. } | Node::RelayExists { .. } | Node::Member { .. } => Ok(
+            ValueType::Bool,
+        ),
         Node::Not { operand, .. } | Node::Group { operand, .. } => {
             bool_operand(operand)?;
             Ok(ValueType::Bool)
@@ -47,7 +49,11 @@ pub(crate) fn type_of_node(node: &Node) -> Result<ValueType, TypeFault>
             bytes_operand(right)?;
             Ok(ValueType::Bytes)
         }
-        Node::HexString { operand, separator, .. } => {
+        Node::HexString {
+            operand,
+            separator,
+            ..
+        } => {
             bytes_operand(operand)?;
             bytes_operand(separator)?;
             Ok(ValueType::Bytes)
@@ -58,7 +64,9 @@ pub(crate) fn type_of_node(node: &Node) -> Result<ValueType, TypeFault>
             bytes_operand(no)?;
             Ok(ValueType::Bytes)
         }
-        Node::Substring { operand, .. } | Node::Lower { operand, .. } | Node::Upper { operand, .. } => {
+        Node::Substring { operand, .. }
+        | Node::Lower { operand, .. }
+        | Node::Upper { operand, .. } => {
             bytes_operand(operand)?;
             Ok(ValueType::Bytes)
         }
@@ -107,8 +115,10 @@ fn type_of_field(field: Field) -> ValueType
     ensures { result ≡ field_type field }
 {
     match field {
-        Field::Mac | Field::Ciaddr | Field::Giaddr | Field::Yiaddr | Field::Siaddr => ValueType::Bytes,
-        Field::Hlen | Field::Htype | Field::Msgtype | Field::Transid | Field::Length => ValueType::Int,
+        Field::Mac | Field::Ciaddr | Field::Giaddr | Field::Yiaddr | Field::Siaddr =>
+            ValueType::Bytes,
+        Field::Hlen | Field::Htype | Field::Msgtype | Field::Transid | Field::Length =>
+            ValueType::Int,
     }
 }
 
@@ -136,7 +146,11 @@ pub(crate) fn count(node: &Node) -> u32
         | Node::And { left, right, .. }
         | Node::Or { left, right, .. }
         | Node::Concat { left, right, .. } => 1 + count(left) + count(right),
-        Node::HexString { operand, separator, .. } => 1 + count(operand) + count(separator),
+        Node::HexString {
+            operand,
+            separator,
+            ..
+        } => 1 + count(operand) + count(separator),
         Node::IfElse { test, yes, no, .. } => 1 + count(test) + count(yes) + count(no),
     }
 }

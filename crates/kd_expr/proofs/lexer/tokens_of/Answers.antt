@@ -23,8 +23,8 @@ pub loop-first-preserved : goal.loop-first-preserved
 loop-first-preserved c = record {
   place = omega (arith, c.loop-first.invariant.place, cut_shorter c.loop-first.at c.loop-first.rest.now (lexeme_of c.in-Some-word_at.token) c.in-Some-word_at.after.now (sym c.in-Some-word_at.ensures));
   same = subst (λ (v : List Lexeme). Left v (c.loop-first.at + (length c.loop-first.rest.now - length c.in-Some-word_at.after.now)) c.in-Some-word_at.after.now (tokens_from (length c.args.text.now) 0 c.args.text.now))
-    (sym (ap (λ v. lexemes v) c.in_ok-push-in-Some-word_at.ensures.items ∙ map-append lexeme_of c.loop-first.tokens.items (c.in-Some-word_at.token ∷ [])))
-    (word_left (lexemes c.loop-first.tokens.items) c.loop-first.at c.in-Some.first.now c.in-Some.after_blank.now c.loop-first.rest.now (lexeme_of c.in-Some-word_at.token) c.in-Some-word_at.after.now _ c.in-Some.ensures.cases.0 (sym c.if-is_blank.ensures) (sym c.in-Some-word_at.ensures) c.loop-first.invariant.same);
+      (sym (ap (λ v. lexemes v) c.in_ok-push-in-Some-word_at.ensures.items ∙ map-append lexeme_of c.loop-first.tokens.items (c.in-Some-word_at.token ∷ [])))
+      (word_left (lexemes c.loop-first.tokens.items) c.loop-first.at c.in-Some.first.now c.in-Some.after_blank.now c.loop-first.rest.now (lexeme_of c.in-Some-word_at.token) c.in-Some-word_at.after.now _ c.in-Some.ensures.cases.0 (sym c.if-is_blank.ensures) (sym c.in-Some-word_at.ensures) c.loop-first.invariant.same);
 }
 
 pub returns-in-None : goal.returns-in-None

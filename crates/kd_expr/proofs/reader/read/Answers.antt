@@ -12,7 +12,7 @@ expr_of-requires c = parse_sound c.args.text.now (tree_of c.in-Ok.tree) c.if-tex
 pub returns-in-Ok-clause-found : goal.returns-in-Ok-clause-found
 returns-in-Ok-clause-found c =
     subst (λ (node : Node). Parses c.args.text.now (tree_of node)) (sym c.expr_of.ensures)
-      (parse_sound c.args.text.now (tree_of c.in-Ok.tree) c.if-text-gt-LONGEST_TEXT.false c.in-Ok.ensures)
+    (parse_sound c.args.text.now (tree_of c.in-Ok.tree) c.if-text-gt-LONGEST_TEXT.false c.in-Ok.ensures)
 
 pub returns-in-Ok-clause-only : goal.returns-in-Ok-clause-only
 returns-in-Ok-clause-only c tree p =
