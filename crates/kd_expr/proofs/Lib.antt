@@ -1,0 +1,14 @@
+pub mod Options
+pub mod Sound
+pub mod Tokens
+pub mod Readings
+pub mod Complete
+pub mod Productions
+pub mod Numbers
+pub mod Spans
+pub mod Addresses
+pub mod Lexed
+pub mod Words
+pub mod Texts
+pub mod Count
+pub mod TextRead

@@ -1,0 +1,20 @@
+-- Answers that are there or not, and tests that came out true.
+use Rattle.std.proofs.Common.{◌≡◌, ◌≢◌, ℕ, Bool, true, false, Option, Some, None, refl, sym, ◌∙◌, ap, if◌then◌else◌}
+
+-- an answer that is there is no other than this
+pub some_is : {A : Type 0} {a b : A} → ◌≡◌ {A = Option A} (Some a) (Some b) → a ≡ b
+some_is e = cc
+
+-- no answer is none that is there
+pub none_is : {A : Type 0} {C : Type 0} {a : A} → ◌≡◌ {A = Option A} None (Some a) → C
+none_is e = absurd (cc)
+
+-- two pairs agree in their parts
+pub some_pair : {A B : Type 0} {a c : A} {b d : B} → ◌≡◌ {A = Option (A × B)} (Some (a, b)) (Some (c, d)) → (a ≡ c) × (b ≡ d)
+some_pair {A} {B} {a} {c} {b} {d} e =
+    let pair : ◌≡◌ {A = A × B} (a, b) (c, d) = some_is e in (ap (λ x. x.0) pair, ap (λ x. x.1) pair)
+
+-- what a test lets through has passed it
+pub if_some : {A : Type 0} {a b : A} (test : Bool) → ◌≡◌ {A = Option A} (if test then Some a else None) (Some b) → (test ≡ true) × (a ≡ b)
+if_some true e = (refl, some_is e)
+if_some false e = none_is e

@@ -1,0 +1,118 @@
+-- The lexer, computed: which word stands at the front of bytes, and which tokens a text has. Proofs tie
+-- it to the definition of words; no public contract cites it.
+use Rattle.std.specs.Prelude.{◌≡◌, ℕ, zero, suc, ◌+◌, ◌-◌, Bool, true, false, ◌&&◌, ◌==◌, nat_le, List, [], ◌∷◌, length, Option, Some, None, if◌then◌else◌}
+use Rattle.kd_expr.specs.Address.{is_digit, decimal}
+use Rattle.kd_expr.specs.Lexical.{Lexeme, StringAt, HexAt, AddressAt, NumberAt, MinusAt, NameAt, SignAt, BadAt, is_blank, is_letter, is_hex_digit, is_sign, is_x, in_string, in_run, in_name}
+use Rattle.kd_expr.specs.Reading.{and_then, or_else}
+use Rattle.kd_expr.specs.declared.class.Class.{Class}
+use Rattle.kd_expr.specs.declared.class.Class.TheVariants as classes
+
+-- the test of a class of bytes
+abbrev pub class_test : Class → ℕ → Bool
+class_test classes.Digit = is_digit
+class_test classes.HexDigit = is_hex_digit
+class_test classes.InRun = in_run
+class_test classes.InName = in_name
+class_test classes.InString = in_string
+
+-- the bytes at the front that pass a test
+abbrev pub front_of : (ℕ → Bool) → List ℕ → List ℕ
+front_of p [] = []
+front_of p (b ∷ bytes) = if p b then b ∷ front_of p bytes else []
+
+-- what follows the bytes at the front that pass a test
+abbrev pub behind_of : (ℕ → Bool) → List ℕ → List ℕ
+behind_of p [] = []
+behind_of p (b ∷ bytes) = if p b then behind_of p bytes else b ∷ bytes
+
+-- nothing is left
+abbrev pub is_empty : List ℕ → Bool
+is_empty [] = true
+is_empty (b ∷ bytes) = false
+
+-- every byte passes a test
+abbrev pub all_pass : (ℕ → Bool) → List ℕ → Bool
+all_pass p bytes = is_empty (behind_of p bytes)
+
+-- the number of the digits at the front, as a part of an address, and what follows
+unfoldable pub part : List ℕ → Option (ℕ × List ℕ)
+part text =
+    if nat_le 1 (length (front_of is_digit text)) && nat_le (length (front_of is_digit text)) 3 && nat_le (decimal (front_of is_digit text)) 255
+    then Some (decimal (front_of is_digit text), behind_of is_digit text)
+    else None
+
+-- the same behind a dot
+unfoldable pub next_part : List ℕ → Option (ℕ × List ℕ)
+next_part [] = None
+next_part (b ∷ text) = if b == 46 then part text else None
+
+-- the four bytes of an address
+unfoldable pub address_of : List ℕ → Option (List ℕ)
+address_of text =
+    and_then (part text) (λ a. and_then (next_part a.1) (λ b. and_then (next_part b.1) (λ c. and_then (next_part c.1) (λ d.
+    if is_empty d.1 then Some (a.0 ∷ b.0 ∷ c.0 ∷ d.0 ∷ []) else None))))
+
+-- the digits behind a hexadecimal prefix
+unfoldable pub hex_digits : List ℕ → Option (List ℕ)
+hex_digits [] = None
+hex_digits (z ∷ []) = None
+hex_digits (z ∷ x ∷ ds) = if (z == 48 && is_x x) && (nat_le 1 (length ds) && all_pass is_hex_digit ds) then Some ds else None
+
+-- the token of a run
+unfoldable pub run_token : ℕ → List ℕ → Option Lexeme
+run_token at run =
+    if all_pass is_digit run then Some (NumberAt at (decimal run))
+    else or_else (hex_digits run) (λ digits. Some (HexAt at digits)) (and_then (address_of run) (λ a. Some (AddressAt at a)))
+
+-- a run and what follows it
+unfoldable pub run_cut : ℕ → List ℕ → Option (Lexeme × List ℕ)
+run_cut at bytes = and_then (run_token at (front_of in_run bytes)) (λ x. Some (x, behind_of in_run bytes))
+
+-- a string of these bytes, where an apostrophe follows them
+abbrev pub closed : ℕ → List ℕ → List ℕ → Option (Lexeme × List ℕ)
+closed at s [] = None
+closed at s (b ∷ rest) = if b == 39 then Some (StringAt at s, rest) else None
+
+-- a string behind its apostrophe, and what follows it
+unfoldable pub string_cut : ℕ → List ℕ → Option (Lexeme × List ℕ)
+string_cut at bytes = closed at (front_of in_string bytes) (behind_of in_string bytes)
+
+-- the token of a run behind a minus
+abbrev pub minus_token : ℕ → List ℕ → Option Lexeme
+minus_token at run = if nat_le 1 (length run) && all_pass is_digit run then Some (MinusAt at (decimal run)) else None
+
+-- a number behind its minus, and what follows it
+unfoldable pub minus_cut : ℕ → List ℕ → Option (Lexeme × List ℕ)
+minus_cut at bytes = and_then (minus_token at (front_of in_run bytes)) (λ x. Some (x, behind_of in_run bytes))
+
+-- a name, of which the first letter is known, and what follows it
+unfoldable pub name_cut : ℕ → List ℕ → Option (Lexeme × List ℕ)
+name_cut at bytes = Some (NameAt at (front_of in_name bytes), behind_of in_name bytes)
+
+-- an equality sign behind its first byte, and what follows it
+unfoldable pub equal_cut : ℕ → List ℕ → Option (Lexeme × List ℕ)
+equal_cut at [] = None
+equal_cut at (b ∷ rest) = if b == 61 then Some (SignAt at 61, rest) else None
+
+-- the word at the front of bytes, and what follows it
+unfoldable pub cut : ℕ → List ℕ → Option (Lexeme × List ℕ)
+cut at [] = None
+cut at (b ∷ bytes) =
+    if b == 39 then string_cut at bytes
+    else if is_digit b then run_cut at (b ∷ bytes)
+    else if b == 45 then minus_cut at bytes
+    else if is_letter b then name_cut at (b ∷ bytes)
+    else if b == 61 then equal_cut at bytes
+    else if is_sign b then Some (SignAt at b, bytes)
+    else None
+
+-- the tokens of bytes, at most k bytes and words further; the last is bad where no word stands
+unfoldable pub tokens_from : ℕ → ℕ → List ℕ → List Lexeme
+tokens_from k at [] = []
+tokens_from zero at (b ∷ bytes) = []
+tokens_from (suc k) at (b ∷ bytes) =
+    if is_blank b then tokens_from k (at + 1) bytes
+    else elim (cut at (b ∷ bytes)) [
+      | None ↦ BadAt at ∷ []
+      | Some x ↦ x.0 ∷ tokens_from k (at + (length (b ∷ bytes) - length x.1)) x.1
+    ]

@@ -1,0 +1,12 @@
+pub mod Address
+pub mod Tree
+pub mod Lexical
+pub mod Names
+pub mod Grammar
+pub mod Faults
+pub mod Reading
+pub mod Lexing
+pub mod Size
+pub mod Typing
+pub mod Gives
+pub mod View

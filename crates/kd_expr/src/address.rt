@@ -1,0 +1,53 @@
+ghost use Rattle.std.specs.Prelude.{◌≡◌, ℕ, List, IfSome, Some, option_map};
+ghost use Rattle.kd_expr.specs.Address.{IsAddress};
+ghost use Rattle.kd_expr.specs.Lexing.{part, next_part, address_of};
+
+use crate::class::{Class, split};
+use crate::number::number;
+
+/// The four bytes of an IPv4 address in decimal numbers with dots between them. Leading zeros may
+/// stand, as long as a number has at most three digits.
+pub fn read_address(text: &[u8]) -> Option<[u8; 4]>
+    ensures found { IfSome result (λ address. IsAddress text.now address) }
+    ensures only { (address : List ℕ) → IsAddress text.now address → result ≡ Some address }
+{
+    address_of(text)
+}
+
+// The four parts of an address.
+#[tactic(auto, unfolding(crate::specs::Lexing::address_of))]
+pub(crate) fn address_of(text: &[u8]) -> Option<[u8; 4]>
+    ensures { result ≡ address_of text.now }
+{
+    let (a, rest) = part(text)?;
+    let (b, rest) = next_part(rest)?;
+    let (c, rest) = next_part(rest)?;
+    let (d, rest) = next_part(rest)?;
+    match rest {
+        [] => Some([a, b, c, d]),
+        _ => None,
+    }
+}
+
+// The part behind a dot.
+#[tactic(auto, unfolding(crate::specs::Lexing::next_part))]
+fn next_part(text: &[u8]) -> Option<(u8, &[u8])>
+    ensures { option_map (λ x. (x.0, x.1.now)) result ≡ next_part text.now }
+{
+    match text {
+        [b, rest @ ..] if *b == 46 => part(rest),
+        _ => None,
+    }
+}
+
+// The part at the front, and what follows it.
+#[tactic(auto, unfolding(crate::specs::Lexing::part))]
+fn part(text: &[u8]) -> Option<(u8, &[u8])>
+    ensures { option_map (λ x. (x.0, x.1.now)) result ≡ part text.now }
+{
+    let (digits, rest) = split(Class::Digit, text);
+    match number(digits) {
+        Some(n) if digits.len() >= 1 && digits.len() <= 3 && n <= 255 => Some((n as u8, rest)),
+        _ => None,
+    }
+}

@@ -1,0 +1,176 @@
+ghost use Rattle.std.specs.Prelude.{◌≡◌, ◌≤◌, IfOk, length, codes, bytes_eq};
+ghost use Rattle.kd_expr.specs.Gives.{Gives};
+ghost use Rattle.kd_expr.specs.Reading.{below, named_at, form_at, one_operand, two_operands, ifelse_at, substring_at};
+ghost use Rattle.kd_expr.specs.View.{lexemes, tree_of};
+
+use crate::fault::SyntaxFault;
+use crate::names::{field_of, length_of, member_of, option_of, packet_of, relay_of, signed_of};
+use crate::node::Node;
+use crate::parser::{Source, any_deeper};
+use crate::take::expect_sign;
+use crate::token::Token;
+
+// What the name at a place begins, of which the tokens behind the name are given.
+#[cycle(parser)]
+#[tactic(auto, unfolding(crate::specs::Reading::named_at))]
+pub(crate) fn named_of<'t, 'a>(
+    source: Source,
+    at: usize,
+    name: &'a [u8],
+    tokens: &'t [Token<'a>],
+    depth: u8,
+) -> Result<(Node, &'t [Token<'a>]), SyntaxFault>
+    ensures reads { Gives (λ x. (tree_of x.0, lexemes x.1.now)) result (named_at (below depth) at name.now (lexemes tokens.now)) }
+    ensures shorter { IfOk result (λ x. length x.1.now ≤ length tokens.now) }
+{
+    if name == b"option".as_slice() {
+        option_of(source, at, tokens)
+    } else if name == b"relay4".as_slice() {
+        relay_of(source, at, tokens)
+    } else if name == b"pkt4".as_slice() {
+        field_of(source, at, tokens)
+    } else if name == b"pkt".as_slice() {
+        packet_of(source, at, tokens)
+    } else if name == b"member".as_slice() {
+        member_of(source, at, tokens, depth)
+    } else {
+        form_of(source, at, name, tokens, depth)
+    }
+}
+
+// A form with operands.
+#[cycle(parser)]
+#[tactic(auto, unfolding(crate::specs::Reading::form_at))]
+fn form_of<'t, 'a>(
+    source: Source,
+    at: usize,
+    name: &'a [u8],
+    tokens: &'t [Token<'a>],
+    depth: u8,
+) -> Result<(Node, &'t [Token<'a>]), SyntaxFault>
+    ensures reads { Gives (λ x. (tree_of x.0, lexemes x.1.now)) result (form_at (below depth) at name.now (lexemes tokens.now)) }
+    ensures shorter { IfOk result (λ x. length x.1.now ≤ length tokens.now) }
+{
+    if name == b"substring".as_slice() {
+        substring_of(source, at, tokens, depth)
+    } else if name == b"ifelse".as_slice() {
+        ifelse_of(source, at, tokens, depth)
+    } else if name == b"concat".as_slice() {
+        let (left, right, rest) = two_operands(source, tokens, depth)?;
+        Ok((Node::Concat { at, left, right }, rest))
+    } else if name == b"hexstring".as_slice() {
+        let (operand, separator, rest) = two_operands(source, tokens, depth)?;
+        Ok((
+            Node::HexString {
+                at,
+                operand,
+                separator,
+            },
+            rest,
+        ))
+    } else if name == b"lcase".as_slice() {
+        let (operand, rest) = one_operand(source, tokens, depth)?;
+        Ok((Node::Lower { at, operand }, rest))
+    } else if name == b"ucase".as_slice() {
+        let (operand, rest) = one_operand(source, tokens, depth)?;
+        Ok((Node::Upper { at, operand }, rest))
+    } else if name == b"uint32totext".as_slice() {
+        let (operand, rest) = one_operand(source, tokens, depth)?;
+        Ok((Node::IntToText { at, operand }, rest))
+    } else {
+        Err(SyntaxFault::Expected(at))
+    }
+}
+
+// An operand in brackets.
+#[cycle(parser)]
+#[tactic(auto, unfolding(crate::specs::Reading::one_operand))]
+fn one_operand<'t, 'a>(
+    source: Source,
+    tokens: &'t [Token<'a>],
+    depth: u8,
+) -> Result<(Box<Node>, &'t [Token<'a>]), SyntaxFault>
+    ensures reads { Gives (λ x. (tree_of x.0.value, lexemes x.1.now)) result (one_operand (below depth) (lexemes tokens.now)) }
+    ensures shorter { IfOk result (λ x. length x.1.now ≤ length tokens.now) }
+{
+    let (open, rest) = expect_sign(tokens, b'(', source.end)?;
+    let (operand, rest) = any_deeper(source, rest, depth, open)?;
+    let (_, rest) = expect_sign(rest, b')', source.end)?;
+    Ok((Box::new(source.alloc, operand)?, rest))
+}
+
+// Two operands in brackets.
+#[cycle(parser)]
+#[tactic(auto, unfolding(crate::specs::Reading::two_operands))]
+fn two_operands<'t, 'a>(
+    source: Source,
+    tokens: &'t [Token<'a>],
+    depth: u8,
+) -> Result<(Box<Node>, Box<Node>, &'t [Token<'a>]), SyntaxFault>
+    ensures reads { Gives (λ x. ((tree_of x.0.value, tree_of x.1.value), lexemes x.2.now)) result (two_operands (below depth) (lexemes tokens.now)) }
+    ensures shorter { IfOk result (λ x. length x.2.now ≤ length tokens.now) }
+{
+    let (open, rest) = expect_sign(tokens, b'(', source.end)?;
+    let (first, rest) = any_deeper(source, rest, depth, open)?;
+    let (_, rest) = expect_sign(rest, b',', source.end)?;
+    let (second, rest) = any_deeper(source, rest, depth, open)?;
+    let (_, rest) = expect_sign(rest, b')', source.end)?;
+    let first = Box::new(source.alloc, first)?;
+    Ok((first, Box::new(source.alloc, second)?, rest))
+}
+
+// What stands behind `ifelse`.
+#[cycle(parser)]
+#[tactic(auto, unfolding(crate::specs::Reading::ifelse_at))]
+fn ifelse_of<'t, 'a>(
+    source: Source,
+    at: usize,
+    tokens: &'t [Token<'a>],
+    depth: u8,
+) -> Result<(Node, &'t [Token<'a>]), SyntaxFault>
+    ensures reads { Gives (λ x. (tree_of x.0, lexemes x.1.now)) result (ifelse_at (below depth) at (lexemes tokens.now)) }
+    ensures shorter { IfOk result (λ x. length x.1.now ≤ length tokens.now) }
+{
+    let (open, rest) = expect_sign(tokens, b'(', source.end)?;
+    let (test, rest) = any_deeper(source, rest, depth, open)?;
+    let (_, rest) = expect_sign(rest, b',', source.end)?;
+    let (yes, rest) = any_deeper(source, rest, depth, open)?;
+    let (_, rest) = expect_sign(rest, b',', source.end)?;
+    let (no, rest) = any_deeper(source, rest, depth, open)?;
+    let (_, rest) = expect_sign(rest, b')', source.end)?;
+    let test = Box::new(source.alloc, test)?;
+    let yes = Box::new(source.alloc, yes)?;
+    let no = Box::new(source.alloc, no)?;
+    Ok((Node::IfElse { at, test, yes, no }, rest))
+}
+
+// What stands behind `substring`.
+#[cycle(parser)]
+#[tactic(auto, unfolding(crate::specs::Reading::substring_at))]
+fn substring_of<'t, 'a>(
+    source: Source,
+    at: usize,
+    tokens: &'t [Token<'a>],
+    depth: u8,
+) -> Result<(Node, &'t [Token<'a>]), SyntaxFault>
+    ensures reads { Gives (λ x. (tree_of x.0, lexemes x.1.now)) result (substring_at (below depth) at (lexemes tokens.now)) }
+    ensures shorter { IfOk result (λ x. length x.1.now ≤ length tokens.now) }
+{
+    let (open, rest) = expect_sign(tokens, b'(', source.end)?;
+    let (operand, rest) = any_deeper(source, rest, depth, open)?;
+    let (_, rest) = expect_sign(rest, b',', source.end)?;
+    let (start, rest) = signed_of(rest, source.end)?;
+    let (_, rest) = expect_sign(rest, b',', source.end)?;
+    let (length, rest) = length_of(rest, source.end)?;
+    let (_, rest) = expect_sign(rest, b')', source.end)?;
+    let operand = Box::new(source.alloc, operand)?;
+    Ok((
+        Node::Substring {
+            at,
+            operand,
+            start,
+            length,
+        },
+        rest,
+    ))
+}

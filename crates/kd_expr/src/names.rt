@@ -1,0 +1,337 @@
+ghost use Rattle.std.specs.Prelude.{◌≡◌, ◌≤◌, ◌<◌, IfOk, length, codes, bytes_eq};
+ghost use Rattle.kd_expr.specs.Gives.{Gives};
+ghost use Rattle.kd_expr.specs.Names.{code_named, field_named};
+ghost use Rattle.kd_expr.specs.Reading.{below, one, bracketed, option_code, relay_code, suffix, field_of, signed, length_of, class_name, option_at, relay_at, field_at, packet_at, member_at};
+ghost use Rattle.kd_expr.specs.View.{lexemes, tree_of};
+
+use crate::fault::SyntaxFault;
+use crate::literal::bytes_of;
+use crate::node::{Field, Node};
+use crate::number::number;
+use crate::parser::Source;
+use crate::take::{expect_sign, expect_word, unexpected};
+use crate::token::{Kind, Token};
+
+// What stands behind `option`.
+#[tactic(auto, unfolding(crate::specs::Reading::option_at))]
+pub(crate) fn option_of<'t, 'a>(
+    source: Source,
+    at: usize,
+    tokens: &'t [Token<'a>],
+) -> Result<(Node, &'t [Token<'a>]), SyntaxFault>
+    ensures reads { Gives (λ x. (tree_of x.0, lexemes x.1.now)) result (option_at at (lexemes tokens.now)) }
+    ensures shorter { IfOk result (λ x. length x.1.now ≤ length tokens.now) }
+{
+    let (_, rest) = expect_sign(tokens, b'[', source.end)?;
+    let (code, rest) = option_code(rest, source.end)?;
+    let (_, rest) = expect_sign(rest, b']', source.end)?;
+    let (_, rest) = expect_sign(rest, b'.', source.end)?;
+    let (exists, rest) = suffix(rest, source.end)?;
+    if exists {
+        Ok((Node::OptionExists { at, code }, rest))
+    } else {
+        Ok((Node::Option { at, code }, rest))
+    }
+}
+
+// What stands behind `relay4`.
+#[tactic(auto, unfolding(crate::specs::Reading::relay_at))]
+pub(crate) fn relay_of<'t, 'a>(
+    source: Source,
+    at: usize,
+    tokens: &'t [Token<'a>],
+) -> Result<(Node, &'t [Token<'a>]), SyntaxFault>
+    ensures reads { Gives (λ x. (tree_of x.0, lexemes x.1.now)) result (relay_at at (lexemes tokens.now)) }
+    ensures shorter { IfOk result (λ x. length x.1.now ≤ length tokens.now) }
+{
+    let (_, rest) = expect_sign(tokens, b'[', source.end)?;
+    let (code, rest) = relay_code(rest, source.end)?;
+    let (_, rest) = expect_sign(rest, b']', source.end)?;
+    let (_, rest) = expect_sign(rest, b'.', source.end)?;
+    let (exists, rest) = suffix(rest, source.end)?;
+    if exists {
+        Ok((Node::RelayExists { at, code }, rest))
+    } else {
+        Ok((Node::Relay { at, code }, rest))
+    }
+}
+
+// What stands behind `pkt4`.
+#[tactic(auto, unfolding(crate::specs::Reading::field_at))]
+pub(crate) fn field_of<'t, 'a>(
+    source: Source,
+    at: usize,
+    tokens: &'t [Token<'a>],
+) -> Result<(Node, &'t [Token<'a>]), SyntaxFault>
+    ensures reads { Gives (λ x. (tree_of x.0, lexemes x.1.now)) result (field_at at (lexemes tokens.now)) }
+    ensures shorter { IfOk result (λ x. length x.1.now ≤ length tokens.now) }
+{
+    let (_, rest) = expect_sign(tokens, b'.', source.end)?;
+    let (field, rest) = field(rest, source.end)?;
+    Ok((Node::Field { at, field }, rest))
+}
+
+// What stands behind `pkt`.
+#[tactic(auto, unfolding(crate::specs::Reading::packet_at))]
+pub(crate) fn packet_of<'t, 'a>(
+    source: Source,
+    at: usize,
+    tokens: &'t [Token<'a>],
+) -> Result<(Node, &'t [Token<'a>]), SyntaxFault>
+    ensures reads { Gives (λ x. (tree_of x.0, lexemes x.1.now)) result (packet_at at (lexemes tokens.now)) }
+    ensures shorter { IfOk result (λ x. length x.1.now ≤ length tokens.now) }
+{
+    let (_, rest) = expect_sign(tokens, b'.', source.end)?;
+    let (_, rest) = expect_word(rest, b"len", source.end)?;
+    Ok((
+        Node::Field {
+            at,
+            field: Field::Length,
+        },
+        rest,
+    ))
+}
+
+// What stands behind `member`.
+#[tactic(auto, unfolding(crate::specs::Reading::member_at))]
+pub(crate) fn member_of<'t, 'a>(
+    source: Source,
+    at: usize,
+    tokens: &'t [Token<'a>],
+    depth: u8,
+) -> Result<(Node, &'t [Token<'a>]), SyntaxFault>
+    ensures reads { Gives (λ x. (tree_of x.0, lexemes x.1.now)) result (member_at (below depth) at (lexemes tokens.now)) }
+    ensures shorter { IfOk result (λ x. length x.1.now ≤ length tokens.now) }
+{
+    let (open, rest) = expect_sign(tokens, b'(', source.end)?;
+    let (name, rest) = name_deeper(rest, depth, open, source.end)?;
+    let (_, rest) = expect_sign(rest, b')', source.end)?;
+    let name = bytes_of(source.alloc, name)?;
+    Ok((Node::Member { at, name }, rest))
+}
+
+// A class's name of 1 to 255 bytes, behind the bracket at this place.
+#[tactic(auto, unfolding(crate::specs::Reading::below))]
+fn name_deeper<'t, 'a>(
+    tokens: &'t [Token<'a>],
+    depth: u8,
+    at: usize,
+    end: usize,
+) -> Result<(&'a [u8], &'t [Token<'a>]), SyntaxFault>
+    ensures reads { Gives (λ x. (x.0.now, lexemes x.1.now)) result ((below depth).name (lexemes tokens.now)) }
+    ensures shorter { IfOk result (λ x. length x.1.now ≤ length tokens.now) }
+{
+    if depth == 0 {
+        return Err(SyntaxFault::TooNested(at));
+    }
+    let [first, rest @ ..] = tokens else {
+        return Err(SyntaxFault::Expected(end));
+    };
+    let token = *first;
+    match token.kind {
+        Kind::Text(name) if name.len() >= 1 && name.len() <= 255 => Ok((name, rest)),
+        _ => Err(unexpected(tokens, end)),
+    }
+}
+
+// The code of an option, by number or by name.
+fn option_code<'t, 'a>(
+    tokens: &'t [Token<'a>],
+    end: usize,
+) -> Result<(u8, &'t [Token<'a>]), SyntaxFault>
+    ensures reads { Gives (λ x. (x.0, lexemes x.1.now)) result (one option_code (lexemes tokens.now)) }
+    ensures shorter { IfOk result (λ x. length x.1.now < length tokens.now) }
+{
+    let [first, rest @ ..] = tokens else {
+        return Err(SyntaxFault::Expected(end));
+    };
+    let token = *first;
+    match token.kind {
+        Kind::Number(digits) => match number(digits) {
+            Some(code) if code < 256 => Ok((code as u8, rest)),
+            _ => Err(SyntaxFault::NumberTooLarge(token.at)),
+        },
+        Kind::Name(name) => match code_named(name) {
+            Some(code) => Ok((code, rest)),
+            None => Err(SyntaxFault::UnknownName(token.at)),
+        },
+        _ => Err(unexpected(tokens, end)),
+    }
+}
+
+// The code of a sub-option.
+fn relay_code<'t, 'a>(
+    tokens: &'t [Token<'a>],
+    end: usize,
+) -> Result<(u8, &'t [Token<'a>]), SyntaxFault>
+    ensures reads { Gives (λ x. (x.0, lexemes x.1.now)) result (one relay_code (lexemes tokens.now)) }
+    ensures shorter { IfOk result (λ x. length x.1.now < length tokens.now) }
+{
+    let [first, rest @ ..] = tokens else {
+        return Err(SyntaxFault::Expected(end));
+    };
+    let token = *first;
+    match token.kind {
+        Kind::Number(digits) => match number(digits) {
+            Some(code) if code < 256 => Ok((code as u8, rest)),
+            _ => Err(SyntaxFault::NumberTooLarge(token.at)),
+        },
+        _ => Err(unexpected(tokens, end)),
+    }
+}
+
+// Whether `exists` stands there, or `hex`.
+fn suffix<'t, 'a>(
+    tokens: &'t [Token<'a>],
+    end: usize,
+) -> Result<(bool, &'t [Token<'a>]), SyntaxFault>
+    ensures reads { Gives (λ x. (x.0, lexemes x.1.now)) result (one suffix (lexemes tokens.now)) }
+    ensures shorter { IfOk result (λ x. length x.1.now < length tokens.now) }
+{
+    let [first, rest @ ..] = tokens else {
+        return Err(SyntaxFault::Expected(end));
+    };
+    let token = *first;
+    match token.kind {
+        Kind::Name(name) if name == b"hex".as_slice() => Ok((false, rest)),
+        Kind::Name(name) if name == b"exists".as_slice() => Ok((true, rest)),
+        _ => Err(unexpected(tokens, end)),
+    }
+}
+
+// The part of a message that a name stands for.
+fn field<'t, 'a>(
+    tokens: &'t [Token<'a>],
+    end: usize,
+) -> Result<(Field, &'t [Token<'a>]), SyntaxFault>
+    ensures reads { Gives (λ x. (x.0, lexemes x.1.now)) result (one field_of (lexemes tokens.now)) }
+    ensures shorter { IfOk result (λ x. length x.1.now < length tokens.now) }
+{
+    let [first, rest @ ..] = tokens else {
+        return Err(SyntaxFault::Expected(end));
+    };
+    let token = *first;
+    match token.kind {
+        Kind::Name(name) => match field_named(name) {
+            Some(field) => Ok((field, rest)),
+            None => Err(SyntaxFault::Expected(token.at)),
+        },
+        _ => Err(unexpected(tokens, end)),
+    }
+}
+
+// A number of 32 bits, which may have a minus in front.
+pub(crate) fn signed_of<'t, 'a>(
+    tokens: &'t [Token<'a>],
+    end: usize,
+) -> Result<(i32, &'t [Token<'a>]), SyntaxFault>
+    ensures reads { Gives (λ x. (x.0, lexemes x.1.now)) result (one signed (lexemes tokens.now)) }
+    ensures shorter { IfOk result (λ x. length x.1.now < length tokens.now) }
+{
+    let [first, rest @ ..] = tokens else {
+        return Err(SyntaxFault::Expected(end));
+    };
+    let token = *first;
+    match token.kind {
+        Kind::Number(digits) => match number(digits) {
+            Some(n) if n < 1 << 31 => Ok((n as i32, rest)),
+            _ => Err(SyntaxFault::NumberTooLarge(token.at)),
+        },
+        Kind::Minus(digits) => match number(digits) {
+            Some(0) => Ok((0, rest)),
+            Some(n) if n <= 1 << 31 => Ok((-((n - 1) as i32) - 1, rest)),
+            _ => Err(SyntaxFault::NumberTooLarge(token.at)),
+        },
+        _ => Err(unexpected(tokens, end)),
+    }
+}
+
+// The length of a part: such a number, or `all`.
+pub(crate) fn length_of<'t, 'a>(
+    tokens: &'t [Token<'a>],
+    end: usize,
+) -> Result<(Option<i32>, &'t [Token<'a>]), SyntaxFault>
+    ensures reads { Gives (λ x. (x.0, lexemes x.1.now)) result (one length_of (lexemes tokens.now)) }
+    ensures shorter { IfOk result (λ x. length x.1.now < length tokens.now) }
+{
+    let [first, rest @ ..] = tokens else {
+        return Err(SyntaxFault::Expected(end));
+    };
+    let token = *first;
+    match token.kind {
+        Kind::Name(name) if name == b"all".as_slice() => Ok((None, rest)),
+        Kind::Number(_) | Kind::Minus(_) => {
+            let (n, rest) = signed_of(tokens, end)?;
+            Ok((Some(n), rest))
+        }
+        _ => Err(unexpected(tokens, end)),
+    }
+}
+
+// The code of the option that a name stands for.
+#[tactic(auto, unfolding(crate::specs::Names::code_named))]
+fn code_named(name: &[u8]) -> Option<u8>
+    ensures { result ≡ code_named name.now }
+{
+    if name == b"subnet-mask".as_slice() {
+        Some(1)
+    } else if name == b"routers".as_slice() {
+        Some(3)
+    } else if name == b"domain-name-servers".as_slice() {
+        Some(6)
+    } else if name == b"host-name".as_slice() {
+        Some(12)
+    } else if name == b"domain-name".as_slice() {
+        Some(15)
+    } else if name == b"vendor-encapsulated-options".as_slice() {
+        Some(43)
+    } else if name == b"dhcp-requested-address".as_slice() {
+        Some(50)
+    } else if name == b"dhcp-lease-time".as_slice() {
+        Some(51)
+    } else if name == b"dhcp-message-type".as_slice() {
+        Some(53)
+    } else if name == b"dhcp-server-identifier".as_slice() {
+        Some(54)
+    } else if name == b"dhcp-parameter-request-list".as_slice() {
+        Some(55)
+    } else if name == b"dhcp-max-message-size".as_slice() {
+        Some(57)
+    } else if name == b"vendor-class-identifier".as_slice() {
+        Some(60)
+    } else if name == b"dhcp-client-identifier".as_slice() {
+        Some(61)
+    } else if name == b"dhcp-agent-options".as_slice() {
+        Some(82)
+    } else {
+        None
+    }
+}
+
+// The part of a message that a name behind `pkt4.` stands for.
+#[tactic(auto, unfolding(crate::specs::Names::field_named))]
+fn field_named(name: &[u8]) -> Option<Field>
+    ensures { result ≡ field_named name.now }
+{
+    if name == b"mac".as_slice() {
+        Some(Field::Mac)
+    } else if name == b"hlen".as_slice() {
+        Some(Field::Hlen)
+    } else if name == b"htype".as_slice() {
+        Some(Field::Htype)
+    } else if name == b"ciaddr".as_slice() {
+        Some(Field::Ciaddr)
+    } else if name == b"giaddr".as_slice() {
+        Some(Field::Giaddr)
+    } else if name == b"yiaddr".as_slice() {
+        Some(Field::Yiaddr)
+    } else if name == b"siaddr".as_slice() {
+        Some(Field::Siaddr)
+    } else if name == b"msgtype".as_slice() {
+        Some(Field::Msgtype)
+    } else if name == b"transid".as_slice() {
+        Some(Field::Transid)
+    } else {
+        None
+    }
+}

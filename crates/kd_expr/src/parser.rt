@@ -1,0 +1,236 @@
+ghost use Rattle.std.specs.Prelude.{◌≡◌, ◌≤◌, ◌<◌, IfOk, length, codes, bytes_eq};
+ghost use Rattle.kd_expr.specs.Gives.{Gives};
+ghost use Rattle.kd_expr.specs.Reading.{below, or_at, and_at, not_at, compare_at, sum_at, primary_at, group_at};
+ghost use Rattle.kd_expr.specs.View.{lexemes, tree_of};
+
+use crate::fault::SyntaxFault;
+use crate::forms::named_of;
+use crate::literal::{bytes_of, hex_bytes_of};
+use crate::node::Node;
+use crate::number::number;
+use crate::take::{expect_sign, sign, unexpected, word};
+use crate::token::{Kind, Token};
+use std::alloc::Global;
+
+// What a parse knows besides its tokens: where memory comes from, and where the text ends.
+#[derive(Clone, Copy)]
+pub(crate) struct Source {
+    pub(crate) alloc: Global,
+    pub(crate) end: usize,
+}
+
+// A disjunction, which is any expression, where `depth` more brackets and `not`s may be nested.
+#[cycle(parser)]
+#[tactic(auto, unfolding(crate::specs::Reading::or_at, crate::specs::Reading::chain, crate::specs::Reading::joined))]
+pub(crate) fn or_of<'t, 'a>(
+    source: Source,
+    tokens: &'t [Token<'a>],
+    depth: u8,
+) -> Result<(Node, &'t [Token<'a>]), SyntaxFault>
+    ensures reads { Gives (λ x. (tree_of x.0, lexemes x.1.now)) result (or_at (below depth) (lexemes tokens.now)) }
+    ensures shorter { IfOk result (λ x. length x.1.now ≤ length tokens.now) }
+{
+    let (mut first, mut rest) = and_of(source, tokens, depth)?;
+    while let Some((_, after)) = word(rest, b"or") {
+        let (next, left) = and_of(source, after, depth)?;
+        first = Node::Or {
+            at: first.at(),
+            left: Box::new(source.alloc, first)?,
+            right: Box::new(source.alloc, next)?,
+        };
+        rest = left;
+    }
+    Ok((first, rest))
+}
+
+// A conjunction.
+#[cycle(parser)]
+#[tactic(auto, unfolding(crate::specs::Reading::and_at, crate::specs::Reading::chain, crate::specs::Reading::joined))]
+fn and_of<'t, 'a>(
+    source: Source,
+    tokens: &'t [Token<'a>],
+    depth: u8,
+) -> Result<(Node, &'t [Token<'a>]), SyntaxFault>
+    ensures reads { Gives (λ x. (tree_of x.0, lexemes x.1.now)) result (and_at (below depth) (lexemes tokens.now)) }
+    ensures shorter { IfOk result (λ x. length x.1.now ≤ length tokens.now) }
+{
+    let (mut first, mut rest) = not_of(source, tokens, depth)?;
+    while let Some((_, after)) = word(rest, b"and") {
+        let (next, left) = not_of(source, after, depth)?;
+        first = Node::And {
+            at: first.at(),
+            left: Box::new(source.alloc, first)?,
+            right: Box::new(source.alloc, next)?,
+        };
+        rest = left;
+    }
+    Ok((first, rest))
+}
+
+// A negation, or a comparison.
+#[cycle(parser)]
+#[tactic(auto, unfolding(crate::specs::Reading::not_at))]
+fn not_of<'t, 'a>(
+    source: Source,
+    tokens: &'t [Token<'a>],
+    depth: u8,
+) -> Result<(Node, &'t [Token<'a>]), SyntaxFault>
+    ensures reads { Gives (λ x. (tree_of x.0, lexemes x.1.now)) result (not_at (below depth) (lexemes tokens.now)) }
+    ensures shorter { IfOk result (λ x. length x.1.now ≤ length tokens.now) }
+{
+    match word(tokens, b"not") {
+        Some((at, after)) => {
+            let (operand, rest) = operand_deeper(source, after, depth, at)?;
+            let operand = Box::new(source.alloc, operand)?;
+            Ok((Node::Not { at, operand }, rest))
+        }
+        None => compare_of(source, tokens, depth),
+    }
+}
+
+// A comparison, or a sum alone.
+#[cycle(parser)]
+#[tactic(auto, unfolding(crate::specs::Reading::compare_at))]
+fn compare_of<'t, 'a>(
+    source: Source,
+    tokens: &'t [Token<'a>],
+    depth: u8,
+) -> Result<(Node, &'t [Token<'a>]), SyntaxFault>
+    ensures reads { Gives (λ x. (tree_of x.0, lexemes x.1.now)) result (compare_at (below depth) (lexemes tokens.now)) }
+    ensures shorter { IfOk result (λ x. length x.1.now ≤ length tokens.now) }
+{
+    let (first, rest) = sum_of(source, tokens, depth)?;
+    match sign(rest, b'=') {
+        Some((_, after)) => {
+            let (second, left) = sum_of(source, after, depth)?;
+            let at = first.at();
+            let first = Box::new(source.alloc, first)?;
+            let right = Box::new(source.alloc, second)?;
+            Ok((
+                Node::Equal {
+                    at,
+                    left: first,
+                    right,
+                },
+                left,
+            ))
+        }
+        None => Ok((first, rest)),
+    }
+}
+
+// A sum of byte strings.
+#[cycle(parser)]
+#[tactic(auto, unfolding(crate::specs::Reading::sum_at, crate::specs::Reading::chain, crate::specs::Reading::joined))]
+fn sum_of<'t, 'a>(
+    source: Source,
+    tokens: &'t [Token<'a>],
+    depth: u8,
+) -> Result<(Node, &'t [Token<'a>]), SyntaxFault>
+    ensures reads { Gives (λ x. (tree_of x.0, lexemes x.1.now)) result (sum_at (below depth) (lexemes tokens.now)) }
+    ensures shorter { IfOk result (λ x. length x.1.now ≤ length tokens.now) }
+{
+    let (mut first, mut rest) = primary_of(source, tokens, depth)?;
+    while let Some((_, after)) = sign(rest, b'+') {
+        let (next, left) = primary_of(source, after, depth)?;
+        first = Node::Concat {
+            at: first.at(),
+            left: Box::new(source.alloc, first)?,
+            right: Box::new(source.alloc, next)?,
+        };
+        rest = left;
+    }
+    Ok((first, rest))
+}
+
+// A literal, a number, a group, or what a name begins.
+#[cycle(parser)]
+#[tactic(auto, unfolding(crate::specs::Reading::primary_at))]
+fn primary_of<'t, 'a>(
+    source: Source,
+    tokens: &'t [Token<'a>],
+    depth: u8,
+) -> Result<(Node, &'t [Token<'a>]), SyntaxFault>
+    ensures reads { Gives (λ x. (tree_of x.0, lexemes x.1.now)) result (primary_at (below depth) (lexemes tokens.now)) }
+    ensures shorter { IfOk result (λ x. length x.1.now ≤ length tokens.now) }
+{
+    let [token, rest @ ..] = tokens else {
+        return Err(SyntaxFault::Expected(source.end));
+    };
+    let Token { at, kind } = *token;
+    match kind {
+        Kind::Text(text) => {
+            let bytes = bytes_of(source.alloc, text)?;
+            Ok((Node::Literal { at, bytes }, rest))
+        }
+        Kind::Hex(digits) => {
+            let bytes = hex_bytes_of(source.alloc, digits)?;
+            Ok((Node::Literal { at, bytes }, rest))
+        }
+        Kind::Address(a, b, c, d) => {
+            let bytes = bytes_of(source.alloc, &[a, b, c, d])?;
+            Ok((Node::Literal { at, bytes }, rest))
+        }
+        Kind::Number(digits) => match number(digits) {
+            Some(value) => Ok((Node::Int { at, value }, rest)),
+            None => Err(SyntaxFault::NumberTooLarge(at)),
+        },
+        Kind::Name(name) => named_of(source, at, name, rest, depth),
+        Kind::Sign(_) => group_of(source, tokens, depth),
+        Kind::Minus(_) | Kind::Bad => Err(unexpected(tokens, source.end)),
+    }
+}
+
+// An expression in brackets.
+#[cycle(parser)]
+#[tactic(auto, unfolding(crate::specs::Reading::group_at))]
+fn group_of<'t, 'a>(
+    source: Source,
+    tokens: &'t [Token<'a>],
+    depth: u8,
+) -> Result<(Node, &'t [Token<'a>]), SyntaxFault>
+    ensures reads { Gives (λ x. (tree_of x.0, lexemes x.1.now)) result (group_at (below depth) (lexemes tokens.now)) }
+    ensures shorter { IfOk result (λ x. length x.1.now ≤ length tokens.now) }
+{
+    let (at, rest) = expect_sign(tokens, b'(', source.end)?;
+    let (operand, rest) = any_deeper(source, rest, depth, at)?;
+    let (_, rest) = expect_sign(rest, b')', source.end)?;
+    let operand = Box::new(source.alloc, operand)?;
+    Ok((Node::Group { at, operand }, rest))
+}
+
+// An expression behind the bracket at this place, which nests it one deeper.
+#[cycle(parser)]
+#[tactic(auto, unfolding(crate::specs::Reading::below))]
+pub(crate) fn any_deeper<'t, 'a>(
+    source: Source,
+    tokens: &'t [Token<'a>],
+    depth: u8,
+    at: usize,
+) -> Result<(Node, &'t [Token<'a>]), SyntaxFault>
+    ensures reads { Gives (λ x. (tree_of x.0, lexemes x.1.now)) result ((below depth).any (lexemes tokens.now)) }
+    ensures shorter { IfOk result (λ x. length x.1.now ≤ length tokens.now) }
+{
+    if depth == 0 {
+        return Err(SyntaxFault::TooNested(at));
+    }
+    or_of(source, tokens, depth - 1)
+}
+
+// The operand of the `not` at this place, which nests it one deeper.
+#[cycle(parser)]
+#[tactic(auto, unfolding(crate::specs::Reading::below))]
+fn operand_deeper<'t, 'a>(
+    source: Source,
+    tokens: &'t [Token<'a>],
+    depth: u8,
+    at: usize,
+) -> Result<(Node, &'t [Token<'a>]), SyntaxFault>
+    ensures reads { Gives (λ x. (tree_of x.0, lexemes x.1.now)) result ((below depth).operand (lexemes tokens.now)) }
+    ensures shorter { IfOk result (λ x. length x.1.now ≤ length tokens.now) }
+{
+    if depth == 0 {
+        return Err(SyntaxFault::TooNested(at));
+    }
+    not_of(source, tokens, depth - 1)
+}

@@ -1,0 +1,59 @@
+ghost use Rattle.std.specs.Prelude.{◌≡◌, ◌<◌, ◌≤◌, ◌↔◌, IfOk, MatchResult, length, Err, Ok};
+ghost use Rattle.kd_expr.specs.Gives.{Gives};
+ghost use Rattle.kd_expr.specs.Grammar.{Parses};
+ghost use Rattle.kd_expr.specs.Lexing.{tokens_from};
+ghost use Rattle.kd_expr.specs.Reading.{whole_at};
+ghost use Rattle.kd_expr.specs.Tree.{Tree};
+ghost use Rattle.kd_expr.specs.View.{tree_of};
+ghost use Rattle.kd_expr.specs.declared.fault.ExprFault.TheVariants.{TooLong, Memory};
+
+use crate::expr::{Expr, expr_of};
+use crate::fault::{ExprFault, SyntaxFault, seen_outside};
+use crate::lexer::tokens_of;
+use crate::node::Node;
+use crate::parser::{Source, or_of};
+use crate::take::unexpected;
+use std::alloc::Global;
+
+const LONGEST_TEXT: usize = 4096;
+
+const DEEPEST_NESTING: u8 = 64;
+
+/// The expression that a text of at most 4,096 bytes spells. Memory is taken for its tokens and its tree.
+///
+/// # Errors
+///
+/// `TooLong`; otherwise the fault at the first token with which the text so far begins no expression: the
+/// first of `BadToken`, `Expected`, `NumberTooLarge`, `UnknownName` and `TooNested` that applies there; or
+/// `Memory` in place of any of these but `TooLong`.
+pub fn read(alloc: Global, text: &[u8]) -> Result<Expr, ExprFault>
+    ensures found { IfOk result (λ expr. Parses text.now (tree_of expr)) }
+    ensures only { (tree : Tree) → Parses text.now tree
+        → MatchResult result (λ expr. tree_of expr ≡ tree) (λ fault. fault ≡ Memory) }
+    ensures long { (result ≡ Err TooLong) ↔ (4096 < length text.now) }
+{
+    if text.len() > LONGEST_TEXT {
+        return Err(ExprFault::TooLong);
+    }
+    match node_in(alloc, text) {
+        Ok(tree) => Ok(expr_of(tree, text)),
+        Err(fault) => Err(seen_outside(fault)),
+    }
+}
+
+// The tree that all tokens of a text spell.
+#[tactic(auto, unfolding(crate::specs::Reading::whole_at))]
+fn node_in(alloc: Global, text: &[u8]) -> Result<Node, SyntaxFault>
+    ensures { Gives tree_of result (whole_at (tokens_from (length text.now) 0 text.now)) }
+{
+    let tokens = tokens_of(alloc, text)?;
+    let source = Source {
+        alloc,
+        end: text.len(),
+    };
+    let (tree, rest) = or_of(source, tokens.as_slice(), DEEPEST_NESTING)?;
+    match rest {
+        [] => Ok(tree),
+        _ => Err(unexpected(rest, source.end)),
+    }
+}

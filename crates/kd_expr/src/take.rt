@@ -1,0 +1,88 @@
+ghost use Rattle.std.specs.Prelude.{◌≡◌, ◌≢◌, ◌≤◌, ◌^◌, ◌<◌, IfOk, IfSome, length, option_map, option_copied, bytes_eq, codes};
+ghost use Rattle.kd_expr.specs.Gives.{Gives};
+ghost use Rattle.kd_expr.specs.Names.{code_named, field_named};
+ghost use Rattle.kd_expr.specs.Reading.{one, sign, word, option_code, relay_code, suffix, field_of, signed, length_of, class_name};
+ghost use Rattle.kd_expr.specs.View.{lexemes, lexeme_at};
+ghost use Rattle.kd_expr.specs.declared.fault.SyntaxFault.TheVariants as faults;
+
+use crate::fault::SyntaxFault;
+use crate::node::Field;
+use crate::number::number;
+use crate::token::{Kind, Token};
+
+// The fault of the first token, which cannot stand there; at the end of the text where none is left.
+pub(crate) fn unexpected(tokens: &[Token<'_>], end: usize) -> SyntaxFault
+    ensures { result ≢ faults.Memory }
+{
+    let [first, ..] = tokens else {
+        return SyntaxFault::Expected(end);
+    };
+    let token = *first;
+    match token.kind {
+        Kind::Bad => SyntaxFault::BadToken(token.at),
+        _ => SyntaxFault::Expected(token.at),
+    }
+}
+
+// The place of this sign, and what follows it.
+pub(crate) fn sign<'t, 'a>(tokens: &'t [Token<'a>], wanted: u8) -> Option<(usize, &'t [Token<'a>])>
+    ensures reads { option_map (λ x. (x.0, lexemes x.1.now)) result ≡ sign wanted (lexemes tokens.now) }
+    ensures shorter { IfSome result (λ x. length x.1.now < length tokens.now) }
+{
+    let [first, rest @ ..] = tokens else {
+        return None;
+    };
+    let token = *first;
+    match token.kind {
+        Kind::Sign(b) if b == wanted => Some((token.at, rest)),
+        _ => None,
+    }
+}
+
+// The place of this keyword, and what follows it.
+pub(crate) fn word<'t, 'a>(
+    tokens: &'t [Token<'a>],
+    wanted: &[u8],
+) -> Option<(usize, &'t [Token<'a>])>
+    ensures reads { option_map (λ x. (x.0, lexemes x.1.now)) result ≡ word wanted.now (lexemes tokens.now) }
+    ensures shorter { IfSome result (λ x. length x.1.now < length tokens.now) }
+{
+    let [first, rest @ ..] = tokens else {
+        return None;
+    };
+    let token = *first;
+    match token.kind {
+        Kind::Name(name) if name == wanted => Some((token.at, rest)),
+        _ => None,
+    }
+}
+
+// This sign, which has to stand there.
+pub(crate) fn expect_sign<'t, 'a>(
+    tokens: &'t [Token<'a>],
+    wanted: u8,
+    end: usize,
+) -> Result<(usize, &'t [Token<'a>]), SyntaxFault>
+    ensures reads { Gives (λ x. (x.0, lexemes x.1.now)) result (sign wanted (lexemes tokens.now)) }
+    ensures shorter { IfOk result (λ x. length x.1.now < length tokens.now) }
+{
+    match sign(tokens, wanted) {
+        Some(found) => Ok(found),
+        None => Err(unexpected(tokens, end)),
+    }
+}
+
+// This keyword, which has to stand there.
+pub(crate) fn expect_word<'t, 'a>(
+    tokens: &'t [Token<'a>],
+    wanted: &[u8],
+    end: usize,
+) -> Result<(usize, &'t [Token<'a>]), SyntaxFault>
+    ensures reads { Gives (λ x. (x.0, lexemes x.1.now)) result (word wanted.now (lexemes tokens.now)) }
+    ensures shorter { IfOk result (λ x. length x.1.now < length tokens.now) }
+{
+    match word(tokens, wanted) {
+        Some(found) => Ok(found),
+        None => Err(unexpected(tokens, end)),
+    }
+}

@@ -1,0 +1,156 @@
+ghost use Rattle.std.specs.Prelude.{◌≡◌, ◌<◌, ◌^◌};
+ghost use Rattle.kd_expr.specs.Size.{nodes};
+ghost use Rattle.kd_expr.specs.Typing.{field_type, type_of, test_type, want_bool, want_bytes, want_int};
+ghost use Rattle.kd_expr.specs.Tree.{at_of};
+ghost use Rattle.kd_expr.specs.View.{tree_of};
+
+use crate::fault::TypeFault;
+use crate::node::{Field, Node};
+
+/// What an expression stands for.
+#[derive(Clone, Copy, Debug, PartialEq, Eq)]
+pub enum ValueType {
+    /// A truth value.
+    Bool,
+    /// A number of 32 bits.
+    Int,
+    /// A byte string.
+    Bytes,
+}
+
+// The type of an expression, or its first fault.
+#[cycle(typing)]
+pub(crate) fn type_of_node(node: &Node) -> Result<ValueType, TypeFault>
+    ensures { result ≡ type_of (tree_of node.now) }
+{
+    match node {
+        Node::Literal { .. } | Node::Option { .. } | Node::Relay { .. } => Ok(ValueType::Bytes),
+        Node::Int { .. } => Ok(ValueType::Int),
+        Node::Field { field, .. } => Ok(type_of_field(*field)),
+        Node::OptionExists { .. } | Node::RelayExists { .. } | Node::Member { .. } => Ok(
+            ValueType::Bool,
+        ),
+        Node::Not { operand, .. } | Node::Group { operand, .. } => {
+            bool_operand(operand)?;
+            Ok(ValueType::Bool)
+        }
+        Node::And { left, right, .. } | Node::Or { left, right, .. } => {
+            bool_operand(left)?;
+            bool_operand(right)?;
+            Ok(ValueType::Bool)
+        }
+        Node::Equal { left, right, .. } => {
+            bytes_operand(left)?;
+            bytes_operand(right)?;
+            Ok(ValueType::Bool)
+        }
+        Node::Concat { left, right, .. } => {
+            bytes_operand(left)?;
+            bytes_operand(right)?;
+            Ok(ValueType::Bytes)
+        }
+        Node::HexString {
+            operand,
+            separator,
+            ..
+        } => {
+            bytes_operand(operand)?;
+            bytes_operand(separator)?;
+            Ok(ValueType::Bytes)
+        }
+        Node::IfElse { test, yes, no, .. } => {
+            bool_operand(test)?;
+            bytes_operand(yes)?;
+            bytes_operand(no)?;
+            Ok(ValueType::Bytes)
+        }
+        Node::Substring { operand, .. }
+        | Node::Lower { operand, .. }
+        | Node::Upper { operand, .. } => {
+            bytes_operand(operand)?;
+            Ok(ValueType::Bytes)
+        }
+        Node::IntToText { operand, .. } => {
+            int_operand(operand)?;
+            Ok(ValueType::Bytes)
+        }
+    }
+}
+
+// An operand that has to be a truth value.
+#[cycle(typing)]
+pub(crate) fn bool_operand(node: &Node) -> Result<(), TypeFault>
+    ensures { result ≡ want_bool (at_of (tree_of node.now)) (type_of (tree_of node.now)) }
+{
+    match type_of_node(node)? {
+        ValueType::Bool => Ok(()),
+        _ => Err(TypeFault::WantsBool(node.at())),
+    }
+}
+
+// An operand that has to be a byte string, for which a number may stand.
+#[cycle(typing)]
+fn bytes_operand(node: &Node) -> Result<(), TypeFault>
+    ensures { result ≡ want_bytes (at_of (tree_of node.now)) (type_of (tree_of node.now)) }
+{
+    match type_of_node(node)? {
+        ValueType::Bool => Err(TypeFault::WantsBytes(node.at())),
+        _ => Ok(()),
+    }
+}
+
+// An operand that has to be a number.
+#[cycle(typing)]
+fn int_operand(node: &Node) -> Result<(), TypeFault>
+    ensures { result ≡ want_int (at_of (tree_of node.now)) (type_of (tree_of node.now)) }
+{
+    match type_of_node(node)? {
+        ValueType::Int => Ok(()),
+        _ => Err(TypeFault::WantsInt(node.at())),
+    }
+}
+
+// The type of a part of a message.
+fn type_of_field(field: Field) -> ValueType
+    ensures { result ≡ field_type field }
+{
+    match field {
+        Field::Mac | Field::Ciaddr | Field::Giaddr | Field::Yiaddr | Field::Siaddr =>
+            ValueType::Bytes,
+        Field::Hlen | Field::Htype | Field::Msgtype | Field::Transid | Field::Length =>
+            ValueType::Int,
+    }
+}
+
+// How many nodes an expression has.
+pub(crate) fn count(node: &Node) -> u32
+    requires { nodes (tree_of node.now) < 2 ^ 32 }
+    ensures { result ≡ nodes (tree_of node.now) }
+{
+    match node {
+        Node::Literal { .. }
+        | Node::Int { .. }
+        | Node::Option { .. }
+        | Node::Relay { .. }
+        | Node::Field { .. }
+        | Node::OptionExists { .. }
+        | Node::RelayExists { .. }
+        | Node::Member { .. } => 1,
+        Node::Not { operand, .. }
+        | Node::Group { operand, .. }
+        | Node::Substring { operand, .. }
+        | Node::Lower { operand, .. }
+        | Node::Upper { operand, .. }
+        | Node::IntToText { operand, .. } => 1 + count(operand),
+        Node::Equal { left, right, .. }
+        | Node::And { left, right, .. }
+        | Node::Or { left, right, .. }
+        | Node::Concat { left, right, .. } => 1 + count(left) + count(right),
+        Node::HexString {
+            operand,
+            separator,
+            ..
+        } => 1 + count(operand) + count(separator),
+        Node::IfElse { test, yes, no, .. } => 1 + count(test) + count(yes) + count(no),
+    }
+}
