@@ -4,7 +4,7 @@ use Rattle.std.specs.Prelude.{ℤ, nat_lt, if◌then◌else◌, ◌==◌}
 use Rattle.std.specs.Int.{w32, cast_signed, cast_unsigned, bytes_high_first}
 use Rattle.std.specs.Int.RustNames.{FitsSigned}
 use Rattle.std.specs.List.{flat_map, AllByRecursion}
-use Rattle.std.proofs.lemmas.Bool.{le-ltb}
+use Rattle.std.proofs.lemmas.Bool.{le-ltb, ne_eqb}
 use Rattle.std.proofs.Math.Facts.{Fits-of_z}
 use Rattle.std.proofs.lemmas.Int.{to_z-of_z}
 use Rattle.std.proofs.lemmas.List.{append-nil, take_at, drop_at}
@@ -16,7 +16,7 @@ use Rattle.kd_token.specs.declared.token.Token.{Token}
 use Rattle.kd_token.specs.declared.token.Token.TheVariants as tokens
 use Rattle.kd_token.specs.declared.token.Version.{Version}
 use Rattle.kd_token.specs.declared.token.Version.TheVariants as versions
-use Rattle.kd_token.specs.File.{Code, HasFile, IsName, IsToken, IsBranch, IsCount, AreTokens, version_number, field_number, long_bytes, signed_bytes, count_bytes, token_bytes, name_bytes, names_bytes, tokens_bytes, head_bytes, file_bytes}
+use Rattle.kd_token.specs.File.{Code, HasFile, IsName, IsToken, IsBranch, IsCount, IsShort, AreTokens, version_number, field_number, long_bytes, signed_bytes, count_bytes, token_bytes, name_bytes, names_bytes, tokens_bytes, head_bytes, file_bytes}
 use Rattle.kd_token.specs.Reading.{◌>>=◌, many_at, front_at, number_at, limited_at, signed_at, magic_at, version_at, version_of, name_at, names_at, long_at, field_of, field_at, number_of_bytes_at, count_at, substring_at, skip_at, plain_of, operands_at, token_at, tokens_at, all_names_at, all_tokens_at, program_at}
 
 -- bytes that stand in front
@@ -66,8 +66,9 @@ version_again versions.Two rest = rw (one_again 2 rest) refl
 
 name_again : (name rest : List ℕ) → IsName name → name_at (name_bytes name ++ rest) ≡ Some (name, rest)
 unfolding name_at
-name_again [] rest is = absurd (omega (arith, is.0))
-name_again (b ∷ name) rest is = rw (one_again (length (b ∷ name)) ((b ∷ name) ++ rest)) (front_again (length (b ∷ name)) (b ∷ name) rest refl)
+name_again name rest is =
+    let no : (length name == 0) ≡ false = ne_eqb (length name) 0 (λ e. omega (arith, e, is.0)) in
+    rw (one_again (length name) (name ++ rest), no) (front_again (length name) name rest refl)
 
 long_again : (bytes rest : List ℕ) → length bytes < 2 ^ 16 → long_at (long_bytes bytes ++ rest) ≡ Some (bytes, rest)
 unfolding long_at
@@ -76,7 +77,7 @@ long_again bytes rest fits =
     ∙ rw (two_again (length bytes) (bytes ++ rest) fits) (front_again (length bytes) bytes rest refl)
 
 field_again : (field : Field) (rest : List ℕ) → field_at (field_number field ∷ rest) ≡ Some (field, rest)
-unfolding field_at, field_of
+unfolding field_at field_of
 field_again fields.Mac rest = rw (one_again 0 rest) refl
 field_again fields.Hlen rest = rw (one_again 1 rest) refl
 field_again fields.Htype rest = rw (one_again 2 rest) refl
@@ -89,7 +90,7 @@ field_again fields.Transaction rest = rw (one_again 8 rest) refl
 field_again fields.Length rest = rw (one_again 9 rest) refl
 
 count_again : (count : Option ℤ) (rest : List ℕ) → IsCount count → count_at (count_bytes count ++ rest) ≡ Some (count, rest)
-unfolding count_at, number_of_bytes_at
+unfolding count_at number_of_bytes_at
 count_again None rest is = rw (one_again 1 rest) refl
 count_again (Some z) rest is = rw (one_again 0 (signed_bytes z ++ rest), signed_again z rest is) refl
 
@@ -110,7 +111,7 @@ unfolding token_at
 behind_opcode version behind opcode bytes read e = rw (one_again opcode bytes) e
 
 operands_again : (version : Version) (behind : ℕ) (token : Token) (rest : List ℕ) → behind < 2 ^ 16 → IsToken version behind token → token_at version behind (token_bytes token ++ rest) ≡ Some (token, rest)
-unfolding operands_at, plain_of
+unfolding operands_at plain_of
 operands_again v n (tokens.PushBytes bytes) rest few is = behind_opcode v n 0x01 (long_bytes bytes ++ rest) _ (rw (long_again bytes rest is) refl)
 operands_again v n (tokens.PushInt x) rest few is = behind_opcode v n 0x02 (big_bytes 4 x ++ rest) _ (rw (four_again x rest is) refl)
 operands_again v n (tokens.PushOption x) rest few is = behind_opcode v n 0x03 (x ∷ rest) _ (rw (one_again x rest) refl)
@@ -181,3 +182,11 @@ program_again p has =
       two_again p.bound tail_3 has.bound,
       all_names_again p.names tail_4 has.few_names has.names,
       ap (all_tokens_at p.version) none ∙ all_tokens_again p.version p.tokens [] has.few_tokens has.tokens) refl
+
+-- the byte strings of a file's tokens have lengths of two bytes
+pub are_short : (version : Version) (list : List Token) → AreTokens version list → AllByRecursion IsShort list
+are_short version [] all = tt
+are_short version (token ∷ list) all = (short version (length list) token all.0, are_short version list all.1) where
+  short : (version : Version) (behind : ℕ) (token : Token) → IsToken version behind token → IsShort token
+  short version behind (tokens.PushBytes bytes) is = is
+  short version behind token is = tt

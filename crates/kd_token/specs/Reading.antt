@@ -160,7 +160,7 @@ operands_at version behind opcode bytes =
     else if opcode == 0x06 then (number_at 1 bytes >>= λ x. Some (tokens.OptionExists x.0, x.1))
     else if opcode == 0x07 then (number_at 1 bytes >>= λ x. Some (tokens.RelayExists x.0, x.1))
     else if opcode == 0x08 then (number_at 1 bytes >>= λ x. Some (tokens.Member x.0, x.1))
-    else if opcode == 0x0e then (substring_at bytes
+    else if opcode == 0x0e then substring_at bytes
     else if opcode == 0x20 then (skip_at version behind bytes >>= λ x. Some (tokens.Branch x.0, x.1))
     else if opcode == 0x21 then (skip_at version behind bytes >>= λ x. Some (tokens.PopBranchFalse x.0, x.1))
     else if opcode == 0x22 then (skip_at version behind bytes >>= λ x. Some (tokens.BranchFalseElsePop x.0, x.1))
