@@ -181,7 +181,8 @@ program_again p has =
       limited_again 1 64 p.depth (p.depth ∷ tail_2) tail_2 (one_again p.depth tail_2) has.depth,
       two_again p.bound tail_3 has.bound,
       all_names_again p.names tail_4 has.few_names has.names,
-      ap (all_tokens_at p.version) none ∙ all_tokens_again p.version p.tokens [] has.few_tokens has.tokens) refl
+      ap (all_tokens_at p.version) none ∙ all_tokens_again p.version p.tokens [] has.few_tokens has.tokens,
+    ) refl
 
 -- the byte strings of a file's tokens have lengths of two bytes
 pub are_short : (version : Version) (list : List Token) → AreTokens version list → AllByRecursion IsShort list

@@ -24,7 +24,12 @@ pub record Code : Type 0 where
 -- the program of these parts
 abbrev pub code : Version → ℕ → ℕ → ℕ → List (List ℕ) → List Token → Code
 code version steps depth bound names tokens = record {
-  version = version; steps = steps; depth = depth; bound = bound; names = names; tokens = tokens;
+  version = version;
+  steps = steps;
+  depth = depth;
+  bound = bound;
+  names = names;
+  tokens = tokens;
 }
 
 -- the version byte

@@ -227,12 +227,8 @@ fn operands(
         0x0e => substring(reader),
         0x20 => Ok(Token::Branch(skip(reader, version, behind, at)?)),
         0x21 => Ok(Token::PopBranchFalse(skip(reader, version, behind, at)?)),
-        0x22 => Ok(Token::BranchFalseElsePop(skip(
-            reader, version, behind, at,
-        )?)),
-        0x23 => Ok(Token::BranchTrueElsePop(skip(
-            reader, version, behind, at,
-        )?)),
+        0x22 => Ok(Token::BranchFalseElsePop(skip(reader, version, behind, at)?)),
+        0x23 => Ok(Token::BranchTrueElsePop(skip(reader, version, behind, at)?)),
         opcode => match plain_of(opcode) {
             Some(token) => Ok(token),
             None => Err(FileFault::Opcode(at)),
