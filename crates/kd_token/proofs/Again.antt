@@ -1,7 +1,7 @@
 -- What a file's definition spells is read again.
-use Rattle.std.proofs.Common.{◌≡◌, ℕ, zero, suc, ◌+◌, ◌-◌, ◌*◌, ◌^◌, ◌<◌, ◌≤◌, Bool, true, false, List, [], ◌∷◌, ◌++◌, length, take, drop, slice_index, Option, Some, None, refl, sym, ap, ◌∙◌, append_assoc, length-append, arith}
-use Rattle.std.specs.Prelude.{ℤ, nat_lt, if◌then◌else◌, ◌==◌}
-use Rattle.std.specs.Int.{w32, cast_signed, cast_unsigned, bytes_high_first}
+use Rattle.std.proofs.Common.{◌≡◌, ℕ, suc, ◌+◌, ◌*◌, ◌^◌, ◌<◌, ◌≤◌, false, List, [], ◌∷◌, ◌++◌, length, Option, Some, None, refl, sym, ap, ◌∙◌, append_assoc, length-append, arith}
+use Rattle.std.specs.Prelude.{ℤ, nat_lt, ◌==◌}
+use Rattle.std.specs.Int.{w32, cast_unsigned}
 use Rattle.std.specs.Int.RustNames.{FitsSigned}
 use Rattle.std.specs.List.{flat_map, AllByRecursion}
 use Rattle.std.proofs.lemmas.Bool.{le-ltb, ne_eqb}
@@ -16,8 +16,8 @@ use Rattle.kd_token.specs.declared.token.Token.{Token}
 use Rattle.kd_token.specs.declared.token.Token.TheVariants as tokens
 use Rattle.kd_token.specs.declared.token.Version.{Version}
 use Rattle.kd_token.specs.declared.token.Version.TheVariants as versions
-use Rattle.kd_token.specs.File.{Code, HasFile, IsName, IsToken, IsBranch, IsCount, IsShort, AreTokens, version_number, field_number, long_bytes, signed_bytes, count_bytes, token_bytes, name_bytes, names_bytes, tokens_bytes, head_bytes, file_bytes}
-use Rattle.kd_token.specs.Reading.{◌>>=◌, many_at, front_at, number_at, limited_at, signed_at, magic_at, version_at, version_of, name_at, names_at, long_at, field_of, field_at, number_of_bytes_at, count_at, substring_at, skip_at, plain_of, operands_at, token_at, tokens_at, all_names_at, all_tokens_at, program_at}
+use Rattle.kd_token.specs.File.{Code, HasFile, IsName, IsToken, IsBranch, IsCount, IsShort, AreTokens, version_number, field_number, long_bytes, signed_bytes, count_bytes, token_bytes, name_bytes, names_bytes, tokens_bytes, file_bytes}
+use Rattle.kd_token.specs.Reading.{◌>>=◌, many_at, front_at, number_at, limited_at, signed_at, magic_at, version_at, name_at, names_at, long_at, field_of, field_at, number_of_bytes_at, count_at, substring_at, skip_at, plain_of, operands_at, token_at, tokens_at, all_names_at, all_tokens_at, program_at}
 
 -- bytes that stand in front
 front_again : (n : ℕ) (bytes rest : List ℕ) → length bytes ≡ n → front_at n (bytes ++ rest) ≡ Some (bytes, rest)

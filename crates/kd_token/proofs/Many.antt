@@ -1,8 +1,7 @@
 -- Items read one after another: what a loop keeps while it reads them.
-use Rattle.std.proofs.Common.{◌≡◌, ℕ, zero, suc, ◌+◌, ◌-◌, ◌<◌, ◌≤◌, List, [], ◌∷◌, ◌++◌, length, Option, Some, None, refl, sym, ap, ◌∙◌, append_assoc, subst, arith}
+use Rattle.std.proofs.Common.{◌≡◌, ℕ, suc, ◌+◌, ◌-◌, ◌<◌, ◌≤◌, List, [], ◌∷◌, ◌++◌, length, Option, Some, None, refl, sym, ap, ◌∙◌, append_assoc, subst, arith}
 use Rattle.std.proofs.lemmas.List.{append-nil}
 use Rattle.std.specs.List.{flat_map, AllByRecursion}
-use Rattle.std.proofs.lemmas.List.Concat.{flat_map-cons}
 use Rattle.kd_token.specs.declared.fault.FileFault.{FileFault}
 use Rattle.kd_token.specs.declared.fault.FileFault.TheVariants as faults
 use Rattle.kd_token.specs.declared.token.Token.{Token}

@@ -1,7 +1,7 @@
 use Rattle.std.proofs.lemmas.Result.{err_from_is_err_and}
-use Rattle.std.proofs.Common.{◌≡◌, ◌++◌, ◌∷◌, [], length, ◌+◌, refl, ◌∙◌, ap, arith, length-append}
+use Rattle.std.proofs.Common.{◌≡◌, ◌++◌, ◌∷◌, [], ◌+◌, ◌∙◌, ap, length-append}
 use Rattle.kd_token.specs.File.{IsName, name_bytes}
-use Rattle.kd_token.specs.Reading.{many_at, name_at, Refuses}
+use Rattle.kd_token.specs.Reading.{name_at}
 use Rattle.kd_token.proofs.Many.{all_more, ends, goes_on, is_done, spelled_more}
 use Rattle.kd_token.proofs.reading.names_of.Goals as goal
 

@@ -1,7 +1,7 @@
 use Rattle.std.proofs.lemmas.Result.{err_from_is_err_and}
-use Rattle.std.proofs.Common.{◌≡◌, ℕ, ◌+◌, ◌-◌, ◌++◌, ◌∷◌, [], length, refl, ◌∙◌, ap, subst, arith, length-append}
+use Rattle.std.proofs.Common.{◌≡◌, ℕ, ◌+◌, ◌-◌, ◌++◌, ◌∷◌, [], ◌∙◌, ap, subst, arith, length-append}
 use Rattle.kd_token.specs.File.{token_bytes}
-use Rattle.kd_token.specs.Reading.{many_at, token_at, Refuses}
+use Rattle.kd_token.specs.Reading.{token_at}
 use Rattle.kd_token.proofs.Many.{AreFirst, ends, first_all, first_more, goes_on, is_done, spelled_more}
 use Rattle.kd_token.proofs.reading.tokens_of.Goals as goal
 

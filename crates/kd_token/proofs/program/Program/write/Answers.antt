@@ -1,4 +1,3 @@
-use Rattle.kd_token.specs.File.{IsShort}
 use Rattle.kd_token.proofs.Again.{are_short}
 use Rattle.kd_token.proofs.program.Program.write.Goals as goal
 
