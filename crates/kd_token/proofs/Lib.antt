@@ -1,0 +1,4 @@
+pub mod Numbers
+pub mod Many
+pub mod Again
+pub mod Read

@@ -1,0 +1,99 @@
+-- Items read one after another: what a loop keeps while it reads them.
+use Rattle.std.proofs.Common.{◌≡◌, ℕ, suc, ◌+◌, ◌-◌, ◌<◌, ◌≤◌, List, [], ◌∷◌, ◌++◌, length, Option, Some, None, refl, sym, ap, ◌∙◌, append_assoc, subst, arith}
+use Rattle.std.proofs.lemmas.List.{append-nil}
+use Rattle.std.specs.List.{flat_map, AllByRecursion}
+use Rattle.kd_token.specs.declared.fault.FileFault.{FileFault}
+use Rattle.kd_token.specs.declared.fault.FileFault.TheVariants as faults
+use Rattle.kd_token.specs.declared.token.Token.{Token}
+use Rattle.kd_token.specs.declared.token.Version.{Version}
+use Rattle.kd_token.specs.File.{IsToken, AreTokens}
+use Rattle.kd_token.specs.Reading.{◌>>=◌, Refuses, many_at}
+
+-- these items, and then those that are read
+abbrev pub with_front : {X : Type 0} → List X → Option (List X × List ℕ) → Option (List X × List ℕ)
+with_front front read = read >>= λ x. Some (front ++ x.0, x.1)
+
+-- where nothing is read any fault may come
+pub refuses : {A : Type 0} (fault : FileFault) (read : Option A) → read ≡ None → Refuses fault read
+refuses faults.Magic read e = e
+refuses faults.Version read e = e
+refuses (faults.Cut at) read e = e
+refuses (faults.Opcode at) read e = e
+refuses (faults.Operand at) read e = e
+refuses (faults.Rest at) read e = e
+refuses faults.Limit read e = e
+refuses faults.Memory read e = tt
+
+-- a fault comes where nothing is read, or memory ran out
+pub refused : {A B : Type 0} (fault : FileFault) (read : Option A) (next : Option B) → (read ≡ None → next ≡ None) → Refuses fault read → Refuses fault next
+refused faults.Magic read next f e = f e
+refused faults.Version read next f e = f e
+refused (faults.Cut at) read next f e = f e
+refused (faults.Opcode at) read next f e = f e
+refused (faults.Operand at) read next f e = f e
+refused (faults.Rest at) read next f e = f e
+refused faults.Limit read next f e = f e
+refused faults.Memory read next f e = tt
+
+regroup : {X : Type 0} (front : List X) (x : X) (read : Option (List X × List ℕ)) → with_front front (read >>= λ xs. Some (x ∷ xs.0, xs.1)) ≡ with_front (front ++ x ∷ []) read
+regroup front x None = refl
+regroup front x (Some xs) = ap (λ ys. Some (ys, xs.1)) (sym (append_assoc front (x ∷ []) xs.0))
+
+-- one item more
+pub goes_on : {X : Type 0} (item : ℕ → List ℕ → Option (X × List ℕ)) (front : List X) (count i : ℕ) (bytes : List ℕ) (x : X) (after : List ℕ) (total : Option (List X × List ℕ)) → i < count → item (count - (i + 1)) bytes ≡ Some (x, after)
+    → with_front front (many_at item (count - i) bytes) ≡ total → with_front (front ++ x ∷ []) (many_at item (count - (i + 1)) after) ≡ total
+unfolding many_at
+goes_on item front count i bytes x after total less one so_far =
+    let k : count - i ≡ suc (count - (i + 1)) = omega arith in
+    let step : with_front front (many_at item (count - i) bytes) ≡ with_front (front ++ x ∷ []) (many_at item (count - (i + 1)) after) = rw (k, one) (regroup front x (many_at item (count - (i + 1)) after)) in
+    sym step ∙ so_far
+
+-- an item that is not read
+pub ends : {X : Type 0} (item : ℕ → List ℕ → Option (X × List ℕ)) (fault : FileFault) (front : List X) (count i : ℕ) (bytes : List ℕ) (total : Option (List X × List ℕ)) → i < count → Refuses fault (item (count - (i + 1)) bytes)
+    → with_front front (many_at item (count - i) bytes) ≡ total → Refuses fault total
+unfolding many_at
+ends item fault front count i bytes total less none so_far =
+    let k : count - i ≡ suc (count - (i + 1)) = omega arith in
+    refused fault (item (count - (i + 1)) bytes) total (λ e. sym so_far ∙ rw (k, e) refl) none
+
+-- all items are read
+pub is_done : {X : Type 0} (item : ℕ → List ℕ → Option (X × List ℕ)) (front : List X) (count i : ℕ) (bytes : List ℕ) (total : Option (List X × List ℕ)) → count ≤ i → with_front front (many_at item (count - i) bytes) ≡ total → total ≡ Some (front, bytes)
+unfolding many_at
+is_done item front count i bytes total most so_far =
+    let k : count - i ≡ 0 = omega arith in
+    let one : with_front front (many_at item (count - i) bytes) ≡ Some (front, bytes) = rw k (ap (λ xs. Some (xs, bytes)) (append-nil front)) in
+    sym so_far ∙ one
+
+-- what is spelled so far, with one item more
+pub spelled_more : {X : Type 0} (text : X → List ℕ) (front : List X) (x : X) (whole bytes after : List ℕ) → whole ≡ flat_map text front ++ bytes → bytes ≡ text x ++ after → whole ≡ flat_map text (front ++ x ∷ []) ++ after
+spelled_more text front x whole bytes after so_far one = so_far ∙ ap (λ b. flat_map text front ++ b) one ∙ again text front x after where
+  again : {X : Type 0} (text : X → List ℕ) (front : List X) (x : X) (after : List ℕ) → flat_map text front ++ (text x ++ after) ≡ flat_map text (front ++ x ∷ []) ++ after
+  again text [] x after = ap (λ b. b ++ after) (sym (append-nil (text x)))
+  again text (y ∷ front) x after =
+      append_assoc (text y) (flat_map text front) (text x ++ after) ∙ ap (λ b. text y ++ b) (again text front x after) ∙ sym (append_assoc (text y) (flat_map text (front ++ x ∷ [])) after)
+
+-- one more that has the property
+pub all_more : {X : Type 0} (P : X → Type 0) (front : List X) (x : X) → AllByRecursion P front → P x → AllByRecursion P (front ++ x ∷ [])
+all_more P [] x all one = (one, tt)
+all_more P (y ∷ front) x all one = (all.0, all_more P front x all.1 one)
+
+-- tokens in a row with so many more behind them
+abbrev pub AreFirst : Version → ℕ → List Token → Type 0
+AreFirst version behind [] = Unit {0}
+AreFirst version behind (token ∷ tokens) = IsToken version (length tokens + behind) token × AreFirst version behind tokens
+
+pub first_more : (version : Version) (behind : ℕ) (front : List Token) (token : Token) → AreFirst version (behind + 1) front → IsToken version behind token → AreFirst version behind (front ++ token ∷ [])
+first_more version behind [] token all one = (rw (zero_more behind) one, tt) where
+  zero_more : (n : ℕ) → 0 + n ≡ n
+  zero_more n = omega arith
+first_more version behind (t ∷ front) token all one = (rw (one_later front token behind) all.0, first_more version behind front token all.1 one) where
+  one_later : (front : List Token) (token : Token) (behind : ℕ) → length (front ++ token ∷ []) + behind ≡ length front + (behind + 1)
+  one_later [] token behind = omega arith
+  one_later (t ∷ front) token behind = let e = one_later front token behind in omega (arith, e)
+
+pub first_all : (version : Version) (tokens : List Token) → AreFirst version 0 tokens → AreTokens version tokens
+first_all version [] all = tt
+first_all version (t ∷ tokens) all =
+    let P : ℕ → Type 0 = λ n. IsToken version n t in
+    let same : length tokens + 0 ≡ length tokens = omega arith in
+    (subst P same all.0, first_all version tokens all.1)

@@ -1,0 +1,137 @@
+ghost use Rattle.std.specs.Prelude.{◌≡◌, ◌<◌, ◌≤◌, ◌∷◌, ◌++◌, length, IfOk};
+ghost use Rattle.std.specs.Int.RustNames.{FitsSigned};
+ghost use Rattle.std.specs.Int.{w32};
+ghost use Rattle.byteorder.specs.Endian.{big_bytes, big_number};
+ghost use Rattle.kd_token.specs.File.{signed_bytes};
+ghost use Rattle.kd_token.specs.Reading.{Gives, front_at, limited_at, number_at, signed_at};
+
+use crate::fault::FileFault;
+use byteorder::{BigEndian, ByteOrder};
+use std::marker::Model;
+
+// What is left of a file that is read from left to right.
+#[derive(Drop)]
+pub(crate) struct Reader<'a> {
+    left: &'a [u8],
+    size: usize,
+}
+
+impl<'a> Model for Reader<'a> {
+    ghost use Rattle.std.specs.Prelude.{ℕ, List, ◌≤◌, length};
+
+    ghost Value = { List ℕ };
+
+    ghost view = { λ r. r.left.now };
+
+    ghost invariant = { λ r. length r.left.now ≤ r.size };
+}
+
+impl<'a> Reader<'a> {
+    pub(crate) fn new(bytes: &'a [u8]) -> Reader<'a>
+        ensures { result ≡ bytes.now }
+    {
+        Reader {
+            left: bytes,
+            size: bytes.len(),
+        }
+    }
+
+    // The offset of the next byte.
+    pub(crate) fn at(&self) -> usize {
+        self.size - self.left.len()
+    }
+
+    // The number of bytes left.
+    pub(crate) fn len(&self) -> usize
+        ensures { result ≡ length self.now }
+    {
+        self.left.len()
+    }
+
+    // The next n bytes, a field of their own.
+    pub(crate) fn take(&mut self, n: usize) -> Result<&'a [u8], FileFault>
+        ensures read { Gives (λ b. (b.now, self.new)) result (front_at n self.old) }
+        ensures found { IfOk result (λ b. (self.old ≡ b.now ++ self.new) × (length b.now ≡ n)) }
+    {
+        if self.left.len() < n {
+            return Err(FileFault::Cut(self.at()));
+        }
+        let (front, rest) = self.left.split_at(n);
+        self.left = rest;
+        Ok(front)
+    }
+
+    pub(crate) fn u8(&mut self) -> Result<u8, FileFault>
+        ensures read { Gives (λ n. (n, self.new)) result (number_at 1 self.old) }
+        ensures found { IfOk result (λ n. self.old ≡ n ∷ self.new) }
+    {
+        Ok(self.take(1)?[0])
+    }
+
+    pub(crate) fn u16(&mut self) -> Result<u16, FileFault>
+        ensures read { Gives (λ n. (n, self.new)) result (number_at 2 self.old) }
+        ensures found { IfOk result (λ n. self.old ≡ big_bytes 2 n ++ self.new) }
+    {
+        Ok(u16_of(self.take(2)?))
+    }
+
+    pub(crate) fn u32(&mut self) -> Result<u32, FileFault>
+        ensures read { Gives (λ n. (n, self.new)) result (number_at 4 self.old) }
+        ensures found { IfOk result (λ n. self.old ≡ big_bytes 4 n ++ self.new) }
+    {
+        Ok(u32_of(self.take(4)?))
+    }
+
+    // A signed number of four bytes.
+    #[tactic(auto, unfolding(crate::specs::Reading::signed_at), using(crate::proofs::Numbers::signed_back))]
+    pub(crate) fn i32(&mut self) -> Result<i32, FileFault>
+        ensures read { Gives (λ n. (n, self.new)) result (signed_at self.old) }
+        ensures found { IfOk result (λ n. (self.old ≡ signed_bytes n ++ self.new) × FitsSigned w32 n) }
+    {
+        Ok(self.u32()?.cast_signed())
+    }
+
+    // A number of one byte that is at most this.
+    #[tactic(auto, unfolding(crate::specs::Reading::limited_at))]
+    pub(crate) fn u8_to(&mut self, most: u8) -> Result<u8, FileFault>
+        ensures read { Gives (λ n. (n, self.new)) result (limited_at 1 most self.old) }
+        ensures found { IfOk result (λ n. (self.old ≡ n ∷ self.new) × (n ≤ most)) }
+    {
+        let number = self.u8()?;
+        if number > most {
+            return Err(FileFault::Limit);
+        }
+        Ok(number)
+    }
+
+    // A number of two bytes that is at most this.
+    #[tactic(auto, unfolding(crate::specs::Reading::limited_at))]
+    pub(crate) fn u16_to(&mut self, most: u16) -> Result<u16, FileFault>
+        ensures read { Gives (λ n. (n, self.new)) result (limited_at 2 most self.old) }
+        ensures found { IfOk result (λ n. (self.old ≡ big_bytes 2 n ++ self.new) × (n ≤ most)) }
+    {
+        let number = self.u16()?;
+        if number > most {
+            return Err(FileFault::Limit);
+        }
+        Ok(number)
+    }
+}
+
+// The number of two bytes.
+fn u16_of(bytes: &[u8]) -> u16
+    requires { length bytes.now ≡ 2 }
+    ensures number { result ≡ big_number 2 bytes.now }
+    ensures spelled { bytes.now ≡ big_bytes 2 result }
+{
+    BigEndian::read_u16(bytes)
+}
+
+// The number of four bytes.
+fn u32_of(bytes: &[u8]) -> u32
+    requires { length bytes.now ≡ 4 }
+    ensures number { result ≡ big_number 4 bytes.now }
+    ensures spelled { bytes.now ≡ big_bytes 4 result }
+{
+    BigEndian::read_u32(bytes)
+}

@@ -1,0 +1,126 @@
+ghost use Rattle.std.specs.Prelude.{◌≡◌, MatchOption};
+ghost use Rattle.kd_token.specs.File.{field_number, version_number};
+
+use kd_wire::Bytes;
+
+/// The version of a token file.
+#[derive(Clone, Copy, Debug, PartialEq, Eq)]
+pub enum Version {
+    /// Version 1: every token runs.
+    One,
+    /// Version 2: with the four branch tokens.
+    Two,
+}
+
+impl Version {
+    /// The version byte of the file, 1 or 2.
+    pub fn number(self) -> u8
+        ensures { result ≡ version_number self }
+    {
+        match self {
+            Version::One => 1,
+            Version::Two => 2,
+        }
+    }
+}
+
+/// A field of the message that a token pushes (RFC 2131 section 2).
+#[derive(Clone, Copy, Debug, PartialEq, Eq)]
+pub enum Field {
+    /// The hardware address: the first `hlen` bytes of `chaddr`, at most 16.
+    Mac,
+    /// The length that the client gives for its hardware address.
+    Hlen,
+    /// The kind of hardware address.
+    Htype,
+    /// The address that the client says it has.
+    Ciaddr,
+    /// The relay that the message came through.
+    Giaddr,
+    /// The address that the server gives.
+    Yiaddr,
+    /// The next server in booting.
+    Siaddr,
+    /// The message type, option 53 (RFC 2132 section 9.6).
+    MessageType,
+    /// The transaction, `xid`.
+    Transaction,
+    /// The number of bytes of the datagram.
+    Length,
+}
+
+impl Field {
+    /// The field's number in the file, 0 to 9.
+    pub fn number(self) -> u8
+        ensures { result ≡ field_number self }
+    {
+        match self {
+            Field::Mac => 0,
+            Field::Hlen => 1,
+            Field::Htype => 2,
+            Field::Ciaddr => 3,
+            Field::Giaddr => 4,
+            Field::Yiaddr => 5,
+            Field::Siaddr => 6,
+            Field::MessageType => 7,
+            Field::Transaction => 8,
+            Field::Length => 9,
+        }
+    }
+}
+
+/// One token of a program: what it takes from the top of the stack, and what it gives.
+#[derive(Debug, Drop)]
+pub enum Token {
+    /// Pushes these bytes, at most 65,535.
+    PushBytes(Bytes),
+    /// Pushes this number.
+    PushInt(u32),
+    /// Pushes the joined value of the option of this code, the empty string where it is absent.
+    PushOption(u8),
+    /// Pushes the relay's sub-option of this code, the empty string where it is absent.
+    PushRelay(u8),
+    /// Pushes a field of the message.
+    PushField(Field),
+    /// Pushes whether the option of this code is present.
+    OptionExists(u8),
+    /// Pushes whether the relay's sub-option of this code is present.
+    RelayExists(u8),
+    /// Pushes whether the program's name of this index is held.
+    Member(u8),
+    /// Takes two byte strings; pushes whether they are equal.
+    Equal,
+    /// Takes a truth value; pushes the other one.
+    Not,
+    /// Takes two truth values; pushes whether both are true.
+    And,
+    /// Takes two truth values; pushes whether one of them is true.
+    Or,
+    /// Takes a truth value and two byte strings above it; pushes the lower one where it is true, else
+    /// the upper one.
+    IfElse,
+    /// Takes a byte string; pushes its bytes from this start, so many of them, or all where there is no
+    /// number. A negative start counts from the end, a negative number goes towards the front.
+    Substring(i32, Option<i32>),
+    /// Takes two byte strings; pushes the lower one followed by the upper one.
+    Concat,
+    /// Takes a byte string and a separator above it; pushes two hexadecimal digits for each byte, with
+    /// the separator between bytes.
+    HexString,
+    /// Takes a byte string; pushes it with its ASCII letters in lower case.
+    Lower,
+    /// Takes a byte string; pushes it with its ASCII letters in upper case.
+    Upper,
+    /// Takes a number; pushes its decimal digits.
+    IntToText,
+    /// Takes a number; pushes its 4 bytes in network order.
+    IntBytes,
+    /// Skips so many tokens.
+    Branch(u16),
+    /// Takes a truth value; skips so many tokens where it is false.
+    PopBranchFalse(u16),
+    /// Skips so many tokens where a false is on top, which stays; else takes the true.
+    BranchFalseElsePop(u16),
+    /// Skips so many tokens where a true is on top, which stays; else takes the false.
+    BranchTrueElsePop(u16),
+}
