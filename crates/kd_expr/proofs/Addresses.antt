@@ -1,10 +1,10 @@
 -- Addresses as they are read are those of the definition.
-use Rattle.std.proofs.Common.{◌≡◌, ℕ, zero, suc, ◌+◌, ◌≤◌, ◌<◌, Bool, true, false, ◌||◌, ◌&&◌, ◌==◌, nat_le, List, [], ◌∷◌, ◌++◌, length, refl, sym, ◌∙◌, ap, subst, append-nil, if◌then◌else◌, Option, Some, None, IfSome, eqb-true, leb-true, le-leb}
-use Rattle.kd_expr.specs.Address.{is_digit, Each, decimal, IsPart, IsAddress, four}
+use Rattle.std.proofs.Common.{◌≡◌, ℕ, ◌≤◌, Bool, true, false, ◌&&◌, ◌==◌, nat_le, List, [], ◌∷◌, ◌++◌, length, refl, sym, ◌∙◌, ap, subst, append-nil, if◌then◌else◌, Option, Some, None, IfSome, eqb-true, leb-true, le-leb}
+use Rattle.kd_expr.specs.Address.{is_digit, decimal, IsPart, IsAddress, four}
 use Rattle.kd_expr.specs.Lexical.{Ends}
 use Rattle.kd_expr.specs.Lexing.{front_of, behind_of, is_empty, part, next_part, address_of}
 use Rattle.kd_expr.specs.Reading.{and_then}
-use Rattle.kd_expr.proofs.Options.{some_is, none_is, some_pair, if_some}
+use Rattle.kd_expr.proofs.Options.{none_is, if_some}
 use Rattle.kd_expr.proofs.Spans.{each_front, front_behind, front_word, behind_word, both_of_two}
 
 -- what a second answer came from

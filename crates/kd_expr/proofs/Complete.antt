@@ -1,13 +1,10 @@
 -- What the grammar allows, the reader of tokens gives: by recursion on the derivation.
-use Rattle.std.proofs.Common.{◌≡◌, ℕ, zero, suc, ◌≤◌, ◌<◌, ◌^◌, ◌+◌, ℤ, pos, Bool, true, false, Option, Some, None, List, [], ◌∷◌, ◌++◌, length, refl, sym, ◌∙◌, ap, subst, append_assoc, length-append, codes, bytes_eq, if◌then◌else◌, nat_lt, nat_le, ◌&&◌, arith, lt-ltb, le-leb}
-use Rattle.kd_expr.specs.Grammar.{Spells, Level, or_level, and_level, not_level, compare_level, sum_level, primary_level, or_one, or_more, and_one, and_more, not_none, negated, compare_one, equal, sum_one, sum_more, string, hexadecimal, address, number, group, option_hex, option_exists, relay_hex, relay_exists, field, packet_length, member, substring, concat, ifelse, hexstring, lcase, ucase, uint32totext, IsCode, code_number, code_name, IsSigned, plain, below, IsLength, counted, whole, minus}
-use Rattle.kd_expr.specs.Lexical.{Lexeme, StringAt, HexAt, AddressAt, NumberAt, MinusAt, NameAt, SignAt, BadAt}
-use Rattle.kd_expr.specs.Names.{code_named, field_named}
+use Rattle.std.proofs.Common.{◌≡◌, ℕ, zero, suc, ◌≤◌, ◌<◌, ◌^◌, ℤ, true, Option, Some, None, List, [], ◌∷◌, ◌++◌, length, refl, sym, ◌∙◌, subst, append_assoc, length-append, codes, nat_lt, arith, lt-ltb, le-leb}
+use Rattle.kd_expr.specs.Grammar.{Level, or_level, and_level, not_level, compare_level, sum_level, primary_level, IsCode, code_number, code_name, IsSigned, plain, below, IsLength, counted, whole}
+use Rattle.kd_expr.specs.Lexical.{Lexeme, StringAt, SignAt}
 use Rattle.kd_expr.specs.Reading as reading
 use Rattle.kd_expr.specs.Reading.{Reader, Deeper, and_then, seq, either, one, done, sign, word, option_code, relay_code, field_of, signed, length_of, class_name, bracketed, option_at, relay_at, field_at, packet_at, member_at, one_operand, group_at, two_operands, ifelse_at, substring_at, form_at, named_at, primary_at, sum_of, and_of, or_of, sum_at, compare_at, not_at, and_at, or_at, joined, chain}
-use Rattle.kd_expr.specs.Tree.{Tree, Literal, Int, OptionValue, RelayValue, FieldValue, OptionExists, RelayExists, Member, Equal, Not, And, Or, Group, Concat, IfElse, Substring, HexString, Lower, Upper, IntToText, at_of}
-use Rattle.kd_expr.specs.declared.node.Field.{Field}
-use Rattle.kd_expr.specs.declared.node.Field.TheVariants.{Length}
+use Rattle.kd_expr.specs.Tree.{Tree, Member, Group, IfElse, Substring}
 
 -- the reader answers with this, and leaves the rest
 abbrev pub Answers : {A : Type 0} → Option (A × List Lexeme) → A → List Lexeme → Type 0

@@ -1,10 +1,10 @@
 -- A tree has no more nodes than its text has bytes.
-use Rattle.std.proofs.Common.{◌≡◌, ℕ, suc, ◌+◌, ◌≤◌, ◌<◌, ◌^◌, List, [], ◌∷◌, ◌++◌, length, arith, length-append, ap, Result, Ok, Err}
-use Rattle.kd_expr.specs.Grammar.{Spells, Level, or_level, or_one, or_more, and_one, and_more, not_none, negated, compare_one, equal, sum_one, sum_more, string, hexadecimal, address, number, group, option_hex, option_exists, relay_hex, relay_exists, field, packet_length, member, substring, concat, ifelse, hexstring, lcase, ucase, uint32totext, Parses, HasText}
+use Rattle.std.proofs.Common.{◌≡◌, ℕ, ◌≤◌, ◌<◌, ◌^◌, List, ◌∷◌, length, arith, length-append, ap}
+use Rattle.kd_expr.specs.Grammar.{Spells, Level, or_one, or_more, and_one, and_more, not_none, negated, compare_one, equal, sum_one, sum_more, string, hexadecimal, address, number, group, option_hex, option_exists, relay_hex, relay_exists, field, packet_length, member, substring, concat, ifelse, hexstring, lcase, ucase, uint32totext, HasText}
 use Rattle.kd_expr.specs.Lexical.{Lexeme, Scans, finished, blank, token}
 use Rattle.kd_expr.specs.Size.{nodes}
 use Rattle.kd_expr.specs.Tree.{Tree}
-use Rattle.kd_expr.proofs.Words.{Starts, word_starts}
+use Rattle.kd_expr.proofs.Words.{word_starts}
 
 nodes_le : {l : Level} {n : ℕ} {us : List Lexeme} {t : Tree} → Spells l n us t → nodes t ≤ length us
 nodes_le (or_one s) = nodes_le s

@@ -1,13 +1,12 @@
 -- A word that is cut off the front of bytes is one of the definition, and each word is cut off so.
-use Rattle.std.proofs.Common.{◌≡◌, ℕ, zero, suc, ◌+◌, ◌≤◌, ◌<◌, Bool, true, false, ◌||◌, ◌&&◌, ◌==◌, nat_le, List, [], ◌∷◌, ◌++◌, length, refl, sym, ◌∙◌, ap, subst, append-nil, append_assoc, length-append, arith, if◌then◌else◌, Option, Some, None, eqb-true, leb-true, le-leb}
-use Rattle.std.proofs.lemmas.Bool.Decides.{nat_tests}
-use Rattle.kd_expr.specs.Address.{is_digit, Each, decimal, IsPart, IsAddress, four}
-use Rattle.kd_expr.specs.Lexical.{Lexeme, StringAt, HexAt, AddressAt, NumberAt, MinusAt, NameAt, SignAt, BadAt, is_blank, is_letter, is_hex_digit, is_sign, is_x, in_string, in_run, in_name, Ends, Word, string_word, hex_word, address_word, number_word, minus_word, name_word, sign_word, equal_word}
-use Rattle.kd_expr.specs.Lexing.{front_of, behind_of, is_empty, all_pass, hex_digits, address_of, run_token, run_cut, closed, string_cut, minus_token, minus_cut, name_cut, equal_cut, cut}
+use Rattle.std.proofs.Common.{◌≡◌, ℕ, ◌≤◌, Bool, true, false, ◌&&◌, ◌==◌, nat_le, List, [], ◌∷◌, ◌++◌, length, refl, sym, ◌∙◌, ap, subst, append_assoc, arith, if◌then◌else◌, Option, Some, None, eqb-true, leb-true}
+use Rattle.kd_expr.specs.Address.{is_digit, Each, decimal}
+use Rattle.kd_expr.specs.Lexical.{Lexeme, StringAt, HexAt, AddressAt, NumberAt, MinusAt, NameAt, SignAt, is_letter, is_hex_digit, is_sign, is_x, in_string, in_run, in_name, Ends, Word, string_word, hex_word, address_word, number_word, minus_word, name_word, sign_word, equal_word}
+use Rattle.kd_expr.specs.Lexing.{front_of, behind_of, all_pass, hex_digits, address_of, run_token, run_cut, closed, string_cut, minus_token, minus_cut, name_cut, equal_cut, cut}
 use Rattle.kd_expr.specs.Reading.{and_then, or_else}
-use Rattle.kd_expr.proofs.Addresses.{Came, came_from, address_sound, address_complete}
+use Rattle.kd_expr.proofs.Addresses.{came_from, address_sound}
 use Rattle.kd_expr.proofs.Options.{some_is, none_is, some_pair, if_some}
-use Rattle.kd_expr.proofs.Spans.{each_front, ends_behind, front_behind, front_word, behind_word, all_pass_is, all_pass_each, each_weaker, both_of_two}
+use Rattle.kd_expr.proofs.Spans.{each_front, ends_behind, front_behind, all_pass_is, both_of_two}
 
 -- a word stands at the front
 pub record IsCut (at : ℕ) (bytes : List ℕ) (x : Lexeme) (rest : List ℕ) : Type 0 where

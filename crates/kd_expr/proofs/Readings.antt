@@ -1,13 +1,12 @@
 -- What each reader of tokens gives, the grammar allows.
-use Rattle.std.proofs.Common.{◌≡◌, ℕ, zero, suc, ◌<◌, ◌≤◌, ◌^◌, ℤ, Bool, true, false, Option, Some, None, List, [], ◌∷◌, ◌++◌, length, refl, sym, ◌∙◌, ap, subst, append-nil, codes, bytes_eq, if◌then◌else◌, nat_lt, ltb-true}
-use Rattle.kd_expr.specs.Grammar.{Spells, Level, or_level, and_level, not_level, compare_level, sum_level, primary_level, or_one, or_more, and_one, and_more, not_none, negated, compare_one, equal, sum_one, sum_more, string, hexadecimal, address, number, group, option_hex, option_exists, relay_hex, relay_exists, field, packet_length, member, substring, concat, ifelse, hexstring, lcase, ucase, uint32totext, IsCode, IsSigned, IsLength}
+use Rattle.std.proofs.Common.{◌≡◌, ℕ, zero, suc, ◌≤◌, ◌^◌, ℤ, Bool, true, false, Option, Some, List, [], ◌∷◌, ◌++◌, length, refl, sym, ap, subst, append-nil, codes, bytes_eq, if◌then◌else◌, nat_lt, ltb-true}
+use Rattle.kd_expr.specs.Grammar.{Spells, Level, or_level, and_level, not_level, compare_level, sum_level, primary_level, or_one, or_more, and_one, and_more, not_none, negated, compare_one, equal, sum_one, sum_more, string, hexadecimal, address, number, group, option_hex, option_exists, relay_hex, relay_exists, field, packet_length, member, substring, concat, ifelse, hexstring, lcase, ucase, uint32totext, IsSigned, IsLength}
 use Rattle.kd_expr.specs.Lexical.{Lexeme, StringAt, HexAt, AddressAt, NumberAt, MinusAt, NameAt, SignAt, BadAt}
-use Rattle.kd_expr.specs.Reading.{Reader, Deeper, seq, either, one, done, sign, word, sign_at, word_at, option_code, relay_code, suffix, field_of, signed, length_of, class_name, bracketed, option_at, relay_at, field_at, packet_at, member_at, one_operand, group_at, two_operands, ifelse_at, substring_at, form_at, named_at, primary_at, sum_of, and_of, or_of, sum_at, compare_at, not_at, and_at, or_at, below}
-use Rattle.kd_expr.specs.Tree.{Tree, Literal, Int, OptionValue, RelayValue, FieldValue, OptionExists, RelayExists, Member, Equal, Not, And, Or, Group, Concat, IfElse, Substring, HexString, Lower, Upper, IntToText, at_of}
+use Rattle.kd_expr.specs.Reading.{Reader, Deeper, seq, one, done, sign, word, sign_at, word_at, option_code, relay_code, suffix, field_of, signed, length_of, class_name, bracketed, option_at, relay_at, field_at, packet_at, member_at, one_operand, group_at, two_operands, ifelse_at, substring_at, form_at, named_at, primary_at, sum_of, and_of, or_of, sum_at, compare_at, not_at, and_at, or_at, below}
+use Rattle.kd_expr.specs.Tree.{Tree, Int, OptionValue, RelayValue, FieldValue, OptionExists, RelayExists, Member, Equal, Not, Group, Concat, IfElse, Substring, HexString, Lower, Upper, IntToText, at_of}
 use Rattle.kd_expr.specs.declared.node.Field.{Field}
-use Rattle.kd_expr.specs.declared.node.Field.TheVariants.{Length}
-use Rattle.kd_expr.proofs.Options.{some_is, none_is, some_pair, if_some}
-use Rattle.kd_expr.proofs.Sound.{IsSound, Takes, done_sound, seq_sound, seq_one_sound, either_sound, either_one_sound, chain_sound, weaker, OneOf, is_one, one_sound}
+use Rattle.kd_expr.proofs.Options.{none_is, some_pair, if_some}
+use Rattle.kd_expr.proofs.Sound.{IsSound, Takes, done_sound, seq_sound, seq_one_sound, either_one_sound, chain_sound, weaker, OneOf, is_one, one_sound}
 use Rattle.kd_expr.proofs.Tokens.{sign_is, word_is, option_code_is, relay_code_is, IsRelayCode, relay_number, IsSuffix, hex, exists, suffix_is, IsPartName, part_name, field_of_is, signed_is, length_is, IsClassName, class_is, class_name_is}
 use Rattle.std.proofs.lemmas.Slice.Eq.{bytes_eq-Decides}
 

@@ -1,10 +1,9 @@
 -- What the reader of tokens gives, the grammar allows: one lemma for each way of putting readers together.
-use Rattle.std.proofs.Common.{◌≡◌, ℕ, zero, suc, ◌≤◌, ◌<◌, Bool, true, false, Option, Some, None, List, [], ◌∷◌, ◌++◌, length, refl, sym, ◌∙◌, ap, subst, append_assoc, append-nil, if◌then◌else◌, bytes_eq}
-use Rattle.kd_expr.specs.Lexical.{Lexeme, StringAt, HexAt, AddressAt, NumberAt, MinusAt, NameAt, SignAt, BadAt}
+use Rattle.std.proofs.Common.{◌≡◌, ℕ, zero, suc, Option, Some, None, List, [], ◌∷◌, ◌++◌, length, refl, sym, ◌∙◌, ap, subst, append_assoc, append-nil}
+use Rattle.kd_expr.specs.Lexical.{Lexeme}
 use Rattle.kd_expr.specs.Reading.{Reader, and_then, or_else, done, seq, either, one, joined, chain}
 use Rattle.kd_expr.specs.Tree.{Tree}
-use Rattle.kd_expr.proofs.Options.{some_pair, some_is, none_is}
-use Rattle.std.proofs.lemmas.Slice.Eq.{bytes_eq-Decides}
+use Rattle.kd_expr.proofs.Options.{some_pair, none_is}
 
 -- a front of the tokens has the fact, and the rest is left
 pub record Takes (fact : List Lexeme → Type 0) (ts rest : List Lexeme) : Type 0 where

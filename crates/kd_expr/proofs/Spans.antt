@@ -1,5 +1,5 @@
 -- The bytes at the front that pass a test, and what follows them.
-use Rattle.std.proofs.Common.{◌≡◌, ℕ, zero, suc, ◌+◌, ◌≤◌, ◌<◌, Bool, true, false, cond, ◌||◌, ◌&&◌, List, [], ◌∷◌, ◌++◌, length, take, drop, refl, sym, ◌∙◌, ap, subst, arith, if◌then◌else◌, one-add}
+use Rattle.std.proofs.Common.{◌≡◌, ℕ, ◌+◌, Bool, true, false, cond, ◌||◌, ◌&&◌, List, [], ◌∷◌, ◌++◌, take, drop, refl, ap, if◌then◌else◌, one-add}
 use Rattle.std.specs.List.{prefix_len}
 use Rattle.kd_expr.specs.Address.{Each}
 use Rattle.kd_expr.specs.Lexical.{Ends}

@@ -1,19 +1,18 @@
 -- The tokens of a text are those of the definition, and so is the tree that they spell.
 use Rattle.std.proofs.Common.{◌≡◌, ℕ, zero, suc, ◌+◌, ◌-◌, ◌≤◌, ◌<◌, Bool, true, false, List, [], ◌∷◌, ◌++◌, length, refl, sym, ◌∙◌, ap, subst, append-nil, append_assoc, arith, length-append, if◌then◌else◌, Option, Some, None}
 use Rattle.kd_expr.specs.Grammar.{Spells, Level, or_level, or_one, or_more, and_one, and_more, not_none, negated, compare_one, equal, sum_one, sum_more, string, hexadecimal, address, number, group, option_hex, option_exists, relay_hex, relay_exists, field, packet_length, member, substring, concat, ifelse, hexstring, lcase, ucase, uint32totext, IsCode, code_number, code_name, IsSigned, plain, below, IsLength, counted, whole, Parses}
-use Rattle.kd_expr.specs.Lexical.{Lexeme, StringAt, HexAt, AddressAt, NumberAt, MinusAt, NameAt, SignAt, BadAt, is_blank, Word, string_word, hex_word, address_word, number_word, minus_word, name_word, sign_word, equal_word, Scans, finished, blank, token}
+use Rattle.kd_expr.specs.Lexical.{Lexeme, StringAt, HexAt, AddressAt, NumberAt, MinusAt, NameAt, SignAt, BadAt, is_blank, Word, Scans, finished, blank, token}
 use Rattle.kd_expr.specs.Lexing.{cut, tokens_from}
 use Rattle.kd_expr.specs.Reading as reading
 use Rattle.kd_expr.specs.Reading.{or_at, whole_at, and_then}
 use Rattle.kd_expr.specs.Tree.{Tree}
-use Rattle.kd_expr.proofs.Addresses.{Came, came_from}
-use Rattle.kd_expr.proofs.Complete.{Complete, ReadsAny, any_complete}
+use Rattle.kd_expr.proofs.Addresses.{came_from}
+use Rattle.kd_expr.proofs.Complete.{any_complete}
 use Rattle.kd_expr.proofs.Lexed.{IsCut, cut_sound}
 use Rattle.kd_expr.proofs.Options.{some_is, none_is}
 use Rattle.kd_expr.proofs.Productions.{complete}
 use Rattle.kd_expr.proofs.Readings.{any_sound}
-use Rattle.kd_expr.proofs.Sound.{Takes}
-use Rattle.kd_expr.proofs.Words.{cut_complete, Starts, word_starts}
+use Rattle.kd_expr.proofs.Words.{cut_complete, word_starts}
 
 -- no token is bad
 abbrev pub Good : List Lexeme → Type 0

@@ -1,8 +1,8 @@
 -- What the tests of one token let through, in the grammar's words.
-use Rattle.std.proofs.Common.{◌≡◌, ℕ, zero, suc, ◌≤◌, ◌<◌, ◌^◌, ℤ, pos, Bool, true, false, Option, Some, None, List, [], ◌∷◌, length, refl, sym, ◌∙◌, ap, subst, codes, bytes_eq, if◌then◌else◌, nat_lt, nat_le, ◌&&◌, ◌==◌, eqb-true, ltb-true, leb-true}
-use Rattle.kd_expr.specs.Grammar.{IsCode, code_number, code_name, IsSigned, plain, below, IsLength, counted, whole, minus}
-use Rattle.kd_expr.specs.Lexical.{Lexeme, StringAt, HexAt, AddressAt, NumberAt, MinusAt, NameAt, SignAt, BadAt}
-use Rattle.kd_expr.specs.Names.{code_named, field_named}
+use Rattle.std.proofs.Common.{◌≡◌, ℕ, ◌≤◌, ◌<◌, ◌^◌, ℤ, Bool, true, false, Option, Some, None, List, length, refl, sym, ◌∙◌, ap, subst, codes, bytes_eq, if◌then◌else◌, nat_lt, nat_le, ◌&&◌, ◌==◌, eqb-true, ltb-true, leb-true}
+use Rattle.kd_expr.specs.Grammar.{IsCode, code_number, code_name, IsSigned, plain, below, IsLength, counted, whole}
+use Rattle.kd_expr.specs.Lexical.{Lexeme, StringAt, NumberAt, MinusAt, NameAt, SignAt}
+use Rattle.kd_expr.specs.Names.{field_named}
 use Rattle.kd_expr.specs.Reading.{sign_at, word_at, option_code, relay_code, suffix, field_of, signed, length_of, class_name}
 use Rattle.kd_expr.specs.declared.node.Field.{Field}
 use Rattle.kd_expr.proofs.Options.{some_is, none_is, if_some}

@@ -1,11 +1,11 @@
 -- Each word of the definition is cut off the front of bytes.
-use Rattle.std.proofs.Common.{◌≡◌, ℕ, zero, suc, ◌+◌, ◌≤◌, ◌<◌, Bool, true, false, ◌||◌, ◌&&◌, ◌==◌, nat_le, List, [], ◌∷◌, ◌++◌, length, refl, sym, ◌∙◌, ap, subst, append_assoc, arith, if◌then◌else◌, Option, Some, None, le-leb}
+use Rattle.std.proofs.Common.{◌≡◌, ℕ, ◌≤◌, Bool, true, false, ◌==◌, List, [], ◌∷◌, ◌++◌, length, refl, append_assoc, arith, Option, Some, None, le-leb}
 use Rattle.std.proofs.lemmas.Bool.Decides.{nat_tests}
 use Rattle.kd_expr.specs.Address.{is_digit, Each, decimal, IsPart, IsAddress, four}
-use Rattle.kd_expr.specs.Lexical.{Lexeme, StringAt, HexAt, AddressAt, NumberAt, MinusAt, NameAt, SignAt, BadAt, is_blank, is_letter, is_hex_digit, is_sign, is_x, in_string, in_run, in_name, Ends, Word, string_word, hex_word, address_word, number_word, minus_word, name_word, sign_word, equal_word}
-use Rattle.kd_expr.specs.Lexing.{front_of, behind_of, is_empty, all_pass, hex_digits, address_of, run_token, run_cut, closed, string_cut, minus_token, minus_cut, name_cut, equal_cut, cut}
+use Rattle.kd_expr.specs.Lexical.{Lexeme, StringAt, HexAt, AddressAt, NumberAt, MinusAt, NameAt, SignAt, is_blank, is_letter, is_hex_digit, is_sign, is_x, in_string, in_run, in_name, Ends, Word, string_word, hex_word, address_word, number_word, minus_word, name_word, sign_word, equal_word}
+use Rattle.kd_expr.specs.Lexing.{hex_digits, address_of, run_token, run_cut, string_cut, minus_cut, name_cut, equal_cut, cut}
 use Rattle.kd_expr.proofs.Addresses.{address_complete}
-use Rattle.kd_expr.proofs.Lexed.{digit_in_run, letter_in_name}
+use Rattle.kd_expr.proofs.Lexed.{digit_in_run}
 use Rattle.kd_expr.proofs.Spans.{front_word, behind_word, all_pass_each, each_weaker, second_fails}
 
 -- an answer is this one

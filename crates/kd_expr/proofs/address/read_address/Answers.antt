@@ -1,4 +1,3 @@
-use Rattle.kd_expr.specs.Lexing.{address_of}
 use Rattle.kd_expr.proofs.Addresses.{read_found, read_only}
 use Rattle.kd_expr.proofs.address.read_address.Goals as goal
 

@@ -1,9 +1,8 @@
-use Rattle.std.proofs.Common.{◌≡◌, ◌∙◌, sym, ap, subst, arith, length, [], ◌∷◌, ◌++◌, map, List, ◌+◌, ◌-◌}
+use Rattle.std.proofs.Common.{◌∙◌, sym, ap, subst, arith, length, [], ◌∷◌, List, ◌+◌, ◌-◌}
 use Rattle.std.proofs.lemmas.List.{map-append}
-use Rattle.kd_expr.specs.Lexical.{Lexeme, BadAt}
-use Rattle.kd_expr.specs.Lexing.{tokens_from, cut}
+use Rattle.kd_expr.specs.Lexical.{Lexeme}
+use Rattle.kd_expr.specs.Lexing.{tokens_from}
 use Rattle.kd_expr.specs.View.{lexemes, lexeme_of}
-use Rattle.kd_expr.proofs.Options.{some_is}
 use Rattle.kd_expr.proofs.Texts.{Left, cut_shorter, blank_left, word_left, bad_left, end_left}
 use Rattle.kd_expr.proofs.lexer.tokens_of.Goals as goal
 

@@ -1,4 +1,4 @@
-use Rattle.std.proofs.Common.{◌≡◌, ◌∙◌, sym, ap, subst, ℕ, length, List}
+use Rattle.std.proofs.Common.{◌∙◌, sym, ap, subst}
 use Rattle.kd_expr.specs.Grammar.{Parses}
 use Rattle.kd_expr.specs.View.{tree_of}
 use Rattle.kd_expr.specs.declared.node.Node.{Node}
