@@ -2,3 +2,10 @@ pub mod Numbers
 pub mod Many
 pub mod Again
 pub mod Read
+pub mod Down
+pub mod Meets
+pub mod Passing
+pub mod FlowsDown
+pub mod Arrivals
+pub mod Passes
+pub mod Ends

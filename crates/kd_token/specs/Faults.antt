@@ -2,6 +2,8 @@
 use Rattle.std.specs.Prelude.{ℕ}
 use Rattle.kd_token.specs.declared.fault.FileFault.{FileFault}
 use Rattle.kd_token.specs.declared.fault.FileFault.TheVariants as faults
+use Rattle.kd_token.specs.declared.fault.VerifyFault.{VerifyFault}
+use Rattle.kd_token.specs.declared.fault.VerifyFault.TheVariants as refusals
 
 -- the number of each fault of reading a file
 abbrev pub file_fault_number : FileFault → ℕ
@@ -13,3 +15,14 @@ file_fault_number (faults.Operand at) = 34
 file_fault_number (faults.Rest at) = 35
 file_fault_number faults.Limit = 36
 file_fault_number faults.Memory = 91
+
+-- the number of each fault of the verifier
+abbrev pub verify_fault_number : VerifyFault → ℕ
+verify_fault_number (refusals.Short at) = 40
+verify_fault_number (refusals.Kind at) = 41
+verify_fault_number (refusals.Deep at) = 42
+verify_fault_number (refusals.Long at) = 43
+verify_fault_number refusals.Steps = 44
+verify_fault_number refusals.Finish = 45
+verify_fault_number (refusals.Name at) = 46
+verify_fault_number refusals.Memory = 91

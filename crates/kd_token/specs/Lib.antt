@@ -1,3 +1,7 @@
 pub mod Faults
 pub mod File
 pub mod Reading
+pub mod Shape
+pub mod Meet
+pub mod Accepts
+pub mod Table

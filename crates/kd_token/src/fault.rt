@@ -1,5 +1,5 @@
 ghost use Rattle.std.specs.Prelude.{◌≡◌};
-ghost use Rattle.kd_token.specs.Faults.{file_fault_number};
+ghost use Rattle.kd_token.specs.Faults.{file_fault_number, verify_fault_number};
 
 use std::alloc::{AllocError, AllocFailed};
 use thiserror::Error;
@@ -71,5 +71,53 @@ impl<T: Drop> From<AllocFailed<T>> for FileFault {
 
     fn from(_error: AllocFailed<T>) -> FileFault {
         FileFault::Memory
+    }
+}
+
+/// Why a program is not accepted: the first fault in the order of the tokens. Places are numbers of tokens
+/// from 0; the number of tokens itself is the end.
+#[derive(Clone, Copy, Debug, PartialEq, Eq, Error)]
+pub enum VerifyFault {
+    /// A token wants more values than the stack has.
+    #[error("Short {0}")]
+    Short(usize),
+    /// A token wants a value of another kind, or two ways that meet there bring different shapes.
+    #[error("Kind {0}")]
+    Kind(usize),
+    /// The stack is deeper than the declared depth after this token.
+    #[error("Deep {0}")]
+    Deep(usize),
+    /// A byte string may be longer than the declared length after this token.
+    #[error("Long {0}")]
+    Long(usize),
+    /// The longest way through the program has more steps than it declares.
+    #[error("Steps")]
+    Steps,
+    /// The program does not end with one truth value.
+    #[error("Finish")]
+    Finish,
+    /// A token names a name that the program does not have.
+    #[error("Name {0}")]
+    Name(usize),
+    /// There is no memory for the table of shapes.
+    #[error("Memory")]
+    Memory,
+}
+
+impl VerifyFault {
+    /// The fault's number: 40 to 46, or 91 for want of memory.
+    pub fn number(self) -> u8
+        ensures { result ≡ verify_fault_number self }
+    {
+        match self {
+            VerifyFault::Short(_) => 40,
+            VerifyFault::Kind(_) => 41,
+            VerifyFault::Deep(_) => 42,
+            VerifyFault::Long(_) => 43,
+            VerifyFault::Steps => 44,
+            VerifyFault::Finish => 45,
+            VerifyFault::Name(_) => 46,
+            VerifyFault::Memory => 91,
+        }
     }
 }

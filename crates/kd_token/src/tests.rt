@@ -169,3 +169,22 @@ fn each_fault_has_its_number_and_name(rt: HostRuntime) -> Result<(), Fail> {
     }
     Ok(())
 }
+
+#[test]
+fn each_fault_of_the_verifier_has_its_number_and_name(rt: HostRuntime) -> Result<(), Fail> {
+    for (fault, number, name) in [
+        (VerifyFault::Short(1), 40, "Short 1"),
+        (VerifyFault::Kind(2), 41, "Kind 2"),
+        (VerifyFault::Deep(1), 42, "Deep 1"),
+        (VerifyFault::Long(2), 43, "Long 2"),
+        (VerifyFault::Steps, 44, "Steps"),
+        (VerifyFault::Finish, 45, "Finish"),
+        (VerifyFault::Name(0), 46, "Name 0"),
+        (VerifyFault::Memory, 91, "Memory"),
+    ] {
+        assert_eq!(rt; fault.number(), number);
+        let printed = format!(in rt.alloc(); "{fault}")?;
+        assert_eq!(rt; printed.as_str(), name);
+    }
+    Ok(())
+}

@@ -1,0 +1,59 @@
+-- Where the pass ends: at a place that cannot be sound, or at the end of the program.
+use Rattle.std.proofs.Common.{◌≡◌, ℕ, ◌+◌, ◌<◌, ◌≤◌, List, [], ◌∷◌, length, Option, Some, None, refl, sym, ap, subst, ◌∙◌, arith}
+use Rattle.std.specs.Prelude.{slice_get, MatchOption}
+use Rattle.std.specs.List.{AllByRecursion}
+use Rattle.kd_token.specs.declared.shape.Kind.{Kind}
+use Rattle.kd_token.specs.declared.shape.Kind.TheVariants as kinds
+use Rattle.kd_token.specs.declared.token.Token.{Token}
+use Rattle.kd_token.specs.declared.table.Entry.{Entry}
+use Rattle.kd_token.specs.declared.table.Entry.TheVariants.{Unreached, Joined, Clash}
+use Rattle.kd_token.specs.File.{Code}
+use Rattle.kd_token.specs.Shape.{Covers}
+use Rattle.kd_token.specs.Accepts.{Point, Flow, Assignment, flows, leaving, out, origin, IsCovered, IsWithin, IsSound, AreSound, IsFaultAt, IsTooManySteps, IsNoFinish, Accepts}
+use Rattle.kd_token.specs.Table.{IsBelow, IsPassed}
+use Rattle.kd_token.proofs.Down.{Down}
+use Rattle.kd_token.proofs.FlowsDown.{EachBelow, flows_down, within_down}
+
+-- an assignment that is sound through n is above what has arrived at n
+pub above_here : (p : Code) (n : ℕ) (entries : ℕ → Entry) → IsPassed p n entries → (a : Assignment) → AreSound p a (n + 1) → IsBelow (entries n) (a n)
+above_here p n entries k a s =
+    let here : IsSound p a n = s n (omega arith) in
+    k.least a (λ i less. s i (omega (arith, less))) n (omega arith) here.start (λ i less. here.enter i)
+
+-- ways that bring different shapes meet
+pub clash_fault : (p : Code) (n : ℕ) (entries : ℕ → Entry) → IsPassed p n entries → n ≤ length p.tokens → entries n ≡ Clash → IsFaultAt p n
+clash_fault p n entries k le is =
+    (le, (k.some, k.sound), λ a s. let P : Entry → Type 0 = λ e. IsBelow e (a n) in let none : ⊥ = subst P is (above_here p n entries k a s) in none)
+
+-- a token cannot take what it wants, or gives more than is declared
+pub leave_fault : (p : Code) (n : ℕ) (entries : ℕ → Entry) (s : List Kind) (c : ℕ) (token : Token) → IsPassed p n entries → n ≤ length p.tokens → entries n ≡ Joined s c → slice_get p.tokens n ≡ Some token
+    → MatchOption (flows (length p.names) token n (record { shape = s; count = c })) (Unit {0}) (λ fs. AllByRecursion (IsWithin p) fs → ⊥) → IsFaultAt p n
+leave_fault p n entries s c token k le is at not = (le, (k.some, k.sound), refute) where
+  q : Point
+  q = record { shape = s; count = c }
+
+  none : (gs fs : Option (List Flow)) → MatchOption gs ⊥ (AllByRecursion (IsWithin p)) → Down EachBelow gs fs → MatchOption fs (Unit {0}) (λ fs. AllByRecursion (IsWithin p) fs → ⊥) → ⊥
+  none None fs w d never = w
+  none (Some gs) None w d never = d
+  none (Some gs) (Some fs) w d never = never (within_down p gs fs d w)
+
+  by : (y : Option Point) → IsBelow (Joined s c) y → MatchOption (leaving (length p.names) (Some token) n y) ⊥ (AllByRecursion (IsWithin p)) → ⊥
+  by None b w = b
+  by (Some y) b w = none (flows (length p.names) token n y) (flows (length p.names) token n q) w (flows_down (length p.names) token n y q b.0 b.1) not
+
+  refute : (a : Assignment) → AreSound p a (n + 1) → ⊥
+  refute a sound =
+      let here : IsSound p a n = sound n (omega arith) in
+      let P : Entry → Type 0 = λ e. IsBelow e (a n) in
+      let Q : Option Token → Type 0 = λ t. MatchOption (leaving (length p.names) t n (a n)) ⊥ (AllByRecursion (IsWithin p)) in
+      by (a n) (subst P is (above_here p n entries k a sound)) (subst Q at here.leave)
+
+-- what a fault at a place means is not accepted
+pub fault_refuses : (p : Code) (at : ℕ) → IsFaultAt p at → Accepts p → ⊥
+fault_refuses p at f a = f.2 a.0 (λ j less. a.1 j (omega (arith, less, f.0)))
+
+pub steps_refuse : (p : Code) → IsTooManySteps p → Accepts p → ⊥
+steps_refuse p f a = f.1 a.0 a.1 a.2
+
+pub finish_refuses : (p : Code) → IsNoFinish p → Accepts p → ⊥
+finish_refuses p f a = f.1 a.0 a.1 a.2 a.3

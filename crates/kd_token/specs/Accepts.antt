@@ -1,0 +1,126 @@
+-- Accepted programs (our own format): there is an assignment of a shape and a count of steps to the
+-- places of a program that holds along each way through it.
+use Rattle.std.specs.Prelude.{◌≡◌, ℕ, ◌+◌, ◌<◌, ◌≤◌, List, [], ◌∷◌, length, slice_get, Option, Some, None, MatchOption}
+use Rattle.std.specs.List.{AllByRecursion}
+use Rattle.kd_token.specs.declared.fault.VerifyFault.{VerifyFault}
+use Rattle.kd_token.specs.declared.fault.VerifyFault.TheVariants as faults
+use Rattle.kd_token.specs.declared.shape.Kind.{Kind}
+use Rattle.kd_token.specs.declared.shape.Kind.TheVariants as kinds
+use Rattle.kd_token.specs.declared.token.Token.{Token}
+use Rattle.kd_token.specs.declared.way.Way.{Way}
+use Rattle.kd_token.specs.declared.way.Way.TheVariants as routes
+use Rattle.kd_token.specs.declared.token.Token.TheVariants as tokens
+use Rattle.kd_token.specs.File.{Code}
+use Rattle.kd_token.specs.Reading.{◌>>=◌}
+use Rattle.kd_token.specs.Shape.{Covers, AreShort, gives, take_bool}
+
+-- what is known at a place: the shape of the stack, and how many steps led there at most
+pub record Point : Type 0 where
+  pub shape : List Kind
+  pub count : ℕ
+
+-- a way from a place: where it leads, and with what
+pub record Flow : Type 0 where
+  pub to : ℕ
+  pub point : Point
+
+-- an assignment: what is known at each place; nothing where no way leads
+abbrev pub Assignment : Type 0
+Assignment = ℕ → Option Point
+
+-- a program begins with the empty stack and no step
+abbrev pub origin : Point
+origin = record { shape = []; count = 0 }
+
+-- one step more, to a place, with a shape
+abbrev pub flow_to : ℕ → Point → List Kind → Flow
+flow_to to q shape = record { to = to; point = record { shape = shape; count = q.count + 1 } }
+
+-- how a token goes on: to the next one, over some, or to either by the truth value on top, which a
+-- branch may keep
+abbrev pub way_of : Token → Way
+way_of (tokens.Branch skip) = routes.Skip skip
+way_of (tokens.PopBranchFalse skip) = routes.Fork skip
+way_of (tokens.BranchFalseElsePop skip) = routes.Keep skip
+way_of (tokens.BranchTrueElsePop skip) = routes.Keep skip
+way_of token = routes.On
+
+-- the flows of a way from place i
+abbrev pub flows_by : Way → ℕ → Token → ℕ → Point → Option (List Flow)
+flows_by routes.On names token i q = gives names token q.shape >>= λ s. Some (flow_to (i + 1) q s ∷ [])
+flows_by (routes.Skip skip) names token i q = Some (flow_to (i + 1 + skip) q q.shape ∷ [])
+flows_by (routes.Fork skip) names token i q = take_bool q.shape >>= λ r. Some (flow_to (i + 1 + skip) q r ∷ flow_to (i + 1) q r ∷ [])
+flows_by (routes.Keep skip) names token i q = take_bool q.shape >>= λ r. Some (flow_to (i + 1 + skip) q (kinds.Bool ∷ r) ∷ flow_to (i + 1) q r ∷ [])
+
+-- the flows of a token at place i; none where it cannot take what it wants
+abbrev pub flows : ℕ → Token → ℕ → Point → Option (List Flow)
+flows names token i q = flows_by (way_of token) names token i q
+
+-- what leaves place i: nothing where no way leads there, and nothing at the end
+abbrev pub leaving : ℕ → Option Token → ℕ → Option Point → Option (List Flow)
+leaving names token i None = Some []
+leaving names None i (Some q) = Some []
+leaving names (Some token) i (Some q) = flows names token i q
+
+-- what leaves place i of a program under an assignment
+abbrev pub out : Code → Assignment → ℕ → Option (List Flow)
+out p a i = leaving (length p.names) (slice_get p.tokens i) i (a i)
+
+-- a place knows at least what a flow brings: its shape covers the flow's, its count is no less
+abbrev pub IsCovered : Option Point → Point → Type 0
+IsCovered None q = ⊥
+IsCovered (Some x) q = Covers x.shape q.shape × (q.count ≤ x.count)
+
+-- a flow is within the declared depth and length
+abbrev pub IsWithin : Code → Flow → Type 0
+IsWithin p f = (length f.point.shape ≤ p.depth) × AreShort p.bound f.point.shape
+
+-- place j is sound: the first is the origin; each flow to j is covered there; its token can take what it
+-- wants, and what it gives is within what is declared
+pub record IsSound (p : Code) (a : Assignment) (j : ℕ) : Type 0 where
+  pub start : j ≡ 0 → a j ≡ Some origin
+  pub enter : (i : ℕ) → MatchOption (out p a i) (Unit {0}) (AllByRecursion (λ f. f.to ≡ j → IsCovered (a j) f.point))
+  pub leave : MatchOption (out p a j) ⊥ (AllByRecursion (IsWithin p))
+
+-- the places before n are sound
+abbrev pub AreSound : Code → Assignment → ℕ → Type 0
+AreSound p a n = (j : ℕ) → j < n → IsSound p a j
+
+-- all places are sound, the end too
+abbrev pub IsSoundThroughout : Code → Assignment → Type 0
+IsSoundThroughout p a = AreSound p a (length p.tokens + 1)
+
+-- the end is reached in the declared steps
+abbrev pub EndsInTime : Code → Assignment → Type 0
+EndsInTime p a = MatchOption (a (length p.tokens)) ⊥ (λ q. q.count ≤ p.steps)
+
+-- the end is one truth value
+abbrev pub EndsWithBool : Code → Assignment → Type 0
+EndsWithBool p a = MatchOption (a (length p.tokens)) ⊥ (λ q. q.shape ≡ kinds.Bool ∷ [])
+
+-- an accepted program: an assignment is sound throughout and ends in time with one truth value
+abbrev pub Accepts : Code → Type 0
+Accepts p = (a : Assignment) × IsSoundThroughout p a × EndsInTime p a × EndsWithBool p a
+
+-- the first place that cannot be sound: those before it can, and it cannot with them
+abbrev pub IsFaultAt : Code → ℕ → Type 0
+IsFaultAt p at = (at ≤ length p.tokens) × ((a : Assignment) × AreSound p a at) × ((a : Assignment) → AreSound p a (at + 1) → ⊥)
+
+-- all places can be sound, and none so that the end comes in time
+abbrev pub IsTooManySteps : Code → Type 0
+IsTooManySteps p = ((a : Assignment) × IsSoundThroughout p a) × ((a : Assignment) → IsSoundThroughout p a → EndsInTime p a → ⊥)
+
+-- all places can be sound and the end in time, and only the one truth value is wanting
+abbrev pub IsNoFinish : Code → Type 0
+IsNoFinish p = ((a : Assignment) × IsSoundThroughout p a × EndsInTime p a) × ((a : Assignment) → IsSoundThroughout p a → EndsInTime p a → EndsWithBool p a → ⊥)
+
+-- what a fault of the verifier means; want of memory may come at any program
+abbrev pub IsVerifyFault : Code → VerifyFault → Type 0
+IsVerifyFault p (faults.Short at) = IsFaultAt p at
+IsVerifyFault p (faults.Kind at) = IsFaultAt p at
+IsVerifyFault p (faults.Name at) = IsFaultAt p at
+IsVerifyFault p (faults.Deep at) = IsFaultAt p at
+IsVerifyFault p (faults.Long at) = IsFaultAt p at
+IsVerifyFault p faults.Steps = IsTooManySteps p
+IsVerifyFault p faults.Finish = IsNoFinish p
+IsVerifyFault p faults.Memory = Unit {0}

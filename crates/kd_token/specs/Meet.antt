@@ -1,0 +1,19 @@
+-- The least shape that covers two shapes, where ways meet.
+use Rattle.std.specs.Prelude.{max, List, [], ◌∷◌, Option, Some, None}
+use Rattle.kd_token.specs.declared.shape.Kind.{Kind}
+use Rattle.kd_token.specs.declared.shape.Kind.TheVariants as kinds
+use Rattle.kd_token.specs.Reading.{◌>>=◌}
+
+-- the least kind that covers two, if there is one
+abbrev pub met_kind : Kind → Kind → Option Kind
+met_kind kinds.Bool kinds.Bool = Some kinds.Bool
+met_kind kinds.Int kinds.Int = Some kinds.Int
+met_kind (kinds.Bytes n) (kinds.Bytes m) = Some (kinds.Bytes (max n m))
+met_kind k l = None
+
+-- the least shape that covers two, if there is one
+abbrev pub met : List Kind → List Kind → Option (List Kind)
+met [] [] = Some []
+met [] (l ∷ s) = None
+met (k ∷ r) [] = None
+met (k ∷ r) (l ∷ s) = met_kind k l >>= λ m. met r s >>= λ t. Some (m ∷ t)

@@ -1,0 +1,112 @@
+-- Shapes of a stack (our own format): a kind for each value, the top first; which shape covers another,
+-- and what a token makes of a shape.
+use Rattle.std.specs.Prelude.{◌≡◌, ℕ, ℤ, ◌+◌, ◌-◌, ◌*◌, ◌<◌, ◌≤◌, min, max, nat_lt, List, [], ◌∷◌, length, Option, Some, None, if◌then◌else◌, ◌==◌}
+use Rattle.std.specs.Int.RustNames.{unsigned_abs}
+use Rattle.kd_token.specs.declared.shape.Kind.{Kind}
+use Rattle.kd_token.specs.declared.shape.Kind.TheVariants as kinds
+use Rattle.kd_token.specs.declared.token.Field.{Field}
+use Rattle.kd_token.specs.declared.token.Field.TheVariants as fields
+use Rattle.kd_token.specs.declared.token.Token.{Token}
+use Rattle.kd_token.specs.declared.token.Token.TheVariants as tokens
+use Rattle.kd_token.specs.Reading.{◌>>=◌}
+
+-- a kind covers another: it is the same, and no length is less
+abbrev pub CoversKind : Kind → Kind → Type 0
+CoversKind kinds.Bool kinds.Bool = Unit {0}
+CoversKind kinds.Int kinds.Int = Unit {0}
+CoversKind (kinds.Bytes most) (kinds.Bytes n) = n ≤ most
+CoversKind kinds.Bool kinds.Int = ⊥
+CoversKind kinds.Bool (kinds.Bytes n) = ⊥
+CoversKind kinds.Int kinds.Bool = ⊥
+CoversKind kinds.Int (kinds.Bytes n) = ⊥
+CoversKind (kinds.Bytes most) kinds.Bool = ⊥
+CoversKind (kinds.Bytes most) kinds.Int = ⊥
+
+-- a shape covers another: kind by kind, and neither has more
+abbrev pub Covers : List Kind → List Kind → Type 0
+Covers [] [] = Unit {0}
+Covers [] (k ∷ s) = ⊥
+Covers (k ∷ r) [] = ⊥
+Covers (k ∷ r) (l ∷ s) = CoversKind k l × Covers r s
+
+-- a kind is no longer than this
+abbrev pub IsShortKind : ℕ → Kind → Type 0
+IsShortKind most (kinds.Bytes n) = n ≤ most
+IsShortKind most kinds.Bool = Unit {0}
+IsShortKind most kinds.Int = Unit {0}
+
+-- no kind of a shape is longer than this
+abbrev pub AreShort : ℕ → List Kind → Type 0
+AreShort most [] = Unit {0}
+AreShort most (k ∷ s) = IsShortKind most k × AreShort most s
+
+-- the bound of the byte string on top, and what is below it
+abbrev pub take_bytes : List Kind → Option (ℕ × List Kind)
+take_bytes [] = None
+take_bytes (kinds.Bytes n ∷ s) = Some (n, s)
+take_bytes (kinds.Bool ∷ s) = None
+take_bytes (kinds.Int ∷ s) = None
+
+-- what is below the truth value on top
+abbrev pub take_bool : List Kind → Option (List Kind)
+take_bool [] = None
+take_bool (kinds.Bool ∷ s) = Some s
+take_bool (kinds.Int ∷ s) = None
+take_bool (kinds.Bytes n ∷ s) = None
+
+-- what is below the number on top
+abbrev pub take_int : List Kind → Option (List Kind)
+take_int [] = None
+take_int (kinds.Int ∷ s) = Some s
+take_int (kinds.Bool ∷ s) = None
+take_int (kinds.Bytes n ∷ s) = None
+
+-- the kind of each field
+abbrev pub field_kind : Field → Kind
+field_kind fields.Mac = kinds.Bytes 16
+field_kind fields.Hlen = kinds.Int
+field_kind fields.Htype = kinds.Int
+field_kind fields.Ciaddr = kinds.Bytes 4
+field_kind fields.Giaddr = kinds.Bytes 4
+field_kind fields.Yiaddr = kinds.Bytes 4
+field_kind fields.Siaddr = kinds.Bytes 4
+field_kind fields.MessageType = kinds.Int
+field_kind fields.Transaction = kinds.Int
+field_kind fields.Length = kinds.Int
+
+-- how long a substring of at most n bytes is
+abbrev pub substring_bound : ℕ → Option ℤ → ℕ
+substring_bound n None = n
+substring_bound n (Some count) = min n (unsigned_abs count)
+
+-- how long the hexadecimal text of at most n bytes is, with separators of at most m bytes between them
+abbrev pub hex_bound : ℕ → ℕ → ℕ
+hex_bound n m = if n == 0 then 0 else 2 * n + (n - 1) * m
+
+-- what a token that goes on makes of a shape, where it can take what it wants; `names` is how many
+-- names the program has
+unfoldable pub gives : ℕ → Token → List Kind → Option (List Kind)
+gives names (tokens.PushBytes bytes) s = Some (kinds.Bytes (length bytes) ∷ s)
+gives names (tokens.PushInt number) s = Some (kinds.Int ∷ s)
+gives names (tokens.PushOption code) s = Some (kinds.Bytes 4096 ∷ s)
+gives names (tokens.PushRelay code) s = Some (kinds.Bytes 255 ∷ s)
+gives names (tokens.PushField field) s = Some (field_kind field ∷ s)
+gives names (tokens.OptionExists code) s = Some (kinds.Bool ∷ s)
+gives names (tokens.RelayExists code) s = Some (kinds.Bool ∷ s)
+gives names (tokens.Member index) s = if nat_lt index names then Some (kinds.Bool ∷ s) else None
+gives names tokens.Equal s = take_bytes s >>= λ b. take_bytes b.1 >>= λ a. Some (kinds.Bool ∷ a.1)
+gives names tokens.Not s = take_bool s >>= λ r. Some (kinds.Bool ∷ r)
+gives names tokens.And s = take_bool s >>= λ q. take_bool q >>= λ r. Some (kinds.Bool ∷ r)
+gives names tokens.Or s = take_bool s >>= λ q. take_bool q >>= λ r. Some (kinds.Bool ∷ r)
+gives names tokens.IfElse s = take_bytes s >>= λ b. take_bytes b.1 >>= λ a. take_bool a.1 >>= λ r. Some (kinds.Bytes (max a.0 b.0) ∷ r)
+gives names (tokens.Substring start count) s = take_bytes s >>= λ a. Some (kinds.Bytes (substring_bound a.0 count) ∷ a.1)
+gives names tokens.Concat s = take_bytes s >>= λ b. take_bytes b.1 >>= λ a. Some (kinds.Bytes (a.0 + b.0) ∷ a.1)
+gives names tokens.HexString s = take_bytes s >>= λ b. take_bytes b.1 >>= λ a. Some (kinds.Bytes (hex_bound a.0 b.0) ∷ a.1)
+gives names tokens.Lower s = take_bytes s >>= λ a. Some (kinds.Bytes a.0 ∷ a.1)
+gives names tokens.Upper s = take_bytes s >>= λ a. Some (kinds.Bytes a.0 ∷ a.1)
+gives names tokens.IntToText s = take_int s >>= λ r. Some (kinds.Bytes 10 ∷ r)
+gives names tokens.IntBytes s = take_int s >>= λ r. Some (kinds.Bytes 4 ∷ r)
+gives names (tokens.Branch skip) s = Some s
+gives names (tokens.PopBranchFalse skip) s = take_bool s
+gives names (tokens.BranchFalseElsePop skip) s = take_bool s
+gives names (tokens.BranchTrueElsePop skip) s = take_bool s

@@ -1,0 +1,58 @@
+-- What has arrived at each place of a program while the verifier passes over it, computed. Proofs tie
+-- these functions to assignments; public contracts do not cite them.
+use Rattle.std.specs.Prelude.{◌≡◌, ℕ, ◌+◌, ◌<◌, ◌≤◌, max, List, [], ◌∷◌, length, ◌==◌, if◌then◌else◌, Option, Some, None, MatchOption}
+use Rattle.std.specs.List.{AllByRecursion}
+use Rattle.kd_token.specs.declared.shape.Kind.{Kind}
+use Rattle.kd_token.specs.declared.shape.Kind.TheVariants as kinds
+use Rattle.kd_token.specs.declared.table.Entry.{Entry}
+use Rattle.kd_token.specs.declared.table.Entry.TheVariants.{Unreached, Joined, Clash}
+use Rattle.kd_token.specs.File.{Code}
+use Rattle.kd_token.specs.Meet.{met}
+use Rattle.kd_token.specs.Accepts.{Point, Flow, Assignment, origin, out, IsCovered, AreSound}
+
+-- a shape that is met, or a clash
+abbrev pub joined_by : Option (List Kind) → ℕ → Entry
+joined_by None c = Clash
+joined_by (Some t) c = Joined t c
+
+-- an entry after a point arrived
+abbrev pub arrived : Point → Entry → Entry
+arrived q Unreached = Joined q.shape q.count
+arrived q Clash = Clash
+arrived q (Joined s c) = joined_by (met s q.shape) (max c q.count)
+
+-- what has arrived at each place after these flows too
+abbrev pub spread : List Flow → (ℕ → Entry) → ℕ → Entry
+spread [] entries j = entries j
+spread (f ∷ fs) entries j = spread fs (λ k. if k == f.to then arrived f.point (entries k) else entries k) j
+
+-- an entry is below what an assignment knows at its place
+abbrev pub IsBelow : Entry → Option Point → Type 0
+IsBelow Unreached x = Unit {0}
+IsBelow Clash x = ⊥
+IsBelow (Joined s c) x = IsCovered x (record { shape = s; count = c })
+
+-- a point is covered by an entry; a clash covers each
+abbrev pub IsCoveredBy : Entry → Point → Type 0
+IsCoveredBy Unreached q = ⊥
+IsCoveredBy Clash q = Unit {0}
+IsCoveredBy (Joined s c) q = IsCovered (Some (record { shape = s; count = c })) q
+
+-- each flow from before place n to place j satisfies this
+abbrev pub Arrives : Code → Assignment → ℕ → ℕ → (Point → Type 0) → Type 0
+Arrives p a n j P = (i : ℕ) → i < n → MatchOption (out p a i) (Unit {0}) (AllByRecursion (λ f. f.to ≡ j → P f.point))
+
+-- what the pass keeps at place n: every assignment that is sound before n is above what has arrived; one
+-- is sound before n whose flows all arrived; at the first place the origin has arrived
+pub record IsPassed (p : Code) (n : ℕ) (entries : ℕ → Entry) : Type 0 where
+  pub least : (a : Assignment) → AreSound p a n → (j : ℕ) → n ≤ j → (j ≡ 0 → a j ≡ Some origin) → Arrives p a n j (IsCovered (a j)) → IsBelow (entries j) (a j)
+  pub some : Assignment
+  pub sound : AreSound p some n
+  pub covers : (j : ℕ) → n ≤ j → Arrives p some n j (IsCoveredBy (entries j))
+  pub first : n ≡ 0 → entries 0 ≡ Joined [] 0
+
+-- the point that an entry stands for
+abbrev pub IsPoint : Entry → Option Point → Type 0
+IsPoint Unreached x = x ≡ None
+IsPoint Clash x = ⊥
+IsPoint (Joined s c) x = x ≡ Some (record { shape = s; count = c })

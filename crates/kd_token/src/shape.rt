@@ -1,0 +1,193 @@
+ghost use Rattle.std.specs.Prelude.{◌≡◌, ◌≤◌, ◌<◌, ◌∷◌, [], length, MatchOption};
+ghost use Rattle.kd_token.specs.Shape.{AreShort, field_kind, gives, hex_bound, substring_bound, take_bool, take_bytes, take_int};
+ghost use Rattle.kd_token.specs.File.{IsShort};
+ghost use Rattle.kd_token.specs.declared.shape.Kind.TheVariants.{Bool, Int};
+
+use crate::token::{Field, Token};
+use arrayvec::ArrayVec;
+use std::marker::Model;
+
+// The kind of a value on the stack, with the greatest length of a byte string.
+#[derive(Clone, Copy, Default)]
+pub(crate) enum Kind {
+    #[default]
+    Bool,
+    Int,
+    Bytes(u32),
+}
+
+// The shape of a stack: one kind more than the greatest depth, so that a value is pushed before the depth
+// is judged.
+#[derive(Drop)]
+pub(crate) struct Shape {
+    kinds: ArrayVec<Kind, 65>,
+}
+
+impl Model for Shape {
+    ghost use Rattle.std.specs.Prelude.{List, reverse};
+    ghost use Rattle.kd_token.specs.declared.shape.Kind.{Kind};
+
+    ghost Value = { List Kind };
+
+    ghost view = { λ s. reverse s.kinds.items };
+}
+
+impl Shape {
+    pub(crate) fn new() -> Shape
+        ensures { result ≡ [] }
+    {
+        Shape {
+            kinds: ArrayVec::new(),
+        }
+    }
+
+    pub(crate) fn len(&self) -> usize
+        ensures { result ≡ length self.now }
+    {
+        self.kinds.len()
+    }
+
+    pub(crate) fn push(&mut self, kind: Kind)
+        requires { length self.old < 65 }
+        ensures { self.new ≡ kind ∷ self.old }
+    {
+        self.kinds.push(kind);
+    }
+
+    pub(crate) fn pop(&mut self) -> Option<Kind>
+        ensures { MatchOption result ((self.old ≡ []) × (self.new ≡ [])) (λ k. self.old ≡ k ∷ self.new) }
+    {
+        self.kinds.pop()
+    }
+
+    // The bound of the byte string on top, which is taken.
+    fn take_bytes(&mut self) -> Option<u32>
+        ensures { MatchOption result (take_bytes self.old ≡ None) (λ n. take_bytes self.old ≡ Some (n, self.new)) }
+    {
+        match self.pop() {
+            Some(Kind::Bytes(n)) => Some(n),
+            _ => None,
+        }
+    }
+
+    // The truth value on top is taken.
+    pub(crate) fn take_bool(&mut self) -> Option<()>
+        ensures { MatchOption result (take_bool self.old ≡ None) (λ _. take_bool self.old ≡ Some self.new) }
+    {
+        match self.pop() {
+            Some(Kind::Bool) => Some(()),
+            _ => None,
+        }
+    }
+
+    // The number on top is taken.
+    fn take_int(&mut self) -> Option<()>
+        ensures { MatchOption result (take_int self.old ≡ None) (λ _. take_int self.old ≡ Some self.new) }
+    {
+        match self.pop() {
+            Some(Kind::Int) => Some(()),
+            _ => None,
+        }
+    }
+
+    // What a token that goes on makes of the shape, or nothing where it cannot take what it wants.
+    #[tactic(auto, unfolding(crate::specs::Shape::gives))]
+    pub(crate) fn pass(&mut self, token: &Token, names: usize) -> Option<()>
+        requires few { length self.old ≤ 64 }
+        requires short { AreShort 65535 self.old }
+        requires literal { IsShort token.now }
+        ensures { MatchOption result (gives names token.now self.old ≡ None) (λ _. gives names token.now self.old ≡ Some self.new) }
+    {
+        let kind = match token {
+            Token::PushBytes(bytes) => Kind::Bytes(bytes.as_slice().len() as u32),
+            Token::PushInt(_) => Kind::Int,
+            Token::PushOption(_) => Kind::Bytes(4096),
+            Token::PushRelay(_) => Kind::Bytes(255),
+            Token::PushField(field) => kind_of(*field),
+            Token::OptionExists(_) | Token::RelayExists(_) => Kind::Bool,
+            Token::Member(index) => {
+                if usize::from(*index) >= names {
+                    return None;
+                }
+                Kind::Bool
+            }
+            Token::Equal => {
+                self.take_bytes()?;
+                self.take_bytes()?;
+                Kind::Bool
+            }
+            Token::Not => {
+                self.take_bool()?;
+                Kind::Bool
+            }
+            Token::And | Token::Or => {
+                self.take_bool()?;
+                self.take_bool()?;
+                Kind::Bool
+            }
+            Token::IfElse => {
+                let second = self.take_bytes()?;
+                let first = self.take_bytes()?;
+                self.take_bool()?;
+                Kind::Bytes(first.max(second))
+            }
+            Token::Substring(_, count) => Kind::Bytes(bound_of(self.take_bytes()?, *count)),
+            Token::Concat => {
+                let second = self.take_bytes()?;
+                let first = self.take_bytes()?;
+                Kind::Bytes(first + second)
+            }
+            Token::HexString => {
+                let separator = self.take_bytes()?;
+                let bytes = self.take_bytes()?;
+                Kind::Bytes(hex_bound(bytes, separator))
+            }
+            Token::Lower | Token::Upper => Kind::Bytes(self.take_bytes()?),
+            Token::IntToText => {
+                self.take_int()?;
+                Kind::Bytes(10)
+            }
+            Token::IntBytes => {
+                self.take_int()?;
+                Kind::Bytes(4)
+            }
+            Token::Branch(_) => return Some(()),
+            Token::PopBranchFalse(_) | Token::BranchFalseElsePop(_) | Token::BranchTrueElsePop(_) =>
+                return self.take_bool(),
+        };
+        self.push(kind);
+        Some(())
+    }
+}
+
+// The kind of a field.
+fn kind_of(field: Field) -> Kind
+    ensures { result ≡ field_kind field }
+{
+    match field {
+        Field::Mac => Kind::Bytes(16),
+        Field::Ciaddr | Field::Giaddr | Field::Yiaddr | Field::Siaddr => Kind::Bytes(4),
+        Field::Hlen | Field::Htype | Field::MessageType | Field::Transaction | Field::Length => {
+            Kind::Int
+        }
+    }
+}
+
+// How long a substring of at most n bytes is.
+fn bound_of(n: u32, count: Option<i32>) -> u32
+    ensures { result ≡ substring_bound n count }
+{
+    match count {
+        None => n,
+        Some(count) => n.min(count.unsigned_abs()),
+    }
+}
+
+// How long the hexadecimal text of at most n bytes is, with separators of at most m bytes.
+fn hex_bound(n: u32, m: u32) -> u32
+    requires bytes { n ≤ 65535 }
+    requires separator { m ≤ 65535 }
+    ensures { result ≡ hex_bound n m }
+{
+    if n == 0 { 0 } else { 2 * n + (n - 1) * m }
+}
