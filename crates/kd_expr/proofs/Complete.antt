@@ -3,7 +3,7 @@ use Rattle.std.proofs.Common.{◌≡◌, ℕ, zero, suc, ◌≤◌, ◌<◌, ◌
 use Rattle.kd_expr.specs.Grammar.{Level, or_level, and_level, not_level, compare_level, sum_level, primary_level, IsCode, code_number, code_name, IsSigned, plain, below, IsLength, counted, whole}
 use Rattle.kd_expr.specs.Lexical.{Lexeme, StringAt, SignAt}
 use Rattle.kd_expr.specs.Reading as reading
-use Rattle.kd_expr.specs.Reading.{Reader, Deeper, and_then, seq, either, one, done, sign, word, option_code, relay_code, field_of, signed, length_of, class_name, bracketed, option_at, relay_at, field_at, packet_at, member_at, one_operand, group_at, two_operands, ifelse_at, substring_at, form_at, named_at, primary_at, sum_of, and_of, or_of, sum_at, compare_at, not_at, and_at, or_at, joined, chain}
+use Rattle.kd_expr.specs.Reading.{Reader, Deeper, and_then, seq, either, one, done, sign, word, option_code, relay_code, field_of, signed, length_of, class_name, bracketed, option_at, relay_at, field_at, packet_at, member_at, operand_before, one_operand, group_at, two_operands, ifelse_at, substring_at, form_at, named_at, primary_at, sum_of, and_of, or_of, sum_at, compare_at, not_at, and_at, or_at, joined, chain}
 use Rattle.kd_expr.specs.Tree.{Tree, Member, Group, IfElse, Substring}
 
 -- the reader answers with this, and leaves the rest
@@ -84,19 +84,19 @@ to_comma : {n : ℕ} {us : List Lexeme} {t : Tree} → ReadsAny n us t → (c : 
 to_comma {n} {us} {t} h c vs rest = subst (λ v. Answers (or_at (reading.below n) v) t (SignAt c 44 ∷ (vs ++ rest))) (sym (append_assoc us (SignAt c 44 ∷ vs) rest)) (any_complete h (SignAt c 44 ∷ (vs ++ rest)) (record { compare = record { no_plus = refl; no_equal = refl }; no_and = refl; no_or = refl }))
 
 pub group_reads : {n : ℕ} (at c : ℕ) {us : List Lexeme} {t : Tree} → ReadsAny n us t → (rest : List Lexeme) → Answers (primary_at (reading.below (suc n)) (SignAt at 40 ∷ ((us ++ SignAt c 41 ∷ []) ++ rest))) (Group at t) rest
-unfolding primary_at group_at reading.below
+unfolding primary_at group_at operand_before reading.below
 group_reads at c h rest = rw (to_close h c [] rest) refl
 
 pub one_reads : {n : ℕ} (o c : ℕ) {us : List Lexeme} {t : Tree} → ReadsAny n us t → (rest : List Lexeme) → Answers (one_operand (reading.below (suc n)) (SignAt o 40 ∷ ((us ++ SignAt c 41 ∷ []) ++ rest))) t rest
-unfolding one_operand reading.below
+unfolding one_operand operand_before reading.below
 one_reads o c h rest = rw (to_close h c [] rest) refl
 
 pub two_read : {n : ℕ} (o c d : ℕ) {us vs : List Lexeme} {a b : Tree} → ReadsAny n us a → ReadsAny n vs b → (rest : List Lexeme) → Answers (two_operands (reading.below (suc n)) (SignAt o 40 ∷ ((us ++ SignAt c 44 ∷ (vs ++ SignAt d 41 ∷ [])) ++ rest))) (a, b) rest
-unfolding two_operands reading.below
+unfolding two_operands operand_before reading.below
 two_read o c d {us} {vs} h g rest = rw (to_comma h c (vs ++ SignAt d 41 ∷ []) rest, to_close g d [] rest) refl
 
 pub ifelse_reads : {n : ℕ} (at o c d e : ℕ) {us vs ws : List Lexeme} {t a b : Tree} → ReadsAny n us t → ReadsAny n vs a → ReadsAny n ws b → (rest : List Lexeme) → Answers (ifelse_at (reading.below (suc n)) at (SignAt o 40 ∷ ((us ++ SignAt c 44 ∷ (vs ++ SignAt d 44 ∷ (ws ++ SignAt e 41 ∷ []))) ++ rest))) (IfElse at t a b) rest
-unfolding ifelse_at reading.below
+unfolding ifelse_at operand_before reading.below
 ifelse_reads at o c d e {us} {vs} {ws} h g f rest = rw (to_comma h c (vs ++ SignAt d 44 ∷ (ws ++ SignAt e 41 ∷ [])) rest, to_comma g d (ws ++ SignAt e 41 ∷ []) rest, to_close f e [] rest) refl
 
 pub less_true : (a b : ℕ) → a < b → nat_lt a b ≡ true
@@ -116,7 +116,7 @@ code_reads (code_number {code = c} h) = rw (less_true c 256 h) refl
 code_reads (code_name e) = e
 
 pub substring_reads : {n : ℕ} (at o c d e : ℕ) {us : List Lexeme} {x y : Lexeme} {a : Tree} {start : ℤ} {len : Option ℤ} → ReadsAny n us a → IsSigned x start → IsLength y len → (rest : List Lexeme) → Answers (substring_at (reading.below (suc n)) at (SignAt o 40 ∷ ((us ++ SignAt c 44 ∷ x ∷ SignAt d 44 ∷ y ∷ SignAt e 41 ∷ []) ++ rest))) (Substring at a start len) rest
-unfolding substring_at reading.below
+unfolding substring_at operand_before reading.below
 substring_reads at o c d e {us} {x} {y} h i j rest =
     rw (to_comma h c (x ∷ SignAt d 44 ∷ y ∷ SignAt e 41 ∷ []) rest, signed_reads i, length_reads j) refl
 

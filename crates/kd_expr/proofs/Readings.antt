@@ -1,12 +1,12 @@
 -- What each reader of tokens gives, the grammar allows.
-use Rattle.std.proofs.Common.{◌≡◌, ℕ, zero, suc, ◌≤◌, ◌^◌, ℤ, Bool, true, false, Option, Some, List, [], ◌∷◌, ◌++◌, length, refl, sym, ap, subst, append-nil, codes, bytes_eq, if◌then◌else◌, nat_lt, ltb-true}
+use Rattle.std.proofs.Common.{◌≡◌, ℕ, zero, suc, ◌≤◌, ◌^◌, ℤ, Bool, true, false, Option, Some, None, List, [], ◌∷◌, ◌++◌, length, refl, sym, ap, subst, append-nil, codes, bytes_eq, if◌then◌else◌, nat_lt, ltb-true}
 use Rattle.kd_expr.specs.Grammar.{Spells, Level, or_level, and_level, not_level, compare_level, sum_level, primary_level, or_one, or_more, and_one, and_more, not_none, negated, compare_one, equal, sum_one, sum_more, string, hexadecimal, address, number, group, option_hex, option_exists, relay_hex, relay_exists, field, packet_length, member, substring, concat, ifelse, hexstring, lcase, ucase, uint32totext, IsSigned, IsLength}
 use Rattle.kd_expr.specs.Lexical.{Lexeme, StringAt, HexAt, AddressAt, NumberAt, MinusAt, NameAt, SignAt, BadAt}
-use Rattle.kd_expr.specs.Reading.{Reader, Deeper, seq, one, done, sign, word, sign_at, word_at, option_code, relay_code, suffix, field_of, signed, length_of, class_name, bracketed, option_at, relay_at, field_at, packet_at, member_at, one_operand, group_at, two_operands, ifelse_at, substring_at, form_at, named_at, primary_at, sum_of, and_of, or_of, sum_at, compare_at, not_at, and_at, or_at, below}
+use Rattle.kd_expr.specs.Reading.{Reader, Deeper, and_then, seq, one, done, sign, word, sign_at, word_at, option_code, relay_code, suffix, field_of, signed, length_of, class_name, bracketed, option_at, relay_at, field_at, packet_at, member_at, operand_before, one_operand, group_at, two_operands, ifelse_at, substring_at, form_at, named_at, primary_at, sum_of, and_of, or_of, sum_at, compare_at, not_at, and_at, or_at, below}
 use Rattle.kd_expr.specs.Tree.{Tree, Int, OptionValue, RelayValue, FieldValue, OptionExists, RelayExists, Member, Equal, Not, Group, Concat, IfElse, Substring, HexString, Lower, Upper, IntToText, at_of}
 use Rattle.kd_expr.specs.declared.node.Field.{Field}
 use Rattle.kd_expr.proofs.Options.{none_is, some_pair, if_some}
-use Rattle.kd_expr.proofs.Sound.{IsSound, Takes, done_sound, seq_sound, seq_one_sound, either_one_sound, chain_sound, weaker, OneOf, is_one, one_sound}
+use Rattle.kd_expr.proofs.Sound.{IsSound, Takes, same_sound, and_then_twice, done_sound, seq_sound, seq_one_sound, either_one_sound, chain_sound, weaker, OneOf, is_one, one_sound}
 use Rattle.kd_expr.proofs.Tokens.{sign_is, word_is, option_code_is, relay_code_is, IsRelayCode, relay_number, IsSuffix, hex, exists, suffix_is, IsPartName, part_name, field_of_is, signed_is, length_is, IsClassName, class_is, class_name_is}
 use Rattle.std.proofs.lemmas.Slice.Eq.{bytes_eq-Decides}
 
@@ -140,41 +140,50 @@ upper_from m at a us (in_round o c s) = done_sound (λ ws t. Behind m at (codes 
 text_from : (m at : ℕ) (a : Tree) (us : List Lexeme) → InRound m us a → IsSound (λ ws t. Behind m at (codes "uint32totext") (us ++ ws) t) (done (IntToText at a))
 text_from m at a us (in_round o c s) = done_sound (λ ws t. Behind m at (codes "uint32totext") (us ++ ws) t) _ (subst (λ v. Behind m at (codes "uint32totext") v (IntToText at a)) (sym (append-nil us)) (text_made c s))
 
+before_is : {B : Type 0} (d : Deeper) (b : ℕ) (f : Tree → Reader B) (ts : List Lexeme) → seq (operand_before d b) f ts ≡ seq d.any (λ a. seq (sign b) (λ _. f a)) ts
+unfolding operand_before
+before_is {B} d b f ts =
+    let at : (o : Option (Tree × List Lexeme)) → and_then (and_then o (λ x. seq (sign b) (λ _. done x.0) x.1)) (λ z. f z.0 z.1) ≡ and_then o (λ x. seq (sign b) (λ _. f x.0) x.1)
+    = λ o. elim o as (λ v. and_then (and_then v (λ x. seq (sign b) (λ _. done x.0) x.1)) (λ z. f z.0 z.1) ≡ and_then v (λ x. seq (sign b) (λ _. f x.0) x.1)) [
+      | None ↦ refl
+      | Some x ↦ and_then_twice (sign b x.1) (λ y. Some (x.0, y.1)) (λ z. f z.0 z.1)
+    ] in
+    at (d.any ts)
+
 module _ (m : ℕ) (d : Deeper) (s : DeeperIsSound m d) where
   member_sound : (at : ℕ) → IsSound (Behind m at (codes "member")) (member_at d at)
   unfolding member_at
   member_sound at = sign_sound _ 40 _ (λ o. seq_sound (InnerName m) _ d.name _ s.name (member_from m at o))
 
+  before_sound : {B : Type 0} (P : List Lexeme → B → Type 0) (b : ℕ) (f : Tree → Reader B) → ((a : Tree) (us : List Lexeme) → Inner or_level m us a → (c : ℕ) → IsSound (λ ws t. P (us ++ SignAt c b ∷ ws) t) (f a)) → IsSound P (seq (operand_before d b) f)
+  before_sound P b f h = same_sound P _ _ (before_is d b f) (seq_sound (Inner or_level m) P d.any (λ a. seq (sign b) (λ _. f a)) s.any (λ a us i. sign_sound (λ ws t. P (us ++ ws) t) b (λ _. f a) (h a us i)))
+
   group_sound : IsSound (Spells primary_level m) (group_at d)
   unfolding group_at
-  group_sound = sign_sound _ 40 _ (λ at. seq_sound (Inner or_level m) _ d.any _ s.any (λ a us i. sign_sound _ 41 _ (λ c. done_sound _ _ (group_made c i))))
+  group_sound = sign_sound _ 40 _ (λ at. before_sound _ 41 _ (λ a us i c. done_sound _ _ (group_made c i)))
 
   one_operand_sound : IsSound (InRound m) (one_operand d)
-  unfolding one_operand
+  unfolding one_operand operand_before
   one_operand_sound = sign_sound _ 40 _ (λ o. seq_sound (Inner or_level m) _ d.any _ s.any (λ a us i. sign_sound _ 41 _ (λ c. done_sound _ _ (in_round o c i))))
 
   two_operands_sound : IsSound (TwoInRound m) (two_operands d)
   unfolding two_operands
   two_operands_sound =
-      sign_sound _ 40 _ (λ o. seq_sound (Inner or_level m) _ d.any _ s.any (λ a us i.
-      sign_sound _ 44 _ (λ c. seq_sound (Inner or_level m) _ d.any _ s.any (λ b vs j.
-      sign_sound _ 41 _ (λ e. done_sound _ (a, b) (two_in_round o c e i j))))))
+      sign_sound _ 40 _ (λ o. before_sound _ 44 _ (λ a us i c. before_sound _ 41 _ (λ b vs j e.
+      done_sound _ (a, b) (two_in_round o c e i j))))
 
   ifelse_sound : (at : ℕ) → IsSound (Behind m at (codes "ifelse")) (ifelse_at d at)
   unfolding ifelse_at
   ifelse_sound at =
-      sign_sound _ 40 _ (λ o. seq_sound (Inner or_level m) _ d.any _ s.any (λ t us i.
-      sign_sound _ 44 _ (λ c. seq_sound (Inner or_level m) _ d.any _ s.any (λ a vs j.
-      sign_sound _ 44 _ (λ e. seq_sound (Inner or_level m) _ d.any _ s.any (λ b ws k.
-      sign_sound _ 41 _ (λ f. done_sound _ _ (ifelse_made c e f i j k))))))))
+      sign_sound _ 40 _ (λ o. before_sound _ 44 _ (λ t us i c. before_sound _ 44 _ (λ a vs j e.
+      before_sound _ 41 _ (λ b ws k f. done_sound _ _ (ifelse_made c e f i j k)))))
 
   substring_sound : (at : ℕ) → IsSound (Behind m at (codes "substring")) (substring_at d at)
   unfolding substring_at
   substring_sound at =
-      sign_sound _ 40 _ (λ o. seq_sound (Inner or_level m) _ d.any _ s.any (λ a us i.
-      sign_sound _ 44 _ (λ c. seq_one_sound _ signed _ (λ x start j.
+      sign_sound _ 40 _ (λ o. before_sound _ 44 _ (λ a us i c. seq_one_sound _ signed _ (λ x start j.
       sign_sound _ 44 _ (λ e. seq_one_sound _ length_of _ (λ y len k.
-      sign_sound _ 41 _ (λ f. done_sound _ _ (substring_made c e f i (signed_is x start j) (length_is y len k)))))))))
+      sign_sound _ 41 _ (λ f. done_sound _ _ (substring_made c e f i (signed_is x start j) (length_is y len k))))))))
 
   form_sound : (at : ℕ) (name : List ℕ) → IsSound (Behind m at name) (form_at d at name)
   unfolding form_at

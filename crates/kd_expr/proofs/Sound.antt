@@ -15,6 +15,15 @@ pub record Takes (fact : List Lexeme → Type 0) (ts rest : List Lexeme) : Type 
 abbrev pub IsSound : {A : Type 0} → (List Lexeme → A → Type 0) → Reader A → Type 0
 IsSound {A} P r = (ts : List Lexeme) (a : A) (rest : List Lexeme) → ◌≡◌ {A = Option (A × List Lexeme)} (r ts) (Some (a, rest)) → Takes (λ us. P us a) ts rest
 
+-- a reader that answers as a sound one
+pub same_sound : {A : Type 0} (P : List Lexeme → A → Type 0) (r s : Reader A) → ((ts : List Lexeme) → r ts ≡ s ts) → IsSound P s → IsSound P r
+same_sound P r s same h ts a rest e = h ts a rest (sym (same ts) ∙ e)
+
+-- two makings in turn
+pub and_then_twice : {A B C : Type 0} (o : Option A) (f : A → Option B) (g : B → Option C) → and_then (and_then o f) g ≡ and_then o (λ a. and_then (f a) g)
+and_then_twice None f g = refl
+and_then_twice (Some a) f g = refl
+
 pub done_sound : {A : Type 0} (P : List Lexeme → A → Type 0) (x : A) → P [] x → IsSound P (done x)
 done_sound P x h ts a rest e =
     let both = some_pair e in

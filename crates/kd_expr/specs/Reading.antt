@@ -131,31 +131,34 @@ packet_at at = seq (sign 46) (λ _. seq (word (codes "len")) (λ _. done (FieldV
 unfoldable pub member_at : Deeper → ℕ → Reader Tree
 member_at deeper at = seq (sign 40) (λ _. seq deeper.name (λ s. seq (sign 41) (λ _. done (Member at s))))
 
+-- an operand, and this sign behind it
+unfoldable pub operand_before : Deeper → ℕ → Reader Tree
+operand_before deeper b = seq deeper.any (λ a. seq (sign b) (λ _. done a))
+
 -- an operand in brackets
 unfoldable pub one_operand : Deeper → Reader Tree
-one_operand deeper = seq (sign 40) (λ _. seq deeper.any (λ a. seq (sign 41) (λ _. done a)))
+one_operand deeper = seq (sign 40) (λ _. operand_before deeper 41)
 
 -- a group
 unfoldable pub group_at : Deeper → Reader Tree
-group_at deeper = seq (sign 40) (λ at. seq deeper.any (λ a. seq (sign 41) (λ _. done (Group at a))))
+group_at deeper = seq (sign 40) (λ at. seq (operand_before deeper 41) (λ a. done (Group at a)))
 
 -- two operands in brackets
 unfoldable pub two_operands : Deeper → Reader (Tree × Tree)
 two_operands deeper =
-    seq (sign 40) (λ _. seq deeper.any (λ a. seq (sign 44) (λ _. seq deeper.any (λ b.
-    seq (sign 41) (λ _. done (a, b))))))
+    seq (sign 40) (λ _. seq (operand_before deeper 44) (λ a. seq (operand_before deeper 41) (λ b. done (a, b))))
 
 -- what stands behind `ifelse`
 unfoldable pub ifelse_at : Deeper → ℕ → Reader Tree
 ifelse_at deeper at =
-    seq (sign 40) (λ _. seq deeper.any (λ t. seq (sign 44) (λ _. seq deeper.any (λ a.
-    seq (sign 44) (λ _. seq deeper.any (λ b. seq (sign 41) (λ _. done (IfElse at t a b))))))))
+    seq (sign 40) (λ _. seq (operand_before deeper 44) (λ t. seq (operand_before deeper 44) (λ a.
+    seq (operand_before deeper 41) (λ b. done (IfElse at t a b)))))
 
 -- what stands behind `substring`
 unfoldable pub substring_at : Deeper → ℕ → Reader Tree
 substring_at deeper at =
-    seq (sign 40) (λ _. seq deeper.any (λ a. seq (sign 44) (λ _. seq (one signed) (λ start.
-    seq (sign 44) (λ _. seq (one length_of) (λ len. seq (sign 41) (λ _. done (Substring at a start len))))))))
+    seq (sign 40) (λ _. seq (operand_before deeper 44) (λ a. seq (one signed) (λ start.
+    seq (sign 44) (λ _. seq (one length_of) (λ len. seq (sign 41) (λ _. done (Substring at a start len)))))))
 
 -- what stands behind the name of a form with operands
 unfoldable pub form_at : Deeper → ℕ → List ℕ → Reader Tree

@@ -1,6 +1,6 @@
 ghost use Rattle.std.specs.Prelude.{◌≡◌, ◌≤◌, IfOk, length, codes, bytes_eq};
 ghost use Rattle.kd_expr.specs.Gives.{Gives};
-ghost use Rattle.kd_expr.specs.Reading.{below, named_at, form_at, one_operand, two_operands, ifelse_at, substring_at};
+ghost use Rattle.kd_expr.specs.Reading.{below, named_at, form_at, operand_before, one_operand, two_operands, ifelse_at, substring_at};
 ghost use Rattle.kd_expr.specs.View.{lexemes, tree_of};
 
 use crate::fault::SyntaxFault;
@@ -82,6 +82,24 @@ fn form_of<'t, 'a>(
     }
 }
 
+// An operand behind the bracket at this place, and the sign that has to follow it.
+#[cycle(parser)]
+#[tactic(auto, unfolding(crate::specs::Reading::operand_before))]
+pub(crate) fn operand_before<'t, 'a>(
+    source: Source,
+    tokens: &'t [Token<'a>],
+    depth: u8,
+    open: usize,
+    wanted: u8,
+) -> Result<(Box<Node>, &'t [Token<'a>]), SyntaxFault>
+    ensures reads { Gives (λ x. (tree_of x.0.value, lexemes x.1.now)) result (operand_before (below depth) wanted (lexemes tokens.now)) }
+    ensures shorter { IfOk result (λ x. length x.1.now ≤ length tokens.now) }
+{
+    let (operand, rest) = any_deeper(source, tokens, depth, open)?;
+    let (_, rest) = expect_sign(rest, wanted, source.end)?;
+    Ok((Box::new(source.alloc, operand)?, rest))
+}
+
 // An operand in brackets.
 #[cycle(parser)]
 #[tactic(auto, unfolding(crate::specs::Reading::one_operand))]
@@ -94,9 +112,7 @@ fn one_operand<'t, 'a>(
     ensures shorter { IfOk result (λ x. length x.1.now ≤ length tokens.now) }
 {
     let (open, rest) = expect_sign(tokens, b'(', source.end)?;
-    let (operand, rest) = any_deeper(source, rest, depth, open)?;
-    let (_, rest) = expect_sign(rest, b')', source.end)?;
-    Ok((Box::new(source.alloc, operand)?, rest))
+    operand_before(source, rest, depth, open, b')')
 }
 
 // Two operands in brackets.
@@ -111,12 +127,9 @@ fn two_operands<'t, 'a>(
     ensures shorter { IfOk result (λ x. length x.2.now ≤ length tokens.now) }
 {
     let (open, rest) = expect_sign(tokens, b'(', source.end)?;
-    let (first, rest) = any_deeper(source, rest, depth, open)?;
-    let (_, rest) = expect_sign(rest, b',', source.end)?;
-    let (second, rest) = any_deeper(source, rest, depth, open)?;
-    let (_, rest) = expect_sign(rest, b')', source.end)?;
-    let first = Box::new(source.alloc, first)?;
-    Ok((first, Box::new(source.alloc, second)?, rest))
+    let (first, rest) = operand_before(source, rest, depth, open, b',')?;
+    let (second, rest) = operand_before(source, rest, depth, open, b')')?;
+    Ok((first, second, rest))
 }
 
 // What stands behind `ifelse`.
@@ -132,15 +145,9 @@ fn ifelse_of<'t, 'a>(
     ensures shorter { IfOk result (λ x. length x.1.now ≤ length tokens.now) }
 {
     let (open, rest) = expect_sign(tokens, b'(', source.end)?;
-    let (test, rest) = any_deeper(source, rest, depth, open)?;
-    let (_, rest) = expect_sign(rest, b',', source.end)?;
-    let (yes, rest) = any_deeper(source, rest, depth, open)?;
-    let (_, rest) = expect_sign(rest, b',', source.end)?;
-    let (no, rest) = any_deeper(source, rest, depth, open)?;
-    let (_, rest) = expect_sign(rest, b')', source.end)?;
-    let test = Box::new(source.alloc, test)?;
-    let yes = Box::new(source.alloc, yes)?;
-    let no = Box::new(source.alloc, no)?;
+    let (test, rest) = operand_before(source, rest, depth, open, b',')?;
+    let (yes, rest) = operand_before(source, rest, depth, open, b',')?;
+    let (no, rest) = operand_before(source, rest, depth, open, b')')?;
     Ok((Node::IfElse { at, test, yes, no }, rest))
 }
 
@@ -157,13 +164,11 @@ fn substring_of<'t, 'a>(
     ensures shorter { IfOk result (λ x. length x.1.now ≤ length tokens.now) }
 {
     let (open, rest) = expect_sign(tokens, b'(', source.end)?;
-    let (operand, rest) = any_deeper(source, rest, depth, open)?;
-    let (_, rest) = expect_sign(rest, b',', source.end)?;
+    let (operand, rest) = operand_before(source, rest, depth, open, b',')?;
     let (start, rest) = signed_of(rest, source.end)?;
     let (_, rest) = expect_sign(rest, b',', source.end)?;
     let (length, rest) = length_of(rest, source.end)?;
     let (_, rest) = expect_sign(rest, b')', source.end)?;
-    let operand = Box::new(source.alloc, operand)?;
     Ok((
         Node::Substring {
             at,

@@ -1,10 +1,12 @@
-ghost use Rattle.std.specs.Prelude.{◌≡◌, ◌≤◌, ◌<◌, IfOk, length, codes, bytes_eq};
+ghost use Rattle.std.specs.Prelude.{◌≡◌, ◌≤◌, ◌<◌, IfOk, MatchResult, length, codes, bytes_eq};
 ghost use Rattle.kd_expr.specs.Gives.{Gives};
 ghost use Rattle.kd_expr.specs.Reading.{below, or_at, and_at, not_at, compare_at, sum_at, primary_at, group_at};
+ghost use Rattle.kd_expr.specs.Tree.{at_of};
 ghost use Rattle.kd_expr.specs.View.{lexemes, tree_of};
+ghost use Rattle.kd_expr.specs.declared.fault.SyntaxFault.TheVariants as faults;
 
 use crate::fault::SyntaxFault;
-use crate::forms::named_of;
+use crate::forms::{named_of, operand_before};
 use crate::literal::{bytes_of, hex_bytes_of};
 use crate::node::Node;
 use crate::number::number;
@@ -17,6 +19,21 @@ use std::alloc::Global;
 pub(crate) struct Source {
     pub(crate) alloc: Global,
     pub(crate) end: usize,
+}
+
+// Two operands in boxes, and the place of the first.
+fn boxed(
+    alloc: Global,
+    left: Node,
+    right: Node,
+) -> Result<(usize, Box<Node>, Box<Node>), SyntaxFault>
+    ensures { MatchResult result
+        (λ x. (x.0 ≡ at_of (tree_of left)) × ((x.1.value ≡ left) × (x.2.value ≡ right)))
+        (λ fault. fault ≡ faults.Memory) }
+{
+    let at = left.at();
+    let left = Box::new(alloc, left)?;
+    Ok((at, left, Box::new(alloc, right)?))
 }
 
 // A disjunction, which is any expression, where `depth` more brackets and `not`s may be nested.
@@ -32,13 +49,10 @@ pub(crate) fn or_of<'t, 'a>(
 {
     let (mut first, mut rest) = and_of(source, tokens, depth)?;
     while let Some((_, after)) = word(rest, b"or") {
-        let (next, left) = and_of(source, after, depth)?;
-        first = Node::Or {
-            at: first.at(),
-            left: Box::new(source.alloc, first)?,
-            right: Box::new(source.alloc, next)?,
-        };
-        rest = left;
+        let (next, behind) = and_of(source, after, depth)?;
+        let (at, left, right) = boxed(source.alloc, first, next)?;
+        first = Node::Or { at, left, right };
+        rest = behind;
     }
     Ok((first, rest))
 }
@@ -56,13 +70,10 @@ fn and_of<'t, 'a>(
 {
     let (mut first, mut rest) = not_of(source, tokens, depth)?;
     while let Some((_, after)) = word(rest, b"and") {
-        let (next, left) = not_of(source, after, depth)?;
-        first = Node::And {
-            at: first.at(),
-            left: Box::new(source.alloc, first)?,
-            right: Box::new(source.alloc, next)?,
-        };
-        rest = left;
+        let (next, behind) = not_of(source, after, depth)?;
+        let (at, left, right) = boxed(source.alloc, first, next)?;
+        first = Node::And { at, left, right };
+        rest = behind;
     }
     Ok((first, rest))
 }
@@ -102,18 +113,9 @@ fn compare_of<'t, 'a>(
     let (first, rest) = sum_of(source, tokens, depth)?;
     match sign(rest, b'=') {
         Some((_, after)) => {
-            let (second, left) = sum_of(source, after, depth)?;
-            let at = first.at();
-            let first = Box::new(source.alloc, first)?;
-            let right = Box::new(source.alloc, second)?;
-            Ok((
-                Node::Equal {
-                    at,
-                    left: first,
-                    right,
-                },
-                left,
-            ))
+            let (second, behind) = sum_of(source, after, depth)?;
+            let (at, left, right) = boxed(source.alloc, first, second)?;
+            Ok((Node::Equal { at, left, right }, behind))
         }
         None => Ok((first, rest)),
     }
@@ -132,13 +134,10 @@ fn sum_of<'t, 'a>(
 {
     let (mut first, mut rest) = primary_of(source, tokens, depth)?;
     while let Some((_, after)) = sign(rest, b'+') {
-        let (next, left) = primary_of(source, after, depth)?;
-        first = Node::Concat {
-            at: first.at(),
-            left: Box::new(source.alloc, first)?,
-            right: Box::new(source.alloc, next)?,
-        };
-        rest = left;
+        let (next, behind) = primary_of(source, after, depth)?;
+        let (at, left, right) = boxed(source.alloc, first, next)?;
+        first = Node::Concat { at, left, right };
+        rest = behind;
     }
     Ok((first, rest))
 }
@@ -193,9 +192,7 @@ fn group_of<'t, 'a>(
     ensures shorter { IfOk result (λ x. length x.1.now ≤ length tokens.now) }
 {
     let (at, rest) = expect_sign(tokens, b'(', source.end)?;
-    let (operand, rest) = any_deeper(source, rest, depth, at)?;
-    let (_, rest) = expect_sign(rest, b')', source.end)?;
-    let operand = Box::new(source.alloc, operand)?;
+    let (operand, rest) = operand_before(source, rest, depth, at, b')')?;
     Ok((Node::Group { at, operand }, rest))
 }
 

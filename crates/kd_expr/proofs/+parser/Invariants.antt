@@ -28,19 +28,22 @@ abbrev pub decreases-forms::form_of : goal.decreases-forms::form_of
 decreases-forms::form_of l = 12 * l.depth + 3
 
 abbrev pub decreases-forms::substring_of : goal.decreases-forms::substring_of
-decreases-forms::substring_of l = 12 * l.depth + 1
+decreases-forms::substring_of l = 12 * l.depth + 2
 
 abbrev pub decreases-forms::ifelse_of : goal.decreases-forms::ifelse_of
-decreases-forms::ifelse_of l = 12 * l.depth + 1
+decreases-forms::ifelse_of l = 12 * l.depth + 2
 
 abbrev pub decreases-forms::one_operand : goal.decreases-forms::one_operand
-decreases-forms::one_operand l = 12 * l.depth + 1
+decreases-forms::one_operand l = 12 * l.depth + 2
 
 abbrev pub decreases-forms::two_operands : goal.decreases-forms::two_operands
-decreases-forms::two_operands l = 12 * l.depth + 1
+decreases-forms::two_operands l = 12 * l.depth + 2
+
+abbrev pub decreases-forms::operand_before : goal.decreases-forms::operand_before
+decreases-forms::operand_before l = 12 * l.depth + 1
 
 abbrev pub decreases-parser::group_of : goal.decreases-parser::group_of
-decreases-parser::group_of l = 12 * l.depth + 1
+decreases-parser::group_of l = 12 * l.depth + 2
 
 abbrev pub decreases-parser::any_deeper : goal.decreases-parser::any_deeper
 decreases-parser::any_deeper l = 12 * l.depth
