@@ -1,6 +1,6 @@
 -- What has arrived at each place of a program while the verifier passes over it, computed. Proofs tie
 -- these functions to assignments; public contracts do not cite them.
-use Rattle.std.specs.Prelude.{◌≡◌, ℕ, ◌+◌, ◌<◌, ◌≤◌, max, List, [], ◌∷◌, length, ◌==◌, if◌then◌else◌, Option, Some, None, MatchOption}
+use Rattle.std.specs.Prelude.{◌≡◌, ℕ, ◌+◌, ◌<◌, ◌≤◌, max, List, [], ◌∷◌, length, ◌==◌, if◌then◌else◌, Option, Some, None, MatchOption, get_or}
 use Rattle.std.specs.List.{AllByRecursion}
 use Rattle.kd_token.specs.declared.shape.Kind.{Kind}
 use Rattle.kd_token.specs.declared.shape.Kind.TheVariants as kinds
@@ -9,6 +9,14 @@ use Rattle.kd_token.specs.declared.table.Entry.TheVariants.{Unreached, Joined, C
 use Rattle.kd_token.specs.File.{Code}
 use Rattle.kd_token.specs.Meet.{met}
 use Rattle.kd_token.specs.Accepts.{Point, Flow, Assignment, origin, out, IsCovered, AreSound}
+
+-- what has arrived at a place of the table
+abbrev pub entry_at : List Entry → ℕ → Entry
+entry_at table j = get_or table j Unreached
+
+-- the point of a shape and a count
+abbrev pub point : List Kind → ℕ → Point
+point shape count = record { shape = shape; count = count }
 
 -- a shape that is met, or a clash
 abbrev pub joined_by : Option (List Kind) → ℕ → Entry

@@ -1,6 +1,7 @@
-ghost use Rattle.std.specs.Prelude.{◌≡◌, ◌≤◌, ◌<◌, ◌∷◌, [], length, MatchOption};
+ghost use Rattle.std.specs.Prelude.{◌≡◌, ◌≤◌, ◌<◌, ◌∷◌, [], length, IfOk, MatchOption, MatchResult};
 ghost use Rattle.kd_token.specs.Shape.{AreShort, field_kind, gives, hex_bound, substring_bound, take_bool, take_bytes, take_int};
 ghost use Rattle.kd_token.specs.File.{IsShort};
+ghost use Rattle.kd_token.specs.Meet.{met, met_kind};
 ghost use Rattle.kd_token.specs.declared.shape.Kind.TheVariants.{Bool, Int};
 
 use crate::token::{Field, Token};
@@ -58,6 +59,35 @@ impl Shape {
         ensures { MatchOption result ((self.old ≡ []) × (self.new ≡ [])) (λ k. self.old ≡ k ∷ self.new) }
     {
         self.kinds.pop()
+    }
+
+    // The same shape once more.
+    pub(crate) fn copy(&self) -> Shape
+        ensures { result ≡ self.now }
+    {
+        let mut kinds = ArrayVec::new();
+        for kind in self.kinds.as_slice() {
+            kinds.push(*kind);
+        }
+        Shape { kinds }
+    }
+
+    // Meets another shape: becomes the least one that covers both, where there is one.
+    pub(crate) fn meet(&mut self, other: &mut Shape) -> Option<()>
+        requires few { length other.old ≤ 64 }
+        ensures met { MatchOption result (met self.old other.old ≡ None) (λ _. met self.old other.old ≡ Some self.new) }
+        ensures few { MatchOption result (Unit {0}) (λ _. length self.new ≤ length other.old) }
+    {
+        match (self.pop(), other.pop()) {
+            (None, None) => Some(()),
+            (Some(first), Some(second)) => {
+                let kind = met_kind(first, second)?;
+                self.meet(other)?;
+                self.push(kind);
+                Some(())
+            }
+            _ => None,
+        }
     }
 
     // The bound of the byte string on top, which is taken.
@@ -157,6 +187,18 @@ impl Shape {
         };
         self.push(kind);
         Some(())
+    }
+}
+
+// The least kind that covers both, where there is one.
+fn met_kind(first: Kind, second: Kind) -> Option<Kind>
+    ensures { result ≡ met_kind first second }
+{
+    match (first, second) {
+        (Kind::Bool, Kind::Bool) => Some(Kind::Bool),
+        (Kind::Int, Kind::Int) => Some(Kind::Int),
+        (Kind::Bytes(n), Kind::Bytes(m)) => Some(Kind::Bytes(n.max(m))),
+        _ => None,
     }
 }
 
