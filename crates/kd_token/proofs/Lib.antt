@@ -8,4 +8,5 @@ pub mod Passing
 pub mod FlowsDown
 pub mod Arrivals
 pub mod Passes
+pub mod Keeps
 pub mod Ends

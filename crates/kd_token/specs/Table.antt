@@ -4,6 +4,11 @@ use Rattle.std.specs.Prelude.{◌≡◌, ℕ, ◌+◌, ◌<◌, ◌≤◌, max, 
 use Rattle.std.specs.List.{AllByRecursion}
 use Rattle.kd_token.specs.declared.shape.Kind.{Kind}
 use Rattle.kd_token.specs.declared.shape.Kind.TheVariants as kinds
+use Rattle.kd_token.specs.declared.fault.VerifyFault.{VerifyFault}
+use Rattle.kd_token.specs.declared.fault.VerifyFault.TheVariants as faults
+use Rattle.kd_token.specs.declared.way.Way.{Way}
+use Rattle.kd_token.specs.declared.way.Way.TheVariants as routes
+use Rattle.kd_token.specs.Shape.{AreShort}
 use Rattle.kd_token.specs.declared.table.Entry.{Entry}
 use Rattle.kd_token.specs.declared.table.Entry.TheVariants.{Unreached, Joined, Clash}
 use Rattle.kd_token.specs.File.{Code}
@@ -17,6 +22,28 @@ entry_at table j = get_or table j Unreached
 -- the point of a shape and a count
 abbrev pub point : List Kind → ℕ → Point
 point shape count = record { shape = shape; count = count }
+
+-- the place that a fault names
+abbrev pub place_of : VerifyFault → Option ℕ
+place_of (faults.Short at) = Some at
+place_of (faults.Kind at) = Some at
+place_of (faults.Deep at) = Some at
+place_of (faults.Long at) = Some at
+place_of (faults.Name at) = Some at
+place_of faults.Steps = None
+place_of faults.Finish = None
+place_of faults.Memory = None
+
+-- how many tokens a way skips at most
+abbrev pub skip_of : Way → ℕ
+skip_of routes.On = 0
+skip_of (routes.Skip skip) = skip
+skip_of (routes.Fork skip) = skip
+skip_of (routes.Keep skip) = skip
+
+-- what a token gives is within what the program declares
+abbrev pub IsRoomFor : Code → List Kind → Type 0
+IsRoomFor p s = (length s ≤ p.depth) × AreShort p.bound s
 
 -- a shape that is met, or a clash
 abbrev pub joined_by : Option (List Kind) → ℕ → Entry

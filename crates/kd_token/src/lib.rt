@@ -18,6 +18,7 @@ mod table;
 #[cfg(test)]
 mod tests;
 mod token;
+mod verify;
 mod way;
 
 pub use fault::{FileFault, VerifyFault};

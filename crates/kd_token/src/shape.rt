@@ -1,5 +1,5 @@
-ghost use Rattle.std.specs.Prelude.{◌≡◌, ◌≤◌, ◌<◌, ◌∷◌, [], length, IfOk, MatchOption, MatchResult};
-ghost use Rattle.kd_token.specs.Shape.{AreShort, field_kind, gives, hex_bound, substring_bound, take_bool, take_bytes, take_int};
+ghost use Rattle.std.specs.Prelude.{◌≡◌, ◌≤◌, ◌<◌, ◌∷◌, [], drop, length, IsTrue, ◌↔◌, MatchOption};
+ghost use Rattle.kd_token.specs.Shape.{AreShort, IsShortKind, field_kind, gives, hex_bound, substring_bound, take_bool, take_bytes, take_int};
 ghost use Rattle.kd_token.specs.File.{IsShort};
 ghost use Rattle.kd_token.specs.Meet.{met, met_kind};
 ghost use Rattle.kd_token.specs.declared.shape.Kind.TheVariants.{Bool, Int};
@@ -61,6 +61,13 @@ impl Shape {
         self.kinds.pop()
     }
 
+    // The kind on top.
+    pub(crate) fn top(&self) -> Option<Kind>
+        ensures { MatchOption result (self.now ≡ []) (λ k. self.now ≡ k ∷ drop 1 self.now) }
+    {
+        self.kinds.as_slice().last().copied()
+    }
+
     // The same shape once more.
     pub(crate) fn copy(&self) -> Shape
         ensures { result ≡ self.now }
@@ -102,7 +109,8 @@ impl Shape {
 
     // The truth value on top is taken.
     pub(crate) fn take_bool(&mut self) -> Option<()>
-        ensures { MatchOption result (take_bool self.old ≡ None) (λ _. take_bool self.old ≡ Some self.new) }
+        ensures taken { MatchOption result (take_bool self.old ≡ None) (λ _. take_bool self.old ≡ Some self.new) }
+        ensures top { MatchOption result (Unit {0}) (λ _. self.old ≡ Bool ∷ self.new) }
     {
         match self.pop() {
             Some(Kind::Bool) => Some(()),
@@ -187,6 +195,16 @@ impl Shape {
         };
         self.push(kind);
         Some(())
+    }
+}
+
+// Whether a kind is no byte string that may be longer than this.
+pub(crate) fn is_short(kind: Kind, most: u32) -> bool
+    ensures { IsTrue result ↔ IsShortKind most kind }
+{
+    match kind {
+        Kind::Bytes(n) => n <= most,
+        _ => true,
     }
 }
 
