@@ -9,4 +9,6 @@ pub mod FlowsDown
 pub mod Arrivals
 pub mod Passes
 pub mod Keeps
+pub mod Tidy
 pub mod Ends
+pub mod Visits

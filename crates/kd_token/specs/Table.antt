@@ -91,3 +91,16 @@ abbrev pub IsPoint : Entry → Option Point → Type 0
 IsPoint Unreached x = x ≡ None
 IsPoint Clash x = ⊥
 IsPoint (Joined s c) x = x ≡ Some (record { shape = s; count = c })
+
+-- an entry has room in what is declared, and brings at most so many steps
+abbrev pub IsTidy : Code → ℕ → Entry → Type 0
+IsTidy p n Unreached = Unit {0}
+IsTidy p n Clash = Unit {0}
+IsTidy p n (Joined s c) = IsRoomFor p s × (c ≤ n)
+
+-- what the table keeps at place n: the pass is there; the entries ahead are tidy; one of them is reached
+pub record IsAt (p : Code) (n : ℕ) (table : List Entry) : Type 0 where
+  pub size : length table ≡ length p.tokens + 1
+  pub passed : IsPassed p n (entry_at table)
+  pub tidy : (j : ℕ) → n ≤ j → IsTidy p n (entry_at table j)
+  pub reached : (j : ℕ) × (n ≤ j) × (j ≤ length p.tokens) × (entry_at table j ≡ Unreached → ⊥)
