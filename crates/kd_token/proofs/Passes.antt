@@ -1,9 +1,8 @@
 -- One step of the pass keeps what the pass keeps.
-use Rattle.std.proofs.Common.{◌≡◌, ℕ, ◌+◌, ◌<◌, ◌≤◌, Bool, true, false, List, [], ◌∷◌, length, Option, Some, None, refl, sym, ap, subst, ◌∙◌, arith, inl, inr}
-use Rattle.std.specs.Prelude.{◌⊎◌, ◌==◌, if◌then◌else◌, slice_get, MatchOption}
+use Rattle.std.proofs.Common.{◌≡◌, ℕ, ◌+◌, ◌<◌, ◌≤◌, true, List, [], ◌∷◌, length, Option, Some, None, refl, sym, ap, subst, ◌∙◌, arith, inl, inr}
+use Rattle.std.specs.Prelude.{◌⊎◌, ◌==◌, slice_get, MatchOption}
 use Rattle.std.specs.List.{AllByRecursion}
 use Rattle.std.proofs.lemmas.Bool.{cases_lt, eq-eqb}
-use Rattle.kd_token.specs.declared.shape.Kind.{Kind}
 use Rattle.kd_token.specs.declared.token.Token.{Token}
 use Rattle.kd_token.specs.declared.table.Entry.{Entry}
 use Rattle.kd_token.specs.declared.table.Entry.TheVariants.{Unreached, Joined, Clash}
@@ -12,7 +11,7 @@ use Rattle.kd_token.specs.Shape.{Covers}
 use Rattle.kd_token.specs.Accepts.{Point, Flow, Assignment, flows, leaving, out, origin, IsCovered, IsWithin, IsSound, AreSound}
 use Rattle.kd_token.specs.Table.{spread, IsBelow, IsCoveredBy, Arrives, IsPassed, IsPoint}
 use Rattle.kd_token.proofs.Down.{Down}
-use Rattle.kd_token.proofs.FlowsDown.{EachBelow, FlowBelow, flows_down}
+use Rattle.kd_token.proofs.FlowsDown.{EachBelow, flows_down}
 use Rattle.kd_token.proofs.Passing.{changed, changed_else, leaving_beyond, none_back, sound_changed}
 use Rattle.kd_token.proofs.Arrivals.{covers_trans, spread_least, spread_keeps, spread_covers}
 

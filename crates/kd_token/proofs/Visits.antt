@@ -1,6 +1,6 @@
 -- One place of the table is visited: what the table keeps holds at the next place.
-use Rattle.std.proofs.Common.{◌≡◌, ℕ, ◌+◌, ◌<◌, ◌≤◌, Bool, true, false, List, [], ◌∷◌, length, Option, Some, None, refl, sym, ap, subst, ◌∙◌, arith, inl, inr}
-use Rattle.std.specs.Prelude.{◌⊎◌, ◌==◌, if◌then◌else◌, slice_get, MatchOption}
+use Rattle.std.proofs.Common.{◌≡◌, ℕ, zero, suc, ◌++◌, ◌+◌, ◌<◌, ◌≤◌, Bool, true, false, List, [], ◌∷◌, length, Option, Some, None, refl, sym, ap, subst, ◌∙◌, arith, inl, inr}
+use Rattle.std.specs.Prelude.{◌⊎◌, ◌==◌, if◌then◌else◌, slice_get, get_or, Result, Ok, Err, MatchOption, MatchResult}
 use Rattle.std.specs.List.{AllByRecursion}
 use Rattle.std.proofs.lemmas.Bool.{cases_lt}
 use Rattle.std.proofs.lemmas.Option.{slice_get_past}
@@ -12,9 +12,9 @@ use Rattle.kd_token.specs.declared.token.Token.{Token}
 use Rattle.kd_token.specs.declared.table.Entry.{Entry}
 use Rattle.kd_token.specs.declared.table.Entry.TheVariants.{Unreached, Joined, Clash}
 use Rattle.kd_token.specs.File.{Code, HasFile}
-use Rattle.kd_token.specs.Shape.{Covers, AreShort, CoversKind}
-use Rattle.kd_token.specs.Accepts.{Point, Flow, Assignment, flows, leaving, out, origin, IsCovered, IsWithin, IsSound, AreSound, IsSoundThroughout, EndsInTime, EndsWithBool, IsFaultAt, IsTooManySteps, IsNoFinish, IsVerifyFault, Accepts}
-use Rattle.kd_token.specs.Table.{entry_at, point, place_of, arrived, spread, IsBelow, IsCoveredBy, Arrives, IsPassed, IsPoint, IsTidy, IsAt}
+use Rattle.kd_token.specs.Shape.{Covers}
+use Rattle.kd_token.specs.Accepts.{Point, Flow, Assignment, flows, leaving, out, IsCovered, IsWithin, IsSoundThroughout, IsFaultAt, IsTooManySteps, IsNoFinish, IsVerifyFault, Accepts}
+use Rattle.kd_token.specs.Table.{entry_at, point, place_of, arrived, spread, IsBelow, IsCoveredBy, IsPassed, IsPoint, IsTidy, IsAt}
 use Rattle.kd_token.proofs.Passing.{changed}
 use Rattle.kd_token.proofs.Passes.{all_map, changed_there, passed_none, passed_on, sound_on}
 use Rattle.kd_token.proofs.Ends.{above_here, clash_fault, leave_fault}
@@ -180,3 +180,25 @@ end_reached p t at is =
     let here : length p.tokens ≡ at.reached.0 = omega (arith, at.reached.1, at.reached.2) in
     let P : ℕ → Type 0 = λ j. entry_at t j ≡ Unreached in
     at.reached.3 (subst P here is)
+
+-- what indexing reads is the entry there
+pub entry_is : (t : List Entry) (i : ℕ) (e : Entry) → i < length t → e ≡ get_or t i e → entry_at t i ≡ e
+entry_is [] i e less is = absurd (omega (arith, less))
+entry_is (x ∷ t) zero e less is = sym is
+entry_is (x ∷ t) (suc i) e less is = entry_is t i e (omega (arith, less)) is
+
+-- a visit, by what passing its token answers
+pub visited_by : {A : Type 0} (p : Code) (n : ℕ) (s : List Kind) (c : ℕ) (token : Token) (t v u : List Entry) (r : Result A VerifyFault) → HasFile p → IsAt p n t → entry_at t n ≡ Joined s c → slice_get p.tokens n ≡ Some token → n ≤ length p.tokens → length u ≡ length t
+    → ((j : ℕ) → n + 1 ≤ j → entry_at v j ≡ entry_at t j)
+    → MatchResult r (λ _. MatchOption (flows (length p.names) token n (point s c)) ⊥ (λ fs. AllByRecursion (IsWithin p) fs × ((j : ℕ) → entry_at u j ≡ spread fs (entry_at v) j)))
+    (λ e. (place_of e ≡ Some n) × MatchOption (flows (length p.names) token n (point s c)) (Unit {0}) (λ fs. AllByRecursion (IsWithin p) fs → ⊥))
+    → MatchResult r (λ _. IsAt p (n + 1) u) (λ fault. IsVerifyFault p fault)
+visited_by p n s c token t v u (Ok a) file at is there le size same m = visited p n s c token t v u file at is there size same m
+visited_by p n s c token t v u (Err e) file at is there le size same m = refused p n s c token t e at is there le m.0 m.1
+
+-- a further entry that nothing has reached changes nothing
+pub pushed : (t : List Entry) (j : ℕ) → entry_at (t ++ Unreached ∷ []) j ≡ entry_at t j
+pushed [] zero = refl
+pushed [] (suc j) = refl
+pushed (x ∷ t) zero = refl
+pushed (x ∷ t) (suc j) = pushed t j

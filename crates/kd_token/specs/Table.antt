@@ -3,7 +3,6 @@
 use Rattle.std.specs.Prelude.{◌≡◌, ℕ, ◌+◌, ◌<◌, ◌≤◌, max, List, [], ◌∷◌, length, ◌==◌, if◌then◌else◌, Option, Some, None, MatchOption, get_or}
 use Rattle.std.specs.List.{AllByRecursion}
 use Rattle.kd_token.specs.declared.shape.Kind.{Kind}
-use Rattle.kd_token.specs.declared.shape.Kind.TheVariants as kinds
 use Rattle.kd_token.specs.declared.fault.VerifyFault.{VerifyFault}
 use Rattle.kd_token.specs.declared.fault.VerifyFault.TheVariants as faults
 use Rattle.kd_token.specs.declared.way.Way.{Way}

@@ -61,6 +61,13 @@ impl Shape {
         self.kinds.pop()
     }
 
+    // Whether the stack is one truth value.
+    pub(crate) fn is_bool(&self) -> bool
+        ensures { IsTrue result ↔ (self.now ≡ Bool ∷ []) }
+    {
+        matches!(self.kinds.as_slice(), [Kind::Bool])
+    }
+
     // The kind on top.
     pub(crate) fn top(&self) -> Option<Kind>
         ensures { MatchOption result (self.now ≡ []) (λ k. self.now ≡ k ∷ drop 1 self.now) }

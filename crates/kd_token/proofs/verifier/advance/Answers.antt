@@ -1,6 +1,6 @@
 use Rattle.std.proofs.Common.{sym, refl, arith}
 use Rattle.kd_token.proofs.Keeps.{is_given, short_up}
-use Rattle.kd_token.proofs.verify.advance.Goals as goal
+use Rattle.kd_token.proofs.verifier.advance.Goals as goal
 
 pub pass-requires-clause-short : goal.pass-requires-clause-short
 pass-requires-clause-short c = short_up c.args.program.now.bound 65535 c.args.shape.now (omega (arith, c.requires.limits.bound)) c.requires.short
