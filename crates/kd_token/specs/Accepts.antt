@@ -1,6 +1,6 @@
 -- Accepted programs (our own format): there is an assignment of a shape and a count of steps to the
 -- places of a program that holds along each way through it.
-use Rattle.std.specs.Prelude.{◌≡◌, ℕ, ◌+◌, ◌<◌, ◌≤◌, List, [], ◌∷◌, length, slice_get, Option, Some, None, MatchOption}
+use Rattle.std.specs.Prelude.{◌≡◌, ℕ, ◌+◌, ◌<◌, ◌≤◌, List, [], ◌∷◌, length, slice_get, ◌⊎◌, Option, Some, None, MatchOption}
 use Rattle.std.specs.List.{AllByRecursion}
 use Rattle.kd_token.specs.declared.fault.VerifyFault.{VerifyFault}
 use Rattle.kd_token.specs.declared.fault.VerifyFault.TheVariants as faults
@@ -124,3 +124,22 @@ IsVerifyFault p (faults.Long at) = IsFaultAt p at
 IsVerifyFault p faults.Steps = IsTooManySteps p
 IsVerifyFault p faults.Finish = IsNoFinish p
 IsVerifyFault p faults.Memory = Unit {0}
+
+-- the place that a fault names
+abbrev pub place_of : VerifyFault → Option ℕ
+place_of (faults.Short at) = Some at
+place_of (faults.Kind at) = Some at
+place_of (faults.Deep at) = Some at
+place_of (faults.Long at) = Some at
+place_of (faults.Name at) = Some at
+place_of faults.Steps = None
+place_of faults.Finish = None
+place_of faults.Memory = None
+
+-- the fault is this one, or there was no memory to find it
+abbrev pub IsInPlaceOf : VerifyFault → VerifyFault → Type 0
+IsInPlaceOf wanted fault = (fault ≡ wanted) ⊎ (fault ≡ faults.Memory)
+
+-- the fault names this place, or there was no memory to find it
+abbrev pub IsPlaceOf : ℕ → VerifyFault → Type 0
+IsPlaceOf at fault = (place_of fault ≡ Some at) ⊎ (fault ≡ faults.Memory)

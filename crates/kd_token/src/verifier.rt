@@ -2,11 +2,11 @@ ghost use Rattle.std.specs.Prelude.{◌≡◌, ℕ, ◌+◌, ◌<◌, ◌≤◌,
 ghost use Rattle.std.specs.List.{AllByRecursion};
 ghost use Rattle.kd_token.specs.File.{HasFile, IsShort};
 ghost use Rattle.kd_token.specs.Shape.{AreShort, gives, take_bool};
-ghost use Rattle.kd_token.specs.declared.fault.VerifyFault.TheVariants.{Memory};
+ghost use Rattle.kd_token.specs.declared.fault.VerifyFault.TheVariants.{Finish, Memory, Steps};
 ghost use Rattle.kd_token.specs.declared.shape.Kind.TheVariants.{Bool};
 ghost use Rattle.kd_token.specs.declared.table.Entry.TheVariants.{Joined, Unreached};
-ghost use Rattle.kd_token.specs.Accepts.{Accepts, IsVerifyFault, IsWithin, flows, way_of};
-ghost use Rattle.kd_token.specs.Table.{IsAt, IsRoomFor, entry_at, place_of, point, skip_of, spread};
+ghost use Rattle.kd_token.specs.Accepts.{Accepts, IsFaultAt, IsInPlaceOf, IsNoFinish, IsPlaceOf, IsTooManySteps, IsVerifyFault, IsWithin, flows, way_of, place_of};
+ghost use Rattle.kd_token.specs.Table.{IsAt, IsRoomFor, entry_at, point, skip_of, spread};
 
 use crate::fault::VerifyFault;
 use crate::program::Program;
@@ -59,6 +59,9 @@ pub fn verify(alloc: Global, program: Program) -> Result<Verified, (VerifyFault,
     ensures accepted { IfOk result (λ v. v ≡ program) }
     ensures refused { IfErr result (λ e. (e.1 ≡ program) × IsVerifyFault program e.0) }
     ensures only { Accepts program → IfErr result (λ e. e.0 ≡ Memory) }
+    ensures place { (at : ℕ) → IsFaultAt program at → MatchResult result (λ _. ⊥) (λ e. IsPlaceOf at e.0) }
+    ensures steps { IsTooManySteps program → MatchResult result (λ _. ⊥) (λ e. IsInPlaceOf Steps e.0) }
+    ensures finish { IsNoFinish program → MatchResult result (λ _. ⊥) (λ e. IsInPlaceOf Finish e.0) }
 {
     match check(alloc, &program) {
         Ok(()) => Ok(Verified { program }),
