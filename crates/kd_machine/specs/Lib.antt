@@ -1,0 +1,4 @@
+pub mod Values
+pub mod Strings
+pub mod World
+pub mod Run

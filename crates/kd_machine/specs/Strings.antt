@@ -1,0 +1,38 @@
+-- What the tokens over byte strings make of them (our own choice where Kea's manual leaves room).
+use Rattle.std.specs.Prelude.{ℕ, ℤ, pos, negsuc, suc, ◌-◌, ◌/◌, ◌%◌, ◌+◌, ◌≤◌, nat_lt, if◌then◌else◌, List, [], ◌∷◌, ◌++◌, length, take, drop, Option, Some, None}
+
+-- where a part begins in a string of so many bytes: a negative start counts from the end; nowhere, where
+-- it is before the first byte or not before the end
+abbrev pub beginning : ℤ → ℕ → Option ℕ
+beginning (pos n) size = if nat_lt n size then Some n else None
+beginning (negsuc n) size = if nat_lt n size then Some (size - suc n) else None
+
+-- the part from a beginning on: so many bytes, or all; a negative number goes towards the front, without
+-- the byte at the beginning
+abbrev pub part : Option ℤ → ℕ → List ℕ → List ℕ
+part None b bytes = drop b bytes
+part (Some (pos n)) b bytes = take n (drop b bytes)
+part (Some (negsuc n)) b bytes = drop (b - suc n) (take b bytes)
+
+-- the part from where it begins; none where it begins nowhere
+abbrev pub part_from : Option ℕ → Option ℤ → List ℕ → List ℕ
+part_from None count bytes = []
+part_from (Some b) count bytes = part count b bytes
+
+-- a part of a string
+abbrev pub substring : ℤ → Option ℤ → List ℕ → List ℕ
+substring start count bytes = part_from (beginning start (length bytes)) count bytes
+
+-- a hexadecimal digit in lower case
+abbrev pub digit : ℕ → ℕ
+digit n = if nat_lt n 10 then 0x30 + n else 0x57 + n
+
+-- the two digits of a byte
+abbrev pub digits_of : ℕ → List ℕ
+digits_of b = digit (b / 16) ∷ digit (b % 16) ∷ []
+
+-- the digits of each byte, with a separator between bytes
+abbrev pub hex_text : List ℕ → List ℕ → List ℕ
+hex_text separator [] = []
+hex_text separator (b ∷ []) = digits_of b
+hex_text separator (b ∷ c ∷ bytes) = digits_of b ++ (separator ++ hex_text separator (c ∷ bytes))

@@ -1,0 +1,2 @@
+//! The token machine: runs of verified programs over a message and a set of held names.
+#![tactic(auto)]
