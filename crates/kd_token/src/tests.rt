@@ -119,6 +119,18 @@ fn a_program_tells_its_parts(rt: HostRuntime) -> Result<(), Fail> {
     Ok(())
 }
 
+#[test]
+fn a_token_tells_its_way(rt: HostRuntime) -> Result<(), Fail> {
+    let program = Program::read(rt.alloc(), EACH)?;
+    let tokens = program.tokens();
+    assert_eq!(rt; tokens[0].way(), Way::On);
+    assert_eq!(rt; tokens[21].way(), Way::Skip(4));
+    assert_eq!(rt; tokens[22].way(), Way::Fork(0));
+    assert_eq!(rt; tokens[23].way(), Way::Keep(false, 1));
+    assert_eq!(rt; tokens[24].way(), Way::Keep(true, 0));
+    Ok(())
+}
+
 // A program that is made.
 fn made(alloc: Global) -> Result<Program, AllocError> {
     let text = Bytes::own(Vec::from_slice(alloc, b"a")?);
