@@ -120,15 +120,17 @@ fn a_program_tells_its_parts(rt: HostRuntime) -> Result<(), Fail> {
 }
 
 #[test]
-fn a_token_tells_its_way(rt: HostRuntime) -> Result<(), Fail> {
-    let program = Program::read(rt.alloc(), EACH)?;
-    let tokens = program.tokens();
-    assert_eq!(rt; tokens[0].way(), Way::On);
-    assert_eq!(rt; tokens[21].way(), Way::Skip(4));
-    assert_eq!(rt; tokens[22].way(), Way::Fork(0));
-    assert_eq!(rt; tokens[23].way(), Way::Keep(false, 1));
-    assert_eq!(rt; tokens[24].way(), Way::Keep(true, 0));
-    Ok(())
+fn a_token_tells_its_way(rt: HostRuntime) {
+    let table = [
+        (Token::Not, Way::On),
+        (Token::Branch(4), Way::Skip(4)),
+        (Token::PopBranchFalse(0), Way::Fork(0)),
+        (Token::BranchFalseElsePop(1), Way::Keep(false, 1)),
+        (Token::BranchTrueElsePop(2), Way::Keep(true, 2)),
+    ];
+    for (token, want) in table {
+        assert_eq!(rt; token.way(), want);
+    }
 }
 
 // A program that is made.
