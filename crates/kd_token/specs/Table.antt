@@ -25,7 +25,7 @@ abbrev pub skip_of : Way → ℕ
 skip_of routes.On = 0
 skip_of (routes.Skip skip) = skip
 skip_of (routes.Fork skip) = skip
-skip_of (routes.Keep skip) = skip
+skip_of (routes.Keep stays skip) = skip
 
 -- what a token gives is within what the program declares
 abbrev pub IsRoomFor : Code → List Kind → Type 0

@@ -13,7 +13,7 @@ use crate::program::Program;
 use crate::shape::{Kind, Shape, is_short};
 use crate::table::{Entry, arrive};
 use crate::token::Token;
-use crate::way::{Way, way_of};
+use crate::way::Way;
 use std::alloc::{AllocError, Global};
 use std::marker::Model;
 use std::mem;
@@ -229,7 +229,7 @@ fn settle(
 {
     let next = at + 1;
     let steps = count + 1;
-    match way_of(token) {
+    match token.way() {
         Way::On => {
             advance(&mut shape, token, program, at)?;
             arrive(table, next, shape, steps);
@@ -240,7 +240,7 @@ fn settle(
             arrive(table, next + usize::from(skip), shape.copy(), steps);
             arrive(table, next, shape, steps);
         }
-        Way::Keep(skip) => {
+        Way::Keep(_stays, skip) => {
             let kept = shape.copy();
             below(&mut shape, token, at)?;
             arrive(table, next + usize::from(skip), kept, steps);
