@@ -43,17 +43,17 @@ rule w (tokens.PopBranchFalse skip) s = take_truth s >>= λ b. Some b.1
 rule w (tokens.BranchFalseElsePop skip) s = take_truth s >>= λ b. Some b.1
 rule w (tokens.BranchTrueElsePop skip) s = take_truth s >>= λ b. Some b.1
 
--- the truth value that keeps the top and goes to the target
-abbrev pub keeps : Token → Bool
-keeps (tokens.BranchTrueElsePop skip) = true
-keeps token = false
+-- whether two truth values are the same
+abbrev pub agrees : Bool → Bool → Bool
+agrees true b = b
+agrees false b = not b
 
 -- where a token leads from place i, and with which values
 abbrev pub moves_by : Way → World → Token → ℕ → List Val → Option (ℕ × List Val)
 moves_by routes.On w token i s = rule w token s >>= λ t. Some (i + 1, t)
 moves_by (routes.Skip skip) w token i s = Some (i + 1 + skip, s)
 moves_by (routes.Fork skip) w token i s = take_truth s >>= λ b. Some (if b.0 then i + 1 else i + 1 + skip, b.1)
-moves_by (routes.Keep skip) w token i s = take_truth s >>= λ b. Some (if keeps token then (if b.0 then (i + 1 + skip, Truth true ∷ b.1) else (i + 1, b.1)) else (if b.0 then (i + 1, b.1) else (i + 1 + skip, Truth false ∷ b.1)))
+moves_by (routes.Keep stays skip) w token i s = take_truth s >>= λ b. Some (if agrees stays b.0 then (i + 1 + skip, Truth b.0 ∷ b.1) else (i + 1, b.1))
 
 -- where the token at place i leads, and with which values
 abbrev pub moves : World → Token → ℕ → List Val → Option (ℕ × List Val)

@@ -1,18 +1,22 @@
 -- What the tokens over byte strings make of them (our own choice where Kea's manual leaves room).
-use Rattle.std.specs.Prelude.{ℕ, ℤ, pos, negsuc, suc, ◌-◌, ◌/◌, ◌%◌, ◌+◌, ◌≤◌, nat_lt, if◌then◌else◌, List, [], ◌∷◌, ◌++◌, length, take, drop, Option, Some, None}
+use Rattle.std.specs.Prelude.{ℕ, ℤ, pos, ◌-◌, ◌/◌, ◌%◌, ◌+◌, Bool, int_lt, nat_le, nat_lt, unsigned_abs, if◌then◌else◌, List, [], ◌∷◌, ◌++◌, length, take, drop, Option, Some, None}
+
+-- a number below zero
+abbrev pub is_negative : ℤ → Bool
+is_negative z = int_lt z (pos 0)
 
 -- where a part begins in a string of so many bytes: a negative start counts from the end; nowhere, where
 -- it is before the first byte or not before the end
 abbrev pub beginning : ℤ → ℕ → Option ℕ
-beginning (pos n) size = if nat_lt n size then Some n else None
-beginning (negsuc n) size = if nat_lt n size then Some (size - suc n) else None
+beginning start size =
+    if is_negative start then (if nat_le (unsigned_abs start) size then Some (size - unsigned_abs start) else None)
+    else (if nat_lt (unsigned_abs start) size then Some (unsigned_abs start) else None)
 
 -- the part from a beginning on: so many bytes, or all; a negative number goes towards the front, without
 -- the byte at the beginning
 abbrev pub part : Option ℤ → ℕ → List ℕ → List ℕ
 part None b bytes = drop b bytes
-part (Some (pos n)) b bytes = take n (drop b bytes)
-part (Some (negsuc n)) b bytes = drop (b - suc n) (take b bytes)
+part (Some count) b bytes = if is_negative count then drop (b - unsigned_abs count) (take b bytes) else take (unsigned_abs count) (drop b bytes)
 
 -- the part from where it begins; none where it begins nowhere
 abbrev pub part_from : Option ℕ → Option ℤ → List ℕ → List ℕ

@@ -1,11 +1,28 @@
 -- The values on a machine's stack, the top first, and what is taken from them.
-use Rattle.std.specs.Prelude.{ℕ, max, Bool, List, [], ◌∷◌, length, Option, Some, None}
+use Rattle.std.specs.Prelude.{ℕ, max, Bool, false, List, [], ◌∷◌, length, Option, Some, None}
+use Rattle.kd_machine.specs.declared.value.Value.{Value}
+use Rattle.kd_machine.specs.declared.value.Value.TheVariants as values
 
 -- a truth value, a number, or a byte string
 pub data Val : Type 0 where
   Truth : Bool → Val
   Number : ℕ → Val
   Text : List ℕ → Val
+
+-- a byte string
+abbrev pub IsText : Val → Type 0
+IsText (Truth b) = ⊥
+IsText (Number n) = ⊥
+IsText (Text bytes) = Unit {0}
+
+-- what a value of the code stands for
+abbrev pub value_of : Value → Val
+value_of values.Nothing = Truth false
+value_of (values.Bool b) = Truth b
+value_of (values.Int n) = Number n
+value_of (values.Slice bytes) = Text bytes.now
+value_of (values.Small bytes) = Text bytes
+value_of (values.Owned bytes) = Text bytes
 
 -- the byte string on top, and what is below it
 abbrev pub take_text : List Val → Option (List ℕ × List Val)

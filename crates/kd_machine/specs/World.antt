@@ -1,6 +1,6 @@
 -- What a program runs over: a message, its own names, the names held.
 use Rattle.std.specs.Prelude.{ℕ, nat_eq, Bool, false, ◌||◌, List, [], ◌∷◌, Option, Some, None}
-use Rattle.std.specs.Cmp.{pointwise}
+use Rattle.std.specs.Cmp.Lexicographic.{pointwise}
 use Rattle.std.specs.Map.{lookup}
 use Rattle.byteorder.specs.Endian.{big_bytes}
 use Rattle.kd_options.specs.Joined.{value_of}

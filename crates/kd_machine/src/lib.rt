@@ -1,2 +1,5 @@
 //! The token machine: runs of verified programs over a message and a set of held names.
 #![tactic(auto)]
+
+mod bounds;
+mod value;
