@@ -2,4 +2,5 @@
 #![tactic(auto)]
 
 mod bounds;
+mod stack;
 mod value;
