@@ -2,3 +2,4 @@ pub mod Values
 pub mod Strings
 pub mod World
 pub mod Run
+pub mod Held

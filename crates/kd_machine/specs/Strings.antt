@@ -1,5 +1,6 @@
 -- What the tokens over byte strings make of them (our own choice where Kea's manual leaves room).
 use Rattle.std.specs.Prelude.{ℕ, ℤ, pos, ◌-◌, ◌/◌, ◌%◌, ◌+◌, Bool, int_lt, nat_le, nat_lt, unsigned_abs, if◌then◌else◌, List, [], ◌∷◌, ◌++◌, length, take, drop, Option, Some, None}
+use Rattle.std.specs.List.{flat_map}
 
 -- a number below zero
 abbrev pub is_negative : ℤ → Bool
@@ -38,5 +39,4 @@ digits_of b = digit (b / 16) ∷ digit (b % 16) ∷ []
 -- the digits of each byte, with a separator between bytes
 abbrev pub hex_text : List ℕ → List ℕ → List ℕ
 hex_text separator [] = []
-hex_text separator (b ∷ []) = digits_of b
-hex_text separator (b ∷ c ∷ bytes) = digits_of b ++ (separator ++ hex_text separator (c ∷ bytes))
+hex_text separator (b ∷ bytes) = digits_of b ++ flat_map (λ c. separator ++ digits_of c) bytes

@@ -1,6 +1,7 @@
 -- What a program runs over: a message, its own names, the names held.
-use Rattle.std.specs.Prelude.{ℕ, nat_eq, Bool, false, ◌||◌, List, [], ◌∷◌, Option, Some, None}
+use Rattle.std.specs.Prelude.{ℕ, nat_eq, Bool, List, [], ◌∷◌, Option, Some, None}
 use Rattle.std.specs.Cmp.Lexicographic.{pointwise}
+use Rattle.std.specs.List.{list_any}
 use Rattle.std.specs.Map.{lookup}
 use Rattle.byteorder.specs.Endian.{big_bytes}
 use Rattle.kd_options.specs.Joined.{value_of}
@@ -27,8 +28,7 @@ same a b = pointwise nat_eq a b
 
 -- a name is among those held
 abbrev pub is_held : List ℕ → List (List ℕ) → Bool
-is_held name [] = false
-is_held name (other ∷ held) = same name other || is_held name held
+is_held name held = list_any (same name) held
 
 -- a value, or the empty string where there is none
 abbrev pub or_empty : Option (List ℕ) → List ℕ

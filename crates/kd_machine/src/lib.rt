@@ -2,5 +2,9 @@
 #![tactic(auto)]
 
 mod bounds;
+mod held;
 mod stack;
+mod text;
 mod value;
+
+pub use held::Held;
