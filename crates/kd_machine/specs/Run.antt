@@ -73,3 +73,12 @@ Segment p w i s (suc n) k u d l = (j : ℕ) × (t : List Val) × (e : ℕ) × (h
 -- and the one truth value v
 abbrev pub Run : Code → Seen → List (List ℕ) → Bool → ℕ → ℕ → ℕ → Type 0
 Run p message held v n d l = Segment p (world p message held) 0 [] n (length p.tokens) (Truth v ∷ []) d l
+
+-- a token that takes no memory
+abbrev pub IsFree : Token → Type 0
+IsFree tokens.Concat = ⊥
+IsFree tokens.HexString = ⊥
+IsFree tokens.Lower = ⊥
+IsFree tokens.Upper = ⊥
+IsFree tokens.IntToText = ⊥
+IsFree token = Unit {0}

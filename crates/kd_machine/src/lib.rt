@@ -4,6 +4,7 @@
 mod bounds;
 mod held;
 mod stack;
+mod step;
 mod text;
 mod value;
 

@@ -124,6 +124,10 @@ room bytes header is = by (nat_lt (length bytes) 240) (nat_lt 4096 (length bytes
   by false true e is = let none : ⊥ = cc in absurd none
   by false false e is = ltb-false _ _ e
 
+-- a message's datagram has at most 4,096 bytes
+pub len_short : (m : Seen) → IsMessage m → m.len ≤ 4096
+len_short m is = let most = room is.datagram m.header is.reads.header in omega (arith, most, is.reads.len)
+
 -- what the pieces of all areas hold
 pieces_hold : (bytes : List ℕ) (ps : List Piece) → AreBytes bytes → length bytes ≤ 4096 → AreasInUse bytes ps → Holds 4096 ps
 pieces_hold bytes ps a most areas =

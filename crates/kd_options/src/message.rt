@@ -1,4 +1,4 @@
-ghost use Rattle.std.specs.Prelude.{◌≡◌, ◌+◌, ◌^◌, ◌<◌, IsSome, ◌∷◌, [], nat_eq, option_copied, option_map, slice_get, IfOk, IfErr, IsSomeAnd, MatchResult, Some};
+ghost use Rattle.std.specs.Prelude.{◌≡◌, ◌+◌, ◌^◌, ◌<◌, ◌≤◌, IsSome, ◌∷◌, [], nat_eq, option_copied, option_map, slice_get, IfOk, IfErr, IsSomeAnd, MatchResult, Some};
 ghost use Rattle.std.specs.Map.{lookup};
 ghost use Rattle.kd_options.specs.Joined.{value_of};
 ghost use Rattle.kd_options.specs.Joining.{entries_of};
@@ -75,6 +75,7 @@ impl<'a> Message<'a> {
     /// The number of bytes of the datagram, 240 to 4,096.
     pub fn len(&self) -> usize
         ensures value { result ≡ self.now.len }
+        ensures room { result ≤ 4096 }
         ensures message { IsMessage self.now }
     {
         self.size
