@@ -1,4 +1,4 @@
-ghost use Rattle.std.specs.Prelude.{◌≡◌, ◌<◌, ◌++◌, IfOk, OnOk};
+ghost use Rattle.std.specs.Prelude.{◌≡◌, ◌<◌, ◌++◌, IfOk, OnOk, decimal};
 ghost use Rattle.std.specs.List.{flat_map};
 ghost use Rattle.kd_machine.specs.Strings.{digit, digits_of, hex_text};
 
@@ -45,4 +45,25 @@ fn put_behind(out: &mut Vec<u8>, bytes: &[u8], separator: &[u8]) -> Result<(), A
         out.extend_from_slice(&digits_of(*byte))?;
     }
     Ok(())
+}
+
+// Two byte strings, the first one first.
+pub(crate) fn joined(
+    alloc: Global,
+    first: &[u8],
+    second: &[u8],
+) -> Result<Vec<u8>, AllocError>
+    ensures { IfOk result (λ v. v.items ≡ first.now ++ second.now) }
+{
+    let mut out = Vec::with_capacity(alloc, first.len() + second.len())?;
+    out.extend_from_slice(first)?;
+    out.extend_from_slice(second)?;
+    Ok(out)
+}
+
+// A number's decimal digits.
+pub(crate) fn decimal(alloc: Global, number: u32) -> Result<Vec<u8>, AllocError>
+    ensures { IfOk result (λ v. v.items ≡ decimal number) }
+{
+    Ok(format!(in alloc; "{number}")?.into_bytes())
 }
