@@ -3,3 +3,4 @@ pub mod Strings
 pub mod World
 pub mod Run
 pub mod Held
+pub mod Fits

@@ -1,5 +1,5 @@
 -- How long the values of a message can be: an option at most the datagram, a sub-option 255 bytes.
-use Rattle.std.proofs.Common.{◌≡◌, ℕ, zero, suc, ◌+◌, ◌-◌, ◌<◌, ◌≤◌, Bool, true, false, List, [], ◌∷◌, ◌++◌, length, take, drop, filter, map, get_or, Option, Some, None, refl, sym, ap, subst, arith}
+use Rattle.std.proofs.Common.{◌≡◌, ℕ, zero, suc, ◌+◌, ◌-◌, ◌*◌, ◌^◌, ◌<◌, ◌≤◌, Bool, true, false, List, [], ◌∷◌, ◌++◌, length, take, drop, filter, map, get_or, Option, Some, None, refl, sym, ap, subst, arith}
 use Rattle.std.specs.Prelude.{◌==◌, if◌then◌else◌, not, ◌||◌, nat_eq, nat_lt, Ok, Err, MatchOption, slice_index}
 use Rattle.std.specs.List.{AllByRecursion, flat_map}
 use Rattle.std.specs.Map.{lookup}
@@ -123,6 +123,38 @@ room bytes header is = by (nat_lt (length bytes) 240) (nat_lt 4096 (length bytes
   by true long e is = let none : ⊥ = cc in absurd none
   by false true e is = let none : ⊥ = cc in absurd none
   by false false e is = ltb-false _ _ e
+
+-- the header that a readable datagram has
+header_is : (bytes : List ℕ) (header : Header) → header_read bytes ≡ Ok header → header_of bytes ≡ header
+unfolding header_read
+header_is bytes header is = by (nat_lt (length bytes) 240) (nat_lt 4096 (length bytes)) (number_at 236 4 bytes == cookie) (slice_index bytes 0 == 1 || slice_index bytes 0 == 2) is where
+  by : (short long same known : Bool) → (if short then Err wire.Short else if long then Err wire.Long else if not same then Err wire.Cookie else if known then Ok (header_of bytes) else Err wire.BadOp) ≡ Ok header → header_of bytes ≡ header
+  by true long same known is = let none : ⊥ = cc in absurd none
+  by false true same known is = let none : ⊥ = cc in absurd none
+  by false false false known is = let none : ⊥ = cc in absurd none
+  by false false true false is = let none : ⊥ = cc in absurd none
+  by false false true true is = cc
+
+byte_at : (xs : List ℕ) (i : ℕ) → AreBytes xs → slice_index xs i < 256
+byte_at [] i a = omega arith
+byte_at (x ∷ xs) zero a = a.0
+byte_at (x ∷ xs) (suc i) a = byte_at xs i a.1
+
+four_short : (xs : List ℕ) → AreBytes xs → slice_index xs 0 * 256 ^ 3 + (slice_index xs 1 * 256 ^ 2 + (slice_index xs 2 * 256 ^ 1 + (slice_index xs 3 * 256 ^ 0 + 0))) < 2 ^ 32
+four_short xs a =
+    let b0 = byte_at xs 0 a in
+    let b1 = byte_at xs 1 a in
+    let b2 = byte_at xs 2 a in
+    let b3 = byte_at xs 3 a in
+    omega (arith, b0, b1, b2, b3)
+
+-- the numbers of a message's header that a class test can ask for are of one byte, and of four
+pub header_short : (m : Seen) → IsMessage m → (m.header.htype < 256) × (m.header.hlen < 256) × (m.header.xid < 2 ^ 32)
+unfolding header_of
+header_short m is =
+    let e = header_is is.datagram m.header is.reads.header in
+    let P : Header → Type 0 = λ h. (h.htype < 256) × (h.hlen < 256) × (h.xid < 2 ^ 32) in
+    subst P e (byte_at is.datagram 1 is.bytes_are, byte_at is.datagram 2 is.bytes_are, four_short (bytes_at 4 4 is.datagram) (range_bytes 4 4 is.datagram is.bytes_are))
 
 -- a message's datagram has at most 4,096 bytes
 pub len_short : (m : Seen) → IsMessage m → m.len ≤ 4096

@@ -1,0 +1,25 @@
+-- A value list fits a shape: the kinds agree place by place, no byte string is longer, and numbers have four
+-- bytes.
+use Rattle.std.specs.Prelude.{ℕ, ◌^◌, ◌<◌, ◌≤◌, List, [], ◌∷◌, length}
+use Rattle.kd_token.specs.declared.shape.Kind.{Kind}
+use Rattle.kd_token.specs.declared.shape.Kind.TheVariants as kinds
+use Rattle.kd_machine.specs.Values.{Val, Truth, Number, Text}
+
+-- a value fits a kind
+abbrev pub FitsKind : Kind → Val → Type 0
+FitsKind kinds.Bool (Truth b) = Unit {0}
+FitsKind kinds.Bool (Number n) = ⊥
+FitsKind kinds.Bool (Text bytes) = ⊥
+FitsKind kinds.Int (Number n) = n < 2 ^ 32
+FitsKind kinds.Int (Truth b) = ⊥
+FitsKind kinds.Int (Text bytes) = ⊥
+FitsKind (kinds.Bytes most) (Text bytes) = length bytes ≤ most
+FitsKind (kinds.Bytes most) (Truth b) = ⊥
+FitsKind (kinds.Bytes most) (Number n) = ⊥
+
+-- values fit a shape
+abbrev pub Fits : List Kind → List Val → Type 0
+Fits [] [] = Unit {0}
+Fits [] (v ∷ s) = ⊥
+Fits (k ∷ r) [] = ⊥
+Fits (k ∷ r) (v ∷ s) = FitsKind k v × Fits r s
