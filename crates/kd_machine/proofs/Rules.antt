@@ -25,7 +25,7 @@ use Rattle.kd_token.specs.declared.token.Field.TheVariants as fields
 use Rattle.kd_token.specs.declared.token.Token.{Token}
 use Rattle.kd_token.specs.declared.token.Token.TheVariants as tokens
 use Rattle.kd_token.specs.declared.token.Version.{Version}
-use Rattle.kd_token.proofs.Down.{Down, bind_down}
+use Rattle.kd_token.proofs.Down.{Down, bind_down, hex_down}
 use Rattle.kd_machine.specs.Values.{Val, Truth, Number, Text, take_text, take_truth, take_number}
 use Rattle.kd_machine.specs.Strings.{is_negative, beginning, part, part_from, substring, digits_of, hex_text}
 use Rattle.kd_machine.specs.World.{World, same, is_held, or_empty, option_in, relay_in, type_in, field_value}
@@ -95,3 +95,103 @@ substring_short start count bytes n le = by (beginning start (length bytes)) whe
   by : (o : Option ℕ) → length (part_from o count bytes) ≤ substring_bound n count
   by None = omega arith
   by (Some b) = part_short count b bytes n le
+
+flat_size : (separator bytes : List ℕ) → length (flat_map (λ c. separator ++ digits_of c) bytes) ≡ length bytes * length separator + 2 * length bytes
+flat_size separator [] = omega arith
+flat_size separator (b ∷ bytes) =
+    let rest = flat_size separator bytes in
+    let front = length-append (separator ++ digits_of b) (flat_map (λ c. separator ++ digits_of c) bytes) in
+    let first = length-append separator (digits_of b) in
+    omega (arith, rest, front, first)
+
+hex_size : (separator bytes : List ℕ) → length (hex_text separator bytes) ≡ hex_bound (length bytes) (length separator)
+hex_size separator [] = refl
+hex_size separator (b ∷ bytes) =
+    let rest = flat_size separator bytes in
+    let no : (suc (length bytes) == 0) ≡ false = ne_eqb (suc (length bytes)) 0 (λ e. omega (arith, e)) in
+    let one : suc (length bytes) - 1 ≡ length bytes = omega arith in
+    rw (no, one) (omega (arith, rest))
+
+hex_short : (separator bytes : List ℕ) (n m : ℕ) → length bytes ≤ n → length separator ≤ m → length (hex_text separator bytes) ≤ hex_bound n m
+hex_short separator bytes n m le less = let e = hex_size separator bytes in let d = hex_down n (length bytes) m (length separator) le less in omega (arith, e, d)
+
+-- the number of a message's type is of one byte
+type_short : (o : Option (List ℕ)) → IsSomeAnd o IsType → type_in o < 2 ^ 32
+type_short None h = omega arith
+type_short (Some []) h = omega arith
+type_short (Some (n ∷ [])) h = omega (arith, h.1)
+type_short (Some (n ∷ m ∷ bytes)) h = absurd h
+
+-- the value of a field fits the field's kind
+field_fits : (m : Seen) → IsMessage m → (field : Field) → FitsKind (field_kind field) (field_value m field)
+field_fits m is fields.Mac = let e = length-take (min m.header.hlen 16) m.header.chaddr in omega (arith, e)
+field_fits m is fields.Hlen = let h = header_short m is in omega (arith, h.1)
+field_fits m is fields.Htype = let h = header_short m is in omega (arith, h.0)
+field_fits m is fields.Ciaddr = omega arith
+field_fits m is fields.Giaddr = omega arith
+field_fits m is fields.Yiaddr = omega arith
+field_fits m is fields.Siaddr = omega arith
+field_fits m is fields.MessageType = type_short (value_of 53 m.options) is.reads.readable.kind
+field_fits m is fields.Transaction = let h = header_short m is in h.2
+field_fits m is fields.Length = let h = len_short m is in omega (arith, h)
+
+member_fits : (names held : List (List ℕ)) (index : ℕ) (r : List Kind) (s : List Val) → Fits r s
+    → Down Fits (if nat_lt index (length names) then Some (kinds.Bool ∷ r) else None) (slice_get names index >>= λ name. Some (Truth (is_held name held) ∷ s))
+member_fits names held index r s f = by (nat_lt index (length names)) refl where
+  by : (b : Bool) → nat_lt index (length names) ≡ b → Down Fits (if b then Some (kinds.Bool ∷ r) else None) (slice_get names index >>= λ name. Some (Truth (is_held name held) ∷ s))
+  by false e = tt
+  by true e =
+      let there = slice_get-get_or names index [] (ltb-true _ _ e) in
+      let P : Option (List ℕ) → Type 0 = λ o. Down Fits (Some (kinds.Bool ∷ r)) (o >>= λ name. Some (Truth (is_held name held) ∷ s)) in
+      subst P (sym there) (tt, f)
+
+choice_short : (b : Bool) (x y : List ℕ) (n m : ℕ) → length x ≤ n → length y ≤ m → length (if b then x else y) ≤ max n m
+choice_short true x y n m le less = omega (arith, le)
+choice_short false x y n m le less = omega (arith, less)
+
+-- a truth value that is taken leaves what the shape has below it
+last : (r : List Kind) (s : List Val) → Fits r s → Down Fits (take_bool r) (take_truth s >>= λ b. Some b.1)
+last r s f = by (take_bool r) (take_truth s) (truth_fits r s f) where
+  by : (o : Option (List Kind)) (u : Option (Bool × List Val)) → Down TruthFits o u → Down Fits o (u >>= λ b. Some b.1)
+  by None u d = tt
+  by (Some x) None d = d
+  by (Some x) (Some y) d = d
+
+-- what a token gives to values fits what it gives to a shape that they fit
+pub rule_fits : (w : World) (version : Version) (behind : ℕ) (token : Token) (r : List Kind) (s : List Val) → IsMessage w.message → IsToken version behind token → Fits r s → Down Fits (gives (length w.names) token r) (rule w token s)
+unfolding gives rule
+rule_fits w version behind (tokens.PushBytes bytes) r s is token f = (omega arith, f)
+rule_fits w version behind (tokens.PushInt number) r s is token f = (token, f)
+rule_fits w version behind (tokens.PushOption code) r s is token f = (empty_short 4096 (option_in w code) (value_short w.message is code), f)
+rule_fits w version behind (tokens.PushRelay code) r s is token f = (empty_short 255 (relay_in w code) (relay_short w.message is code), f)
+rule_fits w version behind (tokens.PushField field) r s is token f = (field_fits w.message is field, f)
+rule_fits w version behind (tokens.OptionExists code) r s is token f = (tt, f)
+rule_fits w version behind (tokens.RelayExists code) r s is token f = (tt, f)
+rule_fits w version behind (tokens.Member index) r s is token f = member_fits w.names w.held index r s f
+rule_fits w version behind tokens.Equal r s is token f =
+    bind_down TextFits Fits _ _ _ _ (text_fits r s f) (λ x y d. bind_down TextFits Fits _ _ _ _ (text_fits x.1 y.1 d.1) (λ u v e. (tt, e.1)))
+rule_fits w version behind tokens.Not r s is token f = bind_down TruthFits Fits _ _ _ _ (truth_fits r s f) (λ x y d. (tt, d))
+rule_fits w version behind tokens.And r s is token f =
+    bind_down TruthFits Fits _ _ _ _ (truth_fits r s f) (λ x y d. bind_down TruthFits Fits _ _ _ _ (truth_fits x y.1 d) (λ u v e. (tt, e)))
+rule_fits w version behind tokens.Or r s is token f =
+    bind_down TruthFits Fits _ _ _ _ (truth_fits r s f) (λ x y d. bind_down TruthFits Fits _ _ _ _ (truth_fits x y.1 d) (λ u v e. (tt, e)))
+rule_fits w version behind tokens.IfElse r s is token f =
+    bind_down TextFits Fits _ _ _ _ (text_fits r s f) (λ x y d. bind_down TextFits Fits _ _ _ _ (text_fits x.1 y.1 d.1) (λ u v e.
+    bind_down TruthFits Fits _ _ _ _ (truth_fits u.1 v.1 e.1) (λ p q g. (choice_short q.0 v.0 y.0 u.0 x.0 e.0 d.0, g))))
+rule_fits w version behind (tokens.Substring start count) r s is token f =
+    bind_down TextFits Fits _ _ _ _ (text_fits r s f) (λ x y d. (substring_short start count y.0 x.0 d.0, d.1))
+rule_fits w version behind tokens.Concat r s is token f =
+    bind_down TextFits Fits _ _ _ _ (text_fits r s f) (λ x y d. bind_down TextFits Fits _ _ _ _ (text_fits x.1 y.1 d.1) (λ u v e. (let n = length-append v.0 y.0 in omega (arith, n, d.0, e.0), e.1)))
+rule_fits w version behind tokens.HexString r s is token f =
+    bind_down TextFits Fits _ _ _ _ (text_fits r s f) (λ x y d. bind_down TextFits Fits _ _ _ _ (text_fits x.1 y.1 d.1) (λ u v e. (hex_short y.0 v.0 u.0 x.0 e.0 d.0, e.1)))
+rule_fits w version behind tokens.Lower r s is token f =
+    bind_down TextFits Fits _ _ _ _ (text_fits r s f) (λ x y d. (let n = length-map y.0 to_ascii_lowercase in omega (arith, n, d.0), d.1))
+rule_fits w version behind tokens.Upper r s is token f =
+    bind_down TextFits Fits _ _ _ _ (text_fits r s f) (λ x y d. (let n = length-map y.0 to_ascii_uppercase in omega (arith, n, d.0), d.1))
+rule_fits w version behind tokens.IntToText r s is token f =
+    bind_down NumberFits Fits _ _ _ _ (number_fits r s f) (λ x y d. (length-decimal-le 10 y.0 (omega arith) (omega (arith, d.0)) (omega (arith, d.0)), d.1))
+rule_fits w version behind tokens.IntBytes r s is token f = bind_down NumberFits Fits _ _ _ _ (number_fits r s f) (λ x y d. (omega arith, d.1))
+rule_fits w version behind (tokens.Branch skip) r s is token f = f
+rule_fits w version behind (tokens.PopBranchFalse skip) r s is token f = last r s f
+rule_fits w version behind (tokens.BranchFalseElsePop skip) r s is token f = last r s f
+rule_fits w version behind (tokens.BranchTrueElsePop skip) r s is token f = last r s f

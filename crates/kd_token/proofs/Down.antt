@@ -66,7 +66,7 @@ substring_down : (n m : ℕ) (count : Option ℤ) → m ≤ n → substring_boun
 substring_down n m None le = le
 substring_down n m (Some z) le = omega (arith, le)
 
-hex_down : (n m a b : ℕ) → m ≤ n → b ≤ a → hex_bound m b ≤ hex_bound n a
+pub hex_down : (n m a b : ℕ) → m ≤ n → b ≤ a → hex_bound m b ≤ hex_bound n a
 hex_down zero zero a b le less = omega arith
 hex_down zero (suc m) a b le less = absurd (omega (arith, le))
 hex_down (suc n) zero a b le less = omega arith
