@@ -37,7 +37,7 @@ abbrev TextFits : ℕ × List Kind → List ℕ × List Val → Type 0
 TextFits x y = (length y.0 ≤ x.0) × Fits x.1 y.1
 
 -- a shape fits the values below a truth value
-abbrev TruthFits : List Kind → Bool × List Val → Type 0
+abbrev pub TruthFits : List Kind → Bool × List Val → Type 0
 TruthFits r y = Fits r y.1
 
 -- a shape fits the values below a number of four bytes

@@ -1,9 +1,11 @@
 -- A value list fits a shape: the kinds agree place by place, no byte string is longer, and numbers have four
 -- bytes.
-use Rattle.std.specs.Prelude.{ℕ, ◌^◌, ◌<◌, ◌≤◌, List, [], ◌∷◌, length}
+use Rattle.std.specs.Prelude.{◌≡◌, ℕ, ◌^◌, ◌<◌, ◌≤◌, List, [], ◌∷◌, length, Some}
+use Rattle.kd_token.specs.Accepts.{Accepts, Point}
+use Rattle.kd_token.specs.File.{Code}
 use Rattle.kd_token.specs.declared.shape.Kind.{Kind}
 use Rattle.kd_token.specs.declared.shape.Kind.TheVariants as kinds
-use Rattle.kd_machine.specs.Values.{Val, Truth, Number, Text}
+use Rattle.kd_machine.specs.Values.{Val, Truth, Number, Text, longest}
 
 -- a value fits a kind
 abbrev pub FitsKind : Kind → Val → Type 0
@@ -23,3 +25,15 @@ Fits [] [] = Unit {0}
 Fits [] (v ∷ s) = ⊥
 Fits (k ∷ r) [] = ⊥
 Fits (k ∷ r) (v ∷ s) = FitsKind k v × Fits r s
+
+-- what stands at place i of an accepted program after n steps: values that fit what an assignment knows
+-- there, within what the program declares
+pub record Stands (p : Code) (i : ℕ) (n : ℕ) (s : List Val) : Type 0 where
+  pub assigned : Accepts p
+  pub point : Point
+  pub known : assigned.0 i ≡ Some point
+  pub fits : Fits point.shape s
+  pub counted : n ≤ point.count
+  pub place : i ≤ length p.tokens
+  pub deep : length s ≤ p.depth
+  pub long : longest s ≤ p.bound

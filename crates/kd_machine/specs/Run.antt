@@ -82,3 +82,7 @@ IsFree tokens.Lower = ⊥
 IsFree tokens.Upper = ⊥
 IsFree tokens.IntToText = ⊥
 IsFree token = Unit {0}
+
+-- a run within what a program declares
+abbrev pub EndsWithin : Code → Seen → List (List ℕ) → Type 0
+EndsWithin p message held = (v : Bool) × (n : ℕ) × (d : ℕ) × (l : ℕ) × Run p message held v n d l × (n ≤ p.steps) × (d ≤ p.depth) × (l ≤ p.bound)
