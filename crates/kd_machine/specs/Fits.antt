@@ -5,6 +5,9 @@ use Rattle.kd_token.specs.Accepts.{Accepts, Point}
 use Rattle.kd_token.specs.File.{Code}
 use Rattle.kd_token.specs.declared.shape.Kind.{Kind}
 use Rattle.kd_token.specs.declared.shape.Kind.TheVariants as kinds
+use Rattle.kd_options.specs.Message.{Seen}
+use Rattle.kd_machine.specs.Run.{Segment}
+use Rattle.kd_machine.specs.World.{world}
 use Rattle.kd_machine.specs.Values.{Val, Truth, Number, Text, longest}
 
 -- a value fits a kind
@@ -37,3 +40,11 @@ pub record Stands (p : Code) (i : ℕ) (n : ℕ) (s : List Val) : Type 0 where
   pub place : i ≤ length p.tokens
   pub deep : length s ≤ p.depth
   pub long : longest s ≤ p.bound
+
+-- a run at place i after n steps with values s, its peaks so far d and l
+pub record IsRunning (p : Code) (message : Seen) (held : List (List ℕ)) (i : ℕ) (n : ℕ) (s : List Val) (d : ℕ) (l : ℕ) : Type 0 where
+  pub chain : Segment p (world p message held) 0 [] n i s d l
+  pub stands : Stands p i n s
+  pub depth : d ≤ p.depth
+  pub bound : l ≤ p.bound
+  pub covers : longest s ≤ l
