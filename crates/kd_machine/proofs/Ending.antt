@@ -1,5 +1,5 @@
 -- A run goes on from place to place and ends, within what the program declares.
-use Rattle.std.proofs.Common.{◌≡◌, ℕ, zero, suc, ◌+◌, ◌<◌, ◌≤◌, max, Bool, true, false, List, [], ◌∷◌, length, get_or, Option, Some, None, refl, sym, ap, subst, ◌∙◌, arith, inl, inr}
+use Rattle.std.proofs.Common.{◌≡◌, ℕ, zero, suc, ◌+◌, ◌<◌, ◌≤◌, max, Bool, true, false, List, [], ◌∷◌, drop, length, get_or, Option, Some, None, refl, sym, ap, subst, ◌∙◌, arith, inl, inr}
 use Rattle.std.specs.Prelude.{◌⊎◌, if◌then◌else◌, slice_get, MatchOption}
 use Rattle.std.proofs.lemmas.Bool.{cases_lt}
 use Rattle.std.proofs.lemmas.Option.{slice_get_cases, slice_get_within}
@@ -10,10 +10,11 @@ use Rattle.kd_token.specs.Reading.{◌>>=◌}
 use Rattle.kd_token.specs.declared.token.Token.{Token}
 use Rattle.kd_token.specs.declared.way.Way.{Way}
 use Rattle.kd_token.specs.declared.way.Way.TheVariants as routes
-use Rattle.kd_machine.specs.Values.{Val, Truth, take_truth, longest}
+use Rattle.kd_machine.specs.Values.{Val, Truth, take_truth, longest, top_size}
 use Rattle.kd_machine.specs.World.{World, world}
 use Rattle.kd_machine.specs.Run.{rule, agrees, moves_by, moves, Step, Segment, Run, EndsWithin}
 use Rattle.kd_machine.specs.Fits.{Stands, IsRunning}
+use Rattle.kd_machine.proofs.Rests.{moves_rest}
 use Rattle.kd_machine.proofs.Standing.{stands_first, stands_moves, stands_end}
 
 -- a step leads forward
@@ -47,6 +48,7 @@ running_first p message held a = record {
   depth = omega arith;
   bound = omega arith;
   covers = omega arith;
+  forward = omega arith;
 }
 
 -- a run goes on by a step
@@ -65,7 +67,33 @@ running_on p message held i n s d l token j t file is run there moved =
       depth = let before = run.depth in omega (arith, deep, before);
       bound = let before = run.bound in omega (arith, long, before);
       covers = omega arith;
+      forward =
+          let F : Option (ℕ × List Val) → Type 0 = IsForward i in
+          let ahead : i + 1 ≤ j = subst F moved (forward_by (way_of token) (world p message held) token i s) in
+          let before = run.forward in
+          omega (arith, ahead, before);
     }
+
+-- the stack has room for what a step leaves
+pub has_room : (p : Code) (message : Seen) (held : List (List ℕ)) (i n : ℕ) (s : List Val) (d l : ℕ) (token : Token) → HasFile p → IsMessage message → IsRunning p message held i n s d l → slice_get p.tokens i ≡ Some token → MatchOption (moves (world p message held) token i s) ⊥ (λ r. length r.1 ≤ 64)
+has_room p message held i n s d l token file is run there = by (moves (world p message held) token i s) (stands_moves p message held i n s token file is run.stands there) where
+  by : (o : Option (ℕ × List Val)) → MatchOption o ⊥ (λ r. Stands p r.0 (n + 1) r.1) → MatchOption o ⊥ (λ r. length r.1 ≤ 64)
+  by None m = m
+  by (Some r) m = let deep = m.deep in let most = file.depth in omega (arith, deep, most)
+
+-- the longest value after a step is the one on top, or was counted before
+top_alone : (t : List Val) (l : ℕ) → longest (drop 1 t) ≤ l → max l (top_size t) ≡ max l (longest t)
+top_alone [] l le = refl
+top_alone (v ∷ t) l le = omega (arith, le)
+
+-- a run goes on by a step whose top alone is looked at
+pub running_next : (p : Code) (message : Seen) (held : List (List ℕ)) (i n : ℕ) (s : List Val) (d l : ℕ) (token : Token) (j : ℕ) (t : List Val) → HasFile p → IsMessage message → IsRunning p message held i n s d l → slice_get p.tokens i ≡ Some token → moves (world p message held) token i s ≡ Some (j, t)
+    → IsRunning p message held j (n + 1) t (max d (length t)) (max l (top_size t))
+running_next p message held i n s d l token j t file is run there moved =
+    let B : Option (ℕ × List Val) → Type 0 = λ o. MatchOption o (Unit {0}) (λ r. longest (drop 1 r.1) ≤ l) in
+    let rest : longest (drop 1 t) ≤ l = subst B moved (moves_rest l (world p message held) token i s run.covers) in
+    let R : ℕ → Type 0 = λ h. IsRunning p message held j (n + 1) t (max d (length t)) h in
+    subst R (sym (top_alone t l rest)) (running_on p message held i n s d l token j t file is run there moved)
 
 -- at the end a run has the outcome of its one truth value
 pub running_end : (p : Code) (message : Seen) (held : List (List ℕ)) (n : ℕ) (s : List Val) (d l : ℕ) → IsRunning p message held (length p.tokens) n s d l → (n ≤ p.steps) × MatchOption (take_truth s) ⊥ (λ r. Run p message held r.0 n d l)

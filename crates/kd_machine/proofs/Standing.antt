@@ -165,11 +165,11 @@ stands_moves p message held i n s token file is st there =
     let of_file = is_token p i token file there in
     let less : i < length p.tokens = slice_get_within p.tokens i token there in
     let here : leaving (length p.names) (slice_get p.tokens i) i (a.0 i) ≡ flows (length p.names) token i st.point =
-        ap (λ o. leaving (length p.names) o i (a.0 i)) there ∙ ap (leaving (length p.names) (Some token) i) st.known in
+    ap (λ o. leaving (length p.names) o i (a.0 i)) there ∙ ap (leaving (length p.names) (Some token) i) st.known in
     let L : Option (List Flow) → Type 0 = λ o. MatchOption o ⊥ (AllByRecursion (IsWithin p)) in
     moved_by p (world p message held) a i n token st.point s st.counted st.fits (way_of token) (reach_within p i token file there) (rule_fits (world p message held) p.version of_file.0 token st.point.shape s is of_file.1 st.fits)
-        (subst L here (a.1 i (omega (arith, less))).leave)
-        (λ j le. let E : Option (List Flow) → Type 0 = λ o. MatchOption o (Unit {0}) (AllByRecursion (λ f. f.to ≡ j → IsCovered (a.0 j) f.point)) in subst E here ((a.1 j (omega (arith, le))).enter i))
+    (subst L here (a.1 i (omega (arith, less))).leave)
+    (λ j le. let E : Option (List Flow) → Type 0 = λ o. MatchOption o (Unit {0}) (AllByRecursion (λ f. f.to ≡ j → IsCovered (a.0 j) f.point)) in subst E here ((a.1 j (omega (arith, le))).enter i))
 
 -- at the end stands one truth value, in the declared steps
 pub stands_end : (p : Code) (n : ℕ) (s : List Val) → Stands p (length p.tokens) n s → (n ≤ p.steps) × MatchOption (take_truth s) ⊥ (λ r. s ≡ Truth r.0 ∷ [])

@@ -48,3 +48,4 @@ pub record IsRunning (p : Code) (message : Seen) (held : List (List ℕ)) (i : �
   pub depth : d ≤ p.depth
   pub bound : l ≤ p.bound
   pub covers : longest s ≤ l
+  pub forward : n ≤ i

@@ -55,3 +55,8 @@ size (Text bytes) = length bytes
 abbrev pub longest : List Val → ℕ
 longest [] = 0
 longest (v ∷ s) = max (size v) (longest s)
+
+-- the length of the value on top
+abbrev pub top_size : List Val → ℕ
+top_size [] = 0
+top_size (v ∷ s) = size v

@@ -2,12 +2,12 @@
 #![tactic(auto)]
 
 mod bounds;
-mod eval;
 mod held;
+mod run;
 mod stack;
 mod step;
 mod text;
 mod value;
 
-pub use eval::Outcome;
 pub use held::Held;
+pub use run::{Outcome, eval};

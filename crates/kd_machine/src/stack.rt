@@ -1,5 +1,5 @@
 ghost use Rattle.std.specs.Prelude.{◌≡◌, ◌<◌, ◌∷◌, [], IsSome, MatchOption, Some, length};
-ghost use Rattle.kd_machine.specs.Values.{Text, longest, size, take_number, take_text, take_truth, value_of};
+ghost use Rattle.kd_machine.specs.Values.{Text, take_number, take_text, take_truth, top_size, value_of};
 
 use crate::value::Value;
 use arrayvec::ArrayVec;
@@ -33,6 +33,16 @@ impl<'a> Stack<'a> {
         ensures { result ≡ length self.now }
     {
         self.values.len()
+    }
+
+    // The length of the value on top.
+    pub(crate) fn top_size(&self) -> usize
+        ensures { result ≡ top_size self.now }
+    {
+        match self.values.as_slice().last() {
+            Some(value) => value.len(),
+            None => 0,
+        }
     }
 
     pub(crate) fn push(&mut self, value: Value<'a>)

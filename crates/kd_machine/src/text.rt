@@ -20,11 +20,7 @@ fn digits_of(byte: u8) -> [u8; 2]
 }
 
 // Two hexadecimal digits for each byte, with a separator between bytes.
-pub(crate) fn hex_text(
-    alloc: Global,
-    bytes: &[u8],
-    separator: &[u8],
-) -> Result<Vec<u8>, AllocError>
+pub(crate) fn hex_text(alloc: Global, bytes: &[u8], separator: &[u8]) -> Result<Vec<u8>, AllocError>
     ensures { IfOk result (λ v. v.items ≡ hex_text separator.now bytes.now) }
 {
     let mut out = Vec::new(alloc);
@@ -48,11 +44,7 @@ fn put_behind(out: &mut Vec<u8>, bytes: &[u8], separator: &[u8]) -> Result<(), A
 }
 
 // Two byte strings, the first one first.
-pub(crate) fn joined(
-    alloc: Global,
-    first: &[u8],
-    second: &[u8],
-) -> Result<Vec<u8>, AllocError>
+pub(crate) fn joined(alloc: Global, first: &[u8], second: &[u8]) -> Result<Vec<u8>, AllocError>
     ensures { IfOk result (λ v. v.items ≡ first.now ++ second.now) }
 {
     let mut out = Vec::with_capacity(alloc, first.len() + second.len())?;

@@ -30,6 +30,18 @@ impl<'a> Value<'a> {
         }
     }
 
+    // The length of a byte string, and 0 of what is none.
+    pub(crate) fn len(&self) -> usize
+        ensures { result ≡ size (value_of self.now) }
+    {
+        match self {
+            Value::Slice(bytes) => bytes.len(),
+            Value::Small(small) => small.as_slice().len(),
+            Value::Owned(owned) => owned.as_slice().len(),
+            _ => 0,
+        }
+    }
+
     // The byte string becomes a part of itself.
     pub(crate) fn narrow(&mut self, from: usize, to: usize)
         requires text { IsText (value_of self.old) }

@@ -25,6 +25,47 @@ pub struct Outcome {
     pub peak_length: u32,
 }
 
+/// Runs a verified program over a message, with the names of classes that are held. Takes memory for the
+/// values of `Concat`, `HexString`, `Lower`, `Upper` and `IntToText` alone.
+///
+/// # Errors
+///
+/// There is no memory for such a value.
+pub fn eval<'a>(
+    alloc: Global,
+    verified: &'a Verified,
+    message: &'a Message<'_>,
+    held: &Held,
+) -> Result<Outcome, AllocError>
+    ensures run { IfOk result (λ o. Run verified.now message.now held.now o.value o.steps o.peak_depth o.peak_length) }
+    ensures steps { IfOk result (λ o. o.steps ≤ verified.now.steps) }
+    ensures depth { IfOk result (λ o. o.peak_depth ≤ verified.now.depth) }
+    ensures length { IfOk result (λ o. o.peak_length ≤ verified.now.bound) }
+    ensures free { AllByRecursion IsFree verified.now.tokens → IsOk result }
+{
+    let program = verified.program();
+    let tokens = program.tokens();
+    // what the bounds of a message's values are comes with its length
+    let _size = message.len();
+    let mut stack = Stack::new();
+    let mut at = 0;
+    let mut steps = 0;
+    let mut peak_depth = 0usize;
+    let mut peak_length = 0usize;
+    'tokens: while at < tokens.len() {
+        at = advance(alloc, &mut stack, at, &tokens[at], program, message, held)?;
+        steps += 1;
+        peak_depth = peak_depth.max(stack.len());
+        peak_length = peak_length.max(stack.top_size());
+    }
+    Ok(Outcome {
+        value: stack.pop_truth(),
+        steps,
+        peak_depth: peak_depth as u32,
+        peak_length: peak_length as u32,
+    })
+}
+
 // Whether two truth values are the same.
 fn agrees(stays: bool, truth: bool) -> bool
     ensures { result ≡ agrees stays truth }
