@@ -1,8 +1,7 @@
 -- A run goes on from place to place and ends, within what the program declares.
-use Rattle.std.proofs.Common.{◌≡◌, ℕ, zero, suc, ◌+◌, ◌<◌, ◌≤◌, max, Bool, true, false, List, [], ◌∷◌, drop, length, get_or, Option, Some, None, refl, sym, ap, subst, ◌∙◌, arith, inl, inr}
+use Rattle.std.proofs.Common.{◌≡◌, ℕ, zero, suc, ◌+◌, ◌<◌, ◌≤◌, max, Bool, true, false, List, [], ◌∷◌, drop, length, get_or, Option, Some, None, refl, sym, subst, arith, inl, inr}
 use Rattle.std.specs.Prelude.{◌⊎◌, if◌then◌else◌, slice_get, MatchOption}
-use Rattle.std.proofs.lemmas.Bool.{cases_lt}
-use Rattle.std.proofs.lemmas.Option.{slice_get_cases, slice_get_within}
+use Rattle.std.proofs.lemmas.Option.{slice_get_cases}
 use Rattle.kd_options.specs.Message.{Seen, IsMessage}
 use Rattle.kd_token.specs.Accepts.{Accepts, way_of}
 use Rattle.kd_token.specs.File.{Code, HasFile}
@@ -12,7 +11,7 @@ use Rattle.kd_token.specs.declared.way.Way.{Way}
 use Rattle.kd_token.specs.declared.way.Way.TheVariants as routes
 use Rattle.kd_machine.specs.Values.{Val, Truth, take_truth, longest, top_size}
 use Rattle.kd_machine.specs.World.{World, world}
-use Rattle.kd_machine.specs.Run.{rule, agrees, moves_by, moves, Step, Segment, Run, EndsWithin}
+use Rattle.kd_machine.specs.Run.{rule, agrees, moves_by, moves, Segment, Run, EndsWithin}
 use Rattle.kd_machine.specs.Fits.{Stands, IsRunning}
 use Rattle.kd_machine.proofs.Rests.{moves_rest}
 use Rattle.kd_machine.proofs.Standing.{stands_first, stands_moves, stands_end}

@@ -1,5 +1,5 @@
 -- Below the top a step leaves no value that is longer than before.
-use Rattle.std.proofs.Common.{◌≡◌, ℕ, ◌+◌, ◌≤◌, max, Bool, true, false, List, [], ◌∷◌, drop, Option, Some, None, refl, arith}
+use Rattle.std.proofs.Common.{ℕ, ◌+◌, ◌≤◌, Bool, true, false, List, [], ◌∷◌, drop, Option, Some, None, arith}
 use Rattle.std.specs.Prelude.{if◌then◌else◌, slice_get, MatchOption}
 use Rattle.kd_token.specs.Accepts.{way_of}
 use Rattle.kd_token.specs.Reading.{◌>>=◌}
@@ -7,7 +7,7 @@ use Rattle.kd_token.specs.declared.token.Token.{Token}
 use Rattle.kd_token.specs.declared.token.Token.TheVariants as tokens
 use Rattle.kd_token.specs.declared.way.Way.{Way}
 use Rattle.kd_token.specs.declared.way.Way.TheVariants as routes
-use Rattle.kd_machine.specs.Values.{Val, Truth, Number, Text, size, take_text, take_truth, take_number, longest}
+use Rattle.kd_machine.specs.Values.{Val, Truth, Number, Text, take_text, take_truth, take_number, longest}
 use Rattle.kd_machine.specs.World.{World, is_held}
 use Rattle.kd_machine.specs.Run.{rule, agrees, moves_by, moves}
 

@@ -1,21 +1,18 @@
 -- A token that takes what it wants from a shape takes it from values that fit, and what it gives fits what
 -- it gives to the shape.
-use Rattle.std.proofs.Common.{◌≡◌, ℕ, ℤ, zero, suc, ◌+◌, ◌-◌, ◌*◌, ◌^◌, ◌<◌, ◌≤◌, min, max, Bool, true, false, List, [], ◌∷◌, ◌++◌, map, length, take, drop, Option, Some, None, refl, sym, ap, subst, ◌∙◌, arith}
-use Rattle.std.specs.Prelude.{nat_eq, nat_lt, nat_le, if◌then◌else◌, ◌==◌, is_some, slice_get, unsigned_abs, MatchOption, IsSomeAnd, decimal}
+use Rattle.std.proofs.Common.{◌≡◌, ℕ, ℤ, suc, ◌+◌, ◌-◌, ◌*◌, ◌^◌, ◌<◌, ◌≤◌, min, max, Bool, true, false, List, [], ◌∷◌, ◌++◌, length, take, drop, Option, Some, None, refl, sym, subst, arith}
+use Rattle.std.specs.Prelude.{nat_lt, if◌then◌else◌, ◌==◌, slice_get, unsigned_abs, MatchOption, IsSomeAnd}
 use Rattle.std.specs.List.{flat_map}
-use Rattle.std.specs.Map.{lookup}
 use Rattle.std.specs.Char.{to_ascii_lowercase, to_ascii_uppercase}
 use Rattle.std.proofs.lemmas.Bool.{ltb-true, ne_eqb}
 use Rattle.std.proofs.lemmas.Fmt.{length-decimal-le}
 use Rattle.std.proofs.lemmas.List.{length-append, length-drop, length-map, length-take}
 use Rattle.std.proofs.lemmas.Option.{slice_get-get_or}
-use Rattle.byteorder.specs.Endian.{big_bytes}
 use Rattle.kd_options.specs.Joined.{value_of}
-use Rattle.kd_options.specs.Message.{Seen, IsMessage, mac_of}
+use Rattle.kd_options.specs.Message.{Seen, IsMessage}
 use Rattle.kd_options.specs.Options.{IsType}
-use Rattle.kd_options.specs.RelayWalk.{relay_list}
 use Rattle.kd_options.proofs.Sizes.{header_short, len_short, relay_short, value_short}
-use Rattle.kd_token.specs.File.{IsToken, IsCount}
+use Rattle.kd_token.specs.File.{IsToken}
 use Rattle.kd_token.specs.Reading.{◌>>=◌}
 use Rattle.kd_token.specs.Shape.{take_bytes, take_bool, take_int, field_kind, substring_bound, hex_bound, gives}
 use Rattle.kd_token.specs.declared.shape.Kind.{Kind}
@@ -28,7 +25,7 @@ use Rattle.kd_token.specs.declared.token.Version.{Version}
 use Rattle.kd_token.proofs.Down.{Down, bind_down, hex_down}
 use Rattle.kd_machine.specs.Values.{Val, Truth, Number, Text, take_text, take_truth, take_number}
 use Rattle.kd_machine.specs.Strings.{is_negative, beginning, part, part_from, substring, digits_of, hex_text}
-use Rattle.kd_machine.specs.World.{World, same, is_held, or_empty, option_in, relay_in, type_in, field_value}
+use Rattle.kd_machine.specs.World.{World, is_held, or_empty, option_in, relay_in, type_in, field_value}
 use Rattle.kd_machine.specs.Run.{rule}
 use Rattle.kd_machine.specs.Fits.{FitsKind, Fits}
 

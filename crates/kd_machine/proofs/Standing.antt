@@ -1,12 +1,11 @@
 -- What stands at a place of an accepted program stands at the next one after a step, and at the end is one
 -- truth value.
-use Rattle.std.proofs.Common.{◌≡◌, ℕ, zero, suc, ◌+◌, ◌-◌, ◌<◌, ◌≤◌, max, Bool, true, false, List, [], ◌∷◌, length, get_or, Option, Some, None, refl, sym, ap, subst, ◌∙◌, arith, inl, inr}
-use Rattle.std.specs.Prelude.{◌⊎◌, if◌then◌else◌, slice_get, MatchOption}
+use Rattle.std.proofs.Common.{◌≡◌, ℕ, zero, suc, ◌+◌, ◌<◌, ◌≤◌, Bool, true, false, List, [], ◌∷◌, length, get_or, Option, Some, None, refl, ap, subst, ◌∙◌, arith}
+use Rattle.std.specs.Prelude.{if◌then◌else◌, slice_get, MatchOption}
 use Rattle.std.specs.List.{AllByRecursion}
-use Rattle.std.proofs.lemmas.Bool.{cases_lt}
-use Rattle.std.proofs.lemmas.Option.{slice_get_within, get_or_from_slice_get, slice_get-get_or}
+use Rattle.std.proofs.lemmas.Option.{slice_get_within, get_or_from_slice_get}
 use Rattle.kd_options.specs.Message.{Seen, IsMessage}
-use Rattle.kd_token.specs.Accepts.{Accepts, Assignment, Point, Flow, flow_to, way_of, flows_by, flows, leaving, out, origin, IsCovered, IsWithin, IsSound, IsSoundThroughout, EndsInTime, EndsWithBool}
+use Rattle.kd_token.specs.Accepts.{Accepts, Point, Flow, flow_to, way_of, flows_by, flows, leaving, origin, IsCovered, IsWithin}
 use Rattle.kd_token.specs.File.{Code, HasFile, AreTokens, IsToken}
 use Rattle.kd_token.specs.Reading.{◌>>=◌}
 use Rattle.kd_token.specs.Shape.{Covers, CoversKind, AreShort, IsShortKind, gives, take_bool}
@@ -21,7 +20,7 @@ use Rattle.kd_token.proofs.Down.{Down}
 use Rattle.kd_token.proofs.Tidy.{reach_within}
 use Rattle.kd_machine.specs.Values.{Val, Truth, Number, Text, size, take_truth, longest}
 use Rattle.kd_machine.specs.World.{World, world}
-use Rattle.kd_machine.specs.Run.{rule, agrees, moves_by, moves, Step, Segment, Run, EndsWithin}
+use Rattle.kd_machine.specs.Run.{rule, agrees, moves_by, moves}
 use Rattle.kd_machine.specs.Fits.{FitsKind, Fits, Stands}
 use Rattle.kd_machine.proofs.Rules.{TruthFits, truth_fits, rule_fits}
 

@@ -10,7 +10,7 @@ use Rattle.kd_options.specs.RelayWalk.{relay_list}
 use Rattle.kd_token.specs.File.{Code}
 use Rattle.kd_token.specs.declared.token.Field.{Field}
 use Rattle.kd_token.specs.declared.token.Field.TheVariants as fields
-use Rattle.kd_machine.specs.Values.{Val, Truth, Number, Text}
+use Rattle.kd_machine.specs.Values.{Val, Number, Text}
 
 -- what the rules see
 pub record World : Type 0 where

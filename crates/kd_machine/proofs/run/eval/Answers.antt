@@ -1,7 +1,7 @@
-use Rattle.std.proofs.Common.{◌≡◌, ◌∙◌, List, length, Some, refl, sym, ap, subst, arith}
+use Rattle.std.proofs.Common.{◌≡◌, ◌∙◌, length, Some, refl, sym, ap, subst, arith}
 use Rattle.std.specs.Prelude.{slice_get}
 use Rattle.std.proofs.lemmas.Option.{slice_get_read}
-use Rattle.kd_token.specs.File.{Code, HasFile}
+use Rattle.kd_token.specs.File.{HasFile}
 use Rattle.kd_machine.specs.World.{world}
 use Rattle.kd_machine.specs.Run.{moves}
 use Rattle.kd_machine.proofs.Ending.{has_room, running_first, running_next}
