@@ -11,3 +11,4 @@ pub mod Kept
 pub mod ItemOptions
 pub mod Pieces
 pub mod TextReads
+pub mod Sizes

@@ -4,14 +4,10 @@ use Rattle.std.specs.Prelude.{◌≡◌, ◌≢◌, ◌⊎◌, ℕ, ◌^◌, ◌
 use Rattle.std.specs.List.{AllByRecursion, IsDistinct}
 use Rattle.kd_wire.specs.Area.{Piece}
 use Rattle.kd_wire.specs.declared.header.Header.{Header}
-use Rattle.kd_options.specs.Message.{Seen}
+use Rattle.kd_options.specs.Message.{Seen, AreBytes}
 use Rattle.kd_options.specs.Options.{IsAddress, IsType}
 use Rattle.kd_options.specs.Reply.{kept, reply_text}
 use Rattle.kd_options.specs.declared.item.Item.{Item}
-
--- bytes: numbers from 0 to 255
-abbrev pub AreBytes : List ℕ → Type 0
-AreBytes bytes = AllByRecursion (λ b. b < 256) bytes
 
 -- a field of n bytes
 pub record IsField (n : ℕ) (bytes : List ℕ) : Type 0 where

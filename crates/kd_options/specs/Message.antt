@@ -1,6 +1,7 @@
 -- A readable DHCP message (RFC 2131 section 2, RFC 2132, RFC 3396), and the first fault of bytes that
 -- are none.
-use Rattle.std.specs.Prelude.{◌≡◌, ℕ, ◌+◌, List, length, take, min, Ok, Err, Some, ◌⊎◌, true}
+use Rattle.std.specs.Prelude.{◌≡◌, ℕ, ◌+◌, ◌<◌, List, length, take, min, Ok, Err, Some, ◌⊎◌, true}
+use Rattle.std.specs.List.{AllByRecursion}
 use Rattle.kd_wire.specs.Area.{Piece, IsArea, IsCutAt}
 use Rattle.kd_wire.specs.Header.{header_read}
 use Rattle.kd_wire.specs.declared.header.Header.{Header}
@@ -22,6 +23,16 @@ pub record Reads (bytes : List ℕ) (m : Seen) : Type 0 where
   pub len : m.len ≡ length bytes
   pub options : HasOptions bytes m.options
   pub readable : IsReadable m.options
+
+-- bytes: numbers from 0 to 255
+abbrev pub AreBytes : List ℕ → Type 0
+AreBytes bytes = AllByRecursion (λ b. b < 256) bytes
+
+-- a message: some datagram reads as it
+pub record IsMessage (m : Seen) : Type 0 where
+  pub datagram : List ℕ
+  pub bytes_are : AreBytes datagram
+  pub reads : Reads datagram m
 
 -- an area from this offset on is cut there, counted from the datagram's first byte
 abbrev pub IsCutIn : ℕ → List ℕ → ℕ → Type 0

@@ -1,9 +1,9 @@
-ghost use Rattle.std.specs.Prelude.{◌≡◌, ◌+◌, ◌^◌, ◌<◌, IsSome, ◌∷◌, [], nat_eq, option_copied, option_map, slice_get, IfOk, IfErr, IsSomeAnd, MatchResult, Some};
+ghost use Rattle.std.specs.Prelude.{◌≡◌, ◌+◌, ◌^◌, ◌<◌, ◌≤◌, IsSome, ◌∷◌, [], nat_eq, option_copied, option_map, slice_get, IfOk, IfErr, IsSomeAnd, MatchResult, Some};
 ghost use Rattle.std.specs.Map.{lookup};
 ghost use Rattle.kd_options.specs.Joined.{value_of};
 ghost use Rattle.kd_options.specs.Joining.{entries_of};
 ghost use Rattle.kd_options.specs.Kind.{type_number};
-ghost use Rattle.kd_options.specs.Message.{Seen, Reads, IsFirstFault, mac_of};
+ghost use Rattle.kd_options.specs.Message.{IsMessage, Seen, Reads, IsFirstFault, mac_of};
 ghost use Rattle.kd_options.specs.Options.{IsType, option_fault, may_be_address};
 ghost use Rattle.kd_options.specs.Relay.{IsRelayList, firsts};
 ghost use Rattle.kd_options.specs.RelayWalk.{relay_list};
@@ -30,14 +30,13 @@ pub struct Message<'a> {
 
 impl<'a> Model for Message<'a> {
     ghost use Rattle.kd_options.specs.Joining.{entries_of};
-    ghost use Rattle.kd_options.specs.Message.{Seen};
-    ghost use Rattle.kd_options.specs.Options.{IsReadable};
+    ghost use Rattle.kd_options.specs.Message.{IsMessage, Seen};
 
     ghost Value = { Seen };
 
     ghost view = { λ m. record { header = m.head; len = m.size; options = entries_of m.fields.entries } };
 
-    ghost invariant = { λ m. IsReadable (entries_of m.fields.entries) };
+    ghost invariant = { λ m. IsMessage (record { header = m.head; len = m.size; options = entries_of m.fields.entries }) };
 }
 
 impl<'a> Message<'a> {
@@ -75,7 +74,9 @@ impl<'a> Message<'a> {
 
     /// The number of bytes of the datagram, 240 to 4,096.
     pub fn len(&self) -> usize
-        ensures { result ≡ self.now.len }
+        ensures value { result ≡ self.now.len }
+        ensures room { result ≤ 4096 }
+        ensures message { IsMessage self.now }
     {
         self.size
     }

@@ -1,5 +1,5 @@
 -- Flows go forward, so an assignment may be changed at a place without the places before it.
-use Rattle.std.proofs.Common.{◌≡◌, ℕ, ◌+◌, ◌<◌, ◌≤◌, Bool, true, false, List, [], ◌∷◌, length, Option, Some, None, refl, sym, ap, subst, ◌∙◌, arith, inl, inr}
+use Rattle.std.proofs.Common.{◌≡◌, ℕ, ◌+◌, ◌<◌, ◌≤◌, false, List, [], ◌∷◌, length, Option, Some, None, refl, sym, ap, subst, ◌∙◌, arith, inl, inr}
 use Rattle.std.specs.Prelude.{◌⊎◌, ◌==◌, if◌then◌else◌, slice_get, MatchOption}
 use Rattle.std.specs.List.{AllByRecursion}
 use Rattle.std.proofs.lemmas.Bool.{cases_lt, ne_eqb}
@@ -11,7 +11,7 @@ use Rattle.kd_token.specs.declared.way.Way.TheVariants as routes
 use Rattle.kd_token.specs.File.{Code}
 use Rattle.kd_token.specs.Reading.{◌>>=◌}
 use Rattle.kd_token.specs.Shape.{gives, take_bool}
-use Rattle.kd_token.specs.Accepts.{Point, Flow, Assignment, flow_to, way_of, flows_by, flows, leaving, out, origin, IsCovered, IsWithin, IsSound, AreSound}
+use Rattle.kd_token.specs.Accepts.{Point, Flow, Assignment, flow_to, way_of, flows_by, leaving, out, IsCovered, IsWithin, IsSound, AreSound}
 
 -- each flow goes beyond this place
 abbrev AreBeyond : ℕ → List Flow → Type 0
@@ -27,7 +27,7 @@ beyond_by (routes.Fork skip) names token i q = two (take_bool q.shape) where
   two : (o : Option (List Kind)) → MatchOption (o >>= λ r. Some (flow_to (i + 1 + skip) q r ∷ flow_to (i + 1) q r ∷ [])) (Unit {0}) (AreBeyond i)
   two None = tt
   two (Some r) = (omega arith, (omega arith, tt))
-beyond_by (routes.Keep skip) names token i q = two (take_bool q.shape) where
+beyond_by (routes.Keep stays skip) names token i q = two (take_bool q.shape) where
   two : (o : Option (List Kind)) → MatchOption (o >>= λ r. Some (flow_to (i + 1 + skip) q (kinds.Bool ∷ r) ∷ flow_to (i + 1) q r ∷ [])) (Unit {0}) (AreBeyond i)
   two None = tt
   two (Some r) = (omega arith, (omega arith, tt))

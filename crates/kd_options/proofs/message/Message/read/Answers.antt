@@ -1,9 +1,10 @@
-use Rattle.std.proofs.Common.{refl, sym, ap, ◌∙◌}
+use Rattle.std.proofs.Common.{refl, sym, ap, ◌∙◌, arith}
 use Rattle.std.proofs.lemmas.Result.{err_from_is_err_and}
 use Rattle.kd_wire.specs.Header.{header_read}
 use Rattle.kd_options.specs.Faults.{read_fault_of}
 use Rattle.kd_options.specs.Options.{option_fault}
 use Rattle.kd_options.proofs.Rules.{readable, first_of_options, not_readable, same_header}
+use Rattle.kd_options.proofs.Sizes.{bytes_all}
 use Rattle.kd_options.proofs.message.Message.read.Goals as goal
 
 pub returns-in_err-fields-clause-only : goal.returns-in_err-fields-clause-only
@@ -21,7 +22,16 @@ returns-in-Some-clause-only c = λ m h.
     absurd (not_readable m.options c.in-Some.fault (c.in-Some.ensures ∙ ap option_fault same) h.readable)
 
 pub invariant_of-result : goal.invariant_of-result
-invariant_of-result c = readable _ (sym c.in-None.ensures)
+invariant_of-result c = record {
+  datagram = c.args.bytes.now;
+  bytes_are = bytes_all c.args.bytes.now (λ i. let byte = c.type_inv.bytes i in omega (arith, byte));
+  reads = record {
+    header = sym c.in_ok-head.ensures.read;
+    len = refl;
+    options = c.in_ok-fields.ensures.found;
+    readable = readable _ (sym c.in-None.ensures);
+  };
+}
 
 pub returns-clause-found : goal.returns-clause-found
 returns-clause-found c = record {

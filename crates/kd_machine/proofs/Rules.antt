@@ -1,0 +1,194 @@
+-- A token that takes what it wants from a shape takes it from values that fit, and what it gives fits what
+-- it gives to the shape.
+use Rattle.std.proofs.Common.{◌≡◌, ℕ, ℤ, suc, ◌+◌, ◌-◌, ◌*◌, ◌^◌, ◌<◌, ◌≤◌, min, max, Bool, true, false, List, [], ◌∷◌, ◌++◌, length, take, drop, Option, Some, None, refl, sym, subst, arith}
+use Rattle.std.specs.Prelude.{nat_lt, if◌then◌else◌, ◌==◌, slice_get, unsigned_abs, MatchOption, IsSomeAnd}
+use Rattle.std.specs.List.{flat_map}
+use Rattle.std.specs.Char.{to_ascii_lowercase, to_ascii_uppercase}
+use Rattle.std.proofs.lemmas.Bool.{ltb-true, ne_eqb}
+use Rattle.std.proofs.lemmas.Fmt.{length-decimal-le}
+use Rattle.std.proofs.lemmas.List.{length-append, length-drop, length-map, length-take}
+use Rattle.std.proofs.lemmas.Option.{slice_get-get_or}
+use Rattle.kd_options.specs.Joined.{value_of}
+use Rattle.kd_options.specs.Message.{Seen, IsMessage}
+use Rattle.kd_options.specs.Options.{IsType}
+use Rattle.kd_options.proofs.Sizes.{header_short, len_short, relay_short, value_short}
+use Rattle.kd_token.specs.File.{IsToken}
+use Rattle.kd_token.specs.Reading.{◌>>=◌}
+use Rattle.kd_token.specs.Shape.{take_bytes, take_bool, take_int, field_kind, substring_bound, hex_bound, gives}
+use Rattle.kd_token.specs.declared.shape.Kind.{Kind}
+use Rattle.kd_token.specs.declared.shape.Kind.TheVariants as kinds
+use Rattle.kd_token.specs.declared.token.Field.{Field}
+use Rattle.kd_token.specs.declared.token.Field.TheVariants as fields
+use Rattle.kd_token.specs.declared.token.Token.{Token}
+use Rattle.kd_token.specs.declared.token.Token.TheVariants as tokens
+use Rattle.kd_token.specs.declared.token.Version.{Version}
+use Rattle.kd_token.proofs.Down.{Down, bind_down, hex_down}
+use Rattle.kd_machine.specs.Values.{Val, Truth, Number, Text, take_text, take_truth, take_number}
+use Rattle.kd_machine.specs.Strings.{is_negative, beginning, part, part_from, substring, digits_of, hex_text}
+use Rattle.kd_machine.specs.World.{World, is_held, or_empty, option_in, relay_in, type_in, field_value}
+use Rattle.kd_machine.specs.Run.{rule}
+use Rattle.kd_machine.specs.Fits.{FitsKind, Fits}
+
+-- a bound and the shape below it fit a byte string and the values below it
+abbrev TextFits : ℕ × List Kind → List ℕ × List Val → Type 0
+TextFits x y = (length y.0 ≤ x.0) × Fits x.1 y.1
+
+-- a shape fits the values below a truth value
+abbrev pub TruthFits : List Kind → Bool × List Val → Type 0
+TruthFits r y = Fits r y.1
+
+-- a shape fits the values below a number of four bytes
+abbrev NumberFits : List Kind → ℕ × List Val → Type 0
+NumberFits r y = (y.0 < 2 ^ 32) × Fits r y.1
+
+text_fits : (r : List Kind) (s : List Val) → Fits r s → Down TextFits (take_bytes r) (take_text s)
+text_fits [] s f = tt
+text_fits (kinds.Bytes n ∷ r) (Text bytes ∷ s) f = (f.0, f.1)
+text_fits (kinds.Bytes n ∷ r) [] f = absurd f
+text_fits (kinds.Bytes n ∷ r) (Truth b ∷ s) f = absurd f.0
+text_fits (kinds.Bytes n ∷ r) (Number m ∷ s) f = absurd f.0
+text_fits (kinds.Bool ∷ r) s f = tt
+text_fits (kinds.Int ∷ r) s f = tt
+
+pub truth_fits : (r : List Kind) (s : List Val) → Fits r s → Down TruthFits (take_bool r) (take_truth s)
+truth_fits [] s f = tt
+truth_fits (kinds.Bool ∷ r) (Truth b ∷ s) f = f.1
+truth_fits (kinds.Bool ∷ r) [] f = absurd f
+truth_fits (kinds.Bool ∷ r) (Number m ∷ s) f = absurd f.0
+truth_fits (kinds.Bool ∷ r) (Text bytes ∷ s) f = absurd f.0
+truth_fits (kinds.Bytes n ∷ r) s f = tt
+truth_fits (kinds.Int ∷ r) s f = tt
+
+number_fits : (r : List Kind) (s : List Val) → Fits r s → Down NumberFits (take_int r) (take_number s)
+number_fits [] s f = tt
+number_fits (kinds.Int ∷ r) (Number n ∷ s) f = (f.0, f.1)
+number_fits (kinds.Int ∷ r) [] f = absurd f
+number_fits (kinds.Int ∷ r) (Truth b ∷ s) f = absurd f.0
+number_fits (kinds.Int ∷ r) (Text bytes ∷ s) f = absurd f.0
+number_fits (kinds.Bytes n ∷ r) s f = tt
+number_fits (kinds.Bool ∷ r) s f = tt
+
+-- a value that may be absent is short where it is there
+empty_short : (most : ℕ) (o : Option (List ℕ)) → MatchOption o (Unit {0}) (λ value. length value ≤ most) → length (or_empty o) ≤ most
+empty_short most None h = omega arith
+empty_short most (Some value) h = h
+
+-- a part is no longer than the whole, and than the number asked for
+part_short : (count : Option ℤ) (b : ℕ) (bytes : List ℕ) (n : ℕ) → length bytes ≤ n → length (part count b bytes) ≤ substring_bound n count
+part_short None b bytes n le = let e = length-drop b bytes in omega (arith, e, le)
+part_short (Some z) b bytes n le = by (is_negative z) where
+  by : (negative : Bool) → length (if negative then drop (b - unsigned_abs z) (take b bytes) else take (unsigned_abs z) (drop b bytes)) ≤ min n (unsigned_abs z)
+  by true =
+      let e = length-drop (b - unsigned_abs z) (take b bytes) in
+      let f = length-take b bytes in
+      omega (arith, e, f, le)
+  by false =
+      let e = length-take (unsigned_abs z) (drop b bytes) in
+      let f = length-drop b bytes in
+      omega (arith, e, f, le)
+
+substring_short : (start : ℤ) (count : Option ℤ) (bytes : List ℕ) (n : ℕ) → length bytes ≤ n → length (substring start count bytes) ≤ substring_bound n count
+substring_short start count bytes n le = by (beginning start (length bytes)) where
+  by : (o : Option ℕ) → length (part_from o count bytes) ≤ substring_bound n count
+  by None = omega arith
+  by (Some b) = part_short count b bytes n le
+
+flat_size : (separator bytes : List ℕ) → length (flat_map (λ c. separator ++ digits_of c) bytes) ≡ length bytes * length separator + 2 * length bytes
+flat_size separator [] = omega arith
+flat_size separator (b ∷ bytes) =
+    let rest = flat_size separator bytes in
+    let front = length-append (separator ++ digits_of b) (flat_map (λ c. separator ++ digits_of c) bytes) in
+    let first = length-append separator (digits_of b) in
+    omega (arith, rest, front, first)
+
+hex_size : (separator bytes : List ℕ) → length (hex_text separator bytes) ≡ hex_bound (length bytes) (length separator)
+hex_size separator [] = refl
+hex_size separator (b ∷ bytes) =
+    let rest = flat_size separator bytes in
+    let no : (suc (length bytes) == 0) ≡ false = ne_eqb (suc (length bytes)) 0 (λ e. omega (arith, e)) in
+    let one : suc (length bytes) - 1 ≡ length bytes = omega arith in
+    rw (no, one) (omega (arith, rest))
+
+hex_short : (separator bytes : List ℕ) (n m : ℕ) → length bytes ≤ n → length separator ≤ m → length (hex_text separator bytes) ≤ hex_bound n m
+hex_short separator bytes n m le less = let e = hex_size separator bytes in let d = hex_down n (length bytes) m (length separator) le less in omega (arith, e, d)
+
+-- the number of a message's type is of one byte
+type_short : (o : Option (List ℕ)) → IsSomeAnd o IsType → type_in o < 2 ^ 32
+type_short None h = omega arith
+type_short (Some []) h = omega arith
+type_short (Some (n ∷ [])) h = omega (arith, h.1)
+type_short (Some (n ∷ m ∷ bytes)) h = absurd h
+
+-- the value of a field fits the field's kind
+field_fits : (m : Seen) → IsMessage m → (field : Field) → FitsKind (field_kind field) (field_value m field)
+field_fits m is fields.Mac = let e = length-take (min m.header.hlen 16) m.header.chaddr in omega (arith, e)
+field_fits m is fields.Hlen = let h = header_short m is in omega (arith, h.1)
+field_fits m is fields.Htype = let h = header_short m is in omega (arith, h.0)
+field_fits m is fields.Ciaddr = omega arith
+field_fits m is fields.Giaddr = omega arith
+field_fits m is fields.Yiaddr = omega arith
+field_fits m is fields.Siaddr = omega arith
+field_fits m is fields.MessageType = type_short (value_of 53 m.options) is.reads.readable.kind
+field_fits m is fields.Transaction = let h = header_short m is in h.2
+field_fits m is fields.Length = let h = len_short m is in omega (arith, h)
+
+member_fits : (names held : List (List ℕ)) (index : ℕ) (r : List Kind) (s : List Val) → Fits r s
+    → Down Fits (if nat_lt index (length names) then Some (kinds.Bool ∷ r) else None) (slice_get names index >>= λ name. Some (Truth (is_held name held) ∷ s))
+member_fits names held index r s f = by (nat_lt index (length names)) refl where
+  by : (b : Bool) → nat_lt index (length names) ≡ b → Down Fits (if b then Some (kinds.Bool ∷ r) else None) (slice_get names index >>= λ name. Some (Truth (is_held name held) ∷ s))
+  by false e = tt
+  by true e =
+      let there = slice_get-get_or names index [] (ltb-true _ _ e) in
+      let P : Option (List ℕ) → Type 0 = λ o. Down Fits (Some (kinds.Bool ∷ r)) (o >>= λ name. Some (Truth (is_held name held) ∷ s)) in
+      subst P (sym there) (tt, f)
+
+choice_short : (b : Bool) (x y : List ℕ) (n m : ℕ) → length x ≤ n → length y ≤ m → length (if b then x else y) ≤ max n m
+choice_short true x y n m le less = omega (arith, le)
+choice_short false x y n m le less = omega (arith, less)
+
+-- a truth value that is taken leaves what the shape has below it
+last : (r : List Kind) (s : List Val) → Fits r s → Down Fits (take_bool r) (take_truth s >>= λ b. Some b.1)
+last r s f = by (take_bool r) (take_truth s) (truth_fits r s f) where
+  by : (o : Option (List Kind)) (u : Option (Bool × List Val)) → Down TruthFits o u → Down Fits o (u >>= λ b. Some b.1)
+  by None u d = tt
+  by (Some x) None d = d
+  by (Some x) (Some y) d = d
+
+-- what a token gives to values fits what it gives to a shape that they fit
+pub rule_fits : (w : World) (version : Version) (behind : ℕ) (token : Token) (r : List Kind) (s : List Val) → IsMessage w.message → IsToken version behind token → Fits r s → Down Fits (gives (length w.names) token r) (rule w token s)
+unfolding gives rule
+rule_fits w version behind (tokens.PushBytes bytes) r s is token f = (omega arith, f)
+rule_fits w version behind (tokens.PushInt number) r s is token f = (token, f)
+rule_fits w version behind (tokens.PushOption code) r s is token f = (empty_short 4096 (option_in w code) (value_short w.message is code), f)
+rule_fits w version behind (tokens.PushRelay code) r s is token f = (empty_short 255 (relay_in w code) (relay_short w.message is code), f)
+rule_fits w version behind (tokens.PushField field) r s is token f = (field_fits w.message is field, f)
+rule_fits w version behind (tokens.OptionExists code) r s is token f = (tt, f)
+rule_fits w version behind (tokens.RelayExists code) r s is token f = (tt, f)
+rule_fits w version behind (tokens.Member index) r s is token f = member_fits w.names w.held index r s f
+rule_fits w version behind tokens.Equal r s is token f =
+    bind_down TextFits Fits _ _ _ _ (text_fits r s f) (λ x y d. bind_down TextFits Fits _ _ _ _ (text_fits x.1 y.1 d.1) (λ u v e. (tt, e.1)))
+rule_fits w version behind tokens.Not r s is token f = bind_down TruthFits Fits _ _ _ _ (truth_fits r s f) (λ x y d. (tt, d))
+rule_fits w version behind tokens.And r s is token f =
+    bind_down TruthFits Fits _ _ _ _ (truth_fits r s f) (λ x y d. bind_down TruthFits Fits _ _ _ _ (truth_fits x y.1 d) (λ u v e. (tt, e)))
+rule_fits w version behind tokens.Or r s is token f =
+    bind_down TruthFits Fits _ _ _ _ (truth_fits r s f) (λ x y d. bind_down TruthFits Fits _ _ _ _ (truth_fits x y.1 d) (λ u v e. (tt, e)))
+rule_fits w version behind tokens.IfElse r s is token f =
+    bind_down TextFits Fits _ _ _ _ (text_fits r s f) (λ x y d. bind_down TextFits Fits _ _ _ _ (text_fits x.1 y.1 d.1) (λ u v e.
+    bind_down TruthFits Fits _ _ _ _ (truth_fits u.1 v.1 e.1) (λ p q g. (choice_short q.0 v.0 y.0 u.0 x.0 e.0 d.0, g))))
+rule_fits w version behind (tokens.Substring start count) r s is token f =
+    bind_down TextFits Fits _ _ _ _ (text_fits r s f) (λ x y d. (substring_short start count y.0 x.0 d.0, d.1))
+rule_fits w version behind tokens.Concat r s is token f =
+    bind_down TextFits Fits _ _ _ _ (text_fits r s f) (λ x y d. bind_down TextFits Fits _ _ _ _ (text_fits x.1 y.1 d.1) (λ u v e. (let n = length-append v.0 y.0 in omega (arith, n, d.0, e.0), e.1)))
+rule_fits w version behind tokens.HexString r s is token f =
+    bind_down TextFits Fits _ _ _ _ (text_fits r s f) (λ x y d. bind_down TextFits Fits _ _ _ _ (text_fits x.1 y.1 d.1) (λ u v e. (hex_short y.0 v.0 u.0 x.0 e.0 d.0, e.1)))
+rule_fits w version behind tokens.Lower r s is token f =
+    bind_down TextFits Fits _ _ _ _ (text_fits r s f) (λ x y d. (let n = length-map y.0 to_ascii_lowercase in omega (arith, n, d.0), d.1))
+rule_fits w version behind tokens.Upper r s is token f =
+    bind_down TextFits Fits _ _ _ _ (text_fits r s f) (λ x y d. (let n = length-map y.0 to_ascii_uppercase in omega (arith, n, d.0), d.1))
+rule_fits w version behind tokens.IntToText r s is token f =
+    bind_down NumberFits Fits _ _ _ _ (number_fits r s f) (λ x y d. (length-decimal-le 10 y.0 (omega arith) (omega (arith, d.0)) (omega (arith, d.0)), d.1))
+rule_fits w version behind tokens.IntBytes r s is token f = bind_down NumberFits Fits _ _ _ _ (number_fits r s f) (λ x y d. (omega arith, d.1))
+rule_fits w version behind (tokens.Branch skip) r s is token f = f
+rule_fits w version behind (tokens.PopBranchFalse skip) r s is token f = last r s f
+rule_fits w version behind (tokens.BranchFalseElsePop skip) r s is token f = last r s f
+rule_fits w version behind (tokens.BranchTrueElsePop skip) r s is token f = last r s f

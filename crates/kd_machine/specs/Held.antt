@@ -1,0 +1,12 @@
+-- The names of classes that a message is in.
+use Rattle.std.specs.Prelude.{ℕ, List, [], ◌∷◌, ◌++◌, Option, Some, None, if◌then◌else◌, codes}
+use Rattle.kd_machine.specs.World.{is_held}
+
+-- one name more; a name that is there stays once
+abbrev pub with_name : List ℕ → List (List ℕ) → List (List ℕ)
+with_name name held = if is_held name held then held else held ++ name ∷ []
+
+-- the names before any definition, by option 60
+abbrev pub base_names : Option (List ℕ) → List (List ℕ)
+base_names None = codes "ALL" ∷ []
+base_names (Some class) = codes "ALL" ∷ (codes "VENDOR_CLASS_" ++ class) ∷ []

@@ -1,0 +1,6 @@
+pub mod Values
+pub mod Strings
+pub mod World
+pub mod Run
+pub mod Held
+pub mod Fits

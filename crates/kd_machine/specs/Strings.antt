@@ -1,0 +1,42 @@
+-- What the tokens over byte strings make of them (our own choice where Kea's manual leaves room).
+use Rattle.std.specs.Prelude.{ℕ, ℤ, pos, ◌-◌, ◌/◌, ◌%◌, ◌+◌, Bool, int_lt, nat_le, nat_lt, unsigned_abs, if◌then◌else◌, List, [], ◌∷◌, ◌++◌, length, take, drop, Option, Some, None}
+use Rattle.std.specs.List.{flat_map}
+
+-- a number below zero
+abbrev pub is_negative : ℤ → Bool
+is_negative z = int_lt z (pos 0)
+
+-- where a part begins in a string of so many bytes: a negative start counts from the end; nowhere, where
+-- it is before the first byte or not before the end
+abbrev pub beginning : ℤ → ℕ → Option ℕ
+beginning start size =
+    if is_negative start then (if nat_le (unsigned_abs start) size then Some (size - unsigned_abs start) else None)
+    else (if nat_lt (unsigned_abs start) size then Some (unsigned_abs start) else None)
+
+-- the part from a beginning on: so many bytes, or all; a negative number goes towards the front, without
+-- the byte at the beginning
+abbrev pub part : Option ℤ → ℕ → List ℕ → List ℕ
+part None b bytes = drop b bytes
+part (Some count) b bytes = if is_negative count then drop (b - unsigned_abs count) (take b bytes) else take (unsigned_abs count) (drop b bytes)
+
+-- the part from where it begins; none where it begins nowhere
+abbrev pub part_from : Option ℕ → Option ℤ → List ℕ → List ℕ
+part_from None count bytes = []
+part_from (Some b) count bytes = part count b bytes
+
+-- a part of a string
+abbrev pub substring : ℤ → Option ℤ → List ℕ → List ℕ
+substring start count bytes = part_from (beginning start (length bytes)) count bytes
+
+-- a hexadecimal digit in lower case
+abbrev pub digit : ℕ → ℕ
+digit n = if nat_lt n 10 then 0x30 + n else 0x57 + n
+
+-- the two digits of a byte
+abbrev pub digits_of : ℕ → List ℕ
+digits_of b = digit (b / 16) ∷ digit (b % 16) ∷ []
+
+-- the digits of each byte, with a separator between bytes
+abbrev pub hex_text : List ℕ → List ℕ → List ℕ
+hex_text separator [] = []
+hex_text separator (b ∷ bytes) = digits_of b ++ flat_map (λ c. separator ++ digits_of c) bytes

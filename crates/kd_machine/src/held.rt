@@ -1,0 +1,81 @@
+ghost use Rattle.std.specs.Prelude.{◌≡◌, IfOk, OnErr, OnOk, option_copied, slice_get};
+ghost use Rattle.kd_machine.specs.Held.{base_names, with_name};
+ghost use Rattle.kd_machine.specs.World.{is_held};
+ghost use Rattle.kd_options.specs.Joined.{value_of};
+
+use indexmap::IndexSet;
+use kd_options::Message;
+use std::alloc::{AllocError, Global};
+use std::marker::Model;
+
+/// The names of the classes that a message is in, each once, in the order in which they joined.
+#[derive(Drop)]
+pub struct Held {
+    alloc: Global,
+    names: IndexSet<Vec<u8>>,
+}
+
+impl Model for Held {
+    ghost use Rattle.std.specs.Prelude.{ℕ, List, map};
+
+    ghost Value = { List (List ℕ) };
+
+    ghost view = { λ h. map (λ v. v.items) h.names.keys };
+}
+
+impl Held {
+    /// The names that a message has before any definition: `ALL`, and where option 60 is present
+    /// `VENDOR_CLASS_` followed by its value.
+    ///
+    /// # Errors
+    ///
+    /// There is no memory for them.
+    pub fn base(alloc: Global, message: &Message<'_>) -> Result<Held, AllocError>
+        ensures { IfOk result (λ h. h ≡ base_names (value_of 60 message.now.options)) }
+    {
+        let mut held = Held {
+            alloc,
+            names: IndexSet::new(alloc),
+        };
+        held.add(b"ALL")?;
+        if let Some(class) = message.option(60) {
+            let mut name = Vec::from_slice(alloc, b"VENDOR_CLASS_")?;
+            name.extend_from_slice(class)?;
+            held.add(&name)?;
+        }
+        Ok(held)
+    }
+
+    /// One name more; nothing changes where it is held already.
+    ///
+    /// # Errors
+    ///
+    /// There is no memory for it; the names stay as they are.
+    pub fn add(&mut self, name: &[u8]) -> Result<(), AllocError>
+        ensures added { OnOk result (self.new ≡ with_name name.now self.old) }
+        ensures kept { OnErr result (self.new ≡ self.old) }
+    {
+        if !self.contains(name) {
+            let name = Vec::from_slice(self.alloc, name)?;
+            self.names.insert(name)?;
+        }
+        Ok(())
+    }
+
+    /// Whether a name is held.
+    pub fn contains(&self, name: &[u8]) -> bool
+        ensures { result ≡ is_held name.now self.now }
+    {
+        self.names.contains(name)
+    }
+
+    /// The name at an index, in the order in which they joined.
+    pub fn name_at(&self, index: usize) -> Option<&[u8]>
+        ensures { option_copied result ≡ slice_get self.now index }
+    {
+        match self.names.get_index(index) {
+            Some(name) => Some(name.as_slice()),
+            None => None,
+        }
+    }
+}

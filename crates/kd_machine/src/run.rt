@@ -1,0 +1,115 @@
+ghost use Rattle.std.specs.Prelude.{◌≡◌, ◌<◌, ◌≤◌, IfOk, IsOk, IsSome, MatchOption, Some, length, slice_get};
+ghost use Rattle.std.specs.List.{AllByRecursion};
+ghost use Rattle.kd_machine.specs.Fits.{IsRunning};
+ghost use Rattle.kd_machine.specs.Run.{IsFree, Run, agrees, moves};
+ghost use Rattle.kd_machine.specs.World.{world};
+
+use crate::held::Held;
+use crate::stack::Stack;
+use crate::step::step;
+use crate::value::Value;
+use kd_options::Message;
+use kd_token::{Program, Token, Verified, Way};
+use std::alloc::{AllocError, Global};
+
+/// What a run gave.
+#[derive(Clone, Copy, Debug, PartialEq, Eq)]
+pub struct Outcome {
+    /// The program's truth value.
+    pub value: bool,
+    /// How many tokens were run.
+    pub steps: u32,
+    /// The greatest number of values on the stack.
+    pub peak_depth: u32,
+    /// The length of the longest byte string on the stack.
+    pub peak_length: u32,
+}
+
+/// Runs a verified program over a message, with the names of classes that are held. Takes memory for the
+/// values of `Concat`, `HexString`, `Lower`, `Upper` and `IntToText` alone.
+///
+/// # Errors
+///
+/// There is no memory for such a value.
+pub fn eval<'a>(
+    alloc: Global,
+    verified: &'a Verified,
+    message: &'a Message<'_>,
+    held: &Held,
+) -> Result<Outcome, AllocError>
+    ensures run { IfOk result (λ o. Run verified.now message.now held.now o.value o.steps o.peak_depth o.peak_length) }
+    ensures steps { IfOk result (λ o. o.steps ≤ verified.now.steps) }
+    ensures depth { IfOk result (λ o. o.peak_depth ≤ verified.now.depth) }
+    ensures length { IfOk result (λ o. o.peak_length ≤ verified.now.bound) }
+    ensures free { AllByRecursion IsFree verified.now.tokens → IsOk result }
+{
+    let program = verified.program();
+    let tokens = program.tokens();
+    // what the bounds of a message's values are comes with its length
+    let _size = message.len();
+    let mut stack = Stack::new();
+    let mut at = 0;
+    let mut steps = 0;
+    let mut peak_depth = 0usize;
+    let mut peak_length = 0usize;
+    'tokens: while at < tokens.len() {
+        at = advance(alloc, &mut stack, at, &tokens[at], program, message, held)?;
+        steps += 1;
+        peak_depth = peak_depth.max(stack.len());
+        peak_length = peak_length.max(stack.top_size());
+    }
+    Ok(Outcome {
+        value: stack.pop_truth(),
+        steps,
+        peak_depth: peak_depth as u32,
+        peak_length: peak_length as u32,
+    })
+}
+
+// Whether two truth values are the same.
+fn agrees(stays: bool, truth: bool) -> bool
+    ensures { result ≡ agrees stays truth }
+{
+    if stays { truth } else { !truth }
+}
+
+// The token at place `at` is run; where it leads.
+fn advance<'a>(
+    alloc: Global,
+    stack: &mut Stack<'a>,
+    at: usize,
+    token: &'a Token,
+    program: &'a Program,
+    message: &'a Message<'_>,
+    held: &Held,
+) -> Result<usize, AllocError>
+    requires near { at < 1024 }
+    requires room { MatchOption (moves (world program.now message.now held.now) token.now at stack.old) ⊥ (λ r. length r.1 ≤ 64) }
+    ensures moved { IfOk result (λ j. moves (world program.now message.now held.now) token.now at stack.old ≡ Some (j, stack.new)) }
+    ensures free { IsFree token.now → IsOk result }
+{
+    let next = at + 1;
+    match token.way() {
+        Way::On => {
+            step(alloc, stack, token, program, message, held)?;
+            Ok(next)
+        }
+        Way::Skip(skip) => Ok(next + usize::from(skip)),
+        Way::Fork(skip) => {
+            if stack.pop_truth() {
+                Ok(next)
+            } else {
+                Ok(next + usize::from(skip))
+            }
+        }
+        Way::Keep(stays, skip) => {
+            let truth = stack.pop_truth();
+            if agrees(stays, truth) {
+                stack.push(Value::Bool(truth));
+                Ok(next + usize::from(skip))
+            } else {
+                Ok(next)
+            }
+        }
+    }
+}

@@ -1,0 +1,133 @@
+ghost use Rattle.std.specs.Prelude.{◌≡◌, ◌≤◌, IsOk, IsSome, MatchOption, OnOk, Some, length};
+ghost use Rattle.kd_machine.specs.Run.{IsFree, rule};
+ghost use Rattle.kd_machine.specs.Strings.{substring};
+ghost use Rattle.kd_machine.specs.Values.{Text, take_text, value_of};
+ghost use Rattle.kd_machine.specs.World.{field_value, world};
+
+use crate::bounds::bounds;
+use crate::held::Held;
+use crate::stack::Stack;
+use crate::text::{decimal, hex_text, joined};
+use crate::value::{Owned, Small, Value};
+use kd_options::Message;
+use kd_token::{Field, Program, Token};
+use std::alloc::{AllocError, Global};
+
+// The value of a field of the message.
+fn field_value<'a>(message: &'a Message<'_>, field: Field) -> Value<'a>
+    ensures { value_of result ≡ field_value message.now field }
+{
+    let header = message.header();
+    match field {
+        Field::Mac => Value::Slice(message.mac()),
+        Field::Hlen => Value::Int(u32::from(header.hlen)),
+        Field::Htype => Value::Int(u32::from(header.htype)),
+        Field::Ciaddr => Value::Small(Small::new(header.ciaddr.to_be_bytes())),
+        Field::Giaddr => Value::Small(Small::new(header.giaddr.to_be_bytes())),
+        Field::Yiaddr => Value::Small(Small::new(header.yiaddr.to_be_bytes())),
+        Field::Siaddr => Value::Small(Small::new(header.siaddr.to_be_bytes())),
+        Field::MessageType => Value::Int(u32::from(message.kind().number())),
+        Field::Transaction => Value::Int(header.xid),
+        Field::Length => Value::Int(message.len() as u32),
+    }
+}
+
+// One token of a program is run; a branch leaves the values to its caller.
+#[tactic(auto, unfolding(crate::specs::Run::rule))]
+pub(crate) fn step<'a>(
+    alloc: Global,
+    stack: &mut Stack<'a>,
+    token: &'a Token,
+    program: &'a Program,
+    message: &'a Message<'_>,
+    held: &Held,
+) -> Result<(), AllocError>
+    requires room { MatchOption (rule (world program.now message.now held.now) token.now stack.old) ⊥ (λ t. length t ≤ 64) }
+    ensures ruled { OnOk result (rule (world program.now message.now held.now) token.now stack.old ≡ Some stack.new) }
+    ensures free { IsFree token.now → IsOk result }
+{
+    match token {
+        Token::PushBytes(bytes) => stack.push(Value::Slice(bytes.as_slice())),
+        Token::PushInt(number) => stack.push(Value::Int(*number)),
+        Token::PushOption(code) => {
+            stack.push(Value::Slice(message.option(*code).unwrap_or(&[])));
+        }
+        Token::PushRelay(code) => stack.push(Value::Slice(message.relay(*code).unwrap_or(&[]))),
+        Token::PushField(field) => stack.push(field_value(message, *field)),
+        Token::OptionExists(code) => stack.push(Value::Bool(message.option(*code).is_some())),
+        Token::RelayExists(code) => stack.push(Value::Bool(message.relay(*code).is_some())),
+        Token::Member(index) => match program.name_at(usize::from(*index)) {
+            Some(name) => stack.push(Value::Bool(held.contains(name))),
+            None => unreachable!(),
+        },
+        Token::Equal => {
+            let second = stack.pop_text();
+            let first = stack.pop_text();
+            stack.push(Value::Bool(first.as_slice() == second.as_slice()));
+        }
+        Token::Not => {
+            let truth = stack.pop_truth();
+            stack.push(Value::Bool(!truth));
+        }
+        Token::And => {
+            let second = stack.pop_truth();
+            let first = stack.pop_truth();
+            stack.push(Value::Bool(first && second));
+        }
+        Token::Or => {
+            let second = stack.pop_truth();
+            let first = stack.pop_truth();
+            stack.push(Value::Bool(first || second));
+        }
+        Token::IfElse => {
+            let second = stack.pop_text();
+            let first = stack.pop_text();
+            if stack.pop_truth() {
+                stack.push(first);
+            } else {
+                stack.push(second);
+            }
+        }
+        Token::Substring(start, count) => {
+            let mut value = stack.pop_text();
+            let (from, to) = bounds(*start, *count, value.as_slice().len());
+            value.narrow(from, to);
+            stack.push(value);
+        }
+        Token::Concat => {
+            let second = stack.pop_text();
+            let first = stack.pop_text();
+            let bytes = joined(alloc, first.as_slice(), second.as_slice())?;
+            stack.push(Value::Owned(Owned::new(bytes)));
+        }
+        Token::HexString => {
+            let separator = stack.pop_text();
+            let value = stack.pop_text();
+            let bytes = hex_text(alloc, value.as_slice(), separator.as_slice())?;
+            stack.push(Value::Owned(Owned::new(bytes)));
+        }
+        Token::Lower => {
+            let value = stack.pop_text();
+            let bytes = value.as_slice().to_ascii_lowercase(alloc)?;
+            stack.push(Value::Owned(Owned::new(bytes)));
+        }
+        Token::Upper => {
+            let value = stack.pop_text();
+            let bytes = value.as_slice().to_ascii_uppercase(alloc)?;
+            stack.push(Value::Owned(Owned::new(bytes)));
+        }
+        Token::IntToText => {
+            let bytes = decimal(alloc, stack.pop_number())?;
+            stack.push(Value::Owned(Owned::new(bytes)));
+        }
+        Token::IntBytes => {
+            let number = stack.pop_number();
+            stack.push(Value::Small(Small::new(number.to_be_bytes())));
+        }
+        Token::Branch(_) => {}
+        Token::PopBranchFalse(_) | Token::BranchFalseElsePop(_) | Token::BranchTrueElsePop(_) => {
+            stack.pop_truth();
+        }
+    }
+    Ok(())
+}

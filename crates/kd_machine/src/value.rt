@@ -1,0 +1,152 @@
+ghost use Rattle.std.specs.Prelude.{◌≡◌, ℕ, ◌≤◌, List, length, slice_range};
+ghost use Rattle.kd_machine.specs.Values.{IsText, Text, size, value_of};
+
+use std::marker::Model;
+
+// A value on the stack. A byte string is a part of the message or of the program, four bytes held in place,
+// or bytes of its own.
+#[derive(Drop, Default)]
+pub(crate) enum Value<'a> {
+    #[default]
+    Nothing,
+    Bool(bool),
+    Int(u32),
+    Slice(&'a [u8]),
+    Small(Small),
+    Owned(Owned),
+}
+
+impl<'a> Value<'a> {
+    // The byte string.
+    pub(crate) fn as_slice(&self) -> &[u8]
+        requires { IsText (value_of self.now) }
+        ensures { value_of self.now ≡ Text result.now }
+    {
+        match self {
+            Value::Slice(bytes) => bytes,
+            Value::Small(small) => small.as_slice(),
+            Value::Owned(owned) => owned.as_slice(),
+            _ => unreachable!(),
+        }
+    }
+
+    // The length of a byte string, and 0 of what is none.
+    pub(crate) fn len(&self) -> usize
+        ensures { result ≡ size (value_of self.now) }
+    {
+        match self {
+            Value::Slice(bytes) => bytes.len(),
+            Value::Small(small) => small.as_slice().len(),
+            Value::Owned(owned) => owned.as_slice().len(),
+            _ => 0,
+        }
+    }
+
+    // The byte string becomes a part of itself.
+    pub(crate) fn narrow(&mut self, from: usize, to: usize)
+        requires text { IsText (value_of self.old) }
+        requires order { from ≤ to }
+        requires within { to ≤ size (value_of self.old) }
+        ensures { (bytes : List ℕ) → value_of self.old ≡ Text bytes → value_of self.new ≡ Text (slice_range bytes from to) }
+    {
+        match self {
+            Value::Slice(bytes) => *bytes = &bytes[from..to],
+            Value::Small(small) => small.narrow(from, to),
+            Value::Owned(owned) => owned.narrow(from, to),
+            _ => unreachable!(),
+        }
+    }
+}
+
+// A part of four bytes that are held in place.
+#[derive(Drop)]
+pub(crate) struct Small {
+    bytes: [u8; 4],
+    start: usize,
+    end: usize,
+}
+
+impl Model for Small {
+    ghost use Rattle.std.specs.Prelude.{ℕ, ◌≤◌, List, slice_range};
+
+    ghost Value = { List ℕ };
+
+    ghost view = { λ s. slice_range s.bytes s.start s.end };
+
+    ghost invariant = { λ s. (s.start ≤ s.end) × (s.end ≤ 4) };
+}
+
+impl Small {
+    // These four bytes.
+    pub(crate) fn new(bytes: [u8; 4]) -> Small
+        ensures { result ≡ bytes }
+    {
+        Small {
+            bytes,
+            start: 0,
+            end: 4,
+        }
+    }
+
+    fn as_slice(&self) -> &[u8]
+        ensures { result.now ≡ self.now }
+    {
+        &self.bytes[self.start..self.end]
+    }
+
+    fn narrow(&mut self, from: usize, to: usize)
+        requires order { from ≤ to }
+        requires within { to ≤ length self.old }
+        ensures { self.new ≡ slice_range self.old from to }
+    {
+        self.end = self.start + to;
+        self.start = self.start + from;
+    }
+}
+
+// A part of bytes of its own.
+#[derive(Drop)]
+pub(crate) struct Owned {
+    bytes: Vec<u8>,
+    start: usize,
+    end: usize,
+}
+
+impl Model for Owned {
+    ghost use Rattle.std.specs.Prelude.{ℕ, ◌≤◌, List, length, slice_range};
+
+    ghost Value = { List ℕ };
+
+    ghost view = { λ s. slice_range s.bytes.items s.start s.end };
+
+    ghost invariant = { λ s. (s.start ≤ s.end) × (s.end ≤ length s.bytes.items) };
+}
+
+impl Owned {
+    // These bytes.
+    pub(crate) fn new(bytes: Vec<u8>) -> Owned
+        ensures { result ≡ bytes.items }
+    {
+        let end = bytes.len();
+        Owned {
+            bytes,
+            start: 0,
+            end,
+        }
+    }
+
+    fn as_slice(&self) -> &[u8]
+        ensures { result.now ≡ self.now }
+    {
+        &self.bytes[self.start..self.end]
+    }
+
+    fn narrow(&mut self, from: usize, to: usize)
+        requires order { from ≤ to }
+        requires within { to ≤ length self.old }
+        ensures { self.new ≡ slice_range self.old from to }
+    {
+        self.end = self.start + to;
+        self.start = self.start + from;
+    }
+}
