@@ -7,3 +7,4 @@ pub mod Orders
 pub mod Shown
 pub mod TextLine
 pub mod Top
+pub mod Typed

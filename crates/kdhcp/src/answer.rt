@@ -1,14 +1,16 @@
 ghost use Rattle.std.specs.Prelude.{◌≡◌, ◌++◌, IfOk, codes, string_bytes};
 ghost use Rattle.std.specs.Fmt.{decimal};
 ghost use Rattle.hex.specs.Hex.{decode_of};
+ghost use Rattle.kd_expr.specs.View.{tree_of};
 ghost use Rattle.kdhcp.specs.Printed.{Answers, IsPrinted, IsRefusal, IsSuccess, ShowsDatagram};
-ghost use Rattle.kdhcp.specs.Printed.{ShowsDecoded};
+ghost use Rattle.kdhcp.specs.Printed.{ShowsDecoded, TypesText, TypesTree};
 ghost use Rattle.kdhcp.specs.Show.{line_feed};
 
 use crate::order::{LineFault, Order};
 use crate::show::show;
 use crate::status::exit_status;
 use hex::FromHexError;
+use kd_expr::{Expr, ExprFault};
 use kd_options::{Message, ReadFault};
 use kd_wire::Bytes;
 use std::alloc::{AllocError, Global};
@@ -37,6 +39,7 @@ pub fn answer(alloc: Global, order: &Order) -> Result<Printed, AllocError>
     match order {
         Order::Help(text) => Ok(success(alloc, text.clone()?)),
         Order::Show { hex } => answer_show(alloc, hex.as_str()),
+        Order::Expr { text } => answer_expr(alloc, text.as_str()),
         Order::Replay => unreachable!(),
     }
 }
@@ -64,6 +67,32 @@ fn show_datagram(alloc: Global, bytes: &[u8]) -> Result<Printed, AllocError>
         Ok(message) => Ok(success(alloc, show(alloc, &message)?)),
         Err(ReadFault::Memory) => Err(AllocError),
         Err(fault) => refusal(alloc, fault.number(), &fault),
+    }
+}
+
+// How many nodes the class test in a word has.
+fn answer_expr(alloc: Global, word: &str) -> Result<Printed, AllocError>
+    ensures { IfOk result (TypesText word.now) }
+{
+    match kd_expr::read(alloc, word.as_bytes()) {
+        Ok(expr) => type_expr(alloc, expr),
+        Err(fault) => match fault {
+            ExprFault::Memory => Err(AllocError),
+            _ => refusal(alloc, fault.number(), &fault),
+        },
+    }
+}
+
+// How many nodes an expression has that is a class test, or the first fault of its type.
+fn type_expr(alloc: Global, expr: Expr) -> Result<Printed, AllocError>
+    ensures { IfOk result (TypesTree (tree_of expr)) }
+{
+    match kd_expr::type_of(expr) {
+        Ok(test) => {
+            let nodes = test.nodes();
+            Ok(success(alloc, format!(in alloc; "bool {nodes}\n")?))
+        }
+        Err((fault, _)) => refusal(alloc, fault.number(), &fault),
     }
 }
 

@@ -15,6 +15,11 @@ pub enum Order {
         /// The datagram's bytes, as the word gives them.
         hex: String,
     },
+    /// The number of nodes of one class test.
+    Expr {
+        /// The class test, as the word gives it.
+        text: String,
+    },
     /// The events of standard input, replayed.
     Replay,
 }
