@@ -48,27 +48,39 @@ const REFUSED: [(&str, &str); 20] = [
     ("0a0b", "fault 20 BadToken 0\n"),
 ];
 
-// What is written so many times, what stands behind it, what closes it as often, and what comes out: the
-// line on standard output, and the fault line.
-const LONG: [(&str, usize, &str, &str, &str, &str); 11] = [
-    ("''+", 1362, "''==''", "", "bool 2727\n", ""),
-    ("concat('a',", 63, "'a'", ")", "bool 129\n", ""),
-    ("concat('a',", 64, "'a'", ")", "bool 131\n", ""),
+// What is written so many times, what stands behind it, what closes it as often, and the end; how often; and
+// what comes out: the line on standard output, and the fault line.
+const LONG: [([&str; 4], usize, &str, &str); 15] = [
+    (["''+", "''==''", "", ""], 1362, "bool 2727\n", ""),
+    (["''+", "''==''", "", " "], 1362, "bool 2727\n", ""),
+    (["", "not ''", "+''", " == ''"], 510, "bool 1024\n", ""),
+    (["", "''", "+''", " == ''"], 511, "bool 1025\n", ""),
+    (["concat('a',", "'a'", ")", " == 'a'"], 63, "bool 129\n", ""),
+    (["concat('a',", "'a'", ")", " == 'a'"], 64, "bool 131\n", ""),
     (
-        "concat('a',",
+        ["concat('a',", "'a'", ")", " == 'a'"],
         65,
-        "'a'",
-        ")",
         "",
         "fault 23 TooNested 710\n",
     ),
-    ("(", 64, "member('a')", ")", "", "fault 23 TooNested 70\n"),
-    ("(", 63, "member('a')", ")", "bool 64\n", ""),
-    ("(", 65, "", "", "", "fault 23 TooNested 64\n"),
-    ("not ", 64, "(", "", "", "fault 23 TooNested 256\n"),
-    (" ", 4079, "option[60].exists", "", "bool 1\n", ""),
-    (" ", 4080, "option[60].exists", "", "", "fault 24 TooLong\n"),
-    (" ", 4097, "", "", "", "fault 24 TooLong\n"),
+    (["(", "member('a')", ")", ""], 63, "bool 64\n", ""),
+    (
+        ["(", "member('a')", ")", ""],
+        64,
+        "",
+        "fault 23 TooNested 70\n",
+    ),
+    (["(", "", "", ""], 65, "", "fault 23 TooNested 64\n"),
+    (["not ", "(", "", ""], 64, "", "fault 23 TooNested 256\n"),
+    ([" ", "option[60].exists", "", ""], 4079, "bool 1\n", ""),
+    (
+        [" ", "option[60].exists", "", ""],
+        4080,
+        "",
+        "fault 24 TooLong\n",
+    ),
+    ([" ", "", "", ""], 4096, "", "fault 21 Expected 4096\n"),
+    ([" ", "", "", ""], 4097, "", "fault 24 TooLong\n"),
 ];
 
 fn typed(alloc: Global, text: &str) -> Result<Printed, AllocError> {
@@ -92,26 +104,25 @@ fn expr_prints_the_fault_of_a_text(rt: HostRuntime) -> Result<(), Fail> {
     Ok(())
 }
 
+// A text so many times behind another.
+fn repeat(text: &mut String, part: &str, count: usize) -> Result<(), AllocError> {
+    for _ in 0..count {
+        text.push_str(part)?;
+    }
+    Ok(())
+}
+
 #[test]
 fn expr_takes_long_and_nested_texts(rt: HostRuntime) -> Result<(), Fail> {
-    for (front, count, middle, back, line, fault) in LONG {
+    for ([front, middle, back, end], count, line, fault) in LONG {
         let mut text = String::new(rt.alloc());
-        for _ in 0..count {
-            text.push_str(front)?;
-        }
+        repeat(&mut text, front, count)?;
         text.push_str(middle)?;
-        for _ in 0..count {
-            text.push_str(back)?;
-        }
-        if front == "concat('a'," {
-            text.push_str(" == 'a'")?;
-        }
+        repeat(&mut text, back, count)?;
+        text.push_str(end)?;
         let status = if fault.is_empty() { 0 } else { 3 };
         let printed = typed(rt.alloc(), text.as_str())?;
-        assert!(rt;
-            prints(&printed, line, fault, status),
-            "{front} {count} times"
-        );
+        assert!(rt; prints(&printed, line, fault, status), "{count} times");
     }
     Ok(())
 }
