@@ -15,11 +15,18 @@ use Rattle.kd_options.specs.Faults.{read_fault_number}
 use Rattle.kd_options.specs.Message.{Seen, Reads, IsFirstFault}
 use Rattle.kd_options.specs.declared.fault.ReadFault.{ReadFault}
 use Rattle.kd_options.specs.declared.fault.ReadFault.TheVariants.{Memory}
+use Rattle.kd_token.specs.Accepts.{Accepts, IsVerifyFault}
+use Rattle.kd_token.specs.Faults.{file_fault_number, verify_fault_number}
+use Rattle.kd_token.specs.File.{Code, IsFileOf}
+use Rattle.kd_token.specs.declared.fault.FileFault.{FileFault}
+use Rattle.kd_token.specs.declared.fault.FileFault.TheVariants as file
+use Rattle.kd_token.specs.declared.fault.VerifyFault.{VerifyFault}
+use Rattle.kd_token.specs.declared.fault.VerifyFault.TheVariants as verifying
 use Rattle.kdhcp.specs.Show.{show_text, line_feed}
 use Rattle.kdhcp.specs.Status.{status_of}
 use Rattle.kdhcp.specs.declared.answer.Printed.{Printed}
 use Rattle.kdhcp.specs.declared.order.Order.{Order}
-use Rattle.kdhcp.specs.declared.order.Order.TheVariants.{Help, Show, Expr, Replay}
+use Rattle.kdhcp.specs.declared.order.Order.TheVariants.{Help, Show, Expr, Verify, Replay}
 
 -- this text and nothing else
 pub record IsSuccess (text : List ℕ) (p : Printed) : Type 0 where
@@ -73,11 +80,46 @@ pub record TypesText (text : List ℕ) (p : Printed) : Type 0 where
   pub readable : (tree : Tree) → Parses text tree → TypesTree tree p
   pub refused : ((tree : Tree) → Parses text tree → ⊥) → IsUnread text p
 
+-- an accepted program's line: what it declares, and the number of its tokens
+abbrev pub accepted_line : Code → List ℕ
+accepted_line c =
+    codes "accepted steps " ++ decimal c.steps ++ codes " depth " ++ decimal c.depth ++ codes " length " ++ decimal c.bound
+    ++ codes " tokens " ++ decimal (length c.tokens) ++ line_feed
+
+-- a program is refused for a fault that it has, which is not want of memory
+pub record IsUnaccepted (c : Code) (p : Printed) : Type 0 where
+  pub fault : VerifyFault
+  pub first : IsVerifyFault c fault
+  pub ours : fault ≢ verifying.Memory
+  pub line : IsRefusal (verify_fault_number fault) p
+
+-- what a program declares, where it is accepted, and else a fault that it has
+pub record VerifiesProgram (c : Code) (p : Printed) : Type 0 where
+  pub accepted : Accepts c → IsSuccess (accepted_line c) p
+  pub refused : (Accepts c → ⊥) → IsUnaccepted c p
+
+-- bytes are refused for a fault of their reading, which is not want of memory
+pub record IsNoFile (p : Printed) : Type 0 where
+  pub fault : FileFault
+  pub ours : fault ≢ file.Memory
+  pub line : IsRefusal (file_fault_number fault) p
+
+-- what the program of a token file declares, where the bytes are one, and else the fault of their reading
+pub record VerifiesFile (bytes : List ℕ) (p : Printed) : Type 0 where
+  pub readable : (c : Code) → IsFileOf bytes c → VerifiesProgram c p
+  pub refused : ((c : Code) → IsFileOf bytes c → ⊥) → IsNoFile p
+
+-- the same of a word; one that is not hexadecimal is a mistake on the command line
+abbrev pub VerifiesDecoded : Result (List ℕ) FromHexError → Printed → Type 0
+VerifiesDecoded (Ok bytes) p = VerifiesFile bytes p
+VerifiesDecoded (Err error) p = IsRefusal 98 p
+
 -- the order prints something that its words alone tell
 abbrev pub IsPrinted : Order → Type 0
 IsPrinted (Help text) = Unit {0}
 IsPrinted (Show hex) = Unit {0}
 IsPrinted (Expr text) = Unit {0}
+IsPrinted (Verify hex) = Unit {0}
 IsPrinted Replay = ⊥
 
 -- what each such order prints
@@ -85,4 +127,5 @@ abbrev pub Answers : Order → Printed → Type 0
 Answers (Help text) p = IsSuccess (string_bytes text) p
 Answers (Show hex) p = ShowsDecoded (decode_of (string_bytes hex)) p
 Answers (Expr text) p = TypesText (string_bytes text) p
+Answers (Verify hex) p = VerifiesDecoded (decode_of (string_bytes hex)) p
 Answers Replay p = ⊥

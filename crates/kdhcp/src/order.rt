@@ -20,6 +20,11 @@ pub enum Order {
         /// The class test, as the word gives it.
         text: String,
     },
+    /// Whether the program of one token file is accepted.
+    Verify {
+        /// The file's bytes, as the word gives them.
+        hex: String,
+    },
     /// The events of standard input, replayed.
     Replay,
 }

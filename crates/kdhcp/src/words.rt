@@ -6,7 +6,7 @@ ghost use Rattle.clap.specs.declared.builder.command.Command.TheViews.{out-Comma
 ghost use Rattle.kdhcp.specs.Line.{IsHelpLine, IsLine};
 ghost use Rattle.kdhcp.specs.Order.{Asked, Asks, AsksFor, GivesUnlessFull, HasFault};
 ghost use Rattle.kdhcp.specs.Order.{HelpsUnlessFull, asked_of, command_line, replay_line};
-ghost use Rattle.kdhcp.specs.Order.{expr_line, show_line, shows, types};
+ghost use Rattle.kdhcp.specs.Order.{expr_line, show_line, shows, types, verifies, verify_line};
 ghost use Rattle.kdhcp.specs.Steps.{AnswersKind, GivesIfThere};
 
 use crate::order::{LineFault, Order};
@@ -46,6 +46,7 @@ fn kdhcp<'a>(alloc: Global) -> Result<Command<'a>, AllocError>
         .subcommand_required(true)
         .subcommand(show(alloc)?)?
         .subcommand(expr(alloc)?)?
+        .subcommand(verify(alloc)?)?
         .subcommand(replay(alloc))
 }
 
@@ -75,6 +76,19 @@ fn expr<'a>(alloc: Global) -> Result<Command<'a>, AllocError>
         .arg(text)
 }
 
+// `verify HEX`.
+fn verify<'a>(alloc: Global) -> Result<Command<'a>, AllocError>
+    ensures app { IfOk result (λ c. app_of c ≡ verify_line) }
+    ensures local { IfOk result (λ c. (out-Command c).has_globals ≡ false) }
+{
+    let file = Arg::new(alloc, "HEX")
+        .help("The bytes of a token file, two hexadecimal digits each")
+        .required(true);
+    Command::new(alloc, "verify")
+        .about("Verify the program of one token file, and print what it declares")
+        .arg(file)
+}
+
 // `replay`.
 fn replay<'a>(alloc: Global) -> Command<'a>
     ensures app { app_of result ≡ replay_line }
@@ -90,6 +104,7 @@ fn asked_for(alloc: Global, matches: &ArgMatches<'_>) -> Result<Order, LineFault
     match matches.subcommand() {
         Some(("show", inner)) => shown(alloc, inner),
         Some(("expr", inner)) => typed(alloc, inner),
+        Some(("verify", inner)) => verified(alloc, inner),
         Some(("replay", _)) => Ok(Order::Replay),
         _ => Err(LineFault::CommandLine),
     }
@@ -113,6 +128,17 @@ fn typed(alloc: Global, matches: &ArgMatches<'_>) -> Result<Order, LineFault>
 {
     match text_of(alloc, matches, "TEXT")? {
         Some(text) => Ok(Order::Expr { text }),
+        None => Err(LineFault::CommandLine),
+    }
+}
+
+// What matches of `verify` ask for.
+fn verified(alloc: Global, matches: &ArgMatches<'_>) -> Result<Order, LineFault>
+    ensures { GivesIfThere (option_map (λ hex. verifies hex)
+        (first_value (found_of matches.now) (codes "HEX"))) result }
+{
+    match text_of(alloc, matches, "HEX")? {
+        Some(hex) => Ok(Order::Verify { hex }),
         None => Err(LineFault::CommandLine),
     }
 }

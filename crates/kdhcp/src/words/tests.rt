@@ -48,6 +48,23 @@ fn expr_has_its_text(rt: HostRuntime) {
 }
 
 #[test]
+fn verify_has_its_text(rt: HostRuntime) {
+    let rows: [(&[&str], &str); 5] = [
+        (&["verify", "4b34544b"], "4b34544b"),
+        (&["verify", "no hexadecimal"], "no hexadecimal"),
+        (&["verify", "--", "-a"], "-a"),
+        (&["verify", "4b", "--"], "4b"),
+        (&["verify", ""], ""),
+    ];
+    for (words, wanted) in rows {
+        match read(&rt, words) {
+            Ok(Order::Verify { hex }) => assert_eq!(rt; hex.as_str(), wanted),
+            other => panic!(rt; "{words:?}: {other:?}"),
+        }
+    }
+}
+
+#[test]
 fn replay_is_an_order(rt: HostRuntime) {
     let rows: [&[&str]; 2] = [&["replay"], &["replay", "--"]];
     for words in rows {
@@ -60,7 +77,7 @@ fn replay_is_an_order(rt: HostRuntime) {
 
 #[test]
 fn help_is_an_order(rt: HostRuntime) {
-    let rows: [(&[&str], &str); 15] = [
+    let rows: [(&[&str], &str); 18] = [
         (&["--help"], "Usage: kdhcp <COMMAND>"),
         (&["-h"], "Usage: kdhcp <COMMAND>"),
         (&["help"], "Usage: kdhcp <COMMAND>"),
@@ -72,6 +89,9 @@ fn help_is_an_order(rt: HostRuntime) {
         (&["expr", "--help"], "Usage: kdhcp expr <TEXT>"),
         (&["expr", "-h"], "Usage: kdhcp expr <TEXT>"),
         (&["expr", "a", "--help"], "Usage: kdhcp expr <TEXT>"),
+        (&["help", "verify"], "Usage: kdhcp verify <HEX>"),
+        (&["verify", "--help"], "Usage: kdhcp verify <HEX>"),
+        (&["verify", "a", "-h"], "Usage: kdhcp verify <HEX>"),
         (&["help", "replay"], "Usage: kdhcp replay"),
         (&["replay", "--help"], "Usage: kdhcp replay"),
         (&["replay", "-h"], "Usage: kdhcp replay"),
@@ -87,7 +107,7 @@ fn help_is_an_order(rt: HostRuntime) {
 
 #[test]
 fn other_words_are_a_mistake(rt: HostRuntime) {
-    let rows: [&[&str]; 23] = [
+    let rows: [&[&str]; 27] = [
         &[],
         &["--", "show", "a"],
         &["--help=yes"],
@@ -100,6 +120,10 @@ fn other_words_are_a_mistake(rt: HostRuntime) {
         &["expr", "-1 == 1"],
         &["expr", "--nope"],
         &["--", "expr", "a"],
+        &["verify"],
+        &["verify", "4b", "34"],
+        &["verify", "-a"],
+        &["verify", "--nope"],
         &["--nope"],
         &["nope"],
         &["--version"],
