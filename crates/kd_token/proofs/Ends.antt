@@ -1,15 +1,15 @@
 -- Where the pass ends: at a place that cannot be sound, or at the end of the program.
-use Rattle.std.proofs.Common.{◌≡◌, ℕ, ◌+◌, ◌<◌, ◌≤◌, List, [], ◌∷◌, length, Option, Some, None, refl, sym, ap, subst, ◌∙◌, arith}
+use Rattle.std.proofs.Common.{◌≡◌, ℕ, ◌+◌, ◌≤◌, List, length, Option, Some, None, refl, subst, arith}
 use Rattle.std.specs.Prelude.{slice_get, MatchOption}
 use Rattle.std.specs.List.{AllByRecursion}
+use Rattle.kd_token.specs.declared.fault.VerifyFault.{VerifyFault}
+use Rattle.kd_token.specs.declared.fault.VerifyFault.TheVariants as faults
 use Rattle.kd_token.specs.declared.shape.Kind.{Kind}
-use Rattle.kd_token.specs.declared.shape.Kind.TheVariants as kinds
 use Rattle.kd_token.specs.declared.token.Token.{Token}
 use Rattle.kd_token.specs.declared.table.Entry.{Entry}
-use Rattle.kd_token.specs.declared.table.Entry.TheVariants.{Unreached, Joined, Clash}
+use Rattle.kd_token.specs.declared.table.Entry.TheVariants.{Joined, Clash}
 use Rattle.kd_token.specs.File.{Code}
-use Rattle.kd_token.specs.Shape.{Covers}
-use Rattle.kd_token.specs.Accepts.{Point, Flow, Assignment, flows, leaving, out, origin, IsCovered, IsWithin, IsSound, AreSound, IsFaultAt, IsTooManySteps, IsNoFinish, Accepts}
+use Rattle.kd_token.specs.Accepts.{Point, Flow, Assignment, flows, leaving, IsWithin, IsSound, AreSound, IsFaultAt, IsTooManySteps, IsNoFinish, IsVerifyFault, Accepts}
 use Rattle.kd_token.specs.Table.{IsBelow, IsPassed}
 use Rattle.kd_token.proofs.Down.{Down}
 use Rattle.kd_token.proofs.FlowsDown.{EachBelow, flows_down, within_down}
@@ -57,3 +57,14 @@ steps_refuse p f a = f.1 a.0 a.1 a.2
 
 pub finish_refuses : (p : Code) → IsNoFinish p → Accepts p → ⊥
 finish_refuses p f a = f.1 a.0 a.1 a.2 a.3
+
+-- an accepted program has no fault but want of memory
+pub memory_alone : (p : Code) (fault : VerifyFault) → IsVerifyFault p fault → Accepts p → fault ≡ faults.Memory
+memory_alone p (faults.Short at) f a = absurd (fault_refuses p at f a)
+memory_alone p (faults.Kind at) f a = absurd (fault_refuses p at f a)
+memory_alone p (faults.Deep at) f a = absurd (fault_refuses p at f a)
+memory_alone p (faults.Long at) f a = absurd (fault_refuses p at f a)
+memory_alone p (faults.Name at) f a = absurd (fault_refuses p at f a)
+memory_alone p faults.Steps f a = absurd (steps_refuse p f a)
+memory_alone p faults.Finish f a = absurd (finish_refuses p f a)
+memory_alone p faults.Memory f a = refl

@@ -1,5 +1,5 @@
 -- From a point below another the flows are below the other's, and within what is declared where those are.
-use Rattle.std.proofs.Common.{◌≡◌, ℕ, ◌+◌, ◌<◌, ◌≤◌, List, [], ◌∷◌, length, Option, Some, None, refl, sym, ap, ◌∙◌, arith}
+use Rattle.std.proofs.Common.{◌≡◌, ℕ, ◌+◌, ◌≤◌, List, [], ◌∷◌, length, Some, refl, arith}
 use Rattle.std.specs.List.{AllByRecursion}
 use Rattle.kd_token.specs.declared.shape.Kind.{Kind}
 use Rattle.kd_token.specs.declared.shape.Kind.TheVariants as kinds
@@ -7,7 +7,6 @@ use Rattle.kd_token.specs.declared.token.Token.{Token}
 use Rattle.kd_token.specs.declared.way.Way.{Way}
 use Rattle.kd_token.specs.declared.way.Way.TheVariants as routes
 use Rattle.kd_token.specs.File.{Code}
-use Rattle.kd_token.specs.Reading.{◌>>=◌}
 use Rattle.kd_token.specs.Shape.{CoversKind, Covers, IsShortKind, AreShort, gives, take_bool}
 use Rattle.kd_token.specs.Accepts.{Point, Flow, flow_to, way_of, flows_by, flows, IsWithin}
 use Rattle.kd_token.proofs.Down.{Down, bind_down, bool_down, gives_down}

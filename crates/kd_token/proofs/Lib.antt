@@ -8,4 +8,7 @@ pub mod Passing
 pub mod FlowsDown
 pub mod Arrivals
 pub mod Passes
+pub mod Keeps
+pub mod Tidy
 pub mod Ends
+pub mod Visits

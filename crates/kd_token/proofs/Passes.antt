@@ -1,9 +1,8 @@
 -- One step of the pass keeps what the pass keeps.
-use Rattle.std.proofs.Common.{◌≡◌, ℕ, ◌+◌, ◌<◌, ◌≤◌, Bool, true, false, List, [], ◌∷◌, length, Option, Some, None, refl, sym, ap, subst, ◌∙◌, arith, inl, inr}
-use Rattle.std.specs.Prelude.{◌⊎◌, ◌==◌, if◌then◌else◌, slice_get, MatchOption}
+use Rattle.std.proofs.Common.{◌≡◌, ℕ, ◌+◌, ◌<◌, ◌≤◌, true, List, [], ◌∷◌, length, Option, Some, None, refl, sym, ap, subst, ◌∙◌, arith, inl, inr}
+use Rattle.std.specs.Prelude.{◌⊎◌, ◌==◌, slice_get, MatchOption}
 use Rattle.std.specs.List.{AllByRecursion}
 use Rattle.std.proofs.lemmas.Bool.{cases_lt, eq-eqb}
-use Rattle.kd_token.specs.declared.shape.Kind.{Kind}
 use Rattle.kd_token.specs.declared.token.Token.{Token}
 use Rattle.kd_token.specs.declared.table.Entry.{Entry}
 use Rattle.kd_token.specs.declared.table.Entry.TheVariants.{Unreached, Joined, Clash}
@@ -12,15 +11,15 @@ use Rattle.kd_token.specs.Shape.{Covers}
 use Rattle.kd_token.specs.Accepts.{Point, Flow, Assignment, flows, leaving, out, origin, IsCovered, IsWithin, IsSound, AreSound}
 use Rattle.kd_token.specs.Table.{spread, IsBelow, IsCoveredBy, Arrives, IsPassed, IsPoint}
 use Rattle.kd_token.proofs.Down.{Down}
-use Rattle.kd_token.proofs.FlowsDown.{EachBelow, FlowBelow, flows_down}
+use Rattle.kd_token.proofs.FlowsDown.{EachBelow, flows_down}
 use Rattle.kd_token.proofs.Passing.{changed, changed_else, leaving_beyond, none_back, sound_changed}
 use Rattle.kd_token.proofs.Arrivals.{covers_trans, spread_least, spread_keeps, spread_covers}
 
-changed_there : (a : Assignment) (n : ℕ) (x : Option Point) → changed a n x n ≡ x
+pub changed_there : (a : Assignment) (n : ℕ) (x : Option Point) → changed a n x n ≡ x
 changed_there a n x = let same : (n == n) ≡ true = eq-eqb n n refl in rw same refl
 
 -- what holds of each flow of a row, where one fact gives the other
-all_map : (P Q : Flow → Type 0) (o : Option (List Flow)) → ((f : Flow) → P f → Q f) → MatchOption o (Unit {0}) (AllByRecursion P) → MatchOption o (Unit {0}) (AllByRecursion Q)
+pub all_map : (P Q : Flow → Type 0) (o : Option (List Flow)) → ((f : Flow) → P f → Q f) → MatchOption o (Unit {0}) (AllByRecursion P) → MatchOption o (Unit {0}) (AllByRecursion Q)
 all_map P Q None h a = tt
 all_map P Q (Some fs) h a = each fs a where
   each : (fs : List Flow) → AllByRecursion P fs → AllByRecursion Q fs
@@ -79,15 +78,9 @@ some_leave : (P : List Flow → Type 0) (o : Option (List Flow)) → MatchOption
 some_leave P None l = absurd l
 some_leave P (Some gs) l = tt
 
--- the pass goes on where the flows of the point that has arrived are within what is declared
-pub passed_on : (p : Code) (n : ℕ) (entries : ℕ → Entry) (x : Option Point) (fs : List Flow) → IsPassed p n entries → IsPoint (entries n) x → leaving (length p.names) (slice_get p.tokens n) n x ≡ Some fs → AllByRecursion (IsWithin p) fs → IsPassed p (n + 1) (spread fs entries)
-passed_on p n entries x fs k is at within = record {
-  least = least;
-  some = some;
-  sound = sound;
-  covers = covers;
-  first = λ e. absurd (omega (arith, e));
-} where
+-- the assignment goes on to the point that has arrived, where its flows are within what is declared
+pub sound_on : (p : Code) (n : ℕ) (entries : ℕ → Entry) (x : Option Point) (fs : List Flow) (k : IsPassed p n entries) → IsPoint (entries n) x → leaving (length p.names) (slice_get p.tokens n) n x ≡ Some fs → AllByRecursion (IsWithin p) fs → AreSound p (changed k.some n x) (n + 1)
+sound_on p n entries x fs k is at within = sound where
   some : Assignment
   some = changed k.some n x
 
@@ -127,6 +120,24 @@ passed_on p n entries x fs k is at within = record {
 
   sound : AreSound p some (n + 1)
   sound j less = sound_by j less (cases_lt j n)
+
+-- the pass goes on where the flows of the point that has arrived are within what is declared
+pub passed_on : (p : Code) (n : ℕ) (entries : ℕ → Entry) (x : Option Point) (fs : List Flow) → IsPassed p n entries → IsPoint (entries n) x → leaving (length p.names) (slice_get p.tokens n) n x ≡ Some fs → AllByRecursion (IsWithin p) fs → IsPassed p (n + 1) (spread fs entries)
+passed_on p n entries x fs k is at within = record {
+  least = least;
+  some = some;
+  sound = sound_on p n entries x fs k is at within;
+  covers = covers;
+  first = λ e. absurd (omega (arith, e));
+} where
+  some : Assignment
+  some = changed k.some n x
+
+  out_there : out p some n ≡ Some fs
+  out_there = ap (leaving (length p.names) (slice_get p.tokens n) n) (changed_there k.some n x) ∙ at
+
+  before_is : (i : ℕ) → i < n → out p k.some i ≡ out p some i
+  before_is i less = ap (leaving (length p.names) (slice_get p.tokens i) i) (sym (changed_else k.some n x i (λ e. omega (arith, e, less))))
 
   covers_by : (j : ℕ) → n + 1 ≤ j → (i : ℕ) → i < n + 1 → (i < n) ⊎ (n ≤ i) → MatchOption (out p some i) (Unit {0}) (AllByRecursion (λ f. f.to ≡ j → IsCoveredBy (spread fs entries j) f.point))
   covers_by j le i less (inl before) =

@@ -1,5 +1,5 @@
 -- Flows go forward, so an assignment may be changed at a place without the places before it.
-use Rattle.std.proofs.Common.{◌≡◌, ℕ, ◌+◌, ◌<◌, ◌≤◌, Bool, true, false, List, [], ◌∷◌, length, Option, Some, None, refl, sym, ap, subst, ◌∙◌, arith, inl, inr}
+use Rattle.std.proofs.Common.{◌≡◌, ℕ, ◌+◌, ◌<◌, ◌≤◌, false, List, [], ◌∷◌, length, Option, Some, None, refl, sym, ap, subst, ◌∙◌, arith, inl, inr}
 use Rattle.std.specs.Prelude.{◌⊎◌, ◌==◌, if◌then◌else◌, slice_get, MatchOption}
 use Rattle.std.specs.List.{AllByRecursion}
 use Rattle.std.proofs.lemmas.Bool.{cases_lt, ne_eqb}
@@ -11,7 +11,7 @@ use Rattle.kd_token.specs.declared.way.Way.TheVariants as routes
 use Rattle.kd_token.specs.File.{Code}
 use Rattle.kd_token.specs.Reading.{◌>>=◌}
 use Rattle.kd_token.specs.Shape.{gives, take_bool}
-use Rattle.kd_token.specs.Accepts.{Point, Flow, Assignment, flow_to, way_of, flows_by, flows, leaving, out, origin, IsCovered, IsWithin, IsSound, AreSound}
+use Rattle.kd_token.specs.Accepts.{Point, Flow, Assignment, flow_to, way_of, flows_by, leaving, out, IsCovered, IsWithin, IsSound, AreSound}
 
 -- each flow goes beyond this place
 abbrev AreBeyond : ℕ → List Flow → Type 0

@@ -1,14 +1,48 @@
 -- What has arrived at each place of a program while the verifier passes over it, computed. Proofs tie
 -- these functions to assignments; public contracts do not cite them.
-use Rattle.std.specs.Prelude.{◌≡◌, ℕ, ◌+◌, ◌<◌, ◌≤◌, max, List, [], ◌∷◌, length, ◌==◌, if◌then◌else◌, Option, Some, None, MatchOption}
+use Rattle.std.specs.Prelude.{◌≡◌, ℕ, ◌+◌, ◌<◌, ◌≤◌, max, List, [], ◌∷◌, length, ◌==◌, if◌then◌else◌, Option, Some, None, MatchOption, get_or}
 use Rattle.std.specs.List.{AllByRecursion}
 use Rattle.kd_token.specs.declared.shape.Kind.{Kind}
-use Rattle.kd_token.specs.declared.shape.Kind.TheVariants as kinds
+use Rattle.kd_token.specs.declared.fault.VerifyFault.{VerifyFault}
+use Rattle.kd_token.specs.declared.fault.VerifyFault.TheVariants as faults
+use Rattle.kd_token.specs.declared.way.Way.{Way}
+use Rattle.kd_token.specs.declared.way.Way.TheVariants as routes
+use Rattle.kd_token.specs.Shape.{AreShort}
 use Rattle.kd_token.specs.declared.table.Entry.{Entry}
 use Rattle.kd_token.specs.declared.table.Entry.TheVariants.{Unreached, Joined, Clash}
 use Rattle.kd_token.specs.File.{Code}
 use Rattle.kd_token.specs.Meet.{met}
 use Rattle.kd_token.specs.Accepts.{Point, Flow, Assignment, origin, out, IsCovered, AreSound}
+
+-- what has arrived at a place of the table
+abbrev pub entry_at : List Entry → ℕ → Entry
+entry_at table j = get_or table j Unreached
+
+-- the point of a shape and a count
+abbrev pub point : List Kind → ℕ → Point
+point shape count = record { shape = shape; count = count }
+
+-- the place that a fault names
+abbrev pub place_of : VerifyFault → Option ℕ
+place_of (faults.Short at) = Some at
+place_of (faults.Kind at) = Some at
+place_of (faults.Deep at) = Some at
+place_of (faults.Long at) = Some at
+place_of (faults.Name at) = Some at
+place_of faults.Steps = None
+place_of faults.Finish = None
+place_of faults.Memory = None
+
+-- how many tokens a way skips at most
+abbrev pub skip_of : Way → ℕ
+skip_of routes.On = 0
+skip_of (routes.Skip skip) = skip
+skip_of (routes.Fork skip) = skip
+skip_of (routes.Keep skip) = skip
+
+-- what a token gives is within what the program declares
+abbrev pub IsRoomFor : Code → List Kind → Type 0
+IsRoomFor p s = (length s ≤ p.depth) × AreShort p.bound s
 
 -- a shape that is met, or a clash
 abbrev pub joined_by : Option (List Kind) → ℕ → Entry
@@ -56,3 +90,16 @@ abbrev pub IsPoint : Entry → Option Point → Type 0
 IsPoint Unreached x = x ≡ None
 IsPoint Clash x = ⊥
 IsPoint (Joined s c) x = x ≡ Some (record { shape = s; count = c })
+
+-- an entry has room in what is declared, and brings at most so many steps
+abbrev pub IsTidy : Code → ℕ → Entry → Type 0
+IsTidy p n Unreached = Unit {0}
+IsTidy p n Clash = Unit {0}
+IsTidy p n (Joined s c) = IsRoomFor p s × (c ≤ n)
+
+-- what the table keeps at place n: the pass is there; the entries ahead are tidy; one of them is reached
+pub record IsAt (p : Code) (n : ℕ) (table : List Entry) : Type 0 where
+  pub size : length table ≡ length p.tokens + 1
+  pub passed : IsPassed p n (entry_at table)
+  pub tidy : (j : ℕ) → n ≤ j → IsTidy p n (entry_at table j)
+  pub reached : (j : ℕ) × (n ≤ j) × (j ≤ length p.tokens) × (entry_at table j ≡ Unreached → ⊥)

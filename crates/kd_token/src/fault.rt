@@ -121,3 +121,13 @@ impl VerifyFault {
         }
     }
 }
+
+impl From<AllocError> for VerifyFault {
+    ghost use Rattle.kd_token.specs.declared.fault.VerifyFault.TheVariants.{Memory};
+
+    ghost from_gives = { λ _ e. e ≡ Memory };
+
+    fn from(_error: AllocError) -> VerifyFault {
+        VerifyFault::Memory
+    }
+}

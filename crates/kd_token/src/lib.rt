@@ -18,8 +18,10 @@ mod table;
 #[cfg(test)]
 mod tests;
 mod token;
+mod verifier;
 mod way;
 
 pub use fault::{FileFault, VerifyFault};
 pub use program::Program;
 pub use token::{Field, Token, Version};
+pub use verifier::{Verified, verify};

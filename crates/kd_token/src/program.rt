@@ -124,6 +124,13 @@ impl Program {
         }
     }
 
+    // How many names the program has.
+    pub(crate) fn names(&self) -> usize
+        ensures { result ≡ length self.now.names }
+    {
+        self.names.len()
+    }
+
     /// The tokens, in order.
     pub fn tokens(&self) -> &[Token]
         ensures tokens { result.now ≡ self.now.tokens }

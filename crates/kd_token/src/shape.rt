@@ -1,6 +1,7 @@
-ghost use Rattle.std.specs.Prelude.{◌≡◌, ◌≤◌, ◌<◌, ◌∷◌, [], length, MatchOption};
-ghost use Rattle.kd_token.specs.Shape.{AreShort, field_kind, gives, hex_bound, substring_bound, take_bool, take_bytes, take_int};
+ghost use Rattle.std.specs.Prelude.{◌≡◌, ◌≤◌, ◌<◌, ◌∷◌, [], drop, length, IsTrue, ◌↔◌, MatchOption};
+ghost use Rattle.kd_token.specs.Shape.{AreShort, IsShortKind, field_kind, gives, hex_bound, substring_bound, take_bool, take_bytes, take_int};
 ghost use Rattle.kd_token.specs.File.{IsShort};
+ghost use Rattle.kd_token.specs.Meet.{met, met_kind};
 ghost use Rattle.kd_token.specs.declared.shape.Kind.TheVariants.{Bool, Int};
 
 use crate::token::{Field, Token};
@@ -60,6 +61,49 @@ impl Shape {
         self.kinds.pop()
     }
 
+    // Whether the stack is one truth value.
+    pub(crate) fn is_bool(&self) -> bool
+        ensures { IsTrue result ↔ (self.now ≡ Bool ∷ []) }
+    {
+        matches!(self.kinds.as_slice(), [Kind::Bool])
+    }
+
+    // The kind on top.
+    pub(crate) fn top(&self) -> Option<Kind>
+        ensures { MatchOption result (self.now ≡ []) (λ k. self.now ≡ k ∷ drop 1 self.now) }
+    {
+        self.kinds.as_slice().last().copied()
+    }
+
+    // The same shape once more.
+    pub(crate) fn copy(&self) -> Shape
+        ensures { result ≡ self.now }
+    {
+        let mut kinds = ArrayVec::new();
+        for kind in self.kinds.as_slice() {
+            kinds.push(*kind);
+        }
+        Shape { kinds }
+    }
+
+    // Meets another shape: becomes the least one that covers both, where there is one.
+    pub(crate) fn meet(&mut self, other: &mut Shape) -> Option<()>
+        requires few { length other.old ≤ 64 }
+        ensures met { MatchOption result (met self.old other.old ≡ None) (λ _. met self.old other.old ≡ Some self.new) }
+        ensures few { MatchOption result (Unit {0}) (λ _. length self.new ≤ length other.old) }
+    {
+        match (self.pop(), other.pop()) {
+            (None, None) => Some(()),
+            (Some(first), Some(second)) => {
+                let kind = met_kind(first, second)?;
+                self.meet(other)?;
+                self.push(kind);
+                Some(())
+            }
+            _ => None,
+        }
+    }
+
     // The bound of the byte string on top, which is taken.
     fn take_bytes(&mut self) -> Option<u32>
         ensures { MatchOption result (take_bytes self.old ≡ None) (λ n. take_bytes self.old ≡ Some (n, self.new)) }
@@ -72,7 +116,8 @@ impl Shape {
 
     // The truth value on top is taken.
     pub(crate) fn take_bool(&mut self) -> Option<()>
-        ensures { MatchOption result (take_bool self.old ≡ None) (λ _. take_bool self.old ≡ Some self.new) }
+        ensures taken { MatchOption result (take_bool self.old ≡ None) (λ _. take_bool self.old ≡ Some self.new) }
+        ensures top { MatchOption result (Unit {0}) (λ _. self.old ≡ Bool ∷ self.new) }
     {
         match self.pop() {
             Some(Kind::Bool) => Some(()),
@@ -157,6 +202,28 @@ impl Shape {
         };
         self.push(kind);
         Some(())
+    }
+}
+
+// Whether a kind is no byte string that may be longer than this.
+pub(crate) fn is_short(kind: Kind, most: u32) -> bool
+    ensures { IsTrue result ↔ IsShortKind most kind }
+{
+    match kind {
+        Kind::Bytes(n) => n <= most,
+        _ => true,
+    }
+}
+
+// The least kind that covers both, where there is one.
+fn met_kind(first: Kind, second: Kind) -> Option<Kind>
+    ensures { result ≡ met_kind first second }
+{
+    match (first, second) {
+        (Kind::Bool, Kind::Bool) => Some(Kind::Bool),
+        (Kind::Int, Kind::Int) => Some(Kind::Int),
+        (Kind::Bytes(n), Kind::Bytes(m)) => Some(Kind::Bytes(n.max(m))),
+        _ => None,
     }
 }
 

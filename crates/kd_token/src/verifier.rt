@@ -1,0 +1,256 @@
+ghost use Rattle.std.specs.Prelude.{◌≡◌, ℕ, ◌+◌, ◌<◌, ◌≤◌, [], ◌∷◌, length, slice_get, None, Some, IfErr, IfOk, MatchOption, MatchResult};
+ghost use Rattle.std.specs.List.{AllByRecursion};
+ghost use Rattle.kd_token.specs.File.{HasFile, IsShort};
+ghost use Rattle.kd_token.specs.Shape.{AreShort, gives, take_bool};
+ghost use Rattle.kd_token.specs.declared.fault.VerifyFault.TheVariants.{Memory};
+ghost use Rattle.kd_token.specs.declared.shape.Kind.TheVariants.{Bool};
+ghost use Rattle.kd_token.specs.declared.table.Entry.TheVariants.{Joined, Unreached};
+ghost use Rattle.kd_token.specs.Accepts.{Accepts, IsVerifyFault, IsWithin, flows, way_of};
+ghost use Rattle.kd_token.specs.Table.{IsAt, IsRoomFor, entry_at, place_of, point, skip_of, spread};
+
+use crate::fault::VerifyFault;
+use crate::program::Program;
+use crate::shape::{Kind, Shape, is_short};
+use crate::table::{Entry, arrive};
+use crate::token::Token;
+use crate::way::{Way, way_of};
+use std::alloc::{AllocError, Global};
+use std::marker::Model;
+use std::mem;
+
+/// A program that the verifier has accepted: along each way through it each token finds what it wants, no
+/// stack is deeper and no value longer than the program declares, and it ends in the declared steps with
+/// one truth value.
+#[derive(Debug, Drop)]
+pub struct Verified {
+    program: Program,
+}
+
+impl Model for Verified {
+    ghost use Rattle.kd_token.specs.File.{Code};
+    ghost use Rattle.kd_token.specs.Accepts.{Accepts};
+
+    ghost Value = { Code };
+
+    ghost view = { λ v. v.program };
+
+    ghost invariant = { λ v. Accepts v.program };
+}
+
+impl Verified {
+    /// The program that was verified.
+    pub fn program(&self) -> &Program
+        ensures program { result.now ≡ self.now }
+        ensures accepted { Accepts self.now }
+    {
+        &self.program
+    }
+}
+
+/// Verifies a program in one pass over its tokens. Takes memory for a table of one entry for each token
+/// and one for the end, under 600 bytes each.
+///
+/// # Errors
+///
+/// The first fault in the order of the tokens, with the program: at the place where two ways bring
+/// different shapes, or at the token that cannot take what it wants or gives more than is declared; then
+/// `Steps`, then `Finish`. `Memory` where there is none for the table.
+pub fn verify(alloc: Global, program: Program) -> Result<Verified, (VerifyFault, Program)>
+    ensures accepted { IfOk result (λ v. v ≡ program) }
+    ensures refused { IfErr result (λ e. (e.1 ≡ program) × IsVerifyFault program e.0) }
+    ensures only { Accepts program → IfErr result (λ e. e.0 ≡ Memory) }
+{
+    match check(alloc, &program) {
+        Ok(()) => Ok(Verified { program }),
+        Err(fault) => Err((fault, program)),
+    }
+}
+
+// Whether the program is accepted.
+fn check(alloc: Global, program: &Program) -> Result<(), VerifyFault>
+    ensures { MatchResult result (λ _. Accepts program.now) (λ fault. IsVerifyFault program.now fault) }
+{
+    let mut table = begin(alloc, program.tokens().len())?;
+    pass(&mut table, program)?;
+    finish(&table, program)
+}
+
+// The table before the first of so many tokens: the empty stack is there, and nothing has arrived beyond.
+fn begin(alloc: Global, tokens: usize) -> Result<Vec<Entry>, AllocError>
+    requires few { tokens ≤ 1024 }
+    ensures length { IfOk result (λ t. length t.items ≡ tokens + 1) }
+    ensures origin { IfOk result (λ t. entry_at t.items 0 ≡ Joined [] 0) }
+    ensures beyond { IfOk result (λ t. (j : ℕ) → 0 < j → entry_at t.items j ≡ Unreached) }
+{
+    let mut table = Vec::with_capacity(alloc, tokens + 1)?;
+    table.push(Entry::Joined(Shape::new(), 0))?;
+    'places: for _ in 0..tokens {
+        table.push(Entry::Unreached)?;
+    }
+    Ok(table)
+}
+
+// All tokens are passed.
+fn pass(table: &mut [Entry], program: &Program) -> Result<(), VerifyFault>
+    requires { IsAt program.now 0 table.old }
+    ensures { MatchResult result (λ _. IsAt program.now (length program.now.tokens) table.new) (λ fault. IsVerifyFault program.now fault) }
+{
+    'tokens: for (at, token) in program.tokens().iter().enumerate() {
+        visit(table, at, token, program)?;
+    }
+    Ok(())
+}
+
+// The place of a token is passed.
+fn visit(
+    table: &mut [Entry],
+    at: usize,
+    token: &Token,
+    program: &Program,
+) -> Result<(), VerifyFault>
+    requires limits { HasFile program.now }
+    requires there { slice_get program.now.tokens at ≡ Some token.now }
+    requires before { IsAt program.now at table.old }
+    ensures { MatchResult result (λ _. IsAt program.now (at + 1) table.new) (λ fault. IsVerifyFault program.now fault) }
+{
+    match mem::replace(&mut table[at], Entry::Unreached) {
+        Entry::Unreached => Ok(()),
+        Entry::Clash => Err(VerifyFault::Kind(at)),
+        Entry::Joined(shape, count) => settle(table, at, shape, count, token, program),
+    }
+}
+
+// What has arrived at the end is one truth value, in the declared steps.
+fn finish(table: &[Entry], program: &Program) -> Result<(), VerifyFault>
+    requires limits { HasFile program.now }
+    requires passed { IsAt program.now (length program.now.tokens) table.now }
+    ensures { MatchResult result (λ _. Accepts program.now) (λ fault. IsVerifyFault program.now fault) }
+{
+    let end = program.tokens().len();
+    match &table[end] {
+        Entry::Joined(shape, count) => {
+            if *count > u32::from(program.steps()) {
+                Err(VerifyFault::Steps)
+            } else if shape.is_bool() {
+                Ok(())
+            } else {
+                Err(VerifyFault::Finish)
+            }
+        }
+        Entry::Clash => Err(VerifyFault::Kind(end)),
+        Entry::Unreached => unreachable!(),
+    }
+}
+
+// How many values a token takes.
+fn takes(token: &Token) -> usize {
+    match token {
+        Token::IfElse => 3,
+        Token::Equal | Token::And | Token::Or | Token::Concat | Token::HexString => 2,
+        Token::Not
+        | Token::Substring(..)
+        | Token::Lower
+        | Token::Upper
+        | Token::IntToText
+        | Token::IntBytes
+        | Token::PopBranchFalse(_)
+        | Token::BranchFalseElsePop(_)
+        | Token::BranchTrueElsePop(_) => 1,
+        _ => 0,
+    }
+}
+
+// Why a token cannot take what it wants from a stack of so many values.
+fn misfit(token: &Token, values: usize, at: usize) -> VerifyFault
+    ensures { place_of result ≡ Some at }
+{
+    match token {
+        Token::Member(_) => VerifyFault::Name(at),
+        _ if values < takes(token) => VerifyFault::Short(at),
+        _ => VerifyFault::Kind(at),
+    }
+}
+
+// A token that goes on makes of the shape what it gives, within what the program declares.
+fn advance(
+    shape: &mut Shape,
+    token: &Token,
+    program: &Program,
+    at: usize,
+) -> Result<(), VerifyFault>
+    requires few { length shape.old ≤ program.now.depth }
+    requires limits { HasFile program.now }
+    requires short { AreShort program.now.bound shape.old }
+    requires literal { IsShort token.now }
+    ensures { MatchResult result
+        (λ _. MatchOption (gives (length program.now.names) token.now shape.old) ⊥ (λ s. (s ≡ shape.new) × IsRoomFor program.now s))
+        (λ e. (place_of e ≡ Some at) × MatchOption (gives (length program.now.names) token.now shape.old) (Unit {0}) (λ s. IsRoomFor program.now s → ⊥)) }
+{
+    let values = shape.len();
+    let Some(()) = shape.pass(token, program.names()) else {
+        return Err(misfit(token, values, at));
+    };
+    if shape.len() > usize::from(program.depth()) {
+        return Err(VerifyFault::Deep(at));
+    }
+    let most = u32::from(program.length());
+    match shape.top() {
+        Some(kind) if !is_short(kind, most) => Err(VerifyFault::Long(at)),
+        _ => Ok(()),
+    }
+}
+
+// A token is passed: what it gives arrives where it leads.
+fn settle(
+    table: &mut [Entry],
+    at: usize,
+    mut shape: Shape,
+    count: u32,
+    token: &Token,
+    program: &Program,
+) -> Result<(), VerifyFault>
+    requires few { length shape ≤ program.now.depth }
+    requires limits { HasFile program.now }
+    requires short { AreShort program.now.bound shape }
+    requires literal { IsShort token.now }
+    requires count { count ≤ 1024 }
+    requires within { at + 1 + skip_of (way_of token.now) < length table.old }
+    ensures length { length table.new ≡ length table.old }
+    ensures settled { MatchResult result
+        (λ _. MatchOption (flows (length program.now.names) token.now at (point shape count)) ⊥ (λ fs. AllByRecursion (IsWithin program.now) fs
+        × ((j : ℕ) → entry_at table.new j ≡ spread fs (entry_at table.old) j)))
+        (λ e. (place_of e ≡ Some at) × MatchOption (flows (length program.now.names) token.now at (point shape count)) (Unit {0}) (λ fs. AllByRecursion (IsWithin program.now) fs → ⊥)) }
+{
+    let next = at + 1;
+    let steps = count + 1;
+    match way_of(token) {
+        Way::On => {
+            advance(&mut shape, token, program, at)?;
+            arrive(table, next, shape, steps);
+        }
+        Way::Skip(skip) => arrive(table, next + usize::from(skip), shape, steps),
+        Way::Fork(skip) => {
+            below(&mut shape, token, at)?;
+            arrive(table, next + usize::from(skip), shape.copy(), steps);
+            arrive(table, next, shape, steps);
+        }
+        Way::Keep(skip) => {
+            let kept = shape.copy();
+            below(&mut shape, token, at)?;
+            arrive(table, next + usize::from(skip), kept, steps);
+            arrive(table, next, shape, steps);
+        }
+    }
+    Ok(())
+}
+
+// The truth value on top is taken.
+fn below(shape: &mut Shape, token: &Token, at: usize) -> Result<(), VerifyFault>
+    ensures { MatchResult result (λ _. shape.old ≡ Bool ∷ shape.new) (λ e. (place_of e ≡ Some at) × (take_bool shape.old ≡ None)) }
+{
+    let values = shape.len();
+    match shape.take_bool() {
+        Some(()) => Ok(()),
+        None => Err(misfit(token, values, at)),
+    }
+}
