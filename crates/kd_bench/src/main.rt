@@ -1,25 +1,27 @@
-//! Reads one datagram many times, so that its time can be taken from outside: `kd_bench discover 2000000`
-//! or `kd_bench pieces 100000`. It prints how many options were read in all, and no time.
+//! Does one piece of work many times, so that its time can be taken from outside: `kd_bench discover
+//! 2000000` or `kd_bench pieces 100000` reads a datagram, `kd_bench file 10000` a token file, and
+//! `kd_bench verify 10000` verifies what it reads too. It prints how often that was done, and no time.
 #![tactic(auto)]
 
 use kd_options::Message;
+use kd_token::Program;
 use std::alloc::{AllocError, Global};
 use std::io;
 
 fn main(rt: HostRuntime) -> io::Result<()> {
     let words: Vec<String> = std::env::args(&rt)?.collect(rt.alloc())?;
-    let is_pieces = words.get(1).is_some_and(|word| word.as_str() == "pieces");
+    let work = words.get(1).map_or("discover", |word| word.as_str());
     let rounds = words
         .get(2)
         .and_then(|word| word.parse().ok())
         .unwrap_or(10);
-    let bytes = if is_pieces {
-        pieces(rt.alloc())?
-    } else {
-        discover(rt.alloc())?
+    let done = match work {
+        "pieces" => read_again(rt.alloc(), pieces(rt.alloc())?.as_slice(), rounds),
+        "file" => file_again(rt.alloc(), branches(rt.alloc())?.as_slice(), rounds),
+        "verify" => verify_again(rt.alloc(), branches(rt.alloc())?.as_slice(), rounds),
+        _ => read_again(rt.alloc(), discover(rt.alloc())?.as_slice(), rounds),
     };
-    let read = read_again(rt.alloc(), bytes.as_slice(), rounds);
-    println!(rt; "{read}")
+    println!(rt; "{done}")
 }
 
 // How often the datagram was read with an option 60, of so many rounds.
@@ -69,5 +71,44 @@ fn pieces(alloc: Global) -> Result<Vec<u8>, AllocError> {
         }
     }
     bytes.resize(4096, 0)?;
+    Ok(bytes)
+}
+
+// How often the token file was read, of so many rounds.
+fn file_again(alloc: Global, bytes: &[u8], rounds: u32) -> u32 {
+    let mut read = 0u32;
+    for _ in 0..rounds {
+        if Program::read(alloc, bytes).is_ok() {
+            read = read.wrapping_add(1);
+        }
+    }
+    read
+}
+
+// How often the token file was read and its program accepted, of so many rounds.
+fn verify_again(alloc: Global, bytes: &[u8], rounds: u32) -> u32 {
+    let mut accepted = 0u32;
+    for _ in 0..rounds {
+        if let Ok(program) = Program::read(alloc, bytes) {
+            if kd_token::verify(alloc, program).is_ok() {
+                accepted = accepted.wrapping_add(1);
+            }
+        }
+    }
+    accepted
+}
+
+// A token file of 1,024 tokens over a stack of up to 64 values, with as many places where two ways meet as
+// a program can have: 62 values, 450 values that a branch over nothing takes, and 62 tokens that join what is left.
+fn branches(alloc: Global) -> Result<Vec<u8>, AllocError> {
+    let mut bytes = Vec::from_slice(alloc, b"K4TK\x02\x04\x00\x40\x00\x00\x00\x04\x00")?;
+    for _ in 0..62 {
+        bytes.extend_from_slice(b"\x06\x3c")?;
+    }
+    for _ in 0..450 {
+        bytes.extend_from_slice(b"\x06\x3c\x21\x00\x00")?;
+    }
+    bytes.resize(bytes.len() + 61, 0x0b)?;
+    bytes.push(0x0a)?;
     Ok(bytes)
 }

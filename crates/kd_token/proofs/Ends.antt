@@ -1,7 +1,8 @@
 -- Where the pass ends: at a place that cannot be sound, or at the end of the program.
-use Rattle.std.proofs.Common.{◌≡◌, ℕ, ◌+◌, ◌≤◌, List, length, Option, Some, None, refl, subst, arith}
-use Rattle.std.specs.Prelude.{slice_get, MatchOption}
+use Rattle.std.proofs.Common.{◌≡◌, ℕ, ◌+◌, ◌<◌, ◌≤◌, List, length, Option, Some, None, refl, ap, subst, arith, inl, inr}
+use Rattle.std.specs.Prelude.{◌⊎◌, slice_get, MatchOption}
 use Rattle.std.specs.List.{AllByRecursion}
+use Rattle.std.proofs.lemmas.Bool.{cases_lt}
 use Rattle.kd_token.specs.declared.fault.VerifyFault.{VerifyFault}
 use Rattle.kd_token.specs.declared.fault.VerifyFault.TheVariants as faults
 use Rattle.kd_token.specs.declared.shape.Kind.{Kind}
@@ -9,7 +10,7 @@ use Rattle.kd_token.specs.declared.token.Token.{Token}
 use Rattle.kd_token.specs.declared.table.Entry.{Entry}
 use Rattle.kd_token.specs.declared.table.Entry.TheVariants.{Joined, Clash}
 use Rattle.kd_token.specs.File.{Code}
-use Rattle.kd_token.specs.Accepts.{Point, Flow, Assignment, flows, leaving, IsWithin, IsSound, AreSound, IsFaultAt, IsTooManySteps, IsNoFinish, IsVerifyFault, Accepts}
+use Rattle.kd_token.specs.Accepts.{Point, Flow, Assignment, flows, leaving, IsWithin, IsSound, AreSound, IsFaultAt, IsTooManySteps, IsNoFinish, IsVerifyFault, IsInPlaceOf, IsPlaceOf, Accepts, IsSoundThroughout}
 use Rattle.kd_token.specs.Table.{IsBelow, IsPassed}
 use Rattle.kd_token.proofs.Down.{Down}
 use Rattle.kd_token.proofs.FlowsDown.{EachBelow, flows_down, within_down}
@@ -68,3 +69,48 @@ memory_alone p (faults.Name at) f a = absurd (fault_refuses p at f a)
 memory_alone p faults.Steps f a = absurd (steps_refuse p f a)
 memory_alone p faults.Finish f a = absurd (finish_refuses p f a)
 memory_alone p faults.Memory f a = refl
+
+-- a fault at a place leaves no assignment that is sound throughout
+fault_unsound : (p : Code) (at : ℕ) → IsFaultAt p at → (a : Assignment) → IsSoundThroughout p a → ⊥
+fault_unsound p at f a s = f.2 a (λ j less. s j (omega (arith, less, f.0)))
+
+-- where all places can be sound and not in time, the fault is Steps
+pub steps_alone : (p : Code) (fault : VerifyFault) → IsVerifyFault p fault → IsTooManySteps p → IsInPlaceOf faults.Steps fault
+steps_alone p (faults.Short at) f s = absurd (fault_unsound p at f s.0.0 s.0.1)
+steps_alone p (faults.Kind at) f s = absurd (fault_unsound p at f s.0.0 s.0.1)
+steps_alone p (faults.Deep at) f s = absurd (fault_unsound p at f s.0.0 s.0.1)
+steps_alone p (faults.Long at) f s = absurd (fault_unsound p at f s.0.0 s.0.1)
+steps_alone p (faults.Name at) f s = absurd (fault_unsound p at f s.0.0 s.0.1)
+steps_alone p faults.Steps f s = inl refl
+steps_alone p faults.Finish f s = absurd (s.1 f.0.0 f.0.1 f.0.2)
+steps_alone p faults.Memory f s = inr refl
+
+-- where the one truth value alone is wanting, the fault is Finish
+pub finish_alone : (p : Code) (fault : VerifyFault) → IsVerifyFault p fault → IsNoFinish p → IsInPlaceOf faults.Finish fault
+finish_alone p (faults.Short at) f s = absurd (fault_unsound p at f s.0.0 s.0.1)
+finish_alone p (faults.Kind at) f s = absurd (fault_unsound p at f s.0.0 s.0.1)
+finish_alone p (faults.Deep at) f s = absurd (fault_unsound p at f s.0.0 s.0.1)
+finish_alone p (faults.Long at) f s = absurd (fault_unsound p at f s.0.0 s.0.1)
+finish_alone p (faults.Name at) f s = absurd (fault_unsound p at f s.0.0 s.0.1)
+finish_alone p faults.Steps f s = absurd (f.1 s.0.0 s.0.1 s.0.2)
+finish_alone p faults.Finish f s = inl refl
+finish_alone p faults.Memory f s = inr refl
+
+-- the first place that cannot be sound is one
+same_place : (p : Code) (m n : ℕ) → IsFaultAt p m → IsFaultAt p n → Some m ≡ Some n
+same_place p m n f g = by (cases_lt m n) (cases_lt n m) where
+  by : (m < n) ⊎ (n ≤ m) → (n < m) ⊎ (m ≤ n) → Some m ≡ Some n
+  by (inl less) other = absurd (f.2 g.1.0 (λ j below. g.1.1 j (omega (arith, less, below))))
+  by (inr le) (inl less) = absurd (g.2 f.1.0 (λ j below. f.1.1 j (omega (arith, less, below))))
+  by (inr le) (inr ge) = let e : m ≡ n = omega (arith, le, ge) in ap Some e
+
+-- where a place is the first that cannot be sound, the fault names it
+pub place_alone : (p : Code) (at : ℕ) (fault : VerifyFault) → IsVerifyFault p fault → IsFaultAt p at → IsPlaceOf at fault
+place_alone p at (faults.Short m) f g = inl (same_place p m at f g)
+place_alone p at (faults.Kind m) f g = inl (same_place p m at f g)
+place_alone p at (faults.Deep m) f g = inl (same_place p m at f g)
+place_alone p at (faults.Long m) f g = inl (same_place p m at f g)
+place_alone p at (faults.Name m) f g = inl (same_place p m at f g)
+place_alone p at faults.Steps f g = absurd (fault_unsound p at g f.0.0 f.0.1)
+place_alone p at faults.Finish f g = absurd (fault_unsound p at g f.0.0 f.0.1)
+place_alone p at faults.Memory f g = inr refl

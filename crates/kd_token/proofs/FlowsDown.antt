@@ -28,7 +28,7 @@ down_by routes.On names token i x q c le =
 down_by (routes.Skip skip) names token i x q c le = ((refl, c, omega (arith, le)), tt)
 down_by (routes.Fork skip) names token i x q c le =
     bind_down Covers EachBelow (take_bool x.shape) (take_bool q.shape) (λ r. Some (flow_to (i + 1 + skip) x r ∷ flow_to (i + 1) x r ∷ [])) (λ r. Some (flow_to (i + 1 + skip) q r ∷ flow_to (i + 1) q r ∷ [])) (bool_down x.shape q.shape c) (λ r s d. ((refl, d, omega (arith, le)), ((refl, d, omega (arith, le)), tt)))
-down_by (routes.Keep skip) names token i x q c le =
+down_by (routes.Keep stays skip) names token i x q c le =
     bind_down Covers EachBelow (take_bool x.shape) (take_bool q.shape) (λ r. Some (flow_to (i + 1 + skip) x (kinds.Bool ∷ r) ∷ flow_to (i + 1) x r ∷ [])) (λ r. Some (flow_to (i + 1 + skip) q (kinds.Bool ∷ r) ∷ flow_to (i + 1) q r ∷ [])) (bool_down x.shape q.shape c) (λ r s d. ((refl, (tt, d), omega (arith, le)), ((refl, d, omega (arith, le)), tt)))
 
 -- the flows of a point below are below

@@ -13,8 +13,8 @@ use Rattle.kd_token.specs.declared.table.Entry.{Entry}
 use Rattle.kd_token.specs.declared.table.Entry.TheVariants.{Unreached, Joined, Clash}
 use Rattle.kd_token.specs.File.{Code, HasFile}
 use Rattle.kd_token.specs.Shape.{Covers}
-use Rattle.kd_token.specs.Accepts.{Point, Flow, Assignment, flows, leaving, out, IsCovered, IsWithin, IsSoundThroughout, IsFaultAt, IsTooManySteps, IsNoFinish, IsVerifyFault, Accepts}
-use Rattle.kd_token.specs.Table.{entry_at, point, place_of, arrived, spread, IsBelow, IsCoveredBy, IsPassed, IsPoint, IsTidy, IsAt}
+use Rattle.kd_token.specs.Accepts.{Point, Flow, Assignment, flows, leaving, out, IsCovered, IsWithin, IsSoundThroughout, IsFaultAt, IsTooManySteps, IsNoFinish, IsVerifyFault, Accepts, place_of}
+use Rattle.kd_token.specs.Table.{entry_at, point, arrived, spread, IsBelow, IsCoveredBy, IsPassed, IsPoint, IsTidy, IsAt}
 use Rattle.kd_token.proofs.Passing.{changed}
 use Rattle.kd_token.proofs.Passes.{all_map, changed_there, passed_none, passed_on, sound_on}
 use Rattle.kd_token.proofs.Ends.{above_here, clash_fault, leave_fault}

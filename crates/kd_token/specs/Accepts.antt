@@ -1,6 +1,6 @@
 -- Accepted programs (our own format): there is an assignment of a shape and a count of steps to the
 -- places of a program that holds along each way through it.
-use Rattle.std.specs.Prelude.{◌≡◌, ℕ, ◌+◌, ◌<◌, ◌≤◌, List, [], ◌∷◌, length, slice_get, Option, Some, None, MatchOption}
+use Rattle.std.specs.Prelude.{◌≡◌, ℕ, ◌+◌, ◌<◌, ◌≤◌, List, [], ◌∷◌, length, slice_get, ◌⊎◌, true, false, Option, Some, None, MatchOption}
 use Rattle.std.specs.List.{AllByRecursion}
 use Rattle.kd_token.specs.declared.fault.VerifyFault.{VerifyFault}
 use Rattle.kd_token.specs.declared.fault.VerifyFault.TheVariants as faults
@@ -41,8 +41,8 @@ flow_to to q shape = record { to = to; point = record { shape = shape; count = q
 abbrev pub way_of : Token → Way
 way_of (tokens.Branch skip) = routes.Skip skip
 way_of (tokens.PopBranchFalse skip) = routes.Fork skip
-way_of (tokens.BranchFalseElsePop skip) = routes.Keep skip
-way_of (tokens.BranchTrueElsePop skip) = routes.Keep skip
+way_of (tokens.BranchFalseElsePop skip) = routes.Keep false skip
+way_of (tokens.BranchTrueElsePop skip) = routes.Keep true skip
 way_of token = routes.On
 
 -- the flows of a way from place i
@@ -50,7 +50,7 @@ abbrev pub flows_by : Way → ℕ → Token → ℕ → Point → Option (List F
 flows_by routes.On names token i q = gives names token q.shape >>= λ s. Some (flow_to (i + 1) q s ∷ [])
 flows_by (routes.Skip skip) names token i q = Some (flow_to (i + 1 + skip) q q.shape ∷ [])
 flows_by (routes.Fork skip) names token i q = take_bool q.shape >>= λ r. Some (flow_to (i + 1 + skip) q r ∷ flow_to (i + 1) q r ∷ [])
-flows_by (routes.Keep skip) names token i q = take_bool q.shape >>= λ r. Some (flow_to (i + 1 + skip) q (kinds.Bool ∷ r) ∷ flow_to (i + 1) q r ∷ [])
+flows_by (routes.Keep stays skip) names token i q = take_bool q.shape >>= λ r. Some (flow_to (i + 1 + skip) q (kinds.Bool ∷ r) ∷ flow_to (i + 1) q r ∷ [])
 
 -- the flows of a token at place i; none where it cannot take what it wants
 abbrev pub flows : ℕ → Token → ℕ → Point → Option (List Flow)
@@ -124,3 +124,22 @@ IsVerifyFault p (faults.Long at) = IsFaultAt p at
 IsVerifyFault p faults.Steps = IsTooManySteps p
 IsVerifyFault p faults.Finish = IsNoFinish p
 IsVerifyFault p faults.Memory = Unit {0}
+
+-- the place that a fault names
+abbrev pub place_of : VerifyFault → Option ℕ
+place_of (faults.Short at) = Some at
+place_of (faults.Kind at) = Some at
+place_of (faults.Deep at) = Some at
+place_of (faults.Long at) = Some at
+place_of (faults.Name at) = Some at
+place_of faults.Steps = None
+place_of faults.Finish = None
+place_of faults.Memory = None
+
+-- the fault is this one, or there was no memory to find it
+abbrev pub IsInPlaceOf : VerifyFault → VerifyFault → Type 0
+IsInPlaceOf wanted fault = (fault ≡ wanted) ⊎ (fault ≡ faults.Memory)
+
+-- the fault names this place, or there was no memory to find it
+abbrev pub IsPlaceOf : ℕ → VerifyFault → Type 0
+IsPlaceOf at fault = (place_of fault ≡ Some at) ⊎ (fault ≡ faults.Memory)

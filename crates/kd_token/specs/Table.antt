@@ -3,8 +3,6 @@
 use Rattle.std.specs.Prelude.{◌≡◌, ℕ, ◌+◌, ◌<◌, ◌≤◌, max, List, [], ◌∷◌, length, ◌==◌, if◌then◌else◌, Option, Some, None, MatchOption, get_or}
 use Rattle.std.specs.List.{AllByRecursion}
 use Rattle.kd_token.specs.declared.shape.Kind.{Kind}
-use Rattle.kd_token.specs.declared.fault.VerifyFault.{VerifyFault}
-use Rattle.kd_token.specs.declared.fault.VerifyFault.TheVariants as faults
 use Rattle.kd_token.specs.declared.way.Way.{Way}
 use Rattle.kd_token.specs.declared.way.Way.TheVariants as routes
 use Rattle.kd_token.specs.Shape.{AreShort}
@@ -22,23 +20,12 @@ entry_at table j = get_or table j Unreached
 abbrev pub point : List Kind → ℕ → Point
 point shape count = record { shape = shape; count = count }
 
--- the place that a fault names
-abbrev pub place_of : VerifyFault → Option ℕ
-place_of (faults.Short at) = Some at
-place_of (faults.Kind at) = Some at
-place_of (faults.Deep at) = Some at
-place_of (faults.Long at) = Some at
-place_of (faults.Name at) = Some at
-place_of faults.Steps = None
-place_of faults.Finish = None
-place_of faults.Memory = None
-
 -- how many tokens a way skips at most
 abbrev pub skip_of : Way → ℕ
 skip_of routes.On = 0
 skip_of (routes.Skip skip) = skip
 skip_of (routes.Fork skip) = skip
-skip_of (routes.Keep skip) = skip
+skip_of (routes.Keep stays skip) = skip
 
 -- what a token gives is within what the program declares
 abbrev pub IsRoomFor : Code → List Kind → Type 0

@@ -119,6 +119,20 @@ fn a_program_tells_its_parts(rt: HostRuntime) -> Result<(), Fail> {
     Ok(())
 }
 
+#[test]
+fn a_token_tells_its_way(rt: HostRuntime) {
+    let table = [
+        (Token::Not, Way::On),
+        (Token::Branch(4), Way::Skip(4)),
+        (Token::PopBranchFalse(0), Way::Fork(0)),
+        (Token::BranchFalseElsePop(1), Way::Keep(false, 1)),
+        (Token::BranchTrueElsePop(2), Way::Keep(true, 2)),
+    ];
+    for (token, want) in table {
+        assert_eq!(rt; token.way(), want);
+    }
+}
+
 // A program that is made.
 fn made(alloc: Global) -> Result<Program, AllocError> {
     let text = Bytes::own(Vec::from_slice(alloc, b"a")?);

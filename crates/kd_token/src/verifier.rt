@@ -2,21 +2,24 @@ ghost use Rattle.std.specs.Prelude.{◌≡◌, ℕ, ◌+◌, ◌<◌, ◌≤◌,
 ghost use Rattle.std.specs.List.{AllByRecursion};
 ghost use Rattle.kd_token.specs.File.{HasFile, IsShort};
 ghost use Rattle.kd_token.specs.Shape.{AreShort, gives, take_bool};
-ghost use Rattle.kd_token.specs.declared.fault.VerifyFault.TheVariants.{Memory};
+ghost use Rattle.kd_token.specs.declared.fault.VerifyFault.TheVariants.{Finish, Memory, Steps};
 ghost use Rattle.kd_token.specs.declared.shape.Kind.TheVariants.{Bool};
 ghost use Rattle.kd_token.specs.declared.table.Entry.TheVariants.{Joined, Unreached};
-ghost use Rattle.kd_token.specs.Accepts.{Accepts, IsVerifyFault, IsWithin, flows, way_of};
-ghost use Rattle.kd_token.specs.Table.{IsAt, IsRoomFor, entry_at, place_of, point, skip_of, spread};
+ghost use Rattle.kd_token.specs.Accepts.{Accepts, IsFaultAt, IsInPlaceOf, IsNoFinish, IsPlaceOf, IsTooManySteps, IsVerifyFault, IsWithin, flows, way_of, place_of};
+ghost use Rattle.kd_token.specs.Table.{IsAt, IsRoomFor, entry_at, point, skip_of, spread};
 
 use crate::fault::VerifyFault;
 use crate::program::Program;
 use crate::shape::{Kind, Shape, is_short};
 use crate::table::{Entry, arrive};
 use crate::token::Token;
-use crate::way::{Way, way_of};
+use crate::way::Way;
 use std::alloc::{AllocError, Global};
 use std::marker::Model;
 use std::mem;
+
+#[cfg(test)]
+mod tests;
 
 /// A program that the verifier has accepted: along each way through it each token finds what it wants, no
 /// stack is deeper and no value longer than the program declares, and it ends in the declared steps with
@@ -59,6 +62,9 @@ pub fn verify(alloc: Global, program: Program) -> Result<Verified, (VerifyFault,
     ensures accepted { IfOk result (λ v. v ≡ program) }
     ensures refused { IfErr result (λ e. (e.1 ≡ program) × IsVerifyFault program e.0) }
     ensures only { Accepts program → IfErr result (λ e. e.0 ≡ Memory) }
+    ensures place { (at : ℕ) → IsFaultAt program at → MatchResult result (λ _. ⊥) (λ e. IsPlaceOf at e.0) }
+    ensures steps { IsTooManySteps program → MatchResult result (λ _. ⊥) (λ e. IsInPlaceOf Steps e.0) }
+    ensures finish { IsNoFinish program → MatchResult result (λ _. ⊥) (λ e. IsInPlaceOf Finish e.0) }
 {
     match check(alloc, &program) {
         Ok(()) => Ok(Verified { program }),
@@ -223,7 +229,7 @@ fn settle(
 {
     let next = at + 1;
     let steps = count + 1;
-    match way_of(token) {
+    match token.way() {
         Way::On => {
             advance(&mut shape, token, program, at)?;
             arrive(table, next, shape, steps);
@@ -234,7 +240,7 @@ fn settle(
             arrive(table, next + usize::from(skip), shape.copy(), steps);
             arrive(table, next, shape, steps);
         }
-        Way::Keep(skip) => {
+        Way::Keep(_stays, skip) => {
             let kept = shape.copy();
             below(&mut shape, token, at)?;
             arrive(table, next + usize::from(skip), kept, steps);

@@ -3,23 +3,30 @@ ghost use Rattle.kd_token.specs.Accepts.{way_of};
 
 use crate::token::Token;
 
-// How a token goes on.
-#[derive(Clone, Copy)]
-pub(crate) enum Way {
+/// How a run goes on from a token; a number says how many tokens are skipped.
+#[derive(Clone, Copy, Debug, PartialEq, Eq)]
+pub enum Way {
+    /// To the next token.
     On,
+    /// Over so many tokens.
     Skip(u16),
+    /// A truth value is taken: a false goes over so many tokens, a true to the next.
     Fork(u16),
-    Keep(u16),
+    /// This truth value stays and goes over so many tokens; the other one is taken and goes to the next.
+    Keep(bool, u16),
 }
 
-// How this token goes on.
-pub(crate) fn way_of(token: &Token) -> Way
-    ensures { result ≡ way_of token.now }
-{
-    match token {
-        Token::Branch(skip) => Way::Skip(*skip),
-        Token::PopBranchFalse(skip) => Way::Fork(*skip),
-        Token::BranchFalseElsePop(skip) | Token::BranchTrueElsePop(skip) => Way::Keep(*skip),
-        _ => Way::On,
+impl Token {
+    /// How a run goes on from this token.
+    pub fn way(&self) -> Way
+        ensures { result ≡ way_of self.now }
+    {
+        match self {
+            Token::Branch(skip) => Way::Skip(*skip),
+            Token::PopBranchFalse(skip) => Way::Fork(*skip),
+            Token::BranchFalseElsePop(skip) => Way::Keep(false, *skip),
+            Token::BranchTrueElsePop(skip) => Way::Keep(true, *skip),
+            _ => Way::On,
+        }
     }
 }
