@@ -8,3 +8,4 @@ pub mod Shown
 pub mod TextLine
 pub mod Top
 pub mod Typed
+pub mod Verifying
