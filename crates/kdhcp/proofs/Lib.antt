@@ -7,3 +7,5 @@ pub mod Orders
 pub mod Shown
 pub mod TextLine
 pub mod Top
+pub mod Typed
+pub mod Verifying

@@ -7,7 +7,7 @@ use Rattle.std.proofs.lemmas.List.Elements.{All-tail}
 use Rattle.clap.specs.Words.{Text, fault_of}
 use Rattle.clap.specs.declared.error.kind.ErrorKind.TheVariants.{DisplayHelp}
 use Rattle.kdhcp.specs.Line.{IsHelpFlag, IsHelpLine, IsLine, IsOneOf, subcommands}
-use Rattle.kdhcp.specs.Order.{Asked, Asks, asked_of, command_line, replays, shows}
+use Rattle.kdhcp.specs.Order.{Asked, Asks, asked_of, command_line, replays, shows, types, verifies}
 use Rattle.kdhcp.proofs.BareLine.{bare, bare_helps, bare_in, bare_passes}
 use Rattle.kdhcp.proofs.TextLine.{one, text_helps, text_in, text_passes}
 use Rattle.kdhcp.proofs.Top.{IsSub, begins, helps_first}
@@ -16,6 +16,12 @@ use Rattle.kdhcp.proofs.Top.{IsSub, begins, helps_first}
 
 show : IsSub (codes "show") (one (codes "show") (codes "HEX"))
 show = record { met = refl; ours = refl; found = refl }
+
+expr : IsSub (codes "expr") (one (codes "expr") (codes "TEXT"))
+expr = record { met = refl; ours = refl; found = refl }
+
+verify : IsSub (codes "verify") (one (codes "verify") (codes "HEX"))
+verify = record { met = refl; ours = refl; found = refl }
 
 replay : IsSub (codes "replay") (bare (codes "replay"))
 replay = record { met = refl; ours = refl; found = refl }
@@ -26,14 +32,26 @@ asked_in : (name : Text) (rest : List Text) → IsOneOf name subcommands → All
 asked_in name rest (inl is) texts none = rw is (
     let got = text_in (codes "show") (codes "HEX") rest show texts (rw is at none) in
     (shows got.0, got.1))
-asked_in name rest (inr (inl is)) texts none = rw is (replays, bare_in (codes "replay") rest replay texts (rw is at none))
-asked_in name rest (inr (inr never)) texts none = absurd never
+asked_in name rest (inr (inl is)) texts none = rw is (
+    let got = text_in (codes "expr") (codes "TEXT") rest expr texts (rw is at none) in
+    (types got.0, got.1))
+asked_in name rest (inr (inr (inl is))) texts none = rw is (
+    let got = text_in (codes "verify") (codes "HEX") rest verify texts (rw is at none) in
+    (verifies got.0, got.1))
+asked_in name rest (inr (inr (inr (inl is)))) texts none = rw is (replays, bare_in (codes "replay") rest replay texts (rw is at none))
+asked_in name rest (inr (inr (inr (inr never)))) texts none = absurd never
 
 -- a line asks by clap for what it asks for in plain words
 pub clap_from_line : (ws : List Text) (asked : Asked) → IsLine ws asked → Asks ws asked
 clap_from_line ws (shows hex) h =
     let got = text_passes (codes "show") (codes "HEX") refl ws hex show h in
     record { whole = got.1; entered = ap asked_of got.2 ∙ ap (option_map (λ x. shows x)) got.3 }
+clap_from_line ws (types text) h =
+    let got = text_passes (codes "expr") (codes "TEXT") refl ws text expr h in
+    record { whole = got.1; entered = ap asked_of got.2 ∙ ap (option_map (λ x. types x)) got.3 }
+clap_from_line ws (verifies hex) h =
+    let got = text_passes (codes "verify") (codes "HEX") refl ws hex verify h in
+    record { whole = got.1; entered = ap asked_of got.2 ∙ ap (option_map (λ x. verifies x)) got.3 }
 clap_from_line ws replays h =
     let got = bare_passes (codes "replay") ws replay h in
     record { whole = got.1; entered = ap asked_of got.2 }
@@ -42,8 +60,10 @@ clap_from_line ws replays h =
 helps_second : (name next : Text) (rest : List Text) → IsOneOf name subcommands → IsHelpFlag next
     → fault_of command_line (name ∷ next ∷ rest) ≡ DisplayHelp ∷ []
 helps_second name next rest (inl is) h = rw is (text_helps (codes "show") (codes "HEX") next rest show h)
-helps_second name next rest (inr (inl is)) h = rw is (bare_helps (codes "replay") next rest replay h)
-helps_second name next rest (inr (inr never)) h = absurd never
+helps_second name next rest (inr (inl is)) h = rw is (text_helps (codes "expr") (codes "TEXT") next rest expr h)
+helps_second name next rest (inr (inr (inl is))) h = rw is (text_helps (codes "verify") (codes "HEX") next rest verify h)
+helps_second name next rest (inr (inr (inr (inl is)))) h = rw is (bare_helps (codes "replay") next rest replay h)
+helps_second name next rest (inr (inr (inr (inr never)))) h = absurd never
 
 -- ---- whatever the subcommands
 

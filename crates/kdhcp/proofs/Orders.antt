@@ -16,13 +16,13 @@ use Rattle.clap.specs.declared.parser.matches.ArgMatches.TheViews.{out-ArgMatche
 use Rattle.clap.specs.declared.parser.matches.SubCommand.{SubCommand}
 use Rattle.clap.proofs.WalkLemmas.{first_value-rows}
 use Rattle.clap.proofs.OnLiterals.{clap_on_literals}
-use Rattle.kdhcp.specs.Order.{Asked, Asks, AsksFor, GivesUnlessFull, HasFault, HelpsUnlessFull, asked_by, asked_of, command_line, given_by, replays, shows}
+use Rattle.kdhcp.specs.Order.{Asked, Asks, AsksFor, GivesUnlessFull, HasFault, HelpsUnlessFull, asked_by, asked_of, command_line, given_by, replays, shows, types, verifies}
 use Rattle.kdhcp.proofs.Lines.{clap_from_line, one_asked, some_line}
 use Rattle.kdhcp.specs.Steps.{AnswersKind, GivesIfThere}
 use Rattle.kdhcp.specs.declared.order.LineFault.{LineFault}
 use Rattle.kdhcp.specs.declared.order.LineFault.TheVariants.{CommandLine, Memory}
 use Rattle.kdhcp.specs.declared.order.Order.{Order}
-use Rattle.kdhcp.specs.declared.order.Order.TheVariants.{Help, Show, Replay}
+use Rattle.kdhcp.specs.declared.order.Order.TheVariants.{Help, Show, Expr, Verify, Replay}
 
 -- clap tells the matches of this command line, and the kinds of its faults
 is_told : is_simple command_line ≡ true
@@ -49,6 +49,8 @@ are_texts (w ∷ ws) = All-cons IsUtf8 (string_bytes w) (map string_bytes ws) (I
 asks_for : (ws : List Text) (order : Order) (asked : Asked) → given_by order ≡ Some asked → Asks ws asked → AsksFor ws order
 asks_for ws (Help text) asked gives h = cc
 asks_for ws (Show hex) asked gives h = let is : shows (string_bytes hex) ≡ asked = cc in subst (Asks ws) (sym is) h
+asks_for ws (Expr text) asked gives h = let is : types (string_bytes text) ≡ asked = cc in subst (Asks ws) (sym is) h
+asks_for ws (Verify hex) asked gives h = let is : verifies (string_bytes hex) ≡ asked = cc in subst (Asks ws) (sym is) h
 asks_for ws Replay asked gives h = let is : replays ≡ asked = cc in subst (Asks ws) (sym is) h
 
 -- where clap finds no fault

@@ -3,7 +3,7 @@
 -- wants none is written `replay`, where `--` may stand behind it.
 use Rattle.std.specs.Prelude.{◌≡◌, ◌⊎◌, ◌==◌, Bool, false, List, [], ◌∷◌, codes}
 use Rattle.clap.specs.Words.{Text}
-use Rattle.kdhcp.specs.Order.{Asked, shows, replays}
+use Rattle.kdhcp.specs.Order.{Asked, shows, types, verifies, replays}
 
 -- a flag is a hyphen with more behind it
 abbrev pub is_flag : Text → Bool
@@ -29,11 +29,13 @@ IsBareLine name words = (words ≡ name ∷ []) ⊎ (words ≡ name ∷ codes "-
 -- the words are a line that asks for this
 abbrev pub IsLine : List Text → Asked → Type 0
 IsLine words (shows hex) = IsTextLine (codes "show") words hex
+IsLine words (types text) = IsTextLine (codes "expr") words text
+IsLine words (verifies hex) = IsTextLine (codes "verify") words hex
 IsLine words replays = IsBareLine (codes "replay") words
 
 -- the names of the subcommands
 abbrev pub subcommands : List Text
-subcommands = codes "show" ∷ codes "replay" ∷ []
+subcommands = codes "show" ∷ codes "expr" ∷ codes "verify" ∷ codes "replay" ∷ []
 
 -- the word is one of these
 abbrev pub IsOneOf : Text → List Text → Type 0

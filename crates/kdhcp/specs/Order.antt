@@ -12,7 +12,7 @@ use Rattle.clap.specs.declared.error.kind.ErrorKind.TheVariants.{DisplayHelp}
 use Rattle.kdhcp.specs.declared.order.LineFault.{LineFault}
 use Rattle.kdhcp.specs.declared.order.LineFault.TheVariants.{CommandLine, Memory}
 use Rattle.kdhcp.specs.declared.order.Order.{Order}
-use Rattle.kdhcp.specs.declared.order.Order.TheVariants.{Help, Show, Replay}
+use Rattle.kdhcp.specs.declared.order.Order.TheVariants.{Help, Show, Expr, Verify, Replay}
 
 -- the number that a fault is printed with
 abbrev pub fault_number : LineFault → ℕ
@@ -33,6 +33,14 @@ text_line name id = with_rule (new_app name) (needed id)
 abbrev pub show_line : App
 show_line = text_line (codes "show") (codes "HEX")
 
+-- `expr TEXT`
+abbrev pub expr_line : App
+expr_line = text_line (codes "expr") (codes "TEXT")
+
+-- `verify HEX`
+abbrev pub verify_line : App
+verify_line = text_line (codes "verify") (codes "HEX")
+
 -- `replay`
 abbrev pub replay_line : App
 replay_line = new_app (codes "replay")
@@ -44,7 +52,9 @@ program_line = on_top (λ s. record s { no_binary_name = true; subcommand_requir
 
 -- the whole command line
 abbrev pub command_line : App
-command_line = with_subcommand (with_subcommand program_line show_line.top) replay_line.top
+command_line =
+    with_subcommand (with_subcommand (with_subcommand (with_subcommand program_line show_line.top) expr_line.top)
+    verify_line.top) replay_line.top
 
 -- ---- what the words ask for
 
@@ -52,6 +62,10 @@ command_line = with_subcommand (with_subcommand program_line show_line.top) repl
 pub data Asked : Type 0 where
   -- the lines of the datagram in this text
   shows : Text → Asked
+  -- the number of nodes of the class test in this text
+  types : Text → Asked
+  -- whether the program of the token file in this text is accepted
+  verifies : Text → Asked
   -- the events of standard input, replayed
   replays : Asked
 
@@ -59,7 +73,9 @@ pub data Asked : Type 0 where
 abbrev pub asked_by : Text → List Row → Option Asked
 asked_by name rows =
     if bytes_eq name (codes "show") then option_map (λ hex. shows hex) (first_of (codes "HEX") rows)
-    else (if bytes_eq name (codes "replay") then Some replays else None)
+    else (if bytes_eq name (codes "expr") then option_map (λ text. types text) (first_of (codes "TEXT") rows)
+    else (if bytes_eq name (codes "verify") then option_map (λ hex. verifies hex) (first_of (codes "HEX") rows)
+    else (if bytes_eq name (codes "replay") then Some replays else None)))
 
 -- the same of the subcommand that was entered, if one was
 abbrev pub asked_of : Option (Text × List Row) → Option Asked
@@ -83,6 +99,8 @@ IsMistake words =
 abbrev pub AsksFor : List Text → Order → Type 0
 AsksFor words (Help text) = IsHelp words
 AsksFor words (Show hex) = Asks words (shows (string_bytes hex))
+AsksFor words (Expr text) = Asks words (types (string_bytes text))
+AsksFor words (Verify hex) = Asks words (verifies (string_bytes hex))
 AsksFor words Replay = Asks words replays
 
 -- the words have this fault; memory may run out at any words
@@ -94,6 +112,8 @@ HasFault words Memory = Unit {0}
 abbrev pub given_by : Order → Option Asked
 given_by (Help text) = None
 given_by (Show hex) = Some (shows (string_bytes hex))
+given_by (Expr text) = Some (types (string_bytes text))
+given_by (Verify hex) = Some (verifies (string_bytes hex))
 given_by Replay = Some replays
 
 -- the answer gives what was asked, or memory ran out

@@ -1,15 +1,19 @@
 ghost use Rattle.std.specs.Prelude.{◌≡◌, ◌++◌, IfOk, codes, string_bytes};
 ghost use Rattle.std.specs.Fmt.{decimal};
 ghost use Rattle.hex.specs.Hex.{decode_of};
+ghost use Rattle.kd_expr.specs.View.{tree_of};
 ghost use Rattle.kdhcp.specs.Printed.{Answers, IsPrinted, IsRefusal, IsSuccess, ShowsDatagram};
-ghost use Rattle.kdhcp.specs.Printed.{ShowsDecoded};
+ghost use Rattle.kdhcp.specs.Printed.{ShowsDecoded, TypesText, TypesTree};
+ghost use Rattle.kdhcp.specs.Printed.{VerifiesDecoded, VerifiesFile, VerifiesProgram, accepted_line};
 ghost use Rattle.kdhcp.specs.Show.{line_feed};
 
 use crate::order::{LineFault, Order};
 use crate::show::show;
 use crate::status::exit_status;
 use hex::FromHexError;
+use kd_expr::{Expr, ExprFault};
 use kd_options::{Message, ReadFault};
+use kd_token::{FileFault, Program, VerifyFault};
 use kd_wire::Bytes;
 use std::alloc::{AllocError, Global};
 use std::fmt::Display;
@@ -37,6 +41,8 @@ pub fn answer(alloc: Global, order: &Order) -> Result<Printed, AllocError>
     match order {
         Order::Help(text) => Ok(success(alloc, text.clone()?)),
         Order::Show { hex } => answer_show(alloc, hex.as_str()),
+        Order::Expr { text } => answer_expr(alloc, text.as_str()),
+        Order::Verify { hex } => answer_verify(alloc, hex.as_str()),
         Order::Replay => unreachable!(),
     }
 }
@@ -48,12 +54,16 @@ fn answer_show(alloc: Global, word: &str) -> Result<Printed, AllocError>
     match hex::decode(alloc, word) {
         Ok(bytes) => show_datagram(alloc, bytes.as_slice()),
         Err(FromHexError::OutOfMemory) => Err(AllocError),
-        Err(_) => refusal(
-            alloc,
-            LineFault::CommandLine.number(),
-            &LineFault::CommandLine,
-        ),
+        Err(_) => mistake(alloc),
     }
+}
+
+// The line of a word that is not hexadecimal.
+fn mistake(alloc: Global) -> Result<Printed, AllocError>
+    ensures { IfOk result (IsRefusal 98) }
+{
+    let number = LineFault::CommandLine.number();
+    refusal(alloc, number, &LineFault::CommandLine)
 }
 
 // The lines of a datagram, or its first fault.
@@ -65,6 +75,80 @@ fn show_datagram(alloc: Global, bytes: &[u8]) -> Result<Printed, AllocError>
         Err(ReadFault::Memory) => Err(AllocError),
         Err(fault) => refusal(alloc, fault.number(), &fault),
     }
+}
+
+// How many nodes the class test in a word has.
+fn answer_expr(alloc: Global, word: &str) -> Result<Printed, AllocError>
+    ensures { IfOk result (TypesText word.now) }
+{
+    match kd_expr::read(alloc, word.as_bytes()) {
+        Ok(expr) => type_expr(alloc, expr),
+        Err(fault) => match fault {
+            ExprFault::Memory => Err(AllocError),
+            _ => refusal(alloc, fault.number(), &fault),
+        },
+    }
+}
+
+// How many nodes an expression has that is a class test, or the first fault of its type.
+fn type_expr(alloc: Global, expr: Expr) -> Result<Printed, AllocError>
+    ensures { IfOk result (TypesTree (tree_of expr)) }
+{
+    match kd_expr::type_of(expr) {
+        Ok(test) => {
+            let nodes = test.nodes();
+            Ok(success(alloc, format!(in alloc; "bool {nodes}\n")?))
+        }
+        Err((fault, _)) => refusal(alloc, fault.number(), &fault),
+    }
+}
+
+// What the program of the token file in a word declares, where it is accepted.
+fn answer_verify(alloc: Global, word: &str) -> Result<Printed, AllocError>
+    ensures { IfOk result (VerifiesDecoded (decode_of word.now)) }
+{
+    match hex::decode(alloc, word) {
+        Ok(bytes) => verify_file(alloc, bytes.as_slice()),
+        Err(FromHexError::OutOfMemory) => Err(AllocError),
+        Err(_) => mistake(alloc),
+    }
+}
+
+// What the program of a token file declares, where it is accepted, or the first fault.
+fn verify_file(alloc: Global, bytes: &[u8]) -> Result<Printed, AllocError>
+    ensures { IfOk result (VerifiesFile bytes.now) }
+{
+    match Program::read(alloc, bytes) {
+        Ok(program) => verify_program(alloc, program),
+        Err(fault) => match fault {
+            FileFault::Memory => Err(AllocError),
+            _ => refusal(alloc, fault.number(), &fault),
+        },
+    }
+}
+
+// What a program declares, where it is accepted, or the first fault of its tokens.
+fn verify_program(alloc: Global, program: Program) -> Result<Printed, AllocError>
+    ensures { IfOk result (VerifiesProgram program) }
+{
+    match kd_token::verify(alloc, program) {
+        Ok(verified) => Ok(success(alloc, accepted(alloc, verified.program())?)),
+        Err((fault, _)) => match fault {
+            VerifyFault::Memory => Err(AllocError),
+            _ => refusal(alloc, fault.number(), &fault),
+        },
+    }
+}
+
+// The line of an accepted program.
+fn accepted(alloc: Global, program: &Program) -> Result<String, AllocError>
+    ensures { IfOk result (λ line. string_bytes line ≡ accepted_line program.now) }
+{
+    let steps = program.steps();
+    let depth = program.depth();
+    let length = program.length();
+    let tokens = program.tokens().len();
+    format!(in alloc; "accepted steps {steps} depth {depth} length {length} tokens {tokens}\n")
 }
 
 // A text on standard output and nothing else.

@@ -5,8 +5,6 @@
 //! of a source into a sink. This page ties them to the standard streams.
 #![tactic(auto)]
 
-ghost use Rattle.std.specs.Prelude.{false};
-
 mod answer;
 mod order;
 mod show;
@@ -15,9 +13,10 @@ mod streams;
 mod words;
 
 use answer::{Printed, answer};
-use kd_server::{Ports, ReplayFault, Server, replay};
+use kd_server::{Ports, Server, replay};
 use order::{LineFault, Order};
 use status::{exit_status, replay_status};
+use std::fmt::Display;
 use std::io;
 use std::io::Write;
 use std::process::ExitCode;
@@ -28,9 +27,9 @@ fn main(rt: HostRuntime) -> io::Result<ExitCode> {
         Ok(Order::Replay) => replayed(&rt),
         Ok(order) => match answer(rt.alloc(), &order) {
             Ok(printed) => print(&rt, &printed),
-            Err(error) => refuse(&rt, LineFault::from(error)),
+            Err(error) => unanswered(&rt, LineFault::from(error)),
         },
-        Err(fault) => refuse(&rt, fault),
+        Err(fault) => unanswered(&rt, fault),
     }
 }
 
@@ -52,10 +51,15 @@ fn print(rt: &HostRuntime, printed: &Printed) -> io::Result<ExitCode> {
 }
 
 // Prints why the words are no order, or get no answer.
-fn refuse(rt: &HostRuntime, fault: LineFault) -> io::Result<ExitCode> {
+fn unanswered(rt: &HostRuntime, fault: LineFault) -> io::Result<ExitCode> {
     let number = fault.number();
+    refuse(rt, number, &fault, exit_status(number))
+}
+
+// Prints a fault's line, and ends with this status.
+fn refuse<F: Display>(rt: &HostRuntime, number: u8, fault: &F, status: u8) -> io::Result<ExitCode> {
     eprintln!(rt; "fault {number} {fault}")?;
-    Ok(ExitCode::from(exit_status(number)))
+    Ok(ExitCode::from(status))
 }
 
 // Replays the events of standard input to standard output, as a server on the standard's ports.
@@ -69,10 +73,6 @@ fn replayed(rt: &HostRuntime) -> io::Result<ExitCode> {
     let mut server = Server::builtin(rt.alloc(), ports);
     match replay(rt.alloc(), &mut source, &mut sink, &mut server) {
         Ok(_) => Ok(ExitCode::SUCCESS),
-        Err(fault) => {
-            let number = fault.number();
-            eprintln!(rt; "fault {number} {fault}")?;
-            Ok(ExitCode::from(replay_status(fault)))
-        }
+        Err(fault) => refuse(rt, fault.number(), &fault, replay_status(fault)),
     }
 }

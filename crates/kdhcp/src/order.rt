@@ -15,6 +15,16 @@ pub enum Order {
         /// The datagram's bytes, as the word gives them.
         hex: String,
     },
+    /// The number of nodes of one class test.
+    Expr {
+        /// The class test, as the word gives it.
+        text: String,
+    },
+    /// Whether the program of one token file is accepted.
+    Verify {
+        /// The file's bytes, as the word gives them.
+        hex: String,
+    },
     /// The events of standard input, replayed.
     Replay,
 }

@@ -6,7 +6,7 @@ ghost use Rattle.clap.specs.declared.builder.command.Command.TheViews.{out-Comma
 ghost use Rattle.kdhcp.specs.Line.{IsHelpLine, IsLine};
 ghost use Rattle.kdhcp.specs.Order.{Asked, Asks, AsksFor, GivesUnlessFull, HasFault};
 ghost use Rattle.kdhcp.specs.Order.{HelpsUnlessFull, asked_of, command_line, replay_line};
-ghost use Rattle.kdhcp.specs.Order.{show_line, shows};
+ghost use Rattle.kdhcp.specs.Order.{expr_line, show_line, shows, types, verifies, verify_line};
 ghost use Rattle.kdhcp.specs.Steps.{AnswersKind, GivesIfThere};
 
 use crate::order::{LineFault, Order};
@@ -45,6 +45,8 @@ fn kdhcp<'a>(alloc: Global) -> Result<Command<'a>, AllocError>
         .no_binary_name(true)
         .subcommand_required(true)
         .subcommand(show(alloc)?)?
+        .subcommand(expr(alloc)?)?
+        .subcommand(verify(alloc)?)?
         .subcommand(replay(alloc))
 }
 
@@ -61,6 +63,32 @@ fn show<'a>(alloc: Global) -> Result<Command<'a>, AllocError>
         .arg(hex)
 }
 
+// `expr TEXT`.
+fn expr<'a>(alloc: Global) -> Result<Command<'a>, AllocError>
+    ensures app { IfOk result (λ c. app_of c ≡ expr_line) }
+    ensures local { IfOk result (λ c. (out-Command c).has_globals ≡ false) }
+{
+    let text = Arg::new(alloc, "TEXT")
+        .help("A class test in Kea's expression language")
+        .required(true);
+    Command::new(alloc, "expr")
+        .about("Read and type one class test, and print how many nodes it has")
+        .arg(text)
+}
+
+// `verify HEX`.
+fn verify<'a>(alloc: Global) -> Result<Command<'a>, AllocError>
+    ensures app { IfOk result (λ c. app_of c ≡ verify_line) }
+    ensures local { IfOk result (λ c. (out-Command c).has_globals ≡ false) }
+{
+    let file = Arg::new(alloc, "HEX")
+        .help("The bytes of a token file, two hexadecimal digits each")
+        .required(true);
+    Command::new(alloc, "verify")
+        .about("Verify the program of one token file, and print what it declares")
+        .arg(file)
+}
+
 // `replay`.
 fn replay<'a>(alloc: Global) -> Command<'a>
     ensures app { app_of result ≡ replay_line }
@@ -75,6 +103,8 @@ fn asked_for(alloc: Global, matches: &ArgMatches<'_>) -> Result<Order, LineFault
 {
     match matches.subcommand() {
         Some(("show", inner)) => shown(alloc, inner),
+        Some(("expr", inner)) => typed(alloc, inner),
+        Some(("verify", inner)) => verified(alloc, inner),
         Some(("replay", _)) => Ok(Order::Replay),
         _ => Err(LineFault::CommandLine),
     }
@@ -85,11 +115,41 @@ fn shown(alloc: Global, matches: &ArgMatches<'_>) -> Result<Order, LineFault>
     ensures { GivesIfThere (option_map (λ hex. shows hex)
         (first_value (found_of matches.now) (codes "HEX"))) result }
 {
-    match matches.get_str("HEX") {
-        Some(text) => Ok(Order::Show {
-            hex: String::from_str(alloc, text)?,
-        }),
+    match text_of(alloc, matches, "HEX")? {
+        Some(hex) => Ok(Order::Show { hex }),
         None => Err(LineFault::CommandLine),
+    }
+}
+
+// What matches of `expr` ask for.
+fn typed(alloc: Global, matches: &ArgMatches<'_>) -> Result<Order, LineFault>
+    ensures { GivesIfThere (option_map (λ text. types text)
+        (first_value (found_of matches.now) (codes "TEXT"))) result }
+{
+    match text_of(alloc, matches, "TEXT")? {
+        Some(text) => Ok(Order::Expr { text }),
+        None => Err(LineFault::CommandLine),
+    }
+}
+
+// What matches of `verify` ask for.
+fn verified(alloc: Global, matches: &ArgMatches<'_>) -> Result<Order, LineFault>
+    ensures { GivesIfThere (option_map (λ hex. verifies hex)
+        (first_value (found_of matches.now) (codes "HEX"))) result }
+{
+    match text_of(alloc, matches, "HEX")? {
+        Some(hex) => Ok(Order::Verify { hex }),
+        None => Err(LineFault::CommandLine),
+    }
+}
+
+// The text of an argument, where the matches have one.
+fn text_of(alloc: Global, matches: &ArgMatches<'_>, id: &str) -> Result<Option<String>, AllocError>
+    ensures { IfOk result (λ text. option_map string_bytes text ≡ first_value (found_of matches.now) id.now) }
+{
+    match matches.get_str(id) {
+        Some(text) => Ok(Some(String::from_str(alloc, text)?)),
+        None => Ok(None),
     }
 }
 

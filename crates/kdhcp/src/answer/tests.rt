@@ -2,6 +2,9 @@ use super::samples::SAMPLES;
 use super::*;
 use std::test::Fail;
 
+mod expr;
+mod verify;
+
 // The datagram of client 0a0000000001 with these bytes in sname, file and the options field: all in
 // hexadecimal, where an underscore parts what belongs together.
 fn datagram(alloc: Global, sname: &str, file: &str, options: &str) -> Result<String, Fail> {

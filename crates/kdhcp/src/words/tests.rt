@@ -30,6 +30,41 @@ fn show_has_its_text(rt: HostRuntime) {
 }
 
 #[test]
+fn expr_has_its_text(rt: HostRuntime) {
+    let rows: [(&[&str], &str); 6] = [
+        (&["expr", "option[60].exists"], "option[60].exists"),
+        (&["expr", "not a class test"], "not a class test"),
+        (&["expr", "--", "-1 == 1"], "-1 == 1"),
+        (&["expr", "'a' == 'a'", "--"], "'a' == 'a'"),
+        (&["expr", ""], ""),
+        (&["expr", "show"], "show"),
+    ];
+    for (words, wanted) in rows {
+        match read(&rt, words) {
+            Ok(Order::Expr { text }) => assert_eq!(rt; text.as_str(), wanted),
+            other => panic!(rt; "{words:?}: {other:?}"),
+        }
+    }
+}
+
+#[test]
+fn verify_has_its_text(rt: HostRuntime) {
+    let rows: [(&[&str], &str); 5] = [
+        (&["verify", "4b34544b"], "4b34544b"),
+        (&["verify", "no hexadecimal"], "no hexadecimal"),
+        (&["verify", "--", "-a"], "-a"),
+        (&["verify", "4b", "--"], "4b"),
+        (&["verify", ""], ""),
+    ];
+    for (words, wanted) in rows {
+        match read(&rt, words) {
+            Ok(Order::Verify { hex }) => assert_eq!(rt; hex.as_str(), wanted),
+            other => panic!(rt; "{words:?}: {other:?}"),
+        }
+    }
+}
+
+#[test]
 fn replay_is_an_order(rt: HostRuntime) {
     let rows: [&[&str]; 2] = [&["replay"], &["replay", "--"]];
     for words in rows {
@@ -42,7 +77,7 @@ fn replay_is_an_order(rt: HostRuntime) {
 
 #[test]
 fn help_is_an_order(rt: HostRuntime) {
-    let rows: [(&[&str], &str); 11] = [
+    let rows: [(&[&str], &str); 18] = [
         (&["--help"], "Usage: kdhcp <COMMAND>"),
         (&["-h"], "Usage: kdhcp <COMMAND>"),
         (&["help"], "Usage: kdhcp <COMMAND>"),
@@ -50,6 +85,13 @@ fn help_is_an_order(rt: HostRuntime) {
         (&["show", "--help"], "Usage: kdhcp show <HEX>"),
         (&["show", "-h"], "Usage: kdhcp show <HEX>"),
         (&["show", "a", "--help"], "Usage: kdhcp show <HEX>"),
+        (&["help", "expr"], "Usage: kdhcp expr <TEXT>"),
+        (&["expr", "--help"], "Usage: kdhcp expr <TEXT>"),
+        (&["expr", "-h"], "Usage: kdhcp expr <TEXT>"),
+        (&["expr", "a", "--help"], "Usage: kdhcp expr <TEXT>"),
+        (&["help", "verify"], "Usage: kdhcp verify <HEX>"),
+        (&["verify", "--help"], "Usage: kdhcp verify <HEX>"),
+        (&["verify", "a", "-h"], "Usage: kdhcp verify <HEX>"),
         (&["help", "replay"], "Usage: kdhcp replay"),
         (&["replay", "--help"], "Usage: kdhcp replay"),
         (&["replay", "-h"], "Usage: kdhcp replay"),
@@ -65,7 +107,7 @@ fn help_is_an_order(rt: HostRuntime) {
 
 #[test]
 fn other_words_are_a_mistake(rt: HostRuntime) {
-    let rows: [&[&str]; 18] = [
+    let rows: [&[&str]; 27] = [
         &[],
         &["--", "show", "a"],
         &["--help=yes"],
@@ -73,6 +115,15 @@ fn other_words_are_a_mistake(rt: HostRuntime) {
         &["show"],
         &["show", "a", "b"],
         &["show", "-a"],
+        &["expr"],
+        &["expr", "option[60].exists", "and"],
+        &["expr", "-1 == 1"],
+        &["expr", "--nope"],
+        &["--", "expr", "a"],
+        &["verify"],
+        &["verify", "4b", "34"],
+        &["verify", "-a"],
+        &["verify", "--nope"],
         &["--nope"],
         &["nope"],
         &["--version"],

@@ -1,5 +1,5 @@
 use Rattle.std.proofs.Common.{refl, codes}
-use Rattle.kdhcp.specs.Order.{shows}
+use Rattle.kdhcp.specs.Order.{shows, types, verifies}
 use Rattle.kdhcp.proofs.Orders.{at_text}
 use Rattle.kdhcp.proofs.words.asked_for.Goals as goal
 
@@ -8,3 +8,15 @@ returns-in-Some-show-default c =
     let e = c.in-Some-show-default.ensures in
     at_text c.args.matches.now c.in-Some-show-default.inner.now _ (codes "show") (codes "HEX") (λ hex. shows hex) c.shown.result e.name e.rows
     c.in-Some-show-default.is-show refl c.shown.ensures
+
+pub returns-in-Some-expr-default : goal.returns-in-Some-expr-default
+returns-in-Some-expr-default c =
+    let e = c.in-Some-expr-default.ensures in
+    at_text c.args.matches.now c.in-Some-expr-default.inner.now _ (codes "expr") (codes "TEXT") (λ text. types text) c.typed.result e.name e.rows
+    c.in-Some-expr-default.is-expr refl c.typed.ensures
+
+pub returns-in-Some-verify-default : goal.returns-in-Some-verify-default
+returns-in-Some-verify-default c =
+    let e = c.in-Some-verify-default.ensures in
+    at_text c.args.matches.now c.in-Some-verify-default.inner.now _ (codes "verify") (codes "HEX") (λ hex. verifies hex) c.verified.result e.name e.rows
+    c.in-Some-verify-default.is-verify refl c.verified.ensures
