@@ -28,6 +28,10 @@ each_refusal() {
 }
 
 for hex in examples/samples/*.hex; do each_refusal crates/kdhcp/out/kdhcp show "$(cat "$hex")"; done
+each_refusal crates/kdhcp/out/kdhcp expr "not option[host-name].exists and 'a' + 'b' == 0x1"
+each_refusal crates/kdhcp/out/kdhcp expr "concat('a','b')"
+each_refusal crates/kdhcp/out/kdhcp verify 4b34544b010003021000000003033c0100016109
+each_refusal crates/kdhcp/out/kdhcp verify 4b34544b010002010000000002063c0b
 for words in "show abcd" "show 0g" "show -- -a" "--help" "help show" "show" "show a b" "nope" ""; do
     # shellcheck disable=SC2086
     each_refusal crates/kdhcp/out/kdhcp $words
@@ -57,7 +61,8 @@ SHORT_IO=1 LD_PRELOAD=$room/fail.so crates/kdhcp/out/kdhcp replay <"$lines" | cm
 echo "replay byte by byte: the same"
 
 all=0 passed=0 building=0 second=0 other=0
-for test in kd_options:tests kd_options:reply::tests kd_server:server::replays kdhcp:answer::tests; do
+for test in kd_options:tests kd_options:reply::tests kd_server:server::replays kd_expr:tests::memory \
+    kd_token:verifier::tests kdhcp:answer::tests; do
     run=(crates/"${test%%:*}"/out/"${test%%:*}"_tests "${test#*:}"::want_of_memory_is_answered_as_such)
     for n in $(seq 1 "$(asked_by "${run[@]}")"); do
         all=$((all + 1))
