@@ -26,6 +26,7 @@ mod way;
 
 pub use fault::{FileFault, VerifyFault};
 pub use program::Program;
+pub use shape::Kind;
 pub use token::{Field, Token, Version};
 pub use verifier::{Verified, verify};
 pub use way::Way;

@@ -8,12 +8,15 @@ use crate::token::{Field, Token};
 use arrayvec::ArrayVec;
 use std::marker::Model;
 
-// The kind of a value on the stack, with the greatest length of a byte string.
+/// The kind of a value on the stack.
 #[derive(Clone, Copy, Default)]
-pub(crate) enum Kind {
+pub enum Kind {
+    /// A truth value.
     #[default]
     Bool,
+    /// A number of four bytes.
     Int,
+    /// A byte string of at most so many bytes.
     Bytes(u32),
 }
 
