@@ -1,7 +1,10 @@
 //! Does one piece of work many times, so that its time can be taken from outside: `kd_bench discover
-//! 2000000` or `kd_bench pieces 100000` reads a datagram, `kd_bench file 10000` a token file, and
-//! `kd_bench verify 10000` verifies what it reads too. It prints how often that was done, and no time.
+//! 2000000` or `kd_bench pieces 100000` reads a datagram, `kd_bench file 10000` a token file, `kd_bench
+//! verify 10000` verifies what it reads too, and `kd_bench short 1000000`, `long` and `digits` run a
+//! program. It prints how often that was done, and no time.
 #![tactic(auto)]
+
+mod machine;
 
 use kd_options::Message;
 use kd_token::Program;
@@ -19,6 +22,9 @@ fn main(rt: HostRuntime) -> io::Result<()> {
         "pieces" => read_again(rt.alloc(), pieces(rt.alloc())?.as_slice(), rounds),
         "file" => file_again(rt.alloc(), branches(rt.alloc())?.as_slice(), rounds),
         "verify" => verify_again(rt.alloc(), branches(rt.alloc())?.as_slice(), rounds),
+        "short" => machine::short(rt.alloc(), rounds)?,
+        "long" => machine::long(rt.alloc(), rounds)?,
+        "digits" => machine::digits(rt.alloc(), rounds)?,
         _ => read_again(rt.alloc(), discover(rt.alloc())?.as_slice(), rounds),
     };
     println!(rt; "{done}")
