@@ -6,6 +6,8 @@ mod held;
 mod run;
 mod stack;
 mod step;
+#[cfg(test)]
+mod tests;
 mod text;
 mod value;
 
