@@ -382,3 +382,30 @@ fn the_hardware_address_has_hlen_bytes(rt: HostRuntime) -> Result<(), Fail> {
     }
     Ok(())
 }
+
+// Sub-options with an empty and a repeated one; a sub-option that is cut, so that there is none; and no
+// relay information.
+#[test]
+fn relay_information_is_its_sub_options(rt: HostRuntime) -> Result<(), Fail> {
+    let whole = b"\x35\x01\x01\x52\x08\x01\x00\x02\x01\x7a\x02\x01\x79\xff".as_slice();
+    let cut = b"\x35\x01\x01\x52\x03\x01\x05\x61\xff".as_slice();
+    let none = b"\x35\x01\x01\xff".as_slice();
+    let table: [(&[u8], &[u8], u16, bool); 10] = [
+        (whole, b"\x07\x01", 1, true),
+        (whole, b"\x04\x01\x01\x00\x00\x09", 3, true),
+        (whole, b"\x07\x02", 1, true),
+        (whole, b"\x04\x02\x01\x00\x01\x7a\x09", 3, true),
+        (whole, b"\x07\x00", 1, false),
+        (cut, b"\x07\x01", 1, false),
+        (cut, b"\x04\x01\x01\x00\x00\x09", 3, true),
+        (cut, b"\x03\x52\x01\x00\x03\x01\x05\x61\x09", 3, true),
+        (none, b"\x07\x01", 1, false),
+        (none, b"\x04\x01\x01\x00\x00\x09", 3, true),
+    ];
+    for (options, tokens, count, want) in table {
+        let bytes = datagram(rt.alloc(), with_options(options))?;
+        let file = token_file(rt.alloc(), count, tokens)?;
+        assert_eq!(rt; value(rt.alloc(), &file, &bytes), Ok(want));
+    }
+    Ok(())
+}
