@@ -17,6 +17,8 @@ pub mod laws;
 mod run;
 mod stack;
 mod step;
+#[cfg(test)]
+mod tests;
 mod text;
 mod value;
 
