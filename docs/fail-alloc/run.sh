@@ -62,13 +62,14 @@ echo "replay byte by byte: the same"
 
 all=0 passed=0 building=0 second=0 other=0
 for test in kd_options:tests kd_options:reply::tests kd_server:server::replays kd_expr:tests::memory \
-    kd_token:verifier::tests kdhcp:answer::tests; do
+    kd_token:verifier::tests kd_machine:tests kdhcp:answer::tests; do
     run=(crates/"${test%%:*}"/out/"${test%%:*}"_tests "${test#*:}"::want_of_memory_is_answered_as_such)
     for n in $(seq 1 "$(asked_by "${run[@]}")"); do
         all=$((all + 1))
         if got=$(FAIL_AT=$n LD_PRELOAD=$room/fail.so "${run[@]}" 2>&1); then passed=$((passed + 1))
-        elif [[ $got == *AllocError* || $got == *OutOfMemory* ]]; then building=$((building + 1))
-        elif [[ $got == *Memory* ]]; then second=$((second + 1))
+        elif [[ $got == *AllocError* || $got == *AllocFailed* || $got == *OutOfMemory* ]]; then building=$((building + 1))
+        # a sink of a test that cannot grow has failed, which is Write
+        elif [[ $got == *Memory* || $got == *"Err(Write)"* ]]; then second=$((second + 1))
         else
             other=$((other + 1))
             echo "refusal $n of ${run[*]}: $got"
