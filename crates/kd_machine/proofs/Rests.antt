@@ -3,6 +3,7 @@ use Rattle.std.proofs.Common.{ℕ, ◌+◌, ◌≤◌, Bool, true, false, List, 
 use Rattle.std.specs.Prelude.{if◌then◌else◌, slice_get, MatchOption}
 use Rattle.kd_token.specs.Accepts.{way_of}
 use Rattle.kd_token.specs.Reading.{◌>>=◌}
+use Rattle.kd_token.proofs.Keeps.{Keeps, bind_keeps}
 use Rattle.kd_token.specs.declared.token.Token.{Token}
 use Rattle.kd_token.specs.declared.token.Token.TheVariants as tokens
 use Rattle.kd_token.specs.declared.way.Way.{Way}
@@ -10,14 +11,6 @@ use Rattle.kd_token.specs.declared.way.Way.TheVariants as routes
 use Rattle.kd_machine.specs.Values.{Val, Truth, Number, Text, take_text, take_truth, take_number, longest}
 use Rattle.kd_machine.specs.World.{World, is_held}
 use Rattle.kd_machine.specs.Run.{rule, agrees, moves_by, moves}
-
--- what holds of a result, where there is one
-abbrev Keeps : {A : Type 0} → (A → Type 0) → Option A → Type 0
-Keeps P o = MatchOption o (Unit {0}) P
-
-bind_keeps : {A B : Type 0} (P : A → Type 0) (Q : B → Type 0) (o : Option A) (f : A → Option B) → Keeps P o → ((x : A) → P x → Keeps Q (f x)) → Keeps Q (o >>= f)
-bind_keeps P Q None f k h = tt
-bind_keeps P Q (Some x) f k h = h x k
 
 -- what is below a value that is taken
 abbrev Rest : {A : Type 0} → ℕ → A × List Val → Type 0

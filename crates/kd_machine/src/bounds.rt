@@ -1,4 +1,4 @@
-ghost use Rattle.std.specs.Prelude.{◌≡◌, ℕ, ◌≤◌, List, length, None, Some, MatchOption, slice_range};
+ghost use Rattle.std.specs.Prelude.{◌≡◌, ℕ, ◌≤◌, List, length, None, Some, slice_range};
 ghost use Rattle.kd_machine.specs.Strings.{beginning, part, substring};
 
 // Where a part begins in a string of so many bytes, if it begins there.

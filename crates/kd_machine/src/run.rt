@@ -1,6 +1,5 @@
-ghost use Rattle.std.specs.Prelude.{◌≡◌, ◌<◌, ◌≤◌, IfOk, IsOk, IsSome, MatchOption, Some, length, slice_get};
+ghost use Rattle.std.specs.Prelude.{◌≡◌, ◌<◌, ◌≤◌, IfOk, IsOk, MatchOption, Some, length};
 ghost use Rattle.std.specs.List.{AllByRecursion};
-ghost use Rattle.kd_machine.specs.Fits.{IsRunning};
 ghost use Rattle.kd_machine.specs.Run.{IsFree, Run, agrees, moves};
 ghost use Rattle.kd_machine.specs.World.{world};
 

@@ -1,7 +1,6 @@
-ghost use Rattle.std.specs.Prelude.{◌≡◌, ◌≤◌, IsOk, IsSome, MatchOption, OnOk, Some, length};
+ghost use Rattle.std.specs.Prelude.{◌≡◌, ◌≤◌, IsOk, MatchOption, OnOk, Some, length};
 ghost use Rattle.kd_machine.specs.Run.{IsFree, rule};
-ghost use Rattle.kd_machine.specs.Strings.{substring};
-ghost use Rattle.kd_machine.specs.Values.{Text, take_text, value_of};
+ghost use Rattle.kd_machine.specs.Values.{value_of};
 ghost use Rattle.kd_machine.specs.World.{field_value, world};
 
 use crate::bounds::bounds;

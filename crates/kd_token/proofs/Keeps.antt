@@ -11,10 +11,10 @@ use Rattle.kd_token.specs.Table.{IsRoomFor}
 use Rattle.kd_token.specs.Shape.{AreShort, IsShortKind, take_bytes, take_bool, take_int, gives}
 
 -- what holds of a result, where there is one
-abbrev Keeps : {A : Type 0} → (A → Type 0) → Option A → Type 0
+abbrev pub Keeps : {A : Type 0} → (A → Type 0) → Option A → Type 0
 Keeps P o = MatchOption o (Unit {0}) P
 
-bind_keeps : {A B : Type 0} (P : A → Type 0) (Q : B → Type 0) (o : Option A) (f : A → Option B) → Keeps P o → ((x : A) → P x → Keeps Q (f x)) → Keeps Q (o >>= f)
+pub bind_keeps : {A B : Type 0} (P : A → Type 0) (Q : B → Type 0) (o : Option A) (f : A → Option B) → Keeps P o → ((x : A) → P x → Keeps Q (f x)) → Keeps Q (o >>= f)
 bind_keeps P Q None f k h = tt
 bind_keeps P Q (Some x) f k h = h x k
 

@@ -2,7 +2,6 @@ ghost use Rattle.std.specs.Prelude.{◌≡◌, ℕ, ◌<◌, ◌≤◌, ◌==◌
 ghost use Rattle.kd_token.specs.Table.{arrived, entry_at, point};
 
 use crate::shape::Shape;
-use std::mem;
 
 // What has arrived at a place: nothing, a shape with a greatest count of steps, or shapes that do not
 // meet.
