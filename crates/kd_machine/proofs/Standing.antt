@@ -1,23 +1,22 @@
 -- What stands at a place of an accepted program stands at the next one after a step, and at the end is one
 -- truth value.
-use Rattle.std.proofs.Common.{◌≡◌, ℕ, zero, suc, ◌+◌, ◌<◌, ◌≤◌, Bool, true, false, List, [], ◌∷◌, length, get_or, Option, Some, None, refl, ap, subst, ◌∙◌, arith}
+use Rattle.std.proofs.Common.{◌≡◌, ℕ, suc, ◌+◌, ◌<◌, ◌≤◌, Bool, true, false, List, [], ◌∷◌, length, Option, Some, None, refl, ap, subst, ◌∙◌, arith}
 use Rattle.std.specs.Prelude.{if◌then◌else◌, slice_get, MatchOption}
 use Rattle.std.specs.List.{AllByRecursion}
-use Rattle.std.proofs.lemmas.Option.{slice_get_within, get_or_from_slice_get}
+use Rattle.std.proofs.lemmas.Option.{slice_get_within}
 use Rattle.kd_options.specs.Message.{Seen, IsMessage}
 use Rattle.kd_token.specs.Accepts.{Accepts, Point, Flow, flow_to, way_of, flows_by, flows, leaving, origin, IsCovered, IsWithin}
-use Rattle.kd_token.specs.File.{Code, HasFile, AreTokens, IsToken}
+use Rattle.kd_token.specs.File.{Code, HasFile}
 use Rattle.kd_token.specs.Reading.{◌>>=◌}
 use Rattle.kd_token.specs.Shape.{Covers, CoversKind, AreShort, IsShortKind, gives, take_bool}
 use Rattle.kd_token.specs.Table.{skip_of}
 use Rattle.kd_token.specs.declared.shape.Kind.{Kind}
 use Rattle.kd_token.specs.declared.shape.Kind.TheVariants as kinds
 use Rattle.kd_token.specs.declared.token.Token.{Token}
-use Rattle.kd_token.specs.declared.token.Version.{Version}
 use Rattle.kd_token.specs.declared.way.Way.{Way}
 use Rattle.kd_token.specs.declared.way.Way.TheVariants as routes
 use Rattle.kd_token.proofs.Down.{Down}
-use Rattle.kd_token.proofs.Tidy.{reach_within}
+use Rattle.kd_token.proofs.Tidy.{is_token, reach_within}
 use Rattle.kd_machine.specs.Values.{Val, Truth, Number, Text, size, take_truth, longest}
 use Rattle.kd_machine.specs.World.{World, world}
 use Rattle.kd_machine.specs.Run.{rule, agrees, moves_by, moves}
@@ -66,19 +65,6 @@ fits_longest most (k ∷ r) (v ∷ s) a f =
     let top = size_short most k v a.0 f.0 in
     let rest = fits_longest most r s a.1 f.1 in
     omega (arith, top, rest)
-
--- a token of a program has what its file can say
-token_at : (version : Version) (list : List Token) (i : ℕ) (d : Token) → AreTokens version list → i < length list → (behind : ℕ) × IsToken version behind (get_or list i d)
-token_at version [] i d all less = absurd (omega (arith, less))
-token_at version (token ∷ list) zero d all less = (length list, all.0)
-token_at version (token ∷ list) (suc i) d all less = token_at version list i d all.1 (omega (arith, less))
-
-is_token : (p : Code) (i : ℕ) (token : Token) → HasFile p → slice_get p.tokens i ≡ Some token → (behind : ℕ) × IsToken p.version behind token
-is_token p i token file is =
-    let less : i < length p.tokens = slice_get_within p.tokens i token is in
-    let here : get_or p.tokens i token ≡ token = get_or_from_slice_get p.tokens i token token is in
-    let P : Token → Type 0 = λ t. (behind : ℕ) × IsToken p.version behind t in
-    subst P here (token_at p.version p.tokens i token file.tokens less)
 
 -- at the first place stand no values
 pub stands_first : (p : Code) → Accepts p → Stands p 0 0 []
@@ -166,7 +152,7 @@ stands_moves p message held i n s token file is st there =
     let here : leaving (length p.names) (slice_get p.tokens i) i (a.0 i) ≡ flows (length p.names) token i st.point =
     ap (λ o. leaving (length p.names) o i (a.0 i)) there ∙ ap (leaving (length p.names) (Some token) i) st.known in
     let L : Option (List Flow) → Type 0 = λ o. MatchOption o ⊥ (AllByRecursion (IsWithin p)) in
-    moved_by p (world p message held) a i n token st.point s st.counted st.fits (way_of token) (reach_within p i token file there) (rule_fits (world p message held) p.version of_file.0 token st.point.shape s is of_file.1 st.fits)
+    moved_by p (world p message held) a i n token st.point s st.counted st.fits (way_of token) (reach_within p i token file there) (rule_fits (world p message held) p.version of_file.0 token st.point.shape s is of_file.2 st.fits)
     (subst L here (a.1 i (omega (arith, less))).leave)
     (λ j le. let E : Option (List Flow) → Type 0 = λ o. MatchOption o (Unit {0}) (AllByRecursion (λ f. f.to ≡ j → IsCovered (a.0 j) f.point)) in subst E here ((a.1 j (omega (arith, le))).enter i))
 

@@ -184,10 +184,12 @@ program_again p has =
       ap (all_tokens_at p.version) none ∙ all_tokens_again p.version p.tokens [] has.few_tokens has.tokens,
     ) refl
 
--- the byte strings of a file's tokens have lengths of two bytes
+-- the byte string of a file's token has a length of two bytes
+pub token_short : (version : Version) (behind : ℕ) (token : Token) → IsToken version behind token → IsShort token
+token_short version behind (tokens.PushBytes bytes) is = is
+token_short version behind token is = tt
+
+-- the same of each token in a row
 pub are_short : (version : Version) (list : List Token) → AreTokens version list → AllByRecursion IsShort list
 are_short version [] all = tt
-are_short version (token ∷ list) all = (short version (length list) token all.0, are_short version list all.1) where
-  short : (version : Version) (behind : ℕ) (token : Token) → IsToken version behind token → IsShort token
-  short version behind (tokens.PushBytes bytes) is = is
-  short version behind token is = tt
+are_short version (token ∷ list) all = (token_short version (length list) token all.0, are_short version list all.1)

@@ -19,7 +19,7 @@ use Rattle.kd_token.specs.Shape.{AreShort, IsShortKind, gives, take_bool}
 use Rattle.kd_token.specs.Meet.{met_kind, met}
 use Rattle.kd_token.specs.Accepts.{Point, Flow, flow_to, way_of, flows_by, flows, IsWithin}
 use Rattle.kd_token.specs.Table.{joined_by, arrived, spread, skip_of, IsRoomFor, IsTidy, IsCoveredBy}
-use Rattle.kd_token.proofs.Again.{are_short}
+use Rattle.kd_token.proofs.Again.{token_short}
 use Rattle.kd_token.proofs.Arrivals.{spread_covers}
 
 kind_met : (most : ℕ) (k l : Kind) → IsShortKind most k → IsShortKind most l → MatchOption (met_kind k l) (Unit {0}) (IsShortKind most)
@@ -146,27 +146,30 @@ branch_within versions.One behind (tokens.BranchTrueElsePop skip) is = absurd is
 branch_within versions.Two behind (tokens.BranchTrueElsePop skip) is = is
 branch_within version behind token is = omega arith
 
-reach_at : (version : Version) (list : List Token) (i : ℕ) (d : Token) → AreTokens version list → i < length list → i + 1 + skip_of (way_of (get_or list i d)) ≤ length list
-reach_at version [] i d all less = absurd (omega (arith, less))
-reach_at version (token ∷ list) zero d all less = let le = branch_within version (length list) token all.0 in omega (arith, le)
-reach_at version (token ∷ list) (suc i) d all less = let le = reach_at version list i d all.1 (omega (arith, less)) in omega (arith, le)
+token_at : (version : Version) (list : List Token) (i : ℕ) (d : Token) → AreTokens version list → i < length list → (behind : ℕ) × (i + 1 + behind ≡ length list) × IsToken version behind (get_or list i d)
+token_at version [] i d all less = absurd (omega (arith, less))
+token_at version (token ∷ list) zero d all less = (length list, omega arith, all.0)
+token_at version (token ∷ list) (suc i) d all less =
+    let rest = token_at version list i d all.1 (omega (arith, less)) in
+    let behind = rest.1 in
+    (rest.0, omega (arith, behind), rest.2)
+
+-- a token of a program has what its file can say, with so many tokens behind it
+pub is_token : (p : Code) (i : ℕ) (token : Token) → HasFile p → slice_get p.tokens i ≡ Some token → (behind : ℕ) × (i + 1 + behind ≡ length p.tokens) × IsToken p.version behind token
+is_token p i token file is =
+    let less : i < length p.tokens = slice_get_within p.tokens i token is in
+    let here : get_or p.tokens i token ≡ token = get_or_from_slice_get p.tokens i token token is in
+    let P : Token → Type 0 = λ t. (behind : ℕ) × (i + 1 + behind ≡ length p.tokens) × IsToken p.version behind t in
+    subst P here (token_at p.version p.tokens i token file.tokens less)
 
 -- a token of a program leads at most to its end
 pub reach_within : (p : Code) (i : ℕ) (token : Token) → HasFile p → slice_get p.tokens i ≡ Some token → i + 1 + skip_of (way_of token) ≤ length p.tokens
 reach_within p i token file is =
-    let less : i < length p.tokens = slice_get_within p.tokens i token is in
-    let here : get_or p.tokens i token ≡ token = get_or_from_slice_get p.tokens i token token is in
-    let P : Token → Type 0 = λ t. i + 1 + skip_of (way_of t) ≤ length p.tokens in
-    subst P here (reach_at p.version p.tokens i token file.tokens less)
-
-short_at : (list : List Token) (i : ℕ) (d : Token) → AllByRecursion IsShort list → i < length list → IsShort (get_or list i d)
-short_at [] i d all less = absurd (omega (arith, less))
-short_at (token ∷ list) zero d all less = all.0
-short_at (token ∷ list) (suc i) d all less = short_at list i d all.1 (omega (arith, less))
+    let told = is_token p i token file is in
+    let place = told.1 in
+    let le = branch_within p.version told.0 token told.2 in
+    omega (arith, place, le)
 
 -- a byte string of a program's token is short
 pub literal_short : (p : Code) (i : ℕ) (token : Token) → HasFile p → slice_get p.tokens i ≡ Some token → IsShort token
-literal_short p i token file is =
-    let less : i < length p.tokens = slice_get_within p.tokens i token is in
-    let here : get_or p.tokens i token ≡ token = get_or_from_slice_get p.tokens i token token is in
-    subst IsShort here (short_at p.tokens i token (are_short p.version p.tokens file.tokens) less)
+literal_short p i token file is = let told = is_token p i token file is in token_short p.version told.0 token told.2
