@@ -73,12 +73,12 @@ running_on p message held i n s d l token j t file is run there moved =
           omega (arith, ahead, before);
     }
 
--- the stack has room for what a step leaves
-pub has_room : (p : Code) (message : Seen) (held : List (List ℕ)) (i n : ℕ) (s : List Val) (d l : ℕ) (token : Token) → HasFile p → IsMessage message → IsRunning p message held i n s d l → slice_get p.tokens i ≡ Some token → MatchOption (moves (world p message held) token i s) ⊥ (λ r. length r.1 ≤ 64)
-has_room p message held i n s d l token file is run there = by (moves (world p message held) token i s) (stands_moves p message held i n s token file is run.stands there) where
-  by : (o : Option (ℕ × List Val)) → MatchOption o ⊥ (λ r. Stands p r.0 (n + 1) r.1) → MatchOption o ⊥ (λ r. length r.1 ≤ 64)
+-- a stack with room for the declared depth has room for what a step leaves
+pub has_room : (room : ℕ) (p : Code) (message : Seen) (held : List (List ℕ)) (i n : ℕ) (s : List Val) (d l : ℕ) (token : Token) → p.depth ≤ room → HasFile p → IsMessage message → IsRunning p message held i n s d l → slice_get p.tokens i ≡ Some token → MatchOption (moves (world p message held) token i s) ⊥ (λ r. length r.1 ≤ room)
+has_room room p message held i n s d l token most file is run there = by (moves (world p message held) token i s) (stands_moves p message held i n s token file is run.stands there) where
+  by : (o : Option (ℕ × List Val)) → MatchOption o ⊥ (λ r. Stands p r.0 (n + 1) r.1) → MatchOption o ⊥ (λ r. length r.1 ≤ room)
   by None m = m
-  by (Some r) m = let deep = m.deep in let most = file.depth in omega (arith, deep, most)
+  by (Some r) m = let deep = m.deep in omega (arith, deep, most)
 
 -- the longest value after a step is the one on top, or was counted before
 top_alone : (t : List Val) (l : ℕ) → longest (drop 1 t) ≤ l → max l (top_size t) ≡ max l (longest t)
@@ -109,7 +109,7 @@ finishes p message held i n s d l run e =
     by (take_truth s) end.1 end.0 where
       by : (o : Option (Bool × List Val)) → MatchOption o ⊥ (λ r. Run p message held r.0 n d l) → n ≤ p.steps → EndsWithin p message held
       by None r le = absurd r
-      by (Some v) r le = (v.0, n, d, l, r, le, run.depth, run.bound)
+      by (Some v) r le = (v.0, n, d, l, (r, le, run.depth, run.bound))
 
 -- a run that has at most so many places before it ends
 ends_from : (fuel : ℕ) (p : Code) (message : Seen) (held : List (List ℕ)) (i n : ℕ) (s : List Val) (d l : ℕ) → HasFile p → IsMessage message → length p.tokens ≤ i + fuel → IsRunning p message held i n s d l → EndsWithin p message held

@@ -22,7 +22,7 @@ value_of (values.Bool b) = Truth b
 value_of (values.Int n) = Number n
 value_of (values.Slice bytes) = Text bytes.now
 value_of (values.Small bytes) = Text bytes
-value_of (values.Owned bytes) = Text bytes
+value_of (values.Owned bytes) = Text bytes.value
 
 -- the byte string on top, and what is below it
 abbrev pub take_text : List Val → Option (List ℕ × List Val)

@@ -12,6 +12,7 @@
 #![tactic(auto)]
 
 mod bounds;
+mod cells;
 mod held;
 pub mod laws;
 mod run;

@@ -1,6 +1,6 @@
-ghost use Rattle.std.specs.Prelude.{◌≡◌, ◌<◌, ◌≤◌, IfOk, IsOk, MatchOption, Some, length};
+ghost use Rattle.std.specs.Prelude.{◌≡◌, ◌<◌, ◌≤◌, [], IfOk, IsOk, MatchOption, Some, length};
 ghost use Rattle.std.specs.List.{AllByRecursion};
-ghost use Rattle.kd_machine.specs.Run.{IsFree, Run, agrees, moves};
+ghost use Rattle.kd_machine.specs.Run.{EndsAs, IsFree, Run, agrees, moves};
 ghost use Rattle.kd_machine.specs.World.{world};
 
 use crate::held::Held;
@@ -43,16 +43,86 @@ pub fn eval<'a>(
     ensures free { AllByRecursion IsFree verified.now.tokens → IsOk result }
 {
     let program = verified.program();
+    // what the bounds of a program are comes with its tokens
+    let _tokens = program.tokens();
+    match program.depth() {
+        0..=4 => shallow(alloc, verified, message, held),
+        5..=16 => deep(alloc, verified, message, held),
+        _ => deepest(alloc, verified, message, held),
+    }
+}
+
+// The run of a program of at most 4 values.
+#[inline(never)]
+fn shallow<'a>(
+    alloc: Global,
+    verified: &'a Verified,
+    message: &'a Message<'_>,
+    held: &Held,
+) -> Result<Outcome, AllocError>
+    requires { verified.now.depth ≤ 4 }
+    ensures run { IfOk result (λ o. EndsAs verified.now message.now held.now o.value o.steps o.peak_depth o.peak_length) }
+    ensures free { AllByRecursion IsFree verified.now.tokens → IsOk result }
+{
+    let mut stack = Stack::<4>::new();
+    within(alloc, &mut stack, verified, message, held)
+}
+
+// The run of a program of at most 16 values.
+#[inline(never)]
+fn deep<'a>(
+    alloc: Global,
+    verified: &'a Verified,
+    message: &'a Message<'_>,
+    held: &Held,
+) -> Result<Outcome, AllocError>
+    requires { verified.now.depth ≤ 16 }
+    ensures run { IfOk result (λ o. EndsAs verified.now message.now held.now o.value o.steps o.peak_depth o.peak_length) }
+    ensures free { AllByRecursion IsFree verified.now.tokens → IsOk result }
+{
+    let mut stack = Stack::<16>::new();
+    within(alloc, &mut stack, verified, message, held)
+}
+
+// The run of a program of at most 64 values, which every program is.
+#[inline(never)]
+fn deepest<'a>(
+    alloc: Global,
+    verified: &'a Verified,
+    message: &'a Message<'_>,
+    held: &Held,
+) -> Result<Outcome, AllocError>
+    requires { verified.now.depth ≤ 64 }
+    ensures run { IfOk result (λ o. EndsAs verified.now message.now held.now o.value o.steps o.peak_depth o.peak_length) }
+    ensures free { AllByRecursion IsFree verified.now.tokens → IsOk result }
+{
+    let mut stack = Stack::<64>::new();
+    within(alloc, &mut stack, verified, message, held)
+}
+
+// The run of a program on an empty stack with room for its declared depth.
+fn within<'a, const ROOM: usize>(
+    alloc: Global,
+    stack: &mut Stack<'a, ROOM>,
+    verified: &'a Verified,
+    message: &'a Message<'_>,
+    held: &Held,
+) -> Result<Outcome, AllocError>
+    requires empty { stack.old ≡ [] }
+    requires room { verified.now.depth ≤ ROOM }
+    ensures run { IfOk result (λ o. EndsAs verified.now message.now held.now o.value o.steps o.peak_depth o.peak_length) }
+    ensures free { AllByRecursion IsFree verified.now.tokens → IsOk result }
+{
+    let program = verified.program();
     let tokens = program.tokens();
     // what the bounds of a message's values are comes with its length
     let _size = message.len();
-    let mut stack = Stack::new();
     let mut at = 0;
     let mut steps = 0;
     let mut peak_depth = 0usize;
     let mut peak_length = 0usize;
     'tokens: while at < tokens.len() {
-        at = advance(alloc, &mut stack, at, &tokens[at], program, message, held)?;
+        at = advance(alloc, stack, at, &tokens[at], program, message, held)?;
         steps += 1;
         peak_depth = peak_depth.max(stack.len());
         peak_length = peak_length.max(stack.top_size());
@@ -73,9 +143,9 @@ fn agrees(stays: bool, truth: bool) -> bool
 }
 
 // The token at place `at` is run; where it leads.
-fn advance<'a>(
+fn advance<'a, const ROOM: usize>(
     alloc: Global,
-    stack: &mut Stack<'a>,
+    stack: &mut Stack<'a, ROOM>,
     at: usize,
     token: &'a Token,
     program: &'a Program,
@@ -83,7 +153,7 @@ fn advance<'a>(
     held: &Held,
 ) -> Result<usize, AllocError>
     requires near { at < 1024 }
-    requires room { MatchOption (moves (world program.now message.now held.now) token.now at stack.old) ⊥ (λ r. length r.1 ≤ 64) }
+    requires room { MatchOption (moves (world program.now message.now held.now) token.now at stack.old) ⊥ (λ r. length r.1 ≤ ROOM) }
     ensures moved { IfOk result (λ j. moves (world program.now message.now held.now) token.now at stack.old ≡ Some (j, stack.new)) }
     ensures free { IsFree token.now → IsOk result }
 {

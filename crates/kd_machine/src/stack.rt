@@ -1,34 +1,36 @@
-ghost use Rattle.std.specs.Prelude.{◌≡◌, ◌<◌, ◌∷◌, [], IsSome, MatchOption, Some, length};
+ghost use Rattle.std.specs.Prelude.{◌≡◌, ◌<◌, ◌∷◌, [], IsSome, IsSomeAnd, MatchOption, Some, length, map, reverse};
 ghost use Rattle.kd_machine.specs.Values.{Text, take_number, take_text, take_truth, top_size, value_of};
 
+use crate::cells::Cells;
 use crate::value::Value;
-use arrayvec::ArrayVec;
 use std::marker::Model;
 
 // The values of a run, the top last.
 #[derive(Drop)]
-pub(crate) struct Stack<'a> {
-    values: ArrayVec<Value<'a>, 64>,
+pub(crate) struct Stack<'a, const ROOM: usize> {
+    values: Cells<Value<'a>, ROOM>,
 }
 
-impl<'a> Model for Stack<'a> {
+impl<'a, const ROOM: usize> Model for Stack<'a, ROOM> {
     ghost use Rattle.std.specs.Prelude.{List, map, reverse};
     ghost use Rattle.kd_machine.specs.Values.{Val, value_of};
 
     ghost Value = { List Val };
 
-    ghost view = { λ s. map value_of (reverse s.values.items) };
+    ghost view = { λ s. map value_of (reverse s.values) };
 }
 
-impl<'a> Stack<'a> {
-    pub(crate) fn new() -> Stack<'a>
+impl<'a, const ROOM: usize> Stack<'a, ROOM> {
+    #[inline]
+    pub(crate) fn new() -> Stack<'a, ROOM>
         ensures { result ≡ [] }
     {
         Stack {
-            values: ArrayVec::new(),
+            values: Cells::new(),
         }
     }
 
+    #[inline]
     pub(crate) fn len(&self) -> usize
         ensures { result ≡ length self.now }
     {
@@ -36,6 +38,7 @@ impl<'a> Stack<'a> {
     }
 
     // The length of the value on top.
+    #[inline]
     pub(crate) fn top_size(&self) -> usize
         ensures { result ≡ top_size self.now }
     {
@@ -45,44 +48,82 @@ impl<'a> Stack<'a> {
         }
     }
 
+    #[inline]
     pub(crate) fn push(&mut self, value: Value<'a>)
-        requires { length self.old < 64 }
+        requires { length self.old < ROOM }
         ensures { self.new ≡ value_of value.entry ∷ self.old }
     {
         self.values.push(value);
     }
 
-    // The byte string on top is taken.
-    pub(crate) fn pop_text(&mut self) -> Value<'a>
-        requires { IsSome (take_text self.old) }
-        ensures { MatchOption (take_text self.old) ⊥ (λ r. (value_of result ≡ Text r.0) × (self.new ≡ r.1)) }
+    // The byte string on top.
+    #[inline]
+    pub(crate) fn text(&self) -> &[u8]
+        requires { IsSome (take_text self.now) }
+        ensures { MatchOption (take_text self.now) ⊥ (λ r. r.0 ≡ result.now) }
     {
-        match self.values.pop() {
-            Some(value) => value,
+        match self.values.as_slice().last() {
+            Some(value) => value.as_slice(),
             None => unreachable!(),
         }
     }
 
-    // The truth value on top is taken.
-    pub(crate) fn pop_truth(&mut self) -> bool
-        requires { IsSome (take_truth self.old) }
-        ensures { take_truth self.old ≡ Some (result, self.new) }
+    // The two byte strings on top, the lower one first.
+    #[inline]
+    pub(crate) fn two_texts(&self) -> (&[u8], &[u8])
+        requires { IsSomeAnd (take_text self.now) (λ b. IsSome (take_text b.1)) }
+        ensures { MatchOption (take_text self.now) ⊥ (λ b. (b.0 ≡ result.1.now) × MatchOption (take_text b.1) ⊥ (λ a. a.0 ≡ result.0.now)) }
     {
-        match self.values.pop() {
-            Some(Value::Bool(b)) => b,
-            Some(Value::Nothing) => false,
+        match self.values.as_slice() {
+            [.., first, second] => (first.as_slice(), second.as_slice()),
             _ => unreachable!(),
         }
     }
 
+    // The byte string on top is let go.
+    #[inline]
+    pub(crate) fn drop_text(&mut self)
+        requires { IsSome (take_text self.old) }
+        ensures { MatchOption (take_text self.old) ⊥ (λ r. self.new ≡ r.1) }
+    {
+        self.values.drop_last();
+    }
+
+    // The byte string on top is taken.
+    #[inline]
+    pub(crate) fn pop_text(&mut self) -> Value<'a>
+        requires { IsSome (take_text self.old) }
+        ensures { MatchOption (take_text self.old) ⊥ (λ r. (value_of result ≡ Text r.0) × (self.new ≡ r.1)) }
+    {
+        self.values.pop()
+    }
+
+    // The truth value on top is taken.
+    #[inline]
+    pub(crate) fn pop_truth(&mut self) -> bool
+        requires { IsSome (take_truth self.old) }
+        ensures { take_truth self.old ≡ Some (result, self.new) }
+    {
+        let truth = match self.values.as_slice().last() {
+            Some(Value::Bool(b)) => *b,
+            Some(Value::Nothing) => false,
+            _ => unreachable!(),
+        };
+        self.values.drop_last();
+        truth
+    }
+
     // The number on top is taken.
+    #[inline]
     pub(crate) fn pop_number(&mut self) -> u32
         requires { IsSome (take_number self.old) }
         ensures { take_number self.old ≡ Some (result, self.new) }
     {
-        match self.values.pop() {
-            Some(Value::Int(n)) => n,
+        let number = match self.values.as_slice().last() {
+            Some(Value::Int(n)) => *n,
             _ => unreachable!(),
-        }
+        };
+        self.values.drop_last();
+        number
     }
 }

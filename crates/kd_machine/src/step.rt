@@ -7,7 +7,7 @@ use crate::bounds::bounds;
 use crate::held::Held;
 use crate::stack::Stack;
 use crate::text::{decimal, hex_text, joined};
-use crate::value::{Owned, Small, Value};
+use crate::value::{Small, Value};
 use kd_options::Message;
 use kd_token::{Field, Program, Token};
 use std::alloc::{AllocError, Global};
@@ -33,15 +33,15 @@ fn field_value<'a>(message: &'a Message<'_>, field: Field) -> Value<'a>
 
 // One token of a program is run; a branch leaves the values to its caller.
 #[tactic(auto, unfolding(crate::specs::Run::rule))]
-pub(crate) fn step<'a>(
+pub(crate) fn step<'a, const ROOM: usize>(
     alloc: Global,
-    stack: &mut Stack<'a>,
+    stack: &mut Stack<'a, ROOM>,
     token: &'a Token,
     program: &'a Program,
     message: &'a Message<'_>,
     held: &Held,
 ) -> Result<(), AllocError>
-    requires room { MatchOption (rule (world program.now message.now held.now) token.now stack.old) ⊥ (λ t. length t ≤ 64) }
+    requires room { MatchOption (rule (world program.now message.now held.now) token.now stack.old) ⊥ (λ t. length t ≤ ROOM) }
     ensures ruled { OnOk result (rule (world program.now message.now held.now) token.now stack.old ≡ Some stack.new) }
     ensures free { IsFree token.now → IsOk result }
 {
@@ -60,9 +60,11 @@ pub(crate) fn step<'a>(
             None => unreachable!(),
         },
         Token::Equal => {
-            let second = stack.pop_text();
-            let first = stack.pop_text();
-            stack.push(Value::Bool(first.as_slice() == second.as_slice()));
+            let (first, second) = stack.two_texts();
+            let equal = first == second;
+            stack.drop_text();
+            stack.drop_text();
+            stack.push(Value::Bool(equal));
         }
         Token::Not => {
             let truth = stack.pop_truth();
@@ -94,30 +96,32 @@ pub(crate) fn step<'a>(
             stack.push(value);
         }
         Token::Concat => {
-            let second = stack.pop_text();
-            let first = stack.pop_text();
-            let bytes = joined(alloc, first.as_slice(), second.as_slice())?;
-            stack.push(Value::Owned(Owned::new(bytes)));
+            let (first, second) = stack.two_texts();
+            let bytes = joined(alloc, first, second)?;
+            stack.drop_text();
+            stack.drop_text();
+            stack.push(Value::owned(alloc, bytes)?);
         }
         Token::HexString => {
-            let separator = stack.pop_text();
-            let value = stack.pop_text();
-            let bytes = hex_text(alloc, value.as_slice(), separator.as_slice())?;
-            stack.push(Value::Owned(Owned::new(bytes)));
+            let (value, separator) = stack.two_texts();
+            let bytes = hex_text(alloc, value, separator)?;
+            stack.drop_text();
+            stack.drop_text();
+            stack.push(Value::owned(alloc, bytes)?);
         }
         Token::Lower => {
-            let value = stack.pop_text();
-            let bytes = value.as_slice().to_ascii_lowercase(alloc)?;
-            stack.push(Value::Owned(Owned::new(bytes)));
+            let bytes = stack.text().to_ascii_lowercase(alloc)?;
+            stack.drop_text();
+            stack.push(Value::owned(alloc, bytes)?);
         }
         Token::Upper => {
-            let value = stack.pop_text();
-            let bytes = value.as_slice().to_ascii_uppercase(alloc)?;
-            stack.push(Value::Owned(Owned::new(bytes)));
+            let bytes = stack.text().to_ascii_uppercase(alloc)?;
+            stack.drop_text();
+            stack.push(Value::owned(alloc, bytes)?);
         }
         Token::IntToText => {
             let bytes = decimal(alloc, stack.pop_number())?;
-            stack.push(Value::Owned(Owned::new(bytes)));
+            stack.push(Value::owned(alloc, bytes)?);
         }
         Token::IntBytes => {
             let number = stack.pop_number();

@@ -1,10 +1,11 @@
-ghost use Rattle.std.specs.Prelude.{◌≡◌, ℕ, ◌≤◌, List, length, slice_range};
+ghost use Rattle.std.specs.Prelude.{◌≡◌, ℕ, ◌≤◌, IfOk, List, length, slice_range};
 ghost use Rattle.kd_machine.specs.Values.{IsText, Text, size, value_of};
 
+use std::alloc::{AllocError, Global};
 use std::marker::Model;
 
-// A value on the stack. A byte string is a part of the message or of the program, four bytes held in place,
-// or bytes of its own.
+// A value on the stack, of three words. A byte string is a part of the message or of the program, four bytes
+// held in place, or bytes of its own behind a pointer.
 #[derive(Drop, Default)]
 pub(crate) enum Value<'a> {
     #[default]
@@ -13,10 +14,17 @@ pub(crate) enum Value<'a> {
     Int(u32),
     Slice(&'a [u8]),
     Small(Small),
-    Owned(Owned),
+    Owned(Box<Owned>),
 }
 
 impl<'a> Value<'a> {
+    // These bytes, as its own.
+    pub(crate) fn owned(alloc: Global, bytes: Vec<u8>) -> Result<Value<'a>, AllocError>
+        ensures { IfOk result (λ v. value_of v ≡ Text bytes.items) }
+    {
+        Ok(Value::Owned(Box::new(alloc, Owned::new(bytes))?))
+    }
+
     // The byte string.
     pub(crate) fn as_slice(&self) -> &[u8]
         requires { IsText (value_of self.now) }
@@ -62,8 +70,8 @@ impl<'a> Value<'a> {
 #[derive(Drop)]
 pub(crate) struct Small {
     bytes: [u8; 4],
-    start: usize,
-    end: usize,
+    start: u8,
+    end: u8,
 }
 
 impl Model for Small {
@@ -91,7 +99,7 @@ impl Small {
     fn as_slice(&self) -> &[u8]
         ensures { result.now ≡ self.now }
     {
-        &self.bytes[self.start..self.end]
+        &self.bytes[usize::from(self.start)..usize::from(self.end)]
     }
 
     fn narrow(&mut self, from: usize, to: usize)
@@ -99,8 +107,8 @@ impl Small {
         requires within { to ≤ length self.old }
         ensures { self.new ≡ slice_range self.old from to }
     {
-        self.end = self.start + to;
-        self.start = self.start + from;
+        self.end = self.start + to as u8;
+        self.start += from as u8;
     }
 }
 
@@ -124,7 +132,7 @@ impl Model for Owned {
 
 impl Owned {
     // These bytes.
-    pub(crate) fn new(bytes: Vec<u8>) -> Owned
+    fn new(bytes: Vec<u8>) -> Owned
         ensures { result ≡ bytes.items }
     {
         let end = bytes.len();

@@ -1,32 +1,32 @@
-use Rattle.std.proofs.Common.{◌≡◌, ◌∙◌, length, Some, refl, sym, ap, subst, arith}
+use Rattle.std.proofs.Common.{rules, ◌≡◌, ◌∙◌, length, Some, refl, sym, ap, subst, arith}
 use Rattle.std.specs.Prelude.{slice_get}
 use Rattle.std.proofs.lemmas.Option.{slice_get_read}
 use Rattle.kd_token.specs.File.{HasFile}
 use Rattle.kd_machine.specs.World.{world}
 use Rattle.kd_machine.specs.Run.{moves}
 use Rattle.kd_machine.proofs.Ending.{has_room, running_first, running_next}
-use Rattle.kd_machine.proofs.run.eval.Goals as goal
+use Rattle.kd_machine.proofs.run.within.Goals as goal
 
 pub tokens-init : goal.tokens-init
-tokens-init c = rw c.new-stack.ensures (running_first c.args.verified.now c.args.message.now c.args.held.now c.program-program.ensures.accepted)
+tokens-init g c = rw c.requires.empty (running_first c.args.verified.now c.args.message.now c.args.held.now c.program-program.ensures.accepted)
 
-pub advance-requires-clause-room : goal.advance-requires-clause-room
-advance-requires-clause-room c =
+pub advance-requires : goal.advance-requires
+advance-requires g c =
     let same = c.program-program.ensures.program in
     let file : HasFile c.args.verified.now = subst HasFile same c.tokens-tokens.ensures.limits in
     let list = c.tokens-tokens.ensures.tokens ∙ ap (λ p. p.tokens) same in
     let there : slice_get c.args.verified.now.tokens c.tokens.at ≡ Some c.index-tokens-at.result =
     ap (λ xs. slice_get xs c.tokens.at) (sym list) ∙ slice_get_read c.tokens-tokens.result.now (length c.tokens-tokens.result.now) c.tokens.at c.index-tokens-at.result refl c.tokens-test.true c.index-tokens-at.is in
-    rw same (has_room c.args.verified.now c.args.message.now c.args.held.now c.tokens.at c.tokens.steps c.tokens.stack c.tokens.peak_depth c.tokens.peak_length c.index-tokens-at.result file c.len-size.ensures.message c.tokens.invariant there)
+    (search rules, (search rules, rw same (has_room g.row.ROOM c.args.verified.now c.args.message.now c.args.held.now c.tokens.at c.tokens.steps c.tokens.stack c.tokens.peak_depth c.tokens.peak_length c.index-tokens-at.result c.requires.room file c.len-size.ensures.message c.tokens.invariant there)))
 
 pub overflow_add-steps : goal.overflow_add-steps
-overflow_add-steps c =
+overflow_add-steps g c =
     let few = c.tokens-tokens.ensures.limits.few_tokens in
     let size = ap length c.tokens-tokens.ensures.tokens in
     omega (arith, few, size, c.tokens-test.true, c.tokens.invariant.forward)
 
 pub tokens-preserved : goal.tokens-preserved
-tokens-preserved c =
+tokens-preserved g c =
     let same = c.program-program.ensures.program in
     let file : HasFile c.args.verified.now = subst HasFile same c.tokens-tokens.ensures.limits in
     let list = c.tokens-tokens.ensures.tokens ∙ ap (λ p. p.tokens) same in

@@ -1,9 +1,0 @@
-use Rattle.std.proofs.Common.{length, ◌-◌}
-use Rattle.kd_machine.specs.Fits.{IsRunning}
-use Rattle.kd_machine.proofs.run.eval.Given as goal
-
-abbrev pub invariant-tokens : goal.invariant-tokens
-invariant-tokens l = IsRunning l.verified l.message l.held l.at l.steps l.stack l.peak_depth l.peak_length
-
-abbrev pub decreases-tokens : goal.decreases-tokens
-decreases-tokens l = length l.tokens - l.at
