@@ -21,6 +21,7 @@ mod step;
 #[cfg(test)]
 mod tests;
 mod text;
+mod texts;
 mod value;
 
 pub use held::Held;

@@ -1,12 +1,13 @@
-ghost use Rattle.std.specs.Prelude.{◌≡◌, ◌≤◌, IsOk, MatchOption, OnOk, Some, length};
+ghost use Rattle.std.specs.Prelude.{◌≡◌, ◌<◌, ◌≤◌, ◌∷◌, IsOk, MatchOption, OnOk, Some, length, nat_eq};
 ghost use Rattle.kd_machine.specs.Run.{IsFree, rule};
-ghost use Rattle.kd_machine.specs.Values.{value_of};
-ghost use Rattle.kd_machine.specs.World.{field_value, world};
+ghost use Rattle.kd_machine.specs.Values.{Text, value_of};
+ghost use Rattle.kd_machine.specs.World.{field_value, or_empty, world};
+ghost use Rattle.std.specs.Map.{lookup};
+ghost use Rattle.kd_options.specs.RelayWalk.{relay_list};
 
-use crate::bounds::bounds;
 use crate::held::Held;
 use crate::stack::Stack;
-use crate::text::{decimal, hex_text, joined};
+use crate::texts::{choose, concat, digits, equal, hex_string, lower, narrow, upper};
 use crate::value::{Small, Value};
 use kd_options::Message;
 use kd_token::{Field, Program, Token};
@@ -31,6 +32,30 @@ fn field_value<'a>(message: &'a Message<'_>, field: Field) -> Value<'a>
     }
 }
 
+// The value of a field is pushed.
+fn push_field<'a, const ROOM: usize>(
+    stack: &mut Stack<'a, ROOM>,
+    message: &'a Message<'_>,
+    field: Field,
+)
+    requires { length stack.old < ROOM }
+    ensures { stack.new ≡ field_value message.now field ∷ stack.old }
+{
+    stack.push(field_value(message, field));
+}
+
+// The value of a sub-option is pushed, the empty string where it is absent.
+fn push_relay<'a, const ROOM: usize>(
+    stack: &mut Stack<'a, ROOM>,
+    message: &'a Message<'_>,
+    code: u8,
+)
+    requires { length stack.old < ROOM }
+    ensures { stack.new ≡ Text (or_empty (lookup (nat_eq code) (relay_list message.now.options))) ∷ stack.old }
+{
+    stack.push(Value::Slice(message.relay(code).unwrap_or(&[])));
+}
+
 // One token of a program is run; a branch leaves the values to its caller.
 #[tactic(auto, unfolding(crate::specs::Run::rule))]
 pub(crate) fn step<'a, const ROOM: usize>(
@@ -51,21 +76,15 @@ pub(crate) fn step<'a, const ROOM: usize>(
         Token::PushOption(code) => {
             stack.push(Value::Slice(message.option(*code).unwrap_or(&[])));
         }
-        Token::PushRelay(code) => stack.push(Value::Slice(message.relay(*code).unwrap_or(&[]))),
-        Token::PushField(field) => stack.push(field_value(message, *field)),
+        Token::PushRelay(code) => push_relay(stack, message, *code),
+        Token::PushField(field) => push_field(stack, message, *field),
         Token::OptionExists(code) => stack.push(Value::Bool(message.option(*code).is_some())),
         Token::RelayExists(code) => stack.push(Value::Bool(message.relay(*code).is_some())),
         Token::Member(index) => match program.name_at(usize::from(*index)) {
             Some(name) => stack.push(Value::Bool(held.contains(name))),
             None => unreachable!(),
         },
-        Token::Equal => {
-            let (first, second) = stack.two_texts();
-            let equal = first == second;
-            stack.drop_text();
-            stack.drop_text();
-            stack.push(Value::Bool(equal));
-        }
+        Token::Equal => equal(stack),
         Token::Not => {
             let truth = stack.pop_truth();
             stack.push(Value::Bool(!truth));
@@ -80,49 +99,13 @@ pub(crate) fn step<'a, const ROOM: usize>(
             let first = stack.pop_truth();
             stack.push(Value::Bool(first || second));
         }
-        Token::IfElse => {
-            let second = stack.pop_text();
-            let first = stack.pop_text();
-            if stack.pop_truth() {
-                stack.push(first);
-            } else {
-                stack.push(second);
-            }
-        }
-        Token::Substring(start, count) => {
-            let mut value = stack.pop_text();
-            let (from, to) = bounds(*start, *count, value.as_slice().len());
-            value.narrow(from, to);
-            stack.push(value);
-        }
-        Token::Concat => {
-            let (first, second) = stack.two_texts();
-            let bytes = joined(alloc, first, second)?;
-            stack.drop_text();
-            stack.drop_text();
-            stack.push(Value::owned(alloc, bytes)?);
-        }
-        Token::HexString => {
-            let (value, separator) = stack.two_texts();
-            let bytes = hex_text(alloc, value, separator)?;
-            stack.drop_text();
-            stack.drop_text();
-            stack.push(Value::owned(alloc, bytes)?);
-        }
-        Token::Lower => {
-            let bytes = stack.text().to_ascii_lowercase(alloc)?;
-            stack.drop_text();
-            stack.push(Value::owned(alloc, bytes)?);
-        }
-        Token::Upper => {
-            let bytes = stack.text().to_ascii_uppercase(alloc)?;
-            stack.drop_text();
-            stack.push(Value::owned(alloc, bytes)?);
-        }
-        Token::IntToText => {
-            let bytes = decimal(alloc, stack.pop_number())?;
-            stack.push(Value::owned(alloc, bytes)?);
-        }
+        Token::IfElse => choose(stack),
+        Token::Substring(start, count) => narrow(stack, *start, *count),
+        Token::Concat => concat(alloc, stack)?,
+        Token::HexString => hex_string(alloc, stack)?,
+        Token::Lower => lower(alloc, stack)?,
+        Token::Upper => upper(alloc, stack)?,
+        Token::IntToText => digits(alloc, stack)?,
         Token::IntBytes => {
             let number = stack.pop_number();
             stack.push(Value::Small(Small::new(number.to_be_bytes())));

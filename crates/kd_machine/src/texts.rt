@@ -1,0 +1,126 @@
+ghost use Rattle.std.specs.Prelude.{◌≡◌, ◌<◌, ◌∷◌, ◌++◌, if◌then◌else◌, IsSome, IsSomeAnd, MatchOption, OnOk, length, map};
+ghost use Rattle.std.specs.Char.{to_ascii_lowercase, to_ascii_uppercase};
+ghost use Rattle.std.specs.Fmt.{decimal};
+ghost use Rattle.kd_machine.specs.Strings.{hex_text, substring};
+ghost use Rattle.kd_machine.specs.Values.{Text, Truth, take_number, take_text, take_truth};
+ghost use Rattle.kd_machine.specs.World.{same};
+
+use crate::bounds::bounds;
+use crate::stack::Stack;
+use crate::text::{decimal, hex_text, joined};
+use crate::value::Value;
+use std::alloc::{AllocError, Global};
+
+// Of two byte strings the lower one where the truth value below them is true, else the upper one.
+pub(crate) fn choose<const ROOM: usize>(stack: &mut Stack<'_, ROOM>)
+    requires { IsSomeAnd (take_text stack.old) (λ b. IsSomeAnd (take_text b.1) (λ a. IsSomeAnd (take_truth a.1) (λ c. length c.1 < ROOM))) }
+    ensures { MatchOption (take_text stack.old) ⊥ (λ b. MatchOption (take_text b.1) ⊥ (λ a. MatchOption (take_truth a.1) ⊥ (λ c. stack.new ≡ Text (if c.0 then a.0 else b.0) ∷ c.1))) }
+{
+    let second = stack.pop_text();
+    let first = stack.pop_text();
+    if stack.pop_truth() {
+        stack.push(first);
+    } else {
+        stack.push(second);
+    }
+}
+
+// A part of a byte string.
+pub(crate) fn narrow<const ROOM: usize>(
+    stack: &mut Stack<'_, ROOM>,
+    start: i32,
+    count: Option<i32>,
+)
+    requires { IsSomeAnd (take_text stack.old) (λ a. length a.1 < ROOM) }
+    ensures { MatchOption (take_text stack.old) ⊥ (λ a. stack.new ≡ Text (substring start count a.0) ∷ a.1) }
+{
+    let mut value = stack.pop_text();
+    let (from, to) = bounds(start, count, value.as_slice().len());
+    value.narrow(from, to);
+    stack.push(value);
+}
+
+// Two byte strings, one after the other.
+pub(crate) fn concat<const ROOM: usize>(
+    alloc: Global,
+    stack: &mut Stack<'_, ROOM>,
+) -> Result<(), AllocError>
+    requires { IsSomeAnd (take_text stack.old) (λ b. IsSomeAnd (take_text b.1) (λ a. length a.1 < ROOM)) }
+    ensures { OnOk result (MatchOption (take_text stack.old) ⊥ (λ b. MatchOption (take_text b.1) ⊥ (λ a. stack.new ≡ Text (a.0 ++ b.0) ∷ a.1))) }
+{
+    let (first, second) = stack.two_texts();
+    let bytes = joined(alloc, first, second)?;
+    stack.drop_text();
+    stack.drop_text();
+    stack.push(Value::owned(alloc, bytes)?);
+    Ok(())
+}
+
+// The hexadecimal text of a byte string, with a separator that lies above it.
+pub(crate) fn hex_string<const ROOM: usize>(
+    alloc: Global,
+    stack: &mut Stack<'_, ROOM>,
+) -> Result<(), AllocError>
+    requires { IsSomeAnd (take_text stack.old) (λ b. IsSomeAnd (take_text b.1) (λ a. length a.1 < ROOM)) }
+    ensures { OnOk result (MatchOption (take_text stack.old) ⊥ (λ b. MatchOption (take_text b.1) ⊥ (λ a. stack.new ≡ Text (hex_text b.0 a.0) ∷ a.1))) }
+{
+    let (value, separator) = stack.two_texts();
+    let bytes = hex_text(alloc, value, separator)?;
+    stack.drop_text();
+    stack.drop_text();
+    stack.push(Value::owned(alloc, bytes)?);
+    Ok(())
+}
+
+// A byte string with its letters in lower case.
+pub(crate) fn lower<const ROOM: usize>(
+    alloc: Global,
+    stack: &mut Stack<'_, ROOM>,
+) -> Result<(), AllocError>
+    requires { IsSomeAnd (take_text stack.old) (λ a. length a.1 < ROOM) }
+    ensures { OnOk result (MatchOption (take_text stack.old) ⊥ (λ a. stack.new ≡ Text (map to_ascii_lowercase a.0) ∷ a.1)) }
+{
+    let bytes = stack.text().to_ascii_lowercase(alloc)?;
+    stack.drop_text();
+    stack.push(Value::owned(alloc, bytes)?);
+    Ok(())
+}
+
+// A byte string with its letters in upper case.
+pub(crate) fn upper<const ROOM: usize>(
+    alloc: Global,
+    stack: &mut Stack<'_, ROOM>,
+) -> Result<(), AllocError>
+    requires { IsSomeAnd (take_text stack.old) (λ a. length a.1 < ROOM) }
+    ensures { OnOk result (MatchOption (take_text stack.old) ⊥ (λ a. stack.new ≡ Text (map to_ascii_uppercase a.0) ∷ a.1)) }
+{
+    let bytes = stack.text().to_ascii_uppercase(alloc)?;
+    stack.drop_text();
+    stack.push(Value::owned(alloc, bytes)?);
+    Ok(())
+}
+
+// The decimal digits of a number.
+pub(crate) fn digits<const ROOM: usize>(
+    alloc: Global,
+    stack: &mut Stack<'_, ROOM>,
+) -> Result<(), AllocError>
+    requires { IsSomeAnd (take_number stack.old) (λ a. length a.1 < ROOM) }
+    ensures { OnOk result (MatchOption (take_number stack.old) ⊥ (λ a. stack.new ≡ Text (decimal a.0) ∷ a.1)) }
+{
+    let bytes = decimal(alloc, stack.pop_number())?;
+    stack.push(Value::owned(alloc, bytes)?);
+    Ok(())
+}
+
+// Whether two byte strings are equal.
+pub(crate) fn equal<const ROOM: usize>(stack: &mut Stack<'_, ROOM>)
+    requires { IsSomeAnd (take_text stack.old) (λ b. IsSomeAnd (take_text b.1) (λ a. length a.1 < ROOM)) }
+    ensures { MatchOption (take_text stack.old) ⊥ (λ b. MatchOption (take_text b.1) ⊥ (λ a. stack.new ≡ Truth (same a.0 b.0) ∷ a.1)) }
+{
+    let (first, second) = stack.two_texts();
+    let equal = first == second;
+    stack.drop_text();
+    stack.drop_text();
+    stack.push(Value::Bool(equal));
+}
