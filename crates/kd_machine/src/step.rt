@@ -1,8 +1,8 @@
 ghost use Rattle.std.specs.Prelude.{◌≡◌, ◌<◌, ◌≤◌, ◌∷◌, IsOk, MatchOption, OnOk, Some, length, nat_eq};
+ghost use Rattle.std.specs.Map.{lookup};
 ghost use Rattle.kd_machine.specs.Run.{IsFree, rule};
 ghost use Rattle.kd_machine.specs.Values.{Text, value_of};
 ghost use Rattle.kd_machine.specs.World.{field_value, or_empty, world};
-ghost use Rattle.std.specs.Map.{lookup};
 ghost use Rattle.kd_options.specs.RelayWalk.{relay_list};
 
 use crate::held::Held;

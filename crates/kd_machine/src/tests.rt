@@ -53,11 +53,25 @@ fn datagram(alloc: Global, parts: Parts<'_>) -> Result<Vec<u8>, AllocError> {
 // A DISCOVER of vendor class `kd`.
 const DISCOVER: &[u8] = b"\x35\x01\x01\x3c\x02kd\xff";
 
+// The digits of two joined literals, in lower case, are compared with `61:62`: 8 tokens, at most 2 values.
+const DIGITS: &[u8] = b"\x01\x00\x01a\x01\x00\x01b\x0f\x01\x00\x01:\x10\x11\x01\x00\x0561:62\x09";
+
 // The file of so many tokens, which declares all that a program may. Its names are two that a DISCOVER of
 // vendor class `kd` has before any definition, and `B`.
 fn token_file(alloc: Global, count: u16, tokens: &[u8]) -> Result<Vec<u8>, AllocError> {
-    let mut file = Vec::from_slice(alloc, b"K4TK\x02\x04\x00\x40\xff\xff\x03")?;
-    file.extend_from_slice(b"\x03ALL\x0fVENDOR_CLASS_kd\x01B")?;
+    file_of_depth(alloc, 64, count, tokens)
+}
+
+// The same with this declared depth.
+fn file_of_depth(
+    alloc: Global,
+    depth: u8,
+    count: u16,
+    tokens: &[u8],
+) -> Result<Vec<u8>, AllocError> {
+    let mut file = Vec::from_slice(alloc, b"K4TK\x02\x04\x00")?;
+    file.push(depth)?;
+    file.extend_from_slice(b"\xff\xff\x03\x03ALL\x0fVENDOR_CLASS_kd\x01B")?;
     file.extend_from_slice(&count.to_be_bytes())?;
     file.extend_from_slice(tokens)?;
     Ok(file)
@@ -408,6 +422,47 @@ fn the_stack_has_64_places(rt: HostRuntime) -> Result<(), Fail> {
     Ok(())
 }
 
+// So many truth values at once, then all joined, where just that depth is declared.
+#[test]
+fn each_declared_depth_has_its_stack(rt: HostRuntime) -> Result<(), Fail> {
+    let bytes = datagram(rt.alloc(), with_options(DISCOVER))?;
+    let depths = [
+        (1u8, 0usize, 1u16),
+        (4, 3, 7),
+        (5, 4, 9),
+        (16, 15, 31),
+        (17, 16, 33),
+        (64, 63, 127),
+    ];
+    for (depth, joins, steps) in depths {
+        let mut tokens = Vec::new(rt.alloc());
+        for _ in 0..depth {
+            tokens.extend_from_slice(b"\x06\x3c")?;
+        }
+        for _ in 0..joins {
+            tokens.push(0x0b)?;
+        }
+        let file = file_of_depth(rt.alloc(), depth, steps, &tokens)?;
+        let want = gives(true, u32::from(steps), u32::from(depth), 0);
+        assert_eq!(rt; outcome(rt.alloc(), &file, &bytes), Ok(want));
+    }
+    Ok(())
+}
+
+// The tokens that take memory have their outcome at each declared depth.
+#[test]
+fn strings_are_made_at_each_depth(rt: HostRuntime) -> Result<(), Fail> {
+    let bytes = datagram(rt.alloc(), with_options(DISCOVER))?;
+    for depth in [2u8, 4, 5, 16, 17, 64] {
+        let file = file_of_depth(rt.alloc(), depth, 8, DIGITS)?;
+        assert_eq!(rt;
+            outcome(rt.alloc(), &file, &bytes),
+            Ok(gives(true, 8, 2, 5))
+        );
+    }
+    Ok(())
+}
+
 // A truth value and 1,023 times its contrary.
 #[test]
 fn a_program_of_1024_tokens_ends(rt: HostRuntime) -> Result<(), Fail> {
@@ -423,12 +478,11 @@ fn a_program_of_1024_tokens_ends(rt: HostRuntime) -> Result<(), Fail> {
 }
 
 // With a refused request for memory the answer is want of it; the same call made again gives what it gives
-// with ample memory. The program compares the digits of two joined literals, in lower case, with `61:62`.
+// with ample memory.
 #[test]
 fn want_of_memory_is_answered_as_such(rt: HostRuntime) -> Result<(), Fail> {
     let bytes = datagram(rt.alloc(), with_options(DISCOVER))?;
-    let tokens = b"\x01\x00\x01a\x01\x00\x01b\x0f\x01\x00\x01:\x10\x11\x01\x00\x0561:62\x09";
-    let file = token_file(rt.alloc(), 8, tokens)?;
+    let file = token_file(rt.alloc(), 8, DIGITS)?;
     let want = Ok(gives(true, 8, 2, 5));
     let first = outcome(rt.alloc(), &file, &bytes);
     assert!(rt; first == want || first == Err(Fault::Memory));

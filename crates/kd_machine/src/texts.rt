@@ -26,11 +26,7 @@ pub(crate) fn choose<const ROOM: usize>(stack: &mut Stack<'_, ROOM>)
 }
 
 // A part of a byte string.
-pub(crate) fn narrow<const ROOM: usize>(
-    stack: &mut Stack<'_, ROOM>,
-    start: i32,
-    count: Option<i32>,
-)
+pub(crate) fn narrow<const ROOM: usize>(stack: &mut Stack<'_, ROOM>, start: i32, count: Option<i32>)
     requires { IsSomeAnd (take_text stack.old) (λ a. length a.1 < ROOM) }
     ensures { MatchOption (take_text stack.old) ⊥ (λ a. stack.new ≡ Text (substring start count a.0) ∷ a.1) }
 {
