@@ -109,7 +109,7 @@ finishes p message held i n s d l run e =
     by (take_truth s) end.1 end.0 where
       by : (o : Option (Bool × List Val)) → MatchOption o ⊥ (λ r. Run p message held r.0 n d l) → n ≤ p.steps → EndsWithin p message held
       by None r le = absurd r
-      by (Some v) r le = (v.0, n, d, l, (r, le, run.depth, run.bound))
+      by (Some v) r le = (v.0, n, d, l, r, le, run.depth, run.bound)
 
 -- a run that has at most so many places before it ends
 ends_from : (fuel : ℕ) (p : Code) (message : Seen) (held : List (List ℕ)) (i n : ℕ) (s : List Val) (d l : ℕ) → HasFile p → IsMessage message → length p.tokens ≤ i + fuel → IsRunning p message held i n s d l → EndsWithin p message held

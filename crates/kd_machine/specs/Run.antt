@@ -83,10 +83,10 @@ IsFree tokens.Upper = ⊥
 IsFree tokens.IntToText = ⊥
 IsFree token = Unit {0}
 
--- a run with these four numbers, within what a program declares
+-- a run to this value in so many steps and with these peaks, within what a program declares
 abbrev pub EndsAs : Code → Seen → List (List ℕ) → Bool → ℕ → ℕ → ℕ → Type 0
 EndsAs p message held v n d l = Run p message held v n d l × (n ≤ p.steps) × (d ≤ p.depth) × (l ≤ p.bound)
 
 -- a run within what a program declares
 abbrev pub EndsWithin : Code → Seen → List (List ℕ) → Type 0
-EndsWithin p message held = (v : Bool) × (n : ℕ) × (d : ℕ) × (l : ℕ) × EndsAs p message held v n d l
+EndsWithin p message held = (v : Bool) × (n : ℕ) × (d : ℕ) × (l : ℕ) × Run p message held v n d l × (n ≤ p.steps) × (d ≤ p.depth) × (l ≤ p.bound)
