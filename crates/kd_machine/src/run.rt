@@ -52,7 +52,8 @@ pub fn eval<'a>(
     }
 }
 
-// The run of a program of at most 4 values.
+// The run of a program of at most 4 values. Each stack has a function of its own, so that a run fills no
+// larger one.
 #[inline(never)]
 fn shallow<'a>(
     alloc: Global,
