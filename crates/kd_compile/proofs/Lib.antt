@@ -1,2 +1,3 @@
 pub mod Typed
 pub mod Places
+pub mod Ranges
