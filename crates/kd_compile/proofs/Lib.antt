@@ -1,3 +1,4 @@
 pub mod Typed
 pub mod Places
 pub mod Ranges
+pub mod Fits
