@@ -6,6 +6,7 @@ use Rattle.kd_compile.specs.Measures.{is_number, four}
 use Rattle.kd_compile.specs.Measures.{tokens as size}
 use Rattle.kd_compile.specs.Tokens.{code_of, field_of, in_bytes, place}
 use Rattle.kd_compile.specs.Value.{value, part_value, truth_in, number_in, bytes_in}
+use Rattle.kd_compile.proofs.Fits.{code_length, operand_length}
 use Rattle.kd_compile.proofs.Places.{Knows}
 use Rattle.kd_compile.proofs.Typed.{kind_of, IsTruth, IsNumber, IsText, IsBytes, IsWell}
 use Rattle.kd_compile.proofs.Ways.{Makes, Comes, stand_all, makes_both, makes_over, makes_none, makes_one, makes_next, makes_past}
@@ -74,63 +75,6 @@ number_is m held t is well = let K : Kind → Type 0 = λ k. HasKind k (value m 
 
 text_is : (m : Seen) (held : List (List ℕ)) (t : Tree) → IsText t → IsWell t → value m held t ≡ Text (bytes_in (value m held t))
 text_is m held t is well = let K : Kind → Type 0 = λ k. HasKind k (value m held t) in subst K is.kind (value_kind m held t well)
-
--- an expression has so many tokens
-in_bytes_size : (t : Tree) → length (in_bytes t) ≡ four t
-in_bytes_size t = by (is_number t) where
-  by : (b : Bool) → length (if b then tokens.IntBytes ∷ [] else []) ≡ (if b then 1 else 0)
-  by true = refl
-  by false = refl
-
-bytes_size : (names : List (List ℕ)) (t : Tree) → length (code_of names t) ≡ size t → length (code_of names t ++ in_bytes t) ≡ size t + four t
-bytes_size names t e = let both = length-append {A = Token} (code_of names t) (in_bytes t) in let rest = in_bytes_size t in omega (arith, both, rest, e)
-
-one_size : (names : List (List ℕ)) (t : Tree) (x : Token) → length (code_of names t) ≡ size t → length (code_of names t ++ in_bytes t ++ x ∷ []) ≡ size t + four t + 1
-one_size names t x e =
-    let both = length-append {A = Token} (code_of names t ++ in_bytes t) (x ∷ []) in
-    let first = bytes_size names t e in
-    omega (arith, both, first)
-
-two_size : (names : List (List ℕ)) (a b : Tree) (x : Token) → length (code_of names a) ≡ size a → length (code_of names b) ≡ size b → length (code_of names a ++ in_bytes a ++ (code_of names b ++ in_bytes b) ++ x ∷ []) ≡ size a + four a + (size b + four b) + 1
-two_size names a b x e f =
-    let last = length-append {A = Token} (code_of names a ++ in_bytes a ++ (code_of names b ++ in_bytes b)) (x ∷ []) in
-    let both = length-append {A = Token} (code_of names a ++ in_bytes a) (code_of names b ++ in_bytes b) in
-    let first = bytes_size names a e in
-    let second = bytes_size names b f in
-    omega (arith, last, both, first, second)
-
-keep_size : (names : List (List ℕ)) (a b : Tree) (x : Token) → length (code_of names a) ≡ size a → length (code_of names b) ≡ size b → length (code_of names a ++ x ∷ code_of names b) ≡ size a + 1 + size b
-keep_size names a b x e f = let both = length-append {A = Token} (code_of names a) (x ∷ code_of names b) in omega (arith, both, e, f)
-
-pub code_size : (names : List (List ℕ)) (t : Tree) → length (code_of names t) ≡ size t
-code_size names (Literal at bytes) = refl
-code_size names (Int at n) = refl
-code_size names (OptionValue at code) = refl
-code_size names (RelayValue at code) = refl
-code_size names (FieldValue at field) = refl
-code_size names (OptionExists at code) = refl
-code_size names (RelayExists at code) = refl
-code_size names (Member at name) = refl
-code_size names (Equal at a b) = two_size names a b tokens.Equal (code_size names a) (code_size names b)
-code_size names (Not at a) = let both = length-append {A = Token} (code_of names a) (tokens.Not ∷ []) in let rest = code_size names a in omega (arith, both, rest)
-code_size names (And at a b) = keep_size names a b (tokens.BranchFalseElsePop (size b)) (code_size names a) (code_size names b)
-code_size names (Or at a b) = keep_size names a b (tokens.BranchTrueElsePop (size b)) (code_size names a) (code_size names b)
-code_size names (Group at a) = code_size names a
-code_size names (Concat at a b) = two_size names a b tokens.Concat (code_size names a) (code_size names b)
-code_size names (IfElse at t a b) =
-    let us = code_of names a ++ in_bytes a in
-    let vs = code_of names b ++ in_bytes b in
-    let inner = length-append {A = Token} us (tokens.Branch (size b + four b) ∷ vs) in
-    let outer = length-append {A = Token} (code_of names t) (tokens.PopBranchFalse (size a + four a + 1) ∷ (us ++ tokens.Branch (size b + four b) ∷ vs)) in
-    let test = code_size names t in
-    let first = bytes_size names a (code_size names a) in
-    let second = bytes_size names b (code_size names b) in
-    omega (arith, inner, outer, test, first, second)
-code_size names (Substring at a start count) = one_size names a (tokens.Substring start count) (code_size names a)
-code_size names (HexString at a b) = two_size names a b tokens.HexString (code_size names a) (code_size names b)
-code_size names (Lower at a) = one_size names a tokens.Lower (code_size names a)
-code_size names (Upper at a) = one_size names a tokens.Upper (code_size names a)
-code_size names (IntToText at a) = let both = length-append {A = Token} (code_of names a) (tokens.IntToText ∷ []) in let rest = code_size names a in omega (arith, both, rest)
 
 -- the field of a token has the value of the part of a message
 part_is : (m : Seen) (field : Field) → field_value m (field_of field) ≡ part_value m field
@@ -263,19 +207,19 @@ tree_makes p m held (Not at a) well known s =
       (truth_makes p m held a well.0 well.1 (tree_makes p m held a well.1 known) s)
       (makes_one p (here p m held) tokens.Not _ _ (λ i. refl))
 tree_makes p m held (And at a b) well known s =
-    and_makes p (here p m held) (code_of p.names a) (code_of p.names b) s (truth_in (value m held a)) (truth_in (value m held b)) (size b) (sym (code_size p.names b))
+    and_makes p (here p m held) (code_of p.names a) (code_of p.names b) s (truth_in (value m held a)) (truth_in (value m held b)) (size b) (sym (code_length p.names b))
       (truth_makes p m held a well.0.0 well.0.1 (tree_makes p m held a well.0.1 known.0) s)
       (truth_makes p m held b well.1.0 well.1.1 (tree_makes p m held b well.1.1 known.1) s)
 tree_makes p m held (Or at a b) well known s =
-    or_makes p (here p m held) (code_of p.names a) (code_of p.names b) s (truth_in (value m held a)) (truth_in (value m held b)) (size b) (sym (code_size p.names b))
+    or_makes p (here p m held) (code_of p.names a) (code_of p.names b) s (truth_in (value m held a)) (truth_in (value m held b)) (size b) (sym (code_length p.names b))
       (truth_makes p m held a well.0.0 well.0.1 (tree_makes p m held a well.0.1 known.0) s)
       (truth_makes p m held b well.1.0 well.1.1 (tree_makes p m held b well.1.1 known.1) s)
 tree_makes p m held (Group at a) well known s = tree_makes p m held a well.1 known s
 tree_makes p m held (Concat at a b) well known s =
     two_make p m held a b tokens.Concat _ well.0.0 well.0.1 well.1.0 well.1.1 (tree_makes p m held a well.0.1 known.0) (tree_makes p m held b well.1.1 known.1) (λ s i. refl) s
 tree_makes p m held (IfElse at t a b) well known s =
-    let first = bytes_size p.names a (code_size p.names a) in
-    let second = bytes_size p.names b (code_size p.names b) in
+    let first = operand_length p.names a in
+    let second = operand_length p.names b in
     arms_make p (here p m held) (code_of p.names t) (code_of p.names a ++ in_bytes a) (code_of p.names b ++ in_bytes b) s (truth_in (value m held t)) (bytes_in (value m held a)) (bytes_in (value m held b)) (size a + four a + 1) (size b + four b)
       (omega (arith, first)) (sym second)
       (truth_makes p m held t well.0.0 well.0.1 (tree_makes p m held t well.0.1 known.0) s)

@@ -1,5 +1,5 @@
 ghost use Rattle.std.specs.Prelude.{◌≡◌, ◌⊎◌, IfOk, MatchResult, None, Ok, Some};
-ghost use Rattle.kd_compile.specs.Compiled.{HasMeasures, Keeps, first_over};
+ghost use Rattle.kd_compile.specs.Compiled.{HasMeasures, Keeps, first_over, version_of};
 ghost use Rattle.kd_compile.specs.Measures.{greatest, names};
 ghost use Rattle.kd_compile.specs.Tokens.{program_for};
 ghost use Rattle.kd_compile.specs.declared.fault.CompileFault.TheVariants.{Memory};
@@ -71,17 +71,23 @@ fn program_of(
 {
     let mut out = Vec::with_capacity(alloc, tokens(tree) as usize)?;
     put_code(alloc, tree, &held, &mut out)?;
-    let version = if has_branches(tree) {
-        Version::Two
-    } else {
-        Version::One
-    };
     Ok(Program::new(
-        version,
+        version_of(tree),
         steps(tree) as u16,
         depth(tree) as u8,
         bound,
         held,
         out,
     ))
+}
+
+// The version of an expression's program: the second where it has branches.
+fn version_of(tree: &Node) -> Version
+    ensures { result ≡ version_of (tree_of tree.now) }
+{
+    if has_branches(tree) {
+        Version::Two
+    } else {
+        Version::One
+    }
 }
