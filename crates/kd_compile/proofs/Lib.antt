@@ -5,4 +5,5 @@ pub mod Ranges
 pub mod Fits
 pub mod Ways
 pub mod Meaning
+pub mod Accepting
 pub mod Keeping

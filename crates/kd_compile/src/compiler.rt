@@ -50,8 +50,10 @@ pub fn compile(alloc: Global, typed: &Typed) -> Result<Verified, CompileFault>
     let program = program_of(alloc, tree, bound as u16, names)?;
     match verify(alloc, program) {
         Ok(verified) => Ok(verified),
-        Err((VerifyFault::Memory, _)) => Err(CompileFault::Memory),
-        Err(_) => unreachable!(),
+        Err((fault, _)) => match fault {
+            VerifyFault::Memory => Err(CompileFault::Memory),
+            _ => unreachable!(),
+        },
     }
 }
 
@@ -67,7 +69,8 @@ fn program_of(
     requires names { held.items ≡ names (tree_of tree.now) }
     requires typed { type_of (tree_of tree.now) ≡ Ok Bool }
     requires text { HasText (tree_of tree.now) }
-    ensures { IfOk result (λ p. p ≡ program_for (tree_of tree.now)) }
+    ensures program { IfOk result (λ p. p ≡ program_for (tree_of tree.now)) }
+    ensures within { IfOk result (λ _. first_over (tree_of tree.now) ≡ None) }
 {
     let mut out = Vec::with_capacity(alloc, tokens(tree) as usize)?;
     put_code(alloc, tree, &held, &mut out)?;

@@ -1,4 +1,4 @@
-use Rattle.std.proofs.Common.{◌≡◌, ◌<◌, ◌≤◌, ◌^◌, ℕ, List, [], ◌++◌, length, sym, subst, ap, arith, ◌∙◌, Fits, w16}
+use Rattle.std.proofs.Common.{◌≡◌, ◌<◌, ◌≤◌, ℕ, List, ◌++◌, sym, subst, ap, arith, ◌∙◌, Fits, w16}
 use Rattle.kd_compile.proofs.Fits.{has_file, in_limits}
 use Rattle.kd_compile.proofs.Ranges.{few_tokens, steps_le}
 use Rattle.kd_compile.specs.Tokens.{code_of, program_for}
