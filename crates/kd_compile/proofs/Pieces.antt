@@ -1,6 +1,6 @@
 -- Pieces of a program: tokens, the points before them and the point behind them, so that each way from a
 -- place of the piece leads to a place that knows what it brings.
-use Rattle.std.proofs.Common.{◌≡◌, ℕ, zero, suc, ◌+◌, ◌≤◌, ◌<◌, List, [], ◌∷◌, ◌++◌, length, Option, Some, None, refl, sym, subst, arith, length-append, inl, inr}
+use Rattle.std.proofs.Common.{◌≡◌, ℕ, suc, ◌+◌, ◌≤◌, ◌<◌, List, [], ◌∷◌, ◌++◌, length, Option, Some, None, refl, sym, subst, arith, length-append, inl, inr}
 use Rattle.std.specs.Prelude.{◌⊎◌, slice_get, MatchOption}
 use Rattle.std.specs.List.{AllByRecursion}
 use Rattle.std.proofs.lemmas.Bool.{cases_lt}
@@ -81,9 +81,9 @@ piece_last p q token x room step = record {
   room = room;
   first = λ a i h. h.0;
   leads = λ a i ts qs end j low high.
-    let here : i ≡ j = omega (arith, low, high) in
-    let P : ℕ → Type 0 = Leads p a in
-    subst P here (leads_here p a i token q ts.0 qs.0 (step a i end));
+      let here : i ≡ j = omega (arith, low, high) in
+      let P : ℕ → Type 0 = Leads p a in
+      subst P here (leads_here p a i token q ts.0 qs.0 (step a i end));
 }
 
 -- one token more in front of a piece
@@ -94,13 +94,14 @@ piece_front p q token z x ts qs piece step = record {
   room = piece.room;
   first = λ a i h. h.0;
   leads = λ a i t h end j low high.
-    let C : ℕ → Type 0 = λ n. IsCovered (a n) x in
-    let place : i + suc (length ts) ≡ i + 1 + length ts = omega arith in
-    let there = subst C place end in
-    let by : (j < i + 1) ⊎ (i + 1 ≤ j) → Leads p a j = λ o. elim o [
-      | inl less ↦ let here : i ≡ j = omega (arith, low, less) in let P : ℕ → Type 0 = Leads p a in subst P here (leads_here p a i token q t.0 h.0 (step a i h.1 there))
-      | inr le ↦ piece.leads a (i + 1) t.1 h.1 there j le (omega (arith, high)) ] in
-    by (cases_lt j (i + 1));
+      let C : ℕ → Type 0 = λ n. IsCovered (a n) x in
+      let place : i + suc (length ts) ≡ i + 1 + length ts = omega arith in
+      let there = subst C place end in
+      let by : (j < i + 1) ⊎ (i + 1 ≤ j) → Leads p a j = λ o. elim o [
+        | inl less ↦ let here : i ≡ j = omega (arith, low, less) in let P : ℕ → Type 0 = Leads p a in subst P here (leads_here p a i token q t.0 h.0 (step a i h.1 there))
+        | inr le ↦ piece.leads a (i + 1) t.1 h.1 there j le (omega (arith, high))
+      ] in
+      by (cases_lt j (i + 1));
 }
 
 -- a piece behind another
@@ -110,16 +111,17 @@ piece_then p q x y ts us qs rs piece next = record {
   room = next.room;
   first = λ a i h. piece.first a i (has_front a i qs rs h);
   leads = λ a i t h end j low high.
-    let C : ℕ → Type 0 = λ n. IsCovered (a n) y in
-    let sum = length-append ts us in
-    let place : i + length (ts ++ us) ≡ i + length ts + length us = omega (arith, sum) in
-    let same : i + length qs ≡ i + length ts = let size = piece.size in omega (arith, size) in
-    let behind = has_at_same a (i + length qs) (i + length ts) rs same (has_back a i qs rs h) in
-    let met = known_covered (a (i + length ts)) x (next.first a (i + length ts) behind) in
-    let by : (j < i + length ts) ⊎ (i + length ts ≤ j) → Leads p a j = λ o. elim o [
-      | inl less ↦ piece.leads a i (has_front (slice_get p.tokens) i ts us t) (has_front a i qs rs h) met j low less
-      | inr le ↦ next.leads a (i + length ts) (has_back (slice_get p.tokens) i ts us t) behind (subst C place end) j le (omega (arith, high, place)) ] in
-    by (cases_lt j (i + length ts));
+      let C : ℕ → Type 0 = λ n. IsCovered (a n) y in
+      let sum = length-append ts us in
+      let place : i + length (ts ++ us) ≡ i + length ts + length us = omega (arith, sum) in
+      let same : i + length qs ≡ i + length ts = let size = piece.size in omega (arith, size) in
+      let behind = has_at_same a (i + length qs) (i + length ts) rs same (has_back a i qs rs h) in
+      let met = known_covered (a (i + length ts)) x (next.first a (i + length ts) behind) in
+      let by : (j < i + length ts) ⊎ (i + length ts ≤ j) → Leads p a j = λ o. elim o [
+        | inl less ↦ piece.leads a i (has_front (slice_get p.tokens) i ts us t) (has_front a i qs rs h) met j low less
+        | inr le ↦ next.leads a (i + length ts) (has_back (slice_get p.tokens) i ts us t) behind (subst C place end) j le (omega (arith, high, place))
+      ] in
+      by (cases_lt j (i + length ts));
 }
 
 -- a piece whose end is covered by another point
