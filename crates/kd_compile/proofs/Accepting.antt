@@ -5,6 +5,7 @@ use Rattle.std.specs.List.{AllByRecursion}
 use Rattle.std.proofs.lemmas.Bool.{cases_lt, lt-ltb}
 use Rattle.std.proofs.lemmas.List.{append-nil}
 use Rattle.std.proofs.lemmas.Option.{slice_get_within, slice_get_past}
+use Rattle.kd_compile.specs.Compiled.{first_over}
 use Rattle.kd_compile.specs.Measures.{is_number, four, steps, depth, bound, part_bound, greatest, names}
 use Rattle.kd_compile.specs.Measures.{tokens as size}
 use Rattle.kd_compile.specs.Tokens.{place, field_of, code_of, program_for}
@@ -12,6 +13,7 @@ use Rattle.kd_compile.proofs.Fits.{operand, code_length, operand_length}
 use Rattle.kd_compile.proofs.Pieces.{has_front, has_back, has_itself, known_covered, Goes, Leads, GoesOn, Piece, piece_last, piece_front, piece_then, piece_over, piece_counted, covered_through}
 use Rattle.kd_compile.proofs.Places.{Knows, names_known}
 use Rattle.kd_compile.proofs.Typed.{kind_of, IsTruth, IsBytes, IsWell, well_of}
+use Rattle.kd_expr.specs.Grammar.{HasText}
 use Rattle.kd_expr.specs.Tree.{Tree, Literal, Int, OptionValue, RelayValue, FieldValue, OptionExists, RelayExists, Member, Equal, Not, And, Or, Group, Concat, IfElse, Substring, HexString, Lower, Upper, IntToText}
 use Rattle.kd_expr.specs.Typing.{type_of}
 use Rattle.kd_expr.specs.declared.node.Field.{Field}
@@ -336,9 +338,9 @@ leads_sound p a first leads j = record {
   leave = leaves p a (out p a j) (leads j);
 }
 
--- the program of a class test is accepted
-pub accepted : (t : Tree) → type_of t ≡ Ok types.Bool → Accepts (program_for t)
-accepted t typed =
+-- the program of a class test is accepted, also where it is over a limit
+pub accepted_typed : (t : Tree) → type_of t ≡ Ok types.Bool → Accepts (program_for t)
+accepted_typed t typed =
     let p = program_for t in
     let well = well_of t types.Bool typed in
     let end_point = point (kinds.Bool ∷ []) (steps t) in
@@ -364,3 +366,7 @@ accepted t typed =
     let in_time : T (Some end_point) = omega arith in
     let one : S (Some end_point) = refl in
     (a, (λ j less. sound j), subst T (sym ends) in_time, subst S (sym ends) one)
+
+-- the program of a class test that is over no limit is accepted
+pub accepted : (t : Tree) → HasText t → type_of t ≡ Ok types.Bool → first_over t ≡ None → Accepts (program_for t)
+accepted t text typed within = accepted_typed t typed
