@@ -1,8 +1,10 @@
 ghost use Rattle.std.specs.Prelude.{◌≡◌, ◌≤◌, ◌++◌, IfOk, OnOk, length};
+ghost use Rattle.std.specs.List.{position};
 ghost use Rattle.kd_compile.specs.Measures.{names, names_after, tokens};
 ghost use Rattle.kd_compile.specs.Tokens.{code_of, field_of, in_bytes, place};
 ghost use Rattle.kd_expr.specs.View.{tree_of};
 ghost use Rattle.kd_machine.specs.Held.{with_name};
+ghost use Rattle.kd_machine.specs.World.{is_held, same};
 
 use crate::measure::{four, is_number, tokens};
 use kd_expr::{Field, Node};
@@ -10,14 +12,26 @@ use kd_token::{Field as TokenField, Token};
 use kd_wire::Bytes;
 use std::alloc::{AllocError, Global};
 
+// The place of a name among names.
+fn find(name: &[u8], names: &[Bytes]) -> Option<usize>
+    ensures { result ≡ position (λ other. same name.now other) names.now }
+{
+    names.iter().position(|other| name == other.as_slice())
+}
+
 // The place of a name among names, their number where it is not there.
 fn place(name: &[u8], names: &[Bytes]) -> usize
-    ensures { result ≡ place name.now names.now }
+    ensures at { result ≡ place name.now names.now }
+    ensures within { result ≤ length names.now }
 {
-    match names.iter().position(|other| other.as_slice() == name) {
-        Some(at) => at,
-        None => names.len(),
-    }
+    find(name, names).unwrap_or(names.len())
+}
+
+// Whether a name is among names.
+fn is_among(name: &[u8], names: &[Bytes]) -> bool
+    ensures { result ≡ is_held name.now names.now }
+{
+    names.iter().any(|other| name == other.as_slice())
 }
 
 // A copy of bytes.
@@ -31,7 +45,7 @@ fn copy(alloc: Global, bytes: &[u8]) -> Result<Bytes, AllocError>
 fn put_name(alloc: Global, name: &[u8], names: &mut Vec<Bytes>) -> Result<(), AllocError>
     ensures { OnOk result (names.new.items ≡ with_name name.now names.old.items) }
 {
-    if place(name, names) == names.len() {
+    if !is_among(name, names) {
         names.push(copy(alloc, name)?)?;
     }
     Ok(())
