@@ -5,7 +5,7 @@ use Rattle.std.specs.List.{AllByRecursion}
 use Rattle.std.proofs.lemmas.Bool.{ltb-false}
 use Rattle.std.proofs.lemmas.List.{append_assoc, append-nil}
 use Rattle.kd_compile.specs.Compiled.{first_over, version_of}
-use Rattle.kd_compile.specs.Measures.{is_number, four, steps, depth, bound, greatest, names_after, names, has_branches}
+use Rattle.kd_compile.specs.Measures.{is_number, four, depth, greatest, names_after, names, has_branches}
 use Rattle.kd_compile.specs.Measures.{tokens as size}
 use Rattle.kd_compile.specs.Tokens.{in_bytes, code_of, program_for}
 use Rattle.kd_compile.specs.declared.fault.CompileFault.{CompileFault}
