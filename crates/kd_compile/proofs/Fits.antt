@@ -1,12 +1,11 @@
 -- The program of a class test that is over no limit has a token file.
-use Rattle.std.proofs.Common.{◌≡◌, ℕ, zero, suc, ◌+◌, ◌≤◌, ◌<◌, ◌^◌, Bool, true, false, List, [], ◌∷◌, ◌++◌, length, Option, Some, None, refl, sym, subst, ◌∙◌, arith, length-append, ap}
+use Rattle.std.proofs.Common.{◌≡◌, ℕ, ◌+◌, ◌≤◌, Bool, true, false, List, [], ◌∷◌, ◌++◌, length, Option, Some, None, refl, sym, subst, arith, length-append}
 use Rattle.std.specs.Prelude.{◌||◌, nat_lt, if◌then◌else◌}
 use Rattle.std.specs.List.{AllByRecursion}
-use Rattle.std.proofs.Math.Bool.{or-true}
 use Rattle.std.proofs.lemmas.Bool.{ltb-false}
 use Rattle.std.proofs.lemmas.List.{append_assoc, append-nil}
 use Rattle.kd_compile.specs.Compiled.{first_over, version_of}
-use Rattle.kd_compile.specs.Measures.{is_number, four, steps, depth, bound, greatest, names_after, names, has_branches}
+use Rattle.kd_compile.specs.Measures.{is_number, four, depth, greatest, names_after, names, has_branches}
 use Rattle.kd_compile.specs.Measures.{tokens as size}
 use Rattle.kd_compile.specs.Tokens.{in_bytes, code_of, program_for}
 use Rattle.kd_compile.specs.declared.fault.CompileFault.{CompileFault}
@@ -16,7 +15,7 @@ use Rattle.kd_expr.specs.Grammar.{HasText}
 use Rattle.kd_expr.specs.Tree.{Tree, Literal, Int, OptionValue, RelayValue, FieldValue, OptionExists, RelayExists, Member, Equal, Not, And, Or, Group, Concat, IfElse, Substring, HexString, Lower, Upper, IntToText}
 use Rattle.kd_machine.specs.Held.{with_name}
 use Rattle.kd_machine.specs.World.{is_held}
-use Rattle.kd_token.specs.File.{Code, HasFile, IsName, IsBranch, IsToken, AreTokens}
+use Rattle.kd_token.specs.File.{HasFile, IsName, IsBranch, IsToken, AreTokens}
 use Rattle.kd_token.specs.declared.token.Token.{Token}
 use Rattle.kd_token.specs.declared.token.Token.TheVariants as tokens
 use Rattle.kd_token.specs.declared.token.Version.{Version}

@@ -5,5 +5,6 @@ pub mod Ranges
 pub mod Fits
 pub mod Ways
 pub mod Meaning
+pub mod Pieces
 pub mod Accepting
 pub mod Keeping
