@@ -10,7 +10,8 @@ use Rattle.kd_compile.specs.Measures.{is_number, four, steps, depth, bound, part
 use Rattle.kd_compile.specs.Measures.{tokens as size}
 use Rattle.kd_compile.specs.Tokens.{place, field_of, code_of, program_for}
 use Rattle.kd_compile.proofs.Fits.{operand, code_length, operand_length}
-use Rattle.kd_compile.proofs.Pieces.{has_front, has_back, has_itself, known_covered, Goes, Leads, GoesOn, Piece, piece_last, piece_front, piece_then, piece_over, piece_counted, covered_through}
+use Rattle.kd_compile.proofs.Rows.{has_front, has_back, has_itself}
+use Rattle.kd_compile.proofs.Pieces.{known_covered, Goes, Leads, GoesOn, Piece, piece_last, piece_front, piece_then, piece_over, piece_counted, covered_through}
 use Rattle.kd_compile.proofs.Places.{Knows, names_known}
 use Rattle.kd_compile.proofs.Typed.{kind_of, IsTruth, IsBytes, IsWell, well_of}
 use Rattle.kd_expr.specs.Grammar.{HasText}
@@ -339,8 +340,8 @@ leads_sound p a first leads j = record {
 }
 
 -- the program of a class test is accepted, also where it is over a limit
-pub accepted_typed : (t : Tree) → type_of t ≡ Ok types.Bool → Accepts (program_for t)
-accepted_typed t typed =
+pub accepted : (t : Tree) → type_of t ≡ Ok types.Bool → Accepts (program_for t)
+accepted t typed =
     let p = program_for t in
     let well = well_of t types.Bool typed in
     let end_point = point (kinds.Bool ∷ []) (steps t) in
@@ -366,7 +367,3 @@ accepted_typed t typed =
     let in_time : T (Some end_point) = omega arith in
     let one : S (Some end_point) = refl in
     (a, (λ j less. sound j), subst T (sym ends) in_time, subst S (sym ends) one)
-
--- the program of a class test that is over no limit is accepted
-pub accepted : (t : Tree) → HasText t → type_of t ≡ Ok types.Bool → first_over t ≡ None → Accepts (program_for t)
-accepted t text typed within = accepted_typed t typed

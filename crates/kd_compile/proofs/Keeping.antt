@@ -8,8 +8,9 @@ use Rattle.kd_compile.proofs.Accepting.{accepted}
 use Rattle.kd_compile.proofs.Fits.{code_length, has_file}
 use Rattle.kd_compile.proofs.Meaning.{tree_makes, truth_is}
 use Rattle.kd_compile.proofs.Places.{names_known}
+use Rattle.kd_compile.proofs.Rows.{has_itself}
 use Rattle.kd_compile.proofs.Typed.{well_of}
-use Rattle.kd_compile.proofs.Ways.{Comes, stand_all}
+use Rattle.kd_compile.proofs.Ways.{Comes}
 use Rattle.kd_expr.specs.Grammar.{HasText}
 use Rattle.kd_expr.specs.Tree.{Tree}
 use Rattle.kd_expr.specs.Typing.{type_of}
@@ -28,7 +29,7 @@ comes_to_value : (t : Tree) (message : Seen) (held : List (List ℕ)) → type_o
     → Comes (program_for t) (world (program_for t) message held) 0 [] (length (code_of (names t) t)) (Truth (truth message held t) ∷ [])
 comes_to_value t message held typed =
     let well = well_of t types.Bool typed in
-    let made = tree_makes (program_for t) message held t well.1 (names_known t) [] 0 (stand_all (code_of (names t) t)) in
+    let made = tree_makes (program_for t) message held t well.1 (names_known t) [] 0 (has_itself (code_of (names t) t)) in
     let C : ℕ → List Val → Type 0 = λ i s. Comes (program_for t) (world (program_for t) message held) 0 [] i s in
     let A : ℕ → Type 0 = λ i. C i (value message held t ∷ []) in
     let B : Val → Type 0 = λ v. C (length (code_of (names t) t)) (v ∷ []) in
@@ -57,4 +58,4 @@ has_measures t = record {
 
 -- a class test that is over no limit has a program that keeps its meaning
 pub keeps_in_limits : (t : Tree) → HasText t → type_of t ≡ Ok types.Bool → first_over t ≡ None → Keeps t (program_for t)
-keeps_in_limits t text typed within = keeps t typed (has_file t text within) (accepted t text typed within)
+keeps_in_limits t text typed within = keeps t typed (has_file t text within) (accepted t typed)

@@ -3,6 +3,7 @@ pub mod Typed
 pub mod Places
 pub mod Ranges
 pub mod Fits
+pub mod Rows
 pub mod Ways
 pub mod Meaning
 pub mod Pieces

@@ -9,7 +9,7 @@ use Rattle.kd_compile.specs.Value.{value, part_value, truth_in, number_in, bytes
 use Rattle.kd_compile.proofs.Fits.{code_length, operand_length}
 use Rattle.kd_compile.proofs.Places.{Knows}
 use Rattle.kd_compile.proofs.Typed.{kind_of, IsTruth, IsNumber, IsText, IsBytes, IsWell}
-use Rattle.kd_compile.proofs.Ways.{Makes, Comes, stand_all, makes_both, makes_over, makes_none, makes_one, makes_next, makes_past}
+use Rattle.kd_compile.proofs.Ways.{Makes, makes_both, makes_over, makes_none, makes_one, makes_next, makes_past}
 use Rattle.kd_expr.specs.Tree.{Tree, Literal, Int, OptionValue, RelayValue, FieldValue, OptionExists, RelayExists, Member, Equal, Not, And, Or, Group, Concat, IfElse, Substring, HexString, Lower, Upper, IntToText}
 use Rattle.kd_expr.specs.declared.node.Field.{Field}
 use Rattle.kd_expr.specs.declared.node.Field.TheVariants as parts
@@ -104,19 +104,19 @@ and_makes : (p : Code) (w : World) (xs ys : List Token) (s : List Val) (a b : Bo
     → Makes p w (xs ++ tokens.BranchFalseElsePop skip ∷ ys) s (Truth (a && b) ∷ s)
 and_makes p w xs ys s true b skip e first second =
     makes_both p w xs (tokens.BranchFalseElsePop skip ∷ ys) s (Truth true ∷ s) (Truth b ∷ s) first
-      (makes_next p w (tokens.BranchFalseElsePop skip) ys (Truth true ∷ s) s (Truth b ∷ s) (λ i. refl) second)
+    (makes_next p w (tokens.BranchFalseElsePop skip) ys (Truth true ∷ s) s (Truth b ∷ s) (λ i. refl) second)
 and_makes p w xs ys s false b skip e first second =
     makes_both p w xs (tokens.BranchFalseElsePop skip ∷ ys) s (Truth false ∷ s) (Truth false ∷ s) first
-      (makes_past p w (tokens.BranchFalseElsePop skip) ys (Truth false ∷ s) (Truth false ∷ s) (λ i. ap (λ k. Some (i + 1 + k, Truth false ∷ s)) e))
+    (makes_past p w (tokens.BranchFalseElsePop skip) ys (Truth false ∷ s) (Truth false ∷ s) (λ i. ap (λ k. Some (i + 1 + k, Truth false ∷ s)) e))
 
 or_makes : (p : Code) (w : World) (xs ys : List Token) (s : List Val) (a b : Bool) (skip : ℕ) → skip ≡ length ys → Makes p w xs s (Truth a ∷ s) → Makes p w ys s (Truth b ∷ s)
     → Makes p w (xs ++ tokens.BranchTrueElsePop skip ∷ ys) s (Truth (a || b) ∷ s)
 or_makes p w xs ys s false b skip e first second =
     makes_both p w xs (tokens.BranchTrueElsePop skip ∷ ys) s (Truth false ∷ s) (Truth b ∷ s) first
-      (makes_next p w (tokens.BranchTrueElsePop skip) ys (Truth false ∷ s) s (Truth b ∷ s) (λ i. refl) second)
+    (makes_next p w (tokens.BranchTrueElsePop skip) ys (Truth false ∷ s) s (Truth b ∷ s) (λ i. refl) second)
 or_makes p w xs ys s true b skip e first second =
     makes_both p w xs (tokens.BranchTrueElsePop skip ∷ ys) s (Truth true ∷ s) (Truth true ∷ s) first
-      (makes_past p w (tokens.BranchTrueElsePop skip) ys (Truth true ∷ s) (Truth true ∷ s) (λ i. ap (λ k. Some (i + 1 + k, Truth true ∷ s)) e))
+    (makes_past p w (tokens.BranchTrueElsePop skip) ys (Truth true ∷ s) (Truth true ∷ s) (λ i. ap (λ k. Some (i + 1 + k, Truth true ∷ s)) e))
 
 -- one of two arms
 arms_make : (p : Code) (w : World) (xs ys zs : List Token) (s : List Val) (t : Bool) (a b : List ℕ) (over past : ℕ) → over ≡ length ys + 1 → past ≡ length zs → Makes p w xs s (Truth t ∷ s) → Makes p w ys s (Text a ∷ s) → Makes p w zs s (Text b ∷ s)
@@ -125,14 +125,14 @@ arms_make p w xs ys zs s true a b over past e f test first second =
     let behind = makes_past p w (tokens.Branch past) zs (Text a ∷ s) (Text a ∷ s) (λ i. ap (λ k. Some (i + 1 + k, Text a ∷ s)) f) in
     let arm = makes_both p w ys (tokens.Branch past ∷ zs) s (Text a ∷ s) (Text a ∷ s) first behind in
     makes_both p w xs (tokens.PopBranchFalse over ∷ (ys ++ tokens.Branch past ∷ zs)) s (Truth true ∷ s) (Text a ∷ s) test
-      (makes_next p w (tokens.PopBranchFalse over) (ys ++ tokens.Branch past ∷ zs) (Truth true ∷ s) s (Text a ∷ s) (λ i. refl) arm)
+    (makes_next p w (tokens.PopBranchFalse over) (ys ++ tokens.Branch past ∷ zs) (Truth true ∷ s) s (Text a ∷ s) (λ i. refl) arm)
 arms_make p w xs ys zs s false a b over past e f test first second =
     let size = length-append {A = Token} ys (tokens.Branch past ∷ []) in
     let far : over ≡ length (ys ++ tokens.Branch past ∷ []) = omega (arith, e, size) in
     let arm = makes_over p w (tokens.PopBranchFalse over) (ys ++ tokens.Branch past ∷ []) zs (Truth false ∷ s) s (Text b ∷ s) (λ i. ap (λ k. Some (i + 1 + k, s)) far) second in
     let P : List Token → Type 0 = λ us. Makes p w (tokens.PopBranchFalse over ∷ us) (Truth false ∷ s) (Text b ∷ s) in
     makes_both p w xs (tokens.PopBranchFalse over ∷ (ys ++ tokens.Branch past ∷ zs)) s (Truth false ∷ s) (Text b ∷ s) test
-      (subst P (append_assoc ys (tokens.Branch past ∷ []) zs) arm)
+    (subst P (append_assoc ys (tokens.Branch past ∷ []) zs) arm)
 
 module _ (p : Code) (m : Seen) (held : List (List ℕ)) where
   -- the world of the program
@@ -166,7 +166,7 @@ module _ (p : Code) (m : Seen) (held : List (List ℕ)) where
       → (s : List Val) → Makes p here (code_of p.names t ++ in_bytes t ++ x ∷ []) s (v ∷ s)
   one_makes t x v is well makes moved s =
       makes_both p here (code_of p.names t ++ in_bytes t) (x ∷ []) s (Text (bytes_in (of t)) ∷ s) (v ∷ s) (bytes_make t is well makes s)
-        (makes_one p here x (Text (bytes_in (of t)) ∷ s) (v ∷ s) (moved s))
+      (makes_one p here x (Text (bytes_in (of t)) ∷ s) (v ∷ s) (moved s))
 
   two_make : (a b : Tree) (x : Token) (v : Val) → IsBytes a → IsWell a → IsBytes b → IsWell b → MakesValue a → MakesValue b → ((s : List Val) (i : ℕ) → moves here x i (Text (bytes_in (of b)) ∷ Text (bytes_in (of a)) ∷ s) ≡ Some (i + 1, v ∷ s))
       → (s : List Val) → Makes p here (code_of p.names a ++ in_bytes a ++ (code_of p.names b ++ in_bytes b) ++ x ∷ []) s (v ∷ s)
@@ -174,7 +174,7 @@ module _ (p : Code) (m : Seen) (held : List (List ℕ)) where
       let below = Text (bytes_in (of a)) ∷ s in
       let both = makes_both p here (code_of p.names a ++ in_bytes a) (code_of p.names b ++ in_bytes b) s below (Text (bytes_in (of b)) ∷ below) (bytes_make a is well first s) (bytes_make b are good second below) in
       makes_both p here (code_of p.names a ++ in_bytes a ++ (code_of p.names b ++ in_bytes b)) (x ∷ []) s (Text (bytes_in (of b)) ∷ below) (v ∷ s) both
-        (makes_one p here x (Text (bytes_in (of b)) ∷ below) (v ∷ s) (moved s))
+      (makes_one p here x (Text (bytes_in (of b)) ∷ below) (v ∷ s) (moved s))
 
 -- a token that pushes a value
 push_makes : (p : Code) (w : World) (x : Token) (v : Val) → ((s : List Val) (i : ℕ) → moves w x i s ≡ Some (i + 1, v ∷ s)) → (s : List Val) → Makes p w (x ∷ []) s (v ∷ s)
@@ -204,16 +204,16 @@ tree_makes p m held (Equal at a b) well known s =
     two_make p m held a b tokens.Equal _ well.0.0 well.0.1 well.1.0 well.1.1 (tree_makes p m held a well.0.1 known.0) (tree_makes p m held b well.1.1 known.1) (λ s i. refl) s
 tree_makes p m held (Not at a) well known s =
     makes_both p (here p m held) (code_of p.names a) (tokens.Not ∷ []) s (Truth (truth_in (value m held a)) ∷ s) (value m held (Not at a) ∷ s)
-      (truth_makes p m held a well.0 well.1 (tree_makes p m held a well.1 known) s)
-      (makes_one p (here p m held) tokens.Not _ _ (λ i. refl))
+    (truth_makes p m held a well.0 well.1 (tree_makes p m held a well.1 known) s)
+    (makes_one p (here p m held) tokens.Not _ _ (λ i. refl))
 tree_makes p m held (And at a b) well known s =
     and_makes p (here p m held) (code_of p.names a) (code_of p.names b) s (truth_in (value m held a)) (truth_in (value m held b)) (size b) (sym (code_length p.names b))
-      (truth_makes p m held a well.0.0 well.0.1 (tree_makes p m held a well.0.1 known.0) s)
-      (truth_makes p m held b well.1.0 well.1.1 (tree_makes p m held b well.1.1 known.1) s)
+    (truth_makes p m held a well.0.0 well.0.1 (tree_makes p m held a well.0.1 known.0) s)
+    (truth_makes p m held b well.1.0 well.1.1 (tree_makes p m held b well.1.1 known.1) s)
 tree_makes p m held (Or at a b) well known s =
     or_makes p (here p m held) (code_of p.names a) (code_of p.names b) s (truth_in (value m held a)) (truth_in (value m held b)) (size b) (sym (code_length p.names b))
-      (truth_makes p m held a well.0.0 well.0.1 (tree_makes p m held a well.0.1 known.0) s)
-      (truth_makes p m held b well.1.0 well.1.1 (tree_makes p m held b well.1.1 known.1) s)
+    (truth_makes p m held a well.0.0 well.0.1 (tree_makes p m held a well.0.1 known.0) s)
+    (truth_makes p m held b well.1.0 well.1.1 (tree_makes p m held b well.1.1 known.1) s)
 tree_makes p m held (Group at a) well known s = tree_makes p m held a well.1 known s
 tree_makes p m held (Concat at a b) well known s =
     two_make p m held a b tokens.Concat _ well.0.0 well.0.1 well.1.0 well.1.1 (tree_makes p m held a well.0.1 known.0) (tree_makes p m held b well.1.1 known.1) (λ s i. refl) s
@@ -221,10 +221,10 @@ tree_makes p m held (IfElse at t a b) well known s =
     let first = operand_length p.names a in
     let second = operand_length p.names b in
     arms_make p (here p m held) (code_of p.names t) (code_of p.names a ++ in_bytes a) (code_of p.names b ++ in_bytes b) s (truth_in (value m held t)) (bytes_in (value m held a)) (bytes_in (value m held b)) (size a + four a + 1) (size b + four b)
-      (omega (arith, first)) (sym second)
-      (truth_makes p m held t well.0.0 well.0.1 (tree_makes p m held t well.0.1 known.0) s)
-      (bytes_make p m held a well.1.0 well.1.1 (tree_makes p m held a well.1.1 known.1) s)
-      (bytes_make p m held b well.2.0 well.2.1 (tree_makes p m held b well.2.1 known.2) s)
+    (omega (arith, first)) (sym second)
+    (truth_makes p m held t well.0.0 well.0.1 (tree_makes p m held t well.0.1 known.0) s)
+    (bytes_make p m held a well.1.0 well.1.1 (tree_makes p m held a well.1.1 known.1) s)
+    (bytes_make p m held b well.2.0 well.2.1 (tree_makes p m held b well.2.1 known.2) s)
 tree_makes p m held (Substring at a start count) well known s = one_makes p m held a (tokens.Substring start count) _ well.0 well.1 (tree_makes p m held a well.1 known) (λ s i. refl) s
 tree_makes p m held (HexString at a b) well known s =
     two_make p m held a b tokens.HexString _ well.0.0 well.0.1 well.1.0 well.1.1 (tree_makes p m held a well.0.1 known.0) (tree_makes p m held b well.1.1 known.1) (λ s i. refl) s
@@ -232,5 +232,5 @@ tree_makes p m held (Lower at a) well known s = one_makes p m held a tokens.Lowe
 tree_makes p m held (Upper at a) well known s = one_makes p m held a tokens.Upper _ well.0 well.1 (tree_makes p m held a well.1 known) (λ s i. refl) s
 tree_makes p m held (IntToText at a) well known s =
     makes_both p (here p m held) (code_of p.names a) (tokens.IntToText ∷ []) s (Number (number_in (value m held a)) ∷ s) (value m held (IntToText at a) ∷ s)
-      (number_makes p m held a well.0 well.1 (tree_makes p m held a well.1 known) s)
-      (makes_one p (here p m held) tokens.IntToText _ _ (λ i. refl))
+    (number_makes p m held a well.0 well.1 (tree_makes p m held a well.1 known) s)
+    (makes_one p (here p m held) tokens.IntToText _ _ (λ i. refl))

@@ -2,44 +2,12 @@
 use Rattle.std.proofs.Common.{◌≡◌, ℕ, zero, suc, ◌+◌, max, List, [], ◌∷◌, ◌++◌, length, length-append, Some, refl, sym, ap, subst, ◌∙◌, arith}
 use Rattle.std.specs.Prelude.{slice_get}
 use Rattle.std.proofs.lemmas.List.{append_assoc}
+use Rattle.kd_compile.proofs.Rows.{HasAt, has_front, has_back}
 use Rattle.kd_machine.specs.Run.{moves, Step, Segment}
 use Rattle.kd_machine.specs.Values.{Val, longest}
 use Rattle.kd_machine.specs.World.{World}
 use Rattle.kd_token.specs.File.{Code}
 use Rattle.kd_token.specs.declared.token.Token.{Token}
-
--- these tokens stand in a row from a place on
-abbrev pub StandAt : List Token → ℕ → List Token → Type 0
-StandAt all i [] = Unit {0}
-StandAt all i (x ∷ xs) = (slice_get all i ≡ Some x) × StandAt all (i + 1) xs
-
--- a place and the same place
-stand_same : (all : List Token) (i j : ℕ) (xs : List Token) → i ≡ j → StandAt all i xs → StandAt all j xs
-stand_same all i j xs e h = let P : ℕ → Type 0 = λ k. StandAt all k xs in subst P e h
-
-pub stand_front : (all : List Token) (xs ys : List Token) (i : ℕ) → StandAt all i (xs ++ ys) → StandAt all i xs
-stand_front all [] ys i h = tt
-stand_front all (x ∷ xs) ys i h = (h.0, stand_front all xs ys (i + 1) h.1)
-
-pub stand_back : (all : List Token) (xs ys : List Token) (i : ℕ) → StandAt all i (xs ++ ys) → StandAt all (i + length xs) ys
-stand_back all [] ys i h = stand_same all i (i + 0) ys (omega arith) h
-stand_back all (x ∷ xs) ys i h = stand_same all (i + 1 + length xs) (i + suc (length xs)) ys (omega arith) (stand_back all xs ys (i + 1) h.1)
-
-there : (before : List Token) (x : Token) (xs : List Token) → slice_get (before ++ x ∷ xs) (length before) ≡ Some x
-there [] x xs = refl
-there (y ∷ before) x xs = there before x xs
-
-stand_behind : (before xs : List Token) → StandAt (before ++ xs) (length before) xs
-stand_behind before [] = tt
-stand_behind before (x ∷ xs) =
-    let size = length-append {A = Token} before (x ∷ []) in
-    let P : List Token → Type 0 = λ all. StandAt all (length (before ++ x ∷ [])) xs in
-    let rest = subst P (append_assoc before (x ∷ []) xs) (stand_behind (before ++ x ∷ []) xs) in
-    (there before x xs, stand_same (before ++ x ∷ xs) (length (before ++ x ∷ [])) (length before + 1) xs (omega (arith, size)) rest)
-
--- all tokens stand in a row from the first place on
-pub stand_all : (xs : List Token) → StandAt xs 0 xs
-stand_all xs = stand_behind [] xs
 
 -- from a place with values a program comes to a place with values
 abbrev pub Comes : Code → World → ℕ → List Val → ℕ → List Val → Type 0
@@ -66,14 +34,14 @@ comes_to p w i j k s t e c = let P : ℕ → Type 0 = λ x. Comes p w i s x t in
 
 -- wherever these tokens stand, a program comes from before them with some values behind them with others
 abbrev pub Makes : Code → World → List Token → List Val → List Val → Type 0
-Makes p w xs s t = (i : ℕ) → StandAt p.tokens i xs → Comes p w i s (i + length xs) t
+Makes p w xs s t = (i : ℕ) → HasAt (slice_get p.tokens) i xs → Comes p w i s (i + length xs) t
 
 module _ (p : Code) (w : World) where
   -- tokens behind others
   pub makes_both : (xs ys : List Token) (s t u : List Val) → Makes p w xs s t → Makes p w ys t u → Makes p w (xs ++ ys) s u
   makes_both xs ys s t u a b i h =
-      let first = a i (stand_front p.tokens xs ys i h) in
-      let second = b (i + length xs) (stand_back p.tokens xs ys i h) in
+      let first = a i (has_front (slice_get p.tokens) i xs ys h) in
+      let second = b (i + length xs) (has_back (slice_get p.tokens) i xs ys h) in
       let size = length-append {A = Token} xs ys in
       comes_to p w i (i + length xs + length ys) (i + length (xs ++ ys)) s u (omega (arith, size)) (comes_on p w i (i + length xs) (i + length xs + length ys) s t u first second)
 
@@ -81,7 +49,7 @@ module _ (p : Code) (w : World) where
   pub makes_over : (x : Token) (xs ys : List Token) (s t u : List Val) → ((i : ℕ) → moves w x i s ≡ Some (i + 1 + length xs, t)) → Makes p w ys t u → Makes p w (x ∷ (xs ++ ys)) s u
   makes_over x xs ys s t u moved b i h =
       let first = comes_step p w i s (i + 1 + length xs) t (x, h.0, moved i) in
-      let second = b (i + 1 + length xs) (stand_back p.tokens xs ys (i + 1) h.1) in
+      let second = b (i + 1 + length xs) (has_back (slice_get p.tokens) (i + 1) xs ys h.1) in
       let size = length-append {A = Token} xs ys in
       comes_to p w i (i + 1 + length xs + length ys) (i + suc (length (xs ++ ys))) s u (omega (arith, size)) (comes_on p w i (i + 1 + length xs) (i + 1 + length xs + length ys) s t u first second)
 

@@ -14,7 +14,7 @@ use crate::fault::CompileFault;
 use crate::lengths::lengths;
 use crate::measure::{depth, has_branches, steps, tokens};
 use kd_expr::{Node, Typed};
-use kd_token::{Program, VerifyFault, Verified, Version, verify};
+use kd_token::{Program, Verified, VerifyFault, Version, verify};
 use kd_wire::Bytes;
 use std::alloc::{AllocError, Global};
 

@@ -118,7 +118,8 @@ fn nested(
 // with ample memory.
 #[test]
 fn want_of_memory_is_answered_as_such(rt: HostRuntime) -> Result<(), Fail> {
-    let long = b"member('A') and (member('B') or ifelse(option[60].exists, lcase(option[60].hex), 'x') + 1 == hexstring(substring('k', 0, all), ':')) or not pkt4.mac == 0x0a0000000001 or member('ALL')";
+    let long =
+        b"member('A') and (member('B') or ifelse(option[60].exists, lcase(option[60].hex), 'x') + 1 == hexstring(substring('k', 0, all), ':')) or not pkt4.mac == 0x0a0000000001 or member('ALL')";
     let table: [(&[u8], Outcome); 2] = [
         (b"option[60].hex == 'a'", gives(false, 3, 2, 2)),
         (long, gives(true, 9, 2, 6)),

@@ -20,7 +20,10 @@ fn file(alloc: Global, text: &[u8]) -> Result<String, Fault> {
 #[test]
 fn worked_tests_have_their_files(rt: HostRuntime) -> Result<(), Fail> {
     let table: [(&[u8], &str); 12] = [
-        (b"option[60].hex == 'a'", "4b34544b010003021000000003033c0100016109"),
+        (
+            b"option[60].hex == 'a'",
+            "4b34544b010003021000000003033c0100016109",
+        ),
         (
             b"ifelse(option[60].exists,'a','b') == 'a'",
             "4b34544b020006020001000007063c210002010001612000010100016201000161\

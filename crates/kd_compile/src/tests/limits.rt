@@ -42,10 +42,10 @@ fn refused(fault: CompileFault) -> Result<Declared, Fault> {
     Err(Fault::Compiling(fault))
 }
 
-// `''` so many times joined by `+`, then ` == ''`: 2 tokens for each but the first, and 2 more.
+// `''` and so many times `+''`, then `==''`: a token, 2 for each that is joined to it, and 2 more.
 fn joined(alloc: Global, count: usize) -> Result<Vec<u8>, AllocError> {
     let mut text = Vec::from_slice(alloc, b"''")?;
-    text.extend_from_slice(&times(alloc, count - 1, b"+''")?)?;
+    text.extend_from_slice(&times(alloc, count, b"+''")?)?;
     text.extend_from_slice(b"==''")?;
     Ok(text)
 }
@@ -53,14 +53,14 @@ fn joined(alloc: Global, count: usize) -> Result<Vec<u8>, AllocError> {
 #[test]
 fn a_program_has_at_most_1024_tokens(rt: HostRuntime) -> Result<(), Fail> {
     let mut most = Vec::from_slice(rt.alloc(), b"not ")?;
-    most.extend_from_slice(&joined(rt.alloc(), 511)?)?;
+    most.extend_from_slice(&joined(rt.alloc(), 510)?)?;
     assert_eq!(rt; compiled(rt.alloc(), &most), declares(1024, 2, 0, 1024));
     let bytes = datagram(rt.alloc(), DISCOVER)?;
     assert_eq!(rt;
         outcome(rt.alloc(), &most, &bytes),
         Ok(gives(false, 1024, 2, 0))
     );
-    for count in [512, 1363] {
+    for count in [511, 1362] {
         let text = joined(rt.alloc(), count)?;
         assert_eq!(rt;
             compiled(rt.alloc(), &text),
@@ -95,10 +95,7 @@ fn a_byte_string_has_at_most_65535_bytes(rt: HostRuntime) -> Result<(), Fail> {
     most.extend_from_slice(b" == ''")?;
     assert_eq!(rt; compiled(rt.alloc(), &most), declares(65, 2, 65_535, 65));
     text.extend_from_slice(b"+'6' == ''")?;
-    assert_eq!(rt;
-        compiled(rt.alloc(), &text),
-        refused(CompileFault::TooLong)
-    );
+    assert_eq!(rt; compiled(rt.alloc(), &text), refused(CompileFault::TooLong));
     // a part of it is short, and yet it is too long
     let table: [&[u8]; 4] = [
         b"hexstring(option[43].hex, option[60].hex) == 'x'",
@@ -107,10 +104,7 @@ fn a_byte_string_has_at_most_65535_bytes(rt: HostRuntime) -> Result<(), Fail> {
         b"option[1].exists or uint32totext(1) == hexstring(option[1].hex,'123456789012345')",
     ];
     for text in table {
-        assert_eq!(rt;
-            compiled(rt.alloc(), text),
-            refused(CompileFault::TooLong)
-        );
+        assert_eq!(rt; compiled(rt.alloc(), text), refused(CompileFault::TooLong));
     }
     Ok(())
 }
@@ -126,10 +120,7 @@ fn bounds_of_any_size_are_too_long(rt: HostRuntime) -> Result<(), Fail> {
         b", option[2].hex)",
     )?;
     text.extend_from_slice(b" == ''")?;
-    assert_eq!(rt;
-        compiled(rt.alloc(), &text),
-        refused(CompileFault::TooLong)
-    );
+    assert_eq!(rt; compiled(rt.alloc(), &text), refused(CompileFault::TooLong));
     Ok(())
 }
 
@@ -163,10 +154,7 @@ fn a_program_has_at_most_64_names(rt: HostRuntime) -> Result<(), Fail> {
 #[test]
 fn the_longest_way_is_declared(rt: HostRuntime) -> Result<(), Fail> {
     let table: [(&[u8], Result<Declared, Fault>); 5] = [
-        (
-            b"ifelse(member('A'),'a','b') == 'c'",
-            declares(6, 2, 1, 7),
-        ),
+        (b"ifelse(member('A'),'a','b') == 'c'", declares(6, 2, 1, 7)),
         (
             b"ifelse(member('A'),'a'+'a','b') == 'c'",
             declares(8, 2, 2, 9),
@@ -194,12 +182,15 @@ fn the_first_limit_counts(rt: HostRuntime) -> Result<(), Fail> {
     let mut deep = nested(rt.alloc(), 64, b"concat('a',", b"'a'", b")")?;
     let long = b" == hexstring(option[43].hex, option[60].hex)";
     deep.extend_from_slice(long)?;
-    assert_eq!(rt;
-        compiled(rt.alloc(), &deep),
-        refused(CompileFault::TooDeep)
-    );
+    assert_eq!(rt; compiled(rt.alloc(), &deep), refused(CompileFault::TooDeep));
     // as deep, and 1,025 tokens
-    let mut many = nested(rt.alloc(), 64, b"concat(''+''+''+''+''+''+''+'',", b"'a'", b")")?;
+    let mut many = nested(
+        rt.alloc(),
+        64,
+        b"concat(''+''+''+''+''+''+''+'',",
+        b"'a'",
+        b")",
+    )?;
     many.extend_from_slice(b" == ''")?;
     assert_eq!(rt;
         compiled(rt.alloc(), &many),

@@ -40,8 +40,6 @@ returns-in-Ok-clause-keeps c =
 pub unreachable-requires : goal.unreachable-requires
 unreachable-requires c =
     let same = ap tree_of c.tree-tree.ensures.same in
-    let P : Tree → Type 0 = λ t. first_over t ≡ None in
-    let within = subst P same c.in_ok-program.ensures.within in
     let is = c.in_ok-program.ensures.program ∙ ap program_for same in
-    let accepts = accepted (tree_of c.args.typed.now) c.tree-tree.ensures.text c.tree-tree.ensures.typed within in
+    let accepts = accepted (tree_of c.args.typed.now) c.tree-tree.ensures.typed in
     c.in_default.not-Memory (c.in-Err.ensures.only (subst Accepts (sym is) accepts))

@@ -25,9 +25,9 @@ new-requires c =
     let is_bound = c.requires.bound in
     let is_names = c.requires.names in
     let is_code =
-        c.in_ok-put_code.ensures
-        ∙ ap (λ front. front ++ code_of c.deref.result.now (tree_of c.args.tree.now)) c.in_ok-out.ensures.items
-        ∙ ap (λ names. code_of names (tree_of c.args.tree.now)) (c.deref.ensures.value ∙ c.requires.names)
+    c.in_ok-put_code.ensures
+    ∙ ap (λ front. front ++ code_of c.deref.result.now (tree_of c.args.tree.now)) c.in_ok-out.ensures.items
+    ∙ ap (λ names. code_of names (tree_of c.args.tree.now)) (c.deref.ensures.value ∙ c.requires.names)
     in
     let same : code c.version_of.result c.steps.result c.depth.result c.args.bound c.args.held.items c.put_code.new.out.items ≡ program_for (tree_of c.args.tree.now) = cc in
     subst HasFile (sym same) (has_file (tree_of c.args.tree.now) c.requires.text c.requires.within)
