@@ -1,9 +1,11 @@
 //! Does one piece of work many times, so that its time can be taken from outside: `kd_bench discover
 //! 2000000` or `kd_bench pieces 100000` reads a datagram, `kd_bench file 10000` a token file, `kd_bench
-//! verify 10000` verifies what it reads too, and `kd_bench short 1000000`, `long` and `digits` run a
-//! program. It prints how often that was done, and no time.
+//! verify 10000` verifies what it reads too, `kd_bench short 1000000`, `long` and `digits` run a program,
+//! and `kd_bench strings 1000`, `members` and `choices` compile a class test. It prints how often that was
+//! done, and no time.
 #![tactic(auto)]
 
+mod compiling;
 mod machine;
 
 use kd_options::Message;
@@ -25,6 +27,9 @@ fn main(rt: HostRuntime) -> io::Result<()> {
         "short" => machine::short(rt.alloc(), rounds)?,
         "long" => machine::long(rt.alloc(), rounds)?,
         "digits" => machine::digits(rt.alloc(), rounds)?,
+        "strings" => compiling::strings(rt.alloc(), rounds)?,
+        "members" => compiling::members(rt.alloc(), rounds)?,
+        "choices" => compiling::choices(rt.alloc(), rounds)?,
         _ => read_again(rt.alloc(), discover(rt.alloc())?.as_slice(), rounds),
     };
     println!(rt; "{done}")
