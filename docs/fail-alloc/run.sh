@@ -32,6 +32,11 @@ each_refusal crates/kdhcp/out/kdhcp expr "not option[host-name].exists and 'a' +
 each_refusal crates/kdhcp/out/kdhcp expr "concat('a','b')"
 each_refusal crates/kdhcp/out/kdhcp verify 4b34544b010003021000000003033c0100016109
 each_refusal crates/kdhcp/out/kdhcp verify 4b34544b010002010000000002063c0b
+each_refusal crates/kdhcp/out/kdhcp compile "member('A') and option[60].hex == 'a'"
+each_refusal crates/kdhcp/out/kdhcp compile "hexstring(option[43].hex, option[60].hex) == ''"
+datagram=$(cat examples/samples/relayed-dhclient-discover.hex)
+each_refusal crates/kdhcp/out/kdhcp eval 4b34544b010003021000000003033c0100016109 "$datagram"
+each_refusal crates/kdhcp/out/kdhcp eval --text "lcase(option[12].hex) + hexstring(pkt4.mac, ':') == ''" "$datagram"
 for words in "show abcd" "show 0g" "show -- -a" "--help" "help show" "show" "show a b" "nope" ""; do
     # shellcheck disable=SC2086
     each_refusal crates/kdhcp/out/kdhcp $words
@@ -62,7 +67,7 @@ echo "replay byte by byte: the same"
 
 all=0 passed=0 building=0 second=0 other=0
 for test in kd_options:tests kd_options:reply::tests kd_server:server::replays kd_expr:tests::memory \
-    kd_token:verifier::tests kd_machine:tests kdhcp:answer::tests; do
+    kd_token:verifier::tests kd_machine:tests kd_compile:tests kdhcp:answer::tests; do
     run=(crates/"${test%%:*}"/out/"${test%%:*}"_tests "${test#*:}"::want_of_memory_is_answered_as_such)
     for n in $(seq 1 "$(asked_by "${run[@]}")"); do
         all=$((all + 1))

@@ -1,11 +1,11 @@
 -- What a compiled program owes to its class test: its measures, that it is accepted, and its meaning.
-use Rattle.std.specs.Prelude.{◌≡◌, ℕ, ◌≤◌, nat_lt, if◌then◌else◌, List, length, Option, Some, None}
+use Rattle.std.specs.Prelude.{◌≡◌, ℕ, nat_lt, if◌then◌else◌, List, length, Option, Some, None}
 use Rattle.kd_compile.specs.Measures.{tokens, steps, depth, greatest, names, has_branches}
 use Rattle.kd_compile.specs.Value.{truth}
 use Rattle.kd_compile.specs.declared.fault.CompileFault.{CompileFault}
 use Rattle.kd_compile.specs.declared.fault.CompileFault.TheVariants as faults
 use Rattle.kd_expr.specs.Tree.{Tree}
-use Rattle.kd_machine.specs.Run.{Run}
+use Rattle.kd_machine.specs.Run.{EndsAs}
 use Rattle.kd_options.specs.Message.{Seen, IsMessage}
 use Rattle.kd_token.specs.File.{Code}
 use Rattle.kd_token.specs.declared.token.Version.{Version}
@@ -46,4 +46,4 @@ pub record HasMeasures (t : Tree) (p : Code) : Type 0 where
 -- what it declares, to the expression's truth value
 abbrev pub Keeps : Tree → Code → Type 0
 Keeps t p = (message : Seen) (held : List (List ℕ)) → IsMessage message
-    → (n : ℕ) × (d : ℕ) × (l : ℕ) × Run p message held (truth message held t) n d l × (n ≤ p.steps) × (d ≤ p.depth) × (l ≤ p.bound)
+    → (n : ℕ) × (d : ℕ) × (l : ℕ) × EndsAs p message held (truth message held t) n d l
