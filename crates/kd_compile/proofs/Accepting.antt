@@ -5,7 +5,6 @@ use Rattle.std.specs.List.{AllByRecursion}
 use Rattle.std.proofs.lemmas.Bool.{cases_lt, lt-ltb}
 use Rattle.std.proofs.lemmas.List.{append-nil}
 use Rattle.std.proofs.lemmas.Option.{slice_get_within, slice_get_past}
-use Rattle.kd_compile.specs.Compiled.{first_over}
 use Rattle.kd_compile.specs.Measures.{is_number, four, steps, depth, bound, part_bound, greatest, names}
 use Rattle.kd_compile.specs.Measures.{tokens as size}
 use Rattle.kd_compile.specs.Tokens.{place, field_of, code_of, program_for}
@@ -14,7 +13,6 @@ use Rattle.kd_compile.proofs.Rows.{has_front, has_back, has_itself}
 use Rattle.kd_compile.proofs.Pieces.{known_covered, Goes, Leads, GoesOn, Piece, piece_last, piece_front, piece_then, piece_over, piece_counted, covered_through}
 use Rattle.kd_compile.proofs.Places.{Knows, names_known}
 use Rattle.kd_compile.proofs.Typed.{kind_of, IsTruth, IsBytes, IsWell, well_of}
-use Rattle.kd_expr.specs.Grammar.{HasText}
 use Rattle.kd_expr.specs.Tree.{Tree, Literal, Int, OptionValue, RelayValue, FieldValue, OptionExists, RelayExists, Member, Equal, Not, And, Or, Group, Concat, IfElse, Substring, HexString, Lower, Upper, IntToText}
 use Rattle.kd_expr.specs.Typing.{type_of}
 use Rattle.kd_expr.specs.declared.node.Field.{Field}

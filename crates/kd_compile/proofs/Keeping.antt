@@ -20,7 +20,7 @@ use Rattle.kd_machine.proofs.OneEnd.{one_end}
 use Rattle.kd_machine.specs.Run.{Run}
 use Rattle.kd_machine.specs.Values.{Val, Truth}
 use Rattle.kd_machine.specs.World.{world}
-use Rattle.kd_options.specs.Message.{Seen, IsMessage}
+use Rattle.kd_options.specs.Message.{Seen}
 use Rattle.kd_token.specs.Accepts.{Accepts}
 use Rattle.kd_token.specs.File.{HasFile}
 
@@ -38,12 +38,12 @@ comes_to_value t message held typed =
 
 -- an accepted program of a class test keeps its meaning
 keeps : (t : Tree) → type_of t ≡ Ok types.Bool → HasFile (program_for t) → Accepts (program_for t) → Keeps t (program_for t)
-keeps t typed file accepted message held is =
+keeps t typed file accepts message held is =
     let made = comes_to_value t message held typed in
-    let ends = accepted_ends (program_for t) message held file accepted is in
+    let ends = accepted_ends (program_for t) message held file accepts is in
     let same = one_end (program_for t) message held (truth message held t) ends.0 made.0 ends.1 made.1 ends.2 made.2 ends.3 made.3 ends.4 in
     let R : Bool → Type 0 = λ v. Run (program_for t) message held v ends.1 ends.2 ends.3 in
-    (ends.1, ends.2, ends.3, subst R (sym same.0) ends.4, ends.5, ends.6, ends.7)
+    (ends.1, ends.2, ends.3, (subst R (sym same.0) ends.4, ends.5, ends.6, ends.7))
 
 -- the program of a class test has its measures
 pub has_measures : (t : Tree) → HasMeasures t (program_for t)

@@ -1,8 +1,8 @@
 -- The tokens of an expression make its value, wherever they stand and whatever values are below.
-use Rattle.std.proofs.Common.{◌≡◌, ℕ, ◌+◌, Bool, true, false, List, [], ◌∷◌, ◌++◌, length, length-append, Option, Some, refl, sym, ap, subst, ◌∙◌, arith, inl, inr}
-use Rattle.std.specs.Prelude.{◌⊎◌, ◌&&◌, ◌||◌, not, if◌then◌else◌, slice_get}
+use Rattle.std.proofs.Common.{◌≡◌, ℕ, ◌+◌, Bool, true, false, List, [], ◌∷◌, ◌++◌, length, length-append, Option, Some, refl, sym, ap, subst, arith, inl, inr}
+use Rattle.std.specs.Prelude.{◌⊎◌, ◌&&◌, ◌||◌, if◌then◌else◌, slice_get}
 use Rattle.std.proofs.lemmas.List.{append_assoc}
-use Rattle.kd_compile.specs.Measures.{is_number, four}
+use Rattle.kd_compile.specs.Measures.{four}
 use Rattle.kd_compile.specs.Measures.{tokens as size}
 use Rattle.kd_compile.specs.Tokens.{code_of, field_of, in_bytes, place}
 use Rattle.kd_compile.specs.Value.{value, part_value, truth_in, number_in, bytes_in}

@@ -1,7 +1,6 @@
 -- Runs through a part of a program: what the tokens that stand in a row make of the values before them.
-use Rattle.std.proofs.Common.{◌≡◌, ℕ, zero, suc, ◌+◌, max, List, [], ◌∷◌, ◌++◌, length, length-append, Some, refl, sym, ap, subst, ◌∙◌, arith}
+use Rattle.std.proofs.Common.{◌≡◌, ℕ, zero, suc, ◌+◌, max, List, [], ◌∷◌, ◌++◌, length, length-append, Some, refl, sym, subst, arith}
 use Rattle.std.specs.Prelude.{slice_get}
-use Rattle.std.proofs.lemmas.List.{append_assoc}
 use Rattle.kd_compile.proofs.Rows.{HasAt, has_front, has_back}
 use Rattle.kd_machine.specs.Run.{moves, Step, Segment}
 use Rattle.kd_machine.specs.Values.{Val, longest}

@@ -2,7 +2,7 @@
 -- token; the four bytes behind a number where a byte string is wanted; `and`, `or` and `ifelse` by branches
 -- over what they may skip. Proofs tie them to the expression's value and measures; no public contract cites
 -- them.
-use Rattle.std.specs.Prelude.{ℕ, zero, suc, ◌+◌, true, false, if◌then◌else◌, List, [], ◌∷◌, ◌++◌}
+use Rattle.std.specs.Prelude.{ℕ, suc, ◌+◌, if◌then◌else◌, List, [], ◌∷◌, ◌++◌}
 use Rattle.kd_expr.specs.Tree.{Tree, Literal, Int, OptionValue, RelayValue, FieldValue, OptionExists, RelayExists, Member, Equal, Not, And, Or, Group, Concat, IfElse, Substring, HexString, Lower, Upper, IntToText}
 use Rattle.kd_expr.specs.declared.node.Field.{Field}
 use Rattle.kd_expr.specs.declared.node.Field.TheVariants as parts

@@ -68,11 +68,25 @@ fn value(alloc: Global, text: &[u8], bytes: &[u8]) -> Result<bool, Fault> {
     Ok(outcome(alloc, text, bytes)?.value)
 }
 
-// A DISCOVER of 0a0000000001 with these options, `63825363` before them.
+// A DISCOVER of 0a0000000001 with these options, in the options field alone.
 fn datagram(alloc: Global, options: &[u8]) -> Result<Vec<u8>, AllocError> {
+    overloaded(alloc, b"", b"", options)
+}
+
+// The same with these bytes, and zeros behind them, in the fields sname and file.
+fn overloaded(
+    alloc: Global,
+    sname: &[u8],
+    file: &[u8],
+    options: &[u8],
+) -> Result<Vec<u8>, AllocError> {
     let mut bytes = Vec::from_slice(alloc, b"\x01\x01\x06\x00\x00\x00\x00\x01")?;
     bytes.resize(28, 0)?;
     bytes.extend_from_slice(b"\x0a\x00\x00\x00\x00\x01")?;
+    bytes.resize(44, 0)?;
+    bytes.extend_from_slice(sname)?;
+    bytes.resize(108, 0)?;
+    bytes.extend_from_slice(file)?;
     bytes.resize(236, 0)?;
     bytes.extend_from_slice(b"\x63\x82\x53\x63")?;
     bytes.extend_from_slice(options)?;

@@ -1,4 +1,4 @@
-use super::{DISCOVER, datagram, gives, outcome, value};
+use super::{DISCOVER, datagram, gives, outcome, overloaded, value};
 use kd_machine::Outcome;
 use std::test::Fail;
 
@@ -13,9 +13,8 @@ fn the_longest_option_is_written_in_digits(rt: HostRuntime) -> Result<(), Fail> 
     }
     options.extend_from_slice(b"\x2b\xfa")?;
     options.extend_from_slice(&[7; 250])?;
-    let mut bytes = datagram(rt.alloc(), &options)?;
-    bytes[44..46].copy_from_slice(b"\x2b\x3e");
-    bytes[108..110].copy_from_slice(b"\x2b\x7e");
+    // 62 and 126 bytes
+    let bytes = overloaded(rt.alloc(), b"\x2b\x3e", b"\x2b\x7e", &options)?;
     assert_eq!(rt; bytes.len(), 4096);
     assert_eq!(rt;
         outcome(rt.alloc(), b"hexstring(option[43].hex, ':') == 'x'", &bytes),

@@ -1,4 +1,4 @@
-use Rattle.std.proofs.Common.{◌≡◌, ◌<◌, ◌≤◌, ℕ, None, ap, sym, subst, ◌∙◌, arith}
+use Rattle.std.proofs.Common.{◌≡◌, None, ap, sym, subst, ◌∙◌, arith}
 use Rattle.kd_compile.proofs.Accepting.{accepted}
 use Rattle.kd_compile.proofs.Keeping.{has_measures, keeps_in_limits}
 use Rattle.kd_compile.proofs.Ranges.{few_tokens, depth_le}

@@ -1,9 +1,9 @@
-use Rattle.std.proofs.Common.{◌≡◌, ◌<◌, ◌≤◌, ℕ, List, ◌++◌, sym, subst, ap, arith, ◌∙◌, Fits, w16}
+use Rattle.std.proofs.Common.{◌≡◌, ◌++◌, sym, subst, ap, arith, ◌∙◌}
 use Rattle.kd_compile.proofs.Fits.{has_file, in_limits}
 use Rattle.kd_compile.proofs.Ranges.{few_tokens, steps_le}
 use Rattle.kd_compile.specs.Tokens.{code_of, program_for}
 use Rattle.kd_expr.specs.View.{tree_of}
-use Rattle.kd_token.specs.File.{Code, HasFile, code}
+use Rattle.kd_token.specs.File.{HasFile, code}
 use Rattle.kd_compile.proofs.compiler.program_of.Goals as goal
 
 pub steps-requires : goal.steps-requires

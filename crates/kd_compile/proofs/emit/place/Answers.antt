@@ -1,4 +1,4 @@
-use Rattle.std.proofs.Common.{◌≡◌, ◌∙◌, ap, length}
+use Rattle.std.proofs.Common.{◌∙◌, ap, length}
 use Rattle.std.specs.Option.{unwrap_or}
 use Rattle.kd_compile.proofs.Found.{found_place}
 use Rattle.kd_compile.proofs.emit.place.Goals as goal
