@@ -4,6 +4,7 @@ pub mod Flags
 pub mod Level
 pub mod Lines
 pub mod Orders
+pub mod PairLine
 pub mod Shown
 pub mod TextLine
 pub mod Top

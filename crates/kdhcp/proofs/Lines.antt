@@ -1,5 +1,5 @@
 -- Which words are a line of the program, subcommand by subcommand.
-use Rattle.std.proofs.Common.{◌≡◌, ◌∙◌, sym, ap, refl, subst, inl, inr, List, [], ◌∷◌, codes, Some}
+use Rattle.std.proofs.Common.{◌≡◌, ◌∙◌, sym, ap, ap₂, refl, subst, inl, inr, List, [], ◌∷◌, codes, Some}
 use Rattle.std.specs.Prelude.{option_map}
 use Rattle.std.specs.List.{All}
 use Rattle.std.specs.Str.{IsUtf8}
@@ -7,8 +7,9 @@ use Rattle.std.proofs.lemmas.List.Elements.{All-tail}
 use Rattle.clap.specs.Words.{Text, fault_of}
 use Rattle.clap.specs.declared.error.kind.ErrorKind.TheVariants.{DisplayHelp}
 use Rattle.kdhcp.specs.Line.{IsHelpFlag, IsHelpLine, IsLine, IsOneOf, subcommands}
-use Rattle.kdhcp.specs.Order.{Asked, Asks, asked_of, command_line, replays, shows, types, verifies}
+use Rattle.kdhcp.specs.Order.{Asked, Asks, asked_of, command_line, evaluates, evaluation_of, replays, shows, types, verifies}
 use Rattle.kdhcp.proofs.BareLine.{bare, bare_helps, bare_in, bare_passes}
+use Rattle.kdhcp.proofs.PairLine.{pair, pair_helps, pair_in, pair_passes}
 use Rattle.kdhcp.proofs.TextLine.{one, text_helps, text_in, text_passes}
 use Rattle.kdhcp.proofs.Top.{IsSub, begins, helps_first}
 
@@ -22,6 +23,9 @@ expr = record { met = refl; ours = refl; found = refl }
 
 verify : IsSub (codes "verify") (one (codes "verify") (codes "HEX"))
 verify = record { met = refl; ours = refl; found = refl }
+
+eval : IsSub (codes "eval") pair
+eval = record { met = refl; ours = refl; found = refl }
 
 replay : IsSub (codes "replay") (bare (codes "replay"))
 replay = record { met = refl; ours = refl; found = refl }
@@ -38,8 +42,11 @@ asked_in name rest (inr (inl is)) texts none = rw is (
 asked_in name rest (inr (inr (inl is))) texts none = rw is (
     let got = text_in (codes "verify") (codes "HEX") rest verify texts (rw is at none) in
     (verifies got.0, got.1))
-asked_in name rest (inr (inr (inr (inl is)))) texts none = rw is (replays, bare_in (codes "replay") rest replay texts (rw is at none))
-asked_in name rest (inr (inr (inr (inr never)))) texts none = absurd never
+asked_in name rest (inr (inr (inr (inl is)))) texts none = rw is (
+    let got = pair_in rest eval texts (rw is at none) in
+    (evaluates got.0 got.1, got.2))
+asked_in name rest (inr (inr (inr (inr (inl is))))) texts none = rw is (replays, bare_in (codes "replay") rest replay texts (rw is at none))
+asked_in name rest (inr (inr (inr (inr (inr never))))) texts none = absurd never
 
 -- a line asks by clap for what it asks for in plain words
 pub clap_from_line : (ws : List Text) (asked : Asked) → IsLine ws asked → Asks ws asked
@@ -52,6 +59,9 @@ clap_from_line ws (types text) h =
 clap_from_line ws (verifies hex) h =
     let got = text_passes (codes "verify") (codes "HEX") refl ws hex verify h in
     record { whole = got.1; entered = ap asked_of got.2 ∙ ap (option_map (λ x. verifies x)) got.3 }
+clap_from_line ws (evaluates program datagram) h =
+    let got = pair_passes ws program datagram eval h in
+    record { whole = got.1; entered = ap asked_of got.2 ∙ ap₂ evaluation_of got.3 got.4 }
 clap_from_line ws replays h =
     let got = bare_passes (codes "replay") ws replay h in
     record { whole = got.1; entered = ap asked_of got.2 }
@@ -62,8 +72,9 @@ helps_second : (name next : Text) (rest : List Text) → IsOneOf name subcommand
 helps_second name next rest (inl is) h = rw is (text_helps (codes "show") (codes "HEX") next rest show h)
 helps_second name next rest (inr (inl is)) h = rw is (text_helps (codes "expr") (codes "TEXT") next rest expr h)
 helps_second name next rest (inr (inr (inl is))) h = rw is (text_helps (codes "verify") (codes "HEX") next rest verify h)
-helps_second name next rest (inr (inr (inr (inl is)))) h = rw is (bare_helps (codes "replay") next rest replay h)
-helps_second name next rest (inr (inr (inr (inr never)))) h = absurd never
+helps_second name next rest (inr (inr (inr (inl is)))) h = rw is (pair_helps next rest eval h)
+helps_second name next rest (inr (inr (inr (inr (inl is))))) h = rw is (bare_helps (codes "replay") next rest replay h)
+helps_second name next rest (inr (inr (inr (inr (inr never))))) h = absurd never
 
 -- ---- whatever the subcommands
 

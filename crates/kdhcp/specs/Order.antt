@@ -12,7 +12,7 @@ use Rattle.clap.specs.declared.error.kind.ErrorKind.TheVariants.{DisplayHelp}
 use Rattle.kdhcp.specs.declared.order.LineFault.{LineFault}
 use Rattle.kdhcp.specs.declared.order.LineFault.TheVariants.{CommandLine, Memory}
 use Rattle.kdhcp.specs.declared.order.Order.{Order}
-use Rattle.kdhcp.specs.declared.order.Order.TheVariants.{Help, Show, Expr, Verify, Replay}
+use Rattle.kdhcp.specs.declared.order.Order.TheVariants.{Help, Show, Expr, Verify, Eval, Replay}
 
 -- the number that a fault is printed with
 abbrev pub fault_number : LineFault → ℕ
@@ -41,6 +41,10 @@ expr_line = text_line (codes "expr") (codes "TEXT")
 abbrev pub verify_line : App
 verify_line = text_line (codes "verify") (codes "HEX")
 
+-- `eval PROGRAM DATAGRAM`
+abbrev pub eval_line : App
+eval_line = with_rule (text_line (codes "eval") (codes "PROGRAM")) (needed (codes "DATAGRAM"))
+
 -- `replay`
 abbrev pub replay_line : App
 replay_line = new_app (codes "replay")
@@ -53,8 +57,8 @@ program_line = on_top (λ s. record s { no_binary_name = true; subcommand_requir
 -- the whole command line
 abbrev pub command_line : App
 command_line =
-    with_subcommand (with_subcommand (with_subcommand (with_subcommand program_line show_line.top) expr_line.top)
-    verify_line.top) replay_line.top
+    with_subcommand (with_subcommand (with_subcommand (with_subcommand (with_subcommand program_line show_line.top)
+    expr_line.top) verify_line.top) eval_line.top) replay_line.top
 
 -- ---- what the words ask for
 
@@ -66,8 +70,14 @@ pub data Asked : Type 0 where
   types : Text → Asked
   -- whether the program of the token file in this text is accepted
   verifies : Text → Asked
+  -- the run of the program of the token file in the one text over the datagram in the other
+  evaluates : Text → Text → Asked
   -- the events of standard input, replayed
   replays : Asked
+
+-- what two texts ask `eval` for, where both are there
+abbrev pub evaluation_of : Option Text → Option Text → Option Asked
+evaluation_of program datagram = option_and_then (λ p. option_map (λ d. evaluates p d) datagram) program
 
 -- what the subcommand of this name asks for, with these matches
 abbrev pub asked_by : Text → List Row → Option Asked
@@ -75,7 +85,9 @@ asked_by name rows =
     if bytes_eq name (codes "show") then option_map (λ hex. shows hex) (first_of (codes "HEX") rows)
     else (if bytes_eq name (codes "expr") then option_map (λ text. types text) (first_of (codes "TEXT") rows)
     else (if bytes_eq name (codes "verify") then option_map (λ hex. verifies hex) (first_of (codes "HEX") rows)
-    else (if bytes_eq name (codes "replay") then Some replays else None)))
+    else (if bytes_eq name (codes "eval")
+    then evaluation_of (first_of (codes "PROGRAM") rows) (first_of (codes "DATAGRAM") rows)
+    else (if bytes_eq name (codes "replay") then Some replays else None))))
 
 -- the same of the subcommand that was entered, if one was
 abbrev pub asked_of : Option (Text × List Row) → Option Asked
@@ -101,6 +113,7 @@ AsksFor words (Help text) = IsHelp words
 AsksFor words (Show hex) = Asks words (shows (string_bytes hex))
 AsksFor words (Expr text) = Asks words (types (string_bytes text))
 AsksFor words (Verify hex) = Asks words (verifies (string_bytes hex))
+AsksFor words (Eval program datagram) = Asks words (evaluates (string_bytes program) (string_bytes datagram))
 AsksFor words Replay = Asks words replays
 
 -- the words have this fault; memory may run out at any words
@@ -114,6 +127,7 @@ given_by (Help text) = None
 given_by (Show hex) = Some (shows (string_bytes hex))
 given_by (Expr text) = Some (types (string_bytes text))
 given_by (Verify hex) = Some (verifies (string_bytes hex))
+given_by (Eval program datagram) = Some (evaluates (string_bytes program) (string_bytes datagram))
 given_by Replay = Some replays
 
 -- the answer gives what was asked, or memory ran out

@@ -1,5 +1,5 @@
 -- What an order prints on standard output and standard error, and its exit status.
-use Rattle.std.specs.Prelude.{◌≡◌, ◌≢◌, ◌↔◌, ◌<◌, ℕ, List, [], ◌++◌, length, Result, Ok, Err, MatchResult, codes}
+use Rattle.std.specs.Prelude.{◌≡◌, ◌≢◌, ◌↔◌, ◌<◌, ℕ, Bool, if◌then◌else◌, List, [], ◌++◌, length, Result, Ok, Err, MatchResult, codes}
 use Rattle.std.specs.String.{string_bytes}
 use Rattle.std.specs.Fmt.{decimal}
 use Rattle.hex.specs.Hex.{decode_of}
@@ -11,7 +11,10 @@ use Rattle.kd_expr.specs.Tree.{Tree}
 use Rattle.kd_expr.specs.Typing.{test_type}
 use Rattle.kd_expr.specs.declared.fault.ExprFault.{ExprFault}
 use Rattle.kd_expr.specs.declared.fault.ExprFault.TheVariants as reading
+use Rattle.kd_machine.specs.Held.{base_names}
+use Rattle.kd_machine.specs.Run.{Run}
 use Rattle.kd_options.specs.Faults.{read_fault_number}
+use Rattle.kd_options.specs.Joined.{value_of}
 use Rattle.kd_options.specs.Message.{Seen, Reads, IsFirstFault}
 use Rattle.kd_options.specs.declared.fault.ReadFault.{ReadFault}
 use Rattle.kd_options.specs.declared.fault.ReadFault.TheVariants.{Memory}
@@ -26,7 +29,7 @@ use Rattle.kdhcp.specs.Show.{show_text, line_feed}
 use Rattle.kdhcp.specs.Status.{status_of}
 use Rattle.kdhcp.specs.declared.answer.Printed.{Printed}
 use Rattle.kdhcp.specs.declared.order.Order.{Order}
-use Rattle.kdhcp.specs.declared.order.Order.TheVariants.{Help, Show, Expr, Verify, Replay}
+use Rattle.kdhcp.specs.declared.order.Order.TheVariants.{Help, Show, Expr, Verify, Eval, Replay}
 
 -- this text and nothing else
 pub record IsSuccess (text : List ℕ) (p : Printed) : Type 0 where
@@ -48,15 +51,23 @@ pub record IsRefused (bytes : List ℕ) (p : Printed) : Type 0 where
   pub ours : fault ≢ Memory
   pub line : IsRefusal (read_fault_number fault) p
 
--- the lines of a datagram, where it reads as a message, and else its first fault
-pub record ShowsDatagram (bytes : List ℕ) (p : Printed) : Type 0 where
-  pub readable : (m : Seen) → Reads bytes m → IsSuccess (show_text m) p
+-- what is said of the message that a datagram reads as, and else the datagram's first fault
+pub record OfDatagram (says : Seen → Printed → Type 0) (bytes : List ℕ) (p : Printed) : Type 0 where
+  pub readable : (m : Seen) → Reads bytes m → says m p
   pub refused : ((m : Seen) → Reads bytes m → ⊥) → IsRefused bytes p
 
--- the same of a word; one that is not hexadecimal is a mistake on the command line
+-- what is said of a word's bytes; a word that is not hexadecimal is a mistake on the command line
+abbrev pub OfDecoded : (List ℕ → Printed → Type 0) → Result (List ℕ) FromHexError → Printed → Type 0
+OfDecoded says (Ok bytes) p = says bytes p
+OfDecoded says (Err error) p = IsRefusal 98 p
+
+-- the lines of a datagram
+abbrev pub ShowsDatagram : List ℕ → Printed → Type 0
+ShowsDatagram = OfDatagram (λ m p. IsSuccess (show_text m) p)
+
+-- the same of a word
 abbrev pub ShowsDecoded : Result (List ℕ) FromHexError → Printed → Type 0
-ShowsDecoded (Ok bytes) p = ShowsDatagram bytes p
-ShowsDecoded (Err error) p = IsRefusal 98 p
+ShowsDecoded = OfDecoded ShowsDatagram
 
 -- a class test's line, with the number of its nodes
 abbrev pub nodes_line : ℕ → List ℕ
@@ -93,9 +104,9 @@ pub record IsUnaccepted (c : Code) (p : Printed) : Type 0 where
   pub ours : fault ≢ verifying.Memory
   pub line : IsRefusal (verify_fault_number fault) p
 
--- what a program declares, where it is accepted, and else a fault that it has
-pub record VerifiesProgram (c : Code) (p : Printed) : Type 0 where
-  pub accepted : Accepts c → IsSuccess (accepted_line c) p
+-- what is said of a program that is accepted, and else a fault that it has
+pub record OfAccepted (says : Code → Printed → Type 0) (c : Code) (p : Printed) : Type 0 where
+  pub accepted : Accepts c → says c p
   pub refused : (Accepts c → ⊥) → IsUnaccepted c p
 
 -- bytes are refused for a fault of their reading, which is not want of memory
@@ -104,15 +115,49 @@ pub record IsNoFile (p : Printed) : Type 0 where
   pub ours : fault ≢ file.Memory
   pub line : IsRefusal (file_fault_number fault) p
 
--- what the program of a token file declares, where the bytes are one, and else the fault of their reading
-pub record VerifiesFile (bytes : List ℕ) (p : Printed) : Type 0 where
-  pub readable : (c : Code) → IsFileOf bytes c → VerifiesProgram c p
+-- what is said of the program of a token file, where the bytes are one, and else the fault of their reading
+pub record OfFile (says : Code → Printed → Type 0) (bytes : List ℕ) (p : Printed) : Type 0 where
+  pub readable : (c : Code) → IsFileOf bytes c → says c p
   pub refused : ((c : Code) → IsFileOf bytes c → ⊥) → IsNoFile p
 
--- the same of a word; one that is not hexadecimal is a mistake on the command line
+-- what a program declares
+abbrev pub VerifiesProgram : Code → Printed → Type 0
+VerifiesProgram = OfAccepted (λ c p. IsSuccess (accepted_line c) p)
+
+-- the same of the program of a token file
+abbrev pub VerifiesFile : List ℕ → Printed → Type 0
+VerifiesFile = OfFile VerifiesProgram
+
+-- the same of a word
 abbrev pub VerifiesDecoded : Result (List ℕ) FromHexError → Printed → Type 0
-VerifiesDecoded (Ok bytes) p = VerifiesFile bytes p
-VerifiesDecoded (Err error) p = IsRefusal 98 p
+VerifiesDecoded = OfDecoded VerifiesFile
+
+-- a truth value's word
+abbrev pub truth_text : Bool → List ℕ
+truth_text value = if value then codes "true" else codes "false"
+
+-- a run's line: its truth value, its steps, its greatest depth and the length of its longest value
+abbrev pub run_line : Bool → ℕ → ℕ → ℕ → List ℕ
+run_line value steps depth longest =
+    truth_text value ++ codes " steps " ++ decimal steps ++ codes " depth " ++ decimal depth ++ codes " length "
+    ++ decimal longest ++ line_feed
+
+-- the line of a program's run over a message with the names that it has before any definition
+pub record RunsOver (c : Code) (m : Seen) (p : Printed) : Type 0 where
+  pub value : Bool
+  pub steps : ℕ
+  pub depth : ℕ
+  pub longest : ℕ
+  pub run : Run c m (base_names (value_of 60 m.options)) value steps depth longest
+  pub line : IsSuccess (run_line value steps depth longest) p
+
+-- the same over the message of a datagram, of a program that is accepted
+abbrev pub RunsProgram : List ℕ → Code → Printed → Type 0
+RunsProgram datagram = OfAccepted (λ c p. OfDatagram (RunsOver c) datagram p)
+
+-- the same of two words, for a token file and a datagram
+abbrev pub RunsDecoded : Result (List ℕ) FromHexError → Result (List ℕ) FromHexError → Printed → Type 0
+RunsDecoded program datagram = OfDecoded (λ file p. OfDecoded (λ bytes q. OfFile (RunsProgram bytes) file q) datagram p) program
 
 -- the order prints something that its words alone tell
 abbrev pub IsPrinted : Order → Type 0
@@ -120,6 +165,7 @@ IsPrinted (Help text) = Unit {0}
 IsPrinted (Show hex) = Unit {0}
 IsPrinted (Expr text) = Unit {0}
 IsPrinted (Verify hex) = Unit {0}
+IsPrinted (Eval program datagram) = Unit {0}
 IsPrinted Replay = ⊥
 
 -- what each such order prints
@@ -128,4 +174,5 @@ Answers (Help text) p = IsSuccess (string_bytes text) p
 Answers (Show hex) p = ShowsDecoded (decode_of (string_bytes hex)) p
 Answers (Expr text) p = TypesText (string_bytes text) p
 Answers (Verify hex) p = VerifiesDecoded (decode_of (string_bytes hex)) p
+Answers (Eval program datagram) p = RunsDecoded (decode_of (string_bytes program)) (decode_of (string_bytes datagram)) p
 Answers Replay p = ⊥

@@ -25,6 +25,13 @@ pub enum Order {
         /// The file's bytes, as the word gives them.
         hex: String,
     },
+    /// The run of the program of one token file over one datagram.
+    Eval {
+        /// The file's bytes, as the word gives them.
+        program: String,
+        /// The datagram's bytes, as the word gives them.
+        datagram: String,
+    },
     /// The events of standard input, replayed.
     Replay,
 }

@@ -6,7 +6,8 @@ ghost use Rattle.clap.specs.declared.builder.command.Command.TheViews.{out-Comma
 ghost use Rattle.kdhcp.specs.Line.{IsHelpLine, IsLine};
 ghost use Rattle.kdhcp.specs.Order.{Asked, Asks, AsksFor, GivesUnlessFull, HasFault};
 ghost use Rattle.kdhcp.specs.Order.{HelpsUnlessFull, asked_of, command_line, replay_line};
-ghost use Rattle.kdhcp.specs.Order.{expr_line, show_line, shows, types, verifies, verify_line};
+ghost use Rattle.kdhcp.specs.Order.{eval_line, evaluation_of, expr_line, show_line, shows, types};
+ghost use Rattle.kdhcp.specs.Order.{verifies, verify_line};
 ghost use Rattle.kdhcp.specs.Steps.{AnswersKind, GivesIfThere};
 
 use crate::order::{LineFault, Order};
@@ -47,6 +48,7 @@ fn kdhcp<'a>(alloc: Global) -> Result<Command<'a>, AllocError>
         .subcommand(show(alloc)?)?
         .subcommand(expr(alloc)?)?
         .subcommand(verify(alloc)?)?
+        .subcommand(eval(alloc)?)?
         .subcommand(replay(alloc))
 }
 
@@ -89,6 +91,23 @@ fn verify<'a>(alloc: Global) -> Result<Command<'a>, AllocError>
         .arg(file)
 }
 
+// `eval PROGRAM DATAGRAM`.
+fn eval<'a>(alloc: Global) -> Result<Command<'a>, AllocError>
+    ensures app { IfOk result (λ c. app_of c ≡ eval_line) }
+    ensures local { IfOk result (λ c. (out-Command c).has_globals ≡ false) }
+{
+    let program = Arg::new(alloc, "PROGRAM")
+        .help("The bytes of a token file, two hexadecimal digits each")
+        .required(true);
+    let datagram = Arg::new(alloc, "DATAGRAM")
+        .help("The bytes of a datagram, two hexadecimal digits each")
+        .required(true);
+    Command::new(alloc, "eval")
+        .about("Run the program of one token file over one datagram, and print its truth value")
+        .arg(program)?
+        .arg(datagram)
+}
+
 // `replay`.
 fn replay<'a>(alloc: Global) -> Command<'a>
     ensures app { app_of result ≡ replay_line }
@@ -105,6 +124,7 @@ fn asked_for(alloc: Global, matches: &ArgMatches<'_>) -> Result<Order, LineFault
         Some(("show", inner)) => shown(alloc, inner),
         Some(("expr", inner)) => typed(alloc, inner),
         Some(("verify", inner)) => verified(alloc, inner),
+        Some(("eval", inner)) => evaluated(alloc, inner),
         Some(("replay", _)) => Ok(Order::Replay),
         _ => Err(LineFault::CommandLine),
     }
@@ -139,6 +159,20 @@ fn verified(alloc: Global, matches: &ArgMatches<'_>) -> Result<Order, LineFault>
 {
     match text_of(alloc, matches, "HEX")? {
         Some(hex) => Ok(Order::Verify { hex }),
+        None => Err(LineFault::CommandLine),
+    }
+}
+
+// What matches of `eval` ask for.
+fn evaluated(alloc: Global, matches: &ArgMatches<'_>) -> Result<Order, LineFault>
+    ensures { GivesIfThere (evaluation_of (first_value (found_of matches.now) (codes "PROGRAM"))
+        (first_value (found_of matches.now) (codes "DATAGRAM"))) result }
+{
+    match text_of(alloc, matches, "PROGRAM")? {
+        Some(program) => match text_of(alloc, matches, "DATAGRAM")? {
+            Some(datagram) => Ok(Order::Eval { program, datagram }),
+            None => Err(LineFault::CommandLine),
+        },
         None => Err(LineFault::CommandLine),
     }
 }

@@ -2,6 +2,7 @@ use super::samples::SAMPLES;
 use super::*;
 use std::test::Fail;
 
+mod eval;
 mod expr;
 mod verify;
 

@@ -65,6 +65,28 @@ fn verify_has_its_text(rt: HostRuntime) {
 }
 
 #[test]
+fn eval_has_its_texts(rt: HostRuntime) {
+    let rows: [(&[&str], &str, &str); 7] = [
+        (&["eval", "4b34", "0101"], "4b34", "0101"),
+        (&["eval", "no hexadecimal", ""], "no hexadecimal", ""),
+        (&["eval", "--", "-a", "-b"], "-a", "-b"),
+        (&["eval", "4b", "--", "-b"], "4b", "-b"),
+        (&["eval", "4b", "01", "--"], "4b", "01"),
+        (&["eval", "--", "--", "01"], "--", "01"),
+        (&["eval", "show", "eval"], "show", "eval"),
+    ];
+    for (words, first, second) in rows {
+        match read(&rt, words) {
+            Ok(Order::Eval { program, datagram }) => {
+                assert_eq!(rt; program.as_str(), first);
+                assert_eq!(rt; datagram.as_str(), second);
+            }
+            other => panic!(rt; "{words:?}: {other:?}"),
+        }
+    }
+}
+
+#[test]
 fn replay_is_an_order(rt: HostRuntime) {
     let rows: [&[&str]; 2] = [&["replay"], &["replay", "--"]];
     for words in rows {
@@ -77,7 +99,7 @@ fn replay_is_an_order(rt: HostRuntime) {
 
 #[test]
 fn help_is_an_order(rt: HostRuntime) {
-    let rows: [(&[&str], &str); 18] = [
+    let rows: [(&[&str], &str); 21] = [
         (&["--help"], "Usage: kdhcp <COMMAND>"),
         (&["-h"], "Usage: kdhcp <COMMAND>"),
         (&["help"], "Usage: kdhcp <COMMAND>"),
@@ -92,6 +114,15 @@ fn help_is_an_order(rt: HostRuntime) {
         (&["help", "verify"], "Usage: kdhcp verify <HEX>"),
         (&["verify", "--help"], "Usage: kdhcp verify <HEX>"),
         (&["verify", "a", "-h"], "Usage: kdhcp verify <HEX>"),
+        (&["help", "eval"], "Usage: kdhcp eval <PROGRAM> <DATAGRAM>"),
+        (
+            &["eval", "--help"],
+            "Usage: kdhcp eval <PROGRAM> <DATAGRAM>",
+        ),
+        (
+            &["eval", "a", "b", "-h"],
+            "Usage: kdhcp eval <PROGRAM> <DATAGRAM>",
+        ),
         (&["help", "replay"], "Usage: kdhcp replay"),
         (&["replay", "--help"], "Usage: kdhcp replay"),
         (&["replay", "-h"], "Usage: kdhcp replay"),
@@ -107,7 +138,7 @@ fn help_is_an_order(rt: HostRuntime) {
 
 #[test]
 fn other_words_are_a_mistake(rt: HostRuntime) {
-    let rows: [&[&str]; 27] = [
+    let rows: [&[&str]; 35] = [
         &[],
         &["--", "show", "a"],
         &["--help=yes"],
@@ -124,6 +155,14 @@ fn other_words_are_a_mistake(rt: HostRuntime) {
         &["verify", "4b", "34"],
         &["verify", "-a"],
         &["verify", "--nope"],
+        &["eval"],
+        &["eval", "4b"],
+        &["eval", "--", "4b"],
+        &["eval", "4b", "--"],
+        &["eval", "4b", "01", "02"],
+        &["eval", "4b", "--", "01", "--"],
+        &["eval", "4b", "-a"],
+        &["eval", "4b", "--nope", "01"],
         &["--nope"],
         &["nope"],
         &["--version"],

@@ -1,6 +1,6 @@
 use Rattle.std.proofs.Common.{refl, codes}
 use Rattle.kdhcp.specs.Order.{shows, types, verifies}
-use Rattle.kdhcp.proofs.Orders.{at_text}
+use Rattle.kdhcp.proofs.Orders.{at_pair, at_text}
 use Rattle.kdhcp.proofs.words.asked_for.Goals as goal
 
 pub returns-in-Some-show-default : goal.returns-in-Some-show-default
@@ -20,3 +20,8 @@ returns-in-Some-verify-default c =
     let e = c.in-Some-verify-default.ensures in
     at_text c.args.matches.now c.in-Some-verify-default.inner.now _ (codes "verify") (codes "HEX") (λ hex. verifies hex) c.verified.result e.name e.rows
     c.in-Some-verify-default.is-verify refl c.verified.ensures
+
+pub returns-in-Some-eval-default : goal.returns-in-Some-eval-default
+returns-in-Some-eval-default c =
+    let e = c.in-Some-eval-default.ensures in
+    at_pair c.args.matches.now c.in-Some-eval-default.inner.now _ c.evaluated.result e.name e.rows c.in-Some-eval-default.is-eval c.evaluated.ensures
