@@ -1,0 +1,49 @@
+-- What a compiled program owes to its class test: its measures, that it is accepted, and its meaning.
+use Rattle.std.specs.Prelude.{◌≡◌, ℕ, ◌≤◌, nat_lt, if◌then◌else◌, List, length, Option, Some, None}
+use Rattle.kd_compile.specs.Measures.{tokens, steps, depth, greatest, names, has_branches}
+use Rattle.kd_compile.specs.Value.{truth}
+use Rattle.kd_compile.specs.declared.fault.CompileFault.{CompileFault}
+use Rattle.kd_compile.specs.declared.fault.CompileFault.TheVariants as faults
+use Rattle.kd_expr.specs.Tree.{Tree}
+use Rattle.kd_machine.specs.Run.{Run}
+use Rattle.kd_options.specs.Message.{Seen, IsMessage}
+use Rattle.kd_token.specs.File.{Code}
+use Rattle.kd_token.specs.declared.token.Version.{Version}
+use Rattle.kd_token.specs.declared.token.Version.TheVariants as versions
+
+-- the number of each fault
+abbrev pub compile_fault_number : CompileFault → ℕ
+compile_fault_number faults.TooManyTokens = 51
+compile_fault_number faults.TooDeep = 52
+compile_fault_number faults.TooLong = 53
+compile_fault_number faults.TooManyNames = 54
+compile_fault_number faults.Memory = 91
+
+-- the first limit that an expression's measures are over: 1,024 tokens, a depth of 64, byte strings of
+-- 65,535 bytes, 64 names
+abbrev pub first_over : Tree → Option CompileFault
+first_over t =
+    if nat_lt 1024 (tokens t) then Some faults.TooManyTokens
+    else if nat_lt 64 (depth t) then Some faults.TooDeep
+    else if nat_lt 65535 (greatest t) then Some faults.TooLong
+    else if nat_lt 64 (length (names t)) then Some faults.TooManyNames
+    else None
+
+-- the version of a program: the second where it has branches
+abbrev pub version_of : Tree → Version
+version_of t = if has_branches t then versions.Two else versions.One
+
+-- a program has the measures of an expression: it declares its steps, its depth and its greatest bound
+pub record HasMeasures (t : Tree) (p : Code) : Type 0 where
+  pub version : p.version ≡ version_of t
+  pub tokens : length p.tokens ≡ tokens t
+  pub names : p.names ≡ names t
+  pub steps : p.steps ≡ steps t
+  pub depth : p.depth ≡ depth t
+  pub bound : p.bound ≡ greatest t
+
+-- a program keeps an expression's meaning: over every message and every list of held names it runs, within
+-- what it declares, to the expression's truth value
+abbrev pub Keeps : Tree → Code → Type 0
+Keeps t p = (message : Seen) (held : List (List ℕ)) → IsMessage message
+    → (n : ℕ) × (d : ℕ) × (l : ℕ) × Run p message held (truth message held t) n d l × (n ≤ p.steps) × (d ≤ p.depth) × (l ≤ p.bound)

@@ -1,0 +1,4 @@
+pub mod Value
+pub mod Measures
+pub mod Tokens
+pub mod Compiled

@@ -1,0 +1,233 @@
+ghost use Rattle.std.specs.Prelude.{◌≡◌, ◌≤◌, ◌++◌, IfOk, OnOk, length};
+ghost use Rattle.std.specs.List.{position};
+ghost use Rattle.kd_compile.specs.Measures.{names, names_after, tokens};
+ghost use Rattle.kd_compile.specs.Tokens.{code_of, field_of, in_bytes, place};
+ghost use Rattle.kd_expr.specs.View.{tree_of};
+ghost use Rattle.kd_machine.specs.Held.{with_name};
+ghost use Rattle.kd_machine.specs.World.{is_held, same};
+
+use crate::measure::{four, is_number, tokens};
+use kd_expr::{Field, Node};
+use kd_token::{Field as TokenField, Token};
+use kd_wire::Bytes;
+use std::alloc::{AllocError, Global};
+
+// The place of a name among names.
+fn find(name: &[u8], names: &[Bytes]) -> Option<usize>
+    ensures { result ≡ position (λ other. same name.now other) names.now }
+{
+    names.iter().position(|other| name == other.as_slice())
+}
+
+// The place of a name among names, their number where it is not there.
+fn place(name: &[u8], names: &[Bytes]) -> usize
+    ensures at { result ≡ place name.now names.now }
+    ensures within { result ≤ length names.now }
+{
+    find(name, names).unwrap_or(names.len())
+}
+
+// Whether a name is among names.
+fn is_among(name: &[u8], names: &[Bytes]) -> bool
+    ensures { result ≡ is_held name.now names.now }
+{
+    names.iter().any(|other| name == other.as_slice())
+}
+
+// A copy of bytes.
+fn copy(alloc: Global, bytes: &[u8]) -> Result<Bytes, AllocError>
+    ensures { IfOk result (λ b. b ≡ bytes.now) }
+{
+    Ok(Bytes::own(Vec::from_slice(alloc, bytes)?))
+}
+
+// One name more; a name that is there stays once.
+fn put_name(alloc: Global, name: &[u8], names: &mut Vec<Bytes>) -> Result<(), AllocError>
+    ensures { OnOk result (names.new.items ≡ with_name name.now names.old.items) }
+{
+    if !is_among(name, names) {
+        names.push(copy(alloc, name)?)?;
+    }
+    Ok(())
+}
+
+// Names, and then those that an expression asks for.
+fn put_names(alloc: Global, node: &Node, names: &mut Vec<Bytes>) -> Result<(), AllocError>
+    ensures { OnOk result (names.new.items ≡ names_after names.old.items (tree_of node.now)) }
+{
+    match node {
+        Node::Member { name, .. } => put_name(alloc, name.as_slice(), names),
+        Node::Literal { .. }
+        | Node::Int { .. }
+        | Node::Option { .. }
+        | Node::Relay { .. }
+        | Node::Field { .. }
+        | Node::OptionExists { .. }
+        | Node::RelayExists { .. } => Ok(()),
+        Node::Not { operand, .. }
+        | Node::Group { operand, .. }
+        | Node::Substring { operand, .. }
+        | Node::Lower { operand, .. }
+        | Node::Upper { operand, .. }
+        | Node::IntToText { operand, .. } => put_names(alloc, operand, names),
+        Node::Equal { left, right, .. }
+        | Node::And { left, right, .. }
+        | Node::Or { left, right, .. }
+        | Node::Concat { left, right, .. } => {
+            put_names(alloc, left, names)?;
+            put_names(alloc, right, names)
+        }
+        Node::HexString {
+            operand,
+            separator,
+            ..
+        } => {
+            put_names(alloc, operand, names)?;
+            put_names(alloc, separator, names)
+        }
+        Node::IfElse { test, yes, no, .. } => {
+            put_names(alloc, test, names)?;
+            put_names(alloc, yes, names)?;
+            put_names(alloc, no, names)
+        }
+    }
+}
+
+// The names that an expression asks for.
+pub(crate) fn member_names(alloc: Global, node: &Node) -> Result<Vec<Bytes>, AllocError>
+    ensures { IfOk result (λ list. list.items ≡ names (tree_of node.now)) }
+{
+    let mut names = Vec::new(alloc);
+    put_names(alloc, node, &mut names)?;
+    Ok(names)
+}
+
+// The field of a token that a part of a message is.
+fn field_of(field: Field) -> TokenField
+    ensures { result ≡ field_of field }
+{
+    match field {
+        Field::Mac => TokenField::Mac,
+        Field::Hlen => TokenField::Hlen,
+        Field::Htype => TokenField::Htype,
+        Field::Ciaddr => TokenField::Ciaddr,
+        Field::Giaddr => TokenField::Giaddr,
+        Field::Yiaddr => TokenField::Yiaddr,
+        Field::Siaddr => TokenField::Siaddr,
+        Field::Msgtype => TokenField::MessageType,
+        Field::Transid => TokenField::Transaction,
+        Field::Length => TokenField::Length,
+    }
+}
+
+// The tokens of an operand where a byte string is wanted.
+#[cycle(code)]
+fn put_bytes(
+    alloc: Global,
+    node: &Node,
+    names: &[Bytes],
+    out: &mut Vec<Token>,
+) -> Result<(), AllocError>
+    requires few { tokens (tree_of node.now) ≤ 1024 }
+    requires named { length names.now ≤ 64 }
+    ensures { OnOk result (out.new.items ≡ out.old.items ++ code_of names.now (tree_of node.now) ++ in_bytes (tree_of node.now)) }
+{
+    put_code(alloc, node, names, out)?;
+    if is_number(node) {
+        out.push(Token::IntBytes)?;
+    }
+    Ok(())
+}
+
+// The tokens of an expression, with the names of its program.
+#[cycle(code)]
+pub(crate) fn put_code(
+    alloc: Global,
+    node: &Node,
+    names: &[Bytes],
+    out: &mut Vec<Token>,
+) -> Result<(), AllocError>
+    requires few { tokens (tree_of node.now) ≤ 1024 }
+    requires named { length names.now ≤ 64 }
+    ensures { OnOk result (out.new.items ≡ out.old.items ++ code_of names.now (tree_of node.now)) }
+{
+    match node {
+        Node::Literal { bytes, .. } => {
+            out.push(Token::PushBytes(copy(alloc, bytes.as_slice())?))?;
+        }
+        Node::Int { value, .. } => out.push(Token::PushInt(*value))?,
+        Node::Option { code, .. } => out.push(Token::PushOption(*code))?,
+        Node::Relay { code, .. } => out.push(Token::PushRelay(*code))?,
+        Node::Field { field, .. } => out.push(Token::PushField(field_of(*field)))?,
+        Node::OptionExists { code, .. } => out.push(Token::OptionExists(*code))?,
+        Node::RelayExists { code, .. } => out.push(Token::RelayExists(*code))?,
+        Node::Member { name, .. } => {
+            out.push(Token::Member(place(name.as_slice(), names) as u8))?;
+        }
+        Node::Equal { left, right, .. } => {
+            put_bytes(alloc, left, names, out)?;
+            put_bytes(alloc, right, names, out)?;
+            out.push(Token::Equal)?;
+        }
+        Node::Not { operand, .. } => {
+            put_code(alloc, operand, names, out)?;
+            out.push(Token::Not)?;
+        }
+        Node::And { left, right, .. } => {
+            put_code(alloc, left, names, out)?;
+            out.push(Token::BranchFalseElsePop(tokens(right) as u16))?;
+            put_code(alloc, right, names, out)?;
+        }
+        Node::Or { left, right, .. } => {
+            put_code(alloc, left, names, out)?;
+            out.push(Token::BranchTrueElsePop(tokens(right) as u16))?;
+            put_code(alloc, right, names, out)?;
+        }
+        Node::Group { operand, .. } => put_code(alloc, operand, names, out)?,
+        Node::Concat { left, right, .. } => {
+            put_bytes(alloc, left, names, out)?;
+            put_bytes(alloc, right, names, out)?;
+            out.push(Token::Concat)?;
+        }
+        Node::IfElse { test, yes, no, .. } => {
+            put_code(alloc, test, names, out)?;
+            let yes_tokens = tokens(yes) + four(yes) + 1;
+            out.push(Token::PopBranchFalse(yes_tokens as u16))?;
+            put_bytes(alloc, yes, names, out)?;
+            let no_tokens = tokens(no) + four(no);
+            out.push(Token::Branch(no_tokens as u16))?;
+            put_bytes(alloc, no, names, out)?;
+        }
+        Node::Substring {
+            operand,
+            start,
+            length,
+            ..
+        } => {
+            put_bytes(alloc, operand, names, out)?;
+            out.push(Token::Substring(*start, *length))?;
+        }
+        Node::HexString {
+            operand,
+            separator,
+            ..
+        } => {
+            put_bytes(alloc, operand, names, out)?;
+            put_bytes(alloc, separator, names, out)?;
+            out.push(Token::HexString)?;
+        }
+        Node::Lower { operand, .. } => {
+            put_bytes(alloc, operand, names, out)?;
+            out.push(Token::Lower)?;
+        }
+        Node::Upper { operand, .. } => {
+            put_bytes(alloc, operand, names, out)?;
+            out.push(Token::Upper)?;
+        }
+        Node::IntToText { operand, .. } => {
+            put_code(alloc, operand, names, out)?;
+            out.push(Token::IntToText)?;
+        }
+    }
+    Ok(())
+}
