@@ -1,5 +1,6 @@
 pub mod BareLine
 pub mod Commands
+pub mod Compiling
 pub mod Flags
 pub mod Level
 pub mod Lines

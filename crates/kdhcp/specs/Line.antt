@@ -1,9 +1,9 @@
 -- The lines of the program in plain words: a subcommand and the texts that it wants, as `show HEX`,
 -- `eval PROGRAM DATAGRAM` or `replay`. `--` may stand before any of the texts or behind them, and a text is
--- no flag unless `--` stands before it.
-use Rattle.std.specs.Prelude.{◌≡◌, ◌⊎◌, ◌==◌, Bool, false, List, [], ◌∷◌, codes}
+-- no flag unless `--` stands before it. The flag of `eval` may stand anywhere but behind `--`.
+use Rattle.std.specs.Prelude.{◌≡◌, ◌⊎◌, ◌==◌, Bool, false, List, [], ◌∷◌, ◌++◌, codes}
 use Rattle.clap.specs.Words.{Text}
-use Rattle.kdhcp.specs.Order.{Asked, shows, types, verifies, evaluates, replays}
+use Rattle.kdhcp.specs.Order.{Asked, shows, types, compiles, verifies, evaluates, tests, replays}
 
 -- a flag is a hyphen with more behind it
 abbrev pub is_flag : Text → Bool
@@ -23,22 +23,33 @@ pub record IsLineOf (name : Text) (words texts : List Text) : Type 0 where
   pub named : words ≡ name ∷ behind
   pub texts_behind : AreTexts behind texts
 
--- the words are a line that asks for this
-abbrev pub IsLine : List Text → Asked → Type 0
-IsLine words (shows hex) = IsLineOf (codes "show") words (hex ∷ [])
-IsLine words (types text) = IsLineOf (codes "expr") words (text ∷ [])
-IsLine words (verifies hex) = IsLineOf (codes "verify") words (hex ∷ [])
-IsLine words (evaluates program datagram) = IsLineOf (codes "eval") words (program ∷ datagram ∷ [])
-IsLine words replays = IsLineOf (codes "replay") words []
-
--- the names of the subcommands
-abbrev pub subcommands : List Text
-subcommands = codes "show" ∷ codes "expr" ∷ codes "verify" ∷ codes "eval" ∷ codes "replay" ∷ []
-
 -- the word is one of these
 abbrev pub IsOneOf : Text → List Text → Type 0
 IsOneOf word [] = ⊥
 IsOneOf word (name ∷ names) = (word ≡ name) ⊎ IsOneOf word names
+
+-- the words are this subcommand with these texts and, not behind `--`, the flag `--text`
+pub record IsFlaggedLine (name : Text) (words texts : List Text) : Type 0 where
+  pub before : List Text
+  pub after : List Text
+  pub named : words ≡ name ∷ (before ++ codes "--text" ∷ after)
+  pub no_dashes : IsOneOf (codes "--") before → ⊥
+  pub texts_behind : AreTexts (before ++ after) texts
+
+-- the words are a line that asks for this
+abbrev pub IsLine : List Text → Asked → Type 0
+IsLine words (shows hex) = IsLineOf (codes "show") words (hex ∷ [])
+IsLine words (types text) = IsLineOf (codes "expr") words (text ∷ [])
+IsLine words (compiles text) = IsLineOf (codes "compile") words (text ∷ [])
+IsLine words (verifies hex) = IsLineOf (codes "verify") words (hex ∷ [])
+IsLine words (evaluates program datagram) = IsLineOf (codes "eval") words (program ∷ datagram ∷ [])
+IsLine words (tests text datagram) = IsFlaggedLine (codes "eval") words (text ∷ datagram ∷ [])
+IsLine words replays = IsLineOf (codes "replay") words []
+
+-- the names of the subcommands
+abbrev pub subcommands : List Text
+subcommands =
+    codes "show" ∷ codes "expr" ∷ codes "compile" ∷ codes "verify" ∷ codes "eval" ∷ codes "replay" ∷ []
 
 -- the flag that asks for help
 abbrev pub IsHelpFlag : Text → Type 0

@@ -1,5 +1,5 @@
 use Rattle.std.proofs.Common.{refl, codes}
-use Rattle.kdhcp.specs.Order.{shows, types, verifies}
+use Rattle.kdhcp.specs.Order.{compiles, shows, types, verifies}
 use Rattle.kdhcp.proofs.Orders.{at_pair, at_text}
 use Rattle.kdhcp.proofs.words.asked_for.Goals as goal
 
@@ -14,6 +14,12 @@ returns-in-Some-expr-default c =
     let e = c.in-Some-expr-default.ensures in
     at_text c.args.matches.now c.in-Some-expr-default.inner.now _ (codes "expr") (codes "TEXT") (λ text. types text) c.typed.result e.name e.rows
     c.in-Some-expr-default.is-expr refl c.typed.ensures
+
+pub returns-in-Some-compile-default : goal.returns-in-Some-compile-default
+returns-in-Some-compile-default c =
+    let e = c.in-Some-compile-default.ensures in
+    at_text c.args.matches.now c.in-Some-compile-default.inner.now _ (codes "compile") (codes "TEXT") (λ text. compiles text) c.compiled.result e.name e.rows
+    c.in-Some-compile-default.is-compile refl c.compiled.ensures
 
 pub returns-in-Some-verify-default : goal.returns-in-Some-verify-default
 returns-in-Some-verify-default c =
