@@ -1,3 +1,11 @@
 pub mod Found
 pub mod Typed
 pub mod Places
+pub mod Ranges
+pub mod Fits
+pub mod Rows
+pub mod Ways
+pub mod Meaning
+pub mod Pieces
+pub mod Accepting
+pub mod Keeping

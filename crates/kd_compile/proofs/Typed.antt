@@ -1,8 +1,8 @@
 -- What the type of a class test says of its nodes: each operand is of the type that is wanted, and the kind
 -- of its value on a stack is known.
-use Rattle.std.proofs.Common.{◌≡◌, ℕ, ◌+◌, Bool, true, false, List, length, refl, sym, subst, inl, inr}
+use Rattle.std.proofs.Common.{◌≡◌, ℕ, ◌+◌, true, false, length, refl, subst, inl, inr}
 use Rattle.std.specs.Prelude.{◌⊎◌, max, Result, Ok, Err}
-use Rattle.kd_compile.specs.Measures.{is_number, is_number_part, bound, part_bound}
+use Rattle.kd_compile.specs.Measures.{is_number, bound}
 use Rattle.kd_compile.specs.Tokens.{field_of}
 use Rattle.kd_expr.specs.Tree.{Tree, Literal, Int, OptionValue, RelayValue, FieldValue, OptionExists, RelayExists, Member, Equal, Not, And, Or, Group, Concat, IfElse, Substring, HexString, Lower, Upper, IntToText, at_of}
 use Rattle.kd_expr.specs.Typing.{type_of, field_type, want_bool, want_bytes, want_int, andthen}

@@ -1,5 +1,5 @@
 ghost use Rattle.std.specs.Prelude.{◌≡◌, ◌⊎◌, IfOk, MatchResult, None, Ok, Some};
-ghost use Rattle.kd_compile.specs.Compiled.{HasMeasures, Keeps, first_over};
+ghost use Rattle.kd_compile.specs.Compiled.{HasMeasures, Keeps, first_over, version_of};
 ghost use Rattle.kd_compile.specs.Measures.{greatest, names};
 ghost use Rattle.kd_compile.specs.Tokens.{program_for};
 ghost use Rattle.kd_compile.specs.declared.fault.CompileFault.TheVariants.{Memory};
@@ -14,7 +14,7 @@ use crate::fault::CompileFault;
 use crate::lengths::lengths;
 use crate::measure::{depth, has_branches, steps, tokens};
 use kd_expr::{Node, Typed};
-use kd_token::{Program, VerifyFault, Verified, Version, verify};
+use kd_token::{Program, Verified, VerifyFault, Version, verify};
 use kd_wire::Bytes;
 use std::alloc::{AllocError, Global};
 
@@ -50,8 +50,10 @@ pub fn compile(alloc: Global, typed: &Typed) -> Result<Verified, CompileFault>
     let program = program_of(alloc, tree, bound as u16, names)?;
     match verify(alloc, program) {
         Ok(verified) => Ok(verified),
-        Err((VerifyFault::Memory, _)) => Err(CompileFault::Memory),
-        Err(_) => unreachable!(),
+        Err((fault, _)) => match fault {
+            VerifyFault::Memory => Err(CompileFault::Memory),
+            _ => unreachable!(),
+        },
     }
 }
 
@@ -67,21 +69,28 @@ fn program_of(
     requires names { held.items ≡ names (tree_of tree.now) }
     requires typed { type_of (tree_of tree.now) ≡ Ok Bool }
     requires text { HasText (tree_of tree.now) }
-    ensures { IfOk result (λ p. p ≡ program_for (tree_of tree.now)) }
+    ensures program { IfOk result (λ p. p ≡ program_for (tree_of tree.now)) }
+    ensures within { IfOk result (λ _. first_over (tree_of tree.now) ≡ None) }
 {
     let mut out = Vec::with_capacity(alloc, tokens(tree) as usize)?;
     put_code(alloc, tree, &held, &mut out)?;
-    let version = if has_branches(tree) {
-        Version::Two
-    } else {
-        Version::One
-    };
     Ok(Program::new(
-        version,
+        version_of(tree),
         steps(tree) as u16,
         depth(tree) as u8,
         bound,
         held,
         out,
     ))
+}
+
+// The version of an expression's program: the second where it has branches.
+fn version_of(tree: &Node) -> Version
+    ensures { result ≡ version_of (tree_of tree.now) }
+{
+    if has_branches(tree) {
+        Version::Two
+    } else {
+        Version::One
+    }
 }

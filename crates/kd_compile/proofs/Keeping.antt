@@ -1,0 +1,61 @@
+-- The program of a class test runs to the test's value.
+use Rattle.std.proofs.Common.{◌≡◌, ℕ, ◌+◌, Bool, List, [], ◌∷◌, length, None, Ok, refl, sym, subst, arith}
+use Rattle.kd_compile.specs.Compiled.{HasMeasures, Keeps, first_over}
+use Rattle.kd_compile.specs.Measures.{names}
+use Rattle.kd_compile.specs.Tokens.{code_of, program_for}
+use Rattle.kd_compile.specs.Value.{value, truth}
+use Rattle.kd_compile.proofs.Accepting.{accepted}
+use Rattle.kd_compile.proofs.Fits.{code_length, has_file}
+use Rattle.kd_compile.proofs.Meaning.{tree_makes, truth_is}
+use Rattle.kd_compile.proofs.Places.{names_known}
+use Rattle.kd_compile.proofs.Rows.{has_itself}
+use Rattle.kd_compile.proofs.Typed.{well_of}
+use Rattle.kd_compile.proofs.Ways.{Comes}
+use Rattle.kd_expr.specs.Grammar.{HasText}
+use Rattle.kd_expr.specs.Tree.{Tree}
+use Rattle.kd_expr.specs.Typing.{type_of}
+use Rattle.kd_expr.specs.declared.typing.ValueType.TheVariants as types
+use Rattle.kd_machine.proofs.Ending.{accepted_ends}
+use Rattle.kd_machine.proofs.OneEnd.{one_end}
+use Rattle.kd_machine.specs.Run.{Run}
+use Rattle.kd_machine.specs.Values.{Val, Truth}
+use Rattle.kd_machine.specs.World.{world}
+use Rattle.kd_options.specs.Message.{Seen, IsMessage}
+use Rattle.kd_token.specs.Accepts.{Accepts}
+use Rattle.kd_token.specs.File.{HasFile}
+
+-- the program comes from its first place to its end with the test's value
+comes_to_value : (t : Tree) (message : Seen) (held : List (List ℕ)) → type_of t ≡ Ok types.Bool
+    → Comes (program_for t) (world (program_for t) message held) 0 [] (length (code_of (names t) t)) (Truth (truth message held t) ∷ [])
+comes_to_value t message held typed =
+    let well = well_of t types.Bool typed in
+    let made = tree_makes (program_for t) message held t well.1 (names_known t) [] 0 (has_itself (code_of (names t) t)) in
+    let C : ℕ → List Val → Type 0 = λ i s. Comes (program_for t) (world (program_for t) message held) 0 [] i s in
+    let A : ℕ → Type 0 = λ i. C i (value message held t ∷ []) in
+    let B : Val → Type 0 = λ v. C (length (code_of (names t) t)) (v ∷ []) in
+    let all : 0 + length (code_of (names t) t) ≡ length (code_of (names t) t) = omega arith in
+    subst B (truth_is message held t well.0 well.1) (subst A all made)
+
+-- an accepted program of a class test keeps its meaning
+keeps : (t : Tree) → type_of t ≡ Ok types.Bool → HasFile (program_for t) → Accepts (program_for t) → Keeps t (program_for t)
+keeps t typed file accepted message held is =
+    let made = comes_to_value t message held typed in
+    let ends = accepted_ends (program_for t) message held file accepted is in
+    let same = one_end (program_for t) message held (truth message held t) ends.0 made.0 ends.1 made.1 ends.2 made.2 ends.3 made.3 ends.4 in
+    let R : Bool → Type 0 = λ v. Run (program_for t) message held v ends.1 ends.2 ends.3 in
+    (ends.1, ends.2, ends.3, subst R (sym same.0) ends.4, ends.5, ends.6, ends.7)
+
+-- the program of a class test has its measures
+pub has_measures : (t : Tree) → HasMeasures t (program_for t)
+has_measures t = record {
+  version = refl;
+  tokens = code_length (names t) t;
+  names = refl;
+  steps = refl;
+  depth = refl;
+  bound = refl;
+}
+
+-- a class test that is over no limit has a program that keeps its meaning
+pub keeps_in_limits : (t : Tree) → HasText t → type_of t ≡ Ok types.Bool → first_over t ≡ None → Keeps t (program_for t)
+keeps_in_limits t text typed within = keeps t typed (has_file t text within) (accepted t typed)
