@@ -400,7 +400,7 @@ flag_passes s (x ∷ bef) aft (p ∷ ps) f h plain_before (inr (more, is, plain,
     let is_plain : is_flag x ≡ false = ap is_flag same ∙ plain in
     let got = flag_passes (next s x) bef aft ps (next_flag s x ∙ f) (sym (next_wanted s (length ps) x wants)) (λ among. plain_before (inr among)) (subst (λ l. AreTexts l ps) (sym rest) are) in
     let list : texts (next s x) ++ ps ≡ texts s ++ p ∷ ps =
-        ap (λ l. l ++ ps) (next_texts s (length ps) x wants) ∙ append_assoc (texts s) (x ∷ []) ps ∙ ap (λ y. texts s ++ y ∷ ps) same in
+    ap (λ l. l ++ ps) (next_texts s (length ps) x wants) ∙ append_assoc (texts s) (x ∷ []) ps ∙ ap (λ y. texts s ++ y ∷ ps) same in
     before (at s false) (at (next s x) false) x (bef ++ codes "--text" ∷ aft) true _ (turn_text s (length ps) x wants is_plain) (to_text s (length ps) x wants is_plain)
     (subst (λ l. Passes (at (next s x) false) (bef ++ codes "--text" ∷ aft) true l) list got)
 
@@ -485,12 +485,12 @@ reads s [] utf8 none = go (wanted s) refl
     go zero e = inl (record { ps = []; are = inl refl; enough = sym e })
     go (suc n) e = let bad : MissingRequiredArgument ∷ [] ≡ [] = sym (incomplete s n false e) ∙ none in cc
 reads s (x ∷ rest) utf8 none = elim (no_other_flag (codes "text") flag_built pair.rules flags x (held_at s) (no_skip s) (All-head IsUtf8 x rest utf8) (neither _ _ down.0).0) [
-    | inl dashes ↦
-        let on = subst (λ y. level pair (walked pair.rules [] (at s false) y) rest ≡ []) dashes down.1 in
-        inl (subst (λ y. Plain s (y ∷ rest)) (sym dashes) (dashes_read s rest (ap (λ w. level pair w rest) (sym (to_dashes s)) ∙ on)))
-    | inr (inl is_text) ↦ inr (subst (λ y. Flagged s (y ∷ rest)) (sym is_text) (at_flag (has_flag s) refl is_text (reads (put s) rest)))
-    | inr (inr plain) ↦ at_plain (wanted s) refl plain (reads (next s x) rest)
-  ]
+  | inl dashes ↦
+      let on = subst (λ y. level pair (walked pair.rules [] (at s false) y) rest ≡ []) dashes down.1 in
+      inl (subst (λ y. Plain s (y ∷ rest)) (sym dashes) (dashes_read s rest (ap (λ w. level pair w rest) (sym (to_dashes s)) ∙ on)))
+  | inr (inl is_text) ↦ inr (subst (λ y. Flagged s (y ∷ rest)) (sym is_text) (at_flag (has_flag s) refl is_text (reads (put s) rest)))
+  | inr (inr plain) ↦ at_plain (wanted s) refl plain (reads (next s x) rest)
+]
   where
     no_skip : (z : State) → (held_at z).skip ≡ 0
     no_skip nothing = refl
@@ -550,14 +550,16 @@ pair_in rest sub utf8 none = go (reads nothing rest utf8 (sym (line_fault (codes
         let two = two_of h.ps h.enough in
         (evaluates two.0 two.1, record { behind = rest; named = refl; texts_behind = subst (AreTexts rest) two.2 h.are })
     go (inr h) =
-        let two = two_of h.ps h.enough in
-        (tests two.0 two.1, record {
-          before = h.bef;
-          after = h.aft;
-          named = ap (λ l. codes "eval" ∷ l) h.whole;
-          no_dashes = h.no_dashes;
-          texts_behind = subst (AreTexts (h.bef ++ h.aft)) two.2 h.are;
-        })
+        let two = two_of h.ps h.enough in (
+          tests two.0 two.1,
+          record {
+            before = h.bef;
+            after = h.aft;
+            named = ap (λ l. codes "eval" ∷ l) h.whole;
+            no_dashes = h.no_dashes;
+            texts_behind = subst (AreTexts (h.bef ++ h.aft)) two.2 h.are;
+          },
+        )
 
 -- what is asked of `eval` with this flag and these texts
 abbrev asked : Bool → Text → Text → Asked
