@@ -158,11 +158,11 @@ at_text m inner name wanted id f r named has is asks gives =
     subst (λ o. GivesIfThere o r) same gives
 
 -- what is made of the flag and the two texts of `eval`
-pub at_pair : (m inner : ArgMatches) (name : Text) (r : Result Order LineFault) → Some name ≡ subcommand_name_of m
+pub at_eval : (m inner : ArgMatches) (name : Text) (r : Result Order LineFault) → Some name ≡ subcommand_name_of m
     → Some (rows_of (found_of inner)) ≡ option_map (λ p. p.1) (subcommand_rows_of m) → name ≡ codes "eval"
     → GivesIfThere (evaluation_of (first_value (found_of inner) (codes "text")) (first_value (found_of inner) (codes "PROGRAM")) (first_value (found_of inner) (codes "DATAGRAM"))) r
     → GivesIfThere (asked_of (subcommand_rows_of m)) r
-at_pair m inner name r named has is gives =
+at_eval m inner name r named has is gives =
     let value = first_value-rows (found_of inner) (codes "text") in
     let program = first_value-rows (found_of inner) (codes "PROGRAM") in
     let datagram = first_value-rows (found_of inner) (codes "DATAGRAM") in

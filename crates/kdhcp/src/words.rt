@@ -115,6 +115,7 @@ fn verify<'a>(alloc: Global) -> Result<Command<'a>, AllocError>
 // An argument that has to be there.
 fn needed<'a>(alloc: Global, id: &'a str, help: &'a str) -> Arg<'a>
     ensures rule { rule_of result ≡ needed id.entry.now }
+    ensures help { result.help ≡ Some help.entry }
     ensures local { result.global ≡ false }
 {
     Arg::new(alloc, id).help(help).required(true)

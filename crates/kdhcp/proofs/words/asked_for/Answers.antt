@@ -1,6 +1,6 @@
 use Rattle.std.proofs.Common.{refl, codes}
 use Rattle.kdhcp.specs.Order.{compiles, shows, types, verifies}
-use Rattle.kdhcp.proofs.Orders.{at_pair, at_text}
+use Rattle.kdhcp.proofs.Orders.{at_eval, at_text}
 use Rattle.kdhcp.proofs.words.asked_for.Goals as goal
 
 pub returns-in-Some-show-default : goal.returns-in-Some-show-default
@@ -30,4 +30,4 @@ returns-in-Some-verify-default c =
 pub returns-in-Some-eval-default : goal.returns-in-Some-eval-default
 returns-in-Some-eval-default c =
     let e = c.in-Some-eval-default.ensures in
-    at_pair c.args.matches.now c.in-Some-eval-default.inner.now _ c.evaluated.result e.name e.rows c.in-Some-eval-default.is-eval c.evaluated.ensures
+    at_eval c.args.matches.now c.in-Some-eval-default.inner.now _ c.evaluated.result e.name e.rows c.in-Some-eval-default.is-eval c.evaluated.ensures

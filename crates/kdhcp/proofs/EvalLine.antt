@@ -18,14 +18,14 @@ use Rattle.kdhcp.proofs.Level.{found, leaf, level, start, step_down, step_up}
 use Rattle.kdhcp.proofs.Top.{IsSub, line_fault, line_found}
 
 -- `eval`, as clap builds it, and its flag
-abbrev pub pair : Shape
-pair = leaf eval_line
+abbrev pub eval_built : Shape
+eval_built = leaf eval_line
 
 abbrev flag_built : Rule
 flag_built = with_index 1 (filled (flag (codes "text")))
 
-flags : FlagsFailBut (codes "text") flag_built pair.rules
-flags = flags_fail_but (codes "text") flag_built pair.rules (λ n. refl) (λ x. refl) refl
+flags : FlagsFailBut (codes "text") flag_built eval_built.rules
+flags = flags_fail_but (codes "text") flag_built eval_built.rules (λ n. refl) (λ x. refl) refl
 
 -- ---- how far the words are read
 
@@ -42,10 +42,10 @@ data State : Type 0 where
   two_flagged : Text → Text → State
 
 abbrev with_text : Text → Text → Held → Held
-with_text id a h = record { rows = (settled pair.rules h).rows; pending = Some (id, a ∷ []); skip = 0 }
+with_text id a h = record { rows = (settled eval_built.rules h).rows; pending = Some (id, a ∷ []); skip = 0 }
 
 abbrev with_flag : Held → Held
-with_flag h = record { rows = used flag_built [] (settled pair.rules h).rows; pending = None; skip = 0 }
+with_flag h = record { rows = used flag_built [] (settled eval_built.rules h).rows; pending = None; skip = 0 }
 
 abbrev first : Text → Held → Held
 first = with_text (codes "PROGRAM")
@@ -196,7 +196,7 @@ put_texts (two_flagged a b) = refl
 
 -- ---- one step
 
-turn_text : (s : State) (n : ℕ) (x : Text) → wanted s ≡ suc n → is_flag x ≡ false → turn_fault pair [] (at s false) x ≡ []
+turn_text : (s : State) (n : ℕ) (x : Text) → wanted s ≡ suc n → is_flag x ≡ false → turn_fault eval_built [] (at s false) x ≡ []
 unfolding clap_on_literals
 turn_text nothing n x h plain = rw (no_dashes x plain, no_long x plain, no_short x plain) refl
 turn_text (one a) n x h plain = rw (no_dashes x plain, no_long x plain, no_short x plain) refl
@@ -208,7 +208,7 @@ turn_text (one_flagged a) n x h plain = rw (no_dashes x plain, no_long x plain, 
 turn_text (one_flagged_two a b) n x h plain = never n h
 turn_text (two_flagged a b) n x h plain = never n h
 
-to_text : (s : State) (n : ℕ) (x : Text) → wanted s ≡ suc n → is_flag x ≡ false → walked pair.rules [] (at s false) x ≡ at (next s x) false
+to_text : (s : State) (n : ℕ) (x : Text) → wanted s ≡ suc n → is_flag x ≡ false → walked eval_built.rules [] (at s false) x ≡ at (next s x) false
 unfolding clap_on_literals
 to_text nothing n x h plain = rw (no_dashes x plain, no_long x plain, no_short x plain) refl
 to_text (one a) n x h plain = rw (no_dashes x plain, no_long x plain, no_short x plain) refl
@@ -220,7 +220,7 @@ to_text (one_flagged a) n x h plain = rw (no_dashes x plain, no_long x plain, no
 to_text (one_flagged_two a b) n x h plain = never n h
 to_text (two_flagged a b) n x h plain = never n h
 
-stray : (s : State) (x : Text) → wanted s ≡ 0 → is_flag x ≡ false → turn_fault pair [] (at s false) x ≡ UnknownArgument ∷ []
+stray : (s : State) (x : Text) → wanted s ≡ 0 → is_flag x ≡ false → turn_fault eval_built [] (at s false) x ≡ UnknownArgument ∷ []
 stray nothing x h plain = never_more _ h
 stray (one a) x h plain = never_more _ h
 stray (two a b) x h plain = rw (no_dashes x plain, no_long x plain, no_short x plain) refl
@@ -231,14 +231,14 @@ stray (one_flagged a) x h plain = never_more _ h
 stray (one_flagged_two a b) x h plain = rw (no_dashes x plain, no_long x plain, no_short x plain) refl
 stray (two_flagged a b) x h plain = rw (no_dashes x plain, no_long x plain, no_short x plain) refl
 
-turn_dashes : (s : State) → turn_fault pair [] (at s false) (codes "--") ≡ []
+turn_dashes : (s : State) → turn_fault eval_built [] (at s false) (codes "--") ≡ []
 turn_dashes s = refl
 
-to_dashes : (s : State) → walked pair.rules [] (at s false) (codes "--") ≡ at s true
+to_dashes : (s : State) → walked eval_built.rules [] (at s false) (codes "--") ≡ at s true
 unfolding walked
 to_dashes s = refl
 
-turn_behind : (s : State) (n : ℕ) (x : Text) → wanted s ≡ suc n → turn_fault pair [] (at s true) x ≡ []
+turn_behind : (s : State) (n : ℕ) (x : Text) → wanted s ≡ suc n → turn_fault eval_built [] (at s true) x ≡ []
 unfolding clap_on_literals
 turn_behind nothing n x h = refl
 turn_behind (one a) n x h = refl
@@ -250,7 +250,7 @@ turn_behind (one_flagged a) n x h = refl
 turn_behind (one_flagged_two a b) n x h = never n h
 turn_behind (two_flagged a b) n x h = never n h
 
-to_behind : (s : State) (n : ℕ) (x : Text) → wanted s ≡ suc n → walked pair.rules [] (at s true) x ≡ at (next s x) true
+to_behind : (s : State) (n : ℕ) (x : Text) → wanted s ≡ suc n → walked eval_built.rules [] (at s true) x ≡ at (next s x) true
 unfolding clap_on_literals
 to_behind nothing n x h = refl
 to_behind (one a) n x h = refl
@@ -262,7 +262,7 @@ to_behind (one_flagged a) n x h = refl
 to_behind (one_flagged_two a b) n x h = never n h
 to_behind (two_flagged a b) n x h = never n h
 
-stray_behind : (s : State) (x : Text) → wanted s ≡ 0 → turn_fault pair [] (at s true) x ≡ UnknownArgument ∷ []
+stray_behind : (s : State) (x : Text) → wanted s ≡ 0 → turn_fault eval_built [] (at s true) x ≡ UnknownArgument ∷ []
 stray_behind nothing x h = never_more _ h
 stray_behind (one a) x h = never_more _ h
 stray_behind (two a b) x h = refl
@@ -273,7 +273,7 @@ stray_behind (one_flagged a) x h = never_more _ h
 stray_behind (one_flagged_two a b) x h = refl
 stray_behind (two_flagged a b) x h = refl
 
-turn_flag : (s : State) → has_flag s ≡ false → turn_fault pair [] (at s false) (codes "--text") ≡ []
+turn_flag : (s : State) → has_flag s ≡ false → turn_fault eval_built [] (at s false) (codes "--text") ≡ []
 unfolding clap_on_literals
 turn_flag nothing h = refl
 turn_flag (one a) h = refl
@@ -285,7 +285,7 @@ turn_flag (one_flagged a) h = cc
 turn_flag (one_flagged_two a b) h = cc
 turn_flag (two_flagged a b) h = cc
 
-to_flag : (s : State) → has_flag s ≡ false → walked pair.rules [] (at s false) (codes "--text") ≡ at (put s) false
+to_flag : (s : State) → has_flag s ≡ false → walked eval_built.rules [] (at s false) (codes "--text") ≡ at (put s) false
 unfolding clap_on_literals
 to_flag nothing h = refl
 to_flag (one a) h = refl
@@ -297,7 +297,7 @@ to_flag (one_flagged a) h = cc
 to_flag (one_flagged_two a b) h = cc
 to_flag (two_flagged a b) h = cc
 
-flag_again : (s : State) → has_flag s ≡ true → turn_fault pair [] (at s false) (codes "--text") ≡ ArgumentConflict ∷ []
+flag_again : (s : State) → has_flag s ≡ true → turn_fault eval_built [] (at s false) (codes "--text") ≡ ArgumentConflict ∷ []
 unfolding clap_on_literals
 flag_again nothing h = cc
 flag_again (one a) h = cc
@@ -311,7 +311,7 @@ flag_again (two_flagged a b) h = refl
 
 -- ---- the end
 
-incomplete : (s : State) (n : ℕ) (t : Bool) → wanted s ≡ suc n → level pair (at s t) [] ≡ MissingRequiredArgument ∷ []
+incomplete : (s : State) (n : ℕ) (t : Bool) → wanted s ≡ suc n → level eval_built (at s t) [] ≡ MissingRequiredArgument ∷ []
 unfolding clap_on_literals
 incomplete nothing n t h = refl
 incomplete (one a) n t h = refl
@@ -325,10 +325,10 @@ incomplete (two_flagged a b) n t h = never n h
 
 -- from this walk on the words do not fail, and the flag and the texts are found
 record Passes (w : Walk) (rest : List Text) (f : Bool) (ps : List Text) : Type 0 where
-  whole : level pair w rest ≡ []
-  has_flag : is_flagged (first_of (codes "text") (found pair w rest)) ≡ f
-  program : first_of (codes "PROGRAM") (found pair w rest) ≡ slice_get ps 0
-  datagram : first_of (codes "DATAGRAM") (found pair w rest) ≡ slice_get ps 1
+  whole : level eval_built w rest ≡ []
+  has_flag : is_flagged (first_of (codes "text") (found eval_built w rest)) ≡ f
+  program : first_of (codes "PROGRAM") (found eval_built w rest) ≡ slice_get ps 0
+  datagram : first_of (codes "DATAGRAM") (found eval_built w rest) ≡ slice_get ps 1
 
 ended : (s : State) (t : Bool) → wanted s ≡ 0 → Passes (at s t) [] (has_flag s) (texts s)
 unfolding clap_on_literals
@@ -343,13 +343,13 @@ ended (one_flagged_two a b) t h = record { whole = refl; has_flag = refl; progra
 ended (two_flagged a b) t h = record { whole = refl; has_flag = refl; program = refl; datagram = refl }
 
 -- and so do they from the walk a word before
-before : (w v : Walk) (x : Text) (rest : List Text) (f : Bool) (ps : List Text) → turn_fault pair [] w x ≡ [] → walked pair.rules [] w x ≡ v
+before : (w v : Walk) (x : Text) (rest : List Text) (f : Bool) (ps : List Text) → turn_fault eval_built [] w x ≡ [] → walked eval_built.rules [] w x ≡ v
     → Passes v rest f ps → Passes w (x ∷ rest) f ps
 before w v x rest f ps turn to h = record {
-  whole = step_up pair w v x rest turn to h.whole;
-  has_flag = ap (λ y. is_flagged (first_of (codes "text") (found pair y rest))) to ∙ h.has_flag;
-  program = ap (λ y. first_of (codes "PROGRAM") (found pair y rest)) to ∙ h.program;
-  datagram = ap (λ y. first_of (codes "DATAGRAM") (found pair y rest)) to ∙ h.datagram;
+  whole = step_up eval_built w v x rest turn to h.whole;
+  has_flag = ap (λ y. is_flagged (first_of (codes "text") (found eval_built y rest))) to ∙ h.has_flag;
+  program = ap (λ y. first_of (codes "PROGRAM") (found eval_built y rest)) to ∙ h.program;
+  datagram = ap (λ y. first_of (codes "DATAGRAM") (found eval_built y rest)) to ∙ h.datagram;
 }
 
 -- ---- that a line passes
@@ -422,7 +422,7 @@ record Plain (s : State) (rest : List Text) : Type 0 where
   are : AreTexts rest ps
   enough : length ps ≡ wanted s
 
-behind_reads : (s : State) (rest : List Text) → level pair (at s true) rest ≡ [] → length rest ≡ wanted s
+behind_reads : (s : State) (rest : List Text) → level eval_built (at s true) rest ≡ [] → length rest ≡ wanted s
 behind_reads s [] none = go (wanted s) refl
   where
     go : (n : ℕ) → wanted s ≡ n → 0 ≡ wanted s
@@ -430,17 +430,17 @@ behind_reads s [] none = go (wanted s) refl
     go (suc n) e = let bad : MissingRequiredArgument ∷ [] ≡ [] = sym (incomplete s n true e) ∙ none in cc
 behind_reads s (x ∷ rest) none = go (wanted s) refl (behind_reads (next s x) rest)
   where
-    down : (turn_fault pair [] (at s true) x ≡ []) × (level pair (walked pair.rules [] (at s true) x) rest ≡ [])
-    down = step_down pair (at s true) x rest none
+    down : (turn_fault eval_built [] (at s true) x ≡ []) × (level eval_built (walked eval_built.rules [] (at s true) x) rest ≡ [])
+    down = step_down eval_built (at s true) x rest none
 
-    go : (n : ℕ) → wanted s ≡ n → (level pair (at (next s x) true) rest ≡ [] → length rest ≡ wanted (next s x)) → length (x ∷ rest) ≡ wanted s
+    go : (n : ℕ) → wanted s ≡ n → (level eval_built (at (next s x) true) rest ≡ [] → length rest ≡ wanted (next s x)) → length (x ∷ rest) ≡ wanted s
     go zero e reads_on = let bad : UnknownArgument ∷ [] ≡ [] = sym (stray_behind s x e) ∙ down.0 in cc
     go (suc n) e reads_on =
-        let on = reads_on (ap (λ w. level pair w rest) (sym (to_behind s n x e)) ∙ down.1) in
+        let on = reads_on (ap (λ w. level eval_built w rest) (sym (to_behind s n x e)) ∙ down.1) in
         let is : length rest ≡ n = on ∙ next_wanted s n x e in
         omega (arith, is, e)
 
-dashes_read : (s : State) (rest : List Text) → level pair (at s true) rest ≡ [] → Plain s (codes "--" ∷ rest)
+dashes_read : (s : State) (rest : List Text) → level eval_built (at s true) rest ≡ [] → Plain s (codes "--" ∷ rest)
 dashes_read s [] none = record { ps = []; are = inr refl; enough = behind_reads s [] none }
 dashes_read s (x ∷ rest) none = record { ps = x ∷ rest; are = inl refl; enough = behind_reads s (x ∷ rest) none }
 
@@ -478,16 +478,16 @@ flag_then s rest f (inl h) = record {
 }
 flag_then s rest f (inr h) = let bad : true ≡ false = sym (put_flag s) ∙ h.first_flag in cc
 
-reads : (s : State) (rest : List Text) → All IsUtf8 rest → level pair (at s false) rest ≡ [] → Plain s rest ⊎ Flagged s rest
+reads : (s : State) (rest : List Text) → All IsUtf8 rest → level eval_built (at s false) rest ≡ [] → Plain s rest ⊎ Flagged s rest
 reads s [] utf8 none = go (wanted s) refl
   where
     go : (n : ℕ) → wanted s ≡ n → Plain s [] ⊎ Flagged s []
     go zero e = inl (record { ps = []; are = inl refl; enough = sym e })
     go (suc n) e = let bad : MissingRequiredArgument ∷ [] ≡ [] = sym (incomplete s n false e) ∙ none in cc
-reads s (x ∷ rest) utf8 none = elim (no_other_flag (codes "text") flag_built pair.rules flags x (held_at s) (no_skip s) (All-head IsUtf8 x rest utf8) (neither _ _ down.0).0) [
+reads s (x ∷ rest) utf8 none = elim (no_other_flag (codes "text") flag_built eval_built.rules flags x (held_at s) (no_skip s) (All-head IsUtf8 x rest utf8) (neither _ _ down.0).0) [
   | inl dashes ↦
-      let on = subst (λ y. level pair (walked pair.rules [] (at s false) y) rest ≡ []) dashes down.1 in
-      inl (subst (λ y. Plain s (y ∷ rest)) (sym dashes) (dashes_read s rest (ap (λ w. level pair w rest) (sym (to_dashes s)) ∙ on)))
+      let on = subst (λ y. level eval_built (walked eval_built.rules [] (at s false) y) rest ≡ []) dashes down.1 in
+      inl (subst (λ y. Plain s (y ∷ rest)) (sym dashes) (dashes_read s rest (ap (λ w. level eval_built w rest) (sym (to_dashes s)) ∙ on)))
   | inr (inl is_text) ↦ inr (subst (λ y. Flagged s (y ∷ rest)) (sym is_text) (at_flag (has_flag s) refl is_text (reads (put s) rest)))
   | inr (inr plain) ↦ at_plain (wanted s) refl plain (reads (next s x) rest)
 ]
@@ -503,36 +503,36 @@ reads s (x ∷ rest) utf8 none = elim (no_other_flag (codes "text") flag_built p
     no_skip (one_flagged_two a b) = refl
     no_skip (two_flagged a b) = refl
 
-    down : (turn_fault pair [] (at s false) x ≡ []) × (level pair (walked pair.rules [] (at s false) x) rest ≡ [])
-    down = step_down pair (at s false) x rest none
+    down : (turn_fault eval_built [] (at s false) x ≡ []) × (level eval_built (walked eval_built.rules [] (at s false) x) rest ≡ [])
+    down = step_down eval_built (at s false) x rest none
 
     at_flag : (f : Bool) → has_flag s ≡ f → x ≡ codes "--text"
-        → (All IsUtf8 rest → level pair (at (put s) false) rest ≡ [] → Plain (put s) rest ⊎ Flagged (put s) rest) → Flagged s (codes "--text" ∷ rest)
+        → (All IsUtf8 rest → level eval_built (at (put s) false) rest ≡ [] → Plain (put s) rest ⊎ Flagged (put s) rest) → Flagged s (codes "--text" ∷ rest)
     at_flag true e is reads_on =
-        let turns = subst (λ y. turn_fault pair [] (at s false) y ≡ []) is down.0 in
+        let turns = subst (λ y. turn_fault eval_built [] (at s false) y ≡ []) is down.0 in
         let bad : ArgumentConflict ∷ [] ≡ [] = sym (flag_again s e) ∙ turns in
         cc
     at_flag false e is reads_on =
-        let on = subst (λ y. level pair (walked pair.rules [] (at s false) y) rest ≡ []) is down.1 in
-        flag_then s rest e (reads_on (All-tail IsUtf8 x rest utf8) (ap (λ w. level pair w rest) (sym (to_flag s e)) ∙ on))
+        let on = subst (λ y. level eval_built (walked eval_built.rules [] (at s false) y) rest ≡ []) is down.1 in
+        flag_then s rest e (reads_on (All-tail IsUtf8 x rest utf8) (ap (λ w. level eval_built w rest) (sym (to_flag s e)) ∙ on))
 
     at_plain : (n : ℕ) → wanted s ≡ n → is_flag x ≡ false
-        → (All IsUtf8 rest → level pair (at (next s x) false) rest ≡ [] → Plain (next s x) rest ⊎ Flagged (next s x) rest) → Plain s (x ∷ rest) ⊎ Flagged s (x ∷ rest)
+        → (All IsUtf8 rest → level eval_built (at (next s x) false) rest ≡ [] → Plain (next s x) rest ⊎ Flagged (next s x) rest) → Plain s (x ∷ rest) ⊎ Flagged s (x ∷ rest)
     at_plain zero e plain reads_on = let bad : UnknownArgument ∷ [] ≡ [] = sym (stray s x e plain) ∙ down.0 in cc
     at_plain (suc n) e plain reads_on =
-        text_then s n x rest e plain (reads_on (All-tail IsUtf8 x rest utf8) (ap (λ w. level pair w rest) (sym (to_text s n x e plain)) ∙ down.1))
+        text_then s n x rest e plain (reads_on (All-tail IsUtf8 x rest utf8) (ap (λ w. level eval_built w rest) (sym (to_text s n x e plain)) ∙ down.1))
 
 -- ---- the lines of `eval`
 
 -- words that ask for help at once fail by that alone
-pub pair_helps : (word : Text) (rest : List Text) → IsSub (codes "eval") pair → IsHelpFlag word
+pub eval_helps : (word : Text) (rest : List Text) → IsSub (codes "eval") eval_built → IsHelpFlag word
     → fault_of command_line (codes "eval" ∷ word ∷ rest) ≡ DisplayHelp ∷ []
 unfolding clap_on_literals
-pair_helps word rest sub h = line_fault (codes "eval") pair (word ∷ rest) sub ∙ go h
+eval_helps word rest sub h = line_fault (codes "eval") eval_built (word ∷ rest) sub ∙ go h
   where
-    go : IsHelpFlag word → level pair start (word ∷ rest) ≡ DisplayHelp ∷ []
-    go (inl is) = ap (λ x. level pair start (x ∷ rest)) is
-    go (inr is) = ap (λ x. level pair start (x ∷ rest)) is
+    go : IsHelpFlag word → level eval_built start (word ∷ rest) ≡ DisplayHelp ∷ []
+    go (inl is) = ap (λ x. level eval_built start (x ∷ rest)) is
+    go (inr is) = ap (λ x. level eval_built start (x ∷ rest)) is
 
 two_of : (ps : List Text) → length ps ≡ 2 → (a : Text) × (b : Text) × (ps ≡ a ∷ b ∷ [])
 two_of [] h = absurd (omega (arith, h))
@@ -541,9 +541,9 @@ two_of (a ∷ b ∷ []) h = (a, b, refl)
 two_of (a ∷ b ∷ c ∷ ps) h = absurd (omega (arith, h))
 
 -- a line that does not fail asks for one of two things
-pub pair_in : (rest : List Text) → IsSub (codes "eval") pair → All IsUtf8 rest → fault_of command_line (codes "eval" ∷ rest) ≡ []
+pub eval_in : (rest : List Text) → IsSub (codes "eval") eval_built → All IsUtf8 rest → fault_of command_line (codes "eval" ∷ rest) ≡ []
     → (asked : Asked) × IsLine (codes "eval" ∷ rest) asked
-pair_in rest sub utf8 none = go (reads nothing rest utf8 (sym (line_fault (codes "eval") pair rest sub) ∙ none))
+eval_in rest sub utf8 none = go (reads nothing rest utf8 (sym (line_fault (codes "eval") eval_built rest sub) ∙ none))
   where
     go : Plain nothing rest ⊎ Flagged nothing rest → (asked : Asked) × IsLine (codes "eval" ∷ rest) asked
     go (inl h) =
@@ -571,23 +571,23 @@ gives : (rows : List Row) (f : Bool) (a b : Text) → is_flagged (first_of (code
 gives rows f a b flag_is program datagram = rw (program, datagram, flag_is) refl
 
 -- words that pass do not fail, and are found
-passed : (ws rest : List Text) (f : Bool) (a b : Text) → IsSub (codes "eval") pair → ws ≡ codes "eval" ∷ rest → Passes start rest f (a ∷ b ∷ [])
+passed : (ws rest : List Text) (f : Bool) (a b : Text) → IsSub (codes "eval") eval_built → ws ≡ codes "eval" ∷ rest → Passes start rest f (a ∷ b ∷ [])
     → (rows : List Row) × (fault_of command_line ws ≡ []) × (subcommand_of command_line ws ≡ Some (codes "eval", rows))
     × (evaluation_of (first_of (codes "text") rows) (first_of (codes "PROGRAM") rows) (first_of (codes "DATAGRAM") rows) ≡ Some (asked f a b))
 passed ws rest f a b sub named h = (
-  found pair start rest,
-  ap (λ x. fault_of command_line x) named ∙ line_fault (codes "eval") pair rest sub ∙ h.whole,
-  ap (λ x. subcommand_of command_line x) named ∙ line_found (codes "eval") pair rest sub,
-  gives (found pair start rest) f a b h.has_flag h.program h.datagram,
+  found eval_built start rest,
+  ap (λ x. fault_of command_line x) named ∙ line_fault (codes "eval") eval_built rest sub ∙ h.whole,
+  ap (λ x. subcommand_of command_line x) named ∙ line_found (codes "eval") eval_built rest sub,
+  gives (found eval_built start rest) f a b h.has_flag h.program h.datagram,
 )
 
 -- a line does not fail, and its texts are found
-pub pair_passes : (ws : List Text) (a b : Text) → IsSub (codes "eval") pair → IsLineOf (codes "eval") ws (a ∷ b ∷ [])
+pub eval_passes : (ws : List Text) (a b : Text) → IsSub (codes "eval") eval_built → IsLineOf (codes "eval") ws (a ∷ b ∷ [])
     → (rows : List Row) × (fault_of command_line ws ≡ []) × (subcommand_of command_line ws ≡ Some (codes "eval", rows))
     × (evaluation_of (first_of (codes "text") rows) (first_of (codes "PROGRAM") rows) (first_of (codes "DATAGRAM") rows) ≡ Some (evaluates a b))
-pair_passes ws a b sub h = passed ws h.behind false a b sub h.named (texts_pass nothing h.behind (a ∷ b ∷ []) refl h.texts_behind)
+eval_passes ws a b sub h = passed ws h.behind false a b sub h.named (texts_pass nothing h.behind (a ∷ b ∷ []) refl h.texts_behind)
 
-pub flagged_passes : (ws : List Text) (a b : Text) → IsSub (codes "eval") pair → IsFlaggedLine (codes "eval") ws (a ∷ b ∷ [])
+pub flagged_passes : (ws : List Text) (a b : Text) → IsSub (codes "eval") eval_built → IsFlaggedLine (codes "eval") ws (a ∷ b ∷ [])
     → (rows : List Row) × (fault_of command_line ws ≡ []) × (subcommand_of command_line ws ≡ Some (codes "eval", rows))
     × (evaluation_of (first_of (codes "text") rows) (first_of (codes "PROGRAM") rows) (first_of (codes "DATAGRAM") rows) ≡ Some (tests a b))
 flagged_passes ws a b sub h =
