@@ -1,15 +1,14 @@
 -- From what the compiler says of a class test to what is printed of it.
-use Rattle.std.proofs.Common.{◌≡◌, ℕ, ap, subst, Bool, List, ◌++◌, Option, Some, None, Result, Ok, Err}
+use Rattle.std.proofs.Common.{◌≡◌, ℕ, subst, Bool, List, ◌++◌, None, Result, Ok, Err}
 use Rattle.std.specs.Result.{IfOk}
 use Rattle.hex.specs.Hex.{encode_lower}
-use Rattle.kd_compile.specs.Compiled.{HasMeasures, Keeps, first_over}
+use Rattle.kd_compile.specs.Compiled.{first_over}
 use Rattle.kd_compile.specs.Value.{truth}
 use Rattle.kd_expr.specs.Tree.{Tree}
 use Rattle.kd_machine.specs.Held.{base_names}
 use Rattle.kd_machine.specs.Run.{Run}
 use Rattle.kd_options.specs.Joined.{value_of}
-use Rattle.kd_options.specs.Message.{AreBytes, IsMessage, Reads, Seen}
-use Rattle.kd_token.specs.Accepts.{Accepts}
+use Rattle.kd_options.specs.Message.{AreBytes, IsMessage, Seen}
 use Rattle.kd_token.specs.File.{Code, IsFileOf}
 use Rattle.kdhcp.specs.Printed.{IsCompiled, IsSuccess, OfCompiled, OfDatagram, PrintsFile, RunsOver, TestsDatagram, TestsOver, run_line}
 use Rattle.kdhcp.specs.Show.{line_feed}

@@ -1,5 +1,5 @@
 -- Which words are a line of `eval`, by the walk of clap over them.
-use Rattle.std.proofs.Common.{◌≡◌, ◌⊎◌, ◌∙◌, sym, ap, ap₂, refl, subst, inl, inr, ℕ, zero, suc, true, false, Bool, List, [], ◌∷◌, ◌++◌, length, codes, Option, Some, None, append_assoc, arith, rules}
+use Rattle.std.proofs.Common.{◌≡◌, ◌⊎◌, ◌∙◌, sym, ap, refl, subst, inl, inr, ℕ, zero, suc, true, false, Bool, List, [], ◌∷◌, ◌++◌, length, codes, Some, None, append_assoc, arith}
 use Rattle.std.specs.Prelude.{slice_get, if◌then◌else◌}
 use Rattle.std.specs.List.{All}
 use Rattle.std.specs.Str.{IsUtf8}
@@ -7,7 +7,7 @@ use Rattle.std.proofs.lemmas.List.{append-nil}
 use Rattle.std.proofs.lemmas.List.Elements.{All-head, All-tail}
 use Rattle.clap.specs.Words.{Row, Rule, Shape, Text, fault_of, first_of, subcommand_of}
 use Rattle.clap.specs.Walk.{Held, Walk, idle, nothing_held, settled, used, walked}
-use Rattle.clap.specs.Faults.{defaults_fault, turn_fault, walk_fault}
+use Rattle.clap.specs.Faults.{turn_fault}
 use Rattle.clap.specs.Simple.{filled, with_index}
 use Rattle.clap.specs.declared.error.kind.ErrorKind.TheVariants.{ArgumentConflict, DisplayHelp, MissingRequiredArgument, UnknownArgument}
 use Rattle.clap.proofs.OnLiterals.{clap_on_literals}
