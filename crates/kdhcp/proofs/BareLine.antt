@@ -1,5 +1,5 @@
 -- Which words are a line of a subcommand that has no words of its own, by the walk of clap over them.
-use Rattle.std.proofs.Common.{◌≡◌, ◌⊎◌, ◌∙◌, sym, ap, ap₂, refl, subst, inl, inr, false, List, [], ◌∷◌, codes, Some}
+use Rattle.std.proofs.Common.{◌≡◌, ◌∙◌, sym, ap, ap₂, refl, subst, inl, inr, false, List, [], ◌∷◌, codes, Some}
 use Rattle.std.specs.List.{All}
 use Rattle.std.specs.Str.{IsUtf8}
 use Rattle.std.proofs.lemmas.List.Elements.{All-head}
@@ -8,7 +8,7 @@ use Rattle.clap.specs.Walk.{nothing_held, walked}
 use Rattle.clap.specs.Faults.{defaults_fault, turn_fault, walk_fault}
 use Rattle.clap.specs.declared.error.kind.ErrorKind.TheVariants.{DisplayHelp, UnknownArgument}
 use Rattle.clap.proofs.OnLiterals.{clap_on_literals}
-use Rattle.kdhcp.specs.Line.{IsBareLine, IsHelpFlag, is_flag}
+use Rattle.kdhcp.specs.Line.{AreTexts, IsHelpFlag, IsLineOf, is_flag}
 use Rattle.kdhcp.specs.Order.{command_line}
 use Rattle.kdhcp.proofs.Flags.{FlagsFail, flags_fail, neither, no_dashes, no_flag, no_long, no_short}
 use Rattle.kdhcp.proofs.Level.{dashed, found, leaf, level, start, step_down}
@@ -36,7 +36,7 @@ module _ (name : Text) where
       cc
 
   -- no word behind the name, but `--`
-  is_bare : (rest : List Text) → All IsUtf8 rest → level (bare name) start rest ≡ [] → (rest ≡ []) ⊎ (rest ≡ codes "--" ∷ [])
+  is_bare : (rest : List Text) → All IsUtf8 rest → level (bare name) start rest ≡ [] → AreTexts rest []
   is_bare [] texts none = inl refl
   is_bare (a ∷ rest) texts none =
       let down = step_down (bare name) start a rest none in
@@ -69,22 +69,22 @@ module _ (name : Text) where
 
   -- a line that does not fail is bare
   pub bare_in : (rest : List Text) → IsSub name (bare name) → All IsUtf8 rest → fault_of command_line (name ∷ rest) ≡ []
-      → IsBareLine name (name ∷ rest)
-  bare_in rest sub texts none = elim (is_bare rest texts (sym (line_fault name (bare name) rest sub) ∙ none)) [
-    | inl alone ↦ inl (ap (λ x. name ∷ x) alone)
-    | inr dashes ↦ inr (ap (λ x. name ∷ x) dashes)
-  ]
+      → IsLineOf name (name ∷ rest) []
+  bare_in rest sub texts none = record {
+    behind = rest;
+    named = refl;
+    texts_behind = is_bare rest texts (sym (line_fault name (bare name) rest sub) ∙ none);
+  }
+
+  passes : (rest : List Text) → AreTexts rest [] → level (bare name) start rest ≡ []
+  passes rest (inl alone) = rw alone at_start
+  passes rest (inr dashes) = rw dashes at_dashes
 
   -- a bare line does not fail
-  pub bare_passes : (ws : List Text) → IsSub name (bare name) → IsBareLine name ws
+  pub bare_passes : (ws : List Text) → IsSub name (bare name) → IsLineOf name ws []
       → (rows : List Row) × (fault_of command_line ws ≡ []) × (subcommand_of command_line ws ≡ Some (name, rows))
-  bare_passes ws sub (inl alone) = rw alone (
-    found (bare name) start [],
-    line_fault name (bare name) [] sub ∙ at_start,
-    line_found name (bare name) [] sub,
-  )
-  bare_passes ws sub (inr dashes) = rw dashes (
-    found (bare name) start (codes "--" ∷ []),
-    line_fault name (bare name) (codes "--" ∷ []) sub ∙ at_dashes,
-    line_found name (bare name) (codes "--" ∷ []) sub,
+  bare_passes ws sub h = (
+    found (bare name) start h.behind,
+    ap (λ x. fault_of command_line x) h.named ∙ line_fault name (bare name) h.behind sub ∙ passes h.behind h.texts_behind,
+    ap (λ x. subcommand_of command_line x) h.named ∙ line_found name (bare name) h.behind sub,
   )

@@ -1,5 +1,7 @@
 pub mod BareLine
 pub mod Commands
+pub mod Compiling
+pub mod EvalLine
 pub mod Flags
 pub mod Level
 pub mod Lines

@@ -7,8 +7,9 @@ use Rattle.std.proofs.lemmas.List.Elements.{All-tail}
 use Rattle.clap.specs.Words.{Text, fault_of}
 use Rattle.clap.specs.declared.error.kind.ErrorKind.TheVariants.{DisplayHelp}
 use Rattle.kdhcp.specs.Line.{IsHelpFlag, IsHelpLine, IsLine, IsOneOf, subcommands}
-use Rattle.kdhcp.specs.Order.{Asked, Asks, asked_of, command_line, replays, shows, types, verifies}
+use Rattle.kdhcp.specs.Order.{Asked, Asks, asked_of, command_line, compiles, evaluates, replays, shows, tests, types, verifies}
 use Rattle.kdhcp.proofs.BareLine.{bare, bare_helps, bare_in, bare_passes}
+use Rattle.kdhcp.proofs.EvalLine.{flagged_passes, eval_built, eval_helps, eval_in, eval_passes}
 use Rattle.kdhcp.proofs.TextLine.{one, text_helps, text_in, text_passes}
 use Rattle.kdhcp.proofs.Top.{IsSub, begins, helps_first}
 
@@ -23,6 +24,12 @@ expr = record { met = refl; ours = refl; found = refl }
 verify : IsSub (codes "verify") (one (codes "verify") (codes "HEX"))
 verify = record { met = refl; ours = refl; found = refl }
 
+compile : IsSub (codes "compile") (one (codes "compile") (codes "TEXT"))
+compile = record { met = refl; ours = refl; found = refl }
+
+eval : IsSub (codes "eval") eval_built
+eval = record { met = refl; ours = refl; found = refl }
+
 replay : IsSub (codes "replay") (bare (codes "replay"))
 replay = record { met = refl; ours = refl; found = refl }
 
@@ -36,10 +43,14 @@ asked_in name rest (inr (inl is)) texts none = rw is (
     let got = text_in (codes "expr") (codes "TEXT") rest expr texts (rw is at none) in
     (types got.0, got.1))
 asked_in name rest (inr (inr (inl is))) texts none = rw is (
+    let got = text_in (codes "compile") (codes "TEXT") rest compile texts (rw is at none) in
+    (compiles got.0, got.1))
+asked_in name rest (inr (inr (inr (inl is)))) texts none = rw is (
     let got = text_in (codes "verify") (codes "HEX") rest verify texts (rw is at none) in
     (verifies got.0, got.1))
-asked_in name rest (inr (inr (inr (inl is)))) texts none = rw is (replays, bare_in (codes "replay") rest replay texts (rw is at none))
-asked_in name rest (inr (inr (inr (inr never)))) texts none = absurd never
+asked_in name rest (inr (inr (inr (inr (inl is))))) texts none = rw is (eval_in rest eval texts (rw is at none))
+asked_in name rest (inr (inr (inr (inr (inr (inl is)))))) texts none = rw is (replays, bare_in (codes "replay") rest replay texts (rw is at none))
+asked_in name rest (inr (inr (inr (inr (inr (inr never)))))) texts none = absurd never
 
 -- a line asks by clap for what it asks for in plain words
 pub clap_from_line : (ws : List Text) (asked : Asked) → IsLine ws asked → Asks ws asked
@@ -49,9 +60,18 @@ clap_from_line ws (shows hex) h =
 clap_from_line ws (types text) h =
     let got = text_passes (codes "expr") (codes "TEXT") refl ws text expr h in
     record { whole = got.1; entered = ap asked_of got.2 ∙ ap (option_map (λ x. types x)) got.3 }
+clap_from_line ws (compiles text) h =
+    let got = text_passes (codes "compile") (codes "TEXT") refl ws text compile h in
+    record { whole = got.1; entered = ap asked_of got.2 ∙ ap (option_map (λ x. compiles x)) got.3 }
 clap_from_line ws (verifies hex) h =
     let got = text_passes (codes "verify") (codes "HEX") refl ws hex verify h in
     record { whole = got.1; entered = ap asked_of got.2 ∙ ap (option_map (λ x. verifies x)) got.3 }
+clap_from_line ws (evaluates program datagram) h =
+    let got = eval_passes ws program datagram eval h in
+    record { whole = got.1; entered = ap asked_of got.2 ∙ got.3 }
+clap_from_line ws (tests text datagram) h =
+    let got = flagged_passes ws text datagram eval h in
+    record { whole = got.1; entered = ap asked_of got.2 ∙ got.3 }
 clap_from_line ws replays h =
     let got = bare_passes (codes "replay") ws replay h in
     record { whole = got.1; entered = ap asked_of got.2 }
@@ -61,9 +81,11 @@ helps_second : (name next : Text) (rest : List Text) → IsOneOf name subcommand
     → fault_of command_line (name ∷ next ∷ rest) ≡ DisplayHelp ∷ []
 helps_second name next rest (inl is) h = rw is (text_helps (codes "show") (codes "HEX") next rest show h)
 helps_second name next rest (inr (inl is)) h = rw is (text_helps (codes "expr") (codes "TEXT") next rest expr h)
-helps_second name next rest (inr (inr (inl is))) h = rw is (text_helps (codes "verify") (codes "HEX") next rest verify h)
-helps_second name next rest (inr (inr (inr (inl is)))) h = rw is (bare_helps (codes "replay") next rest replay h)
-helps_second name next rest (inr (inr (inr (inr never)))) h = absurd never
+helps_second name next rest (inr (inr (inl is))) h = rw is (text_helps (codes "compile") (codes "TEXT") next rest compile h)
+helps_second name next rest (inr (inr (inr (inl is)))) h = rw is (text_helps (codes "verify") (codes "HEX") next rest verify h)
+helps_second name next rest (inr (inr (inr (inr (inl is))))) h = rw is (eval_helps next rest eval h)
+helps_second name next rest (inr (inr (inr (inr (inr (inl is)))))) h = rw is (bare_helps (codes "replay") next rest replay h)
+helps_second name next rest (inr (inr (inr (inr (inr (inr never)))))) h = absurd never
 
 -- ---- whatever the subcommands
 

@@ -1,5 +1,5 @@
 -- From what clap says of a parse to the order that the words give.
-use Rattle.std.proofs.Common.{◌≡◌, ◌⊎◌, ◌∙◌, sym, ap, ap₂, refl, subst, inl, inr, true, List, [], ◌∷◌, map, Option, Some, None, Result, Ok, Err}
+use Rattle.std.proofs.Common.{◌≡◌, ◌⊎◌, ◌∙◌, sym, ap, ap₂, codes, refl, subst, inl, inr, true, List, [], ◌∷◌, map, Option, Some, None, Result, Ok, Err}
 use Rattle.std.specs.Result.{IfErr, IfOk}
 use Rattle.std.specs.Prelude.{Box, String, option_map}
 use Rattle.std.specs.List.{All}
@@ -16,13 +16,13 @@ use Rattle.clap.specs.declared.parser.matches.ArgMatches.TheViews.{out-ArgMatche
 use Rattle.clap.specs.declared.parser.matches.SubCommand.{SubCommand}
 use Rattle.clap.proofs.WalkLemmas.{first_value-rows}
 use Rattle.clap.proofs.OnLiterals.{clap_on_literals}
-use Rattle.kdhcp.specs.Order.{Asked, Asks, AsksFor, GivesUnlessFull, HasFault, HelpsUnlessFull, asked_by, asked_of, command_line, given_by, replays, shows, types, verifies}
+use Rattle.kdhcp.specs.Order.{Asked, Asks, AsksFor, GivesUnlessFull, HasFault, HelpsUnlessFull, asked_by, asked_of, command_line, compiles, evaluates, evaluation_of, given_by, replays, shows, tests, types, verifies}
 use Rattle.kdhcp.proofs.Lines.{clap_from_line, one_asked, some_line}
 use Rattle.kdhcp.specs.Steps.{AnswersKind, GivesIfThere}
 use Rattle.kdhcp.specs.declared.order.LineFault.{LineFault}
 use Rattle.kdhcp.specs.declared.order.LineFault.TheVariants.{CommandLine, Memory}
 use Rattle.kdhcp.specs.declared.order.Order.{Order}
-use Rattle.kdhcp.specs.declared.order.Order.TheVariants.{Help, Show, Expr, Verify, Replay}
+use Rattle.kdhcp.specs.declared.order.Order.TheVariants.{Help, Show, Expr, Compile, Verify, Eval, EvalText, Replay}
 
 -- clap tells the matches of this command line, and the kinds of its faults
 is_told : is_simple command_line ≡ true
@@ -50,7 +50,14 @@ asks_for : (ws : List Text) (order : Order) (asked : Asked) → given_by order �
 asks_for ws (Help text) asked gives h = cc
 asks_for ws (Show hex) asked gives h = let is : shows (string_bytes hex) ≡ asked = cc in subst (Asks ws) (sym is) h
 asks_for ws (Expr text) asked gives h = let is : types (string_bytes text) ≡ asked = cc in subst (Asks ws) (sym is) h
+asks_for ws (Compile text) asked gives h = let is : compiles (string_bytes text) ≡ asked = cc in subst (Asks ws) (sym is) h
 asks_for ws (Verify hex) asked gives h = let is : verifies (string_bytes hex) ≡ asked = cc in subst (Asks ws) (sym is) h
+asks_for ws (Eval program datagram) asked gives h =
+    let is : evaluates (string_bytes program) (string_bytes datagram) ≡ asked = cc in
+    subst (Asks ws) (sym is) h
+asks_for ws (EvalText text datagram) asked gives h =
+    let is : tests (string_bytes text) (string_bytes datagram) ≡ asked = cc in
+    subst (Asks ws) (sym is) h
 asks_for ws Replay asked gives h = let is : replays ≡ asked = cc in subst (Asks ws) (sym is) h
 
 -- where clap finds no fault
@@ -149,3 +156,15 @@ at_text m inner name wanted id f r named has is asks gives =
     let same : option_map f (first_value (found_of inner) id) ≡ asked_of (subcommand_rows_of m) =
     ap (option_map f) (first_value-rows (found_of inner) id) ∙ sym (at_name m name wanted (rows_of (found_of inner)) named has is ∙ asks) in
     subst (λ o. GivesIfThere o r) same gives
+
+-- what is made of the flag and the two texts of `eval`
+pub at_eval : (m inner : ArgMatches) (name : Text) (r : Result Order LineFault) → Some name ≡ subcommand_name_of m
+    → Some (rows_of (found_of inner)) ≡ option_map (λ p. p.1) (subcommand_rows_of m) → name ≡ codes "eval"
+    → GivesIfThere (evaluation_of (first_value (found_of inner) (codes "text")) (first_value (found_of inner) (codes "PROGRAM")) (first_value (found_of inner) (codes "DATAGRAM"))) r
+    → GivesIfThere (asked_of (subcommand_rows_of m)) r
+at_eval m inner name r named has is gives =
+    let value = first_value-rows (found_of inner) (codes "text") in
+    let program = first_value-rows (found_of inner) (codes "PROGRAM") in
+    let datagram = first_value-rows (found_of inner) (codes "DATAGRAM") in
+    let at_name_is = at_name m name (codes "eval") (rows_of (found_of inner)) named has is in
+    subst (λ o. GivesIfThere o r) (sym at_name_is) (rw (value, program, datagram) at gives)

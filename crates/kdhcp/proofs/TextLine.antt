@@ -1,5 +1,5 @@
 -- Which words are a line of a subcommand with one text, by the walk of clap over them.
-use Rattle.std.proofs.Common.{◌≡◌, ◌⊎◌, ◌∙◌, sym, ap, ap₂, refl, subst, inl, inr, true, false, Bool, List, [], ◌∷◌, codes, Some, None}
+use Rattle.std.proofs.Common.{◌≡◌, ◌∙◌, sym, ap, ap₂, refl, subst, inl, inr, true, false, Bool, List, [], ◌∷◌, codes, Some, None}
 use Rattle.std.specs.List.{All}
 use Rattle.std.specs.Str.{bytes_eq, IsUtf8}
 use Rattle.std.proofs.lemmas.List.Elements.{All-head, All-tail}
@@ -9,7 +9,7 @@ use Rattle.clap.specs.Walk.{Walk, idle, nothing_held, walked}
 use Rattle.clap.specs.Faults.{defaults_fault, turn_fault, walk_fault}
 use Rattle.clap.specs.declared.error.kind.ErrorKind.TheVariants.{DisplayHelp, MissingRequiredArgument, UnknownArgument}
 use Rattle.clap.proofs.OnLiterals.{clap_on_literals}
-use Rattle.kdhcp.specs.Line.{IsHelpFlag, IsText, IsTextLine, is_flag}
+use Rattle.kdhcp.specs.Line.{AreTexts, IsHelpFlag, IsLineOf, is_flag}
 use Rattle.kdhcp.specs.Order.{command_line, text_line}
 use Rattle.kdhcp.proofs.Flags.{FlagsFail, flags_fail, neither, no_dashes, no_flag, no_long, no_short}
 use Rattle.kdhcp.proofs.Level.{dashed, found, leaf, level, start, step_down, step_up}
@@ -70,7 +70,7 @@ module _ (name id : Text) where
       cc
 
   -- a text, and `--` behind it at most
-  behind_text : (a : Text) (rest : List Text) → All IsUtf8 rest → level (one name id) (at_text id false a) rest ≡ [] → (rest ≡ []) ⊎ (rest ≡ codes "--" ∷ [])
+  behind_text : (a : Text) (rest : List Text) → All IsUtf8 rest → level (one name id) (at_text id false a) rest ≡ [] → AreTexts rest []
   behind_text a [] text none = inl refl
   behind_text a (b ∷ rest) text none =
       let down = step_down (one name id) (at_text id false a) b rest none in
@@ -94,7 +94,7 @@ module _ (name id : Text) where
       (b, ap (λ x. b ∷ x) last)
 
   -- words that do not fail are a text
-  is_text : (rest : List Text) → All IsUtf8 rest → level (one name id) start rest ≡ [] → (text : Text) × IsText rest text
+  is_text : (rest : List Text) → All IsUtf8 rest → level (one name id) start rest ≡ [] → (text : Text) × AreTexts rest (text ∷ [])
   unfolding walk_fault defaults_fault
   is_text [] text none = let bad : MissingRequiredArgument ∷ [] ≡ [] = none in cc
   is_text (a ∷ rest) text none =
@@ -103,13 +103,10 @@ module _ (name id : Text) where
         | inl dashes ↦
             let on = subst (λ x. level (one name id) (walked (one name id).rules [] start x) rest ≡ []) dashes down.1 in
             let got = behind_dashes rest (ap (λ x. level (one name id) x rest) (sym to_dashes) ∙ on) in
-            (got.0, inr (inl (ap₂ (λ x y. x ∷ y) dashes got.1)))
+            (got.0, inl (ap₂ (λ x y. x ∷ y) dashes got.1))
         | inr plain ↦
             let on : level (one name id) (at_text id false a) rest ≡ [] = ap (λ x. level (one name id) x rest) (sym (to_text a plain)) ∙ down.1 in
-            elim (behind_text a rest (All-tail IsUtf8 a rest text) on) [
-              | inl last ↦ (a, inl (ap (λ x. a ∷ x) last, plain))
-              | inr dashes ↦ (a, inr (inr (ap (λ x. a ∷ x) dashes, plain)))
-            ]
+            (a, inr (rest, refl, plain, behind_text a rest (All-tail IsUtf8 a rest text) on))
       ]
 
   -- words that ask for help at once fail by that alone
@@ -124,10 +121,10 @@ module _ (name id : Text) where
 
   -- a line that does not fail has a text
   pub text_in : (rest : List Text) → IsSub name (one name id) → All IsUtf8 rest → fault_of command_line (name ∷ rest) ≡ []
-      → (text : Text) × IsTextLine name (name ∷ rest) text
+      → (text : Text) × IsLineOf name (name ∷ rest) (text ∷ [])
   text_in rest sub texts none =
       let got = is_text rest texts (sym (line_fault name (one name id) rest sub) ∙ none) in
-      (got.0, record { behind = rest; named = refl; text_behind = got.1 })
+      (got.0, record { behind = rest; named = refl; texts_behind = got.1 })
 
   -- ---- that a text passes, where the argument is not `help`
 
@@ -140,19 +137,19 @@ module _ (name id : Text) where
     at_found t a = simp (same id, apart) refl
 
     -- a text does not fail, and is found
-    passes : (rest : List Text) (text : Text) → IsText rest text
+    passes : (rest : List Text) (text : Text) → AreTexts rest (text ∷ [])
         → (level (one name id) start rest ≡ []) × (first_of id (found (one name id) start rest) ≡ Some text)
-    passes rest text (inl (is, plain)) = rw is (
+    passes rest text (inr (more, is, plain, inl none)) = rw (is, none) (
       step_up (one name id) start (at_text id false text) text [] (turn_text text plain) (to_text text plain) (at_end false text),
       ap (λ x. first_of id (found (one name id) x [])) (to_text text plain) ∙ at_found false text,
     )
-    passes rest text (inr (inl is)) = rw is (
+    passes rest text (inl is) = rw is (
       step_up (one name id) start dashed (codes "--") (text ∷ []) refl to_dashes
           (step_up (one name id) dashed (at_text id true text) text [] refl (text_dashed text) (at_end true text)),
       ap (λ x. first_of id (found (one name id) x (text ∷ []))) to_dashes
           ∙ (ap (λ x. first_of id (found (one name id) x [])) (text_dashed text) ∙ at_found true text),
     )
-    passes rest text (inr (inr (is, plain))) = rw is (
+    passes rest text (inr (more, is, plain, inr dashes)) = rw (is, dashes) (
       step_up (one name id) start (at_text id false text) text (codes "--" ∷ []) (turn_text text plain) (to_text text plain)
           (step_up (one name id) (at_text id false text) (at_text id true text) (codes "--") [] refl (text_ends text) (at_end true text)),
       ap (λ x. first_of id (found (one name id) x (codes "--" ∷ []))) (to_text text plain)
@@ -160,10 +157,10 @@ module _ (name id : Text) where
     )
 
     -- a line with a text does not fail, and the text is found
-    pub text_passes : (ws : List Text) (text : Text) → IsSub name (one name id) → IsTextLine name ws text
+    pub text_passes : (ws : List Text) (text : Text) → IsSub name (one name id) → IsLineOf name ws (text ∷ [])
         → (rows : List Row) × (fault_of command_line ws ≡ []) × (subcommand_of command_line ws ≡ Some (name, rows)) × (first_of id rows ≡ Some text)
     text_passes ws text sub h =
-        let got = passes h.behind text h.text_behind in (
+        let got = passes h.behind text h.texts_behind in (
           found (one name id) start h.behind,
           ap (λ x. fault_of command_line x) h.named ∙ line_fault name (one name id) h.behind sub ∙ got.0,
           ap (λ x. subcommand_of command_line x) h.named ∙ line_found name (one name id) h.behind sub,

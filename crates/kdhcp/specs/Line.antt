@@ -1,9 +1,9 @@
--- The lines of the program in plain words. A subcommand that wants a text is written `show HEX`, where
--- `--` may stand before HEX or behind it, and HEX is no flag unless `--` stands before it; one that
--- wants none is written `replay`, where `--` may stand behind it.
-use Rattle.std.specs.Prelude.{◌≡◌, ◌⊎◌, ◌==◌, Bool, false, List, [], ◌∷◌, codes}
+-- The lines of the program in plain words: a subcommand and the texts that it wants, as `show HEX`,
+-- `eval PROGRAM DATAGRAM` or `replay`. `--` may stand before any of the texts or behind them, and a text is
+-- no flag unless `--` stands before it. The flag of `eval` may stand anywhere but behind `--`.
+use Rattle.std.specs.Prelude.{◌≡◌, ◌⊎◌, ◌==◌, Bool, false, List, [], ◌∷◌, ◌++◌, codes}
 use Rattle.clap.specs.Words.{Text}
-use Rattle.kdhcp.specs.Order.{Asked, shows, types, verifies, replays}
+use Rattle.kdhcp.specs.Order.{Asked, shows, types, compiles, verifies, evaluates, tests, replays}
 
 -- a flag is a hyphen with more behind it
 abbrev pub is_flag : Text → Bool
@@ -11,36 +11,45 @@ is_flag [] = false
 is_flag (b ∷ []) = false
 is_flag (b ∷ c ∷ rest) = b == 45
 
--- the words are this text alone, but for `--`
-abbrev pub IsText : List Text → Text → Type 0
-IsText words text = ((words ≡ text ∷ []) × (is_flag text ≡ false)) ⊎ ((words
-    ≡ codes "--" ∷ text ∷ []) ⊎ ((words ≡ text ∷ codes "--" ∷ []) × (is_flag text ≡ false)))
+-- the words are these texts, but for `--`
+abbrev pub AreTexts : List Text → List Text → Type 0
+AreTexts words [] = (words ≡ []) ⊎ (words ≡ codes "--" ∷ [])
+AreTexts words (text ∷ texts) = (words ≡ codes "--" ∷ text ∷ texts)
+    ⊎ ((rest : List Text) × (words ≡ text ∷ rest) × (is_flag text ≡ false) × AreTexts rest texts)
 
--- the words are this subcommand with this text
-pub record IsTextLine (name : Text) (words : List Text) (text : Text) : Type 0 where
+-- the words are this subcommand with these texts
+pub record IsLineOf (name : Text) (words texts : List Text) : Type 0 where
   pub behind : List Text
   pub named : words ≡ name ∷ behind
-  pub text_behind : IsText behind text
-
--- the words are this subcommand alone, but for `--`
-abbrev pub IsBareLine : Text → List Text → Type 0
-IsBareLine name words = (words ≡ name ∷ []) ⊎ (words ≡ name ∷ codes "--" ∷ [])
-
--- the words are a line that asks for this
-abbrev pub IsLine : List Text → Asked → Type 0
-IsLine words (shows hex) = IsTextLine (codes "show") words hex
-IsLine words (types text) = IsTextLine (codes "expr") words text
-IsLine words (verifies hex) = IsTextLine (codes "verify") words hex
-IsLine words replays = IsBareLine (codes "replay") words
-
--- the names of the subcommands
-abbrev pub subcommands : List Text
-subcommands = codes "show" ∷ codes "expr" ∷ codes "verify" ∷ codes "replay" ∷ []
+  pub texts_behind : AreTexts behind texts
 
 -- the word is one of these
 abbrev pub IsOneOf : Text → List Text → Type 0
 IsOneOf word [] = ⊥
 IsOneOf word (name ∷ names) = (word ≡ name) ⊎ IsOneOf word names
+
+-- the words are this subcommand with these texts and, not behind `--`, the flag `--text`
+pub record IsFlaggedLine (name : Text) (words texts : List Text) : Type 0 where
+  pub before : List Text
+  pub after : List Text
+  pub named : words ≡ name ∷ (before ++ codes "--text" ∷ after)
+  pub no_dashes : IsOneOf (codes "--") before → ⊥
+  pub texts_behind : AreTexts (before ++ after) texts
+
+-- the words are a line that asks for this
+abbrev pub IsLine : List Text → Asked → Type 0
+IsLine words (shows hex) = IsLineOf (codes "show") words (hex ∷ [])
+IsLine words (types text) = IsLineOf (codes "expr") words (text ∷ [])
+IsLine words (compiles text) = IsLineOf (codes "compile") words (text ∷ [])
+IsLine words (verifies hex) = IsLineOf (codes "verify") words (hex ∷ [])
+IsLine words (evaluates program datagram) = IsLineOf (codes "eval") words (program ∷ datagram ∷ [])
+IsLine words (tests text datagram) = IsFlaggedLine (codes "eval") words (text ∷ datagram ∷ [])
+IsLine words replays = IsLineOf (codes "replay") words []
+
+-- the names of the subcommands
+abbrev pub subcommands : List Text
+subcommands =
+    codes "show" ∷ codes "expr" ∷ codes "compile" ∷ codes "verify" ∷ codes "eval" ∷ codes "replay" ∷ []
 
 -- the flag that asks for help
 abbrev pub IsHelpFlag : Text → Type 0

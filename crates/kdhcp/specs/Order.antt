@@ -1,18 +1,20 @@
 -- The orders of the command line, over what the crate `clap` makes of a command line and words: the
 -- command line itself, which words give which order, and the numbers of the faults.
-use Rattle.std.specs.Prelude.{◌≡◌, ◌≢◌, ℕ, true, List, [], Option, Some, None, Result}
+use Rattle.std.specs.Prelude.{◌≡◌, ◌≢◌, ℕ, Bool, true, false, List, [], Option, Some, None, Result}
 use Rattle.std.specs.Prelude.{Ok, Err, codes, option_and_then, option_map, if◌then◌else◌}
+use Rattle.std.specs.Option.{option_map_or}
 use Rattle.std.specs.Str.{bytes_eq}
 use Rattle.std.specs.String.{string_bytes}
 use Rattle.clap.specs.Words.{App, IsAmong, Row, Rule, Text, fault_of, first_of, new_app, new_rule}
 use Rattle.clap.specs.Words.{subcommand_of, with_rule, with_subcommand}
 use Rattle.clap.specs.Simple.{on_top}
+use Rattle.clap.specs.declared.builder.action.ArgAction.TheVariants.{SetTrue}
 use Rattle.clap.specs.declared.error.kind.ErrorKind.{ErrorKind}
 use Rattle.clap.specs.declared.error.kind.ErrorKind.TheVariants.{DisplayHelp}
 use Rattle.kdhcp.specs.declared.order.LineFault.{LineFault}
 use Rattle.kdhcp.specs.declared.order.LineFault.TheVariants.{CommandLine, Memory}
 use Rattle.kdhcp.specs.declared.order.Order.{Order}
-use Rattle.kdhcp.specs.declared.order.Order.TheVariants.{Help, Show, Expr, Verify, Replay}
+use Rattle.kdhcp.specs.declared.order.Order.TheVariants.{Help, Show, Expr, Compile, Verify, Eval, EvalText, Replay}
 
 -- the number that a fault is printed with
 abbrev pub fault_number : LineFault → ℕ
@@ -24,6 +26,10 @@ fault_number Memory = 91
 -- an argument that has to be there
 abbrev pub needed : Text → Rule
 needed id = record (new_rule id) { required = true }
+
+-- a flag
+abbrev pub flag : Text → Rule
+flag name = record (new_rule name) { long = Some name; action = Some SetTrue }
 
 -- a subcommand with one argument, which has to be there
 abbrev pub text_line : Text → Text → App
@@ -37,9 +43,19 @@ show_line = text_line (codes "show") (codes "HEX")
 abbrev pub expr_line : App
 expr_line = text_line (codes "expr") (codes "TEXT")
 
+-- `compile TEXT`
+abbrev pub compile_line : App
+compile_line = text_line (codes "compile") (codes "TEXT")
+
 -- `verify HEX`
 abbrev pub verify_line : App
 verify_line = text_line (codes "verify") (codes "HEX")
+
+-- `eval [--text] PROGRAM DATAGRAM`
+abbrev pub eval_line : App
+eval_line =
+    with_rule (with_rule (with_rule (new_app (codes "eval")) (flag (codes "text"))) (needed (codes "PROGRAM")))
+    (needed (codes "DATAGRAM"))
 
 -- `replay`
 abbrev pub replay_line : App
@@ -53,8 +69,9 @@ program_line = on_top (λ s. record s { no_binary_name = true; subcommand_requir
 -- the whole command line
 abbrev pub command_line : App
 command_line =
-    with_subcommand (with_subcommand (with_subcommand (with_subcommand program_line show_line.top) expr_line.top)
-    verify_line.top) replay_line.top
+    with_subcommand (with_subcommand (with_subcommand (with_subcommand (with_subcommand
+    (with_subcommand program_line show_line.top) expr_line.top) compile_line.top) verify_line.top) eval_line.top)
+    replay_line.top
 
 -- ---- what the words ask for
 
@@ -64,18 +81,36 @@ pub data Asked : Type 0 where
   shows : Text → Asked
   -- the number of nodes of the class test in this text
   types : Text → Asked
+  -- the token file of the program of the class test in this text
+  compiles : Text → Asked
   -- whether the program of the token file in this text is accepted
   verifies : Text → Asked
+  -- the run of the program of the token file in the one text over the datagram in the other
+  evaluates : Text → Text → Asked
+  -- the run of the program of the class test in the one text over the datagram in the other
+  tests : Text → Text → Asked
   -- the events of standard input, replayed
   replays : Asked
+
+-- a flag was given, by its value
+abbrev pub is_flagged : Option Text → Bool
+is_flagged value = option_map_or (λ v. bytes_eq v (codes "true")) value false
+
+-- what two texts ask `eval` for, where both are there, with the flag's value
+abbrev pub evaluation_of : Option Text → Option Text → Option Text → Option Asked
+evaluation_of value program datagram =
+    option_and_then (λ p. option_map (λ d. if is_flagged value then tests p d else evaluates p d) datagram) program
 
 -- what the subcommand of this name asks for, with these matches
 abbrev pub asked_by : Text → List Row → Option Asked
 asked_by name rows =
     if bytes_eq name (codes "show") then option_map (λ hex. shows hex) (first_of (codes "HEX") rows)
     else (if bytes_eq name (codes "expr") then option_map (λ text. types text) (first_of (codes "TEXT") rows)
+    else (if bytes_eq name (codes "compile") then option_map (λ text. compiles text) (first_of (codes "TEXT") rows)
     else (if bytes_eq name (codes "verify") then option_map (λ hex. verifies hex) (first_of (codes "HEX") rows)
-    else (if bytes_eq name (codes "replay") then Some replays else None)))
+    else (if bytes_eq name (codes "eval")
+    then evaluation_of (first_of (codes "text") rows) (first_of (codes "PROGRAM") rows) (first_of (codes "DATAGRAM") rows)
+    else (if bytes_eq name (codes "replay") then Some replays else None)))))
 
 -- the same of the subcommand that was entered, if one was
 abbrev pub asked_of : Option (Text × List Row) → Option Asked
@@ -100,7 +135,10 @@ abbrev pub AsksFor : List Text → Order → Type 0
 AsksFor words (Help text) = IsHelp words
 AsksFor words (Show hex) = Asks words (shows (string_bytes hex))
 AsksFor words (Expr text) = Asks words (types (string_bytes text))
+AsksFor words (Compile text) = Asks words (compiles (string_bytes text))
 AsksFor words (Verify hex) = Asks words (verifies (string_bytes hex))
+AsksFor words (Eval program datagram) = Asks words (evaluates (string_bytes program) (string_bytes datagram))
+AsksFor words (EvalText text datagram) = Asks words (tests (string_bytes text) (string_bytes datagram))
 AsksFor words Replay = Asks words replays
 
 -- the words have this fault; memory may run out at any words
@@ -113,7 +151,10 @@ abbrev pub given_by : Order → Option Asked
 given_by (Help text) = None
 given_by (Show hex) = Some (shows (string_bytes hex))
 given_by (Expr text) = Some (types (string_bytes text))
+given_by (Compile text) = Some (compiles (string_bytes text))
 given_by (Verify hex) = Some (verifies (string_bytes hex))
+given_by (Eval program datagram) = Some (evaluates (string_bytes program) (string_bytes datagram))
+given_by (EvalText text datagram) = Some (tests (string_bytes text) (string_bytes datagram))
 given_by Replay = Some replays
 
 -- the answer gives what was asked, or memory ran out

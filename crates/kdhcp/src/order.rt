@@ -20,10 +20,29 @@ pub enum Order {
         /// The class test, as the word gives it.
         text: String,
     },
+    /// The token file of the program of one class test.
+    Compile {
+        /// The class test, as the word gives it.
+        text: String,
+    },
     /// Whether the program of one token file is accepted.
     Verify {
         /// The file's bytes, as the word gives them.
         hex: String,
+    },
+    /// The run of the program of one token file over one datagram.
+    Eval {
+        /// The file's bytes, as the word gives them.
+        program: String,
+        /// The datagram's bytes, as the word gives them.
+        datagram: String,
+    },
+    /// The run of the program of one class test over one datagram.
+    EvalText {
+        /// The class test, as the word gives it.
+        text: String,
+        /// The datagram's bytes, as the word gives them.
+        datagram: String,
     },
     /// The events of standard input, replayed.
     Replay,

@@ -1,17 +1,19 @@
-ghost use Rattle.std.specs.Prelude.{◌≡◌, ◌↔◌, IfErr, IfOk, codes, false, map, option_map};
+ghost use Rattle.std.specs.Prelude.{◌≡◌, ◌↔◌, IfErr, IfOk, Some, codes, false, if◌then◌else◌, map, option_map};
 ghost use Rattle.std.specs.String.{string_bytes};
 ghost use Rattle.clap.specs.Words.{app_of, first_value, found_of, kind_of};
-ghost use Rattle.clap.specs.Words.{subcommand_rows_of};
+ghost use Rattle.clap.specs.Words.{rule_of, subcommand_rows_of};
 ghost use Rattle.clap.specs.declared.builder.command.Command.TheViews.{out-Command};
 ghost use Rattle.kdhcp.specs.Line.{IsHelpLine, IsLine};
 ghost use Rattle.kdhcp.specs.Order.{Asked, Asks, AsksFor, GivesUnlessFull, HasFault};
-ghost use Rattle.kdhcp.specs.Order.{HelpsUnlessFull, asked_of, command_line, replay_line};
-ghost use Rattle.kdhcp.specs.Order.{expr_line, show_line, shows, types, verifies, verify_line};
+ghost use Rattle.kdhcp.specs.Order.{HelpsUnlessFull, asked_of, command_line, program_line, replay_line};
+ghost use Rattle.kdhcp.specs.Order.{compile_line, eval_line, expr_line, show_line, verify_line};
+ghost use Rattle.kdhcp.specs.Order.{compiles, evaluates, evaluation_of, flag, given_by, is_flagged, needed};
+ghost use Rattle.kdhcp.specs.Order.{shows, tests, types, verifies};
 ghost use Rattle.kdhcp.specs.Steps.{AnswersKind, GivesIfThere};
 
 use crate::order::{LineFault, Order};
 use clap::error::ErrorKind;
-use clap::{Arg, ArgMatches, Command};
+use clap::{Arg, ArgAction, ArgMatches, Command};
 use std::alloc::{AllocError, Global};
 
 /// The order that the words give, which are those behind the program's name.
@@ -39,15 +41,23 @@ pub fn order(alloc: Global, words: &[String]) -> Result<Order, LineFault>
 fn kdhcp<'a>(alloc: Global) -> Result<Command<'a>, AllocError>
     ensures { IfOk result (λ c. app_of c ≡ command_line) }
 {
-    Command::new(alloc, "kdhcp")
-        .about("A DHCPv4 server that replays what it is sent")
-        .bin_name("kdhcp")?
-        .no_binary_name(true)
-        .subcommand_required(true)
+    program(alloc)?
         .subcommand(show(alloc)?)?
         .subcommand(expr(alloc)?)?
+        .subcommand(compile(alloc)?)?
         .subcommand(verify(alloc)?)?
+        .subcommand(eval(alloc)?)?
         .subcommand(replay(alloc))
+}
+
+// The command line before its subcommands.
+fn program<'a>(alloc: Global) -> Result<Command<'a>, AllocError>
+    ensures { IfOk result (λ c. app_of c ≡ program_line) }
+{
+    let named = Command::new(alloc, "kdhcp")
+        .about("A DHCPv4 server that replays what it is sent")
+        .bin_name("kdhcp")?;
+    Ok(named.no_binary_name(true).subcommand_required(true))
 }
 
 // `show HEX`.
@@ -68,12 +78,25 @@ fn expr<'a>(alloc: Global) -> Result<Command<'a>, AllocError>
     ensures app { IfOk result (λ c. app_of c ≡ expr_line) }
     ensures local { IfOk result (λ c. (out-Command c).has_globals ≡ false) }
 {
-    let text = Arg::new(alloc, "TEXT")
+    let class_test = Arg::new(alloc, "TEXT")
         .help("A class test in Kea's expression language")
         .required(true);
     Command::new(alloc, "expr")
         .about("Read and type one class test, and print how many nodes it has")
-        .arg(text)
+        .arg(class_test)
+}
+
+// `compile TEXT`.
+fn compile<'a>(alloc: Global) -> Result<Command<'a>, AllocError>
+    ensures app { IfOk result (λ c. app_of c ≡ compile_line) }
+    ensures local { IfOk result (λ c. (out-Command c).has_globals ≡ false) }
+{
+    let test = Arg::new(alloc, "TEXT")
+        .help("A class test in Kea's expression language")
+        .required(true);
+    Command::new(alloc, "compile")
+        .about("Compile one class test, and print the token file of its program")
+        .arg(test)
 }
 
 // `verify HEX`.
@@ -87,6 +110,49 @@ fn verify<'a>(alloc: Global) -> Result<Command<'a>, AllocError>
     Command::new(alloc, "verify")
         .about("Verify the program of one token file, and print what it declares")
         .arg(file)
+}
+
+// An argument that has to be there.
+fn needed<'a>(alloc: Global, id: &'a str, help: &'a str) -> Arg<'a>
+    ensures rule { rule_of result ≡ needed id.entry.now }
+    ensures help { result.help ≡ Some help.entry }
+    ensures local { result.global ≡ false }
+{
+    Arg::new(alloc, id).help(help).required(true)
+}
+
+// `--text`.
+fn text_flag<'a>(alloc: Global) -> Arg<'a>
+    ensures rule { rule_of result ≡ flag (codes "text") }
+    ensures local { result.global ≡ false }
+{
+    Arg::new(alloc, "text")
+        .long("text")
+        .help("Take PROGRAM as a class test in Kea's expression language")
+        .action(ArgAction::SetTrue)
+}
+
+// `eval [--text] PROGRAM DATAGRAM`.
+fn eval<'a>(alloc: Global) -> Result<Command<'a>, AllocError>
+    ensures app { IfOk result (λ c. app_of c ≡ eval_line) }
+    ensures local { IfOk result (λ c. (out-Command c).has_globals ≡ false) }
+{
+    let text = text_flag(alloc);
+    let program = needed(
+        alloc,
+        "PROGRAM",
+        "The bytes of a token file, two hexadecimal digits each",
+    );
+    let datagram = needed(
+        alloc,
+        "DATAGRAM",
+        "The bytes of a datagram, two hexadecimal digits each",
+    );
+    Command::new(alloc, "eval")
+        .about("Run one program over one datagram, and print its truth value")
+        .arg(text)?
+        .arg(program)?
+        .arg(datagram)
 }
 
 // `replay`.
@@ -104,7 +170,9 @@ fn asked_for(alloc: Global, matches: &ArgMatches<'_>) -> Result<Order, LineFault
     match matches.subcommand() {
         Some(("show", inner)) => shown(alloc, inner),
         Some(("expr", inner)) => typed(alloc, inner),
+        Some(("compile", inner)) => compiled(alloc, inner),
         Some(("verify", inner)) => verified(alloc, inner),
+        Some(("eval", inner)) => evaluated(alloc, inner),
         Some(("replay", _)) => Ok(Order::Replay),
         _ => Err(LineFault::CommandLine),
     }
@@ -132,6 +200,18 @@ fn typed(alloc: Global, matches: &ArgMatches<'_>) -> Result<Order, LineFault>
     }
 }
 
+// What matches of `compile` ask for.
+fn compiled(alloc: Global, matches: &ArgMatches<'_>) -> Result<Order, LineFault>
+    ensures { GivesIfThere (option_map (λ text. compiles text)
+        (first_value (found_of matches.now) (codes "TEXT"))) result }
+{
+    let text = text_of(alloc, matches, "TEXT")?;
+    match text {
+        Some(text) => Ok(Order::Compile { text }),
+        None => Err(LineFault::CommandLine),
+    }
+}
+
 // What matches of `verify` ask for.
 fn verified(alloc: Global, matches: &ArgMatches<'_>) -> Result<Order, LineFault>
     ensures { GivesIfThere (option_map (λ hex. verifies hex)
@@ -140,6 +220,47 @@ fn verified(alloc: Global, matches: &ArgMatches<'_>) -> Result<Order, LineFault>
     match text_of(alloc, matches, "HEX")? {
         Some(hex) => Ok(Order::Verify { hex }),
         None => Err(LineFault::CommandLine),
+    }
+}
+
+// What matches of `eval` ask for.
+fn evaluated(alloc: Global, matches: &ArgMatches<'_>) -> Result<Order, LineFault>
+    ensures { GivesIfThere (evaluation_of (first_value (found_of matches.now) (codes "text"))
+        (first_value (found_of matches.now) (codes "PROGRAM"))
+        (first_value (found_of matches.now) (codes "DATAGRAM"))) result }
+{
+    let is_text = is_flagged(matches.get_str("text"));
+    match text_of(alloc, matches, "PROGRAM")? {
+        Some(program) => match text_of(alloc, matches, "DATAGRAM")? {
+            Some(datagram) => Ok(evaluation(is_text, program, datagram)),
+            None => Err(LineFault::CommandLine),
+        },
+        None => Err(LineFault::CommandLine),
+    }
+}
+
+// The order of `eval`: its first text is a class test or a token file.
+fn evaluation(is_text: bool, program: String, datagram: String) -> Order
+    ensures { given_by result ≡ Some (if is_text then tests (string_bytes program) (string_bytes datagram)
+        else evaluates (string_bytes program) (string_bytes datagram)) }
+{
+    if is_text {
+        Order::EvalText {
+            text: program,
+            datagram,
+        }
+    } else {
+        Order::Eval { program, datagram }
+    }
+}
+
+// Whether a flag was given, by its value.
+fn is_flagged(value: Option<&str>) -> bool
+    ensures { result ≡ is_flagged (option_map (λ s. s.now) value.entry) }
+{
+    match value {
+        Some(text) => text == "true",
+        None => false,
     }
 }
 

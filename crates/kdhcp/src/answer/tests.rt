@@ -2,6 +2,9 @@ use super::samples::SAMPLES;
 use super::*;
 use std::test::Fail;
 
+mod compile;
+mod eval;
+mod eval_text;
 mod expr;
 mod verify;
 
@@ -285,6 +288,8 @@ fn each_fault_has_its_exit_status(rt: HostRuntime) {
     for (number, status) in [
         (1, 3),
         (9, 3),
+        (51, 3),
+        (54, 3),
         (80, 4),
         (81, 4),
         (89, 3),

@@ -65,6 +65,71 @@ fn verify_has_its_text(rt: HostRuntime) {
 }
 
 #[test]
+fn compile_has_its_text(rt: HostRuntime) {
+    let rows: [(&[&str], &str); 5] = [
+        (&["compile", "option[60].exists"], "option[60].exists"),
+        (&["compile", "not a class test"], "not a class test"),
+        (&["compile", "--", "-1 == 1"], "-1 == 1"),
+        (&["compile", "'a' == 'a'", "--"], "'a' == 'a'"),
+        (&["compile", ""], ""),
+    ];
+    for (words, wanted) in rows {
+        match read(&rt, words) {
+            Ok(Order::Compile { text }) => assert_eq!(rt; text.as_str(), wanted),
+            other => panic!(rt; "{words:?}: {other:?}"),
+        }
+    }
+}
+
+#[test]
+fn eval_has_its_texts(rt: HostRuntime) {
+    let rows: [(&[&str], &str, &str); 9] = [
+        (&["eval", "4b34", "0101"], "4b34", "0101"),
+        (&["eval", "no hexadecimal", ""], "no hexadecimal", ""),
+        (&["eval", "--", "-a", "-b"], "-a", "-b"),
+        (&["eval", "4b", "--", "-b"], "4b", "-b"),
+        (&["eval", "4b", "01", "--"], "4b", "01"),
+        (&["eval", "--", "--", "01"], "--", "01"),
+        (&["eval", "show", "eval"], "show", "eval"),
+        (&["eval", "--", "--text", "01"], "--text", "01"),
+        (&["eval", "4b", "--", "--text"], "4b", "--text"),
+    ];
+    for (words, first, second) in rows {
+        match read(&rt, words) {
+            Ok(Order::Eval { program, datagram }) => {
+                assert_eq!(rt; program.as_str(), first);
+                assert_eq!(rt; datagram.as_str(), second);
+            }
+            other => panic!(rt; "{words:?}: {other:?}"),
+        }
+    }
+}
+
+#[test]
+fn eval_has_its_flag(rt: HostRuntime) {
+    let rows: [(&[&str], &str, &str); 9] = [
+        (&["eval", "--text", "'a' == 'a'", "01"], "'a' == 'a'", "01"),
+        (&["eval", "'a' == 'a'", "--text", "01"], "'a' == 'a'", "01"),
+        (&["eval", "'a' == 'a'", "01", "--text"], "'a' == 'a'", "01"),
+        (&["eval", "--text", "--", "-1 == 1", "-b"], "-1 == 1", "-b"),
+        (&["eval", "a", "--text", "--", "-b"], "a", "-b"),
+        (&["eval", "--text", "a", "--", "-b"], "a", "-b"),
+        (&["eval", "a", "b", "--text", "--"], "a", "b"),
+        (&["eval", "--text", "", ""], "", ""),
+        (&["eval", "--text", "--", "--text", "01"], "--text", "01"),
+    ];
+    for (words, first, second) in rows {
+        match read(&rt, words) {
+            Ok(Order::EvalText { text, datagram }) => {
+                assert_eq!(rt; text.as_str(), first);
+                assert_eq!(rt; datagram.as_str(), second);
+            }
+            other => panic!(rt; "{words:?}: {other:?}"),
+        }
+    }
+}
+
+#[test]
 fn replay_is_an_order(rt: HostRuntime) {
     let rows: [&[&str]; 2] = [&["replay"], &["replay", "--"]];
     for words in rows {
@@ -77,7 +142,7 @@ fn replay_is_an_order(rt: HostRuntime) {
 
 #[test]
 fn help_is_an_order(rt: HostRuntime) {
-    let rows: [(&[&str], &str); 18] = [
+    let rows: [(&[&str], &str); 24] = [
         (&["--help"], "Usage: kdhcp <COMMAND>"),
         (&["-h"], "Usage: kdhcp <COMMAND>"),
         (&["help"], "Usage: kdhcp <COMMAND>"),
@@ -89,9 +154,27 @@ fn help_is_an_order(rt: HostRuntime) {
         (&["expr", "--help"], "Usage: kdhcp expr <TEXT>"),
         (&["expr", "-h"], "Usage: kdhcp expr <TEXT>"),
         (&["expr", "a", "--help"], "Usage: kdhcp expr <TEXT>"),
+        (&["help", "compile"], "Usage: kdhcp compile <TEXT>"),
+        (&["compile", "--help"], "Usage: kdhcp compile <TEXT>"),
+        (
+            &["eval", "--text", "-h"],
+            "Usage: kdhcp eval [OPTIONS] <PROGRAM> <DATAGRAM>",
+        ),
         (&["help", "verify"], "Usage: kdhcp verify <HEX>"),
         (&["verify", "--help"], "Usage: kdhcp verify <HEX>"),
         (&["verify", "a", "-h"], "Usage: kdhcp verify <HEX>"),
+        (
+            &["help", "eval"],
+            "Usage: kdhcp eval [OPTIONS] <PROGRAM> <DATAGRAM>",
+        ),
+        (
+            &["eval", "--help"],
+            "Usage: kdhcp eval [OPTIONS] <PROGRAM> <DATAGRAM>",
+        ),
+        (
+            &["eval", "a", "b", "-h"],
+            "Usage: kdhcp eval [OPTIONS] <PROGRAM> <DATAGRAM>",
+        ),
         (&["help", "replay"], "Usage: kdhcp replay"),
         (&["replay", "--help"], "Usage: kdhcp replay"),
         (&["replay", "-h"], "Usage: kdhcp replay"),
@@ -107,7 +190,7 @@ fn help_is_an_order(rt: HostRuntime) {
 
 #[test]
 fn other_words_are_a_mistake(rt: HostRuntime) {
-    let rows: [&[&str]; 27] = [
+    let rows: [&[&str]; 47] = [
         &[],
         &["--", "show", "a"],
         &["--help=yes"],
@@ -124,6 +207,26 @@ fn other_words_are_a_mistake(rt: HostRuntime) {
         &["verify", "4b", "34"],
         &["verify", "-a"],
         &["verify", "--nope"],
+        &["eval"],
+        &["eval", "4b"],
+        &["eval", "--", "4b"],
+        &["eval", "4b", "--"],
+        &["eval", "4b", "01", "02"],
+        &["eval", "4b", "--", "01", "--"],
+        &["eval", "4b", "-a"],
+        &["eval", "4b", "--nope", "01"],
+        &["eval", "--text", "4b"],
+        &["eval", "--text", "4b", "01", "02"],
+        &["eval", "--text", "4b", "--text", "01"],
+        &["eval", "--text=true", "4b", "01"],
+        &["eval", "--tex", "4b", "01"],
+        &["eval", "-t", "4b", "01"],
+        &["eval", "4b", "01", "--", "--text"],
+        &["--text", "eval", "4b", "01"],
+        &["compile"],
+        &["compile", "option[60].exists", "and"],
+        &["compile", "-1 == 1"],
+        &["compile", "--text", "'a' == 'a'"],
         &["--nope"],
         &["nope"],
         &["--version"],

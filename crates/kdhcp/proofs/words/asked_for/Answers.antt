@@ -1,6 +1,6 @@
 use Rattle.std.proofs.Common.{refl, codes}
-use Rattle.kdhcp.specs.Order.{shows, types, verifies}
-use Rattle.kdhcp.proofs.Orders.{at_text}
+use Rattle.kdhcp.specs.Order.{compiles, shows, types, verifies}
+use Rattle.kdhcp.proofs.Orders.{at_eval, at_text}
 use Rattle.kdhcp.proofs.words.asked_for.Goals as goal
 
 pub returns-in-Some-show-default : goal.returns-in-Some-show-default
@@ -15,8 +15,19 @@ returns-in-Some-expr-default c =
     at_text c.args.matches.now c.in-Some-expr-default.inner.now _ (codes "expr") (codes "TEXT") (λ text. types text) c.typed.result e.name e.rows
     c.in-Some-expr-default.is-expr refl c.typed.ensures
 
+pub returns-in-Some-compile-default : goal.returns-in-Some-compile-default
+returns-in-Some-compile-default c =
+    let e = c.in-Some-compile-default.ensures in
+    at_text c.args.matches.now c.in-Some-compile-default.inner.now _ (codes "compile") (codes "TEXT") (λ text. compiles text) c.compiled.result e.name e.rows
+    c.in-Some-compile-default.is-compile refl c.compiled.ensures
+
 pub returns-in-Some-verify-default : goal.returns-in-Some-verify-default
 returns-in-Some-verify-default c =
     let e = c.in-Some-verify-default.ensures in
     at_text c.args.matches.now c.in-Some-verify-default.inner.now _ (codes "verify") (codes "HEX") (λ hex. verifies hex) c.verified.result e.name e.rows
     c.in-Some-verify-default.is-verify refl c.verified.ensures
+
+pub returns-in-Some-eval-default : goal.returns-in-Some-eval-default
+returns-in-Some-eval-default c =
+    let e = c.in-Some-eval-default.ensures in
+    at_eval c.args.matches.now c.in-Some-eval-default.inner.now _ c.evaluated.result e.name e.rows c.in-Some-eval-default.is-eval c.evaluated.ensures
