@@ -39,7 +39,7 @@ over : (tree : Tree) (program : Code) (m : Seen) (p : Printed) → OneEnd → Is
 over tree program m p one compiled is h =
     let held = base_names (value_of 60 m.options) in
     let kept = compiled.keeps m held is in
-    let value : h.value ≡ truth m held tree = (one program m held h.value (truth m held tree) h.steps kept.0 h.depth kept.1 h.longest kept.2 h.run kept.3).0 in
+    let value : h.value ≡ truth m held tree = (one program m held h.value (truth m held tree) h.steps kept.0 h.depth kept.1 h.longest kept.2 h.run kept.3.0).0 in
     record {
       program = program;
       compiled = compiled;
