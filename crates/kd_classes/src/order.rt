@@ -56,11 +56,7 @@ fn asks_known(definition: &ClassDef, earlier: &[ClassDef]) -> bool
 }
 
 // The definition at an index is in order.
-fn check_at(
-    index: usize,
-    definition: &ClassDef,
-    definitions: &[ClassDef],
-) -> Result<(), ClassFault>
+fn check_at(index: usize, definition: &ClassDef, definitions: &[ClassDef]) -> Result<(), ClassFault>
     requires there { slice_get definitions.now index ≡ Some definition.now }
     ensures { MatchResult result (λ _. IsInOrder (take index definitions.now) definition.now) (λ fault. IsFaultOf index (take index definitions.now) definition.now fault) }
 {

@@ -164,12 +164,7 @@ fn are(held: &Held, names: &[&[u8]]) -> bool {
 
 // Whether a message with these options holds these names, in this order, and no others, where these
 // classes are defined.
-fn holds(
-    alloc: Global,
-    rows: &[Row<'_>],
-    options: &[u8],
-    names: &[&[u8]],
-) -> Result<bool, Fault> {
+fn holds(alloc: Global, rows: &[Row<'_>], options: &[u8], names: &[&[u8]]) -> Result<bool, Fault> {
     let bytes = datagram(alloc, options)?;
     let message = Message::read(alloc, &bytes)?;
     let held = classes(alloc, rows)?.held(alloc, &message)?;

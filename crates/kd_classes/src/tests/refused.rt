@@ -33,7 +33,12 @@ fn a_member_is_known_behind_its_definition(rt: HostRuntime) -> Result<(), Fail> 
         ),
         // known through a definition that comes second of three
         (
-            &[(b"A", b""), (b"B", b""), (b"C", b""), (b"D", b"member('B')")],
+            &[
+                (b"A", b""),
+                (b"B", b""),
+                (b"C", b""),
+                (b"D", b"member('B')"),
+            ],
             Ok(4),
         ),
         // the first of two such definitions is named
@@ -104,7 +109,10 @@ fn a_name_that_no_token_uses_must_be_known(rt: HostRuntime) -> Result<(), Fail> 
     let mut some = definitions(rt.alloc(), &[(b"A", b"")])?;
     let test = program_in(rt.alloc(), TWO_NAMES)?;
     define(rt.alloc(), &mut some, b"B", test)?;
-    assert_eq!(rt; Classes::new(some).err(), Some(ClassFault::UnknownMember(1)));
+    assert_eq!(rt;
+        Classes::new(some).err(),
+        Some(ClassFault::UnknownMember(1))
+    );
     let mut all = definitions(rt.alloc(), &[(b"A", b""), (b"X", b"")])?;
     let test = program_in(rt.alloc(), TWO_NAMES)?;
     define(rt.alloc(), &mut all, b"B", test)?;
@@ -112,22 +120,20 @@ fn a_name_that_no_token_uses_must_be_known(rt: HostRuntime) -> Result<(), Fail> 
     Ok(())
 }
 
-// So many definitions of different names, each behind `front`.
-fn numbered(alloc: Global, count: usize, front: &[u8]) -> Result<Vec<ClassDef>, AllocError> {
+// So many definitions, each named by its number.
+fn numbered(alloc: Global, count: u16) -> Result<Vec<ClassDef>, AllocError> {
     let mut list = Vec::new(alloc);
     for number in 0..count {
-        let mut name = Vec::from_slice(alloc, front)?;
-        name.extend_from_slice(&(number as u16).to_be_bytes())?;
-        define(alloc, &mut list, &name, None)?;
+        define(alloc, &mut list, &number.to_be_bytes(), None)?;
     }
     Ok(list)
 }
 
 #[test]
 fn there_are_at_most_256_definitions(rt: HostRuntime) -> Result<(), Fail> {
-    let most = Classes::new(numbered(rt.alloc(), 256, b"")?);
+    let most = Classes::new(numbered(rt.alloc(), 256)?);
     assert_eq!(rt; most.map(|classes| classes.len()), Ok(256));
-    let over = Classes::new(numbered(rt.alloc(), 257, b"")?);
+    let over = Classes::new(numbered(rt.alloc(), 257)?);
     assert_eq!(rt; over.err(), Some(ClassFault::TooMany));
     // before any other fault
     let mut same = Vec::new(rt.alloc());
