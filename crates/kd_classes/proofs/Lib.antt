@@ -1,1 +1,3 @@
 pub mod Left
+pub mod OneHeld
+pub mod AcceptedHeld

@@ -6,7 +6,8 @@ use Rattle.kd_machine.specs.Held.{base_names, with_name}
 use Rattle.kd_machine.specs.Run.{Run}
 use Rattle.kd_options.specs.Joined.{value_of}
 use Rattle.kd_options.specs.Message.{Seen}
-use Rattle.kd_token.specs.File.{Code}
+use Rattle.kd_token.specs.Accepts.{Accepts}
+use Rattle.kd_token.specs.File.{Code, HasFile}
 
 -- a run of a program over a message with names held gives this truth value
 abbrev pub Gives : Code → Seen → List (List ℕ) → Bool → Type 0
@@ -29,3 +30,12 @@ JoinInOrder message (def ∷ defs) held names = (more : List (List ℕ)) × Join
 -- the names of the classes that a message is in, by definitions in order
 abbrev pub HeldSet : Seen → List ClassDef → List (List ℕ) → Type 0
 HeldSet message defs names = JoinInOrder message defs (base_names (value_of 60 message.options)) names
+
+-- a test that is an accepted program, or none
+abbrev pub IsAcceptedTest : Option Code → Type 0
+IsAcceptedTest None = Unit {0}
+IsAcceptedTest (Some program) = HasFile program × Accepts program
+
+-- a definition's test is an accepted program, where it has one
+abbrev pub IsAccepted : ClassDef → Type 0
+IsAccepted def = IsAcceptedTest def.test
