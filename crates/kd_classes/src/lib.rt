@@ -4,8 +4,8 @@
 //! What this layer promises to the one above: `Classes::new` takes definitions exactly where each has a name
 //! of its own and asks for names that are known where it stands, and answers the first fault otherwise
 //! (`specs/Order.antt`). `Classes::held` answers the names that a message holds after all definitions, each
-//! tested over the names held before it (`specs/HeldSet.antt`). `laws` says that every message has such names,
-//! and has them in one way only.
+//! tested over the names held before it (`specs/HeldSet.antt`). `laws` says that definitions in order have no
+//! fault, that others have one first fault at most, and that every message has one list of names.
 #![tactic(auto)]
 
 mod classes;
