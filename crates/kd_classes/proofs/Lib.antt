@@ -1,0 +1,4 @@
+pub mod Left
+pub mod OneHeld
+pub mod AcceptedHeld
+pub mod OneFault

@@ -1,0 +1,5 @@
+use Rattle.kd_classes.proofs.OneHeld.{one_held}
+use Rattle.kd_classes.proofs.laws.one_held.Goals as goal
+
+pub returns : goal.returns
+returns c = one_held

@@ -1,0 +1,29 @@
+ghost use Rattle.std.specs.Prelude.{◌≡◌, ℕ, List};
+ghost use Rattle.std.specs.List.{AllByRecursion};
+ghost use Rattle.kd_classes.specs.HeldSet.{HeldSet, IsAccepted};
+ghost use Rattle.kd_classes.specs.Order.{AreInOrder, IsFirstFault};
+ghost use Rattle.kd_classes.specs.declared.definition.ClassDef.{ClassDef};
+ghost use Rattle.kd_classes.specs.declared.fault.ClassFault.{ClassFault};
+ghost use Rattle.kd_options.specs.Message.{IsMessage, Seen};
+
+/// Definitions in order have no fault.
+pub fn no_fault()
+    ensures { (defs : List ClassDef) (fault : ClassFault) → AreInOrder defs → IsFirstFault defs fault → ⊥ }
+{}
+
+/// Definitions have one first fault.
+pub fn one_fault()
+    ensures { (defs : List ClassDef) (fault other : ClassFault) → IsFirstFault defs fault → IsFirstFault defs other → fault ≡ other }
+{}
+
+/// Definitions whose tests are accepted programs give every message the names of its classes.
+pub fn accepted_held()
+    ensures { (message : Seen) (defs : List ClassDef) → IsMessage message → AllByRecursion IsAccepted defs
+        → (names : List (List ℕ)) × HeldSet message defs names }
+{}
+
+/// Definitions give a message one list of names.
+pub fn one_held()
+    ensures { (message : Seen) (defs : List ClassDef) (names others : List (List ℕ)) → HeldSet message defs names → HeldSet message defs others
+        → names ≡ others }
+{}
