@@ -3,8 +3,6 @@ mod options;
 mod refused;
 
 use crate::{ClassDef, ClassFault, Classes, OptionList};
-use kd_compile::{CompileFault, compile};
-use kd_expr::{ExprFault, TypeFault, read, type_of};
 use kd_machine::Held;
 use kd_options::{Message, ReadFault};
 use kd_token::{FileFault, Program, Verified, VerifyFault, verify};
@@ -16,9 +14,6 @@ use std::alloc::{AllocError, Global};
 enum Fault {
     Memory,
     Message(ReadFault),
-    Reading(ExprFault),
-    Typing(TypeFault),
-    Compiling(CompileFault),
     File(FileFault),
     Program(VerifyFault),
     Classes(ClassFault),
@@ -35,24 +30,6 @@ impl From<ReadFault> for Fault {
         match fault {
             ReadFault::Memory => Fault::Memory,
             _ => Fault::Message(fault),
-        }
-    }
-}
-
-impl From<ExprFault> for Fault {
-    fn from(fault: ExprFault) -> Fault {
-        match fault {
-            ExprFault::Memory => Fault::Memory,
-            _ => Fault::Reading(fault),
-        }
-    }
-}
-
-impl From<CompileFault> for Fault {
-    fn from(fault: CompileFault) -> Fault {
-        match fault {
-            CompileFault::Memory => Fault::Memory,
-            _ => Fault::Compiling(fault),
         }
     }
 }
@@ -81,18 +58,68 @@ impl From<ClassFault> for Fault {
     }
 }
 
-// A class's name and the text of its test; an empty text is none.
-type Row<'a> = (&'a [u8], &'a [u8]);
+// A class's test.
+#[derive(Clone, Copy)]
+enum Test<'a> {
+    Absent,
+    // option 60 is `kd`
+    Vendor,
+    // option 60 in lower case and a `1` are `kd1`
+    LowerVendor,
+    // option 61 is present
+    Client,
+    Member(&'a [u8]),
+    NotMember(&'a [u8]),
+    // a member of the first class and not of the second
+    FirstAlone(&'a [u8], &'a [u8]),
+}
 
-// The program of a test's text, none of an empty one.
-fn test_of(alloc: Global, text: &[u8]) -> Result<Option<Verified>, Fault> {
-    if text.is_empty() {
-        return Ok(None);
+// A class's name and its test.
+type Row<'a> = (&'a [u8], Test<'a>);
+
+// The program of a test, if it is there.
+fn test_of(alloc: Global, test: Test<'_>) -> Result<Option<Verified>, Fault> {
+    match test {
+        Test::Absent => Ok(None),
+        Test::Vendor => program_of(alloc, &[], 3, b"\x03\x3c\x01\x00\x02kd\x09"),
+        Test::LowerVendor => {
+            program_of(
+                alloc,
+                &[],
+                6,
+                b"\x03\x3c\x11\x01\x00\x011\x0f\x01\x00\x03kd1\x09",
+            )
+        }
+        Test::Client => program_of(alloc, &[], 1, b"\x06\x3d"),
+        Test::Member(name) => program_of(alloc, &[name], 1, b"\x08\x00"),
+        Test::NotMember(name) => program_of(alloc, &[name], 2, b"\x08\x00\x0a"),
+        Test::FirstAlone(first, second) => {
+            program_of(alloc, &[first, second], 4, b"\x08\x00\x08\x01\x0a\x0b")
+        }
     }
-    match type_of(read(alloc, text)?) {
-        Ok(typed) => Ok(Some(compile(alloc, &typed)?)),
-        Err((fault, _expr)) => Err(Fault::Typing(fault)),
+}
+
+// A size as one byte; 255 stands for greater ones, which no test has.
+fn size_byte(size: usize) -> u8 {
+    u8::try_from(size).unwrap_or(u8::MAX)
+}
+
+// The program of these names and so many tokens, which declares all that a program may.
+fn program_of(
+    alloc: Global,
+    names: &[&[u8]],
+    count: u16,
+    tokens: &[u8],
+) -> Result<Option<Verified>, Fault> {
+    let mut file = Vec::from_slice(alloc, b"K4TK\x01\x04\x00\x40\xff\xff")?;
+    file.extend_from_slice(&[size_byte(names.len())])?;
+    for name in names {
+        file.extend_from_slice(&[size_byte(name.len())])?;
+        file.extend_from_slice(name)?;
     }
+    file.extend_from_slice(&count.to_be_bytes())?;
+    file.extend_from_slice(tokens)?;
+    program_in(alloc, &file)
 }
 
 // The program of a token file.
@@ -121,8 +148,8 @@ fn define(
 // The definitions of rows.
 fn definitions(alloc: Global, rows: &[Row<'_>]) -> Result<Vec<ClassDef>, Fault> {
     let mut list = Vec::new(alloc);
-    for (name, text) in rows {
-        let test = test_of(alloc, text)?;
+    for (name, test) in rows {
+        let test = test_of(alloc, *test)?;
         define(alloc, &mut list, name, test)?;
     }
     Ok(list)

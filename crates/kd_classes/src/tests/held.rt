@@ -1,11 +1,11 @@
-use super::{DISCOVER, Fault, Row, classes, holds};
+use super::{DISCOVER, Fault, Row, Test, classes, holds};
 use std::test::Fail;
 
 // `DROP` is a name as each other.
 const WORKED: [Row<'_>; 3] = [
-    (b"A", b"option[60].hex == 'kd'"),
-    (b"B", b"member('A')"),
-    (b"DROP", b"member('B')"),
+    (b"A", Test::Vendor),
+    (b"B", Test::Member(b"A")),
+    (b"DROP", Test::Member(b"B")),
 ];
 
 #[test]
@@ -26,41 +26,41 @@ fn names_join_in_the_order_of_their_definitions(rt: HostRuntime) -> Result<(), F
         // a test that is false comes between
         (
             &[
-                (b"Z", b"member('ALL')"),
-                (b"Y", b"option[61].exists"),
-                (b"X", b"member('Z') and not member('Y')"),
+                (b"Z", Test::Member(b"ALL")),
+                (b"Y", Test::Client),
+                (b"X", Test::FirstAlone(b"Z", b"Y")),
             ],
             &[b"ALL", b"VENDOR_CLASS_kd", b"Z", b"X"],
         ),
         // a class without a test is known and has no members
         (
-            &[(b"A", b""), (b"B", b"not member('A')")],
+            &[(b"A", Test::Absent), (b"B", Test::NotMember(b"A"))],
             &[b"ALL", b"VENDOR_CLASS_kd", b"B"],
         ),
         // names that are held already
         (
             &[
-                (b"VENDOR_CLASS_kd", b"member('ALL')"),
-                (b"ALL", b"member('ALL')"),
+                (b"VENDOR_CLASS_kd", Test::Member(b"ALL")),
+                (b"ALL", Test::Member(b"ALL")),
             ],
             &[b"ALL", b"VENDOR_CLASS_kd"],
         ),
         // a built-in name whose definition's test is false
         (
-            &[(b"ALL", b"option[61].exists"), (b"A", b"member('ALL')")],
+            &[(b"ALL", Test::Client), (b"A", Test::Member(b"ALL"))],
             &[b"ALL", b"VENDOR_CLASS_kd", b"A"],
         ),
         // another vendor's name joins by its definition
         (
             &[
-                (b"VENDOR_CLASS_x", b"member('VENDOR_CLASS_kd')"),
-                (b"A", b"member('VENDOR_CLASS_x')"),
+                (b"VENDOR_CLASS_x", Test::Member(b"VENDOR_CLASS_kd")),
+                (b"A", Test::Member(b"VENDOR_CLASS_x")),
             ],
             &[b"ALL", b"VENDOR_CLASS_kd", b"VENDOR_CLASS_x", b"A"],
         ),
         // and does not without one
         (
-            &[(b"A", b"member('VENDOR_CLASS_x')")],
+            &[(b"A", Test::Member(b"VENDOR_CLASS_x"))],
             &[b"ALL", b"VENDOR_CLASS_kd"],
         ),
     ];
@@ -75,9 +75,9 @@ fn names_join_in_the_order_of_their_definitions(rt: HostRuntime) -> Result<(), F
 #[test]
 fn want_of_memory_is_answered_as_such(rt: HostRuntime) -> Result<(), Fail> {
     let rows: [Row<'_>; 3] = [
-        (b"A", b"lcase(option[60].hex) + '1' == 'kd1'"),
-        (b"B", b""),
-        (b"C", b"member('A') and not member('B')"),
+        (b"A", Test::LowerVendor),
+        (b"B", Test::Absent),
+        (b"C", Test::FirstAlone(b"A", b"B")),
     ];
     let names: [&[u8]; 4] = [b"ALL", b"VENDOR_CLASS_kd", b"A", b"C"];
     let first = holds(rt.alloc(), &rows, DISCOVER, &names);
@@ -90,7 +90,7 @@ fn want_of_memory_is_answered_as_such(rt: HostRuntime) -> Result<(), Fail> {
 fn a_definition_stands_at_its_index(rt: HostRuntime) -> Result<(), Fail> {
     let classes = classes(rt.alloc(), &WORKED)?;
     assert_eq!(rt; classes.len(), 3);
-    for (index, (name, _text)) in WORKED.iter().enumerate() {
+    for (index, (name, _test)) in WORKED.iter().enumerate() {
         let found = classes.def_at(index).map(|def| def.name.as_slice());
         assert_eq!(rt; found, Some(*name));
     }

@@ -1,4 +1,4 @@
-use super::{Fault, Row, count, define, definitions, program_in};
+use super::{Fault, Row, Test, count, define, definitions, program_in};
 use crate::{ClassDef, ClassFault, Classes};
 use std::alloc::{AllocError, Global};
 use std::test::Fail;
@@ -20,30 +20,33 @@ fn a_member_is_known_behind_its_definition(rt: HostRuntime) -> Result<(), Fail> 
         (&[], Ok(0)),
         // the definition comes later, is its own, or is nowhere
         (
-            &[(b"B", b"member('A')"), (b"A", b"option[60].hex == 'kd'")],
+            &[(b"B", Test::Member(b"A")), (b"A", Test::Vendor)],
             unknown(0),
         ),
-        (&[(b"A", b"member('A')")], unknown(0)),
-        (&[(b"A", b""), (b"B", b"member('C')")], unknown(1)),
-        (&[(b"A", b""), (b"B", b"member('A')")], Ok(2)),
+        (&[(b"A", Test::Member(b"A"))], unknown(0)),
+        (
+            &[(b"A", Test::Absent), (b"B", Test::Member(b"C"))],
+            unknown(1),
+        ),
+        (&[(b"A", Test::Absent), (b"B", Test::Member(b"A"))], Ok(2)),
         // one known name and one that is not
         (
-            &[(b"A", b""), (b"B", b"member('A') or member('a')")],
+            &[(b"A", Test::Absent), (b"B", Test::FirstAlone(b"A", b"a"))],
             unknown(1),
         ),
         // known through a definition that comes second of three
         (
             &[
-                (b"A", b""),
-                (b"B", b""),
-                (b"C", b""),
-                (b"D", b"member('B')"),
+                (b"A", Test::Absent),
+                (b"B", Test::Absent),
+                (b"C", Test::Absent),
+                (b"D", Test::Member(b"B")),
             ],
             Ok(4),
         ),
         // the first of two such definitions is named
         (
-            &[(b"A", b"member('X')"), (b"B", b"member('Y')")],
+            &[(b"A", Test::Member(b"X")), (b"B", Test::Member(b"Y"))],
             unknown(0),
         ),
     ];
@@ -56,14 +59,14 @@ fn a_member_is_known_behind_its_definition(rt: HostRuntime) -> Result<(), Fail> 
 #[test]
 fn built_in_names_are_known(rt: HostRuntime) -> Result<(), Fail> {
     let table: [(&[Row<'_>], Answer); 8] = [
-        (&[(b"A", b"member('ALL')")], Ok(1)),
-        (&[(b"A", b"member('VENDOR_CLASS_kd')")], Ok(1)),
-        (&[(b"A", b"member('VENDOR_CLASS_')")], Ok(1)),
-        (&[(b"A", b"member('VENDOR_CLASS')")], unknown(0)),
-        (&[(b"A", b"member('VENDOR_CLASSES')")], unknown(0)),
-        (&[(b"A", b"member('xVENDOR_CLASS_kd')")], unknown(0)),
-        (&[(b"A", b"member('ALLES')")], unknown(0)),
-        (&[(b"A", b"member('all')")], unknown(0)),
+        (&[(b"A", Test::Member(b"ALL"))], Ok(1)),
+        (&[(b"A", Test::Member(b"VENDOR_CLASS_kd"))], Ok(1)),
+        (&[(b"A", Test::Member(b"VENDOR_CLASS_"))], Ok(1)),
+        (&[(b"A", Test::Member(b"VENDOR_CLASS"))], unknown(0)),
+        (&[(b"A", Test::Member(b"VENDOR_CLASSES"))], unknown(0)),
+        (&[(b"A", Test::Member(b"xVENDOR_CLASS_kd"))], unknown(0)),
+        (&[(b"A", Test::Member(b"ALLES"))], unknown(0)),
+        (&[(b"A", Test::Member(b"all"))], unknown(0)),
     ];
     for (rows, want) in table {
         assert_eq!(rt; count(rt.alloc(), rows), want);
@@ -74,25 +77,63 @@ fn built_in_names_are_known(rt: HostRuntime) -> Result<(), Fail> {
 #[test]
 fn a_name_is_defined_once(rt: HostRuntime) -> Result<(), Fail> {
     let table: [(&[Row<'_>], Answer); 7] = [
-        (&[(b"A", b""), (b"B", b""), (b"A", b"")], duplicate(2)),
         (
-            &[(b"A", b""), (b"B", b""), (b"B", b""), (b"A", b"")],
+            &[
+                (b"A", Test::Absent),
+                (b"B", Test::Absent),
+                (b"A", Test::Absent),
+            ],
+            duplicate(2),
+        ),
+        (
+            &[
+                (b"A", Test::Absent),
+                (b"B", Test::Absent),
+                (b"B", Test::Absent),
+                (b"A", Test::Absent),
+            ],
             duplicate(2),
         ),
         // at one index, and at a later one
         (
-            &[(b"A", b""), (b"A", b"member('X')"), (b"B", b"")],
+            &[
+                (b"A", Test::Absent),
+                (b"A", Test::Member(b"X")),
+                (b"B", Test::Absent),
+            ],
             duplicate(1),
         ),
         (
-            &[(b"A", b""), (b"B", b"member('X')"), (b"A", b"")],
+            &[
+                (b"A", Test::Absent),
+                (b"B", Test::Member(b"X")),
+                (b"A", Test::Absent),
+            ],
             unknown(1),
         ),
         // names are equal byte for byte
-        (&[(b"A", b""), (b"a", b""), (b"AA", b""), (b"", b"")], Ok(4)),
+        (
+            &[
+                (b"A", Test::Absent),
+                (b"a", Test::Absent),
+                (b"AA", Test::Absent),
+                (b"", Test::Absent),
+            ],
+            Ok(4),
+        ),
         // built-in names may be defined, once
-        (&[(b"ALL", b""), (b"VENDOR_CLASS_kd", b"")], Ok(2)),
-        (&[(b"ALL", b""), (b"A", b""), (b"ALL", b"")], duplicate(2)),
+        (
+            &[(b"ALL", Test::Absent), (b"VENDOR_CLASS_kd", Test::Absent)],
+            Ok(2),
+        ),
+        (
+            &[
+                (b"ALL", Test::Absent),
+                (b"A", Test::Absent),
+                (b"ALL", Test::Absent),
+            ],
+            duplicate(2),
+        ),
     ];
     for (rows, want) in table {
         assert_eq!(rt; count(rt.alloc(), rows), want);
@@ -106,14 +147,14 @@ const TWO_NAMES: &[u8] = b"K4TK\x01\x00\x01\x01\x00\x00\x02\x01A\x01X\x00\x01\x0
 // No token of the program uses its names.
 #[test]
 fn a_name_that_no_token_uses_must_be_known(rt: HostRuntime) -> Result<(), Fail> {
-    let mut some = definitions(rt.alloc(), &[(b"A", b"")])?;
+    let mut some = definitions(rt.alloc(), &[(b"A", Test::Absent)])?;
     let test = program_in(rt.alloc(), TWO_NAMES)?;
     define(rt.alloc(), &mut some, b"B", test)?;
     assert_eq!(rt;
         Classes::new(some).err(),
         Some(ClassFault::UnknownMember(1))
     );
-    let mut all = definitions(rt.alloc(), &[(b"A", b""), (b"X", b"")])?;
+    let mut all = definitions(rt.alloc(), &[(b"A", Test::Absent), (b"X", Test::Absent)])?;
     let test = program_in(rt.alloc(), TWO_NAMES)?;
     define(rt.alloc(), &mut all, b"B", test)?;
     assert!(rt; Classes::new(all).is_ok());
