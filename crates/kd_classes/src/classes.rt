@@ -1,0 +1,98 @@
+ghost use Rattle.std.specs.Prelude.{◌≡◌, IfErr, IfOk, IsOk, length, option_copied, slice_get};
+ghost use Rattle.kd_classes.specs.HeldSet.{HeldSet, Joins};
+ghost use Rattle.kd_classes.specs.Order.{AreInOrder, IsFirstFault};
+
+use crate::definition::ClassDef;
+use crate::fault::ClassFault;
+use crate::order::check;
+use kd_machine::{Held, eval};
+use kd_options::Message;
+use std::alloc::{AllocError, Global};
+use std::marker::Model;
+
+/// Definitions of classes in order: at most 256, each with a name of its own, each with a test that asks
+/// for known names alone.
+#[derive(Debug, Drop)]
+pub struct Classes {
+    definitions: Vec<ClassDef>,
+}
+
+impl Model for Classes {
+    ghost use Rattle.std.specs.Prelude.{List};
+    ghost use Rattle.kd_classes.specs.Order.{AreInOrder};
+    ghost use Rattle.kd_classes.specs.declared.definition.ClassDef.{ClassDef};
+
+    ghost Value = { List ClassDef };
+
+    ghost view = { λ c. c.definitions.items };
+
+    ghost invariant = { λ c. AreInOrder c.definitions.items };
+}
+
+impl Classes {
+    /// The classes of these definitions, which it keeps: no memory is taken. On an error the definitions
+    /// are dropped.
+    ///
+    /// # Errors
+    ///
+    /// `TooMany` over 256 definitions; then the first fault in their order, at one of them `Duplicate`
+    /// before `UnknownMember`.
+    pub fn new(definitions: Vec<ClassDef>) -> Result<Classes, ClassFault>
+        ensures kept { IfOk result (λ c. c ≡ definitions.items) }
+        ensures ordered { IfOk result (λ _. AreInOrder definitions.items) }
+        ensures refused { IfErr result (λ fault. IsFirstFault definitions.items fault) }
+        ensures only { AreInOrder definitions.items → IsOk result }
+    {
+        check(&definitions)?;
+        Ok(Classes { definitions })
+    }
+
+    /// The names of the classes that a message is in: those before any definition, then in order each
+    /// definition's whose test's run over the names held so far ends with true. Takes memory for the names
+    /// and for the values of the runs.
+    ///
+    /// # Errors
+    ///
+    /// There is no memory for them.
+    pub fn held(&self, alloc: Global, message: &Message<'_>) -> Result<Held, AllocError>
+        ensures { IfOk result (λ names. HeldSet message.now self.now names) }
+    {
+        let mut names = Held::base(alloc, message)?;
+        'definitions: for definition in &self.definitions {
+            join(alloc, definition, message, &mut names)?;
+        }
+        Ok(names)
+    }
+
+    /// How many definitions there are, at most 256.
+    pub fn len(&self) -> usize
+        ensures count { result ≡ length self.now }
+        ensures ordered { AreInOrder self.now }
+    {
+        self.definitions.len()
+    }
+
+    /// The definition at an index.
+    pub fn def_at(&self, index: usize) -> Option<&ClassDef>
+        ensures { option_copied result ≡ slice_get self.now index }
+    {
+        self.definitions.get(index)
+    }
+}
+
+// A definition's name joins those held where its test's run ends with true.
+fn join(
+    alloc: Global,
+    definition: &ClassDef,
+    message: &Message<'_>,
+    names: &mut Held,
+) -> Result<(), AllocError>
+    ensures { IfOk result (λ _. Joins message.now definition.now names.old names.new) }
+{
+    if let Some(test) = &definition.test {
+        if eval(alloc, test, message, names)?.value {
+            names.add(definition.name.as_slice())?;
+        }
+    }
+    Ok(())
+}

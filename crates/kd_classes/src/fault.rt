@@ -1,0 +1,33 @@
+ghost use Rattle.std.specs.Prelude.{◌≡◌};
+ghost use Rattle.kd_classes.specs.Order.{class_fault_number};
+
+use thiserror::Error;
+
+/// Why definitions of classes are refused: the first fault in their order. The payload is the index of the
+/// definition.
+#[derive(Clone, Copy, Debug, PartialEq, Eq, Error)]
+pub enum ClassFault {
+    /// An earlier definition has the same name.
+    #[error("Duplicate {0}")]
+    Duplicate(usize),
+    /// The test asks for a name that no earlier definition has, that is not `ALL` and does not begin with
+    /// `VENDOR_CLASS_`.
+    #[error("UnknownMember {0}")]
+    UnknownMember(usize),
+    /// There are more than 256 definitions.
+    #[error("TooMany")]
+    TooMany,
+}
+
+impl ClassFault {
+    /// The fault's number, 60 to 62.
+    pub fn number(self) -> u8
+        ensures { result ≡ class_fault_number self }
+    {
+        match self {
+            ClassFault::Duplicate(_) => 60,
+            ClassFault::UnknownMember(_) => 61,
+            ClassFault::TooMany => 62,
+        }
+    }
+}

@@ -1,0 +1,21 @@
+//! Client classes: definitions in order, and the names of the classes that a message is in (Kea Administrator
+//! Reference Manual, chapter Client Classification).
+//!
+//! What this layer promises to the one above: `Classes::new` takes definitions exactly where each has a name
+//! of its own and asks for names that are known where it stands, and answers the first fault otherwise
+//! (`specs/Order.antt`). `Classes::held` answers the names that a message holds after all definitions, each
+//! tested over the names held before it (`specs/HeldSet.antt`).
+#![tactic(auto)]
+
+mod classes;
+mod definition;
+mod fault;
+mod option_list;
+mod order;
+#[cfg(test)]
+mod tests;
+
+pub use classes::Classes;
+pub use definition::ClassDef;
+pub use fault::ClassFault;
+pub use option_list::{OptionData, OptionList};

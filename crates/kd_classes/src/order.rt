@@ -1,0 +1,88 @@
+ghost use Rattle.std.specs.Prelude.{◌≡◌, not, take, MatchResult, Some, slice_get};
+ghost use Rattle.std.specs.List.{list_all};
+ghost use Rattle.kd_classes.specs.Order.{AreInOrder, IsFaultOf, IsFirstFault, IsInOrder, asked, is_built_in, is_known, is_named};
+
+use crate::definition::ClassDef;
+use crate::fault::ClassFault;
+use kd_token::Program;
+
+// Whether one of these definitions has a name.
+fn is_named(name: &[u8], definitions: &[ClassDef]) -> bool
+    ensures { result ≡ is_named name.now definitions.now }
+{
+    definitions.iter().any(|def| name == def.name.as_slice())
+}
+
+// Whether a name is built in: a message can have it before any definition.
+fn is_built_in(name: &[u8]) -> bool
+    ensures { result ≡ is_built_in name.now }
+{
+    name == b"ALL".as_slice() || name.starts_with(b"VENDOR_CLASS_")
+}
+
+// Whether a name is known behind these definitions.
+fn is_known(name: &[u8], earlier: &[ClassDef]) -> bool
+    ensures { result ≡ is_known earlier.now name.now }
+{
+    is_built_in(name) || is_named(name, earlier)
+}
+
+// Whether each name of a program is known behind these definitions.
+#[tactic(auto, using(crate::proofs::Left::passes_at, crate::proofs::Left::fails_at, crate::proofs::Left::ends_at))]
+fn are_known(program: &Program, earlier: &[ClassDef]) -> bool
+    ensures { result ≡ list_all (is_known earlier.now) program.now.names }
+{
+    // a program has at most 64 names
+    let _limits = program.tokens();
+    'names: for at in 0..64 {
+        let Some(name) = program.name_at(at) else {
+            return true;
+        };
+        if !is_known(name, earlier) {
+            return false;
+        }
+    }
+    true
+}
+
+// Whether each name that a definition asks for is known behind these definitions.
+fn asks_known(definition: &ClassDef, earlier: &[ClassDef]) -> bool
+    ensures { result ≡ list_all (is_known earlier.now) (asked definition.now) }
+{
+    match &definition.test {
+        Some(test) => are_known(test.program(), earlier),
+        None => true,
+    }
+}
+
+// The definition at an index is in order.
+fn check_at(
+    index: usize,
+    definition: &ClassDef,
+    definitions: &[ClassDef],
+) -> Result<(), ClassFault>
+    requires there { slice_get definitions.now index ≡ Some definition.now }
+    ensures { MatchResult result (λ _. IsInOrder (take index definitions.now) definition.now) (λ fault. IsFaultOf index (take index definitions.now) definition.now fault) }
+{
+    let earlier = &definitions[..index];
+    if is_named(definition.name.as_slice(), earlier) {
+        Err(ClassFault::Duplicate(index))
+    } else if asks_known(definition, earlier) {
+        Ok(())
+    } else {
+        Err(ClassFault::UnknownMember(index))
+    }
+}
+
+// Whether definitions are in order.
+pub(crate) fn check(definitions: &[ClassDef]) -> Result<(), ClassFault>
+    ensures { MatchResult result (λ _. AreInOrder definitions.now) (λ fault. IsFirstFault definitions.now fault) }
+{
+    if definitions.len() > 256 {
+        return Err(ClassFault::TooMany);
+    }
+    'definitions: for (index, definition) in definitions.iter().enumerate() {
+        check_at(index, definition, definitions)?;
+    }
+    Ok(())
+}
