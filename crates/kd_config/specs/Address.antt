@@ -6,12 +6,8 @@ use Rattle.kd_expr.specs.Address.{is_digit}
 use Rattle.kd_expr.specs.Lexing as lexing
 use Rattle.kd_expr.specs.Lexing.{behind_of}
 use Rattle.kd_config.specs.declared.prefix.Prefix.{Prefix}
+use Rattle.kd_config.specs.Steps.{◌>>=◌}
 use Rattle.kd_config.specs.declared.range.Range.{Range}
-
--- one step after another, where each may give nothing
-infixl 10 ◌>>=◌
-abbrev pub ◌>>=◌ : {A B : Type 0} → Option A → (A → Option B) → Option B
-o >>= f = option_and_then f o
 
 -- the address that a text spells, as a number
 unfoldable pub address_of : List ℕ → Option ℕ

@@ -5,11 +5,17 @@
 #![tactic(auto)]
 
 mod address;
+mod fault;
 mod hex_text;
+mod place;
 mod prefix;
 mod range;
+mod reservation;
 #[cfg(test)]
 mod tests;
+mod values;
 
+pub use fault::ConfigFault;
 pub use prefix::Prefix;
 pub use range::Range;
+pub use reservation::{Identity, Reservation};
