@@ -8,7 +8,7 @@ use Rattle.serde_json.specs.Find.{as_object, get}
 use Rattle.serde_json.specs.View.{members_view}
 use Rattle.serde_json.specs.declared.value.Value.{Value}
 use Rattle.kd_config.specs.Parts.{is_one_of, is_there}
-use Rattle.kd_config.specs.Steps.{only_if}
+use Rattle.kd_config.specs.Steps.{must}
 use Rattle.kd_config.specs.Values.{is_key, are_known, is_object_of, has_keys}
 
 one_of_is : (known : List (Bor (List ℕ))) (key : List ℕ) → is_key (map (λ (k : Bor (List ℕ)). k.now) known) key ≡ is_one_of known key
@@ -68,21 +68,21 @@ one_missing d (k ∷ required) key e =
   by behind (inr later) = inr (behind later)
 
 -- what a test of keys comes to
-keys_are : (known required : List (List ℕ)) (d : Data) (members : Option Members) (a b : Bool) → members ≡ as_object d → is_object_of known members ≡ a → list_all (λ key. is_some (get key d)) required ≡ b → ◌≡◌ {A = Option (Unit {0})} (only_if (has_keys known required d) tt) (only_if (a && b) tt)
+keys_are : (known required : List (List ℕ)) (d : Data) (members : Option Members) (a b : Bool) → members ≡ as_object d → is_object_of known members ≡ a → list_all (λ key. is_some (get key d)) required ≡ b → must (has_keys known required d) ≡ must (a && b)
 unfolding has_keys
 keys_are known required d members a b e f g = rw (← e, f, g) refl
 
 -- a key is not known
-pub refused_unknown : (known required : List (Bor (List ℕ))) (d : Data) (entries : List (String Global × Value)) (key : String Global) → Some (members_view entries) ≡ as_object d → Some key ≡ find (λ k. not (is_one_of known (string_bytes k))) (map (λ m. m.0) entries) → ◌≡◌ {A = Option (Unit {0})} (only_if (has_keys (map (λ (k : Bor (List ℕ)). k.now) known) (map (λ (k : Bor (List ℕ)). k.now) required) d) tt) None
+pub refused_unknown : (known required : List (Bor (List ℕ))) (d : Data) (entries : List (String Global × Value)) (key : String Global) → Some (members_view entries) ≡ as_object d → Some key ≡ find (λ k. not (is_one_of known (string_bytes k))) (map (λ m. m.0) entries) → must (has_keys (map (λ (k : Bor (List ℕ)). k.now) known) (map (λ (k : Bor (List ℕ)). k.now) required) d) ≡ None
 refused_unknown known required d entries key e f =
     keys_are (map (λ (k : Bor (List ℕ)). k.now) known) (map (λ (k : Bor (List ℕ)). k.now) required) d (Some (members_view entries)) false (list_all (λ key. is_some (get key d)) (map (λ (k : Bor (List ℕ)). k.now) required)) e (one_unknown known entries key f) refl
 
 -- a required key is missing
-pub refused_missing : (known required : List (Bor (List ℕ))) (d : Data) (entries : List (String Global × Value)) (key : Bor (List ℕ)) → Some (members_view entries) ≡ as_object d → None ≡ find (λ k. not (is_one_of known (string_bytes k))) (map (λ m. m.0) entries) → Some key ≡ find (λ k. not (is_there d k)) required → ◌≡◌ {A = Option (Unit {0})} (only_if (has_keys (map (λ (k : Bor (List ℕ)). k.now) known) (map (λ (k : Bor (List ℕ)). k.now) required) d) tt) None
+pub refused_missing : (known required : List (Bor (List ℕ))) (d : Data) (entries : List (String Global × Value)) (key : Bor (List ℕ)) → Some (members_view entries) ≡ as_object d → None ≡ find (λ k. not (is_one_of known (string_bytes k))) (map (λ m. m.0) entries) → Some key ≡ find (λ k. not (is_there d k)) required → must (has_keys (map (λ (k : Bor (List ℕ)). k.now) known) (map (λ (k : Bor (List ℕ)). k.now) required) d) ≡ None
 refused_missing known required d entries key e f g =
     keys_are (map (λ (k : Bor (List ℕ)). k.now) known) (map (λ (k : Bor (List ℕ)). k.now) required) d (Some (members_view entries)) true false e (all_known known entries f) (one_missing d required key g)
 
 -- all keys are as they should be
-pub accepted : (known required : List (Bor (List ℕ))) (d : Data) (entries : List (String Global × Value)) → Some (members_view entries) ≡ as_object d → None ≡ find (λ k. not (is_one_of known (string_bytes k))) (map (λ m. m.0) entries) → None ≡ find (λ k. not (is_there d k)) required → ◌≡◌ {A = Option (Unit {0})} (only_if (has_keys (map (λ (k : Bor (List ℕ)). k.now) known) (map (λ (k : Bor (List ℕ)). k.now) required) d) tt) (Some tt)
+pub accepted : (known required : List (Bor (List ℕ))) (d : Data) (entries : List (String Global × Value)) → Some (members_view entries) ≡ as_object d → None ≡ find (λ k. not (is_one_of known (string_bytes k))) (map (λ m. m.0) entries) → None ≡ find (λ k. not (is_there d k)) required → must (has_keys (map (λ (k : Bor (List ℕ)). k.now) known) (map (λ (k : Bor (List ℕ)). k.now) required) d) ≡ (Some tt)
 accepted known required d entries e f g =
     keys_are (map (λ (k : Bor (List ℕ)). k.now) known) (map (λ (k : Bor (List ℕ)). k.now) required) d (Some (members_view entries)) true true e (all_known known entries f) (all_there d required g)

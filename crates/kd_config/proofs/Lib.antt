@@ -1,3 +1,4 @@
 pub mod Addresses
 pub mod Blocks
 pub mod Keys
+pub mod Left

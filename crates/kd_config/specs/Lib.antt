@@ -5,4 +5,7 @@ pub mod Parts
 pub mod Gives
 pub mod Faults
 pub mod Values
+pub mod Lists
+pub mod Options
+pub mod Pool
 pub mod Reservation

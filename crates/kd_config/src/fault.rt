@@ -61,3 +61,13 @@ impl From<AllocError> for ConfigFault {
         ConfigFault::Memory
     }
 }
+
+impl<T: Drop> From<AllocFailed<T>> for ConfigFault {
+    ghost use Rattle.kd_config.specs.declared.fault.ConfigFault.TheVariants.{Memory};
+
+    ghost from_gives = { λ _ e. e ≡ Memory };
+
+    fn from(_error: AllocFailed<T>) -> ConfigFault {
+        ConfigFault::Memory
+    }
+}

@@ -5,9 +5,13 @@
 #![tactic(auto)]
 
 mod address;
+mod entries;
 mod fault;
 mod hex_text;
+mod lists;
+mod options;
 mod place;
+mod pool;
 mod prefix;
 mod range;
 mod reservation;
@@ -15,7 +19,9 @@ mod reservation;
 mod tests;
 mod values;
 
+pub use entries::Entries;
 pub use fault::ConfigFault;
+pub use pool::Pool;
 pub use prefix::Prefix;
 pub use range::Range;
 pub use reservation::{Identity, Reservation};

@@ -1,7 +1,8 @@
 ghost use Rattle.std.specs.Prelude.{◌≡◌};
 ghost use Rattle.serde_json.specs.View.{view};
 ghost use Rattle.kd_config.specs.Gives.{Gives};
-ghost use Rattle.kd_config.specs.Reservation.{identity_of, reservation_of};
+ghost use Rattle.kd_config.specs.Reservation.{has_reservation_keys, identity_of, reservation_of};
+ghost use Rattle.kd_config.specs.Steps.{must};
 
 use crate::fault::ConfigFault;
 use crate::place::{Place, bad_value, missing};
@@ -37,13 +38,7 @@ pub(crate) fn reservation_of(
 ) -> Result<Reservation, ConfigFault>
     ensures { Gives result (reservation_of (view value.now)) }
 {
-    check_keys(
-        alloc,
-        value,
-        at,
-        &["hw-address", "client-id", "ip-address"],
-        &["ip-address"],
-    )?;
+    check_reservation(alloc, value, at)?;
     let hardware = bytes_or_none(alloc, value, at, "hw-address", 16)?;
     let client = bytes_or_none(alloc, value, at, "client-id", 255)?;
     let identity = identity_of(alloc, at, hardware, client)?;
@@ -51,6 +46,15 @@ pub(crate) fn reservation_of(
         return Err(bad_value(alloc, at, "ip-address"));
     };
     Ok(Reservation { identity, address })
+}
+
+// The value is an object with the keys of a reservation.
+#[tactic(auto, unfolding(crate::specs::Reservation::has_reservation_keys))]
+fn check_reservation(alloc: Global, value: &Value, at: &Place<'_>) -> Result<(), ConfigFault>
+    ensures { Gives result (must (has_reservation_keys (view value.now))) }
+{
+    let known = ["hw-address", "client-id", "ip-address"];
+    check_keys(alloc, value, at, &known, &["ip-address"])
 }
 
 // One of the two identities, and not both.

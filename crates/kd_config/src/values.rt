@@ -1,9 +1,9 @@
-ghost use Rattle.std.specs.Prelude.{◌≡◌, map, not, option_map, string_bytes};
+ghost use Rattle.std.specs.Prelude.{◌≡◌, ◌≤◌, IfSome, map, not, option_map, string_bytes};
 ghost use Rattle.std.specs.List.{find};
 ghost use Rattle.serde_json.specs.Find.{get};
 ghost use Rattle.serde_json.specs.View.{view};
 ghost use Rattle.kd_config.specs.Gives.{Gives};
-ghost use Rattle.kd_config.specs.Steps.{only_if};
+ghost use Rattle.kd_config.specs.Steps.{must};
 ghost use Rattle.kd_config.specs.Parts.{is_one_of, is_there};
 ghost use Rattle.kd_config.specs.Values.{address_in, bytes_in, bytes_or_none, has_keys, number_in, number_or, text_or_none};
 
@@ -24,7 +24,7 @@ pub(crate) fn check_keys(
     known: &[&str],
     required: &[&str],
 ) -> Result<(), ConfigFault>
-    ensures { Gives result (only_if (has_keys (map (λ k. k.now) known.now) (map (λ k. k.now) required.now) (view value.now)) tt) }
+    ensures { Gives result (must (has_keys (map (λ k. k.now) known.now) (map (λ k. k.now) required.now) (view value.now))) }
 {
     let Some(members) = value.as_object() else {
         return Err(bad_place(alloc, at));
@@ -66,8 +66,9 @@ fn missing_key<'a>(value: &Value, required: &[&'a str]) -> Option<&'a str>
 
 // A whole number in a range.
 #[tactic(auto, unfolding(crate::specs::Values::number_in))]
-fn number_in(value: &Value, least: u32, most: u32) -> Option<u32>
-    ensures { result ≡ number_in least most (view value.now) }
+pub(crate) fn number_in(value: &Value, least: u32, most: u32) -> Option<u32>
+    ensures spelled { result ≡ number_in least most (view value.now) }
+    ensures within { IfSome result (λ number. number ≤ most) }
 {
     let number = value.as_u64()?;
     if u64::from(least) <= number && number <= u64::from(most) {
