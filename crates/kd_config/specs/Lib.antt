@@ -9,3 +9,6 @@ pub mod Lists
 pub mod Options
 pub mod Pool
 pub mod Reservation
+pub mod Class
+pub mod Subnet
+pub mod Settings

@@ -5,6 +5,7 @@
 #![tactic(auto)]
 
 mod address;
+mod class;
 mod entries;
 mod fault;
 mod hex_text;
@@ -15,8 +16,11 @@ mod pool;
 mod prefix;
 mod range;
 mod reservation;
+mod settings;
+mod subnet;
 #[cfg(test)]
 mod tests;
+mod times;
 mod values;
 
 pub use entries::Entries;
@@ -25,3 +29,5 @@ pub use pool::Pool;
 pub use prefix::Prefix;
 pub use range::Range;
 pub use reservation::{Identity, Reservation};
+pub use subnet::Subnet;
+pub use times::Times;

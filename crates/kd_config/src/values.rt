@@ -1,4 +1,4 @@
-ghost use Rattle.std.specs.Prelude.{◌≡◌, ◌≤◌, IfSome, map, not, option_map, string_bytes};
+ghost use Rattle.std.specs.Prelude.{◌≡◌, ◌≤◌, IfOk, IfSome, map, not, option_map, string_bytes};
 ghost use Rattle.std.specs.List.{find};
 ghost use Rattle.serde_json.specs.Find.{get};
 ghost use Rattle.serde_json.specs.View.{view};
@@ -13,7 +13,7 @@ use crate::hex_text::bytes_of;
 use crate::place::{Place, bad_place, bad_value, missing, unknown};
 use kd_wire::Bytes;
 use serde_json::{Map, Value};
-use std::alloc::Global;
+use std::alloc::{AllocError, Global};
 
 // The value is an object with the known keys alone, and with the required ones.
 #[tactic(auto, unfolding(crate::specs::Values::has_keys))]
@@ -124,5 +124,51 @@ pub(crate) fn bytes_or_none(
     match object.get(key) {
         Some(value) => Ok(Some(bytes_at(alloc, value, &Place::Key(&*at, key), 1, most)?)),
         None => Ok(None),
+    }
+}
+
+// The text of a value at a key, if the key is there.
+pub(crate) fn text_or_none(
+    alloc: Global,
+    object: &Value,
+    at: &Place<'_>,
+    key: &'static str,
+) -> Result<Option<Bytes>, ConfigFault>
+    ensures { Gives result (text_or_none (get key.now (view object.now))) }
+{
+    let Some(value) = object.get(key) else {
+        return Ok(None);
+    };
+    match value.as_str() {
+        Some(text) => Ok(Some(owned(alloc, text.as_bytes())?)),
+        None => Err(bad_value(alloc, at, key)),
+    }
+}
+
+// A copy of bytes.
+pub(crate) fn owned(alloc: Global, bytes: &[u8]) -> Result<Bytes, AllocError>
+    ensures { IfOk result (λ copy. copy ≡ bytes.now) }
+{
+    Ok(Bytes::own(Vec::from_slice(alloc, bytes)?))
+}
+
+// A whole number at a key in a range, or a default where the key is not there.
+pub(crate) fn number_or(
+    alloc: Global,
+    object: &Value,
+    at: &Place<'_>,
+    key: &'static str,
+    least: u32,
+    most: u32,
+    default: u32,
+) -> Result<u32, ConfigFault>
+    ensures { Gives result (number_or least most default (get key.now (view object.now))) }
+{
+    match object.get(key) {
+        Some(value) => match number_in(value, least, most) {
+            Some(number) => Ok(number),
+            None => Err(bad_value(alloc, at, key)),
+        },
+        None => Ok(default),
     }
 }
