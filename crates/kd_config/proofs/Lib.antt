@@ -2,3 +2,4 @@ pub mod Addresses
 pub mod Blocks
 pub mod Keys
 pub mod Left
+pub mod Documents

@@ -12,3 +12,4 @@ pub mod Reservation
 pub mod Class
 pub mod Subnet
 pub mod Settings
+pub mod Document

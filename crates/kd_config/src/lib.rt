@@ -6,6 +6,7 @@
 
 mod address;
 mod class;
+mod document;
 mod entries;
 mod fault;
 mod hex_text;
