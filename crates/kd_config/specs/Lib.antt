@@ -13,3 +13,4 @@ pub mod Class
 pub mod Subnet
 pub mod Settings
 pub mod Document
+pub mod Rules

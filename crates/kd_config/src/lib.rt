@@ -17,6 +17,7 @@ mod pool;
 mod prefix;
 mod range;
 mod reservation;
+mod rules;
 mod settings;
 mod subnet;
 #[cfg(test)]

@@ -1,0 +1,35 @@
+-- Rules over a whole configuration: pools and reserved addresses lie in their subnet's prefix, and no address
+-- is reserved twice.
+use Rattle.std.specs.Prelude.{ℕ, Bool, true, not, ◌&&◌, nat_eq, List, [], ◌∷◌, ◌++◌, map}
+use Rattle.std.specs.List.{list_all, list_any}
+use Rattle.kd_config.specs.Address.{contains}
+use Rattle.kd_config.specs.declared.pool.Pool.{Pool}
+use Rattle.kd_config.specs.declared.prefix.Prefix.{Prefix}
+use Rattle.kd_config.specs.declared.reservation.Reservation.{Reservation}
+use Rattle.kd_config.specs.declared.subnet.Subnet.{Subnet}
+
+-- a pool lies in a prefix
+abbrev pub is_within : Prefix → Pool → Bool
+is_within prefix pool = contains prefix pool.range.first && contains prefix pool.range.last
+
+-- the addresses that reservations keep
+abbrev pub reserved : List Reservation → List ℕ
+reserved reservations = map (λ reservation. reservation.address) reservations
+
+-- a reservation has an address of the prefix that is none of the earlier ones
+abbrev pub may_reserve : Prefix → List ℕ → Reservation → Bool
+may_reserve prefix earlier reservation = contains prefix reservation.address && not (list_any (nat_eq reservation.address) earlier)
+
+-- so has each reservation of a subnet, behind the addresses that are reserved before it
+abbrev pub may_all_reserve : Prefix → List ℕ → List Reservation → Bool
+may_all_reserve prefix earlier [] = true
+may_all_reserve prefix earlier (r ∷ rs) = may_reserve prefix earlier r && may_all_reserve prefix (earlier ++ r.address ∷ []) rs
+
+-- the rules of one subnet, behind the addresses that are reserved before it
+unfoldable pub obeys : List ℕ → Subnet → Bool
+obeys earlier subnet = list_all (is_within subnet.prefix) subnet.pools && may_all_reserve subnet.prefix earlier subnet.reservations
+
+-- the rules of subnets, one after another
+abbrev pub all_obey : List ℕ → List Subnet → Bool
+all_obey earlier [] = true
+all_obey earlier (subnet ∷ subnets) = obeys earlier subnet && all_obey (earlier ++ reserved subnet.reservations) subnets
