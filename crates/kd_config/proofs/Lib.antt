@@ -3,3 +3,4 @@ pub mod Blocks
 pub mod Keys
 pub mod Left
 pub mod Documents
+pub mod Clients

@@ -1,16 +1,40 @@
-ghost use Rattle.std.specs.Prelude.{◌≡◌};
+ghost use Rattle.std.specs.Prelude.{◌≡◌, []};
 ghost use Rattle.serde_json.specs.View.{view};
-ghost use Rattle.kd_config.specs.Document.{value_of, written_settings};
+ghost use Rattle.kd_config.specs.Document.{settings_in, value_of, written_settings};
 ghost use Rattle.kd_config.specs.Gives.{Gives, GivesAs};
+ghost use Rattle.kd_config.specs.Rules.{all_obey};
+ghost use Rattle.kd_config.specs.Steps.{must};
 
 use crate::fault::ConfigFault;
+use crate::place::Place;
+use crate::rules::check_rules;
 use crate::settings::{Settings, root_of};
 use serde_json::Value;
 use std::alloc::Global;
 
+// The settings that a text means, where its subnets obey the rules.
+#[tactic(auto, unfolding(crate::specs::Document::settings_in))]
+pub(crate) fn settings_in(alloc: Global, text: &[u8]) -> Result<Settings, ConfigFault>
+    ensures { Gives result (settings_in text.now) }
+{
+    let settings = written_settings(alloc, text)?;
+    check_obedience(alloc, &settings)?;
+    Ok(settings)
+}
+
+// The subnets obey the rules.
+fn check_obedience(alloc: Global, settings: &Settings) -> Result<(), ConfigFault>
+    ensures { Gives result (must (all_obey [] settings.now.subnets)) }
+{
+    let root = Place::Root;
+    let dhcp4 = Place::Key(&root, "Dhcp4");
+    let subnets = Place::Key(&dhcp4, "subnet4");
+    check_rules(alloc, settings.subnets.as_slice(), &subnets)
+}
+
 // The settings that a text means.
 #[tactic(auto, unfolding(crate::specs::Document::written_settings))]
-pub(crate) fn written_settings(alloc: Global, text: &[u8]) -> Result<Settings, ConfigFault>
+fn written_settings(alloc: Global, text: &[u8]) -> Result<Settings, ConfigFault>
     ensures { Gives result (written_settings text.now) }
 {
     let value = value_of(alloc, text)?;

@@ -1,15 +1,16 @@
-ghost use Rattle.std.specs.Prelude.{◌≡◌, ◌++◌, ◌∷◌, [], IfOk};
+ghost use Rattle.std.specs.Prelude.{◌≡◌, ◌++◌, ◌∷◌, [], IfOk, map};
 ghost use Rattle.std.specs.List.{list_all};
 ghost use Rattle.indexmap.specs.IndexSet.{keys};
 ghost use Rattle.kd_config.specs.Gives.{Gives};
-ghost use Rattle.kd_config.specs.Rules.{all_obey, is_within, may_all_reserve, may_reserve, obeys, reserved};
+ghost use Rattle.kd_config.specs.Parts.{client_by};
+ghost use Rattle.kd_config.specs.Rules.{all_obey, is_new, is_within, may_all_reserve, may_reserve, obeys, reserved};
 ghost use Rattle.kd_config.specs.Steps.{must};
 
 use crate::fault::ConfigFault;
 use crate::place::{Place, path_of_key};
 use crate::pool::Pool;
 use crate::prefix::Prefix;
-use crate::reservation::Reservation;
+use crate::reservation::{Identity, Reservation};
 use crate::subnet::Subnet;
 use indexmap::IndexSet;
 use std::alloc::Global;
@@ -80,17 +81,20 @@ fn check_reservations(
     earlier: &mut IndexSet<u32>,
 ) -> Result<(), ConfigFault>
     ensures joined { IfOk result (λ _. keys earlier.new ≡ keys earlier.old ++ reserved reservations.now) }
-    ensures checked { Gives result (must (may_all_reserve prefix (keys earlier.old) reservations.now)) }
+    ensures checked { Gives result (must (may_all_reserve prefix (keys earlier.old) [] reservations.now)) }
 {
+    let mut clients = IndexSet::new(alloc);
     for i in 0..reservations.len() {
         let place = Place::Item(&*at, i);
-        check_reservation(alloc, prefix, &reservations[i], &place, earlier)?;
+        let reservation = &reservations[i];
+        check_address(alloc, prefix, reservation, &place, earlier)?;
+        check_client(alloc, &reservation.identity, &place, &mut clients)?;
     }
     Ok(())
 }
 
 // A reservation has an address of the prefix that no earlier one has; the address joins them.
-fn check_reservation(
+fn check_address(
     alloc: Global,
     prefix: Prefix,
     reservation: &Reservation,
@@ -107,6 +111,35 @@ fn check_reservation(
         Ok(())
     } else {
         Err(repeated(alloc, at, "ip-address"))
+    }
+}
+
+// A client is none of the earlier ones; it joins them.
+fn check_client<'a>(
+    alloc: Global,
+    identity: &'a Identity,
+    at: &Place<'_>,
+    earlier: &mut IndexSet<(bool, &'a [u8])>,
+) -> Result<(), ConfigFault>
+    ensures joined { IfOk result (λ _. map client_by (keys earlier.new) ≡ map client_by (keys earlier.old) ++ identity.now ∷ []) }
+    ensures checked { Gives result (must (is_new (map client_by (keys earlier.old)) identity.now)) }
+{
+    if earlier.insert(key_of(identity))? {
+        return Ok(());
+    }
+    match identity {
+        Identity::Hardware(_) => Err(repeated(alloc, at, "hw-address")),
+        Identity::ClientId(_) => Err(repeated(alloc, at, "client-id")),
+    }
+}
+
+// The bytes of a client, and whether they are a hardware address.
+fn key_of(identity: &Identity) -> (bool, &[u8])
+    ensures { client_by result ≡ identity.now }
+{
+    match identity {
+        Identity::Hardware(bytes) => (true, bytes.as_slice()),
+        Identity::ClientId(bytes) => (false, bytes.as_slice()),
     }
 }
 

@@ -1,5 +1,5 @@
 use crate::class::TestSource;
-use crate::document::written_settings;
+use crate::document::settings_in;
 use crate::prefix::Prefix;
 use crate::range::Range;
 use crate::reservation::Identity;
@@ -25,7 +25,7 @@ const FULL: &str = r#"{"Dhcp4":{"server-address":"10.0.0.1","valid-lifetime":100
 
 #[test]
 fn the_built_in_text_has_its_settings(rt: HostRuntime) -> Result<(), Fail> {
-    let settings = written_settings(rt.alloc(), BUILTIN.as_bytes())?;
+    let settings = settings_in(rt.alloc(), BUILTIN.as_bytes())?;
     assert_eq!(rt; settings.server, 0xc000_0201);
     let times = Times {
         lifetime: 3600,
@@ -59,7 +59,7 @@ fn the_built_in_text_has_its_settings(rt: HostRuntime) -> Result<(), Fail> {
 #[test]
 fn absent_keys_have_their_defaults(rt: HostRuntime) -> Result<(), Fail> {
     let text = r#"{"Dhcp4":{"server-address":"192.0.2.1"}}"#;
-    let settings = written_settings(rt.alloc(), text.as_bytes())?;
+    let settings = settings_in(rt.alloc(), text.as_bytes())?;
     let times = Times {
         lifetime: 7200,
         renew: 3600,
@@ -70,7 +70,7 @@ fn absent_keys_have_their_defaults(rt: HostRuntime) -> Result<(), Fail> {
     assert_eq!(rt; settings.times, times);
     assert!(rt; settings.subnets.as_slice().is_empty());
     let text = r#"{"Dhcp4":{"server-address":"192.0.2.1","valid-lifetime":2147483647}}"#;
-    let settings = written_settings(rt.alloc(), text.as_bytes())?;
+    let settings = settings_in(rt.alloc(), text.as_bytes())?;
     assert_eq!(rt; settings.times.renew, 1_073_741_823);
     assert_eq!(rt; settings.times.rebind, 1_879_048_191);
     Ok(())
@@ -78,7 +78,7 @@ fn absent_keys_have_their_defaults(rt: HostRuntime) -> Result<(), Fail> {
 
 #[test]
 fn each_key_has_its_setting(rt: HostRuntime) -> Result<(), Fail> {
-    let settings = written_settings(rt.alloc(), FULL.as_bytes())?;
+    let settings = settings_in(rt.alloc(), FULL.as_bytes())?;
     let times = Times {
         lifetime: 1000,
         renew: 100,
@@ -104,7 +104,7 @@ fn each_key_has_its_setting(rt: HostRuntime) -> Result<(), Fail> {
 
 #[test]
 fn a_subnet_has_all_its_lists(rt: HostRuntime) -> Result<(), Fail> {
-    let settings = written_settings(rt.alloc(), FULL.as_bytes())?;
+    let settings = settings_in(rt.alloc(), FULL.as_bytes())?;
     let subnets = settings.subnets.as_slice();
     assert_eq!(rt; subnets.len(), 2);
     let prefix = Prefix {

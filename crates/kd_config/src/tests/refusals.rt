@@ -1,4 +1,4 @@
-use crate::document::written_settings;
+use crate::document::settings_in;
 use crate::fault::ConfigFault;
 use std::alloc::{AllocError, Global};
 use std::process::Abort;
@@ -6,7 +6,7 @@ use std::test::Fail;
 
 // The kind of a fault, and its path.
 fn refusal(alloc: Global, text: &[u8]) -> Result<(&'static str, String), AllocError> {
-    match written_settings(alloc, text) {
+    match settings_in(alloc, text) {
         Ok(_) => Ok(("Accepted", String::new(alloc))),
         Err(fault) => match fault {
             ConfigFault::Json => Ok(("Json", String::new(alloc))),
@@ -181,4 +181,29 @@ fn a_list_over_its_limit_is_bad_before_its_entries(rt: HostRuntime) -> Result<()
         assert_eq!(rt; at.as_str(), want.as_str());
     }
     Ok(())
+}
+
+#[test]
+fn pools_and_reservations_obey_the_rules_in_order(rt: HostRuntime) -> Result<(), Fail> {
+    check(
+        &rt,
+        rt.alloc(),
+        &[
+            (r#"{"Dhcp4":{"server-address":"192.0.2.1","subnet4":[{"subnet":"192.0.2.0/24","pools":[{"pool":"192.0.2.250 - 192.0.3.5"}]}]}}"#, "PoolOutside", "/Dhcp4/subnet4/0/pools/0/pool"),
+            (r#"{"Dhcp4":{"server-address":"192.0.2.1","subnet4":[{"subnet":"192.0.2.0/24","pools":[{"pool":"192.0.1.255 - 192.0.2.5"}]}]}}"#, "PoolOutside", "/Dhcp4/subnet4/0/pools/0/pool"),
+            (r#"{"Dhcp4":{"server-address":"192.0.2.1","subnet4":[{"subnet":"192.0.2.0/24","pools":[{"pool":"192.0.2.0/24"}]}]}}"#, "Accepted", ""),
+            (r#"{"Dhcp4":{"server-address":"192.0.2.1","subnet4":[{"subnet":"192.0.2.0/24","pools":[{"pool":"192.0.2.0/24"},{"pool":"192.0.3.0/24"}]}]}}"#, "PoolOutside", "/Dhcp4/subnet4/0/pools/1/pool"),
+            (r#"{"Dhcp4":{"server-address":"192.0.2.1","subnet4":[{"subnet":"192.0.2.0/24","reservations":[{"hw-address":"01","ip-address":"192.0.3.0"}]}]}}"#, "PoolOutside", "/Dhcp4/subnet4/0/reservations/0/ip-address"),
+            (r#"{"Dhcp4":{"server-address":"192.0.2.1","subnet4":[{"subnet":"192.0.2.0/24","reservations":[{"hw-address":"01","ip-address":"192.0.2.9"},{"hw-address":"02","ip-address":"192.0.2.9"}]}]}}"#, "DuplicateReservation", "/Dhcp4/subnet4/0/reservations/1/ip-address"),
+            (r#"{"Dhcp4":{"server-address":"192.0.2.1","subnet4":[{"subnet":"192.0.2.0/24","reservations":[{"hw-address":"01","ip-address":"192.0.2.9"},{"hw-address":"01","ip-address":"192.0.2.8"}]}]}}"#, "DuplicateReservation", "/Dhcp4/subnet4/0/reservations/1/hw-address"),
+            (r#"{"Dhcp4":{"server-address":"192.0.2.1","subnet4":[{"subnet":"192.0.2.0/24","reservations":[{"client-id":"01","ip-address":"192.0.2.9"},{"hw-address":"02","ip-address":"192.0.2.7"},{"client-id":"0:1","ip-address":"192.0.2.8"}]}]}}"#, "DuplicateReservation", "/Dhcp4/subnet4/0/reservations/2/client-id"),
+            (r#"{"Dhcp4":{"server-address":"192.0.2.1","subnet4":[{"subnet":"192.0.2.0/24","reservations":[{"hw-address":"01","ip-address":"192.0.2.9"},{"hw-address":"01","ip-address":"192.0.2.9"}]}]}}"#, "DuplicateReservation", "/Dhcp4/subnet4/0/reservations/1/ip-address"),
+            (r#"{"Dhcp4":{"server-address":"192.0.2.1","subnet4":[{"subnet":"192.0.2.0/24","reservations":[{"hw-address":"01","ip-address":"192.0.2.9"},{"hw-address":"01","ip-address":"192.0.3.9"}]}]}}"#, "PoolOutside", "/Dhcp4/subnet4/0/reservations/1/ip-address"),
+            (r#"{"Dhcp4":{"server-address":"192.0.2.1","subnet4":[{"subnet":"192.0.2.0/24","reservations":[{"hw-address":"01","ip-address":"192.0.2.9"},{"client-id":"01","ip-address":"192.0.2.8"}]}]}}"#, "Accepted", ""),
+            (r#"{"Dhcp4":{"server-address":"192.0.2.1","subnet4":[{"subnet":"192.0.2.0/24","reservations":[{"hw-address":"01","ip-address":"192.0.2.9"}]},{"subnet":"192.0.2.0/25","reservations":[{"hw-address":"01","ip-address":"192.0.2.8"}]}]}}"#, "Accepted", ""),
+            (r#"{"Dhcp4":{"server-address":"192.0.2.1","subnet4":[{"subnet":"192.0.2.0/24","reservations":[{"hw-address":"01","ip-address":"192.0.2.9"}]},{"subnet":"192.0.2.0/25","reservations":[{"hw-address":"02","ip-address":"192.0.2.9"}]}]}}"#, "DuplicateReservation", "/Dhcp4/subnet4/1/reservations/0/ip-address"),
+            (r#"{"Dhcp4":{"server-address":"192.0.2.1","subnet4":[{"subnet":"192.0.2.0/24","reservations":[{"hw-address":"01","ip-address":"192.0.3.9"}]},{"subnet":"192.0.2.0/25","pools":[{"pool":"192.0.3.0/24"}]}]}}"#, "PoolOutside", "/Dhcp4/subnet4/0/reservations/0/ip-address"),
+            (r#"{"Dhcp4":{"server-address":"192.0.2.1","subnet4":[{"subnet":"192.0.2.0/24","reservations":[{"hw-address":"01","ip-address":"192.0.3.9"}],"pools":[{"pool":"192.0.3.0/24"}]}]}}"#, "PoolOutside", "/Dhcp4/subnet4/0/pools/0/pool"),
+        ],
+    )
 }
