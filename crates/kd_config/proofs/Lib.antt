@@ -4,3 +4,4 @@ pub mod Keys
 pub mod Left
 pub mod Documents
 pub mod Clients
+pub mod Steps

@@ -13,4 +13,5 @@ pub mod Class
 pub mod Subnet
 pub mod Settings
 pub mod Document
+pub mod Apart
 pub mod Rules

@@ -1,10 +1,12 @@
--- Rules over a whole configuration: pools and reserved addresses lie in their subnet's prefix, no address is
--- reserved twice, and no client has two reservations in one subnet.
+-- Rules over a whole configuration: pools and reserved addresses lie in their subnet's prefix, no two pools
+-- share an address, no address is reserved twice, and no client has two reservations in one subnet.
 use Rattle.std.specs.Prelude.{ℕ, Bool, true, false, not, ◌&&◌, nat_eq, bytes_eq, List, [], ◌∷◌, ◌++◌, map}
 use Rattle.std.specs.List.{list_all, list_any}
 use Rattle.kd_config.specs.Address.{contains}
+use Rattle.kd_config.specs.Apart.{are_apart}
 use Rattle.kd_config.specs.declared.pool.Pool.{Pool}
 use Rattle.kd_config.specs.declared.prefix.Prefix.{Prefix}
+use Rattle.kd_config.specs.declared.range.Range.{Range}
 use Rattle.kd_config.specs.declared.reservation.Identity.{Identity}
 use Rattle.kd_config.specs.declared.reservation.Identity.TheVariants.{Hardware, ClientId}
 use Rattle.kd_config.specs.declared.reservation.Reservation.{Reservation}
@@ -46,3 +48,16 @@ obeys earlier subnet = list_all (is_within subnet.prefix) subnet.pools && may_al
 abbrev pub all_obey : List ℕ → List Subnet → Bool
 all_obey earlier [] = true
 all_obey earlier (subnet ∷ subnets) = obeys earlier subnet && all_obey (earlier ++ reserved subnet.reservations) subnets
+
+-- the addresses of the pools of a subnet
+abbrev pub ranges_in : List Pool → List Range
+ranges_in pools = map (λ pool. pool.range) pools
+
+-- the addresses of all pools, in order
+abbrev pub all_ranges : List Subnet → List Range
+all_ranges [] = []
+all_ranges (subnet ∷ subnets) = ranges_in subnet.pools ++ all_ranges subnets
+
+-- subnets that may stand together: they obey the rules, and no two pools share an address
+unfoldable pub may_stand : List Subnet → Bool
+may_stand subnets = are_apart (all_ranges subnets) && all_obey [] subnets

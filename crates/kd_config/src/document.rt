@@ -1,8 +1,8 @@
-ghost use Rattle.std.specs.Prelude.{◌≡◌, []};
+ghost use Rattle.std.specs.Prelude.{◌≡◌};
 ghost use Rattle.serde_json.specs.View.{view};
 ghost use Rattle.kd_config.specs.Document.{settings_in, value_of, written_settings};
 ghost use Rattle.kd_config.specs.Gives.{Gives, GivesAs};
-ghost use Rattle.kd_config.specs.Rules.{all_obey};
+ghost use Rattle.kd_config.specs.Rules.{may_stand};
 ghost use Rattle.kd_config.specs.Steps.{must};
 
 use crate::fault::ConfigFault;
@@ -12,19 +12,19 @@ use crate::settings::{Settings, root_of};
 use serde_json::Value;
 use std::alloc::Global;
 
-// The settings that a text means, where its subnets obey the rules.
+// The settings that a text means, where its subnets may stand together.
 #[tactic(auto, unfolding(crate::specs::Document::settings_in))]
 pub(crate) fn settings_in(alloc: Global, text: &[u8]) -> Result<Settings, ConfigFault>
     ensures { Gives result (settings_in text.now) }
 {
     let settings = written_settings(alloc, text)?;
-    check_obedience(alloc, &settings)?;
+    check_subnets(alloc, &settings)?;
     Ok(settings)
 }
 
-// The subnets obey the rules.
-fn check_obedience(alloc: Global, settings: &Settings) -> Result<(), ConfigFault>
-    ensures { Gives result (must (all_obey [] settings.now.subnets)) }
+// The subnets may stand together.
+fn check_subnets(alloc: Global, settings: &Settings) -> Result<(), ConfigFault>
+    ensures { Gives result (must (may_stand settings.now.subnets)) }
 {
     let root = Place::Root;
     let dhcp4 = Place::Key(&root, "Dhcp4");

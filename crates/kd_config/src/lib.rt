@@ -5,6 +5,7 @@
 #![tactic(auto)]
 
 mod address;
+mod apart;
 mod class;
 mod document;
 mod entries;

@@ -207,3 +207,22 @@ fn pools_and_reservations_obey_the_rules_in_order(rt: HostRuntime) -> Result<(),
         ],
     )
 }
+
+#[test]
+fn a_pool_shares_no_address_with_an_earlier_one(rt: HostRuntime) -> Result<(), Fail> {
+    check(
+        &rt,
+        rt.alloc(),
+        &[
+            (r#"{"Dhcp4":{"server-address":"192.0.2.1","subnet4":[{"subnet":"192.0.2.0/24","pools":[{"pool":"192.0.2.10 - 192.0.2.11"},{"pool":"192.0.2.10 - 192.0.2.11"}]}]}}"#, "Overlap", "/Dhcp4/subnet4/0/pools/1/pool"),
+            (r#"{"Dhcp4":{"server-address":"192.0.2.1","subnet4":[{"subnet":"192.0.2.0/24","pools":[{"pool":"192.0.2.20/32"},{"pool":"192.0.2.10 - 192.0.2.11"},{"pool":"192.0.2.12-192.0.2.13"},{"pool":"192.0.2.1-192.0.2.10"},{"pool":"192.0.2.10 - 192.0.2.11"}]}]}}"#, "Overlap", "/Dhcp4/subnet4/0/pools/3/pool"),
+            (r#"{"Dhcp4":{"server-address":"192.0.2.1","subnet4":[{"subnet":"192.0.2.0/24","pools":[{"pool":"192.0.2.20/32"},{"pool":"192.0.2.10 - 192.0.2.11"},{"pool":"192.0.2.12-192.0.2.13"},{"pool":"192.0.2.1-192.0.2.9"}]}]}}"#, "Accepted", ""),
+            (r#"{"Dhcp4":{"server-address":"192.0.2.1","subnet4":[{"subnet":"192.0.2.0/24","pools":[{"pool":"192.0.2.0/24"},{"pool":"192.0.2.10 - 192.0.2.11"}]}]}}"#, "Overlap", "/Dhcp4/subnet4/0/pools/1/pool"),
+            (r#"{"Dhcp4":{"server-address":"192.0.2.1","subnet4":[{"subnet":"192.0.2.0/24","pools":[{"pool":"192.0.2.10 - 192.0.2.11"},{"pool":"192.0.2.0/24"}]}]}}"#, "Overlap", "/Dhcp4/subnet4/0/pools/1/pool"),
+            (r#"{"Dhcp4":{"server-address":"192.0.2.1","subnet4":[{"subnet":"192.0.2.0/24","pools":[{"pool":"192.0.2.10 - 192.0.2.11"}]},{"subnet":"192.0.2.0/25","pools":[{"pool":"192.0.2.1/32"},{"pool":"192.0.2.11/32"}]}]}}"#, "Overlap", "/Dhcp4/subnet4/1/pools/1/pool"),
+            (r#"{"Dhcp4":{"server-address":"192.0.2.1","subnet4":[{"subnet":"192.0.2.0/24","pools":[{"pool":"192.0.2.10 - 192.0.2.11"}],"reservations":[{"hw-address":"01","ip-address":"192.0.3.1"}]},{"subnet":"192.0.2.0/25","pools":[{"pool":"192.0.2.10 - 192.0.2.11"}]}]}}"#, "PoolOutside", "/Dhcp4/subnet4/0/reservations/0/ip-address"),
+            (r#"{"Dhcp4":{"server-address":"192.0.2.1","subnet4":[{"subnet":"192.0.2.0/24","pools":[{"pool":"192.0.2.10 - 192.0.2.11"}]},{"subnet":"10.0.0.0/8","pools":[{"pool":"192.0.2.10 - 192.0.2.11"}]}]}}"#, "PoolOutside", "/Dhcp4/subnet4/1/pools/0/pool"),
+            (r#"{"Dhcp4":{"server-address":"192.0.2.1","subnet4":[{"subnet":"192.0.2.0/24","pools":[{"pool":"192.0.2.10 - 192.0.2.11"},{"pool":"192.0.2.10 - 192.0.2.11"}],"reservations":[{"hw-address":"01","ip-address":"192.0.3.1"}]}]}}"#, "Overlap", "/Dhcp4/subnet4/0/pools/1/pool"),
+        ],
+    )
+}
