@@ -48,9 +48,9 @@ one_unknown known (m ∷ entries) key e =
     one_false (is_key (map (λ (k : Bor (List ℕ)). k.now) known) (string_bytes m.0)) (are_known (map (λ (k : Bor (List ℕ)). k.now) known) (members_view entries))
     (by (one_unknown known entries key) (some_here (is_one_of known (string_bytes m.0)) m.0 key (find (λ k. not (is_one_of known (string_bytes k))) (map (λ m. m.0) entries)) e))
   where
-  by : (Some key ≡ find (λ k. not (is_one_of known (string_bytes k))) (map (λ m. m.0) entries) → are_known (map (λ (k : Bor (List ℕ)). k.now) known) (members_view entries) ≡ false) → (is_one_of known (string_bytes m.0) ≡ false) ⊎ (Some key ≡ find (λ k. not (is_one_of known (string_bytes k))) (map (λ m. m.0) entries)) → (is_key (map (λ (k : Bor (List ℕ)). k.now) known) (string_bytes m.0) ≡ false) ⊎ (are_known (map (λ (k : Bor (List ℕ)). k.now) known) (members_view entries) ≡ false)
-  by behind (inl here) = inl (one_of_is known (string_bytes m.0) ∙ here)
-  by behind (inr later) = inr (behind later)
+    by : (Some key ≡ find (λ k. not (is_one_of known (string_bytes k))) (map (λ m. m.0) entries) → are_known (map (λ (k : Bor (List ℕ)). k.now) known) (members_view entries) ≡ false) → (is_one_of known (string_bytes m.0) ≡ false) ⊎ (Some key ≡ find (λ k. not (is_one_of known (string_bytes k))) (map (λ m. m.0) entries)) → (is_key (map (λ (k : Bor (List ℕ)). k.now) known) (string_bytes m.0) ≡ false) ⊎ (are_known (map (λ (k : Bor (List ℕ)). k.now) known) (members_view entries) ≡ false)
+    by behind (inl here) = inl (one_of_is known (string_bytes m.0) ∙ here)
+    by behind (inr later) = inr (behind later)
 
 all_there : (d : Data) (required : List (Bor (List ℕ))) → None ≡ find (λ k. not (is_there d k)) required → list_all (λ key. is_some (get key d)) (map (λ (k : Bor (List ℕ)). k.now) required) ≡ true
 all_there d [] e = refl
@@ -63,9 +63,9 @@ one_missing d [] key e = absurd (cc)
 one_missing d (k ∷ required) key e =
     one_false (is_there d k) (list_all (λ key. is_some (get key d)) (map (λ (k : Bor (List ℕ)). k.now) required)) (by (one_missing d required key) (some_here (is_there d k) k key (find (λ k. not (is_there d k)) required) e))
   where
-  by : (Some key ≡ find (λ k. not (is_there d k)) required → list_all (λ key. is_some (get key d)) (map (λ (k : Bor (List ℕ)). k.now) required) ≡ false) → (is_there d k ≡ false) ⊎ (Some key ≡ find (λ k. not (is_there d k)) required) → (is_there d k ≡ false) ⊎ (list_all (λ key. is_some (get key d)) (map (λ (k : Bor (List ℕ)). k.now) required) ≡ false)
-  by behind (inl here) = inl here
-  by behind (inr later) = inr (behind later)
+    by : (Some key ≡ find (λ k. not (is_there d k)) required → list_all (λ key. is_some (get key d)) (map (λ (k : Bor (List ℕ)). k.now) required) ≡ false) → (is_there d k ≡ false) ⊎ (Some key ≡ find (λ k. not (is_there d k)) required) → (is_there d k ≡ false) ⊎ (list_all (λ key. is_some (get key d)) (map (λ (k : Bor (List ℕ)). k.now) required) ≡ false)
+    by behind (inl here) = inl here
+    by behind (inr later) = inr (behind later)
 
 -- what a test of keys comes to
 keys_are : (known required : List (List ℕ)) (d : Data) (members : Option Members) (a b : Bool) → members ≡ as_object d → is_object_of known members ≡ a → list_all (λ key. is_some (get key d)) required ≡ b → must (has_keys known required d) ≡ must (a && b)

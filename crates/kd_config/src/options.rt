@@ -57,7 +57,10 @@ fn option_behind(
         None => return Err(bad_value(alloc, at, "data")),
     };
     match value.get("csv-format").and_then(Value::as_bool) {
-        Some(false) => Ok(OptionData { code, value: value_of }),
+        Some(false) => Ok(OptionData {
+            code,
+            value: value_of,
+        }),
         _ => Err(bad_value(alloc, at, "csv-format")),
     }
 }
@@ -77,7 +80,11 @@ fn code_in(value: &Value) -> Option<u8>
     ensures { result ≡ code_in (view value.now) }
 {
     let code = number_in(value, 1, 254)? as u8;
-    if OWN_CODES.contains(&code) { None } else { Some(code) }
+    if OWN_CODES.contains(&code) {
+        None
+    } else {
+        Some(code)
+    }
 }
 
 // An option of these has the code.

@@ -42,11 +42,7 @@ pub(crate) fn bad_place(alloc: Global, at: &Place<'_>) -> ConfigFault {
 }
 
 // The path of a key of the object at a place.
-pub(crate) fn path_of_key(
-    alloc: Global,
-    at: &Place<'_>,
-    key: &str,
-) -> Result<String, AllocError> {
+pub(crate) fn path_of_key(alloc: Global, at: &Place<'_>, key: &str) -> Result<String, AllocError> {
     let mut path = path_of(alloc, at)?;
     path.push_str("/")?;
     path.push_str(key)?;

@@ -24,11 +24,7 @@ pub struct Pool {
 
 // The pool that a value means.
 #[tactic(auto, unfolding(crate::specs::Pool::pool_of))]
-pub(crate) fn pool_of(
-    alloc: Global,
-    value: &Value,
-    at: &Place<'_>,
-) -> Result<Pool, ConfigFault>
+pub(crate) fn pool_of(alloc: Global, value: &Value, at: &Place<'_>) -> Result<Pool, ConfigFault>
     ensures { Gives result (pool_of (view value.now)) }
 {
     check_pool(alloc, value, at)?;

@@ -46,12 +46,7 @@ fn check_each(alloc: Global, subnets: &[Subnet], at: &Place<'_>) -> Result<(), C
 }
 
 // The first fault of subnets of which two pools share an address.
-fn first_fault(
-    alloc: Global,
-    subnets: &[Subnet],
-    ranges: &[Range],
-    at: &Place<'_>,
-) -> ConfigFault {
+fn first_fault(alloc: Global, subnets: &[Subnet], ranges: &[Range], at: &Place<'_>) -> ConfigFault {
     match check_to_overlap(alloc, subnets, ranges, at) {
         Ok(()) => overlap(alloc, at, "pools"),
         Err(fault) => fault,
@@ -164,12 +159,7 @@ fn check_pools(
 }
 
 // A pool lies in its subnet's prefix.
-fn check_pool(
-    alloc: Global,
-    prefix: Prefix,
-    pool: &Pool,
-    at: &Place<'_>,
-) -> Result<(), ConfigFault>
+fn check_pool(alloc: Global, prefix: Prefix, pool: &Pool, at: &Place<'_>) -> Result<(), ConfigFault>
     ensures { Gives result (must (is_within prefix pool.now)) }
 {
     if is_within(prefix, pool) {

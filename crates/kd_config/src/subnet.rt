@@ -105,11 +105,7 @@ fn prefix_in(value: &Value) -> Option<Prefix>
 
 // The pools of the list at the key `pools`.
 #[tactic(auto, unfolding(crate::specs::Lists::list_of))]
-fn pools_of(
-    alloc: Global,
-    subnet: &Value,
-    at: &Place<'_>,
-) -> Result<Entries<Pool>, ConfigFault>
+fn pools_of(alloc: Global, subnet: &Value, at: &Place<'_>) -> Result<Entries<Pool>, ConfigFault>
     ensures { Gives result (list_of 64 pool_of (get (codes "pools") (view subnet.now))) }
 {
     let values = list_at(alloc, subnet, at, "pools", 64)?;

@@ -29,11 +29,7 @@ pub struct Times {
 
 // The times of leases and of offers.
 #[tactic(auto, unfolding(crate::specs::Settings::times_of))]
-pub(crate) fn times_of(
-    alloc: Global,
-    object: &Value,
-    at: &Place<'_>,
-) -> Result<Times, ConfigFault>
+pub(crate) fn times_of(alloc: Global, object: &Value, at: &Place<'_>) -> Result<Times, ConfigFault>
     ensures { Gives result (times_of (view object.now)) }
 {
     let lifetime = number_or(alloc, object, at, "valid-lifetime", 1, LONGEST, 7200)?;

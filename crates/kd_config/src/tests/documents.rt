@@ -94,10 +94,16 @@ fn each_key_has_its_setting(rt: HostRuntime) -> Result<(), Fail> {
     let classes = settings.classes.as_slice();
     assert_eq!(rt; classes.len(), 3);
     assert_eq!(rt; classes[0].name.as_slice(), b"A".as_slice());
-    assert!(rt; matches!(&classes[0].source, TestSource::Expression(text) if text.as_slice() == b"'a' == 'b'".as_slice()));
-    assert!(rt; matches!(&classes[1].source, TestSource::TokenFile(name) if name.as_slice() == b"b.k4tk".as_slice()));
-    assert_eq!(rt; classes[1].options.as_slice()[0].code, 15);
-    assert!(rt; classes[1].options.as_slice()[0].value.as_slice().is_empty());
+    assert!(rt;
+        matches!(&classes[0].source, TestSource::Expression(text) if text.as_slice() == b"'a' == 'b'".as_slice())
+    );
+    assert!(rt;
+        matches!(&classes[1].source, TestSource::TokenFile(name) if name.as_slice() == b"b.k4tk".as_slice())
+    );
+    let options = classes[1].options.as_slice();
+    assert_eq!(rt; options.len(), 1);
+    assert_eq!(rt; options[0].code, 15);
+    assert!(rt; options[0].value.as_slice().is_empty());
     assert!(rt; matches!(&classes[2].source, TestSource::Nothing));
     Ok(())
 }
@@ -112,20 +118,35 @@ fn a_subnet_has_all_its_lists(rt: HostRuntime) -> Result<(), Fail> {
         length: 8,
     };
     assert_eq!(rt; subnets[0].prefix, prefix);
-    assert_eq!(rt; subnets[0].class.as_ref().map(|c| c.as_slice()), Some(b"A".as_slice()));
-    let pool = &subnets[0].pools.as_slice()[0];
+    assert_eq!(rt;
+        subnets[0].class.as_ref().map(|c| c.as_slice()),
+        Some(b"A".as_slice())
+    );
+    let pools = subnets[0].pools.as_slice();
+    assert_eq!(rt; pools.len(), 1);
     let range = Range {
         first: 0x0a01_0000,
         last: 0x0a01_ffff,
     };
-    assert_eq!(rt; pool.range, range);
-    assert_eq!(rt; pool.options.as_slice()[0].code, 3);
+    assert_eq!(rt; pools[0].range, range);
+    assert_eq!(rt;
+        pools[0].options.as_slice().first().map(|o| o.code),
+        Some(3)
+    );
     let reservations = subnets[0].reservations.as_slice();
+    assert_eq!(rt; reservations.len(), 2);
     assert_eq!(rt; reservations[0].address, 0x0a02_0001);
-    assert!(rt; matches!(&reservations[0].identity, Identity::Hardware(mac) if mac.as_slice() == b"\x0a\x00\x00\x00\x00\x02".as_slice()));
+    assert!(rt;
+        matches!(&reservations[0].identity, Identity::Hardware(mac) if mac.as_slice() == b"\x0a\x00\x00\x00\x00\x02".as_slice())
+    );
     assert_eq!(rt; reservations[1].address, 0x0a02_0002);
-    assert!(rt; matches!(&reservations[1].identity, Identity::ClientId(id) if id.as_slice() == b"\x01".as_slice()));
-    assert_eq!(rt; subnets[0].options.as_slice()[0].code, 42);
+    assert!(rt;
+        matches!(&reservations[1].identity, Identity::ClientId(id) if id.as_slice() == b"\x01".as_slice())
+    );
+    assert_eq!(rt;
+        subnets[0].options.as_slice().first().map(|o| o.code),
+        Some(42)
+    );
     let everything = Prefix {
         address: 0,
         length: 0,
