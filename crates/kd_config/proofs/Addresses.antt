@@ -1,5 +1,5 @@
 -- What `kd_expr` reads as an address is the text's.
-use Rattle.std.proofs.Common.{◌≡◌, ℕ, List, Option, Some, None, refl, sym, ◌∙◌, ap, IfSome}
+use Rattle.std.proofs.Common.{◌≡◌, ℕ, List, Option, Some, None, refl, sym, ap, IfSome}
 use Rattle.std.specs.Prelude.{option_map}
 use Rattle.std.specs.Int.{from_be_bytes, w32}
 use Rattle.kd_expr.proofs.Addresses.{address_sound, address_complete}

@@ -1,5 +1,5 @@
 -- The keys of an object, as they are looked through.
-use Rattle.std.proofs.Common.{◌≡◌, ℕ, Bool, true, false, not, cond, ◌&&◌, List, [], ◌∷◌, map, Option, Some, None, option_map, refl, inl, inr, ◌⊎◌, sym, ◌∙◌, ap, Bor, string_bytes, String}
+use Rattle.std.proofs.Common.{◌≡◌, ℕ, Bool, true, false, not, cond, ◌&&◌, List, [], ◌∷◌, map, Option, Some, None, refl, inl, inr, ◌⊎◌, ◌∙◌, Bor, string_bytes, String}
 use Rattle.std.specs.Prelude.{is_some}
 use Rattle.std.specs.List.{find, list_all}
 use Rattle.std.specs.declared.alloc.Global.{Global}

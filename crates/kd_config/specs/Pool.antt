@@ -1,5 +1,5 @@
 -- A pool of a subnet.
-use Rattle.std.specs.Prelude.{Bool, [], ◌∷◌, codes, Option, Some, None}
+use Rattle.std.specs.Prelude.{Bool, [], ◌∷◌, codes, Option, Some}
 use Rattle.serde_json.specs.Data.{Data}
 use Rattle.serde_json.specs.Find.{as_str, get}
 use Rattle.kd_config.specs.Address.{range_of}

@@ -1,7 +1,10 @@
 //! The configuration: an operator's JSON text, and the settings that it stands for.
 //!
-//! What this layer promises to the one above: an address, a prefix, a pool and a hexadecimal text have the
-//! meaning of `specs/Address.antt` and `specs/HexText.antt`.
+//! What this layer promises to the one above: the settings of a text are those that its value means
+//! (`specs/Settings.antt`, `specs/Subnet.antt`, `specs/Class.antt` and the files that these name), where its
+//! subnets may stand together (`specs/Rules.antt`); a refusal for another cause than want of memory comes only
+//! where the text has none (`specs/Gives.antt`, `specs/Document.antt`). Which fault is found first, and its
+//! path, are tested.
 #![tactic(auto)]
 
 mod address;

@@ -1,4 +1,4 @@
-use Rattle.std.proofs.Common.{◌≡◌, arith, sym, ◌∙◌}
+use Rattle.std.proofs.Common.{arith, sym, ◌∙◌}
 use Rattle.kd_config.proofs.Steps.{any_step_shared, more_steps, steps_apart}
 use Rattle.kd_config.proofs.apart.are_steps_apart.Goals as goal
 

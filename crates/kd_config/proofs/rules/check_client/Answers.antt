@@ -1,4 +1,4 @@
-use Rattle.std.proofs.Common.{◌≡◌, true, false, map}
+use Rattle.std.proofs.Common.{true, false}
 use Rattle.indexmap.specs.IndexSet.{keys}
 use Rattle.kd_config.proofs.Clients.{new_client}
 use Rattle.kd_config.proofs.rules.check_client.Goals as goal
