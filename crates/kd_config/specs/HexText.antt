@@ -1,0 +1,18 @@
+-- Hexadecimal texts: spaces and colons do not count, and a prefix 0x may stand before the digits.
+use Rattle.std.specs.Prelude.{ℕ, Bool, not, ◌&&◌, ◌||◌, ◌==◌, if◌then◌else◌, List, ◌∷◌, Option}
+use Rattle.std.specs.Result.{result_ok}
+use Rattle.std.specs.List.{filter}
+use Rattle.hex.specs.Hex.{decode_of}
+
+-- a byte that is neither a space nor a colon
+abbrev pub counts : ℕ → Bool
+counts b = not (b == 32 || b == 58)
+
+-- digits without a prefix 0x
+abbrev pub without_prefix : List ℕ → List ℕ
+without_prefix (a ∷ b ∷ digits) = if a == 48 && (b == 120 || b == 88) then digits else a ∷ b ∷ digits
+without_prefix text = text
+
+-- the bytes that a hexadecimal text spells
+unfoldable pub bytes_of : List ℕ → Option (List ℕ)
+bytes_of text = result_ok (decode_of (without_prefix (filter counts text)))

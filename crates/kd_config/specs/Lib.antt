@@ -1,0 +1,17 @@
+pub mod Steps
+pub mod Address
+pub mod HexText
+pub mod Parts
+pub mod Gives
+pub mod Faults
+pub mod Values
+pub mod Lists
+pub mod Options
+pub mod Pool
+pub mod Reservation
+pub mod Class
+pub mod Subnet
+pub mod Settings
+pub mod Document
+pub mod Apart
+pub mod Rules

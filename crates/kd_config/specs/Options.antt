@@ -1,0 +1,52 @@
+-- Option data: the codes and values of options (RFC 2132) that the server sends.
+use Rattle.std.specs.Prelude.{ℕ, Bool, not, ◌==◌, nat_eq, List, [], ◌∷◌, ◌++◌, codes, Option, Some}
+use Rattle.std.specs.List.{list_any}
+use Rattle.serde_json.specs.Data.{Data, Items, no_items, item}
+use Rattle.serde_json.specs.Find.{as_bool, get}
+use Rattle.kd_classes.specs.declared.option_list.OptionData.{OptionData}
+use Rattle.kd_config.specs.Lists.{items_or_none}
+use Rattle.kd_config.specs.Steps.{◌>>=◌, must, only_if}
+use Rattle.kd_config.specs.Values.{bytes_in, has_keys, number_in}
+
+-- the keys of option data
+abbrev pub option_keys : List (List ℕ)
+option_keys = codes "code" ∷ codes "data" ∷ codes "csv-format" ∷ []
+
+-- a value is an object with the keys of option data, all of them
+unfoldable pub has_option_keys : Data → Bool
+has_option_keys d = has_keys option_keys option_keys d
+
+-- the codes of the options that the server makes by itself
+abbrev pub own_codes : List ℕ
+own_codes = 50 ∷ 51 ∷ 52 ∷ 53 ∷ 54 ∷ 55 ∷ 57 ∷ 58 ∷ 59 ∷ 61 ∷ 82 ∷ []
+
+-- the code of an option that may be configured
+unfoldable pub code_in : Data → Option ℕ
+code_in d = do
+  code ← number_in 1 254 d
+  only_if (not (list_any (nat_eq code) own_codes)) code
+
+-- an option of these has the code
+abbrev pub has_code : ℕ → List OptionData → Bool
+has_code code options = list_any (λ option. option.code == code) options
+
+-- the option that a value means behind the options before it
+unfoldable pub option_behind : List OptionData → Data → Option OptionData
+option_behind earlier d = do
+  _ ← must (has_option_keys d)
+  code ← get (codes "code") d >>= code_in
+  _ ← must (not (has_code code earlier))
+  value ← get (codes "data") d >>= bytes_in 0 1024
+  is_text ← get (codes "csv-format") d >>= as_bool
+  only_if (not is_text) (record { code = code; value = value })
+
+-- the options before these items, and those that they mean
+abbrev pub options_behind : List OptionData → Items → Option (List OptionData)
+options_behind earlier no_items = Some earlier
+options_behind earlier (item d ds) = do
+  option ← option_behind earlier d
+  options_behind (earlier ++ option ∷ []) ds
+
+-- the options of a list of at most 64, each code once
+unfoldable pub options_of : Option Data → Option (List OptionData)
+options_of value = items_or_none 64 value >>= options_behind []

@@ -1,0 +1,26 @@
+-- A pool of a subnet.
+use Rattle.std.specs.Prelude.{Bool, [], ◌∷◌, codes, Option, Some}
+use Rattle.serde_json.specs.Data.{Data}
+use Rattle.serde_json.specs.Find.{as_str, get}
+use Rattle.kd_config.specs.Address.{range_of}
+use Rattle.kd_config.specs.Options.{options_of}
+use Rattle.kd_config.specs.Steps.{◌>>=◌, must}
+use Rattle.kd_config.specs.Values.{has_keys}
+use Rattle.kd_config.specs.declared.pool.Pool.{Pool}
+use Rattle.kd_config.specs.declared.range.Range.{Range}
+
+-- a value is an object with the keys of a pool
+unfoldable pub has_pool_keys : Data → Bool
+has_pool_keys d = has_keys (codes "pool" ∷ codes "option-data" ∷ []) (codes "pool" ∷ []) d
+
+-- the addresses of a pool
+unfoldable pub range_in : Data → Option Range
+range_in d = as_str d >>= range_of
+
+-- the pool that a value means
+unfoldable pub pool_of : Data → Option Pool
+pool_of d = do
+  _ ← must (has_pool_keys d)
+  range ← get (codes "pool") d >>= range_in
+  options ← options_of (get (codes "option-data") d)
+  Some (record { range = range; options = options })

@@ -1,0 +1,29 @@
+-- A reservation: an address for the client with a hardware address or an identifier.
+use Rattle.std.specs.Prelude.{ℕ, Bool, List, [], ◌∷◌, codes, Option, Some, None}
+use Rattle.serde_json.specs.Data.{Data}
+use Rattle.serde_json.specs.Find.{get}
+use Rattle.kd_config.specs.Steps.{◌>>=◌, must}
+use Rattle.kd_config.specs.Values.{address_in, bytes_or_none, has_keys}
+use Rattle.kd_config.specs.declared.reservation.Identity.{Identity}
+use Rattle.kd_config.specs.declared.reservation.Identity.TheVariants.{Hardware, ClientId}
+use Rattle.kd_config.specs.declared.reservation.Reservation.{Reservation}
+
+-- a value is an object with the keys of a reservation
+unfoldable pub has_reservation_keys : Data → Bool
+has_reservation_keys d = has_keys (codes "hw-address" ∷ codes "client-id" ∷ codes "ip-address" ∷ []) (codes "ip-address" ∷ []) d
+
+-- one of the two, and not both
+abbrev pub identity_of : Option (List ℕ) → Option (List ℕ) → Option Identity
+identity_of (Some hardware) None = Some (Hardware hardware)
+identity_of None (Some client) = Some (ClientId client)
+identity_of _ _ = None
+
+-- the reservation that a value means
+unfoldable pub reservation_of : Data → Option Reservation
+reservation_of d = do
+  _ ← must (has_reservation_keys d)
+  hardware ← bytes_or_none 1 16 (get (codes "hw-address") d)
+  client ← bytes_or_none 1 255 (get (codes "client-id") d)
+  identity ← identity_of hardware client
+  address ← get (codes "ip-address") d >>= address_in
+  Some (record { identity = identity; address = address })

@@ -1,0 +1,63 @@
+-- Rules over a whole configuration: pools and reserved addresses lie in their subnet's prefix, no two pools
+-- share an address, no address is reserved twice, and no client has two reservations in one subnet.
+use Rattle.std.specs.Prelude.{ℕ, Bool, true, false, not, ◌&&◌, nat_eq, bytes_eq, List, [], ◌∷◌, ◌++◌, map}
+use Rattle.std.specs.List.{list_all, list_any}
+use Rattle.kd_config.specs.Address.{contains}
+use Rattle.kd_config.specs.Apart.{are_apart}
+use Rattle.kd_config.specs.declared.pool.Pool.{Pool}
+use Rattle.kd_config.specs.declared.prefix.Prefix.{Prefix}
+use Rattle.kd_config.specs.declared.range.Range.{Range}
+use Rattle.kd_config.specs.declared.reservation.Identity.{Identity}
+use Rattle.kd_config.specs.declared.reservation.Identity.TheVariants.{Hardware, ClientId}
+use Rattle.kd_config.specs.declared.reservation.Reservation.{Reservation}
+use Rattle.kd_config.specs.declared.subnet.Subnet.{Subnet}
+
+-- a pool lies in a prefix
+abbrev pub is_within : Prefix → Pool → Bool
+is_within prefix pool = contains prefix pool.range.first && contains prefix pool.range.last
+
+-- the addresses that reservations keep
+abbrev pub reserved : List Reservation → List ℕ
+reserved reservations = map (λ reservation. reservation.address) reservations
+
+-- two reservations are for the same client
+abbrev pub same_identity : Identity → Identity → Bool
+same_identity (Hardware a) (Hardware b) = bytes_eq a b
+same_identity (ClientId a) (ClientId b) = bytes_eq a b
+same_identity _ _ = false
+
+-- a reservation has an address of the prefix that is none of the earlier ones
+abbrev pub may_reserve : Prefix → List ℕ → Reservation → Bool
+may_reserve prefix earlier reservation = contains prefix reservation.address && not (list_any (nat_eq reservation.address) earlier)
+
+-- a client is none of the earlier ones
+abbrev pub is_new : List Identity → Identity → Bool
+is_new earlier identity = not (list_any (same_identity identity) earlier)
+
+-- the reservations of a subnet, behind the addresses and the clients that are reserved before them
+abbrev pub may_all_reserve : Prefix → List ℕ → List Identity → List Reservation → Bool
+may_all_reserve prefix earlier clients [] = true
+may_all_reserve prefix earlier clients (r ∷ rs) =
+    may_reserve prefix earlier r && (is_new clients r.identity && may_all_reserve prefix (earlier ++ r.address ∷ []) (clients ++ r.identity ∷ []) rs)
+
+-- the rules of one subnet, behind the addresses that are reserved before it
+unfoldable pub obeys : List ℕ → Subnet → Bool
+obeys earlier subnet = list_all (is_within subnet.prefix) subnet.pools && may_all_reserve subnet.prefix earlier [] subnet.reservations
+
+-- the rules of subnets, one after another
+abbrev pub all_obey : List ℕ → List Subnet → Bool
+all_obey earlier [] = true
+all_obey earlier (subnet ∷ subnets) = obeys earlier subnet && all_obey (earlier ++ reserved subnet.reservations) subnets
+
+-- the addresses of the pools of a subnet
+abbrev pub ranges_in : List Pool → List Range
+ranges_in pools = map (λ pool. pool.range) pools
+
+-- the addresses of all pools, in order
+abbrev pub all_ranges : List Subnet → List Range
+all_ranges [] = []
+all_ranges (subnet ∷ subnets) = ranges_in subnet.pools ++ all_ranges subnets
+
+-- subnets that may stand together: they obey the rules, and no two pools share an address
+unfoldable pub may_stand : List Subnet → Bool
+may_stand subnets = are_apart (all_ranges subnets) && all_obey [] subnets

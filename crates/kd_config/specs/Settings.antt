@@ -1,0 +1,64 @@
+-- The object `Dhcp4` and the root of a configuration.
+use Rattle.std.specs.Prelude.{ℕ, ◌*◌, ◌/◌, Bool, not, ◌&&◌, ◌==◌, nat_le, List, [], ◌∷◌, codes, Option, Some}
+use Rattle.serde_json.specs.Data.{Data}
+use Rattle.serde_json.specs.Find.{get}
+use Rattle.kd_config.specs.Class.{class_of}
+use Rattle.kd_config.specs.Lists.{list_of}
+use Rattle.kd_config.specs.Options.{options_of}
+use Rattle.kd_config.specs.Steps.{◌>>=◌, must, only_if}
+use Rattle.kd_config.specs.Subnet.{subnet_of}
+use Rattle.kd_config.specs.Values.{address_in, has_keys, number_or}
+use Rattle.kd_config.specs.declared.settings.Settings.{Settings}
+use Rattle.kd_config.specs.declared.times.Times.{Times}
+
+-- the keys of `Dhcp4`
+abbrev pub dhcp4_keys : List (List ℕ)
+dhcp4_keys =
+    codes "server-address" ∷ codes "valid-lifetime" ∷ codes "renew-timer" ∷ codes "rebind-timer" ∷ codes "offer-hold" ∷ codes "decline-hold"
+    ∷ codes "option-data" ∷ codes "client-classes" ∷ codes "subnet4" ∷ []
+
+-- a value is an object with the keys of `Dhcp4`
+unfoldable pub has_dhcp4_keys : Data → Bool
+has_dhcp4_keys d = has_keys dhcp4_keys (codes "server-address" ∷ []) d
+
+-- a value is an object with `Dhcp4` and no other key
+unfoldable pub has_root_keys : Data → Bool
+has_root_keys d = has_keys (codes "Dhcp4" ∷ []) (codes "Dhcp4" ∷ []) d
+
+-- the greatest lease time
+abbrev pub longest : ℕ
+longest = 2147483647
+
+-- the address of the server, which is not 0.0.0.0
+unfoldable pub server_in : Data → Option ℕ
+server_in d = do
+  address ← address_in d
+  only_if (not (address == 0)) address
+
+-- the times of leases and of offers: a client renews before it rebinds, and that before the end
+unfoldable pub times_of : Data → Option Times
+times_of d = do
+  lifetime ← number_or 1 longest 7200 (get (codes "valid-lifetime") d)
+  renew ← number_or 0 longest (lifetime / 2) (get (codes "renew-timer") d)
+  rebind ← number_or 0 longest (lifetime * 7 / 8) (get (codes "rebind-timer") d)
+  _ ← must (nat_le renew rebind && nat_le rebind lifetime)
+  offer_hold ← number_or 1 86400 60 (get (codes "offer-hold") d)
+  decline_hold ← number_or 1 31536000 86400 (get (codes "decline-hold") d)
+  Some (record { lifetime = lifetime; renew = renew; rebind = rebind; offer_hold = offer_hold; decline_hold = decline_hold })
+
+-- the settings that the value of `Dhcp4` means
+unfoldable pub settings_of : Data → Option Settings
+settings_of d = do
+  _ ← must (has_dhcp4_keys d)
+  server ← get (codes "server-address") d >>= server_in
+  times ← times_of d
+  options ← options_of (get (codes "option-data") d)
+  classes ← list_of 256 class_of (get (codes "client-classes") d)
+  subnets ← list_of 256 subnet_of (get (codes "subnet4") d)
+  Some (record { server = server; times = times; options = options; classes = classes; subnets = subnets })
+
+-- the settings that a whole text's value means
+unfoldable pub root_of : Data → Option Settings
+root_of d = do
+  _ ← must (has_root_keys d)
+  get (codes "Dhcp4") d >>= settings_of

@@ -1,0 +1,15 @@
+-- Steps of a definition that may give nothing.
+use Rattle.std.specs.Prelude.{Bool, if◌then◌else◌, Option, Some, None, option_and_then}
+
+-- one step after another, where each may give nothing
+infixl 10 ◌>>=◌
+abbrev pub ◌>>=◌ : {A B : Type 0} → Option A → (A → Option B) → Option B
+o >>= f = option_and_then f o
+
+-- go on only where a test holds
+abbrev pub must : Bool → Option (Unit {0})
+must test = if test then Some tt else None
+
+-- a value only where a test holds
+abbrev pub only_if : {A : Type 0} → Bool → A → Option A
+only_if test a = if test then Some a else None

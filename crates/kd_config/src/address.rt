@@ -1,0 +1,49 @@
+ghost use Rattle.std.specs.Prelude.{◌≡◌, option_map};
+ghost use Rattle.kd_config.specs.Address.{address_of, cut_at, without_first_spaces, without_last_spaces};
+
+use kd_expr::read_address;
+
+// The address that a text spells.
+#[tactic(auto, using(crate::proofs::Addresses::read_is))]
+pub(crate) fn address_of(text: &[u8]) -> Option<u32>
+    ensures { result ≡ address_of text.now }
+{
+    match read_address(text) {
+        Some(bytes) => Some(u32::from_be_bytes(bytes)),
+        None => None,
+    }
+}
+
+// What stands before and behind the first of this byte.
+pub(crate) fn cut_at(byte: u8, text: &[u8]) -> Option<(&[u8], &[u8])>
+    ensures { option_map (λ x. (x.0.now, x.1.now)) result ≡ cut_at byte text.now }
+{
+    for (i, b) in text.iter().enumerate() {
+        if *b == byte {
+            return Some((&text[..i], &text[i + 1..]));
+        }
+    }
+    None
+}
+
+// A text without the spaces at its front.
+pub(crate) fn without_first_spaces(text: &[u8]) -> &[u8]
+    ensures { result.now ≡ without_first_spaces text.now }
+{
+    let mut left = text;
+    while let [b' ', rest @ ..] = left {
+        left = rest;
+    }
+    left
+}
+
+// A text without the spaces at its end.
+pub(crate) fn without_last_spaces(text: &[u8]) -> &[u8]
+    ensures { result.now ≡ without_last_spaces text.now }
+{
+    let mut left = text;
+    while let [rest @ .., b' '] = left {
+        left = rest;
+    }
+    left
+}

@@ -1,0 +1,44 @@
+ghost use Rattle.std.specs.Prelude.{◌≡◌, IfOk, OnOk};
+ghost use Rattle.std.specs.List.Sorted.{IsNonDecreasingBy, IsPermutation};
+ghost use Rattle.kd_config.specs.Apart.{are_apart, shares};
+
+use crate::range::Range;
+use std::alloc::{AllocError, Global};
+
+// No two ranges share an address.
+pub(crate) fn are_apart(alloc: Global, ranges: &[Range]) -> Result<bool, AllocError>
+    ensures { IfOk result (λ apart. apart ≡ are_apart ranges.now) }
+{
+    let mut sorted = Vec::from_slice(alloc, ranges)?;
+    sort(&mut sorted)?;
+    Ok(are_steps_apart(&sorted))
+}
+
+// Sorts ranges by their first addresses.
+fn sort(ranges: &mut Vec<Range>) -> Result<(), AllocError>
+    ensures permutation { IsPermutation ranges.old.items ranges.new.items }
+    ensures sorted { OnOk result (IsNonDecreasingBy (λ range. range.first) ranges.new.items) }
+{
+    ranges.sort_by_key(|range| range.first)?;
+    Ok(())
+}
+
+// No range of a sorted list shares an address with the next.
+fn are_steps_apart(ranges: &[Range]) -> bool
+    requires { IsNonDecreasingBy (λ range. range.first) ranges.now }
+    ensures { result ≡ are_apart ranges.now }
+{
+    for i in 1..ranges.len() {
+        if shares(ranges[i - 1], ranges[i]) {
+            return false;
+        }
+    }
+    true
+}
+
+// Two ranges share an address: one of them has the first of the other.
+fn shares(a: Range, b: Range) -> bool
+    ensures { result ≡ shares a b }
+{
+    a.contains(b.first) || b.contains(a.first)
+}

@@ -1,0 +1,48 @@
+ghost use Rattle.std.specs.Prelude.{◌≡◌, IfOk};
+ghost use Rattle.std.specs.List.{filter};
+ghost use Rattle.kd_config.specs.HexText.{bytes_of, counts, without_prefix};
+
+use hex::FromHexError;
+use kd_wire::Bytes;
+use std::alloc::{AllocError, Global};
+
+// The bytes that a hexadecimal text spells.
+#[tactic(auto, unfolding(crate::specs::HexText::bytes_of))]
+pub(crate) fn bytes_of(alloc: Global, text: &[u8]) -> Result<Option<Bytes>, AllocError>
+    ensures { IfOk result (λ bytes. bytes ≡ bytes_of text.now) }
+{
+    let digits = counted(alloc, text)?;
+    match hex::decode(alloc, without_prefix(&digits)) {
+        Ok(bytes) => Ok(Some(Bytes::own(bytes))),
+        Err(error) => match error {
+            FromHexError::OutOfMemory => Err(AllocError),
+            FromHexError::OddLength => Ok(None),
+            FromHexError::InvalidStringLength => Ok(None),
+            FromHexError::InvalidHexCharacter { .. } => Ok(None),
+        },
+    }
+}
+
+// A text without its spaces and colons.
+fn counted(alloc: Global, text: &[u8]) -> Result<Vec<u8>, AllocError>
+    ensures { IfOk result (λ digits. digits.items ≡ filter counts text.now) }
+{
+    let mut digits = Vec::with_capacity(alloc, text.len())?;
+    for b in text {
+        if *b != b' ' && *b != b':' {
+            digits.push(*b)?;
+        }
+    }
+    Ok(digits)
+}
+
+// Digits without a prefix 0x.
+fn without_prefix(text: &[u8]) -> &[u8]
+    ensures { result.now ≡ without_prefix text.now }
+{
+    match text {
+        [b'0', b'x', digits @ ..] => digits,
+        [b'0', b'X', digits @ ..] => digits,
+        _ => text,
+    }
+}

@@ -1,0 +1,74 @@
+use crate::fault::ConfigFault;
+use std::alloc::{AllocError, Global};
+
+// Where a value stands in a configuration.
+#[derive(Clone, Copy)]
+pub(crate) enum Place<'a> {
+    Root,
+    Key(&'a Place<'a>, &'static str),
+    Item(&'a Place<'a>, usize),
+}
+
+// The fault of a key that is missing in the object at a place.
+pub(crate) fn missing(alloc: Global, at: &Place<'_>, key: &str) -> ConfigFault {
+    match path_of_key(alloc, at, key) {
+        Ok(path) => ConfigFault::Missing(path),
+        Err(_) => ConfigFault::Memory,
+    }
+}
+
+// The fault of a key that is not known in the object at a place.
+pub(crate) fn unknown(alloc: Global, at: &Place<'_>, key: &str) -> ConfigFault {
+    match path_of_key(alloc, at, key) {
+        Ok(path) => ConfigFault::Unknown(path),
+        Err(_) => ConfigFault::Memory,
+    }
+}
+
+// The fault of a bad value at a key of the object at a place.
+pub(crate) fn bad_value(alloc: Global, at: &Place<'_>, key: &str) -> ConfigFault {
+    match path_of_key(alloc, at, key) {
+        Ok(path) => ConfigFault::BadValue(path),
+        Err(_) => ConfigFault::Memory,
+    }
+}
+
+// The fault of a bad value at a place.
+pub(crate) fn bad_place(alloc: Global, at: &Place<'_>) -> ConfigFault {
+    match path_of(alloc, at) {
+        Ok(path) => ConfigFault::BadValue(path),
+        Err(_) => ConfigFault::Memory,
+    }
+}
+
+// The path of a key of the object at a place.
+pub(crate) fn path_of_key(alloc: Global, at: &Place<'_>, key: &str) -> Result<String, AllocError> {
+    let mut path = path_of(alloc, at)?;
+    path.push_str("/")?;
+    path.push_str(key)?;
+    Ok(path)
+}
+
+// The path of a place.
+fn path_of(alloc: Global, at: &Place<'_>) -> Result<String, AllocError> {
+    let mut path = String::new(alloc);
+    push_path(alloc, &mut path, at)?;
+    Ok(path)
+}
+
+// Writes the path of a place behind a text.
+fn push_path(alloc: Global, path: &mut String, at: &Place<'_>) -> Result<(), AllocError> {
+    match at {
+        Place::Root => Ok(()),
+        Place::Key(above, key) => {
+            push_path(alloc, path, above)?;
+            path.push_str("/")?;
+            path.push_str(key)
+        }
+        Place::Item(above, number) => {
+            push_path(alloc, path, above)?;
+            let digits = format!(in alloc; "/{number}")?;
+            path.push_str(&digits)
+        }
+    }
+}

@@ -1,0 +1,52 @@
+ghost use Rattle.std.specs.Prelude.{◌≡◌};
+ghost use Rattle.serde_json.specs.View.{view};
+ghost use Rattle.kd_config.specs.Gives.{Gives};
+ghost use Rattle.kd_config.specs.Pool.{has_pool_keys, pool_of, range_in};
+ghost use Rattle.kd_config.specs.Steps.{must};
+
+use crate::fault::ConfigFault;
+use crate::options::options_of;
+use crate::place::{Place, bad_value};
+use crate::range::{Range, range_of};
+use crate::values::check_keys;
+use kd_classes::OptionList;
+use serde_json::Value;
+use std::alloc::Global;
+
+/// A pool of a subnet.
+#[derive(Debug, Drop)]
+pub struct Pool {
+    /// Its addresses.
+    pub range: Range,
+    /// The options of the replies that give them.
+    pub options: OptionList,
+}
+
+// The pool that a value means.
+#[tactic(auto, unfolding(crate::specs::Pool::pool_of))]
+pub(crate) fn pool_of(alloc: Global, value: &Value, at: &Place<'_>) -> Result<Pool, ConfigFault>
+    ensures { Gives result (pool_of (view value.now)) }
+{
+    check_pool(alloc, value, at)?;
+    let Some(range) = value.get("pool").and_then(range_in) else {
+        return Err(bad_value(alloc, at, "pool"));
+    };
+    let options = options_of(alloc, value, at)?;
+    Ok(Pool { range, options })
+}
+
+// The value is an object with the keys of a pool.
+#[tactic(auto, unfolding(crate::specs::Pool::has_pool_keys))]
+fn check_pool(alloc: Global, value: &Value, at: &Place<'_>) -> Result<(), ConfigFault>
+    ensures { Gives result (must (has_pool_keys (view value.now))) }
+{
+    check_keys(alloc, value, at, &["pool", "option-data"], &["pool"])
+}
+
+// The addresses of a pool.
+#[tactic(auto, unfolding(crate::specs::Pool::range_in))]
+fn range_in(value: &Value) -> Option<Range>
+    ensures { result ≡ range_in (view value.now) }
+{
+    range_of(value.as_str()?.as_bytes())
+}

@@ -1,0 +1,82 @@
+ghost use Rattle.std.specs.Prelude.{◌≡◌, ◌+◌, ◌^◌, ◌≤◌, IfSome};
+ghost use Rattle.kd_config.specs.Address.{cleared, contains, length_of, one_or_two_digits, prefix_of, size_of};
+
+use crate::address::{address_of, cut_at};
+
+/// The prefix of a subnet: the addresses whose first bits are those of its address.
+#[derive(Clone, Copy, Debug, PartialEq, Eq)]
+pub struct Prefix {
+    /// Its first address, in host order.
+    pub address: u32,
+    /// How many bits count, 0 to 32.
+    pub length: u8,
+}
+
+impl Prefix {
+    /// How many addresses it has, 1 to 2^32.
+    pub fn size(self) -> u64
+        ensures { result ≡ size_of self.length }
+    {
+        size_of(self.length)
+    }
+
+    /// Whether an address, in host order, is one of its own.
+    pub fn contains(self, address: u32) -> bool
+        ensures { result ≡ contains self address }
+    {
+        address >= self.address && u64::from(address) < u64::from(self.address) + self.size()
+    }
+}
+
+// How many addresses a prefix of this length has.
+fn size_of(length: u8) -> u64
+    ensures { result ≡ size_of length }
+{
+    1 << 32u8.saturating_sub(length)
+}
+
+// An address without the bits behind a prefix of this length.
+fn cleared(address: u32, length: u8) -> u32
+    ensures cleared { result ≡ cleared address length }
+    ensures within { result + size_of length ≤ 2 ^ 32 }
+{
+    let size = size_of(length);
+    (u64::from(address) / size * size) as u32
+}
+
+// The length of a prefix.
+#[tactic(auto, unfolding(crate::specs::Address::length_of))]
+fn length_of(text: &[u8]) -> Option<u8>
+    ensures { result ≡ length_of text.now }
+{
+    let length = one_or_two_digits(text)?;
+    if length <= 32 { Some(length) } else { None }
+}
+
+// The number of one or two decimal digits.
+fn one_or_two_digits(text: &[u8]) -> Option<u8>
+    ensures { result ≡ one_or_two_digits text.now }
+{
+    match text {
+        [a] if a.is_ascii_digit() => Some(*a - b'0'),
+        [a, b] if a.is_ascii_digit() && b.is_ascii_digit() => {
+            Some((*a - b'0') * 10 + (*b - b'0'))
+        }
+        _ => None,
+    }
+}
+
+// The prefix that a text spells.
+#[tactic(auto, unfolding(crate::specs::Address::prefix_of))]
+pub(crate) fn prefix_of(text: &[u8]) -> Option<Prefix>
+    ensures spelled { result ≡ prefix_of text.now }
+    ensures within { IfSome result (λ prefix. prefix.address + size_of prefix.length ≤ 2 ^ 32) }
+{
+    let (address, length) = cut_at(b'/', text)?;
+    let address = address_of(address)?;
+    let length = length_of(length)?;
+    Some(Prefix {
+        address: cleared(address, length),
+        length,
+    })
+}

@@ -1,0 +1,64 @@
+ghost use Rattle.std.specs.Prelude.{◌≡◌, ◌+◌, ◌^◌, ◌≤◌, ◌&&◌, nat_le};
+ghost use Rattle.kd_config.specs.Address.{between, range_between, range_of, range_of_prefix, size_of};
+
+use crate::address::{address_of, cut_at, without_first_spaces, without_last_spaces};
+use crate::prefix::{Prefix, prefix_of};
+
+/// The addresses of a pool: at least one and at most 65,536, in host order.
+#[derive(Clone, Copy, Debug, PartialEq, Eq)]
+pub struct Range {
+    /// The least of them.
+    pub first: u32,
+    /// The greatest of them.
+    pub last: u32,
+}
+
+impl Range {
+    /// Whether an address, in host order, is one of them.
+    pub fn contains(self, address: u32) -> bool
+        ensures { result ≡ (nat_le self.first address && nat_le address self.last) }
+    {
+        self.first <= address && address <= self.last
+    }
+}
+
+// The addresses from the first to the last.
+fn between(first: u32, last: u32) -> Option<Range>
+    ensures { result ≡ between first last }
+{
+    if first <= last && last - first < 65_536 {
+        Some(Range { first, last })
+    } else {
+        None
+    }
+}
+
+// The addresses of a prefix.
+fn range_of_prefix(prefix: Prefix) -> Option<Range>
+    requires { prefix.address + size_of prefix.length ≤ 2 ^ 32 }
+    ensures { result ≡ range_of_prefix prefix }
+{
+    let last = u64::from(prefix.address) + (prefix.size() - 1);
+    between(prefix.address, last as u32)
+}
+
+// The addresses between two.
+#[tactic(auto, unfolding(crate::specs::Address::range_between))]
+fn range_between(first: &[u8], last: &[u8]) -> Option<Range>
+    ensures { result ≡ range_between (first.now, last.now) }
+{
+    let first = address_of(without_last_spaces(first))?;
+    let last = address_of(without_first_spaces(last))?;
+    between(first, last)
+}
+
+// The addresses that the text of a pool spells.
+#[tactic(auto, unfolding(crate::specs::Address::range_of))]
+pub(crate) fn range_of(text: &[u8]) -> Option<Range>
+    ensures { result ≡ range_of text.now }
+{
+    match cut_at(b'-', text) {
+        Some((first, last)) => range_between(first, last),
+        None => range_of_prefix(prefix_of(text)?),
+    }
+}

@@ -1,0 +1,75 @@
+ghost use Rattle.std.specs.Prelude.{◌≡◌};
+ghost use Rattle.serde_json.specs.View.{view};
+ghost use Rattle.kd_config.specs.Gives.{Gives};
+ghost use Rattle.kd_config.specs.Reservation.{has_reservation_keys, identity_of, reservation_of};
+ghost use Rattle.kd_config.specs.Steps.{must};
+
+use crate::fault::ConfigFault;
+use crate::place::{Place, bad_value, missing};
+use crate::values::{address_in, bytes_or_none, check_keys};
+use kd_wire::Bytes;
+use serde_json::Value;
+use std::alloc::Global;
+
+/// Whose address a reservation is.
+#[derive(Debug, Drop)]
+pub enum Identity {
+    /// The client with this hardware address, 1 to 16 bytes.
+    Hardware(Bytes),
+    /// The client with this identifier (RFC 2132 section 9.14), 1 to 255 bytes.
+    ClientId(Bytes),
+}
+
+/// An address that is kept for one client.
+#[derive(Debug, Drop)]
+pub struct Reservation {
+    /// The client.
+    pub identity: Identity,
+    /// The address, in host order.
+    pub address: u32,
+}
+
+// The reservation that a value means.
+#[tactic(auto, unfolding(crate::specs::Reservation::reservation_of))]
+pub(crate) fn reservation_of(
+    alloc: Global,
+    value: &Value,
+    at: &Place<'_>,
+) -> Result<Reservation, ConfigFault>
+    ensures { Gives result (reservation_of (view value.now)) }
+{
+    check_reservation(alloc, value, at)?;
+    let hardware = bytes_or_none(alloc, value, at, "hw-address", 16)?;
+    let client = bytes_or_none(alloc, value, at, "client-id", 255)?;
+    let identity = identity_of(alloc, at, hardware, client)?;
+    let Some(address) = value.get("ip-address").and_then(address_in) else {
+        return Err(bad_value(alloc, at, "ip-address"));
+    };
+    Ok(Reservation { identity, address })
+}
+
+// The value is an object with the keys of a reservation.
+#[tactic(auto, unfolding(crate::specs::Reservation::has_reservation_keys))]
+fn check_reservation(alloc: Global, value: &Value, at: &Place<'_>) -> Result<(), ConfigFault>
+    ensures { Gives result (must (has_reservation_keys (view value.now))) }
+{
+    let known = ["hw-address", "client-id", "ip-address"];
+    check_keys(alloc, value, at, &known, &["ip-address"])
+}
+
+// One of the two identities, and not both.
+fn identity_of(
+    alloc: Global,
+    at: &Place<'_>,
+    hardware: Option<Bytes>,
+    client: Option<Bytes>,
+) -> Result<Identity, ConfigFault>
+    ensures { Gives result (identity_of hardware client) }
+{
+    match (hardware, client) {
+        (Some(hardware), None) => Ok(Identity::Hardware(hardware)),
+        (None, Some(client)) => Ok(Identity::ClientId(client)),
+        (None, None) => Err(missing(alloc, at, "hw-address")),
+        (Some(_), Some(_)) => Err(bad_value(alloc, at, "client-id")),
+    }
+}

@@ -1,0 +1,51 @@
+ghost use Rattle.std.specs.Prelude.{◌≡◌};
+ghost use Rattle.serde_json.specs.View.{view};
+ghost use Rattle.kd_config.specs.Gives.{Gives};
+ghost use Rattle.kd_config.specs.Settings.{longest, times_of};
+
+use crate::fault::ConfigFault;
+use crate::place::{Place, bad_value};
+use crate::values::number_or;
+use serde_json::Value;
+use std::alloc::Global;
+
+// The greatest lease time.
+const LONGEST: u32 = 2_147_483_647;
+
+/// The times of leases and of offers, in seconds.
+#[derive(Clone, Copy, Debug, PartialEq, Eq)]
+pub struct Times {
+    /// How long a lease lasts.
+    pub lifetime: u32,
+    /// When a client renews its lease, T1 of RFC 2131 section 4.4.5.
+    pub renew: u32,
+    /// When a client rebinds its lease, T2 of RFC 2131 section 4.4.5.
+    pub rebind: u32,
+    /// How long an offered address is held.
+    pub offer_hold: u32,
+    /// How long a declined address is not given.
+    pub decline_hold: u32,
+}
+
+// The times of leases and of offers.
+#[tactic(auto, unfolding(crate::specs::Settings::times_of))]
+pub(crate) fn times_of(alloc: Global, object: &Value, at: &Place<'_>) -> Result<Times, ConfigFault>
+    ensures { Gives result (times_of (view object.now)) }
+{
+    let lifetime = number_or(alloc, object, at, "valid-lifetime", 1, LONGEST, 7200)?;
+    let renew = number_or(alloc, object, at, "renew-timer", 0, LONGEST, lifetime / 2)?;
+    let later = (u64::from(lifetime) * 7 / 8) as u32;
+    let rebind = number_or(alloc, object, at, "rebind-timer", 0, LONGEST, later)?;
+    if !(renew <= rebind && rebind <= lifetime) {
+        return Err(bad_value(alloc, at, "rebind-timer"));
+    }
+    let offer_hold = number_or(alloc, object, at, "offer-hold", 1, 86_400, 60)?;
+    let decline_hold = number_or(alloc, object, at, "decline-hold", 1, 31_536_000, 86_400)?;
+    Ok(Times {
+        lifetime,
+        renew,
+        rebind,
+        offer_hold,
+        decline_hold,
+    })
+}
