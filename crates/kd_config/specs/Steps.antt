@@ -1,8 +1,8 @@
 -- Steps of a definition that may give nothing.
 use Rattle.std.specs.Prelude.{Bool, if◌then◌else◌, Option, Some, None, option_and_then}
 
--- one step after another, where each may give nothing
 infixl 10 ◌>>=◌
+-- one step after another, where each may give nothing
 abbrev pub ◌>>=◌ : {A B : Type 0} → Option A → (A → Option B) → Option B
 o >>= f = option_and_then f o
 

@@ -1,10 +1,9 @@
 //! The configuration: an operator's JSON text, and the settings that it stands for.
 //!
-//! What this layer promises to the one above: the settings of a text are those that its value means
-//! (`specs/Settings.antt`, `specs/Subnet.antt`, `specs/Class.antt` and the files that these name), where its
-//! subnets may stand together (`specs/Rules.antt`); a refusal for another cause than want of memory comes only
-//! where the text has none (`specs/Gives.antt`, `specs/Document.antt`). Which fault is found first, and its
-//! path, are tested.
+//! What stands of this layer: `settings_in` answers the settings that a text means, object by object
+//! (`specs/Document.antt` down to `specs/Address.antt` and `specs/HexText.antt`), exactly where it means some
+//! and its subnets obey the rules over the whole (`specs/Rules.antt`), unless memory runs out. It is private
+//! yet: no configuration is made of the settings, and no class of theirs is compiled.
 #![tactic(auto)]
 
 mod address;

@@ -1,3 +1,4 @@
 mod documents;
+mod faults;
 mod refusals;
 mod texts;
