@@ -8,15 +8,15 @@ room=$(mktemp -d)
 trap 'rm -rf "$room"' EXIT
 cc -shared -fPIC -O1 -o "$room/fail.so" docs/fail-alloc/fail.c
 
-asked_by() { FAIL_TELL=1 LD_PRELOAD=$room/fail.so "$@" 2>&1 >/dev/null | sed -n 's/^asked=//p'; }
+asked_by() { FAIL_TELL=1 LD_PRELOAD=$room/fail.so "$@" 2>&1 >/dev/null </dev/null | sed -n 's/^asked=//p'; }
 
 all=0 memory=0 same=0 other=0
 each_refusal() {
     local words=("$@") want status n
-    want=$("${words[@]}" 2>&1) && status=0 || status=$?
+    want=$("${words[@]}" 2>&1 </dev/null) && status=0 || status=$?
     for n in $(seq 1 "$(asked_by "${words[@]}")"); do
         local got now=0
-        got=$(FAIL_AT=$n LD_PRELOAD=$room/fail.so "${words[@]}" 2>&1) || now=$?
+        got=$(FAIL_AT=$n LD_PRELOAD=$room/fail.so "${words[@]}" 2>&1 </dev/null) || now=$?
         all=$((all + 1))
         if [ "$now $got" = "1 fault 91 Memory" ]; then memory=$((memory + 1))
         elif [ "$now $got" = "$status $want" ]; then same=$((same + 1))
@@ -43,38 +43,64 @@ for words in "show abcd" "show 0g" "show -- -a" "--help" "help show" "show" "sho
 done
 echo "program: runs=$all memory=$memory same=$same other=$other"
 
+# Configurations: the built-in one as a text, and texts with one fault each.
+all=0 memory=0 same=0 other=0
+builtin='"server-address":"192.0.2.1","valid-lifetime":3600,"offer-hold":60,"decline-hold":600'
+pool='{"pool":"192.0.2.10 - 192.0.2.11"}' outside='{"pool":"192.0.2.250 - 192.0.3.5"}'
+subnet() { printf '"subnet4":[{"subnet":"192.0.2.0/24","pools":[%s]}]' "$1"; }
+for text in "{" '{"Dhcp4":{}}' "{\"Dhcp4\":{$builtin,$(subnet "$pool")}}" "{\"Dhcp4\":{$builtin,\"lease-database\":1}}" \
+    "{\"Dhcp4\":{$builtin,$(subnet "$outside")}}" "{\"Dhcp4\":{$builtin,$(subnet "$pool,$pool")}}" \
+    "{\"Dhcp4\":{$builtin,\"option-data\":[{\"code\":15,\"data\":\"beef\"}]}}" \
+    "{\"Dhcp4\":{$builtin,\"client-classes\":[{\"name\":\"A\",\"test\":\"'a' == \"}]}}" \
+    "{\"Dhcp4\":{$builtin,\"client-classes\":[{\"name\":\"A\",\"tokens\":\"none.k4tk\"}]}}" \
+    "{\"Dhcp4\":{$builtin,\"client-classes\":[{\"name\":\"B\",\"test\":\"member('A')\"},{\"name\":\"A\"}]}}"; do
+    printf '%s' "$text" >"$room/config.json"
+    each_refusal crates/kdhcp/out/kdhcp replay --config "$room/config.json"
+done
+echo "configurations: runs=$all memory=$memory same=$same other=$other"
+
 # A replay writes whole lines of the events before the one that met the refusal, and answers 91.
 all=0 memory=0 same=0 other=0
-lines=examples/replay/informs.lines replies=examples/replay/informs.replies
-asked=$(FAIL_TELL=1 LD_PRELOAD=$room/fail.so crates/kdhcp/out/kdhcp replay 2>&1 >/dev/null <"$lines" | sed -n 's/^asked=//p')
-for n in $(seq 1 "$asked"); do
-    status=0
-    FAIL_AT=$n LD_PRELOAD=$room/fail.so crates/kdhcp/out/kdhcp replay <"$lines" >"$room/out" 2>"$room/err" || status=$?
-    all=$((all + 1))
-    if [ $status = 0 ] && cmp -s "$room/out" "$replies"; then same=$((same + 1))
-    elif [ $status = 1 ] && [ "$(cat "$room/err")" = "fault 91 Memory" ] &&
-        head -n "$(wc -l <"$room/out")" "$replies" | cmp -s - "$room/out"; then memory=$((memory + 1))
-    else
-        other=$((other + 1))
-        echo "refusal $n of a replay: status $status, $(cat "$room/err")"
-    fi
+each_refusal_of_replay() {
+    local lines=$1 replies=$2 asked n status
+    local run=(crates/kdhcp/out/kdhcp replay "${@:3}")
+    asked=$(FAIL_TELL=1 LD_PRELOAD=$room/fail.so "${run[@]}" 2>&1 >/dev/null <"$lines" | sed -n 's/^asked=//p')
+    for n in $(seq 1 "$asked"); do
+        status=0
+        FAIL_AT=$n LD_PRELOAD=$room/fail.so "${run[@]}" <"$lines" >"$room/out" 2>"$room/err" || status=$?
+        all=$((all + 1))
+        if [ $status = 0 ] && cmp -s "$room/out" "$replies"; then same=$((same + 1))
+        elif [ $status = 1 ] && [ "$(cat "$room/err")" = "fault 91 Memory" ] &&
+            head -n "$(wc -l <"$room/out")" "$replies" | cmp -s - "$room/out"; then memory=$((memory + 1))
+        else
+            other=$((other + 1))
+            echo "refusal $n of a replay of $lines: status $status, $(cat "$room/err")"
+        fi
+    done
+}
+each_refusal_of_replay examples/replay/informs.lines examples/replay/informs.replies
+for folder in crates/kd_examples/data/*/; do
+    each_refusal_of_replay "$folder/events.lines" "$folder/replies.lines" \
+        --config "$folder/config.json" --token-dir "$folder"
 done
 echo "replay: runs=$all memory=$memory same=$same other=$other"
 
 # Reads and writes of one byte each change nothing.
-SHORT_IO=1 LD_PRELOAD=$room/fail.so crates/kdhcp/out/kdhcp replay <"$lines" | cmp - "$replies"
+SHORT_IO=1 LD_PRELOAD=$room/fail.so crates/kdhcp/out/kdhcp replay <examples/replay/informs.lines |
+    cmp - examples/replay/informs.replies
 echo "replay byte by byte: the same"
 
 all=0 passed=0 building=0 second=0 other=0
 for test in kd_options:tests kd_options:reply::tests kd_server:server::replays kd_expr:tests::memory \
-    kd_token:verifier::tests kd_machine:tests kd_compile:tests kd_classes:tests::held kdhcp:answer::tests; do
+    kd_token:verifier::tests kd_machine:tests kd_compile:tests kd_classes:tests::held kd_config:tests::faults \
+    kdhcp:answer::tests::show; do
     run=(crates/"${test%%:*}"/out/"${test%%:*}"_tests "${test#*:}"::want_of_memory_is_answered_as_such)
     for n in $(seq 1 "$(asked_by "${run[@]}")"); do
         all=$((all + 1))
         if got=$(FAIL_AT=$n LD_PRELOAD=$room/fail.so "${run[@]}" 2>&1); then passed=$((passed + 1))
         elif [[ $got == *AllocError* || $got == *AllocFailed* || $got == *OutOfMemory* ]]; then building=$((building + 1))
         # a sink of a test that cannot grow has failed, which is Write
-        elif [[ $got == *Memory* || $got == *"Err(Write)"* ]]; then second=$((second + 1))
+        elif [[ $got == *Memory* || $got == *"Err(Write)"* || $got == *"Some(91)"* ]]; then second=$((second + 1))
         else
             other=$((other + 1))
             echo "refusal $n of ${run[*]}: $got"

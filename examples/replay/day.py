@@ -92,19 +92,28 @@ def answer(datagram):
         return "quiet 10 NoCiaddr"
     if (giaddr if any(giaddr) else ciaddr)[:3] != SERVER[:3]:
         return "quiet 5 NoSubnet"
+    return acknowledged(datagram, found, SERVER, {1: MASK})
+
+
+def acknowledged(datagram, found, server, values):
+    """The ACK of an INFORM with the configured options by code: those asked for, in rising code, as far as they fit."""
+    ciaddr, giaddr = datagram[12:16], datagram[24:28]
     greatest = int.from_bytes(found[57], "big") if len(found.get(57, b"")) == 2 else 576
     room = min(1472, max(576, greatest) - 28)
-    front = written(53, b"\x05") + written(54, SERVER)
+    front = written(53, b"\x05") + written(54, server)
     front += written(61, found[61]) if 61 in found else b""
     end = written(82, found[82]) if 82 in found else b""
-    if 240 + len(front) + len(end) + 1 > room:
+    used = 240 + len(front) + len(end) + 1
+    if used > room:
         return "quiet 11 ReplyTooLong"
-    mask = written(1, MASK) if 1 in found.get(55, b"\x01") else b""
-    if 240 + len(front) + len(mask) + len(end) + 1 > room:
-        mask = b""
+    middle = b""
+    for code, value in sorted(values.items()):
+        option = written(code, value)
+        if (55 not in found or code in found[55]) and used + len(middle) + len(option) <= room:
+            middle += option
     header = bytes([2, datagram[1], datagram[2], 0]) + datagram[4:8] + bytes(2) + datagram[10:12]
     header += ciaddr + bytes(8) + giaddr + datagram[28:44] + bytes(192) + COOKIE
-    reply = (header + front + mask + end + b"\xff").ljust(300, b"\0")
+    reply = (header + front + middle + end + b"\xff").ljust(300, b"\0")
     to = f"relay {dotted(giaddr)}:67" if any(giaddr) else f"unicast {dotted(ciaddr)}:68"
     return f"reply {to} {reply.hex()}"
 

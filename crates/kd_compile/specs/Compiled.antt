@@ -7,6 +7,7 @@ use Rattle.kd_compile.specs.declared.fault.CompileFault.TheVariants as faults
 use Rattle.kd_expr.specs.Tree.{Tree}
 use Rattle.kd_machine.specs.Run.{EndsAs}
 use Rattle.kd_options.specs.Message.{Seen, IsMessage}
+use Rattle.kd_token.specs.Accepts.{Accepts}
 use Rattle.kd_token.specs.File.{Code}
 use Rattle.kd_token.specs.declared.token.Version.{Version}
 use Rattle.kd_token.specs.declared.token.Version.TheVariants as versions
@@ -47,3 +48,10 @@ pub record HasMeasures (t : Tree) (p : Code) : Type 0 where
 abbrev pub Keeps : Tree → Code → Type 0
 Keeps t p = (message : Seen) (held : List (List ℕ)) → IsMessage message
     → (n : ℕ) × (d : ℕ) × (l : ℕ) × EndsAs p message held (truth message held t) n d l
+
+-- a program that an expression compiles to: it has the expression's measures, is accepted, and keeps its
+-- meaning
+pub record IsCompiled (t : Tree) (p : Code) : Type 0 where
+  pub measures : HasMeasures t p
+  pub accepted : Accepts p
+  pub keeps : Keeps t p

@@ -5,3 +5,12 @@ pub mod Left
 pub mod Documents
 pub mod Clients
 pub mod Steps
+pub mod NoClasses
+pub mod Alike
+pub mod Defined
+pub mod Programs
+pub mod Came
+pub mod Sounds
+pub mod SoundSettings
+pub mod SoundBuiltin
+pub mod Shared

@@ -12,4 +12,7 @@ config_fault_number (faults.BadValue path) = 73
 config_fault_number (faults.PoolOutside path) = 74
 config_fault_number (faults.Overlap path) = 75
 config_fault_number (faults.DuplicateReservation path) = 76
+config_fault_number (faults.Expression number fault) = 77
+config_fault_number (faults.Tokens number fault) = 78
+config_fault_number (faults.Class fault) = 79
 config_fault_number faults.Memory = 91

@@ -15,3 +15,7 @@ pub mod Settings
 pub mod Document
 pub mod Apart
 pub mod Rules
+pub mod Configuration
+pub mod Configured
+pub mod Alike
+pub mod Sound

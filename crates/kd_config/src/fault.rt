@@ -1,8 +1,40 @@
 ghost use Rattle.std.specs.Prelude.{◌≡◌};
 ghost use Rattle.kd_config.specs.Faults.{config_fault_number};
 
+use kd_classes::ClassFault;
+use kd_compile::CompileFault;
+use kd_expr::{ExprFault, TypeFault};
+use kd_token::{FileFault, VerifyFault};
 use std::alloc::{AllocError, AllocFailed};
 use thiserror::Error;
+
+/// Why the text of a class's test has no program. It prints as the fault that it holds.
+#[derive(Clone, Copy, Debug, PartialEq, Eq, Error)]
+pub enum TestFault {
+    /// The text is no expression.
+    #[error("{0}")]
+    Reading(ExprFault),
+    /// The expression is no class test.
+    #[error("{0}")]
+    Typing(TypeFault),
+    /// The class test is over a limit of programs.
+    #[error("{0}")]
+    Compiling(CompileFault),
+}
+
+/// Why the token file of a class's test has no program. It prints as the fault that it holds.
+#[derive(Clone, Copy, Debug, PartialEq, Eq, Error)]
+pub enum FileTestFault {
+    /// No file has the name.
+    #[error("Absent")]
+    Absent,
+    /// The file's bytes are no token file.
+    #[error("{0}")]
+    File(FileFault),
+    /// The file's program is not accepted.
+    #[error("{0}")]
+    Verify(VerifyFault),
+}
 
 /// Why a text is no configuration. A path is the keys and list numbers from the root, each after `/`.
 #[derive(Debug, PartialEq, Eq, Drop, Error)]
@@ -13,10 +45,10 @@ pub enum ConfigFault {
     /// A key that has to be there is missing; its path.
     #[error("Missing {0}")]
     Missing(String),
-    /// A key is not known; its path.
+    /// A key is not known; its path, with a control character in the key as `\xHH`.
     #[error("Unknown {0}")]
     Unknown(String),
-    /// A value is of a wrong type or not allowed; its path.
+    /// A value is of a wrong type or not allowed; its path, `-` where it is the whole text.
     #[error("BadValue {0}")]
     BadValue(String),
     /// A pool or a reserved address is not in its subnet's prefix; its path.
@@ -29,13 +61,22 @@ pub enum ConfigFault {
     /// the path of what is repeated.
     #[error("DuplicateReservation {0}")]
     DuplicateReservation(String),
+    /// The text of a class's test has no program; the number of the class from 0, and why.
+    #[error("Expression {0} {1}")]
+    Expression(usize, TestFault),
+    /// The token file of a class's test has no program; the number of the class from 0, and why.
+    #[error("Tokens {0} {1}")]
+    Tokens(usize, FileTestFault),
+    /// The classes may not stand: the first fault in their order.
+    #[error("Class {0}")]
+    Class(ClassFault),
     /// There is no memory for the configuration.
     #[error("Memory")]
     Memory,
 }
 
 impl ConfigFault {
-    /// The fault's number: 70 to 76, or 91 for want of memory.
+    /// The fault's number: 70 to 79, or 91 for want of memory.
     pub fn number(&self) -> u8
         ensures { result ≡ config_fault_number self.now }
     {
@@ -47,6 +88,9 @@ impl ConfigFault {
             ConfigFault::PoolOutside(_) => 74,
             ConfigFault::Overlap(_) => 75,
             ConfigFault::DuplicateReservation(_) => 76,
+            ConfigFault::Expression(..) => 77,
+            ConfigFault::Tokens(..) => 78,
+            ConfigFault::Class(_) => 79,
             ConfigFault::Memory => 91,
         }
     }

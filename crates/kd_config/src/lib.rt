@@ -1,14 +1,20 @@
-//! The configuration: an operator's JSON text, and the settings that it stands for.
+//! The configuration: an operator's JSON text, and what a server goes by.
 //!
-//! What stands of this layer: `settings_in` answers the settings that a text means, object by object
-//! (`specs/Document.antt` down to `specs/Address.antt` and `specs/HexText.antt`), exactly where it means some
-//! and its subnets obey the rules over the whole (`specs/Rules.antt`), unless memory runs out. It is private
-//! yet: no configuration is made of the settings, and no class of theirs is compiled.
+//! What this layer promises to the one above: `Config::read` answers the configuration that a text means with
+//! token files, exactly where it means one, unless memory runs out (`specs/Configured.antt`). Its settings are
+//! those of `specs/Document.antt`, object by object down to `specs/Address.antt` and `specs/HexText.antt`,
+//! where the subnets obey the rules over the whole (`specs/Rules.antt`); each test of its classes is a program
+//! that its text compiles to or that its token file spells, and the classes are in order. A fault says what
+//! and where. Each configuration is within all limits and ranges (`specs/Sound.antt`): its readers say so.
+//! `Config::builtin` is the built-in one (`specs/Configuration.antt`).
 #![tactic(auto)]
 
 mod address;
 mod apart;
+mod builtin;
 mod class;
+mod config;
+mod definitions;
 mod document;
 mod entries;
 mod fault;
@@ -18,7 +24,9 @@ mod options;
 mod place;
 mod pool;
 mod prefix;
+mod program;
 mod range;
+mod read;
 mod reservation;
 mod rules;
 mod settings;
@@ -26,13 +34,16 @@ mod subnet;
 #[cfg(test)]
 mod tests;
 mod times;
+mod token_file;
 mod values;
 
+pub use config::Config;
 pub use entries::Entries;
-pub use fault::ConfigFault;
+pub use fault::{ConfigFault, FileTestFault, TestFault};
 pub use pool::Pool;
 pub use prefix::Prefix;
 pub use range::Range;
 pub use reservation::{Identity, Reservation};
 pub use subnet::Subnet;
 pub use times::Times;
+pub use token_file::TokenFile;

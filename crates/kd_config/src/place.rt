@@ -19,7 +19,7 @@ pub(crate) fn missing(alloc: Global, at: &Place<'_>, key: &str) -> ConfigFault {
 
 // The fault of a key that is not known in the object at a place.
 pub(crate) fn unknown(alloc: Global, at: &Place<'_>, key: &str) -> ConfigFault {
-    match path_of_key(alloc, at, key) {
+    match path_of_unknown(alloc, at, key) {
         Ok(path) => ConfigFault::Unknown(path),
         Err(_) => ConfigFault::Memory,
     }
@@ -43,14 +43,39 @@ pub(crate) fn bad_place(alloc: Global, at: &Place<'_>) -> ConfigFault {
 
 // The path of a key of the object at a place.
 pub(crate) fn path_of_key(alloc: Global, at: &Place<'_>, key: &str) -> Result<String, AllocError> {
-    let mut path = path_of(alloc, at)?;
+    let mut path = String::new(alloc);
+    push_path(alloc, &mut path, at)?;
     path.push_str("/")?;
     path.push_str(key)?;
     Ok(path)
 }
 
-// The path of a place.
+// The path of a key that the text gives, on one line.
+fn path_of_unknown(alloc: Global, at: &Place<'_>, key: &str) -> Result<String, AllocError> {
+    let mut path = String::new(alloc);
+    push_path(alloc, &mut path, at)?;
+    path.push_str("/")?;
+    for c in key.chars() {
+        push_on_one_line(alloc, &mut path, c)?;
+    }
+    Ok(path)
+}
+
+// Writes a character behind a text, and a control character as its number.
+fn push_on_one_line(alloc: Global, text: &mut String, c: char) -> Result<(), AllocError> {
+    if c.is_ascii_control() {
+        let number = format!(in alloc; "\\x{:02x}", u32::from(c))?;
+        text.push_str(&number)
+    } else {
+        text.push(c)
+    }
+}
+
+// The path of a place: of the root `-`, as of all that is empty.
 fn path_of(alloc: Global, at: &Place<'_>) -> Result<String, AllocError> {
+    if let Place::Root = at {
+        return String::from_str(alloc, "-");
+    }
     let mut path = String::new(alloc);
     push_path(alloc, &mut path, at)?;
     Ok(path)

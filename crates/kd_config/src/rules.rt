@@ -1,6 +1,7 @@
-ghost use Rattle.std.specs.Prelude.{◌≡◌, ◌<◌, ◌++◌, ◌∷◌, [], IfOk, OnOk, length, map};
+ghost use Rattle.std.specs.Prelude.{◌≡◌, ◌<◌, ◌++◌, ◌∷◌, [], IfOk, OnOk, false, length, map};
 ghost use Rattle.std.specs.List.{list_all};
 ghost use Rattle.indexmap.specs.IndexSet.{keys};
+ghost use Rattle.kd_config.specs.Apart.{are_apart};
 ghost use Rattle.kd_config.specs.Gives.{Gives};
 ghost use Rattle.kd_config.specs.Parts.{client_by};
 ghost use Rattle.kd_config.specs.Rules.{all_obey, all_ranges, is_new, is_within, may_all_reserve, may_reserve, may_stand, obeys, ranges_in, reserved};
@@ -16,6 +17,7 @@ use crate::reservation::{Identity, Reservation};
 use crate::subnet::Subnet;
 use indexmap::IndexSet;
 use std::alloc::{AllocError, Global};
+use std::convert::Infallible;
 
 // The subnets may stand together.
 #[tactic(auto, unfolding(crate::specs::Rules::may_stand))]
@@ -46,20 +48,27 @@ fn check_each(alloc: Global, subnets: &[Subnet], at: &Place<'_>) -> Result<(), C
 }
 
 // The first fault of subnets of which two pools share an address.
-fn first_fault(alloc: Global, subnets: &[Subnet], ranges: &[Range], at: &Place<'_>) -> ConfigFault {
+fn first_fault(alloc: Global, subnets: &[Subnet], ranges: &[Range], at: &Place<'_>) -> ConfigFault
+    requires all { ranges.now ≡ all_ranges subnets.now }
+    requires shared { are_apart ranges.now ≡ false }
+{
     match check_to_overlap(alloc, subnets, ranges, at) {
-        Ok(()) => overlap(alloc, at, "pools"),
+        Ok(never) => match never {},
         Err(fault) => fault,
     }
 }
 
 // The rules in their order, up to the first pool that shares an address with an earlier one.
+#[tactic(auto, using(crate::proofs::Shared::some_ranges, crate::proofs::Shared::left_behind))]
 fn check_to_overlap(
     alloc: Global,
     subnets: &[Subnet],
     ranges: &[Range],
     at: &Place<'_>,
-) -> Result<(), ConfigFault> {
+) -> Result<Infallible, ConfigFault>
+    requires all { ranges.now ≡ all_ranges subnets.now }
+    requires shared { are_apart ranges.now ≡ false }
+{
     let mut left = first_overlap(alloc, ranges)?;
     let mut earlier = IndexSet::new(alloc);
     for i in 0..subnets.len() {
@@ -71,7 +80,8 @@ fn check_to_overlap(
         left -= count;
         check_subnet(alloc, &subnets[i], &place, &mut earlier)?;
     }
-    Ok(())
+    // the pool is one of theirs
+    unreachable!()
 }
 
 // The first fault of a subnet's pools up to the one with this number, which shares an address.
@@ -80,7 +90,7 @@ fn refuse_pool(
     subnet: &Subnet,
     number: usize,
     at: &Place<'_>,
-) -> Result<(), ConfigFault>
+) -> Result<Infallible, ConfigFault>
     requires { number < length subnet.now.pools }
 {
     let place = Place::Key(&*at, "pools");
@@ -90,7 +100,10 @@ fn refuse_pool(
 }
 
 // How many ranges stand before the first that shares an address with one of them.
-fn first_overlap(alloc: Global, ranges: &[Range]) -> Result<usize, AllocError> {
+fn first_overlap(alloc: Global, ranges: &[Range]) -> Result<usize, AllocError>
+    requires { 0 < length ranges.now }
+    ensures { IfOk result (λ number. number < length ranges.now) }
+{
     let mut apart = 0;
     let mut not_apart = ranges.len();
     while not_apart - apart > 1 {

@@ -1,6 +1,8 @@
 pub mod Fitting
+pub mod Giving
 pub mod Going
 pub mod Histories
 pub mod Looking
 pub mod Spelling
 pub mod Texts
+pub mod Valuing

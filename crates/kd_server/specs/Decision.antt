@@ -1,10 +1,11 @@
 -- What the rules answer for a message, as the code holds it.
 use Rattle.std.specs.Prelude.{◌≡◌, ℕ, List, map, Option, Some, None}
+use Rattle.kd_config.specs.Configuration.{Configuration}
 use Rattle.kd_options.specs.Kind.{type_number}
 use Rattle.kd_options.specs.Message.{Seen}
 use Rattle.kd_options.specs.Reply.{Fits}
 use Rattle.kd_server.specs.Client.{kind_of, room_of}
-use Rattle.kd_server.specs.Change.{outcome_of}
+use Rattle.kd_server.specs.Change.{Gets, outcome_of}
 use Rattle.kd_server.specs.Plan.{Outcome, ReplyOption, option_in}
 use Rattle.kd_server.specs.Plan.Outcome.{planned, quiet}
 use Rattle.kd_server.specs.ReplyOf.{reply_header}
@@ -36,8 +37,14 @@ abbrev pub IsDecided : Seen → Option Outcome → Decision → Type 0
 IsDecided m None decision = ⊥
 IsDecided m (Some outcome) decision = IsDecision m outcome decision
 
--- why a message is not served: no rule is for its type, or memory ran out
-abbrev pub IsUnserved : Seen → ServeFault → Type 0
-IsUnserved m (Unsupported kind) = (outcome_of m ≡ None) × (kind_of m ≡ type_number kind)
-IsUnserved m MomentTooLarge = ⊥
-IsUnserved m Memory = Unit {0}
+-- why a message whose classes have these names is not served: no rule is for its type, or memory ran out
+abbrev pub IsUndecided : Configuration → List (List ℕ) → Seen → ServeFault → Type 0
+IsUndecided config names m (Unsupported kind) = (outcome_of config names m ≡ None) × (kind_of m ≡ type_number kind)
+IsUndecided config names m MomentTooLarge = ⊥
+IsUndecided config names m Memory = Unit {0}
+
+-- why a message is not served
+abbrev pub IsUnserved : Configuration → Seen → ServeFault → Type 0
+IsUnserved config m (Unsupported kind) = Gets config m None × (kind_of m ≡ type_number kind)
+IsUnserved config m MomentTooLarge = ⊥
+IsUnserved config m Memory = Unit {0}

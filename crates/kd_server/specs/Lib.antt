@@ -1,9 +1,9 @@
-pub mod Builtin
 pub mod Change
 pub mod Client
 pub mod Decision
 pub mod Destination
 pub mod Faults
+pub mod Given
 pub mod Handling
 pub mod History
 pub mod Lines
@@ -15,4 +15,6 @@ pub mod ReplyOf
 pub mod Responding
 pub mod Standing
 pub mod Step
+pub mod SubnetOf
 pub mod Text
+pub mod Valuing

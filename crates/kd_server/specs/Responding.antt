@@ -1,6 +1,8 @@
 -- The steps in which a server answers a datagram. Proofs tie these to the history's one event; no public
 -- contract cites them.
 use Rattle.std.specs.Prelude.{◌≡◌, List, ℕ, ◌<◌, ◌≤◌, ◌^◌, ◌⊎◌, length, Option, Some, None}
+use Rattle.kd_classes.specs.HeldSet.{HeldSet}
+use Rattle.kd_config.specs.Configuration.{Configuration}
 use Rattle.kd_options.specs.Message.{Seen, Reads}
 use Rattle.kd_options.specs.Reply.{reply_text}
 use Rattle.kd_server.specs.Change.{outcome_of}
@@ -28,23 +30,29 @@ abbrev pub IsAnswer : Ports → Seen → Option Outcome → Response → Type 0
 IsAnswer ports m None response = ⊥
 IsAnswer ports m (Some outcome) response = Responds ports m outcome response
 
+-- what is sent for a message, by the classes that it is in
+pub record IsAnswerBy (config : Configuration) (ports : Ports) (m : Seen) (response : Response) : Type 0 where
+  pub names : List (List ℕ)
+  pub held : HeldSet m config.classes names
+  pub answer : IsAnswer ports m (outcome_of config names m) response
+
 -- a datagram reads as a message, which gets what is sent
-pub record IsAnswerTo (ports : Ports) (bytes : List ℕ) (response : Response) : Type 0 where
+pub record IsAnswerTo (config : Configuration) (ports : Ports) (bytes : List ℕ) (response : Response) : Type 0 where
   pub message : Seen
   pub reads : Reads bytes message
-  pub answer : IsAnswer ports message (outcome_of message) response
+  pub answer : IsAnswerBy config ports message response
 
 -- what is sent for a datagram
-abbrev pub IsResponse : Ports → List ℕ → Response → Type 0
-IsResponse ports bytes response =
+abbrev pub IsResponse : Configuration → Ports → List ℕ → Response → Type 0
+IsResponse config ports bytes response =
     (((m : Seen) → Reads bytes m → ⊥) × (response ≡ responses.Quiet reasons.Unreadable))
-    ⊎ IsAnswerTo ports bytes response
+    ⊎ IsAnswerTo config ports bytes response
 
 -- why nothing is decided for a datagram
-abbrev pub IsUnanswered : List ℕ → ServeFault → Type 0
-IsUnanswered bytes (Unsupported kind) = (m : Seen) × Reads bytes m × IsUnserved m (Unsupported kind)
-IsUnanswered bytes MomentTooLarge = ⊥
-IsUnanswered bytes Memory = Unit {0}
+abbrev pub IsUnanswered : Configuration → List ℕ → ServeFault → Type 0
+IsUnanswered config bytes (Unsupported kind) = (m : Seen) × Reads bytes m × IsUnserved config m (Unsupported kind)
+IsUnanswered config bytes MomentTooLarge = ⊥
+IsUnanswered config bytes Memory = Unit {0}
 
 -- what is sent has at most 1,472 bytes, and goes to an address and a port
 abbrev pub IsSmall : Response → Type 0

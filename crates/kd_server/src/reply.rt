@@ -1,6 +1,7 @@
 ghost use Rattle.std.specs.Prelude.{◌≡◌, ◌++◌, ◌∷◌, [], IsTrue, OnOk, map, option_copied};
 ghost use Rattle.kd_options.specs.Reply.{Fits};
-ghost use Rattle.kd_server.specs.Change.{configured, obligatory, returned};
+ghost use Rattle.kd_server.specs.Change.{obligatory, returned};
+ghost use Rattle.kd_server.specs.Given.{optional};
 ghost use Rattle.kd_server.specs.Plan.{option_in};
 ghost use Rattle.kd_server.specs.ReplyOf.{is_short, reply_ciaddr, reply_flags, reply_header};
 ghost use Rattle.kd_wire.specs.Area.{IsCode};
@@ -93,22 +94,17 @@ pub(crate) fn put_returned(
     }
 }
 
-// Puts a configured option, where the client asks for it.
-pub(crate) fn put_configured(
+// Puts an option that is left out where there is no room for it.
+pub(crate) fn put_optional(
     alloc: Global,
     list: &mut Vec<Item>,
-    asked: bool,
     code: u8,
     value: &[u8],
 ) -> Result<(), AllocError>
     requires { IsCode code }
-    ensures { OnOk result (map option_in list.new.items ≡ map option_in list.old.items ++ configured asked code value.now) }
+    ensures { OnOk result (map option_in list.new.items ≡ map option_in list.old.items ++ optional code value.now) }
 {
-    if asked {
-        put_option(alloc, list, code, value, false)
-    } else {
-        Ok(())
-    }
+    put_option(alloc, list, code, value, false)
 }
 
 fn put_option(

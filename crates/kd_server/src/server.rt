@@ -1,11 +1,10 @@
 ghost use Rattle.std.specs.Prelude.{◌≡◌, ◌≤◌, ◌⊎◌, ℕ, List, Some, true, false, IfErr, IfOk, length};
 ghost use Rattle.std.specs.Result.{IsErrOf};
 ghost use Rattle.kd_options.specs.Reply.{Fits};
-ghost use Rattle.kd_server.specs.Change.{outcome_of};
 ghost use Rattle.kd_server.specs.Decision.{IsUnserved};
 ghost use Rattle.kd_server.specs.History.{Runs};
 ghost use Rattle.kd_server.specs.Replay.{Handles, Leaves, most_lines};
-ghost use Rattle.kd_server.specs.Responding.{IsAnswer, IsResponse, IsSent, IsSmall, IsUnanswered};
+ghost use Rattle.kd_server.specs.Responding.{IsAnswerBy, IsResponse, IsSent, IsSmall, IsUnanswered};
 ghost use Rattle.kd_server.specs.Standing.{Fails, Gives};
 ghost use Rattle.kd_server.specs.Text.{line_of, line_room};
 ghost use Rattle.kd_server.specs.declared.fault.ReplayFault.TheVariants as faults;
@@ -22,16 +21,17 @@ use crate::rules::decide;
 use crate::running::run_with;
 use crate::sending::destination;
 use crate::serves::Serves;
+use kd_config::Config;
 use kd_options::{Message, ReadFault, WriteFault};
 use kd_wire::Bytes;
 use std::alloc::Global;
 use std::marker::Model;
 
-/// A server over the built-in configuration: its address is 192.0.2.1, its one subnet 192.0.2.0/24, and no
-/// address is leased.
+/// A server that goes by a configuration; no address is leased.
 #[derive(Debug, Drop)]
 pub struct Server {
     ports: Ports,
+    config: Config,
     alloc: Global,
 }
 
@@ -40,18 +40,31 @@ impl Model for Server {
 
     ghost Value = { Standing };
 
-    ghost view = { λ s. record { ports = s.ports; table = tt } };
+    ghost view = { λ s. record { ports = s.ports; config = s.config; table = tt } };
 }
 
 // Moments are below this, 2^40 seconds.
 const MOMENTS: u64 = 0x100_0000_0000;
 
 impl Server {
-    /// A server with these ports. It keeps the allocator for its calls, and takes no memory itself.
-    pub fn builtin(alloc: Global, ports: Ports) -> Server
-        ensures { result ≡ record { ports = ports; table = tt } }
+    /// A server with these ports that goes by this configuration. It keeps the allocator for its calls,
+    /// and takes no memory itself.
+    pub fn new(alloc: Global, config: Config, ports: Ports) -> Server
+        ensures { result ≡ record { ports = ports; config = config; table = tt } }
     {
-        Server { ports, alloc }
+        Server {
+            ports,
+            config,
+            alloc,
+        }
+    }
+
+    /// The server's end: the configuration that it went by.
+    pub fn close(self) -> Config
+        ensures { result ≡ self.config }
+    {
+        let Server { config, .. } = self;
+        config
     }
 
     /// What is sent for a datagram at a moment, in whole seconds (RFC 2131 section 4.3).
@@ -71,7 +84,7 @@ impl Server {
         if moment >= MOMENTS {
             return Err(ServeFault::MomentTooLarge);
         }
-        let response = respond(self.alloc, self.ports, bytes)?;
+        let response = respond(self.alloc, self.ports, &self.config, bytes)?;
         Ok(Handled {
             now: moment,
             response,
@@ -130,25 +143,36 @@ pub fn replay<R: Source, W: Sink>(
 }
 
 // What is sent for a datagram.
-fn respond(alloc: Global, ports: Ports, bytes: &[u8]) -> Result<Response, ServeFault>
-    ensures found { IfOk result (IsResponse ports bytes.now) }
+fn respond(
+    alloc: Global,
+    ports: Ports,
+    config: &Config,
+    bytes: &[u8],
+) -> Result<Response, ServeFault>
+    ensures found { IfOk result (IsResponse config.now ports bytes.now) }
     ensures small { IfOk result IsSmall }
-    ensures fault { IfErr result (IsUnanswered bytes.now) }
+    ensures fault { IfErr result (IsUnanswered config.now bytes.now) }
 {
     match Message::read(alloc, bytes) {
-        Ok(message) => answer(alloc, ports, &message),
+        Ok(message) => answer(alloc, ports, config, &message),
         Err(ReadFault::Memory) => Err(ServeFault::Memory),
         Err(_) => Ok(Response::Quiet(Reason::Unreadable)),
     }
 }
 
 // What is sent for a message.
-fn answer(alloc: Global, ports: Ports, message: &Message<'_>) -> Result<Response, ServeFault>
-    ensures found { IfOk result (IsAnswer ports message.now (outcome_of message.now)) }
+fn answer(
+    alloc: Global,
+    ports: Ports,
+    config: &Config,
+    message: &Message<'_>,
+) -> Result<Response, ServeFault>
+    ensures found { IfOk result (IsAnswerBy config.now ports message.now) }
     ensures small { IfOk result IsSmall }
-    ensures fault { IfErr result (IsUnserved message.now) }
+    ensures fault { IfErr result (IsUnserved config.now message.now) }
 {
-    match decide(alloc, message)? {
+    let names = config.classes().held(alloc, message)?;
+    match decide(alloc, config, &names, message)? {
         Decision::Quiet(reason) => Ok(Response::Quiet(reason)),
         Decision::Plan(plan) => sent(alloc, ports, message, &plan),
     }
@@ -176,6 +200,8 @@ fn sent(
 }
 
 #[cfg(test)]
+mod configured;
+#[cfg(test)]
 mod replays;
 #[cfg(test)]
-mod tests;
+pub(crate) mod tests;

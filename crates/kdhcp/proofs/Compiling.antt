@@ -2,7 +2,7 @@
 use Rattle.std.proofs.Common.{◌≡◌, ℕ, subst, Bool, List, ◌++◌, None, Result, Ok, Err}
 use Rattle.std.specs.Result.{IfOk}
 use Rattle.hex.specs.Hex.{encode_lower}
-use Rattle.kd_compile.specs.Compiled.{first_over}
+use Rattle.kd_compile.specs.Compiled.{IsCompiled, first_over}
 use Rattle.kd_compile.specs.Value.{truth}
 use Rattle.kd_expr.specs.Tree.{Tree}
 use Rattle.kd_machine.specs.Held.{base_names}
@@ -10,9 +10,9 @@ use Rattle.kd_machine.specs.Run.{Run}
 use Rattle.kd_options.specs.Joined.{value_of}
 use Rattle.kd_options.specs.Message.{AreBytes, IsMessage, Seen}
 use Rattle.kd_token.specs.File.{Code, IsFileOf}
-use Rattle.kdhcp.specs.Printed.{IsCompiled, IsSuccess, OfCompiled, OfDatagram, PrintsFile, RunsOver, TestsDatagram, TestsOver, run_line}
+use Rattle.kdhcp.specs.Printed.{IsSuccess, OfCompiled, OfDatagram, PrintsFile, RunsOver, TestsDatagram, TestsOver, run_line}
 use Rattle.kdhcp.specs.Show.{line_feed}
-use Rattle.kdhcp.specs.declared.answer.Printed.{Printed}
+use Rattle.kdhcp.specs.declared.answer.printed.Printed.{Printed}
 
 -- a class test over no limit
 within : (says : Tree → Printed → Type 0) (tree : Tree) (p : Printed) → first_over tree ≡ None → says tree p → OfCompiled says tree p

@@ -1,13 +1,4 @@
-pub mod BareLine
-pub mod Commands
 pub mod Compiling
-pub mod EvalLine
-pub mod Flags
-pub mod Level
-pub mod Lines
-pub mod Orders
 pub mod Shown
-pub mod TextLine
-pub mod Top
 pub mod Typed
 pub mod Verifying

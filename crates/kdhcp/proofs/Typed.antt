@@ -7,7 +7,7 @@ use Rattle.kd_expr.specs.Tree.{Tree}
 use Rattle.kd_expr.specs.declared.fault.ExprFault.{ExprFault}
 use Rattle.kd_expr.specs.declared.fault.ExprFault.TheVariants.{TooLong, Memory}
 use Rattle.kdhcp.specs.Printed.{IsRefusal, OfText}
-use Rattle.kdhcp.specs.declared.answer.Printed.{Printed}
+use Rattle.kdhcp.specs.declared.answer.printed.Printed.{Printed}
 
 module _ (says : Tree → Printed → Type 0) where
   -- a text that spells one tree

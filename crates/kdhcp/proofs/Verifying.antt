@@ -7,7 +7,7 @@ use Rattle.kd_token.specs.File.{Code}
 use Rattle.kd_token.specs.declared.fault.VerifyFault.{VerifyFault}
 use Rattle.kd_token.specs.declared.fault.VerifyFault.TheVariants.{Memory}
 use Rattle.kdhcp.specs.Printed.{IsRefusal, OfAccepted}
-use Rattle.kdhcp.specs.declared.answer.Printed.{Printed}
+use Rattle.kdhcp.specs.declared.answer.printed.Printed.{Printed}
 
 module _ {E : Type 0} (says : Code → Printed → Type 0) where
   -- a program that is accepted

@@ -4,7 +4,7 @@ use Rattle.std.specs.String.{string_bytes}
 use Rattle.std.specs.Fmt.{decimal}
 use Rattle.hex.specs.Hex.{decode_of, encode_lower}
 use Rattle.hex.specs.declared.FromHexError.{FromHexError}
-use Rattle.kd_compile.specs.Compiled.{HasMeasures, Keeps, compile_fault_number, first_over}
+use Rattle.kd_compile.specs.Compiled.{IsCompiled, compile_fault_number, first_over}
 use Rattle.kd_compile.specs.Value.{truth}
 use Rattle.kd_expr.specs.Faults.{expr_fault_number, type_fault_number}
 use Rattle.kd_expr.specs.Grammar.{Parses}
@@ -29,9 +29,9 @@ use Rattle.kd_token.specs.declared.fault.VerifyFault.{VerifyFault}
 use Rattle.kd_token.specs.declared.fault.VerifyFault.TheVariants as verifying
 use Rattle.kdhcp.specs.Show.{show_text, line_feed}
 use Rattle.kdhcp.specs.Status.{status_of}
-use Rattle.kdhcp.specs.declared.answer.Printed.{Printed}
-use Rattle.kdhcp.specs.declared.order.Order.{Order}
-use Rattle.kdhcp.specs.declared.order.Order.TheVariants.{Help, Show, Expr, Compile, Verify, Eval, EvalText, Replay}
+use Rattle.kdhcp.specs.declared.answer.printed.Printed.{Printed}
+use Rattle.kd_order.specs.declared.orders.Order.{Order}
+use Rattle.kd_order.specs.declared.orders.Order.TheVariants.{Help, Show, Expr, Compile, Verify, Eval, EvalText, Replay}
 
 -- this text and nothing else
 pub record IsSuccess (text : List ℕ) (p : Printed) : Type 0 where
@@ -98,12 +98,6 @@ TypesTree = OfTest (λ tree p. IsSuccess (nodes_line (nodes tree)) p)
 -- the same of a text
 abbrev pub TypesText : List ℕ → Printed → Type 0
 TypesText = OfText TypesTree
-
--- a program that a class test compiles to: it has the test's measures, is accepted, and keeps its meaning
-pub record IsCompiled (tree : Tree) (c : Code) : Type 0 where
-  pub measures : HasMeasures tree c
-  pub accepted : Accepts c
-  pub keeps : Keeps tree c
 
 -- what is said of a class test that is over no limit of programs, and else the first that it is over
 abbrev pub OfCompiled : (Tree → Printed → Type 0) → Tree → Printed → Type 0
@@ -225,7 +219,7 @@ IsPrinted (Compile text) = Unit {0}
 IsPrinted (Verify hex) = Unit {0}
 IsPrinted (Eval program datagram) = Unit {0}
 IsPrinted (EvalText text datagram) = Unit {0}
-IsPrinted Replay = ⊥
+IsPrinted (Replay config token_dir) = ⊥
 
 -- what each such order prints
 abbrev pub Answers : Order → Printed → Type 0
@@ -236,4 +230,4 @@ Answers (Compile text) p = CompilesText (string_bytes text) p
 Answers (Verify hex) p = VerifiesDecoded (decode_of (string_bytes hex)) p
 Answers (Eval program datagram) p = RunsDecoded (decode_of (string_bytes program)) (decode_of (string_bytes datagram)) p
 Answers (EvalText text datagram) p = TestsDecoded (string_bytes text) (decode_of (string_bytes datagram)) p
-Answers Replay p = ⊥
+Answers (Replay config token_dir) p = ⊥

@@ -1,30 +1,29 @@
 //! The program `kdhcp`: it reads the words behind its name, and does what they ask for.
 //!
-//! `order` reads the words (`specs/Order.antt`, `specs/Line.antt`), `answer` gives what an order prints that
-//! needs nothing but its words (`specs/Printed.antt`, `specs/Show.antt`), and `replayed` replays the events
-//! of a source into a sink. This page ties them to the standard streams.
+//! `kd_order` reads the words, `answer` gives what an order prints that needs nothing but its words
+//! (`specs/Printed.antt`, `specs/Show.antt`), and `kd_server` replays the events of a source into a sink.
+//! This page ties them to the standard streams and to the files of a configuration.
 #![tactic(auto)]
 
 mod answer;
-mod order;
 mod show;
 mod status;
-mod streams;
-mod words;
 
 use answer::{Printed, answer};
+use kd_ends::{Input, Output, configuration};
+use kd_order::{LineFault, Order, order};
 use kd_server::{Ports, Server, replay};
-use order::{LineFault, Order};
 use status::{exit_status, replay_status};
 use std::fmt::Display;
 use std::io;
 use std::io::Write;
 use std::process::ExitCode;
-use streams::{Input, Output};
 
 fn main(rt: HostRuntime) -> io::Result<ExitCode> {
     match ordered(&rt) {
-        Ok(Order::Replay) => replayed(&rt),
+        Ok(Order::Replay { config, token_dir }) => {
+            replayed(&rt, config.as_deref(), token_dir.as_deref())
+        }
         Ok(order) => match answer(rt.alloc(), &order) {
             Ok(printed) => print(&rt, &printed),
             Err(error) => unanswered(&rt, LineFault::from(error)),
@@ -40,7 +39,7 @@ fn ordered(rt: &HostRuntime) -> Result<Order, LineFault> {
         Err(error) if error.kind() == io::ErrorKind::OutOfMemory => return Err(LineFault::Memory),
         Err(_) => return Err(LineFault::CommandLine),
     };
-    words::order(rt.alloc(), &words)
+    order(rt.alloc(), &words)
 }
 
 // Prints what an order gives.
@@ -62,15 +61,24 @@ fn refuse<F: Display>(rt: &HostRuntime, number: u8, fault: &F, status: u8) -> io
     Ok(ExitCode::from(status))
 }
 
-// Replays the events of standard input to standard output, as a server on the standard's ports.
-fn replayed(rt: &HostRuntime) -> io::Result<ExitCode> {
+// Replays the events of standard input to standard output, as a server that goes by the configuration of
+// these files, on the standard's ports.
+fn replayed(
+    rt: &HostRuntime,
+    config: Option<&str>,
+    token_dir: Option<&str>,
+) -> io::Result<ExitCode> {
+    let config = match configuration(rt, config, token_dir) {
+        Ok(config) => config,
+        Err(fault) => return refuse(rt, fault.number(), &fault, exit_status(fault.number())),
+    };
     let mut source = Input::over(rt.reader());
     let mut sink = Output::over(io::writer(rt));
     let ports = Ports {
         server: 67,
         client: 68,
     };
-    let mut server = Server::builtin(rt.alloc(), ports);
+    let mut server = Server::new(rt.alloc(), config, ports);
     match replay(rt.alloc(), &mut source, &mut sink, &mut server) {
         Ok(_) => Ok(ExitCode::SUCCESS),
         Err(fault) => refuse(rt, fault.number(), &fault, replay_status(fault)),

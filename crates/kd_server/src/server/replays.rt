@@ -109,13 +109,13 @@ fn replayed(
     alloc: Global,
     input: &str,
     ends: (usize, bool, usize),
-) -> (Result<u64, ReplayFault>, Keeping) {
+) -> Result<(Result<u64, ReplayFault>, Keeping), Fail> {
     let (step, source_fails, sink_limit) = ends;
     let mut source = Giving::new(input.as_bytes(), step, source_fails);
     let mut sink = Keeping::new(alloc, step.max(1), sink_limit);
-    let mut server = Server::builtin(alloc, tests::PORTS);
+    let mut server = tests::builtin(alloc)?;
     let result = replay(alloc, &mut source, &mut sink, &mut server);
-    (result, sink)
+    Ok((result, sink))
 }
 
 #[test]
@@ -130,7 +130,7 @@ fn a_replay_writes_a_line_for_each_event(rt: HostRuntime) -> Result<(), Fail> {
             output,
         } = case;
         let ends = (step, source_fails, sink_limit);
-        let (result, sink) = replayed(rt.alloc(), input, ends);
+        let (result, sink) = replayed(rt.alloc(), input, ends)?;
         assert_eq!(rt; result, want, "{input}");
         assert!(rt; sink.as_slice() == output.as_bytes(), "{input}");
     }
@@ -143,7 +143,7 @@ fn an_unsupported_message_ends_a_replay(rt: HostRuntime) -> Result<(), Fail> {
     let discover = tests::message(rt.alloc(), &tests::DISCOVER)?;
     let hex = hex::encode(rt.alloc(), discover.as_slice())?;
     let input = format!(in rt.alloc(); "1 \n2 {hex}\n3 \n")?;
-    let (result, sink) = replayed(rt.alloc(), input.as_str(), (64, false, 100_000));
+    let (result, sink) = replayed(rt.alloc(), input.as_str(), (64, false, 100_000))?;
     let fault = ServeFault::Unsupported(MessageType::Discover);
     assert_eq!(rt; result, Err(ReplayFault::Serve(fault)));
     assert!(rt; sink.as_slice() == b"1 quiet 1 Unreadable\n".as_slice());
@@ -171,7 +171,7 @@ fn an_inform_is_a_line_and_its_reply_another(rt: HostRuntime) -> Result<(), Fail
         "1000 reply unicast 192.0.2.77:68 {}\n1000 quiet 10 NoCiaddr\n",
         hex::encode(rt.alloc(), reply.as_slice())?
     )?;
-    let (result, sink) = replayed(rt.alloc(), input.as_str(), (100, false, 100_000));
+    let (result, sink) = replayed(rt.alloc(), input.as_str(), (100, false, 100_000))?;
     assert_eq!(rt; result, Ok(2));
     assert!(rt; sink.as_slice() == output.as_bytes());
     Ok(())
@@ -184,7 +184,7 @@ fn a_line_may_be_long(rt: HostRuntime) -> Result<(), Fail> {
         let moment = if len % 2 == 1 { "55 " } else { "5 " };
         let zeros = "0".repeat(rt.alloc(), len - moment.len())?;
         let input = format!(in rt.alloc(); "{moment}{zeros}")?;
-        let (result, _) = replayed(rt.alloc(), input.as_str(), (50_000, false, 100_000));
+        let (result, _) = replayed(rt.alloc(), input.as_str(), (50_000, false, 100_000))?;
         assert_eq!(rt; result, want, "{len} bytes");
     }
     Ok(())
@@ -201,7 +201,7 @@ fn a_run_ends_at_the_first_fault(rt: HostRuntime) -> Result<(), Fail> {
             bytes: Bytes::own(bytes),
         })?;
     }
-    let mut server = Server::builtin(rt.alloc(), tests::PORTS);
+    let mut server = tests::builtin(rt.alloc())?;
     let (list, fault) = server.run(&events);
     assert_eq!(rt; (list.len(), fault), (2, None));
     assert!(rt; matches!(list[0].response, Response::Reply(..)));
@@ -231,8 +231,8 @@ fn want_of_memory_is_answered_as_such(rt: HostRuntime) -> Result<(), Fail> {
         moment: 5,
         bytes: Bytes::own(inform),
     })?;
-    let mut server = Server::builtin(rt.alloc(), tests::PORTS);
-    let (first, sink) = replayed(rt.alloc(), input.as_str(), (1000, false, 100_000));
+    let mut server = tests::builtin(rt.alloc())?;
+    let (first, sink) = replayed(rt.alloc(), input.as_str(), (1000, false, 100_000))?;
     match first {
         Err(ReplayFault::Memory) | Err(ReplayFault::Write) => assert!(rt;
             sink.as_slice().len() <= 21
@@ -240,7 +240,7 @@ fn want_of_memory_is_answered_as_such(rt: HostRuntime) -> Result<(), Fail> {
         other => assert_eq!(rt; other, Ok(2)),
     }
     assert_eq!(rt;
-        replayed(rt.alloc(), input.as_str(), (1000, false, 100_000)).0,
+        replayed(rt.alloc(), input.as_str(), (1000, false, 100_000))?.0,
         Ok(2)
     );
     let (list, fault) = server.run(&events);

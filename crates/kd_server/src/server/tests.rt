@@ -65,6 +65,11 @@ pub(crate) fn message(alloc: Global, fields: &Fields) -> Result<Vec<u8>, Fail> {
     Ok(bytes)
 }
 
+// The INFORM with this options field.
+pub(crate) fn inform(alloc: Global, options: &'static str) -> Result<Vec<u8>, Fail> {
+    message(alloc, &Fields { options, ..INFORM })
+}
+
 // The bytes of the reply to that message with these options, End, and zeros up to 300 bytes.
 pub(crate) fn reply(
     alloc: Global,
@@ -82,9 +87,14 @@ pub(crate) fn reply(
     Ok(bytes)
 }
 
+// A server that goes by the built-in configuration.
+pub(crate) fn builtin(alloc: Global) -> Result<Server, Fail> {
+    Ok(Server::new(alloc, Config::builtin(alloc)?, PORTS))
+}
+
 fn handled(alloc: Global, fields: &Fields) -> Result<Handled, Fail> {
     let bytes = message(alloc, fields)?;
-    let mut server = Server::builtin(alloc, PORTS);
+    let mut server = builtin(alloc)?;
     Ok(server.handle(1000, bytes.as_slice())?)
 }
 
@@ -280,7 +290,7 @@ fn long_inform(alloc: Global, behind: &str) -> Result<Vec<u8>, Fail> {
 // Without option 57 the room is 548 bytes; with 1,500 in it, 1,472.
 #[test]
 fn a_long_identifier_needs_a_large_room(rt: HostRuntime) -> Result<(), Fail> {
-    let mut server = Server::builtin(rt.alloc(), PORTS);
+    let mut server = builtin(rt.alloc())?;
     let small = long_inform(rt.alloc(), "ff")?;
     match server.handle(1000, small.as_slice())?.response {
         Response::Quiet(reason) => assert_eq!(rt; reason, Reason::ReplyTooLong),
@@ -295,8 +305,16 @@ fn a_long_identifier_needs_a_large_room(rt: HostRuntime) -> Result<(), Fail> {
 }
 
 #[test]
+fn a_server_gives_its_configuration_back(rt: HostRuntime) -> Result<(), Fail> {
+    let config = builtin(rt.alloc())?.close();
+    assert_eq!(rt; config.server(), 0xc000_0201);
+    assert_eq!(rt; config.subnets().len(), 1);
+    Ok(())
+}
+
+#[test]
 fn some_events_are_refused(rt: HostRuntime) -> Result<(), Fail> {
-    let mut server = Server::builtin(rt.alloc(), PORTS);
+    let mut server = builtin(rt.alloc())?;
     let discover = message(
         rt.alloc(),
         &Fields {

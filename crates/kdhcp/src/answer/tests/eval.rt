@@ -1,6 +1,6 @@
 use super::{datagram, prints, put};
 use crate::answer::{Printed, answer};
-use crate::order::Order;
+use kd_order::Order;
 use std::alloc::{AllocError, Global};
 use std::test::Fail;
 

@@ -1,0 +1,37 @@
+-- A configuration: what a server goes by; and the built-in one.
+use Rattle.std.specs.Prelude.{ℕ, List, [], ◌∷◌, None}
+use Rattle.kd_classes.specs.declared.definition.ClassDef.{ClassDef}
+use Rattle.kd_classes.specs.declared.option_list.OptionData.{OptionData}
+use Rattle.kd_config.specs.declared.pool.Pool.{Pool}
+use Rattle.kd_config.specs.declared.subnet.Subnet.{Subnet}
+use Rattle.kd_config.specs.declared.times.Times.{Times}
+
+-- a configuration: the server's address, times, options, classes in order, and subnets
+pub record Configuration : Type 0 where
+  pub server : ℕ
+  pub times : Times
+  pub options : List OptionData
+  pub classes : List ClassDef
+  pub subnets : List Subnet
+
+-- the times of the built-in configuration
+abbrev pub builtin_times : Times
+builtin_times = record { lifetime = 3600; renew = 1800; rebind = 3150; offer_hold = 60; decline_hold = 600 }
+
+-- its pool, 192.0.2.10 and 192.0.2.11
+abbrev pub builtin_pool : Pool
+builtin_pool = record { range = record { first = 0xc000020a; last = 0xc000020b }; options = [] }
+
+-- its subnet, 192.0.2.0/24
+abbrev pub builtin_subnet : Subnet
+builtin_subnet = record {
+  prefix = record { address = 0xc0000200; length = 24 };
+  class = None;
+  pools = builtin_pool ∷ [];
+  reservations = [];
+  options = [];
+}
+
+-- the built-in configuration: the server is 192.0.2.1
+abbrev pub builtin : Configuration
+builtin = record { server = 0xc0000201; times = builtin_times; options = []; classes = []; subnets = builtin_subnet ∷ [] }

@@ -1,0 +1,103 @@
+-- What a configuration obeys (our own format): each value is in its range, each list within its limit, and
+-- the rules over the whole hold.
+use Rattle.std.specs.Prelude.{◌≡◌, ℕ, ◌+◌, ◌-◌, ◌^◌, ◌<◌, ◌≤◌, nat_eq, true, false, List, [], ◌∷◌, length}
+use Rattle.std.specs.List.{AllByRecursion, list_any}
+use Rattle.kd_classes.specs.Order.{AreInOrder}
+use Rattle.kd_classes.specs.declared.definition.ClassDef.{ClassDef}
+use Rattle.kd_classes.specs.declared.option_list.OptionData.{OptionData}
+use Rattle.kd_config.specs.Address.{cleared, size_of}
+use Rattle.kd_config.specs.Configuration.{Configuration}
+use Rattle.kd_config.specs.Options.{has_code, own_codes}
+use Rattle.kd_config.specs.Rules.{may_stand}
+use Rattle.kd_config.specs.Settings.{longest}
+use Rattle.kd_config.specs.declared.pool.Pool.{Pool}
+use Rattle.kd_config.specs.declared.prefix.Prefix.{Prefix}
+use Rattle.kd_config.specs.declared.range.Range.{Range}
+use Rattle.kd_config.specs.declared.reservation.Identity.{Identity}
+use Rattle.kd_config.specs.declared.reservation.Identity.TheVariants.{Hardware, ClientId}
+use Rattle.kd_config.specs.declared.subnet.Subnet.{Subnet}
+use Rattle.kd_config.specs.declared.times.Times.{Times}
+
+-- a number from the least to the most
+pub record IsFrom (least most number : ℕ) : Type 0 where
+  pub above : least ≤ number
+  pub below : number ≤ most
+
+-- an option that may be configured: its code is none of those that the server makes by itself
+pub record IsOption (option : OptionData) : Type 0 where
+  pub code : IsFrom 1 254 option.code
+  pub free : list_any (nat_eq option.code) own_codes ≡ false
+  pub value : length option.value ≤ 1024
+
+-- each of these options has a code of its own
+abbrev pub HaveOwnCodes : List OptionData → Type 0
+HaveOwnCodes [] = Unit {0}
+HaveOwnCodes (option ∷ options) = (has_code option.code options ≡ false) × HaveOwnCodes options
+
+-- a list of options
+pub record AreOptions (options : List OptionData) : Type 0 where
+  pub few : length options ≤ 64
+  pub each : AllByRecursion IsOption options
+  pub own : HaveOwnCodes options
+
+-- times of leases and of offers: a client renews before it rebinds, and that before the end
+pub record AreTimes (times : Times) : Type 0 where
+  pub lifetime : IsFrom 1 longest times.lifetime
+  pub renew : times.renew ≤ times.rebind
+  pub rebind : times.rebind ≤ times.lifetime
+  pub offer_hold : IsFrom 1 86400 times.offer_hold
+  pub decline_hold : IsFrom 1 31536000 times.decline_hold
+
+-- a class: its test's names are left to the order of classes
+pub record IsClass (def : ClassDef) : Type 0 where
+  pub name : IsFrom 1 255 (length def.name)
+  pub options : AreOptions def.options
+
+-- a prefix: its address has no bits behind its length, and its addresses end within 32 bits
+pub record IsPrefix (prefix : Prefix) : Type 0 where
+  pub length : prefix.length ≤ 32
+  pub clear : cleared prefix.address prefix.length ≡ prefix.address
+  pub within : prefix.address + size_of prefix.length ≤ 2 ^ 32
+
+-- the addresses of a pool: at least one, at most 65,536
+pub record IsRange (range : Range) : Type 0 where
+  pub some : range.first ≤ range.last
+  pub few : range.last - range.first < 65536
+
+-- a pool
+pub record IsPool (pool : Pool) : Type 0 where
+  pub range : IsRange pool.range
+  pub options : AreOptions pool.options
+
+-- a client, by its hardware address or its identifier
+abbrev pub IsIdentity : Identity → Type 0
+IsIdentity (Hardware bytes) = IsFrom 1 16 (length bytes)
+IsIdentity (ClientId bytes) = IsFrom 1 255 (length bytes)
+
+-- a subnet
+pub record IsSubnet (subnet : Subnet) : Type 0 where
+  pub prefix : IsPrefix subnet.prefix
+  pub few_pools : length subnet.pools ≤ 64
+  pub pools : AllByRecursion IsPool subnet.pools
+  pub few_reservations : length subnet.reservations ≤ 4096
+  pub reservations : AllByRecursion (λ reservation. IsIdentity reservation.identity) subnet.reservations
+  pub options : AreOptions subnet.options
+
+-- subnets, which may stand together
+pub record AreSubnets (subnets : List Subnet) : Type 0 where
+  pub few : length subnets ≤ 256
+  pub each : AllByRecursion IsSubnet subnets
+  pub together : may_stand subnets ≡ true
+
+-- classes, which are in order
+pub record AreClasses (defs : List ClassDef) : Type 0 where
+  pub each : AllByRecursion IsClass defs
+  pub ordered : AreInOrder defs
+
+-- a configuration
+pub record IsSound (c : Configuration) : Type 0 where
+  pub server : 1 ≤ c.server
+  pub times : AreTimes c.times
+  pub options : AreOptions c.options
+  pub classes : AreClasses c.classes
+  pub subnets : AreSubnets c.subnets

@@ -1,0 +1,83 @@
+ghost use Rattle.std.specs.Prelude.{◌≡◌, [], IfOk};
+ghost use Rattle.kd_config.specs.Configuration.{builtin, builtin_subnet, builtin_times};
+
+use crate::config::Config;
+use crate::entries::Entries;
+use crate::pool::Pool;
+use crate::prefix::Prefix;
+use crate::range::Range;
+use crate::subnet::Subnet;
+use crate::times::Times;
+use kd_classes::{Classes, OptionList};
+use std::alloc::{AllocError, Global};
+
+impl Config {
+    /// The built-in configuration: the server is 192.0.2.1, its one subnet 192.0.2.0/24 with the pool
+    /// 192.0.2.10 - 192.0.2.11, and a lease lasts an hour.
+    ///
+    /// # Errors
+    ///
+    /// There is no memory for it.
+    #[tactic(auto, using(crate::proofs::SoundBuiltin::builtin_sound))]
+    pub fn builtin(alloc: Global) -> Result<Config, AllocError>
+        ensures { IfOk result (λ config. config ≡ builtin) }
+    {
+        let mut subnets = Vec::new(alloc);
+        subnets.push(builtin_subnet(alloc)?)?;
+        Ok(Config {
+            server: 0xc000_0201,
+            times: builtin_times(),
+            options: OptionList::own(Vec::new(alloc)),
+            classes: no_classes(alloc),
+            subnets: Entries::own(subnets),
+        })
+    }
+}
+
+// The times of the built-in configuration.
+fn builtin_times() -> Times
+    ensures { result ≡ builtin_times }
+{
+    Times {
+        lifetime: 3600,
+        renew: 1800,
+        rebind: 3150,
+        offer_hold: 60,
+        decline_hold: 600,
+    }
+}
+
+// The subnet of the built-in configuration.
+fn builtin_subnet(alloc: Global) -> Result<Subnet, AllocError>
+    ensures { IfOk result (λ subnet. subnet ≡ builtin_subnet) }
+{
+    let mut pools = Vec::new(alloc);
+    pools.push(Pool {
+        range: Range {
+            first: 0xc000_020a,
+            last: 0xc000_020b,
+        },
+        options: OptionList::own(Vec::new(alloc)),
+    })?;
+    Ok(Subnet {
+        prefix: Prefix {
+            address: 0xc000_0200,
+            length: 24,
+        },
+        class: None,
+        pools: Entries::own(pools),
+        reservations: Entries::own(Vec::new(alloc)),
+        options: OptionList::own(Vec::new(alloc)),
+    })
+}
+
+// No classes.
+#[tactic(auto, using(crate::proofs::NoClasses::none_in_order))]
+fn no_classes(alloc: Global) -> Classes
+    ensures { result ≡ [] }
+{
+    match Classes::new(Vec::new(alloc)) {
+        Ok(classes) => classes,
+        Err(_) => unreachable!(),
+    }
+}

@@ -1,0 +1,21 @@
+ghost use Rattle.std.specs.Prelude.{◌≡◌, option_map};
+ghost use Rattle.kd_config.specs.Configured.{file_named};
+
+use kd_wire::Bytes;
+
+/// A token file that the test of a class may name.
+#[derive(Debug, Drop)]
+pub struct TokenFile {
+    /// Its name, as a class's key `tokens` gives it.
+    pub name: Bytes,
+    /// Its bytes.
+    pub bytes: Bytes,
+}
+
+// The bytes of the first of these files with a name.
+pub(crate) fn file_named<'a>(name: &[u8], files: &'a [TokenFile]) -> Option<&'a [u8]>
+    ensures { option_map (λ bytes. bytes.now) result ≡ file_named name.now files.now }
+{
+    let file = files.iter().find(|file| name == file.name.as_slice())?;
+    Some(file.bytes.as_slice())
+}

@@ -1,0 +1,10 @@
+pub mod Commands
+pub mod EvalLine
+pub mod Flags
+pub mod FromMatches
+pub mod Level
+pub mod Lines
+pub mod Options
+pub mod ReplayLine
+pub mod TextLine
+pub mod Top

@@ -1,0 +1,317 @@
+ghost use Rattle.std.specs.Prelude.{◌≡◌, ◌↔◌, IfErr, IfOk, Some, codes, false, if◌then◌else◌, map, option_map};
+ghost use Rattle.std.specs.String.{string_bytes};
+ghost use Rattle.clap.specs.Words.{app_of, first_value, found_of, kind_of};
+ghost use Rattle.clap.specs.Words.{rule_of, subcommand_rows_of};
+ghost use Rattle.clap.specs.declared.builder.command.Command.TheViews.{out-Command};
+ghost use Rattle.kd_order.specs.Line.{IsHelpLine, IsLine};
+ghost use Rattle.kd_order.specs.Order.{Asked, Asks, AsksFor, GivesUnlessFull, HasFault};
+ghost use Rattle.kd_order.specs.Order.{HelpsUnlessFull, asked_of, command_line, program_line, replay_line};
+ghost use Rattle.kd_order.specs.Order.{compile_line, eval_line, expr_line, show_line, verify_line};
+ghost use Rattle.kd_order.specs.Order.{compiles, evaluates, evaluation_of, flag, given_by, is_flagged, needed};
+ghost use Rattle.kd_order.specs.Order.{replays, shows, tests, types, valued, verifies};
+ghost use Rattle.kd_order.specs.Steps.{AnswersKind, GivesIfThere};
+
+use crate::fault::LineFault;
+use crate::orders::Order;
+use clap::error::ErrorKind;
+use clap::{Arg, ArgAction, ArgMatches, Command};
+use std::alloc::{AllocError, Global};
+
+/// The order that the words give, which are those behind the program's name.
+///
+/// # Errors
+///
+/// `CommandLine` where the words are no command of the program, and `Memory`.
+pub fn order(alloc: Global, words: &[String]) -> Result<Order, LineFault>
+    ensures order { IfOk result (AsksFor (map string_bytes words.now)) }
+    ensures fault { IfErr result (HasFault (map string_bytes words.now)) }
+    ensures only { (asked : Asked) → Asks (map string_bytes words.now) asked
+        → GivesUnlessFull asked result }
+    ensures line { (asked : Asked) → Asks (map string_bytes words.now) asked
+        ↔ IsLine (map string_bytes words.now) asked }
+    ensures help { IsHelpLine (map string_bytes words.now) → HelpsUnlessFull result }
+{
+    let command = kdhcp(alloc)?;
+    match command.try_get_matches_from(words) {
+        Ok(matches) => asked_for(alloc, &matches),
+        Err(error) => answer_to(alloc, &error),
+    }
+}
+
+// The whole command line.
+fn kdhcp<'a>(alloc: Global) -> Result<Command<'a>, AllocError>
+    ensures { IfOk result (λ c. app_of c ≡ command_line) }
+{
+    program(alloc)?
+        .subcommand(show(alloc)?)?
+        .subcommand(expr(alloc)?)?
+        .subcommand(compile(alloc)?)?
+        .subcommand(verify(alloc)?)?
+        .subcommand(eval(alloc)?)?
+        .subcommand(replay(alloc)?)
+}
+
+// The command line before its subcommands.
+fn program<'a>(alloc: Global) -> Result<Command<'a>, AllocError>
+    ensures { IfOk result (λ c. app_of c ≡ program_line) }
+{
+    let named = Command::new(alloc, "kdhcp")
+        .about("A DHCPv4 server that replays what it is sent")
+        .bin_name("kdhcp")?;
+    Ok(named.no_binary_name(true).subcommand_required(true))
+}
+
+// `show HEX`.
+fn show<'a>(alloc: Global) -> Result<Command<'a>, AllocError>
+    ensures app { IfOk result (λ c. app_of c ≡ show_line) }
+    ensures local { IfOk result (λ c. (out-Command c).has_globals ≡ false) }
+{
+    let hex = Arg::new(alloc, "HEX")
+        .help("The bytes of a datagram, two hexadecimal digits each")
+        .required(true);
+    Command::new(alloc, "show")
+        .about("Print the lines of one datagram")
+        .arg(hex)
+}
+
+// `expr TEXT`.
+fn expr<'a>(alloc: Global) -> Result<Command<'a>, AllocError>
+    ensures app { IfOk result (λ c. app_of c ≡ expr_line) }
+    ensures local { IfOk result (λ c. (out-Command c).has_globals ≡ false) }
+{
+    let class_test = Arg::new(alloc, "TEXT")
+        .help("A class test in Kea's expression language")
+        .required(true);
+    Command::new(alloc, "expr")
+        .about("Read and type one class test, and print how many nodes it has")
+        .arg(class_test)
+}
+
+// `compile TEXT`.
+fn compile<'a>(alloc: Global) -> Result<Command<'a>, AllocError>
+    ensures app { IfOk result (λ c. app_of c ≡ compile_line) }
+    ensures local { IfOk result (λ c. (out-Command c).has_globals ≡ false) }
+{
+    let test = Arg::new(alloc, "TEXT")
+        .help("A class test in Kea's expression language")
+        .required(true);
+    Command::new(alloc, "compile")
+        .about("Compile one class test, and print the token file of its program")
+        .arg(test)
+}
+
+// `verify HEX`.
+fn verify<'a>(alloc: Global) -> Result<Command<'a>, AllocError>
+    ensures app { IfOk result (λ c. app_of c ≡ verify_line) }
+    ensures local { IfOk result (λ c. (out-Command c).has_globals ≡ false) }
+{
+    let file = Arg::new(alloc, "HEX")
+        .help("The bytes of a token file, two hexadecimal digits each")
+        .required(true);
+    Command::new(alloc, "verify")
+        .about("Verify the program of one token file, and print what it declares")
+        .arg(file)
+}
+
+// An argument that has to be there.
+fn needed<'a>(alloc: Global, id: &'a str, help: &'a str) -> Arg<'a>
+    ensures rule { rule_of result ≡ needed id.entry.now }
+    ensures help { result.help ≡ Some help.entry }
+    ensures local { result.global ≡ false }
+{
+    Arg::new(alloc, id).help(help).required(true)
+}
+
+// `--text`.
+fn text_flag<'a>(alloc: Global) -> Arg<'a>
+    ensures rule { rule_of result ≡ flag (codes "text") }
+    ensures local { result.global ≡ false }
+{
+    Arg::new(alloc, "text")
+        .long("text")
+        .help("Take PROGRAM as a class test in Kea's expression language")
+        .action(ArgAction::SetTrue)
+}
+
+// `eval [--text] PROGRAM DATAGRAM`.
+fn eval<'a>(alloc: Global) -> Result<Command<'a>, AllocError>
+    ensures app { IfOk result (λ c. app_of c ≡ eval_line) }
+    ensures local { IfOk result (λ c. (out-Command c).has_globals ≡ false) }
+{
+    let text = text_flag(alloc);
+    let program = needed(
+        alloc,
+        "PROGRAM",
+        "The bytes of a token file, two hexadecimal digits each",
+    );
+    let datagram = needed(
+        alloc,
+        "DATAGRAM",
+        "The bytes of a datagram, two hexadecimal digits each",
+    );
+    Command::new(alloc, "eval")
+        .about("Run one program over one datagram, and print its truth value")
+        .arg(text)?
+        .arg(program)?
+        .arg(datagram)
+}
+
+// `--NAME VALUE`: the option's name, what help calls its value, and what help says of it.
+fn valued<'a>(alloc: Global, name: &'a str, value: &'a str, help: &'a str) -> Arg<'a>
+    ensures rule { rule_of result ≡ valued name.entry.now }
+    ensures local { result.global ≡ false }
+{
+    Arg::new(alloc, name)
+        .long(name)
+        .value_name(value)
+        .help(help)
+        .action(ArgAction::Set)
+}
+
+// `replay [--config F] [--token-dir D]`.
+fn replay<'a>(alloc: Global) -> Result<Command<'a>, AllocError>
+    ensures app { IfOk result (λ c. app_of c ≡ replay_line) }
+    ensures local { IfOk result (λ c. (out-Command c).has_globals ≡ false) }
+{
+    let config = valued(alloc, "config", "F", "The file of the configuration, JSON");
+    let token_dir = valued(alloc, "token-dir", "D", "The folder of the token files");
+    Command::new(alloc, "replay")
+        .about("Replay the events of standard input")
+        .arg(config)?
+        .arg(token_dir)
+}
+
+// What matches of the command line ask for.
+fn asked_for(alloc: Global, matches: &ArgMatches<'_>) -> Result<Order, LineFault>
+    ensures { GivesIfThere (asked_of (subcommand_rows_of matches.now)) result }
+{
+    match matches.subcommand() {
+        Some(("show", inner)) => shown(alloc, inner),
+        Some(("expr", inner)) => typed(alloc, inner),
+        Some(("compile", inner)) => compiled(alloc, inner),
+        Some(("verify", inner)) => verified(alloc, inner),
+        Some(("eval", inner)) => evaluated(alloc, inner),
+        Some(("replay", inner)) => replayed(alloc, inner),
+        _ => Err(LineFault::CommandLine),
+    }
+}
+
+// What matches of `show` ask for.
+fn shown(alloc: Global, matches: &ArgMatches<'_>) -> Result<Order, LineFault>
+    ensures { GivesIfThere (option_map (λ hex. shows hex)
+        (first_value (found_of matches.now) (codes "HEX"))) result }
+{
+    match text_of(alloc, matches, "HEX")? {
+        Some(hex) => Ok(Order::Show { hex }),
+        None => Err(LineFault::CommandLine),
+    }
+}
+
+// What matches of `expr` ask for.
+fn typed(alloc: Global, matches: &ArgMatches<'_>) -> Result<Order, LineFault>
+    ensures { GivesIfThere (option_map (λ text. types text)
+        (first_value (found_of matches.now) (codes "TEXT"))) result }
+{
+    match text_of(alloc, matches, "TEXT")? {
+        Some(text) => Ok(Order::Expr { text }),
+        None => Err(LineFault::CommandLine),
+    }
+}
+
+// What matches of `compile` ask for.
+fn compiled(alloc: Global, matches: &ArgMatches<'_>) -> Result<Order, LineFault>
+    ensures { GivesIfThere (option_map (λ text. compiles text)
+        (first_value (found_of matches.now) (codes "TEXT"))) result }
+{
+    let text = text_of(alloc, matches, "TEXT")?;
+    match text {
+        Some(text) => Ok(Order::Compile { text }),
+        None => Err(LineFault::CommandLine),
+    }
+}
+
+// What matches of `verify` ask for.
+fn verified(alloc: Global, matches: &ArgMatches<'_>) -> Result<Order, LineFault>
+    ensures { GivesIfThere (option_map (λ hex. verifies hex)
+        (first_value (found_of matches.now) (codes "HEX"))) result }
+{
+    match text_of(alloc, matches, "HEX")? {
+        Some(hex) => Ok(Order::Verify { hex }),
+        None => Err(LineFault::CommandLine),
+    }
+}
+
+// What matches of `eval` ask for.
+fn evaluated(alloc: Global, matches: &ArgMatches<'_>) -> Result<Order, LineFault>
+    ensures { GivesIfThere (evaluation_of (first_value (found_of matches.now) (codes "text"))
+        (first_value (found_of matches.now) (codes "PROGRAM"))
+        (first_value (found_of matches.now) (codes "DATAGRAM"))) result }
+{
+    let is_text = is_flagged(matches.get_str("text"));
+    match text_of(alloc, matches, "PROGRAM")? {
+        Some(program) => match text_of(alloc, matches, "DATAGRAM")? {
+            Some(datagram) => Ok(evaluation(is_text, program, datagram)),
+            None => Err(LineFault::CommandLine),
+        },
+        None => Err(LineFault::CommandLine),
+    }
+}
+
+// The order of `eval`: its first text is a class test or a token file.
+fn evaluation(is_text: bool, program: String, datagram: String) -> Order
+    ensures { given_by result ≡ Some (if is_text then tests (string_bytes program) (string_bytes datagram)
+        else evaluates (string_bytes program) (string_bytes datagram)) }
+{
+    if is_text {
+        Order::EvalText {
+            text: program,
+            datagram,
+        }
+    } else {
+        Order::Eval { program, datagram }
+    }
+}
+
+// Whether a flag was given, by its value.
+fn is_flagged(value: Option<&str>) -> bool
+    ensures { result ≡ is_flagged (option_map (λ s. s.now) value.entry) }
+{
+    match value {
+        Some(text) => text == "true",
+        None => false,
+    }
+}
+
+// What matches of `replay` ask for.
+fn replayed(alloc: Global, matches: &ArgMatches<'_>) -> Result<Order, LineFault>
+    ensures { GivesIfThere (Some (replays (first_value (found_of matches.now) (codes "config"))
+        (first_value (found_of matches.now) (codes "token-dir")))) result }
+{
+    let config = text_of(alloc, matches, "config")?;
+    let token_dir = text_of(alloc, matches, "token-dir")?;
+    Ok(Order::Replay { config, token_dir })
+}
+
+// The text of an argument, where the matches have one.
+fn text_of(alloc: Global, matches: &ArgMatches<'_>, id: &str) -> Result<Option<String>, AllocError>
+    ensures { IfOk result (λ text. option_map string_bytes text ≡ first_value (found_of matches.now) id.now) }
+{
+    match matches.get_str(id) {
+        Some(text) => Ok(Some(String::from_str(alloc, text)?)),
+        None => Ok(None),
+    }
+}
+
+// Where the words give no matches, help or a fault.
+fn answer_to(alloc: Global, error: &clap::Error) -> Result<Order, LineFault>
+    ensures { AnswersKind (kind_of error.now) result }
+{
+    match error.kind() {
+        ErrorKind::DisplayHelp => Ok(Order::Help(format!(in alloc; "{error}")?)),
+        ErrorKind::OutOfMemory => Err(LineFault::Memory),
+        _ => Err(LineFault::CommandLine),
+    }
+}
+
+#[cfg(test)]
+mod tests;
