@@ -1,3 +1,1 @@
-pub mod Printed
-pub mod Show
 pub mod Status

@@ -1,16 +1,9 @@
--- The exit statuses of the program.
-use Rattle.std.specs.Prelude.{ℕ, ◌==◌, ◌||◌, if◌then◌else◌}
+-- The exit statuses of a replay.
+use Rattle.std.specs.Prelude.{ℕ}
+use Rattle.kd_answer.specs.Status.{status_of}
 use Rattle.kd_server.specs.Faults.{replay_fault_number, serve_fault_number}
 use Rattle.kd_server.specs.declared.fault.ReplayFault.{ReplayFault}
 use Rattle.kd_server.specs.declared.fault.ReplayFault.TheVariants.{Serve}
-
--- the exit status of the fault with this number
-abbrev pub status_of : ℕ → ℕ
-status_of number =
-    if number == 91 || number == 94 || number == 95 then 1
-    else if number == 98 then 2
-    else if number == 80 || number == 81 || number == 92 || number == 93 then 4
-    else 3
 
 -- the exit status of a fault of a replay: that of the server's fault in it, or its own
 abbrev pub replay_status_of : ReplayFault → ℕ

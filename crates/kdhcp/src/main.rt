@@ -1,19 +1,17 @@
 //! The program `kdhcp`: it reads the words behind its name, and does what they ask for.
 //!
-//! `kd_order` reads the words, `answer` gives what an order prints that needs nothing but its words
-//! (`specs/Printed.antt`, `specs/Show.antt`), and `kd_server` replays the events of a source into a sink.
-//! This page ties them to the standard streams and to the files of a configuration.
+//! `kd_order` reads the words, `kd_answer` gives what an order prints that needs nothing but its words, and
+//! `kd_server` replays the events of a source into a sink. This page ties them to the standard streams and to the
+//! files of a configuration.
 #![tactic(auto)]
 
-mod answer;
-mod show;
 mod status;
 
-use answer::{Printed, answer};
+use kd_answer::{Printed, answer, exit_status};
 use kd_ends::{Input, Output, configuration};
 use kd_order::{LineFault, Order, order};
 use kd_server::{Ports, Server, replay};
-use status::{exit_status, replay_status};
+use status::replay_status;
 use std::fmt::Display;
 use std::io;
 use std::io::Write;

@@ -1,20 +1,8 @@
 ghost use Rattle.std.specs.Prelude.{◌≡◌};
-ghost use Rattle.kdhcp.specs.Status.{replay_status_of, status_of};
+ghost use Rattle.kdhcp.specs.Status.{replay_status_of};
 
+use kd_answer::exit_status;
 use kd_server::ReplayFault;
-
-/// The exit status of the fault with this number: 1 for want of memory and for a failed end, 2 for a
-/// mistake on the command line, 4 for the store, 3 for every other.
-pub fn exit_status(number: u8) -> u8
-    ensures { result ≡ status_of number }
-{
-    match number {
-        91 | 94 | 95 => 1,
-        98 => 2,
-        80 | 81 | 92 | 93 => 4,
-        _ => 3,
-    }
-}
 
 /// The exit status of a fault of a replay: a fault of the server has its own.
 pub fn replay_status(fault: ReplayFault) -> u8
@@ -25,6 +13,3 @@ pub fn replay_status(fault: ReplayFault) -> u8
         other => exit_status(other.number()),
     }
 }
-
-#[cfg(test)]
-mod tests;

@@ -1,0 +1,21 @@
+//! What an order prints that needs nothing but its words: `show`, `expr`, `compile`, `verify` and `eval`.
+//!
+//! What this layer promises to the one above: `answer` gives what such an order prints on standard output and standard
+//! error, and its exit status (`specs/Printed.antt`, `specs/Show.antt`, `specs/Status.antt`), unless memory runs out.
+#![tactic(auto)]
+
+mod answer;
+mod class_test;
+mod datagram;
+mod printed;
+mod refusal;
+mod run;
+mod show;
+mod status;
+#[cfg(test)]
+mod tests;
+mod token_file;
+
+pub use answer::answer;
+pub use printed::Printed;
+pub use status::exit_status;

@@ -1,0 +1,18 @@
+ghost use Rattle.std.specs.Prelude.{◌≡◌};
+ghost use Rattle.kd_answer.specs.Status.{status_of};
+
+/// The exit status of the fault with this number: 1 for want of memory and for a failed end, 2 for a
+/// mistake on the command line, 4 for the store, 3 for every other.
+pub fn exit_status(number: u8) -> u8
+    ensures { result ≡ status_of number }
+{
+    match number {
+        91 | 94 | 95 => 1,
+        98 => 2,
+        80 | 81 | 92 | 93 => 4,
+        _ => 3,
+    }
+}
+
+#[cfg(test)]
+mod tests;
