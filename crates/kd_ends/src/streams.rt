@@ -1,4 +1,4 @@
-use kd_server::{EndFailed, Sink, Source};
+use kd_replay::{EndFailed, Sink, Source};
 use std::io::{Read, Write};
 
 /// A reader, as the source of a replay.

@@ -1,8 +1,2 @@
-pub mod Fitting
 pub mod Giving
-pub mod Going
-pub mod Histories
-pub mod Looking
-pub mod Spelling
-pub mod Texts
 pub mod Valuing

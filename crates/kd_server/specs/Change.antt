@@ -15,7 +15,7 @@ use Rattle.kd_server.specs.Plan.Outcome.{planned, quiet}
 use Rattle.kd_server.specs.ReplyOf.{is_short}
 use Rattle.kd_server.specs.SubnetOf.{subnet_of}
 use Rattle.kd_server.specs.declared.plan.PlanKind.TheVariants as kinds
-use Rattle.kd_server.specs.declared.reason.Reason.TheVariants as reasons
+use Rattle.kd_replay.specs.declared.reason.Reason.TheVariants as reasons
 
 -- the table of leases: no address is leased
 abbrev pub Table : Type 0

@@ -9,8 +9,8 @@ use Rattle.kd_server.specs.Change.{Gets, outcome_of}
 use Rattle.kd_server.specs.Plan.{Outcome, ReplyOption, option_in}
 use Rattle.kd_server.specs.Plan.Outcome.{planned, quiet}
 use Rattle.kd_server.specs.ReplyOf.{reply_header}
-use Rattle.kd_server.specs.declared.fault.ServeFault.{ServeFault}
-use Rattle.kd_server.specs.declared.fault.ServeFault.TheVariants.{Unsupported, MomentTooLarge, Memory}
+use Rattle.kd_replay.specs.declared.fault.ServeFault.{ServeFault}
+use Rattle.kd_replay.specs.declared.fault.ServeFault.TheVariants.{Unsupported, MomentTooLarge, Memory}
 use Rattle.kd_server.specs.declared.plan.Decision.{Decision}
 use Rattle.kd_server.specs.declared.plan.Decision.TheVariants as decisions
 use Rattle.kd_server.specs.declared.plan.Plan.{Plan}

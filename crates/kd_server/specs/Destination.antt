@@ -1,8 +1,8 @@
 -- Where a reply goes (RFC 2131 section 4.1): the fields are those of the message, not of the reply.
 use Rattle.std.specs.Prelude.{ℕ, Bool, true, false, not, ◌==◌, nat_le, if◌then◌else◌}
-use Rattle.kd_server.specs.declared.destination.Destination.{Destination}
-use Rattle.kd_server.specs.declared.destination.Mode.TheVariants as modes
-use Rattle.kd_server.specs.declared.destination.Ports.{Ports}
+use Rattle.kd_replay.specs.declared.destination.Destination.{Destination}
+use Rattle.kd_replay.specs.declared.destination.Mode.TheVariants as modes
+use Rattle.kd_server.specs.declared.ports.Ports.{Ports}
 use Rattle.kd_server.specs.declared.plan.PlanKind.{PlanKind}
 use Rattle.kd_server.specs.declared.plan.PlanKind.TheVariants as kinds
 use Rattle.kd_wire.specs.declared.header.Header.{Header}

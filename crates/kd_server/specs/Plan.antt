@@ -2,7 +2,7 @@
 use Rattle.std.specs.Prelude.{ℕ, Bool, List}
 use Rattle.kd_options.specs.declared.item.Item.{Item}
 use Rattle.kd_server.specs.declared.plan.PlanKind.{PlanKind}
-use Rattle.kd_server.specs.declared.reason.Reason.{Reason}
+use Rattle.kd_replay.specs.declared.reason.Reason.{Reason}
 
 -- an option of a reply: its code, its value, and whether the reply is not written without it
 pub record ReplyOption : Type 0 where

@@ -1,6 +1,6 @@
 -- The steps in which a server answers a datagram. Proofs tie these to the history's one event; no public
 -- contract cites them.
-use Rattle.std.specs.Prelude.{◌≡◌, List, ℕ, ◌<◌, ◌≤◌, ◌^◌, ◌⊎◌, length, Option, Some, None}
+use Rattle.std.specs.Prelude.{◌≡◌, List, ℕ, ◌⊎◌, Option, Some, None}
 use Rattle.kd_classes.specs.HeldSet.{HeldSet}
 use Rattle.kd_config.specs.Configuration.{Configuration}
 use Rattle.kd_options.specs.Message.{Seen, Reads}
@@ -10,13 +10,13 @@ use Rattle.kd_server.specs.Decision.{IsUnserved}
 use Rattle.kd_server.specs.Destination.{destination_of}
 use Rattle.kd_server.specs.Plan.{Outcome}
 use Rattle.kd_server.specs.Step.{Responds}
-use Rattle.kd_server.specs.declared.destination.Ports.{Ports}
-use Rattle.kd_server.specs.declared.event.Response.{Response}
-use Rattle.kd_server.specs.declared.event.Response.TheVariants as responses
-use Rattle.kd_server.specs.declared.fault.ServeFault.{ServeFault}
-use Rattle.kd_server.specs.declared.fault.ServeFault.TheVariants.{Unsupported, MomentTooLarge, Memory}
+use Rattle.kd_server.specs.declared.ports.Ports.{Ports}
+use Rattle.kd_replay.specs.declared.event.Response.{Response}
+use Rattle.kd_replay.specs.declared.event.Response.TheVariants as responses
+use Rattle.kd_replay.specs.declared.fault.ServeFault.{ServeFault}
+use Rattle.kd_replay.specs.declared.fault.ServeFault.TheVariants.{Unsupported, MomentTooLarge, Memory}
 use Rattle.kd_server.specs.declared.plan.Plan.{Plan}
-use Rattle.kd_server.specs.declared.reason.Reason.TheVariants as reasons
+use Rattle.kd_replay.specs.declared.reason.Reason.TheVariants as reasons
 
 -- a planned reply is sent
 abbrev pub IsSent : Ports → Seen → Plan → Response → Type 0
@@ -53,9 +53,3 @@ abbrev pub IsUnanswered : Configuration → List ℕ → ServeFault → Type 0
 IsUnanswered config bytes (Unsupported kind) = (m : Seen) × Reads bytes m × IsUnserved config m (Unsupported kind)
 IsUnanswered config bytes MomentTooLarge = ⊥
 IsUnanswered config bytes Memory = Unit {0}
-
--- what is sent has at most 1,472 bytes, and goes to an address and a port
-abbrev pub IsSmall : Response → Type 0
-IsSmall (responses.Reply destination bytes) =
-    (length bytes ≤ 1472) × (destination.address < 2 ^ 32) × (destination.port < 2 ^ 16)
-IsSmall (responses.Quiet reason) = Unit {0}

@@ -6,11 +6,11 @@ use Rattle.kd_options.specs.Message.{Seen, Reads}
 use Rattle.kd_server.specs.Change.{Changes, Table, latest}
 use Rattle.kd_server.specs.Decision.{IsUnserved}
 use Rattle.kd_server.specs.Step.{IsStep}
-use Rattle.kd_server.specs.declared.destination.Ports.{Ports}
-use Rattle.kd_server.specs.declared.event.Event.{Event}
-use Rattle.kd_server.specs.declared.event.Handled.{Handled}
-use Rattle.kd_server.specs.declared.fault.ServeFault.{ServeFault}
-use Rattle.kd_server.specs.declared.fault.ServeFault.TheVariants.{Unsupported, MomentTooLarge, Memory}
+use Rattle.kd_server.specs.declared.ports.Ports.{Ports}
+use Rattle.kd_replay.specs.declared.event.Event.{Event}
+use Rattle.kd_replay.specs.declared.event.Handled.{Handled}
+use Rattle.kd_replay.specs.declared.fault.ServeFault.{ServeFault}
+use Rattle.kd_replay.specs.declared.fault.ServeFault.TheVariants.{Unsupported, MomentTooLarge, Memory}
 
 -- what contracts see of a server: its ports, the configuration that it goes by, and the table that it
 -- stands at

@@ -7,12 +7,12 @@ use Rattle.kd_server.specs.Destination.{destination_of}
 use Rattle.kd_server.specs.Plan.{Outcome}
 use Rattle.kd_server.specs.Plan.Outcome.{planned, quiet}
 use Rattle.kd_server.specs.ReplyOf.{IsReplyText, reply_header}
-use Rattle.kd_server.specs.declared.destination.Ports.{Ports}
-use Rattle.kd_server.specs.declared.event.Event.{Event}
-use Rattle.kd_server.specs.declared.event.Handled.{Handled}
-use Rattle.kd_server.specs.declared.event.Response.{Response}
-use Rattle.kd_server.specs.declared.event.Response.TheVariants as responses
-use Rattle.kd_server.specs.declared.reason.Reason.TheVariants as reasons
+use Rattle.kd_server.specs.declared.ports.Ports.{Ports}
+use Rattle.kd_replay.specs.declared.event.Event.{Event}
+use Rattle.kd_replay.specs.declared.event.Handled.{Handled}
+use Rattle.kd_replay.specs.declared.event.Response.{Response}
+use Rattle.kd_replay.specs.declared.event.Response.TheVariants as responses
+use Rattle.kd_replay.specs.declared.reason.Reason.TheVariants as reasons
 
 -- what is sent for a message that gets this: a planned reply's text, to its destination; else the reason
 abbrev pub Responds : Ports → Seen → Outcome → Response → Type 0

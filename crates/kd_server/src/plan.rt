@@ -1,5 +1,5 @@
-use crate::reason::Reason;
 use kd_options::Reply;
+use kd_replay::Reason;
 
 // What a planned reply is (RFC 2131 sections 3.1 and 4.3).
 #[derive(Clone, Copy, Debug, PartialEq, Eq)]

@@ -4,15 +4,14 @@ ghost use Rattle.kd_server.specs.Decision.{IsDecided, IsDecision, IsUndecided};
 ghost use Rattle.kd_server.specs.Plan.{option_in};
 
 use crate::client::{has_identity, is_from_server, room_of};
-use crate::fault::ServeFault;
 use crate::given::put_given;
 use crate::plan::{Decision, Plan, PlanKind};
-use crate::reason::Reason;
 use crate::reply::{is_short, put_obligatory, put_returned, reply_header};
 use crate::subnet::subnet_of;
 use kd_config::{Config, Subnet};
 use kd_machine::Held;
 use kd_options::{Items, Message, MessageType, Reply};
+use kd_replay::{Reason, ServeFault};
 use std::alloc::{AllocError, Global};
 
 // What a message gets, whose classes have these names.

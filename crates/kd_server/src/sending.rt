@@ -1,9 +1,10 @@
 ghost use Rattle.std.specs.Prelude.{◌≡◌};
 ghost use Rattle.kd_server.specs.Destination.{destination_of};
 
-use crate::destination::{Destination, Mode, Ports};
 use crate::plan::{Plan, PlanKind};
+use crate::ports::Ports;
 use kd_options::Message;
+use kd_replay::{Destination, Mode};
 
 // Where the reply to a message goes (RFC 2131 section 4.1), by the fields of the message: to its relay;
 // a NAK to all; to the address that the client has; to all where the client asks for it; else to its

@@ -1,28 +1,25 @@
-ghost use Rattle.std.specs.Prelude.{◌≡◌, ◌≤◌, ◌⊎◌, ℕ, List, Some, true, false, IfErr, IfOk, length};
+ghost use Rattle.std.specs.Prelude.{◌≡◌, ◌≤◌, ◌⊎◌, ℕ, List, Some, true, false, IfErr, IfOk};
 ghost use Rattle.std.specs.Result.{IsErrOf};
 ghost use Rattle.kd_options.specs.Reply.{Fits};
 ghost use Rattle.kd_server.specs.Decision.{IsUnserved};
-ghost use Rattle.kd_server.specs.History.{Runs};
-ghost use Rattle.kd_server.specs.Replay.{Handles, Leaves, most_lines};
-ghost use Rattle.kd_server.specs.Responding.{IsAnswerBy, IsResponse, IsSent, IsSmall, IsUnanswered};
+ghost use Rattle.kd_replay.specs.History.{Runs};
+ghost use Rattle.kd_replay.specs.Replay.{Handles, Leaves, most_lines};
+ghost use Rattle.kd_server.specs.Responding.{IsAnswerBy, IsResponse, IsSent, IsUnanswered};
 ghost use Rattle.kd_server.specs.Standing.{Fails, Gives};
-ghost use Rattle.kd_server.specs.Text.{line_of, line_room};
-ghost use Rattle.kd_server.specs.declared.fault.ReplayFault.TheVariants as faults;
-ghost use Rattle.kd_server.specs.declared.fault.ServeFault.TheVariants.{Memory};
+ghost use Rattle.kd_replay.specs.Text.{IsSmall};
+ghost use Rattle.kd_replay.specs.declared.fault.ReplayFault.TheVariants as faults;
+ghost use Rattle.kd_replay.specs.declared.fault.ServeFault.TheVariants.{Memory};
 
-use crate::destination::Ports;
-use crate::ends::{Sink, Source};
-use crate::event::{Event, Handled, Response};
-use crate::fault::{ReplayFault, ServeFault};
 use crate::plan::{Decision, Plan};
-use crate::reason::Reason;
-use crate::replaying::replay_with;
+use crate::ports::Ports;
 use crate::rules::decide;
-use crate::running::run_with;
 use crate::sending::destination;
-use crate::serves::Serves;
 use kd_config::Config;
 use kd_options::{Message, ReadFault, WriteFault};
+use kd_replay::{
+    Event, Handled, Reason, ReplayFault, Response, ServeFault, Serves, Sink, Source, replay_with,
+    run_with,
+};
 use kd_wire::Bytes;
 use std::alloc::Global;
 use std::marker::Model;
@@ -73,11 +70,10 @@ impl Server {
     ///
     /// `MomentTooLarge` where the moment is not below 2^40, `Unsupported` where the datagram is a client's
     /// message of another type than INFORM, and `Memory`. Nothing is changed then.
-    #[tactic(auto, using(crate::proofs::Fitting::handled_fits))]
     pub fn handle(&mut self, moment: u64, bytes: &[u8]) -> Result<Handled, ServeFault>
         ensures handled { IfOk result (λ handled.
             Gives self.old (record { moment = moment; bytes = bytes.now }) handled self.new) }
-        ensures room { IfOk result (λ handled. length (line_of handled) ≤ line_room) }
+        ensures small { IfOk result (λ handled. IsSmall handled.response) }
         ensures failed { IfErr result (λ fault.
             Fails self.old (record { moment = moment; bytes = bytes.now }) fault self.new) }
     {

@@ -2,7 +2,7 @@ ghost use Rattle.std.specs.Prelude.{◌≡◌};
 ghost use Rattle.kdhcp.specs.Status.{replay_status_of};
 
 use kd_answer::exit_status;
-use kd_server::ReplayFault;
+use kd_replay::ReplayFault;
 
 /// The exit status of a fault of a replay: a fault of the server has its own.
 pub fn replay_status(fault: ReplayFault) -> u8

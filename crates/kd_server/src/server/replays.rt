@@ -1,140 +1,68 @@
 use super::*;
-use crate::doubles::{Giving, Keeping};
 use kd_options::MessageType;
+use kd_replay::EndFailed;
 use std::test::Fail;
 
-// What a replay of this input answers, and what it leaves written. The source gives at most so many bytes a
-// call, and fails behind them or ends; the sink takes as many a call, up to a limit at which it fails.
-#[derive(Clone, Copy)]
-struct Case {
-    input: &'static str,
-    step: usize,
-    source_fails: bool,
-    sink_limit: usize,
-    result: Result<u64, ReplayFault>,
-    output: &'static str,
+// Gives a text.
+#[derive(Drop)]
+struct Given<'a> {
+    rest: &'a [u8],
 }
 
-const WHOLE: Case = Case {
-    input: "",
-    step: 100_000,
-    source_fails: false,
-    sink_limit: 100_000,
-    result: Ok(0),
-    output: "",
-};
+impl<'a> Source for Given<'a> {
+    ghost use Rattle.std.specs.Prelude.{None, false};
 
-const CASES: [Case; 13] = [
-    WHOLE,
-    Case {
-        input: "5 \n",
-        result: Ok(1),
-        output: "5 quiet 1 Unreadable\n",
-        ..WHOLE
-    },
-    Case {
-        input: "5 \n6 00",
-        result: Ok(2),
-        output: "5 quiet 1 Unreadable\n6 quiet 1 Unreadable\n",
-        ..WHOLE
-    },
-    Case {
-        input: "5 \n6 00",
-        step: 1,
-        result: Ok(2),
-        output: "5 quiet 1 Unreadable\n6 quiet 1 Unreadable\n",
-        ..WHOLE
-    },
-    Case {
-        input: "5 0g",
-        result: Err(ReplayFault::BadLine(1)),
-        ..WHOLE
-    },
-    Case {
-        input: "5 \n\n6 00",
-        result: Err(ReplayFault::BadLine(2)),
-        output: "5 quiet 1 Unreadable\n",
-        ..WHOLE
-    },
-    Case {
-        input: "5 \n5 00\r\n6 \n",
-        result: Err(ReplayFault::BadLine(2)),
-        output: "5 quiet 1 Unreadable\n",
-        ..WHOLE
-    },
-    Case {
-        input: "1099511627775 \n1099511627776 \n",
-        result: Err(ReplayFault::Serve(ServeFault::MomentTooLarge)),
-        output: "1099511627775 quiet 1 Unreadable\n",
-        ..WHOLE
-    },
-    Case {
-        input: "5 \n6 ",
-        source_fails: true,
-        result: Err(ReplayFault::Read),
-        output: "5 quiet 1 Unreadable\n",
-        ..WHOLE
-    },
-    Case {
-        source_fails: true,
-        result: Err(ReplayFault::Read),
-        ..WHOLE
-    },
-    Case {
-        input: "5 \n",
-        sink_limit: 3,
-        result: Err(ReplayFault::Write),
-        output: "5 q",
-        ..WHOLE
-    },
-    Case {
-        input: "5 \n",
-        step: 1,
-        sink_limit: 3,
-        result: Err(ReplayFault::Write),
-        output: "5 q",
-        ..WHOLE
-    },
-    Case {
-        input: "5 \n6 \n",
-        sink_limit: 21,
-        result: Err(ReplayFault::Write),
-        output: "5 quiet 1 Unreadable\n",
-        ..WHOLE
-    },
-];
+    ghost remaining = { λ _. None };
 
-// The replay's answer, and the sink behind it.
-fn replayed(
-    alloc: Global,
-    input: &str,
-    ends: (usize, bool, usize),
-) -> Result<(Result<u64, ReplayFault>, Keeping), Fail> {
-    let (step, source_fails, sink_limit) = ends;
-    let mut source = Giving::new(input.as_bytes(), step, source_fails);
-    let mut sink = Keeping::new(alloc, step.max(1), sink_limit);
+    ghost has_failed = { λ _. false };
+
+    fn read(&mut self, buf: &mut [u8]) -> Result<usize, EndFailed> {
+        let count = self.rest.len().min(buf.len());
+        let (front, behind) = self.rest.split_at(count);
+        let (room, _) = buf.split_at_mut(count);
+        room.copy_from_slice(front);
+        self.rest = behind;
+        Ok(count)
+    }
+}
+
+// Keeps what it is given, and fails for want of memory alone.
+#[derive(Drop)]
+struct Kept {
+    bytes: Vec<u8>,
+    failed: bool,
+}
+
+impl Sink for Kept {
+    ghost use Rattle.std.specs.Prelude.{None};
+
+    ghost contents = { λ _. None };
+
+    ghost has_failed = { λ sink. sink.failed };
+
+    fn write(&mut self, bytes: &[u8]) -> Result<usize, EndFailed> {
+        match self.bytes.extend_from_slice(bytes) {
+            Ok(()) => Ok(bytes.len()),
+            Err(_) => {
+                self.failed = true;
+                Err(EndFailed)
+            }
+        }
+    }
+}
+
+// The replay's answer, and what it wrote.
+fn replayed(alloc: Global, input: &str) -> Result<(Result<u64, ReplayFault>, Vec<u8>), Fail> {
+    let mut source = Given {
+        rest: input.as_bytes(),
+    };
+    let mut sink = Kept {
+        bytes: Vec::new(alloc),
+        failed: false,
+    };
     let mut server = tests::builtin(alloc)?;
     let result = replay(alloc, &mut source, &mut sink, &mut server);
-    Ok((result, sink))
-}
-
-#[test]
-fn a_replay_writes_a_line_for_each_event(rt: HostRuntime) -> Result<(), Fail> {
-    for case in CASES {
-        let Case {
-            input,
-            step,
-            source_fails,
-            sink_limit,
-            result: want,
-            output,
-        } = case;
-        let ends = (step, source_fails, sink_limit);
-        let (result, sink) = replayed(rt.alloc(), input, ends)?;
-        assert_eq!(rt; result, want, "{input}");
-        assert!(rt; sink.as_slice() == output.as_bytes(), "{input}");
-    }
-    Ok(())
+    Ok((result, sink.bytes))
 }
 
 // A message that is not served ends the list, and nothing is written for it.
@@ -143,10 +71,10 @@ fn an_unsupported_message_ends_a_replay(rt: HostRuntime) -> Result<(), Fail> {
     let discover = tests::message(rt.alloc(), &tests::DISCOVER)?;
     let hex = hex::encode(rt.alloc(), discover.as_slice())?;
     let input = format!(in rt.alloc(); "1 \n2 {hex}\n3 \n")?;
-    let (result, sink) = replayed(rt.alloc(), input.as_str(), (64, false, 100_000))?;
+    let (result, written) = replayed(rt.alloc(), input.as_str())?;
     let fault = ServeFault::Unsupported(MessageType::Discover);
     assert_eq!(rt; result, Err(ReplayFault::Serve(fault)));
-    assert!(rt; sink.as_slice() == b"1 quiet 1 Unreadable\n".as_slice());
+    assert!(rt; written.as_slice() == b"1 quiet 1 Unreadable\n".as_slice());
     let text = format!(in rt.alloc(); "{}", ReplayFault::Serve(fault))?;
     assert_eq!(rt; text.as_str(), "Serve Unsupported 1");
     Ok(())
@@ -171,22 +99,9 @@ fn an_inform_is_a_line_and_its_reply_another(rt: HostRuntime) -> Result<(), Fail
         "1000 reply unicast 192.0.2.77:68 {}\n1000 quiet 10 NoCiaddr\n",
         hex::encode(rt.alloc(), reply.as_slice())?
     )?;
-    let (result, sink) = replayed(rt.alloc(), input.as_str(), (100, false, 100_000))?;
+    let (result, written) = replayed(rt.alloc(), input.as_str())?;
     assert_eq!(rt; result, Ok(2));
-    assert!(rt; sink.as_slice() == output.as_bytes());
-    Ok(())
-}
-
-// A line of 131,072 bytes is read, and one of a byte more is not.
-#[test]
-fn a_line_may_be_long(rt: HostRuntime) -> Result<(), Fail> {
-    for (len, want) in [(131_072, Ok(1)), (131_073, Err(ReplayFault::BadLine(1)))] {
-        let moment = if len % 2 == 1 { "55 " } else { "5 " };
-        let zeros = "0".repeat(rt.alloc(), len - moment.len())?;
-        let input = format!(in rt.alloc(); "{moment}{zeros}")?;
-        let (result, _) = replayed(rt.alloc(), input.as_str(), (50_000, false, 100_000))?;
-        assert_eq!(rt; result, want, "{len} bytes");
-    }
+    assert!(rt; written.as_slice() == output.as_bytes());
     Ok(())
 }
 
@@ -232,17 +147,12 @@ fn want_of_memory_is_answered_as_such(rt: HostRuntime) -> Result<(), Fail> {
         bytes: Bytes::own(inform),
     })?;
     let mut server = tests::builtin(rt.alloc())?;
-    let (first, sink) = replayed(rt.alloc(), input.as_str(), (1000, false, 100_000))?;
+    let (first, written) = replayed(rt.alloc(), input.as_str())?;
     match first {
-        Err(ReplayFault::Memory) | Err(ReplayFault::Write) => assert!(rt;
-            sink.as_slice().len() <= 21
-        ),
+        Err(ReplayFault::Memory) | Err(ReplayFault::Write) => assert!(rt; written.len() <= 21),
         other => assert_eq!(rt; other, Ok(2)),
     }
-    assert_eq!(rt;
-        replayed(rt.alloc(), input.as_str(), (1000, false, 100_000))?.0,
-        Ok(2)
-    );
+    assert_eq!(rt; replayed(rt.alloc(), input.as_str())?.0, Ok(2));
     let (list, fault) = server.run(&events);
     assert!(rt; fault == Some(ServeFault::Memory) || fault.is_none());
     assert_eq!(rt; list.len(), usize::from(fault.is_none()));

@@ -1,7 +1,7 @@
 use super::*;
-use crate::destination::{Destination, Mode};
 use crate::plan::PlanKind;
 use kd_options::{Items, MessageType, Reply};
+use kd_replay::{Destination, Mode};
 use std::test::Fail;
 
 pub(crate) const PORTS: Ports = Ports {

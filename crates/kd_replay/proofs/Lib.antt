@@ -1,0 +1,6 @@
+pub mod Fitting
+pub mod Going
+pub mod Histories
+pub mod Looking
+pub mod Spelling
+pub mod Texts

@@ -1,0 +1,62 @@
+-- Lines that are events: a line has one first space, and a moment's digits are no spaces.
+use Rattle.std.proofs.Common.{◌≡◌, ℕ, ◌+◌, ◌-◌, ◌*◌, ◌^◌, Bool, true, false, List, [], ◌∷◌, ◌++◌, Some, None, refl, sym, ap, ◌∙◌, arith, length, take, drop, length-drop}
+use Rattle.std.specs.Prelude.{◌==◌, ◌&&◌, nat_lt, if◌then◌else◌, Ok}
+use Rattle.std.specs.Char.{is_ascii_digit}
+use Rattle.std.proofs.lemmas.Bool.{eqb-false, ne_eqb}
+use Rattle.std.proofs.lemmas.List.{take_all}
+use Rattle.hex.specs.Hex.{decode_of}
+use Rattle.memchr.specs.Find.{IsFirstByte, is_byte}
+use Rattle.kd_replay.specs.Lines.{IsEventLine, IsMoment, number_after}
+use Rattle.kd_replay.specs.Parts.{HasNo}
+use Rattle.kd_replay.specs.declared.event.Event.{Event}
+use Rattle.kd_replay.proofs.Looking.{plain_front, split_first}
+
+pub split_at_first : (line : List ℕ) (at : ℕ) → IsFirstByte (is_byte 32) line (Some at) → (line ≡ take at line ++ 32 ∷ take (length line - (at + 1)) (drop (at + 1) line)) × HasNo 32 (take at line)
+split_at_first line at is =
+    let all = take_all (length line - (at + 1)) (drop (at + 1) line) (omega (arith, length-drop (at + 1) line)) in
+    (split_first 32 line at is.0.high is.1 ∙ ap (λ r. take at line ++ 32 ∷ r) (sym all), plain_front 32 line at (omega (arith, is.0.high)) is.0.before)
+
+no_space : (digits hex : List ℕ) → HasNo 32 (digits ++ 32 ∷ hex) → ⊥
+no_space [] hex plain = absurd (cc (plain.0))
+no_space (d ∷ digits) hex plain = no_space digits hex plain.1
+
+pub not_without_space : (line : List ℕ) → HasNo 32 line → (event : Event) → IsEventLine line event → ⊥
+not_without_space line plain event p = no_space p.digits p.hex (rw p.whole at plain)
+
+and_left : (a b : Bool) → (a && b) ≡ true → a ≡ true
+and_left true b h = refl
+and_left false b h = h
+
+digit_plain : (d : ℕ) → is_ascii_digit d ≡ true → (d == 32) ≡ false
+digit_plain d h = ne_eqb d 32 (λ e. let h' : is_ascii_digit 32 ≡ true = ap is_ascii_digit (sym e) ∙ h in absurd (cc))
+
+digits_plain : (digits : List ℕ) (n m : ℕ) → number_after n digits ≡ Some m → HasNo 32 digits
+digits_plain [] n m e = tt
+digits_plain (d ∷ digits) n m e = by (is_ascii_digit d && nat_lt (n * 10 + (d - 48)) (2 ^ 64)) refl (λ h. digits_plain digits (n * 10 + (d - 48)) m h) e
+  where
+    by : (t : Bool) → (is_ascii_digit d && nat_lt (n * 10 + (d - 48)) (2 ^ 64)) ≡ t → (number_after (n * 10 + (d - 48)) digits ≡ Some m → HasNo 32 digits)
+        → (if t then number_after (n * 10 + (d - 48)) digits else None) ≡ Some m → HasNo 32 (d ∷ digits)
+    by false is later h = absurd (cc)
+    by true is later h = (digit_plain d (and_left _ _ is), later h)
+
+one_split : (xs ys xs' ys' : List ℕ) → HasNo 32 xs → HasNo 32 xs' → xs ++ 32 ∷ ys ≡ xs' ++ 32 ∷ ys' → (xs ≡ xs') × (ys ≡ ys')
+one_split [] ys [] ys' p p' e = (refl, cc)
+one_split [] ys (x ∷ xs') ys' p p' e = absurd (let is : x ≡ 32 = cc in eqb-false x 32 p'.0 is)
+one_split (x ∷ xs) ys [] ys' p p' e = absurd (let is : x ≡ 32 = cc in eqb-false x 32 p.0 is)
+one_split (x ∷ xs) ys (x' ∷ xs') ys' p p' e =
+    let head : x ≡ x' = cc in
+    let tail : xs ++ 32 ∷ ys ≡ xs' ++ 32 ∷ ys' = cc in
+    let rest = one_split xs ys xs' ys' p.1 p'.1 tail in
+    (cc (head, rest.0), rest.1)
+
+module _ (line front back : List ℕ) (whole : line ≡ front ++ 32 ∷ back) (plain : HasNo 32 front) where
+  same_parts : (event : Event) (p : IsEventLine line event) → (front ≡ p.digits) × (back ≡ p.hex)
+  same_parts event p = one_split front back p.digits p.hex plain (digits_plain p.digits 0 event.moment p.moment.number) (sym whole ∙ p.whole)
+
+  pub not_without_moment : ((moment : ℕ) → IsMoment front moment → ⊥) → (event : Event) → IsEventLine line event → ⊥
+  not_without_moment none event p =
+      let e = same_parts event p in
+      let is : IsMoment front event.moment = rw e.0 p.moment in none event.moment is
+
+  pub not_without_bytes : ((bytes : List ℕ) → decode_of back ≡ Ok bytes → ⊥) → (event : Event) → IsEventLine line event → ⊥
+  not_without_bytes none event p = none event.bytes (ap decode_of (same_parts event p).1 ∙ p.bytes)

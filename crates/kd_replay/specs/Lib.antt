@@ -1,0 +1,8 @@
+pub mod Faults
+pub mod Handling
+pub mod History
+pub mod Lines
+pub mod Parts
+pub mod Reason
+pub mod Replay
+pub mod Text

@@ -1,0 +1,102 @@
+-- A replay: which lines of the input are handled, what is written for them, and how it ends.
+use Rattle.std.specs.Prelude.{◌≡◌, ◌≢◌, ℕ, ◌+◌, ◌<◌, List, [], ◌∷◌, ◌++◌, ◌⊎◌, Option, Some, Result, Ok, Err, length}
+use Rattle.std.specs.List.{flat_map}
+use Rattle.kd_replay.specs.History.{History}
+use Rattle.kd_replay.specs.Lines.{IsEventLine, lines_of}
+use Rattle.kd_replay.specs.Text.{line_of}
+use Rattle.kd_replay.specs.declared.event.Event.{Event}
+use Rattle.kd_replay.specs.declared.event.Handled.{Handled}
+use Rattle.kd_replay.specs.declared.fault.ReplayFault.{ReplayFault}
+use Rattle.kd_replay.specs.declared.fault.ReplayFault.TheVariants as faults
+use Rattle.kd_replay.specs.declared.fault.ServeFault.{ServeFault}
+use Rattle.kd_replay.specs.declared.fault.ServeFault.TheVariants as serving
+
+-- the most lines that are handled
+abbrev pub most_lines : ℕ
+most_lines = 1000000
+
+-- each line is the event at its place
+abbrev pub AreEvents : List (List ℕ) → List Event → Type 0
+AreEvents [] [] = Unit {0}
+AreEvents (line ∷ lines) (event ∷ events) = IsEventLine line event × AreEvents lines events
+AreEvents [] (event ∷ events) = ⊥
+AreEvents (line ∷ lines) [] = ⊥
+
+-- there is a first line, and it is such
+abbrev pub IsFirst : (List ℕ → Type 0) → List (List ℕ) → Type 0
+IsFirst IsSuch [] = ⊥
+IsFirst IsSuch (line ∷ lines) = IsSuch line
+
+-- a line is no event
+abbrev pub IsNoEvent : List ℕ → Type 0
+IsNoEvent line = (event : Event) → ¬ IsEventLine line event
+
+-- the relation that says what one event gives
+module _ {H : Type 0} (gives : H → Event → Handled → H → Type 0) where
+  -- so many events are handled
+  pub record Handles (count : ℕ) (server new : H) : Type 0 where
+    pub events : List Event
+    pub list : List Handled
+    pub counted : length events ≡ count
+    pub history : History gives server events list new
+
+  -- lines are handled: they are events that have a history, and what is written is the text of it
+  pub record Did (lines : List (List ℕ)) (server new : H) (old out : List ℕ) : Type 0 where
+    pub events : List Event
+    pub list : List Handled
+    pub spelled : AreEvents lines events
+    pub history : History gives server events list new
+    pub written : out ≡ old ++ flat_map line_of list
+
+  -- a line's event is handled, and what is written is a front of its text
+  pub record Cuts (line : List ℕ) (server new : H) (old out : List ℕ) : Type 0 where
+    pub event : Event
+    pub handled : Handled
+    pub part : List ℕ
+    pub more : List ℕ
+    pub spelled : IsEventLine line event
+    pub given : gives server event handled new
+    pub cut : line_of handled ≡ part ++ more
+    pub written : out ≡ old ++ part
+
+-- the relation that says what a fault leaves
+module _ {H : Type 0} (fails : H → Event → ServeFault → H → Type 0) where
+  -- a line's event has a fault, which is not want of memory
+  pub record Refuses (fault : ServeFault) (line : List ℕ) (server new : H) : Type 0 where
+    pub event : Event
+    pub spelled : IsEventLine line event
+    pub failed : fails server event fault new
+    pub other : fault ≢ serving.Memory
+
+module _ {H : Type 0} (gives : H → Event → Handled → H → Type 0) (fails : H → Event → ServeFault → H → Type 0) where
+  -- how a replay ends at the line with a number, the first of those that are left: at a line that is no
+  -- event, at a fault of its event, while its text is written, where the source has failed or it is one
+  -- line too many, or for want of memory
+  abbrev pub Ends : Type 0 → ReplayFault → ℕ → List (List ℕ) → H → H → List ℕ → List ℕ → Type 0
+  Ends source_failed (faults.BadLine k) number lines server new old out = (k ≡ number) × IsFirst IsNoEvent lines × (new ≡ server) × (out ≡ old)
+  Ends source_failed (faults.Serve fault) number lines server new old out = IsFirst (λ line. Refuses fails fault line server new) lines × (out ≡ old)
+  Ends source_failed faults.Write number lines server new old out = IsFirst (λ line. Cuts gives line server new old out) lines
+  Ends source_failed faults.Read number lines server new old out =
+      (source_failed ⊎ ((number ≡ most_lines + 1) × (0 < length lines))) × (new ≡ server) × (out ≡ old)
+  Ends source_failed faults.Memory number lines server new old out = (new ≡ server) × (out ≡ old)
+
+  -- a replay stops: the lines before are handled, and it ends at the next
+  pub record Stops (source_failed : Type 0) (fault : ReplayFault) (lines : List (List ℕ)) (server new : H) (old out : List ℕ) : Type 0 where
+    pub before : List (List ℕ)
+    pub after : List (List ℕ)
+    pub mid : H
+    pub between : List ℕ
+    pub all : lines ≡ before ++ after
+    pub did : Did gives before server mid old between
+    pub ends : Ends source_failed fault (length before + 1) after mid new between out
+
+  -- a replay: all lines are handled, as many as it says, or it stops with its fault
+  abbrev pub Replays : Type 0 → Result ℕ ReplayFault → List (List ℕ) → H → H → List ℕ → List ℕ → Type 0
+  Replays source_failed (Ok count) lines server new old out = (count ≡ length lines) × Did gives lines server new old out
+  Replays source_failed (Err fault) lines server new old out = Stops source_failed fault lines server new old out
+
+  -- what a replay of an input leaves in the sink, whose contents are known
+  pub record Leaves (source_failed : Type 0) (result : Result ℕ ReplayFault) (input : List ℕ) (server new : H) (old : List ℕ) (contents : Option (List ℕ)) : Type 0 where
+    pub out : List ℕ
+    pub told : contents ≡ Some out
+    pub replays : Replays source_failed result (lines_of input) server new old out

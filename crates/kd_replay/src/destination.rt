@@ -1,0 +1,23 @@
+/// How a reply is sent (RFC 2131 section 4.1).
+#[derive(Clone, Copy, Debug, PartialEq, Eq)]
+pub enum Mode {
+    /// To the relay that the message came through.
+    Relay,
+    /// To the address that the client has.
+    Unicast,
+    /// To every host of the link.
+    Broadcast,
+    /// To the client's hardware address, with the address that it is given.
+    Hardware,
+}
+
+/// Where a reply goes.
+#[derive(Clone, Copy, Debug, PartialEq, Eq)]
+pub struct Destination {
+    /// How it is sent.
+    pub mode: Mode,
+    /// The IPv4 address, as a number in host order.
+    pub address: u32,
+    /// The UDP port.
+    pub port: u16,
+}

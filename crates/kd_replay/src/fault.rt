@@ -1,0 +1,88 @@
+ghost use Rattle.std.specs.Prelude.{◌≡◌};
+ghost use Rattle.kd_replay.specs.Faults.{replay_fault_number, serve_fault_number};
+
+use kd_options::MessageType;
+use std::alloc::AllocError;
+use thiserror::Error;
+
+/// Why an event is not handled.
+#[derive(Clone, Copy, Debug, PartialEq, Eq, Error)]
+pub enum ServeFault {
+    /// Messages of this type are not served yet.
+    #[error("Unsupported {}", .0.number())]
+    Unsupported(MessageType),
+    /// The moment is not below 2^40.
+    #[error("MomentTooLarge")]
+    MomentTooLarge,
+    /// There is no memory for the event.
+    #[error("Memory")]
+    Memory,
+}
+
+impl ServeFault {
+    /// The fault's number: 89 to 91.
+    pub fn number(self) -> u8
+        ensures { result ≡ serve_fault_number self }
+    {
+        match self {
+            ServeFault::Unsupported(_) => 89,
+            ServeFault::MomentTooLarge => 90,
+            ServeFault::Memory => 91,
+        }
+    }
+}
+
+impl From<AllocError> for ServeFault {
+    ghost use Rattle.kd_replay.specs.declared.fault.ServeFault.TheVariants.{Memory};
+
+    ghost from_gives = { λ _ e. e ≡ Memory };
+
+    fn from(_error: AllocError) -> ServeFault {
+        ServeFault::Memory
+    }
+}
+
+/// Why a replay ends before its input does.
+#[derive(Clone, Copy, Debug, PartialEq, Eq, Error)]
+pub enum ReplayFault {
+    /// There is no memory for the lines, or for an event.
+    #[error("Memory")]
+    Memory,
+    /// The input can not be read, or has more than 1,000,000 lines.
+    #[error("Read")]
+    Read,
+    /// The output can not be written.
+    #[error("Write")]
+    Write,
+    /// An event is not handled, for a fault that is not want of memory.
+    #[error("Serve {0}")]
+    Serve(ServeFault),
+    /// The line with this number, from 1, is no event.
+    #[error("BadLine {0}")]
+    BadLine(u64),
+}
+
+impl ReplayFault {
+    /// The fault's number: 91, or 94 to 97.
+    pub fn number(self) -> u8
+        ensures { result ≡ replay_fault_number self }
+    {
+        match self {
+            ReplayFault::Memory => 91,
+            ReplayFault::Read => 94,
+            ReplayFault::Write => 95,
+            ReplayFault::Serve(_) => 96,
+            ReplayFault::BadLine(_) => 97,
+        }
+    }
+}
+
+impl From<AllocError> for ReplayFault {
+    ghost use Rattle.kd_replay.specs.declared.fault.ReplayFault.TheVariants.{Memory};
+
+    ghost from_gives = { λ _ e. e ≡ Memory };
+
+    fn from(_error: AllocError) -> ReplayFault {
+        ReplayFault::Memory
+    }
+}

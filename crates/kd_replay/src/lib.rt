@@ -1,0 +1,32 @@
+//! Events in, a history out: the lines of a day, and what any server makes of them.
+//!
+//! What this layer promises to the one above: whatever a server does with an event (`Serves`), a run gives the history
+//! of its events (`specs/History.antt`), and a replay reads lines and writes the text of exactly that history
+//! (`specs/Lines.antt`, `specs/Replay.antt`, `specs/Text.antt`), up to the first fault (`specs/Faults.antt`).
+#![tactic(auto)]
+
+mod ahead;
+mod destination;
+#[cfg(test)]
+mod doubles;
+mod ends;
+mod event;
+mod fault;
+mod line;
+mod lines;
+mod reason;
+mod replaying;
+mod room;
+mod running;
+mod serves;
+mod text;
+mod writing;
+
+pub use destination::{Destination, Mode};
+pub use ends::{EndFailed, Sink, Source};
+pub use event::{Event, Handled, Response};
+pub use fault::{ReplayFault, ServeFault};
+pub use reason::Reason;
+pub use replaying::replay_with;
+pub use running::run_with;
+pub use serves::Serves;

@@ -1,0 +1,88 @@
+ghost use Rattle.std.specs.Prelude.{◌≡◌, ℕ, ◌+◌, ◌-◌, ◌*◌, ◌^◌, ◌<◌, ◌≤◌, ◌&&◌, ◌++◌, ◌∷◌, List, Some, None, Ok, IfOk, MatchOption, length, nat_lt, if◌then◌else◌};
+ghost use Rattle.std.specs.Char.{is_ascii_digit};
+ghost use Rattle.hex.specs.Hex.{decode_of};
+ghost use Rattle.kd_replay.specs.Lines.{IsEventLine, IsMoment, line_limit};
+ghost use Rattle.kd_replay.specs.Parts.{HasNo};
+ghost use Rattle.kd_replay.specs.declared.event.Event.{Event};
+
+use crate::event::Event;
+use hex::FromHexError;
+use kd_wire::Bytes;
+use memchr::memchr;
+use std::alloc::{AllocError, Global};
+
+const MOST_DIGITS: usize = 20;
+
+// The event of a line, if the line is one.
+pub(crate) fn event_in(alloc: Global, line: &[u8]) -> Result<Option<Event>, AllocError>
+    requires { length line.now ≤ line_limit }
+    ensures { IfOk result (λ found. MatchOption found
+        ((event : Event) → ¬ IsEventLine line.now event) (λ event. IsEventLine line.now event)) }
+{
+    let Some((digits, text)) = at_space(line) else {
+        return Ok(None);
+    };
+    let Some(moment) = moment_in(digits) else {
+        return Ok(None);
+    };
+    let Some(bytes) = bytes_in(alloc, text)? else {
+        return Ok(None);
+    };
+    Ok(Some(Event { moment, bytes }))
+}
+
+// What stands before and behind the first space.
+fn at_space(line: &[u8]) -> Option<(&[u8], &[u8])>
+    ensures { MatchOption result (HasNo 32 line.now)
+        (λ parts. (line.now ≡ parts.0.now ++ 32 ∷ parts.1.now) × HasNo 32 parts.0.now) }
+{
+    match memchr(b' ', line) {
+        Some(at) => Some((&line[..at], &line[at + 1..])),
+        None => None,
+    }
+}
+
+// The moment that digits spell, if they do.
+fn moment_in(digits: &[u8]) -> Option<u64>
+    ensures { MatchOption result
+        ((moment : ℕ) → ¬ IsMoment digits.now moment) (λ moment. IsMoment digits.now moment) }
+{
+    if digits.is_empty() || digits.len() > MOST_DIGITS {
+        return None;
+    }
+    let mut number = 0;
+    for digit in digits {
+        number = with_digit(number, *digit)?;
+    }
+    Some(number)
+}
+
+// A number with one decimal digit more behind it.
+fn with_digit(number: u64, digit: u8) -> Option<u64>
+    ensures { result ≡ (if is_ascii_digit digit && nat_lt (number * 10 + (digit - 48)) (2 ^ 64)
+        then Some (number * 10 + (digit - 48)) else None) }
+{
+    if !digit.is_ascii_digit() {
+        return None;
+    }
+    number.checked_mul(10)?.checked_add(u64::from(digit - b'0'))
+}
+
+// The bytes that a text spells in hexadecimal, if it does.
+fn bytes_in(alloc: Global, text: &[u8]) -> Result<Option<Bytes>, AllocError>
+    ensures { IfOk result (λ found. MatchOption found
+        ((bytes : List ℕ) → ¬ (decode_of text.now ≡ Ok bytes)) (λ bytes. decode_of text.now ≡ Ok bytes)) }
+{
+    match hex::decode(alloc, text) {
+        Ok(bytes) => Ok(Some(Bytes::own(bytes))),
+        Err(error) => match error {
+            FromHexError::OutOfMemory => Err(AllocError),
+            FromHexError::OddLength => Ok(None),
+            FromHexError::InvalidStringLength => Ok(None),
+            FromHexError::InvalidHexCharacter { .. } => Ok(None),
+        },
+    }
+}
+
+#[cfg(test)]
+mod tests;

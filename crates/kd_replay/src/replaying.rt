@@ -1,0 +1,141 @@
+ghost use Rattle.std.specs.Prelude.{◌≡◌, ◌+◌, ◌≤◌, ◌⊎◌, List, [], Some, IfErr, IfOk, MatchResult, OnErr, OnOk, ℕ, false, true, length, vec_capacity};
+ghost use Rattle.std.specs.Io.KnownBytes.{Appends};
+ghost use Rattle.std.specs.Result.{IsErrOf};
+ghost use Rattle.kd_replay.specs.Handling.{EndsEvent, HandlesEvent};
+ghost use Rattle.kd_replay.specs.Lines.{line_limit};
+ghost use Rattle.kd_replay.specs.Parts.{WritesPart};
+ghost use Rattle.kd_replay.specs.Replay.{Handles, Leaves, most_lines};
+ghost use Rattle.kd_replay.specs.Text.{line_of, line_room};
+ghost use Rattle.kd_replay.specs.declared.fault.ReplayFault.TheVariants as faults;
+
+use crate::ahead::Ahead;
+use crate::ends::{EndFailed, Sink, Source};
+use crate::event::{Event, Handled};
+use crate::fault::{ReplayFault, ServeFault};
+use crate::line::event_in;
+use crate::lines::{Found, LINE_LIMIT, next_line};
+use crate::serves::Serves;
+use crate::text::put_line;
+use crate::writing::write_all;
+use std::alloc::{AllocError, Global};
+
+const MOST_LINES: u64 = 1_000_000;
+
+// The most bytes of an output line, with its line feed.
+const LINE_ROOM: usize = 4_096;
+
+// The memory that a replay works in, all of it taken at the start.
+#[derive(Drop)]
+struct Work {
+    ahead: Ahead,
+    line: Vec<u8>,
+    room: Vec<u8>,
+}
+
+impl Work {
+    fn new(alloc: Global) -> Result<Work, AllocError>
+        ensures ahead { IfOk result (λ work. work.ahead ≡ []) }
+        ensures line { IfOk result (λ work. line_limit ≤ vec_capacity work.line) }
+        ensures room { IfOk result (λ work. line_room ≤ vec_capacity work.room) }
+    {
+        let ahead = Ahead::new(alloc)?;
+        let line = Vec::with_capacity(alloc, LINE_LIMIT)?;
+        let room = Vec::with_capacity(alloc, LINE_ROOM)?;
+        Ok(Work { ahead, line, room })
+    }
+}
+
+/// Handles the events of the source's lines, one after another, and writes a line for each to the sink, up
+/// to the first fault; says how many were handled. An input line has a moment in decimal, a space, and a
+/// datagram in hexadecimal.
+///
+/// # Errors
+///
+/// `Read` where the source fails, or has more than 1,000,000 lines; `BadLine` at a line that is no event;
+/// `Serve` with the fault of a line's event; `Write` where the sink fails; `Memory`. What was handled
+/// before stands written.
+pub fn replay_with<R: Source, W: Sink, H: Serves>(
+    alloc: Global,
+    source: &mut R,
+    sink: &mut W,
+    server: &mut H,
+) -> Result<u64, ReplayFault>
+    requires source { R.has_failed source.old ≡ false }
+    requires sink { W.has_failed sink.old ≡ false }
+    ensures replayed { (input old : List ℕ) → R.remaining source.old ≡ Some input → W.contents sink.old ≡ Some old
+        → Leaves H.gives H.fails (R.has_failed source.new ≡ true) result input server.old server.new old (W.contents sink.new) }
+    ensures counted { IfOk result (λ count. Handles H.gives count server.old server.new) }
+    ensures read { IsErrOf result faults.Read
+        → (R.has_failed source.new ≡ true) ⊎ Handles H.gives most_lines server.old server.new }
+    ensures write { IsErrOf result faults.Write → W.has_failed sink.new ≡ true }
+{
+    let mut work = Work::new(alloc)?;
+    for number in 0..MOST_LINES {
+        match next_line(&mut work.ahead, source, &mut work.line) {
+            Ok(Found::Line) => {
+                let Some(event) = event_in(alloc, &work.line)? else {
+                    return Err(ReplayFault::BadLine(number + 1));
+                };
+                replay_event(sink, server, &event, &mut work.room)?;
+            }
+            Ok(Found::End) => return Ok(number),
+            Ok(Found::TooLong) => return Err(ReplayFault::BadLine(number + 1)),
+            Err(_) => return Err(ReplayFault::Read),
+        }
+    }
+    match next_line(&mut work.ahead, source, &mut work.line) {
+        Ok(Found::End) => Ok(MOST_LINES),
+        Ok(Found::Line) => Err(ReplayFault::Read),
+        Ok(Found::TooLong) => Err(ReplayFault::Read),
+        Err(_) => Err(ReplayFault::Read),
+    }
+}
+
+// Handles an event, and writes its text.
+#[tactic(auto, using(crate::proofs::Fitting::handled_fits))]
+fn replay_event<W: Sink, H: Serves>(
+    sink: &mut W,
+    server: &mut H,
+    event: &Event,
+    room: &mut Vec<u8>,
+) -> Result<(), ReplayFault>
+    requires { line_room ≤ vec_capacity room.old }
+    ensures handled { OnOk result
+        (HandlesEvent H.gives event.now server.old server.new (W.contents sink.old) (W.contents sink.new)) }
+    ensures ended { IfErr result (λ fault.
+        EndsEvent H.gives H.fails fault event.now server.old server.new (W.contents sink.old) (W.contents sink.new)) }
+    ensures write { IsErrOf result faults.Write → W.has_failed sink.new ≡ true }
+    ensures room { vec_capacity room.old ≤ vec_capacity room.new }
+{
+    match server.handle(event.moment, event.bytes.as_slice()) {
+        Ok(handled) => match write_handled(sink, room, &handled) {
+            Ok(()) => Ok(()),
+            Err(_) => Err(ReplayFault::Write),
+        },
+        Err(fault) => match fault {
+            ServeFault::Memory => Err(ReplayFault::Memory),
+            _ => Err(ReplayFault::Serve(fault)),
+        },
+    }
+}
+
+// Writes the text of a handled event; no memory is taken.
+fn write_handled<W: Sink>(
+    sink: &mut W,
+    room: &mut Vec<u8>,
+    handled: &Handled,
+) -> Result<(), EndFailed>
+    requires { length (line_of handled.now) ≤ vec_capacity room.old }
+    ensures written { MatchResult result
+        (λ _. Appends (W.contents sink.old) (W.contents sink.new) (line_of handled.entry.now))
+        (λ _. WritesPart (W.contents sink.old) (W.contents sink.new) (line_of handled.entry.now)) }
+    ensures failed { OnErr result (W.has_failed sink.new ≡ true) }
+    ensures room { vec_capacity room.old ≤ vec_capacity room.new }
+{
+    room.clear();
+    put_line(room, handled);
+    write_all(sink, room.as_slice())
+}
+
+#[cfg(test)]
+mod tests;

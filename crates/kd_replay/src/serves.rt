@@ -1,0 +1,32 @@
+use crate::event::Handled;
+use crate::fault::ServeFault;
+
+/// What handles events: a replay and a run are written over it, whatever an event does.
+pub trait Serves {
+    ghost use Rattle.std.specs.Prelude.{◌≡◌, IfErr, IfOk};
+    ghost use Rattle.std.specs.Result.{IsErrOf};
+    ghost use Rattle.kd_replay.specs.Text.{IsSmall};
+    ghost use Rattle.kd_replay.specs.declared.event.Event.{Event};
+    ghost use Rattle.kd_replay.specs.declared.event.Handled.{Handled};
+    ghost use Rattle.kd_replay.specs.declared.fault.ServeFault.{ServeFault};
+    ghost use Rattle.kd_replay.specs.declared.fault.ServeFault.TheVariants as faults;
+
+    /// What an event gives: the server before it, the event, what was done with it, the server after.
+    ghost gives: { Self → Event → Handled → Self → Type 0 };
+
+    /// What a fault says: the server before the event, the event, the fault, the server after.
+    ghost fails: { Self → Event → ServeFault → Self → Type 0 };
+
+    /// What is sent for a datagram at a moment, in whole seconds.
+    ///
+    /// # Errors
+    ///
+    /// `Memory` changes nothing; what stands after another fault, `fails` says.
+    fn handle(&mut self, moment: u64, bytes: &[u8]) -> Result<Handled, ServeFault>
+        ensures handled { IfOk result (λ handled.
+            gives self.old (record { moment = moment; bytes = bytes.now }) handled self.new) }
+        ensures small { IfOk result (λ handled. IsSmall handled.response) }
+        ensures failed { IfErr result (λ fault.
+            fails self.old (record { moment = moment; bytes = bytes.now }) fault self.new) }
+        ensures memory { IsErrOf result faults.Memory → self.new ≡ self.old };
+}
