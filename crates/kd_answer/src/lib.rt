@@ -4,7 +4,7 @@
 //! error, and its exit status (`specs/Printed.antt`, `specs/Show.antt`, `specs/Status.antt`), unless memory runs out.
 #![tactic(auto)]
 
-mod answer;
+mod answering;
 mod class_test;
 mod datagram;
 mod printed;
@@ -16,6 +16,6 @@ mod status;
 mod tests;
 mod token_file;
 
-pub use answer::answer;
+pub use answering::answer;
 pub use printed::Printed;
 pub use status::exit_status;

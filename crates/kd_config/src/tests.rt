@@ -1,110 +1,134 @@
-mod builtin;
-mod classes;
-mod faults;
-mod faulty;
-mod order;
-mod readers;
-mod refused_entries;
-mod refused_settings;
-mod refused_subnets;
-mod rules;
-mod texts;
-
-use crate::{Config, ConfigFault, TokenFile};
-use kd_wire::Bytes;
-use std::alloc::{AllocError, Global};
-use std::process::Abort;
+use crate::hex_text::bytes_of;
+use crate::prefix::{Prefix, prefix_of};
+use crate::range::{Range, range_of};
 use std::test::Fail;
 
-// What stands before and behind a row of a table.
-type Around = (&'static str, &'static str);
-
-// A row, and the number and the text of its fault, or `accepted`.
-type Row = (&'static str, &'static str);
-
-// The whole text.
-const WHOLE: Around = ("", "");
-
-// Keys of `Dhcp4`.
-const DHCP4: Around = (r#"{"Dhcp4":{"server-address":"192.0.2.1","#, "}}");
-
-// Entries of the options of all replies.
-const OPTIONS: Around = (
-    r#"{"Dhcp4":{"server-address":"192.0.2.1","option-data":["#,
-    "]}}",
-);
-
-// Entries of the classes.
-const CLASSES: Around = (
-    r#"{"Dhcp4":{"server-address":"192.0.2.1","client-classes":["#,
-    "]}}",
-);
-
-// Entries of the subnets.
-const SUBNETS: Around = (
-    r#"{"Dhcp4":{"server-address":"192.0.2.1","subnet4":["#,
-    "]}}",
-);
-
-// Keys of the subnet 192.0.2.0/24.
-const SUBNET: Around = (
-    r#"{"Dhcp4":{"server-address":"192.0.2.1","subnet4":[{"subnet":"192.0.2.0/24","#,
-    "}]}}",
-);
-
-// Entries of its pools.
-const POOLS: Around = (
-    r#"{"Dhcp4":{"server-address":"192.0.2.1","subnet4":[{"subnet":"192.0.2.0/24","pools":["#,
-    "]}]}}",
-);
-
-// Entries of its reservations.
-const RESERVATIONS: Around = (
-    r#"{"Dhcp4":{"server-address":"192.0.2.1","subnet4":[{"subnet":"192.0.2.0/24","reservations":["#,
-    "]}]}}",
-);
-
-// A program of one token: option 61 is present.
-const HAS_CLIENT: &[u8] = b"K4TK\x01\x00\x01\x01\x00\x00\x00\x00\x01\x06\x3d";
-
-// A program of one token: the packet is in class A.
-const IN_A: &[u8] = b"K4TK\x01\x00\x01\x01\x00\x00\x01\x01A\x00\x01\x08\x00";
-
-// Two tokens, of which the second wants two values where there is one.
-const TOO_SHORT: &[u8] = b"K4TK\x01\x00\x02\x01\x00\x00\x00\x00\x02\x06\x3d\x09";
-
-// A token file.
-fn file(alloc: Global, name: &[u8], bytes: &[u8]) -> Result<TokenFile, AllocError> {
-    Ok(TokenFile {
-        name: Bytes::own(Vec::from_slice(alloc, name)?),
-        bytes: Bytes::own(Vec::from_slice(alloc, bytes)?),
-    })
-}
-
-// The number and the text of the fault of a text with these token files, or `accepted`.
-fn answer(alloc: Global, text: &[u8], files: &[TokenFile]) -> Result<String, AllocError> {
-    match Config::read(alloc, text, files) {
-        Ok(_) => String::from_str(alloc, "accepted"),
-        Err(ConfigFault::Memory) => Err(AllocError),
-        Err(fault) => {
-            let number = fault.number();
-            format!(in alloc; "{number} {fault}")
-        }
+#[test]
+fn a_prefix_has_its_host_bits_cleared(rt: HostRuntime) {
+    let prefix = |address, length| Some(Prefix { address, length });
+    let table: [(&str, Option<Prefix>); 18] = [
+        ("192.0.2.0/24", prefix(0xc000_0200, 24)),
+        ("192.0.2.255/24", prefix(0xc000_0200, 24)),
+        ("192.0.2.129/25", prefix(0xc000_0280, 25)),
+        ("255.255.255.255/0", prefix(0, 0)),
+        ("255.255.255.255/1", prefix(0x8000_0000, 1)),
+        ("255.255.255.255/32", prefix(0xffff_ffff, 32)),
+        ("10.1.2.3/8", prefix(0x0a00_0000, 8)),
+        ("10.1.2.3/08", prefix(0x0a00_0000, 8)),
+        ("010.1.2.3/8", prefix(0x0a00_0000, 8)),
+        ("10.0.0.0/33", None),
+        ("10.0.0.0/024", None),
+        ("10.0.0.0/+24", None),
+        ("10.0.0.0/ 24", None),
+        ("10.0.0.0 /24", None),
+        ("10.0.0.0/", None),
+        ("10.0.0.0", None),
+        ("10.0.0/24", None),
+        ("10.0.0.0/24/24", None),
+    ];
+    for (text, want) in table {
+        assert_eq!(rt; prefix_of(text.as_bytes()), want, "{text}");
     }
 }
 
-// Each row is answered so between the two texts, with the token files `client`, `a` and `short`.
-fn check(rt: &impl Abort, alloc: Global, around: Around, table: &[Row]) -> Result<(), Fail> {
-    let files = [
-        file(alloc, b"client", HAS_CLIENT)?,
-        file(alloc, b"a", IN_A)?,
-        file(alloc, b"short", TOO_SHORT)?,
+#[test]
+fn a_prefix_knows_its_addresses(rt: HostRuntime) {
+    for (length, size) in [(0, 4_294_967_296), (1, 2_147_483_648), (24, 256), (32, 1)] {
+        let prefix = Prefix { address: 0, length };
+        assert_eq!(rt; prefix.size(), size, "{length}");
+    }
+    let prefix = Prefix {
+        address: 0xc000_0200,
+        length: 24,
+    };
+    for (address, want) in [
+        (0xc000_01ff, false),
+        (0xc000_0200, true),
+        (0xc000_02ff, true),
+        (0xc000_0300, false),
+    ] {
+        assert_eq!(rt; prefix.contains(address), want, "{address}");
+    }
+}
+
+#[test]
+fn a_pool_is_first_and_last_or_a_prefix(rt: HostRuntime) {
+    let range = |first, last| Some(Range { first, last });
+    let table: [(&str, Option<Range>); 27] = [
+        ("192.0.2.10 - 192.0.2.11", range(0xc000_020a, 0xc000_020b)),
+        ("192.0.2.10-192.0.2.11", range(0xc000_020a, 0xc000_020b)),
+        ("192.0.2.10 -192.0.2.11", range(0xc000_020a, 0xc000_020b)),
+        ("192.0.2.10- 192.0.2.11", range(0xc000_020a, 0xc000_020b)),
+        (
+            "192.0.2.10   -   192.0.2.11",
+            range(0xc000_020a, 0xc000_020b),
+        ),
+        ("192.0.2.10-192.0.2.10", range(0xc000_020a, 0xc000_020a)),
+        ("0.0.0.0-0.0.255.255", range(0, 0xffff)),
+        (
+            "255.255.0.0 - 255.255.255.255",
+            range(0xffff_0000, 0xffff_ffff),
+        ),
+        ("192.0.2.77/24", range(0xc000_0200, 0xc000_02ff)),
+        ("255.255.7.7/16", range(0xffff_0000, 0xffff_ffff)),
+        ("10.0.0.1/32", range(0x0a00_0001, 0x0a00_0001)),
+        ("192.0.2.11-192.0.2.10", None),
+        ("0.0.0.0-0.1.0.0", None),
+        ("10.0.0.0/15", None),
+        ("10.0.0.0/0", None),
+        (" 192.0.2.10-192.0.2.11", None),
+        ("192.0.2.10-192.0.2.11 ", None),
+        ("192.0.2.10\t-192.0.2.11", None),
+        ("192.0.2.10-\t192.0.2.11", None),
+        ("192.0.2.10 192.0.2.11", None),
+        ("192.0.2.10", None),
+        ("192.0.2.10-", None),
+        ("-192.0.2.10", None),
+        ("-", None),
+        ("", None),
+        ("192.0.2.10-192.0.2.11-192.0.2.12", None),
+        ("192.0.2.10-192.0.2.0/24", None),
     ];
-    let (before, behind) = around;
-    for (row, want) in table {
-        let text = format!(in alloc; "{before}{row}{behind}")?;
-        let found = answer(alloc, text.as_bytes(), &files)?;
-        assert_eq!(rt; found.as_str(), *want, "{row}");
+    for (text, want) in table {
+        assert_eq!(rt; range_of(text.as_bytes()), want, "{text}");
+    }
+}
+
+#[test]
+fn a_pool_knows_its_addresses(rt: HostRuntime) {
+    let range = Range {
+        first: 10,
+        last: 12,
+    };
+    for (address, want) in [(9, false), (10, true), (12, true), (13, false)] {
+        assert_eq!(rt; range.contains(address), want, "{address}");
+    }
+}
+
+#[test]
+fn hexadecimal_text_may_have_spaces_colons_and_0x(rt: HostRuntime) -> Result<(), Fail> {
+    let table: [(&str, Option<&[u8]>); 17] = [
+        ("", Some(b"")),
+        (":", Some(b"")),
+        ("0x", Some(b"")),
+        ("beef", Some(b"\xbe\xef")),
+        ("BEef", Some(b"\xbe\xef")),
+        ("0xbeef", Some(b"\xbe\xef")),
+        ("0Xbeef", Some(b"\xbe\xef")),
+        ("0:x1 2", Some(b"\x12")),
+        ("0a:00:00:00:00:02", Some(b"\x0a\x00\x00\x00\x00\x02")),
+        (" b e:e f ", Some(b"\xbe\xef")),
+        ("00x1", None),
+        ("0x0x12", None),
+        ("x12", None),
+        ("123", None),
+        ("be\tef", None),
+        ("be-ef", None),
+        ("0g", None),
+    ];
+    for (text, want) in table {
+        let bytes = bytes_of(rt.alloc(), text.as_bytes())?;
+        assert_eq!(rt; bytes.as_ref().map(|b| b.as_slice()), want, "{text}");
     }
     Ok(())
 }

@@ -1,5 +1,5 @@
 -- The text of a handled event: the line that a replay writes for it.
-use Rattle.std.specs.Prelude.{ℕ, ◌×◌, ◌/◌, ◌%◌, ◌^◌, ◌<◌, ◌≤◌, List, [], ◌∷◌, ◌++◌, codes, decimal, length}
+use Rattle.std.specs.Prelude.{ℕ, ◌/◌, ◌%◌, ◌^◌, ◌<◌, ◌≤◌, List, [], ◌∷◌, ◌++◌, codes, decimal, length}
 use Rattle.hex.specs.Hex.{encode_lower}
 use Rattle.kd_replay.specs.Reason.{reason_name, reason_number}
 use Rattle.kd_replay.specs.declared.destination.Destination.{Destination}

@@ -1,7 +1,7 @@
 use crate::tests::{HAS_CLIENT, file};
-use crate::{Config, ConfigFault, FileTestFault, TestFault, TokenFile};
 use kd_classes::ClassFault;
 use kd_compile::CompileFault;
+use kd_config::{Config, ConfigFault, FileTestFault, TestFault, TokenFile};
 use kd_expr::{ExprFault, TypeFault};
 use kd_token::{FileFault, VerifyFault};
 use std::alloc::{AllocError, Global};

@@ -1,6 +1,6 @@
 use crate::tests::{HAS_CLIENT, file};
-use crate::{Config, Identity, Prefix, Range, Times};
 use kd_classes::OptionData;
+use kd_config::{Config, Identity, Prefix, Range, Times};
 use std::alloc::Global;
 use std::test::Fail;
 

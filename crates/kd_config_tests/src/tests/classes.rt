@@ -1,6 +1,6 @@
-use crate::Config;
 use crate::tests::{CLASSES, HAS_CLIENT, IN_A, Row, answer, check, file};
 use kd_classes::ClassDef;
+use kd_config::Config;
 use kd_token::Token;
 use std::alloc::{AllocError, Global};
 use std::test::Fail;

@@ -1,5 +1,5 @@
 use crate::tests::answer;
-use crate::{Config, Prefix, Range, Times};
+use kd_config::{Config, Prefix, Range, Times};
 use std::process::Abort;
 use std::test::Fail;
 
