@@ -92,8 +92,8 @@ echo "replay byte by byte: the same"
 
 all=0 passed=0 building=0 second=0 other=0
 for test in kd_options:tests kd_options:reply::tests kd_server:server::replays kd_expr:tests::memory \
-    kd_token:verifier::tests kd_machine:tests kd_compile:tests kd_classes:tests::held kd_config:tests::faults \
-    kdhcp:answer::tests::show; do
+    kd_token:verifier::tests kd_machine:tests kd_compile:tests kd_classes:tests::held kd_config_tests:tests::faults \
+    kd_replay:replaying::tests kd_answer:tests::show; do
     run=(crates/"${test%%:*}"/out/"${test%%:*}"_tests "${test#*:}"::want_of_memory_is_answered_as_such)
     for n in $(seq 1 "$(asked_by "${run[@]}")"); do
         all=$((all + 1))
