@@ -15,7 +15,7 @@ import sys
 
 HERE = os.path.dirname(os.path.abspath(__file__))
 sys.path.insert(0, os.path.join(HERE, "replay"))
-from day import acknowledged, address, readable  # noqa: E402
+from day import acknowledged, address, readable, unheard  # noqa: E402
 
 # ---- messages
 
@@ -208,12 +208,9 @@ def given(root, subnet, held, ciaddr):
 
 def answer(root, files, datagram):
     found = readable(datagram)
-    if found is None:
-        return "quiet 1 Unreadable"
-    if datagram[0] == 2 or found[53][0] in (2, 5, 6):
-        return "quiet 2 NotRequest"
-    if not found.get(61) and datagram[2] == 0:
-        return "quiet 3 NoIdentity"
+    reason = unheard(datagram, found)
+    if reason:
+        return reason
     held = classes(root, files, datagram, found)
     if b"DROP" in held:
         return "quiet 4 DropClass"

@@ -78,14 +78,22 @@ def written(code, value):
     return b"".join(bytes([code, len(piece)]) + piece for piece in cut)
 
 
-def answer(datagram):
-    found = readable(datagram)
+def unheard(datagram, found):
+    """Why a datagram with these options gets nothing under any configuration, or None."""
     if found is None:
         return "quiet 1 Unreadable"
     if datagram[0] == 2 or found[53][0] in (2, 5, 6):
         return "quiet 2 NotRequest"
     if not found.get(61) and datagram[2] == 0:
         return "quiet 3 NoIdentity"
+    return None
+
+
+def answer(datagram):
+    found = readable(datagram)
+    reason = unheard(datagram, found)
+    if reason:
+        return reason
     assert found[53][0] == 8, "only INFORM is served"
     ciaddr, giaddr = datagram[12:16], datagram[24:28]
     if ciaddr == bytes(4):
