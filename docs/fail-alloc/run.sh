@@ -91,9 +91,9 @@ SHORT_IO=1 LD_PRELOAD=$room/fail.so crates/kdhcp/out/kdhcp replay <examples/repl
 echo "replay byte by byte: the same"
 
 all=0 passed=0 building=0 second=0 other=0
-for test in kd_options:tests kd_options:reply::tests kd_server:server::replays kd_expr:tests::memory \
-    kd_token:verifier::tests kd_machine:tests kd_compile:tests kd_classes:tests::held kd_config_tests:tests::faults \
-    kd_replay:replaying::tests kd_answer:tests::show; do
+for test in kd_options:tests kd_options:reply::tests kd_server:server::replays kd_expr_tests:tests::memory \
+    kd_token_tests:tests::verifier kd_machine_tests:tests kd_compile_tests:tests kd_classes:tests::held \
+    kd_config_tests:tests::faults kd_replay:replaying::tests kd_answer:tests::show; do
     run=(crates/"${test%%:*}"/out/"${test%%:*}"_tests "${test#*:}"::want_of_memory_is_answered_as_such)
     for n in $(seq 1 "$(asked_by "${run[@]}")"); do
         all=$((all + 1))

@@ -14,8 +14,6 @@ mod emit;
 mod fault;
 mod lengths;
 mod measure;
-#[cfg(test)]
-mod tests;
 
 pub use compiler::compile;
 pub use fault::CompileFault;

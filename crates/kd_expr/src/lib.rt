@@ -22,8 +22,6 @@ mod number;
 mod parser;
 mod reader;
 mod take;
-#[cfg(test)]
-mod tests;
 mod token;
 mod typing;
 

@@ -18,8 +18,6 @@ pub mod laws;
 mod run;
 mod stack;
 mod step;
-#[cfg(test)]
-mod tests;
 mod text;
 mod texts;
 mod value;

@@ -18,8 +18,6 @@ mod reader;
 mod reading;
 mod shape;
 mod table;
-#[cfg(test)]
-mod tests;
 mod token;
 mod verifier;
 mod way;

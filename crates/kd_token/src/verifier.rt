@@ -18,9 +18,6 @@ use std::alloc::{AllocError, Global};
 use std::marker::Model;
 use std::mem;
 
-#[cfg(test)]
-mod tests;
-
 /// A program that the verifier has accepted: along each way through it each token finds what it wants, no
 /// stack is deeper and no value longer than the program declares, and it ends in the declared steps with
 /// one truth value.

@@ -1,4 +1,4 @@
-use super::*;
+use super::fault_of;
 
 // Operators without an operand.
 const FAULTS_IN_OPERATORS: [(&[u8], u8, usize); 28] = [

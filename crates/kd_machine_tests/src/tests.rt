@@ -1,7 +1,7 @@
 mod held;
 mod tokens;
 
-use crate::{Held, Outcome, eval};
+use kd_machine::{Held, Outcome, eval};
 use kd_options::{Message, ReadFault};
 use kd_token::{FileFault, Program, VerifyFault, verify};
 use std::alloc::{AllocError, Global};

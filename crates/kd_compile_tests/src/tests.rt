@@ -3,7 +3,7 @@ mod kea;
 mod limits;
 mod outcomes;
 
-use crate::{CompileFault, compile};
+use kd_compile::{CompileFault, compile};
 use kd_expr::{ExprFault, TypeFault, read, type_of};
 use kd_machine::{Held, Outcome, eval};
 use kd_options::{Message, ReadFault};

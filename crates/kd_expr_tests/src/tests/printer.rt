@@ -1,6 +1,6 @@
 //! Trees as texts, and the places of their nodes.
-use super::*;
-use std::alloc::AllocError;
+use kd_expr::{Field, Node};
+use std::alloc::{AllocError, Global};
 
 // The name of a part of a message.
 fn name_of(field: Field) -> &'static [u8] {

@@ -1,4 +1,4 @@
-use crate::{FileFault, Program, VerifyFault, verify};
+use kd_token::{FileFault, Program, VerifyFault, verify};
 use std::alloc::Global;
 use std::test::Fail;
 

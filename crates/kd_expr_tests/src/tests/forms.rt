@@ -1,4 +1,4 @@
-use super::*;
+use super::fault_of;
 
 // Faults in a substring.
 const FAULTS_IN_SUBSTRING: [(&[u8], u8, usize); 37] = [

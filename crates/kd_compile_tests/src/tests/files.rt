@@ -1,5 +1,5 @@
 use super::Fault;
-use crate::compile;
+use kd_compile::compile;
 use kd_expr::{read, type_of};
 use std::alloc::Global;
 use std::test::Fail;

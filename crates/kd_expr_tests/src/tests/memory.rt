@@ -1,4 +1,4 @@
-use super::*;
+use kd_expr::{ExprFault, read, type_of};
 use std::test::Fail;
 
 // A text with each kind of node that takes memory.

@@ -1,4 +1,8 @@
-use super::*;
+use super::{DISCOVER, datagram, token_file, with_options};
+use kd_machine::{Held, eval};
+use kd_options::Message;
+use kd_token::{Program, VerifyFault, verify};
+use std::test::Fail;
 
 // A name is there and is this one.
 fn is(name: Option<&[u8]>, want: &[u8]) -> bool {

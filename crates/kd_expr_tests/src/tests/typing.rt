@@ -1,4 +1,4 @@
-use super::*;
+use kd_expr::{Expr, TypeFault, read, type_of};
 use std::test::Fail;
 
 // Expressions that are no class test, with the number and the place of the fault.

@@ -1,5 +1,7 @@
+use super::nodes_of;
 use super::printer::{places_of, text_of};
-use super::*;
+use kd_expr::{Typed, read, type_of};
+use std::alloc::Global;
 use std::test::Fail;
 
 // Class tests, with the number of their nodes.

@@ -1,5 +1,5 @@
 use super::{DISCOVER, Fault, datagram, gives, nested, outcome, times};
-use crate::{CompileFault, compile};
+use kd_compile::{CompileFault, compile};
 use kd_expr::{read, type_of};
 use std::alloc::{AllocError, Global};
 use std::test::Fail;

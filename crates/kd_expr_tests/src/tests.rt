@@ -1,6 +1,3 @@
-use super::*;
-use std::alloc::Global;
-
 mod accepted;
 mod deep;
 mod forms;
@@ -10,6 +7,9 @@ mod printer;
 mod typing;
 mod values;
 mod words;
+
+use kd_expr::{ExprFault, read, type_of};
+use std::alloc::Global;
 
 // The number and the place of a fault.
 fn seen(fault: ExprFault) -> (u8, usize) {

@@ -1,4 +1,4 @@
-use super::*;
+use super::fault_of;
 
 // Faults of each kind, and which of two comes first.
 const FIRST_FAULTS: [(&[u8], u8, usize); 20] = [

@@ -1,4 +1,5 @@
-use super::*;
+use super::{Parts, datagram, token_file, value, with_options};
+use std::test::Fail;
 
 // Options 53, 60 `kd`, an empty 12, and 82 with sub-options 1 `xy`, an empty 2, and 1 `z`.
 const OPTIONS: &[u8] = b"\x35\x01\x01\x3c\x02kd\x0c\x00\x52\x09\x01\x02xy\x02\x00\x01\x01z\xff";

@@ -1,4 +1,4 @@
-use super::*;
+use kd_expr::{ExprFault, TypeFault, read_address};
 use std::test::Fail;
 
 #[test]

@@ -1,5 +1,6 @@
-use super::*;
-use std::alloc::AllocError;
+use super::{nodes_of, seen};
+use kd_expr::{ExprFault, read};
+use std::alloc::{AllocError, Global};
 use std::test::Fail;
 
 // What is written so many times, what stands behind it, and the fault.
