@@ -1,6 +1,6 @@
 mod verifier;
 
-use kd_token::{Field, FileFault, Program, Token, Version, VerifyFault, Way};
+use kd_token::{Field, FileFault, Program, Token, VerifyFault, Version, Way};
 use kd_wire::Bytes;
 use std::alloc::{AllocError, Global};
 use std::test::Fail;
