@@ -1,4 +1,4 @@
-use super::{DISCOVER, datagram, token_file, with_options};
+use super::{DISCOVER, datagram, gives, token_file, with_options};
 use kd_machine::{Held, eval};
 use kd_options::Message;
 use kd_token::{Program, VerifyFault, verify};
