@@ -1,5 +1,8 @@
 -- The exit statuses of the program.
 use Rattle.std.specs.Prelude.{ℕ, ◌==◌, ◌||◌, if◌then◌else◌}
+use Rattle.kd_replay.specs.Faults.{replay_fault_number, serve_fault_number}
+use Rattle.kd_replay.specs.declared.fault.ReplayFault.{ReplayFault}
+use Rattle.kd_replay.specs.declared.fault.ReplayFault.TheVariants.{Serve}
 
 -- the exit status of the fault with this number
 abbrev pub status_of : ℕ → ℕ
@@ -8,3 +11,8 @@ status_of number =
     else if number == 98 then 2
     else if number == 80 || number == 81 || number == 92 || number == 93 then 4
     else 3
+
+-- the exit status of a fault of a replay: that of the server's fault in it, or its own
+abbrev pub replay_status_of : ReplayFault → ℕ
+replay_status_of (Serve fault) = status_of (serve_fault_number fault)
+replay_status_of other = status_of (replay_fault_number other)

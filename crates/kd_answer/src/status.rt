@@ -1,5 +1,7 @@
 ghost use Rattle.std.specs.Prelude.{◌≡◌};
-ghost use Rattle.kd_answer.specs.Status.{status_of};
+ghost use Rattle.kd_answer.specs.Status.{replay_status_of, status_of};
+
+use kd_replay::ReplayFault;
 
 /// The exit status of the fault with this number: 1 for want of memory and for a failed end, 2 for a
 /// mistake on the command line, 4 for the store, 3 for every other.
@@ -11,6 +13,16 @@ pub fn exit_status(number: u8) -> u8
         98 => 2,
         80 | 81 | 92 | 93 => 4,
         _ => 3,
+    }
+}
+
+/// The exit status of a fault of a replay: a fault of the server has its own.
+pub fn replay_status(fault: ReplayFault) -> u8
+    ensures { result ≡ replay_status_of fault }
+{
+    match fault {
+        ReplayFault::Serve(inner) => exit_status(inner.number()),
+        other => exit_status(other.number()),
     }
 }
 

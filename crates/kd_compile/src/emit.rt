@@ -1,4 +1,4 @@
-ghost use Rattle.std.specs.Prelude.{◌≡◌, ◌≤◌, ◌++◌, IfOk, OnOk, length};
+ghost use Rattle.std.specs.Prelude.{[], ◌≡◌, ◌≤◌, ◌++◌, ◌∷◌, IfOk, OnOk, length};
 ghost use Rattle.std.specs.List.{position};
 ghost use Rattle.kd_compile.specs.Measures.{names, names_after, tokens};
 ghost use Rattle.kd_compile.specs.Tokens.{code_of, field_of, in_bytes, place};
@@ -120,6 +120,13 @@ fn field_of(field: Field) -> TokenField
     }
 }
 
+// One token at the end.
+fn put(out: &mut Vec<Token>, token: Token) -> Result<(), AllocError>
+    ensures { OnOk result (out.new.items ≡ out.old.items ++ (token ∷ [])) }
+{
+    Ok(out.push(token)?)
+}
+
 // The tokens of an operand where a byte string is wanted.
 #[cycle(code)]
 fn put_bytes(
@@ -134,9 +141,10 @@ fn put_bytes(
 {
     put_code(alloc, node, names, out)?;
     if is_number(node) {
-        out.push(Token::IntBytes)?;
+        put(out, Token::IntBytes)
+    } else {
+        Ok(())
     }
-    Ok(())
 }
 
 // The tokens of an expression, with the names of its program.
@@ -152,51 +160,49 @@ pub(crate) fn put_code(
     ensures { OnOk result (out.new.items ≡ out.old.items ++ code_of names.now (tree_of node.now)) }
 {
     match node {
-        Node::Literal { bytes, .. } => {
-            out.push(Token::PushBytes(copy(alloc, bytes.as_slice())?))?;
-        }
-        Node::Int { value, .. } => out.push(Token::PushInt(*value))?,
-        Node::Option { code, .. } => out.push(Token::PushOption(*code))?,
-        Node::Relay { code, .. } => out.push(Token::PushRelay(*code))?,
-        Node::Field { field, .. } => out.push(Token::PushField(field_of(*field)))?,
-        Node::OptionExists { code, .. } => out.push(Token::OptionExists(*code))?,
-        Node::RelayExists { code, .. } => out.push(Token::RelayExists(*code))?,
+        Node::Literal { bytes, .. } => put(out, Token::PushBytes(copy(alloc, bytes.as_slice())?)),
+        Node::Int { value, .. } => put(out, Token::PushInt(*value)),
+        Node::Option { code, .. } => put(out, Token::PushOption(*code)),
+        Node::Relay { code, .. } => put(out, Token::PushRelay(*code)),
+        Node::Field { field, .. } => put(out, Token::PushField(field_of(*field))),
+        Node::OptionExists { code, .. } => put(out, Token::OptionExists(*code)),
+        Node::RelayExists { code, .. } => put(out, Token::RelayExists(*code)),
         Node::Member { name, .. } => {
-            out.push(Token::Member(place(name.as_slice(), names) as u8))?;
+            put(out, Token::Member(place(name.as_slice(), names) as u8))
         }
         Node::Equal { left, right, .. } => {
             put_bytes(alloc, left, names, out)?;
             put_bytes(alloc, right, names, out)?;
-            out.push(Token::Equal)?;
+            put(out, Token::Equal)
         }
         Node::Not { operand, .. } => {
             put_code(alloc, operand, names, out)?;
-            out.push(Token::Not)?;
+            put(out, Token::Not)
         }
         Node::And { left, right, .. } => {
             put_code(alloc, left, names, out)?;
-            out.push(Token::BranchFalseElsePop(tokens(right) as u16))?;
-            put_code(alloc, right, names, out)?;
+            put(out, Token::BranchFalseElsePop(tokens(right) as u16))?;
+            put_code(alloc, right, names, out)
         }
         Node::Or { left, right, .. } => {
             put_code(alloc, left, names, out)?;
-            out.push(Token::BranchTrueElsePop(tokens(right) as u16))?;
-            put_code(alloc, right, names, out)?;
+            put(out, Token::BranchTrueElsePop(tokens(right) as u16))?;
+            put_code(alloc, right, names, out)
         }
-        Node::Group { operand, .. } => put_code(alloc, operand, names, out)?,
+        Node::Group { operand, .. } => put_code(alloc, operand, names, out),
         Node::Concat { left, right, .. } => {
             put_bytes(alloc, left, names, out)?;
             put_bytes(alloc, right, names, out)?;
-            out.push(Token::Concat)?;
+            put(out, Token::Concat)
         }
         Node::IfElse { test, yes, no, .. } => {
             put_code(alloc, test, names, out)?;
             let yes_tokens = tokens(yes) + four(yes) + 1;
-            out.push(Token::PopBranchFalse(yes_tokens as u16))?;
+            put(out, Token::PopBranchFalse(yes_tokens as u16))?;
             put_bytes(alloc, yes, names, out)?;
             let no_tokens = tokens(no) + four(no);
-            out.push(Token::Branch(no_tokens as u16))?;
-            put_bytes(alloc, no, names, out)?;
+            put(out, Token::Branch(no_tokens as u16))?;
+            put_bytes(alloc, no, names, out)
         }
         Node::Substring {
             operand,
@@ -205,7 +211,7 @@ pub(crate) fn put_code(
             ..
         } => {
             put_bytes(alloc, operand, names, out)?;
-            out.push(Token::Substring(*start, *length))?;
+            put(out, Token::Substring(*start, *length))
         }
         Node::HexString {
             operand,
@@ -214,20 +220,19 @@ pub(crate) fn put_code(
         } => {
             put_bytes(alloc, operand, names, out)?;
             put_bytes(alloc, separator, names, out)?;
-            out.push(Token::HexString)?;
+            put(out, Token::HexString)
         }
         Node::Lower { operand, .. } => {
             put_bytes(alloc, operand, names, out)?;
-            out.push(Token::Lower)?;
+            put(out, Token::Lower)
         }
         Node::Upper { operand, .. } => {
             put_bytes(alloc, operand, names, out)?;
-            out.push(Token::Upper)?;
+            put(out, Token::Upper)
         }
         Node::IntToText { operand, .. } => {
             put_code(alloc, operand, names, out)?;
-            out.push(Token::IntToText)?;
+            put(out, Token::IntToText)
         }
     }
-    Ok(())
 }

@@ -5,13 +5,10 @@
 //! files of a configuration.
 #![tactic(auto)]
 
-mod status;
-
-use kd_answer::{Printed, answer, exit_status};
+use kd_answer::{Printed, answer, exit_status, replay_status};
 use kd_ends::{Input, Output, configuration};
 use kd_order::{LineFault, Order, order};
 use kd_server::{Ports, Server, replay};
-use status::replay_status;
 use std::fmt::Display;
 use std::io;
 use std::io::Write;

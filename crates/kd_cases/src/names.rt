@@ -1,0 +1,50 @@
+use std::alloc::{AllocError, Global};
+use std::collections::BTreeMap;
+
+/// Texts by their names: `${name}` stands for a text, `${name:FROM:COUNT}` for a part of it, in bytes.
+#[derive(Drop)]
+pub struct Names {
+    texts: BTreeMap<String, String>,
+}
+
+impl Names {
+    /// No names.
+    pub fn new(alloc: Global) -> Names {
+        Names {
+            texts: BTreeMap::new(alloc),
+        }
+    }
+
+    /// Gives a text a name, which loses the text that it had.
+    pub fn define(&mut self, name: String, text: String) -> Result<(), AllocError> {
+        self.texts.insert(name, text)?;
+        Ok(())
+    }
+
+    /// A line with each name's text in its place. A name that is not known stands as it is.
+    pub fn expanded(&self, alloc: Global, line: &str) -> Result<String, AllocError> {
+        let mut out = String::new(alloc);
+        for (index, piece) in line.split("${").enumerate() {
+            match piece.split_once('}') {
+                Some((reference, rest)) if index > 0 => {
+                    out.push_str(self.part(reference).unwrap_or(reference))?;
+                    out.push_str(rest)?;
+                }
+                _ => out.push_str(piece)?,
+            }
+        }
+        Ok(out)
+    }
+
+    // The text of a reference.
+    fn part(&self, reference: &str) -> Option<&str> {
+        let mut words = reference.split(':');
+        let text = self.texts.get(words.next()?)?.as_str();
+        let from = words.next().map_or(Some(0), |word| word.parse().ok())?;
+        let text = text.get(from..)?;
+        match words.next() {
+            Some(count) => text.get(..count.parse().ok()?),
+            None => Some(text),
+        }
+    }
+}

@@ -1,0 +1,129 @@
+use crate::case::{Case, put_line};
+use crate::command::written;
+use crate::files::Files;
+use crate::names::Names;
+use crate::words::{definition, words};
+use std::alloc::{AllocError, Global};
+use std::fs;
+use std::io;
+
+/// The reading of a file of cases, line by line.
+#[derive(Drop)]
+pub struct Session {
+    names: Names,
+    files: Files,
+    case: Option<Case>,
+    line: usize,
+    /// How many cases came out as written.
+    pub well: usize,
+    /// How many did not.
+    pub badly: usize,
+}
+
+impl Session {
+    /// A session at its beginning.
+    pub fn new(alloc: Global) -> Session {
+        Session {
+            names: Names::new(alloc),
+            files: Files::new(alloc),
+            case: None,
+            line: 0,
+            well: 0,
+            badly: 0,
+        }
+    }
+
+    /// Takes the next line. A case runs once a line ends it: an empty one, or the next command.
+    pub fn take(&mut self, rt: &HostRuntime, line: &str) -> io::Result<()> {
+        self.line = self.line.saturating_add(1);
+        if line.is_empty() {
+            return self.finish(rt);
+        }
+        if let Some(command) = line.strip_prefix("$ kdhcp") {
+            self.finish(rt)?;
+            return Ok(self.begin(rt.alloc(), command)?);
+        }
+        let text = self.names.expanded(rt.alloc(), line)?;
+        match &mut self.case {
+            Some(case) => take_of_case(rt, case, text.as_str()),
+            None => self.prepare(rt, line, text.as_str()),
+        }
+    }
+
+    // Begins a case.
+    fn begin(&mut self, alloc: Global, command: &str) -> Result<(), AllocError> {
+        let number = self.line;
+        let title = format!(in alloc; "line {number}: $ kdhcp{command}")?;
+        let words = words(alloc, &self.names, command)?;
+        self.case = Some(Case::new(alloc, title, words));
+        Ok(())
+    }
+
+    // A line outside of the cases: a remark, a file in memory, or a name. Any other is a case that is not as written.
+    fn prepare(&mut self, rt: &HostRuntime, line: &str, text: &str) -> io::Result<()> {
+        let alloc = rt.alloc();
+        if line.starts_with('#') {
+            return Ok(());
+        }
+        if let Some(name) = text.strip_prefix("@ ") {
+            return Ok(self.files.begin(alloc, String::from_str(alloc, name)?)?);
+        }
+        if let Some(rest) = text.strip_prefix("| ") {
+            return Ok(self.files.put_line(rest)?);
+        }
+        if let Some(digits) = text.strip_prefix("% ") {
+            return Ok(self.files.put_bytes(alloc, digits)?);
+        }
+        match definition(alloc, &self.names, line)? {
+            Some((name, text)) => Ok(self.names.define(name, text)?),
+            None => {
+                self.badly = self.badly.saturating_add(1);
+                println!(rt; "line {}: not read: {line}", self.line)
+            }
+        }
+    }
+
+    /// Runs the case that was begun, if there is one, and prints it where it is not as written.
+    pub fn finish(&mut self, rt: &HostRuntime) -> io::Result<()> {
+        match self.case.take() {
+            Some(case) => self.judge(rt, &case),
+            None => Ok(()),
+        }
+    }
+
+    // Runs a case.
+    fn judge(&mut self, rt: &HostRuntime, case: &Case) -> io::Result<()> {
+        let came = written(rt, &self.files, case.words.as_slice(), case.input.as_str())?;
+        if case.has(&came) {
+            self.well = self.well.saturating_add(1);
+            return Ok(());
+        }
+        self.badly = self.badly.saturating_add(1);
+        println!(rt; "{}", case.title)?;
+        println!(rt; "wanted, status {}:\n{}{}", case.status, case.out, case.fault)?;
+        println!(rt; "written, status {}:\n{}{}", came.status, came.out, came.fault)
+    }
+}
+
+// A line of a case behind its command.
+fn take_of_case(rt: &HostRuntime, case: &mut Case, text: &str) -> io::Result<()> {
+    if let Some(line) = text.strip_prefix("< ") {
+        return Ok(put_line(&mut case.input, line)?);
+    }
+    if let Some(line) = text.strip_prefix("! ") {
+        return Ok(put_line(&mut case.fault, line)?);
+    }
+    if let Some(path) = text.strip_prefix("<@ ") {
+        case.input = fs::read_to_string(rt, path)?;
+        return Ok(());
+    }
+    if let Some(path) = text.strip_prefix(">@ ") {
+        case.out = fs::read_to_string(rt, path)?;
+        return Ok(());
+    }
+    match text.strip_prefix("? ").and_then(|word| word.parse().ok()) {
+        Some(status) => case.status = status,
+        None => put_line(&mut case.out, text.strip_prefix('\\').unwrap_or(text))?,
+    }
+    Ok(())
+}

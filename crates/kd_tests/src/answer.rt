@@ -1,0 +1,159 @@
+use crate::support::{DISCOVER, datagram};
+use kd_answer::{Printed, answer, exit_status};
+use kd_order::{LineFault, Order, order};
+use std::alloc::{AllocError, Global};
+use std::test::Fail;
+
+// The order that these words give.
+fn ordered(alloc: Global, words: &[&str]) -> Result<Order, LineFault> {
+    let mut owned = Vec::new(alloc);
+    for word in words {
+        let word = String::from_str(alloc, word)?;
+        owned.push(word).map_err(|_| LineFault::Memory)?;
+    }
+    order(alloc, &owned)
+}
+
+// The name of an order and its texts, the second one empty where it has one alone.
+fn texts_of(order: &Order) -> (&str, &str, &str) {
+    match order {
+        Order::Show { hex } => ("show", hex.as_str(), ""),
+        Order::Verify { hex } => ("verify", hex.as_str(), ""),
+        Order::Eval { program, datagram } => ("eval", program.as_str(), datagram.as_str()),
+        Order::EvalText { text, datagram } => ("--text", text.as_str(), datagram.as_str()),
+        _ => ("", "", ""),
+    }
+}
+
+// What is printed of them is that of a mistake, since they are not hexadecimal.
+#[test]
+fn words_are_handed_on_as_they_are(rt: HostRuntime) -> Result<(), Fail> {
+    let rows: [(&[&str], (&str, &str, &str)); 15] = [
+        (&["show", "not hexadecimal"], ("show", "not hexadecimal", "")),
+        (&["show", "--", "-a"], ("show", "-a", "")),
+        (&["show", "a", "--"], ("show", "a", "")),
+        (&["show", "-"], ("show", "-", "")),
+        (&["verify", "no hexadecimal"], ("verify", "no hexadecimal", "")),
+        (&["verify", "--", "-a"], ("verify", "-a", "")),
+        (&["eval", "no hexadecimal", ""], ("eval", "no hexadecimal", "")),
+        (&["eval", "--", "-a", "-b"], ("eval", "-a", "-b")),
+        (&["eval", "4b", "--", "-b"], ("eval", "4b", "-b")),
+        (&["eval", "--", "--", "01"], ("eval", "--", "01")),
+        (&["eval", "show", "eval"], ("eval", "show", "eval")),
+        (&["eval", "--", "--text", "01"], ("eval", "--text", "01")),
+        (&["eval", "4b", "--", "--text"], ("eval", "4b", "--text")),
+        (&["eval", "--text", "--", "-1 == 1", "-b"], ("--text", "-1 == 1", "-b")),
+        (&["eval", "a", "b", "--text", "--"], ("--text", "a", "b")),
+    ];
+    for (words, want) in rows {
+        let order = ordered(rt.alloc(), words)?;
+        assert!(rt; texts_of(&order) == want, "{words:?}");
+    }
+    Ok(())
+}
+
+// Those of the faults that no case reaches.
+#[test]
+fn each_fault_has_its_exit_status(rt: HostRuntime) {
+    for (number, status) in [
+        (80, 4),
+        (81, 4),
+        (91, 1),
+        (92, 4),
+        (93, 4),
+        (95, 1),
+        (99, 3),
+    ] {
+        assert!(rt; exit_status(number) == status, "{number}");
+    }
+}
+
+// What is printed for these words.
+fn printed(alloc: Global, words: &[&str]) -> Result<Printed, AllocError> {
+    match ordered(alloc, words) {
+        Ok(order) => answer(alloc, &order),
+        Err(_) => Err(AllocError),
+    }
+}
+
+fn prints(printed: &Printed, out: &str, fault: &str) -> bool {
+    printed.out.as_slice() == out.as_bytes()
+        && printed.fault.as_slice() == fault.as_bytes()
+        && printed.status == if fault.is_empty() { 0 } else { 3 }
+}
+
+const SHOWN: &str =
+    "len 250\nop 1 htype 1 hlen 6 hops 0 xid 00000001 secs 0 flags 0000\nciaddr 0.0.0.0 yiaddr 0.0.0.0 siaddr 0.0.0.0 giaddr 0.0.0.0\nmac 0a0000000001\ntype 1\noption 53 01\noption 60 6b6461\n";
+
+// Where an allocation is refused the answer is that, and the same call made again gives the lines.
+#[test]
+fn want_of_memory_is_answered_as_such(rt: HostRuntime) -> Result<(), Fail> {
+    let joined = hex::encode(
+        rt.alloc(),
+        datagram(rt.alloc(), b"\x35\x01\x01\x3c\x02kd\x3c\x01a")?,
+    )?;
+    let vendor = hex::encode(rt.alloc(), datagram(rt.alloc(), DISCOVER)?)?;
+    let no_type = hex::encode(rt.alloc(), datagram(rt.alloc(), b"\x3c\x01a\xff")?)?;
+    let spells = "4b34544b010005022fff000005033c0100013a100100017809";
+    let exists = "4b34544b010001010000000001063c";
+    let short = "4b34544b010002010000000002063c0b";
+    let long = "hexstring(option[43].hex, option[60].hex) == 'x'";
+    let rows: [(&[&str], &str, &str); 16] = [
+        (&["show", joined.as_str()], SHOWN, ""),
+        (
+            &["expr", "not option[host-name].exists and 'a' + 'b' == 0x1"],
+            "bool 8\n",
+            "",
+        ),
+        (&["expr", "concat('a','b')"], "", "fault 26 WantsBool 0\n"),
+        (&["expr", "concat('a','b') == $"], "", "fault 20 BadToken 19\n"),
+        (
+            &["compile", "option[60].hex == 'a'"],
+            "4b34544b010003021000000003033c0100016109\n",
+            "",
+        ),
+        (&["compile", "option[60].hex"], "", "fault 26 WantsBool 0\n"),
+        (&["compile", long], "", "fault 53 TooLong\n"),
+        (
+            &["verify", "4b34544b010003021000000003033c0100016109"],
+            "accepted steps 3 depth 2 length 4096 tokens 3\n",
+            "",
+        ),
+        (&["verify", short], "", "fault 40 Short 1\n"),
+        (
+            &["verify", "4b34544b010001010000000001063c00"],
+            "",
+            "fault 35 Rest 15\n",
+        ),
+        (
+            &["eval", spells, vendor.as_str()],
+            "false steps 5 depth 2 length 5\n",
+            "",
+        ),
+        (&["eval", exists, no_type.as_str()], "", "fault 6 NoType\n"),
+        (&["eval", short, no_type.as_str()], "", "fault 40 Short 1\n"),
+        (
+            &["eval", "--text", "hexstring(option[60].hex,':') == '6b:64'", vendor.as_str()],
+            "true steps 5 depth 2 length 5\n",
+            "",
+        ),
+        (
+            &["eval", "--text", "'a' == 'a'", no_type.as_str()],
+            "",
+            "fault 6 NoType\n",
+        ),
+        (
+            &["eval", "--text", "option[60].hex", no_type.as_str()],
+            "",
+            "fault 26 WantsBool 0\n",
+        ),
+    ];
+    for (words, out, fault) in rows {
+        if let Ok(first) = printed(rt.alloc(), words) {
+            assert!(rt; prints(&first, out, fault), "{words:?}");
+        }
+        let again = printed(rt.alloc(), words)?;
+        assert!(rt; prints(&again, out, fault), "{words:?}");
+    }
+    Ok(())
+}

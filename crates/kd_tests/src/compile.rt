@@ -1,0 +1,51 @@
+use crate::support::{DISCOVER, Fault, datagram};
+use kd_compile::{CompileFault, compile};
+use kd_expr::{read, type_of};
+use kd_machine::{Held, Outcome, eval};
+use kd_options::Message;
+use std::alloc::Global;
+use std::test::Fail;
+
+// What a class test gives over a datagram, with the names that the message has before any definition.
+fn outcome(alloc: Global, text: &[u8], bytes: &[u8]) -> Result<Outcome, Fault> {
+    let message = Message::read(alloc, bytes)?;
+    let held = Held::base(alloc, &message)?;
+    match type_of(read(alloc, text)?) {
+        Ok(typed) => Ok(eval(alloc, &compile(alloc, &typed)?, &message, &held)?),
+        Err((_fault, _expr)) => Err(Fault::Other),
+    }
+}
+
+// A text with names, branches, and each kind of operand that takes memory when it is run.
+const LONG: &[u8] =
+    b"member('A') and (member('B') or ifelse(option[60].exists, lcase(option[60].hex), 'x') + 1 == hexstring(substring('k', 0, all), ':')) or not pkt4.mac == 0x0a0000000001 or member('ALL')";
+
+// With a refused request for memory the answer is want of it; the same call made again gives what it gives
+// with ample memory.
+#[test]
+fn want_of_memory_is_answered_as_such(rt: HostRuntime) -> Result<(), Fail> {
+    let bytes = datagram(rt.alloc(), DISCOVER)?;
+    for (text, value, steps, peak_length) in [
+        (b"option[60].hex == 'a'".as_slice(), false, 3, 2),
+        (LONG, true, 9, 6),
+    ] {
+        let want = Outcome {
+            value,
+            steps,
+            peak_depth: 2,
+            peak_length,
+        };
+        let first = outcome(rt.alloc(), text, &bytes);
+        assert!(rt; first == Ok(want) || first == Err(Fault::Memory));
+        assert!(rt; outcome(rt.alloc(), text, &bytes) == Ok(want));
+    }
+    Ok(())
+}
+
+#[test]
+fn want_of_memory_is_fault_91(rt: HostRuntime) -> Result<(), Fail> {
+    assert!(rt; CompileFault::Memory.number() == 91);
+    let name = format!(in rt.alloc(); "{}", CompileFault::Memory)?;
+    assert!(rt; name.as_str() == "Memory");
+    Ok(())
+}

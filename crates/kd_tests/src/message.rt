@@ -1,0 +1,65 @@
+use crate::support::{Fault, datagram, datagram_over, is};
+use kd_options::{AddressOption, Message, MessageType, ReadFault, laws};
+use std::alloc::Global;
+use std::test::Fail;
+
+// An option or a sub-option is there with this code and value.
+fn is_at(entry: Option<(u8, &[u8])>, code: u8, want: &[u8]) -> bool {
+    match entry {
+        Some((own, value)) => own == code && value == want,
+        None => false,
+    }
+}
+
+// Option 82 has sub-options 1, empty, 2 `z`, and 2 again.
+#[test]
+fn a_message_tells_its_parts(rt: HostRuntime) -> Result<(), Fail> {
+    let options = b"\x35\x01\x01\x3c\x02kd\x52\x08\x01\x00\x02\x01z\x02\x01y\xff";
+    let bytes = datagram(rt.alloc(), options)?;
+    let message = Message::read(rt.alloc(), &bytes)?;
+    assert!(rt; message.len() == 258);
+    assert!(rt; message.header().xid == 1);
+    assert!(rt; message.mac() == b"\x0a\x00\x00\x00\x00\x01".as_slice());
+    assert!(rt; message.kind() == MessageType::Discover);
+    assert!(rt; is_at(message.option_at(1), 60, b"kd"));
+    assert!(rt; message.option_at(3).is_none());
+    assert!(rt; is(message.option(60), b"kd"));
+    assert!(rt; message.option(61).is_none());
+    assert!(rt; is(message.relay(1), b""));
+    assert!(rt; is(message.relay(2), b"z"));
+    assert!(rt; message.relay(3).is_none());
+    assert!(rt; is_at(message.relay_at(1), 2, b"z"));
+    assert!(rt; message.relay_at(2).is_none());
+    assert!(rt; AddressOption::RequestedAddress.code() == 50);
+    Ok(())
+}
+
+// Whether option 61 is joined from its pieces in the three areas of a datagram.
+fn is_joined(alloc: Global) -> Result<bool, Fault> {
+    let bytes = datagram_over(
+        alloc,
+        b"\x3d\x01\xcc\xff",
+        b"\x3d\x01\xbb\xff",
+        b"\x35\x01\x01\x34\x01\x03\x3d\x02\x01\xaa\xff",
+    )?;
+    let message = Message::read(alloc, &bytes)?;
+    Ok(is(message.option(61), b"\x01\xaa\xbb\xcc"))
+}
+
+// Where an allocation is refused the answer is Memory, and the same call made again gives the message.
+#[test]
+fn want_of_memory_is_answered_as_such(rt: HostRuntime) -> Result<(), Fail> {
+    let first = is_joined(rt.alloc());
+    assert!(rt; first == Ok(true) || first == Err(Fault::Memory));
+    assert!(rt; is_joined(rt.alloc()) == Ok(true));
+    assert!(rt; ReadFault::Memory.number() == 91);
+    let text = format!(in rt.alloc(); "{}", ReadFault::Memory)?;
+    assert!(rt; text.as_str() == "Memory");
+    Ok(())
+}
+
+#[test]
+fn the_law_of_replies_is_called(_rt: HostRuntime) -> Result<(), Fail> {
+    laws::text_reads();
+    Ok(())
+}

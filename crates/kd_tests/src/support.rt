@@ -1,0 +1,132 @@
+use kd_classes::ClassFault;
+use kd_options::ReadFault;
+use kd_token::{FileFault, Program, Verified, VerifyFault, verify};
+use std::alloc::{AllocError, Global};
+
+/// Why a call gives nothing.
+#[derive(Clone, Copy, Debug, PartialEq, Eq)]
+pub(crate) enum Fault {
+    /// There is no memory.
+    Memory,
+    /// Any other cause.
+    Other,
+}
+
+impl From<AllocError> for Fault {
+    fn from(_fault: AllocError) -> Fault {
+        Fault::Memory
+    }
+}
+
+impl From<ReadFault> for Fault {
+    fn from(fault: ReadFault) -> Fault {
+        match fault {
+            ReadFault::Memory => Fault::Memory,
+            _ => Fault::Other,
+        }
+    }
+}
+
+impl From<FileFault> for Fault {
+    fn from(fault: FileFault) -> Fault {
+        match fault {
+            FileFault::Memory => Fault::Memory,
+            _ => Fault::Other,
+        }
+    }
+}
+
+impl From<VerifyFault> for Fault {
+    fn from(fault: VerifyFault) -> Fault {
+        match fault {
+            VerifyFault::Memory => Fault::Memory,
+            _ => Fault::Other,
+        }
+    }
+}
+
+impl From<ClassFault> for Fault {
+    fn from(_fault: ClassFault) -> Fault {
+        Fault::Other
+    }
+}
+
+/// The bytes 236 to 239 of a datagram.
+pub(crate) const COOKIE: [u8; 4] = [99, 130, 83, 99];
+
+/// The options of a DISCOVER of vendor class `kd`.
+pub(crate) const DISCOVER: &[u8] = b"\x35\x01\x01\x3c\x02kd\xff";
+
+/// A datagram with these options: of op 1, htype 1, hlen 6, xid 1 and the hardware address 0a0000000001, and zeros.
+pub(crate) fn datagram(alloc: Global, options: &[u8]) -> Result<Vec<u8>, AllocError> {
+    datagram_over(alloc, b"", b"", options)
+}
+
+/// The same with these bytes at the front of sname and file.
+pub(crate) fn datagram_over(
+    alloc: Global,
+    sname: &[u8],
+    file: &[u8],
+    options: &[u8],
+) -> Result<Vec<u8>, AllocError> {
+    let mut bytes = Vec::from_slice(alloc, &[1, 1, 6, 0, 0, 0, 0, 1])?;
+    bytes.resize(28, 0)?;
+    bytes.extend_from_slice(b"\x0a\x00\x00\x00\x00\x01")?;
+    bytes.resize(44, 0)?;
+    bytes.extend_from_slice(sname)?;
+    bytes.resize(108, 0)?;
+    bytes.extend_from_slice(file)?;
+    bytes.resize(236, 0)?;
+    bytes.extend_from_slice(&COOKIE)?;
+    bytes.extend_from_slice(options)?;
+    Ok(bytes)
+}
+
+/// The token file of so many tokens, which declares all that a program may, and has these names, in their spelling
+/// with the count before them.
+pub(crate) fn token_file(
+    alloc: Global,
+    names: &[u8],
+    count: u8,
+    tokens: &[u8],
+) -> Result<Vec<u8>, AllocError> {
+    let mut file = Vec::from_slice(alloc, b"K4TK\x02\x04\x00\x40\xff\xff")?;
+    file.extend_from_slice(names)?;
+    file.extend_from_slice(&[0, count])?;
+    file.extend_from_slice(tokens)?;
+    Ok(file)
+}
+
+/// The program of a token file that is accepted.
+pub(crate) fn program_in(alloc: Global, file: &[u8]) -> Result<Verified, Fault> {
+    match verify(alloc, Program::read(alloc, file)?) {
+        Ok(verified) => Ok(verified),
+        Err((fault, _program)) => Err(Fault::from(fault)),
+    }
+}
+
+/// A value is there and has these bytes.
+pub(crate) fn is(value: Option<&[u8]>, want: &[u8]) -> bool {
+    match value {
+        Some(value) => value == want,
+        None => false,
+    }
+}
+
+impl From<ExprFault> for Fault {
+    fn from(fault: ExprFault) -> Fault {
+        match fault {
+            ExprFault::Memory => Fault::Memory,
+            _ => Fault::Other,
+        }
+    }
+}
+
+impl From<CompileFault> for Fault {
+    fn from(fault: CompileFault) -> Fault {
+        match fault {
+            CompileFault::Memory => Fault::Memory,
+            _ => Fault::Other,
+        }
+    }
+}

@@ -1,0 +1,112 @@
+use kd_token::{Field, FileFault, Program, Token, VerifyFault, Version, Way, verify};
+use kd_wire::Bytes;
+use std::alloc::{AllocError, Global};
+use std::test::Fail;
+
+// Whether option 60 is "a".
+const SHORT: &[u8] = b"K4TK\x01\x00\x03\x02\x10\x00\x00\x00\x03\x03\x3c\x01\x00\x01\x61\x09";
+
+// Each opcode of version 2 once, and a name.
+const EACH: &[u8] = b"K4TK\x02\x04\x00\x40\xff\xff\x01\x02kd\x00\x1a\
+    \x01\x00\x00\x02\xff\xff\xff\xff\x03\x3c\x04\x01\x05\x09\x06\x3c\x07\x02\x08\x00\
+    \x09\x0a\x0b\x0c\x0d\x0e\xff\xff\xff\xfb\x00\x00\x00\x00\x04\x0e\x80\x00\x00\x00\x01\
+    \x0f\x10\x11\x12\x13\x14\x20\x00\x04\x21\x00\x00\x22\x00\x01\x23\x00\x00\x0a";
+
+// One of two literals, by whether option 60 is there.
+const CHOICE: &[u8] = b"K4TK\x02\x00\x06\x02\x00\x01\x00\x00\x07\
+    \x06\x3c\x21\x00\x02\x01\x00\x01a\x20\x00\x01\x01\x00\x01b\x01\x00\x01a\x09";
+
+// Its second token wants two values and finds one.
+const REFUSED: &[u8] = b"K4TK\x01\x00\x02\x01\x00\x00\x00\x00\x02\x06\x3c\x0b";
+
+#[test]
+fn a_program_tells_its_parts_and_is_written_again(rt: HostRuntime) -> Result<(), Fail> {
+    let program = Program::read(rt.alloc(), EACH)?;
+    assert!(rt; program.version() == Version::Two);
+    assert!(rt; (program.steps(), program.depth(), program.length()) == (1024, 64, 65535));
+    assert!(rt; matches!(program.name_at(0), Some(b"kd")));
+    assert!(rt; program.name_at(1).is_none());
+    assert!(rt; program.tokens().len() == 26);
+    assert!(rt; matches!(program.tokens()[1], Token::PushInt(0xffff_ffff)));
+    assert!(rt; matches!(program.tokens()[4], Token::PushField(Field::Length)));
+    assert!(rt; matches!(program.tokens()[13], Token::Substring(-5, Some(4))));
+    assert!(rt; matches!(program.tokens()[14], Token::Substring(i32::MIN, None)));
+    assert!(rt; matches!(program.tokens()[21], Token::Branch(4)));
+    for file in [EACH, SHORT, CHOICE] {
+        let program = Program::read(rt.alloc(), file)?;
+        assert!(rt; program.write(rt.alloc())?.as_slice() == file);
+    }
+    Ok(())
+}
+
+#[test]
+fn a_file_at_its_limits_is_read_and_written(rt: HostRuntime) -> Result<(), Fail> {
+    let mut file = Vec::from_slice(rt.alloc(), b"K4TK\x01\x04\x00\x40\xff\xff\x40")?;
+    for i in 0..64u8 {
+        file.extend_from_slice(&[1, i])?;
+    }
+    file.extend_from_slice(b"\x04\x00")?;
+    file.resize(file.len() + 1024, 0x0a)?;
+    let program = Program::read(rt.alloc(), &file)?;
+    assert!(rt; program.tokens().len() == 1024);
+    assert!(rt; matches!(program.name_at(63), Some(&[63])));
+    assert!(rt; program.write(rt.alloc())?.as_slice() == file.as_slice());
+    Ok(())
+}
+
+#[test]
+fn a_token_tells_its_way(rt: HostRuntime) {
+    let table = [
+        (Token::Not, Way::On),
+        (Token::Branch(4), Way::Skip(4)),
+        (Token::PopBranchFalse(0), Way::Fork(0)),
+        (Token::BranchFalseElsePop(1), Way::Keep(false, 1)),
+        (Token::BranchTrueElsePop(2), Way::Keep(true, 2)),
+    ];
+    for (token, want) in table {
+        assert!(rt; token.way() == want);
+    }
+}
+
+#[test]
+fn a_program_made_has_its_file(rt: HostRuntime) -> Result<(), Fail> {
+    let program = made(rt.alloc())?;
+    assert!(rt; program.write(rt.alloc())?.as_slice() == SHORT);
+    Ok(())
+}
+
+// A program that is made.
+fn made(alloc: Global) -> Result<Program, AllocError> {
+    let text = Bytes::own(Vec::from_slice(alloc, b"a")?);
+    let mut tokens = Vec::new(alloc);
+    tokens.push(Token::PushOption(60))?;
+    tokens.push(Token::PushBytes(text))?;
+    tokens.push(Token::Equal)?;
+    Ok(Program::new(Version::One, 3, 2, 4096, Vec::new(alloc), tokens))
+}
+
+// The fault that the verifier answers to a file, if any, and whether its program came back whole.
+fn answer(alloc: Global, file: &[u8]) -> Result<(Option<VerifyFault>, bool), FileFault> {
+    match verify(alloc, Program::read(alloc, file)?) {
+        Ok(verified) => Ok((None, verified.program().write(alloc)?.as_slice() == file)),
+        Err((fault, program)) => Ok((Some(fault), program.write(alloc)?.as_slice() == file)),
+    }
+}
+
+// With a refused request for memory the answer is want of it, with the program; the same call made again gives what
+// it gives with ample memory.
+#[test]
+fn want_of_memory_is_answered_as_such(rt: HostRuntime) -> Result<(), Fail> {
+    let first = answer(rt.alloc(), CHOICE);
+    assert!(rt;
+        first == Ok((None, true))
+            || first == Ok((Some(VerifyFault::Memory), true))
+            || first == Err(FileFault::Memory)
+    );
+    assert!(rt; answer(rt.alloc(), CHOICE) == Ok((None, true)));
+    assert!(rt; answer(rt.alloc(), REFUSED) == Ok((Some(VerifyFault::Short(1)), true)));
+    assert!(rt; (FileFault::Memory.number(), VerifyFault::Memory.number()) == (91, 91));
+    let text = format!(in rt.alloc(); "{} {}", FileFault::Memory, VerifyFault::Memory)?;
+    assert!(rt; text.as_str() == "Memory Memory");
+    Ok(())
+}
