@@ -5,7 +5,7 @@ use kd_wire::Bytes;
 use std::alloc::Global;
 
 /// What an order prints, and the program's exit status.
-#[derive(Debug, Drop)]
+#[derive(Drop)]
 pub struct Printed {
     /// What goes to standard output.
     pub out: Bytes,

@@ -1,6 +1,7 @@
 use crate::case::Written;
 use crate::files::Files;
 use kd_answer::{Printed, answer, exit_status, replay_status};
+use kd_config::Config;
 use kd_ends::{Input, Output};
 use kd_order::{LineFault, Order, order};
 use kd_server::{Ports, Server, replay};
@@ -46,17 +47,11 @@ fn text(alloc: Global, bytes: &[u8]) -> Result<String, AllocError> {
 
 // Why the words are no order, or get no answer.
 fn unanswered(alloc: Global, fault: LineFault) -> io::Result<Written> {
-    let number = fault.number();
-    Ok(refused(
-        String::new(alloc),
-        fault_line(alloc, number, &fault)?,
-        exit_status(number),
-    ))
-}
-
-// A fault's line behind what was written before it.
-fn refused(out: String, fault: String, status: u8) -> Written {
-    Written { out, fault, status }
+    Ok(Written {
+        out: String::new(alloc),
+        fault: fault_line(alloc, fault.number(), &fault)?,
+        status: exit_status(fault.number()),
+    })
 }
 
 // A fault's line.
@@ -64,7 +59,7 @@ fn fault_line<F: Display>(alloc: Global, number: u8, fault: &F) -> Result<String
     format!(in alloc; "fault {number} {fault}\n")
 }
 
-// The events of an input, replayed by a server of the standard's ports.
+// The events of an input, replayed by a server that goes by the configuration of these files.
 fn replayed(
     rt: &HostRuntime,
     files: &Files,
@@ -72,18 +67,18 @@ fn replayed(
     token_dir: Option<&str>,
     input: &str,
 ) -> io::Result<Written> {
-    let alloc = rt.alloc();
-    let config = match files.configuration(rt, config, token_dir) {
-        Ok(config) => config,
-        Err(fault) => {
-            let line = fault_line(alloc, fault.number(), &fault)?;
-            return Ok(refused(
-                String::new(alloc),
-                line,
-                exit_status(fault.number()),
-            ));
-        }
-    };
+    match files.configuration(rt, config, token_dir) {
+        Ok(config) => replayed_by(rt.alloc(), config, input),
+        Err(fault) => Ok(Written {
+            out: String::new(rt.alloc()),
+            fault: fault_line(rt.alloc(), fault.number(), &fault)?,
+            status: exit_status(fault.number()),
+        }),
+    }
+}
+
+// The events of an input, replayed by a server of a configuration and the standard's ports.
+fn replayed_by(alloc: Global, config: Config, input: &str) -> io::Result<Written> {
     let ports = Ports {
         server: 67,
         client: 68,
@@ -92,13 +87,18 @@ fn replayed(
     let mut source = Input::over(input.as_bytes());
     let mut sink = Output::over(&mut out);
     let mut server = Server::new(alloc, config, ports);
-    let ended = replay(alloc, &mut source, &mut sink, &mut server);
+    let done = replay(alloc, &mut source, &mut sink, &mut server);
     let out = text(alloc, out.as_slice())?;
-    match ended {
-        Ok(_) => Ok(refused(out, String::new(alloc), 0)),
-        Err(fault) => {
-            let line = fault_line(alloc, fault.number(), &fault)?;
-            Ok(refused(out, line, replay_status(fault)))
-        }
+    match done {
+        Ok(_) => Ok(Written {
+            out,
+            fault: String::new(alloc),
+            status: 0,
+        }),
+        Err(fault) => Ok(Written {
+            out,
+            fault: fault_line(alloc, fault.number(), &fault)?,
+            status: replay_status(fault),
+        }),
     }
 }

@@ -10,8 +10,7 @@ mod session;
 mod words;
 
 use session::Session;
-use std::fs;
-use std::io;
+use std::{fs, io};
 
 fn main(rt: HostRuntime) -> io::Result<()> {
     let paths: Vec<String> = std::env::args(&rt)?.skip(1).collect(rt.alloc())?;
@@ -22,7 +21,10 @@ fn main(rt: HostRuntime) -> io::Result<()> {
             session.take(&rt, line)?;
         }
         session.finish(&rt)?;
-        println!(rt; "{path}: {} as written, {} not", session.well, session.badly)?;
+        println!(rt;
+            "{path}: {} as written, {} not",
+            session.well, session.badly
+        )?;
     }
     Ok(())
 }

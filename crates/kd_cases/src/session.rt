@@ -4,8 +4,7 @@ use crate::files::Files;
 use crate::names::Names;
 use crate::words::{definition, words};
 use std::alloc::{AllocError, Global};
-use std::fs;
-use std::io;
+use std::{fs, io};
 
 /// The reading of a file of cases, line by line.
 #[derive(Drop)]
@@ -100,8 +99,14 @@ impl Session {
         }
         self.badly = self.badly.saturating_add(1);
         println!(rt; "{}", case.title)?;
-        println!(rt; "wanted, status {}:\n{}{}", case.status, case.out, case.fault)?;
-        println!(rt; "written, status {}:\n{}{}", came.status, came.out, came.fault)
+        println!(rt;
+            "wanted, status {}:\n{}{}",
+            case.status, case.out, case.fault
+        )?;
+        println!(rt;
+            "written, status {}:\n{}{}",
+            came.status, came.out, came.fault
+        )
     }
 }
 

@@ -1,5 +1,6 @@
 use crate::names::Names;
 use std::alloc::{AllocError, Global};
+use std::mem;
 
 // Where the reading of a line stands.
 #[derive(Clone, Copy)]
@@ -9,44 +10,76 @@ enum Place {
     Escaped,
 }
 
-/// The words of a line: they stand between blanks, and what stands between `"` is taken as it is but for `\"`, `\\`,
-/// `\n`, `\t` and `\r`. Names have their texts.
-pub fn words(alloc: Global, names: &Names, line: &str) -> Result<Vec<String>, AllocError> {
-    let mut words = Vec::new(alloc);
-    let mut word = String::new(alloc);
-    let mut is_word = false;
-    let mut place = Place::Bare;
-    for sign in line.chars() {
-        match (place, sign) {
-            (Place::Bare, ' ') => {
-                if is_word {
-                    words.push(names.expanded(alloc, word.as_str())?)?;
-                    word.clear();
-                }
-                is_word = false;
-                place = Place::Bare;
-            }
+// A line, as far as it was read.
+#[derive(Drop)]
+struct Line<'a> {
+    names: &'a Names,
+    words: Vec<String>,
+    word: Option<String>,
+    place: Place,
+}
+
+impl Line<'_> {
+    // Takes the line's next sign.
+    fn take(&mut self, alloc: Global, sign: char) -> Result<(), AllocError> {
+        match (self.place, sign) {
+            (Place::Bare, ' ') => self.end_word(alloc),
             (Place::Bare, '"') => {
-                is_word = true;
-                place = Place::Quoted;
+                self.place = Place::Quoted;
+                self.put(alloc, "")
             }
-            (Place::Quoted, '"') => place = Place::Bare,
-            (Place::Quoted, '\\') => place = Place::Escaped,
+            (Place::Quoted, '"') => {
+                self.place = Place::Bare;
+                Ok(())
+            }
+            (Place::Quoted, '\\') => {
+                self.place = Place::Escaped;
+                Ok(())
+            }
             (Place::Escaped, sign) => {
-                word.push(meant(sign))?;
-                place = Place::Quoted;
+                self.place = Place::Quoted;
+                self.put_sign(alloc, meant(sign))
             }
-            (other, sign) => {
-                is_word = true;
-                word.push(sign)?;
-                place = other;
-            }
+            (_, sign) => self.put_sign(alloc, sign),
         }
     }
-    if is_word {
-        words.push(names.expanded(alloc, word.as_str())?)?;
+
+    // A sign more of the word.
+    fn put_sign(&mut self, alloc: Global, sign: char) -> Result<(), AllocError> {
+        self.put(alloc, sign.encode_utf8(&mut [0; 4]))
     }
-    Ok(words)
+
+    // A text more of the word, which begins here if there is none.
+    fn put(&mut self, alloc: Global, text: &str) -> Result<(), AllocError> {
+        let mut word = self.word.take().unwrap_or(String::new(alloc));
+        word.push_str(text)?;
+        self.word = Some(word);
+        Ok(())
+    }
+
+    // Ends the word, if there is one.
+    fn end_word(&mut self, alloc: Global) -> Result<(), AllocError> {
+        if let Some(word) = self.word.take() {
+            self.words.push(self.names.expanded(alloc, word.as_str())?)?;
+        }
+        Ok(())
+    }
+}
+
+/// The words of a line: they stand between blanks, and what stands between `"` is taken as it is but for `\"`, `\\`,
+/// `\n`, `\t` and `\r`. Names have their texts.
+pub fn words(alloc: Global, names: &Names, text: &str) -> Result<Vec<String>, AllocError> {
+    let mut line = Line {
+        names,
+        words: Vec::new(alloc),
+        word: None,
+        place: Place::Bare,
+    };
+    for sign in text.chars() {
+        line.take(alloc, sign)?;
+    }
+    line.end_word(alloc)?;
+    Ok(mem::replace(&mut line.words, Vec::new(alloc)))
 }
 
 // What a sign behind a backslash means.
@@ -69,9 +102,8 @@ pub fn definition(
     match words.as_slice() {
         [name, equals, text] if equals.as_str() == "=" => Ok(Some((name.clone()?, text.clone()?))),
         [name, equals, count, times, text] if equals.as_str() == "=" && times.as_str() == "*" => {
-            let count: u32 = count.parse().unwrap_or(0);
             let mut all = String::new(alloc);
-            for _ in 0..count {
+            for _ in 0..count.parse().unwrap_or(0u32) {
                 all.push_str(text.as_str())?;
             }
             Ok(Some((name.clone()?, all)))

@@ -12,7 +12,7 @@ use std::marker::Model;
 
 /// Definitions of classes in order: at most 256, each with a name of its own, each with a test that asks
 /// for known names alone.
-#[derive(Debug, Drop)]
+#[derive(Drop)]
 pub struct Classes {
     definitions: Vec<ClassDef>,
 }

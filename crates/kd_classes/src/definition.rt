@@ -3,7 +3,7 @@ use kd_token::Verified;
 use kd_wire::Bytes;
 
 /// A definition of a class.
-#[derive(Debug, Drop)]
+#[derive(Drop)]
 pub struct ClassDef {
     /// The class's name.
     pub name: Bytes,

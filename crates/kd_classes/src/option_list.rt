@@ -2,7 +2,7 @@ use kd_wire::Bytes;
 use std::marker::Model;
 
 /// An option that a class gives to the replies of its members.
-#[derive(Debug, Drop)]
+#[derive(Drop)]
 pub struct OptionData {
     /// The option's code.
     pub code: u8,
@@ -11,7 +11,7 @@ pub struct OptionData {
 }
 
 /// The options of a class, in the order in which they are written.
-#[derive(Debug, Drop)]
+#[derive(Drop)]
 pub struct OptionList {
     list: Vec<OptionData>,
 }

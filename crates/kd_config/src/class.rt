@@ -18,7 +18,7 @@ use serde_json::Value;
 use std::alloc::Global;
 
 // Where the test of a class comes from.
-#[derive(Debug, Drop)]
+#[derive(Drop)]
 pub(crate) enum TestSource {
     // There is no test.
     Nothing,
@@ -29,7 +29,7 @@ pub(crate) enum TestSource {
 }
 
 // A client class as it is written.
-#[derive(Debug, Drop)]
+#[derive(Drop)]
 pub(crate) struct ClassEntry {
     // Its name, 1 to 255 bytes.
     pub(crate) name: Bytes,

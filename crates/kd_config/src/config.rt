@@ -9,7 +9,7 @@ use std::marker::Model;
 
 /// A configuration: what a server goes by. Each of its values is in its range, each list within its limit,
 /// and its subnets and its classes may stand (`specs/Sound.antt`).
-#[derive(Debug, Drop)]
+#[derive(Drop)]
 pub struct Config {
     pub(crate) server: u32,
     pub(crate) times: Times,

@@ -1,7 +1,7 @@
 use std::marker::Model;
 
 /// The entries of a list of a configuration, in the order in which they are written.
-#[derive(Debug, Drop)]
+#[derive(Drop)]
 pub struct Entries<T> {
     list: Vec<T>,
 }

@@ -6,10 +6,11 @@ use kd_compile::CompileFault;
 use kd_expr::{ExprFault, TypeFault};
 use kd_token::{FileFault, VerifyFault};
 use std::alloc::{AllocError, AllocFailed};
+use std::fmt;
 use thiserror::Error;
 
 /// Why the text of a class's test has no program. It prints as the fault that it holds.
-#[derive(Clone, Copy, Debug, PartialEq, Eq, Error)]
+#[derive(Clone, Copy, PartialEq, Eq, Error)]
 pub enum TestFault {
     /// The text is no expression.
     #[error("{0}")]
@@ -22,8 +23,14 @@ pub enum TestFault {
     Compiling(CompileFault),
 }
 
+impl fmt::Debug for TestFault {
+    fn fmt<W: fmt::Write>(&self, f: &mut fmt::Formatter<W>) -> fmt::Result {
+        fmt::Display::fmt(self, f)
+    }
+}
+
 /// Why the token file of a class's test has no program. It prints as the fault that it holds.
-#[derive(Clone, Copy, Debug, PartialEq, Eq, Error)]
+#[derive(Clone, Copy, PartialEq, Eq, Error)]
 pub enum FileTestFault {
     /// No file has the name.
     #[error("Absent")]
@@ -36,8 +43,14 @@ pub enum FileTestFault {
     Verify(VerifyFault),
 }
 
+impl fmt::Debug for FileTestFault {
+    fn fmt<W: fmt::Write>(&self, f: &mut fmt::Formatter<W>) -> fmt::Result {
+        fmt::Display::fmt(self, f)
+    }
+}
+
 /// Why a text is no configuration. A path is the keys and list numbers from the root, each after `/`.
-#[derive(Debug, PartialEq, Eq, Drop, Error)]
+#[derive(PartialEq, Eq, Drop, Error)]
 pub enum ConfigFault {
     /// The text is no JSON.
     #[error("Json")]
@@ -73,6 +86,12 @@ pub enum ConfigFault {
     /// There is no memory for the configuration.
     #[error("Memory")]
     Memory,
+}
+
+impl fmt::Debug for ConfigFault {
+    fn fmt<W: fmt::Write>(&self, f: &mut fmt::Formatter<W>) -> fmt::Result {
+        fmt::Display::fmt(self, f)
+    }
 }
 
 impl ConfigFault {

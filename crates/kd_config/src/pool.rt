@@ -14,7 +14,7 @@ use serde_json::Value;
 use std::alloc::Global;
 
 /// A pool of a subnet.
-#[derive(Debug, Drop)]
+#[derive(Drop)]
 pub struct Pool {
     /// Its addresses.
     pub range: Range,

@@ -4,7 +4,7 @@ ghost use Rattle.kd_config.specs.Address.{cleared, contains, length_of, one_or_t
 use crate::address::{address_of, cut_at};
 
 /// The prefix of a subnet: the addresses whose first bits are those of its address.
-#[derive(Clone, Copy, Debug, PartialEq, Eq)]
+#[derive(Clone, Copy, PartialEq, Eq)]
 pub struct Prefix {
     /// Its first address, in host order.
     pub address: u32,

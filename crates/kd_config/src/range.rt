@@ -5,7 +5,7 @@ use crate::address::{address_of, cut_at, without_first_spaces, without_last_spac
 use crate::prefix::{Prefix, prefix_of};
 
 /// The addresses of a pool: at least one and at most 65,536, in host order.
-#[derive(Clone, Copy, Debug, PartialEq, Eq)]
+#[derive(Clone, Copy, PartialEq, Eq)]
 pub struct Range {
     /// The least of them.
     pub first: u32,

@@ -12,7 +12,7 @@ use serde_json::Value;
 use std::alloc::Global;
 
 /// Whose address a reservation is.
-#[derive(Debug, Drop)]
+#[derive(Drop)]
 pub enum Identity {
     /// The client with this hardware address, 1 to 16 bytes.
     Hardware(Bytes),
@@ -21,7 +21,7 @@ pub enum Identity {
 }
 
 /// An address that is kept for one client.
-#[derive(Debug, Drop)]
+#[derive(Drop)]
 pub struct Reservation {
     /// The client.
     pub identity: Identity,

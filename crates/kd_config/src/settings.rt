@@ -17,7 +17,7 @@ use serde_json::Value;
 use std::alloc::Global;
 
 // The settings of a configuration as they are written.
-#[derive(Debug, Drop)]
+#[derive(Drop)]
 pub(crate) struct Settings {
     // The address of the server.
     pub(crate) server: u32,

@@ -23,7 +23,7 @@ use serde_json::Value;
 use std::alloc::Global;
 
 /// A subnet that the server serves.
-#[derive(Debug, Drop)]
+#[derive(Drop)]
 pub struct Subnet {
     /// Its addresses.
     pub prefix: Prefix,

@@ -13,7 +13,7 @@ use std::alloc::Global;
 const LONGEST: u32 = 2_147_483_647;
 
 /// The times of leases and of offers, in seconds.
-#[derive(Clone, Copy, Debug, PartialEq, Eq)]
+#[derive(Clone, Copy, PartialEq, Eq)]
 pub struct Times {
     /// How long a lease lasts.
     pub lifetime: u32,

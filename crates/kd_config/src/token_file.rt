@@ -4,7 +4,7 @@ ghost use Rattle.kd_config.specs.Configured.{file_named};
 use kd_wire::Bytes;
 
 /// A token file that the test of a class may name.
-#[derive(Debug, Drop)]
+#[derive(Drop)]
 pub struct TokenFile {
     /// Its name, as a class's key `tokens` gives it.
     pub name: Bytes,

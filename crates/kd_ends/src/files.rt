@@ -7,11 +7,11 @@ use std::alloc::{AllocError, AllocFailed};
 use std::fs::File;
 use std::io::{ErrorKind, Read};
 use std::rt::Files;
-use std::{fs, io};
+use std::{fmt, fs, io};
 use thiserror::Error;
 
 /// Why a file or a folder is not read.
-#[derive(Clone, Copy, Debug, PartialEq, Eq, Error)]
+#[derive(Clone, Copy, PartialEq, Eq, Error)]
 pub enum InputFault {
     /// It cannot be opened or read, or a file is too long.
     #[error("Read")]
@@ -19,6 +19,12 @@ pub enum InputFault {
     /// Memory ran out.
     #[error("Memory")]
     Memory,
+}
+
+impl fmt::Debug for InputFault {
+    fn fmt<W: fmt::Write>(&self, f: &mut fmt::Formatter<W>) -> fmt::Result {
+        fmt::Display::fmt(self, f)
+    }
 }
 
 impl InputFault {

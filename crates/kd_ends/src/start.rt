@@ -4,11 +4,12 @@ ghost use Rattle.kd_ends.specs.Faults.{start_fault_number};
 use crate::files::{InputFault, MOST_BYTES, read_file, token_files};
 use kd_config::{Config, ConfigFault, TokenFile};
 use std::alloc::AllocError;
+use std::fmt;
 use std::rt::Files;
 use thiserror::Error;
 
 /// Why there is no configuration to start with.
-#[derive(Debug, Drop, Error)]
+#[derive(Drop, Error)]
 pub enum StartFault {
     /// The folder of the token files or the configuration's file is not read.
     #[error("{0}")]
@@ -16,6 +17,12 @@ pub enum StartFault {
     /// The file's text is no configuration.
     #[error("{0}")]
     Config(ConfigFault),
+}
+
+impl fmt::Debug for StartFault {
+    fn fmt<W: fmt::Write>(&self, f: &mut fmt::Formatter<W>) -> fmt::Result {
+        fmt::Display::fmt(self, f)
+    }
 }
 
 impl StartFault {

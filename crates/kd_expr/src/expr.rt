@@ -10,7 +10,7 @@ use crate::typing::{bool_operand, count};
 use std::marker::Model;
 
 /// An expression that some text spells. It comes from `read` alone.
-#[derive(Debug, Drop)]
+#[derive(Drop)]
 pub struct Expr {
     tree: Node,
 }
@@ -32,7 +32,7 @@ impl Model for Expr {
 }
 
 /// A whole expression that is a truth value: a class test.
-#[derive(Debug, Drop)]
+#[derive(Drop)]
 pub struct Typed {
     tree: Node,
 }

@@ -5,7 +5,7 @@ ghost use Rattle.kd_expr.specs.View.{tree_of};
 use kd_wire::Bytes;
 
 /// What `pkt4.` and `pkt.` name: a part of the message's header, its type, or its length.
-#[derive(Clone, Copy, Debug, PartialEq, Eq)]
+#[derive(Clone, Copy, PartialEq, Eq)]
 pub enum Field {
     /// `mac`, the hardware address.
     Mac,
@@ -30,7 +30,7 @@ pub enum Field {
 }
 
 /// A node of an expression. Its place `at` is the offset of its first byte in the text.
-#[derive(Debug, Drop)]
+#[derive(Drop)]
 pub enum Node {
     /// A string, hexadecimal digits or an IPv4 address: a byte string.
     Literal {

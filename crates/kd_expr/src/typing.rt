@@ -8,7 +8,7 @@ use crate::fault::TypeFault;
 use crate::node::{Field, Node};
 
 /// What an expression stands for.
-#[derive(Clone, Copy, Debug, PartialEq, Eq)]
+#[derive(Clone, Copy, PartialEq, Eq)]
 pub enum ValueType {
     /// A truth value.
     Bool,

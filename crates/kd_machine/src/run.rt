@@ -12,7 +12,7 @@ use kd_token::{Program, Token, Verified, Way};
 use std::alloc::{AllocError, Global};
 
 /// What a run gave.
-#[derive(Clone, Copy, Debug, PartialEq, Eq)]
+#[derive(Clone, Copy, PartialEq, Eq)]
 pub struct Outcome {
     /// The program's truth value.
     pub value: bool,

@@ -7,7 +7,7 @@ use std::fmt;
 use thiserror::Error;
 
 /// An option that holds one IPv4 address (RFC 2132 sections 9.1 and 9.7).
-#[derive(Clone, Copy, Debug, PartialEq, Eq)]
+#[derive(Clone, Copy, PartialEq, Eq)]
 pub enum AddressOption {
     /// Option 50, the address that a client asks for.
     RequestedAddress,
@@ -41,7 +41,7 @@ impl fmt::Display for AddressOption {
 }
 
 /// Why a datagram reads as no message.
-#[derive(Clone, Copy, Debug, PartialEq, Eq, Error)]
+#[derive(Clone, Copy, PartialEq, Eq, Error)]
 pub enum ReadFault {
     /// The bytes have no header of a DHCP message.
     #[error("{0}")]
@@ -62,6 +62,12 @@ pub enum ReadFault {
     /// There is no memory for the options.
     #[error("Memory")]
     Memory,
+}
+
+impl fmt::Debug for ReadFault {
+    fn fmt<W: fmt::Write>(&self, f: &mut fmt::Formatter<W>) -> fmt::Result {
+        fmt::Display::fmt(self, f)
+    }
 }
 
 impl ReadFault {
@@ -92,7 +98,7 @@ impl From<WireFault> for ReadFault {
 }
 
 /// Why a reply is not written.
-#[derive(Clone, Copy, Debug, PartialEq, Eq, Error)]
+#[derive(Clone, Copy, PartialEq, Eq, Error)]
 pub enum WriteFault {
     /// The obligatory options do not fit in the room.
     #[error("TooLong")]
@@ -100,6 +106,12 @@ pub enum WriteFault {
     /// There is no memory for the reply's bytes.
     #[error("Memory")]
     Memory,
+}
+
+impl fmt::Debug for WriteFault {
+    fn fmt<W: fmt::Write>(&self, f: &mut fmt::Formatter<W>) -> fmt::Result {
+        fmt::Display::fmt(self, f)
+    }
 }
 
 impl WriteFault {

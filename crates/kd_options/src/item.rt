@@ -4,7 +4,7 @@ use kd_wire::Bytes;
 use std::marker::Model;
 
 /// An option of a reply, as it is handed to the writer.
-#[derive(Debug, Drop)]
+#[derive(Drop)]
 pub struct Item {
     /// The option's code, 1 to 254.
     pub code: u8,
@@ -16,7 +16,7 @@ pub struct Item {
 }
 
 /// The options of a reply, in the order in which they are written.
-#[derive(Debug, Drop)]
+#[derive(Drop)]
 pub struct Items {
     list: Vec<Item>,
 }

@@ -6,7 +6,7 @@ use indexmap::IndexMap;
 use std::alloc::{AllocError, Global};
 
 // An option's value: a slice of the datagram where it has one piece, its own bytes where it has more.
-#[derive(Debug, Drop)]
+#[derive(Drop)]
 pub(crate) enum Value<'a> {
     Part(&'a [u8]),
     Joined(Vec<u8>),

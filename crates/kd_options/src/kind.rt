@@ -2,7 +2,7 @@ ghost use Rattle.std.specs.Prelude.{◌≡◌, ◌≤◌};
 ghost use Rattle.kd_options.specs.Kind.{type_number};
 
 /// The type of a DHCP message (RFC 2132 section 9.6).
-#[derive(Clone, Copy, Debug, PartialEq, Eq)]
+#[derive(Clone, Copy, PartialEq, Eq)]
 pub enum MessageType {
     /// A client looks for servers.
     Discover,

@@ -21,7 +21,7 @@ use std::marker::Model;
 
 /// A readable DHCP message (RFC 2131 section 2). It borrows its datagram: an option of one piece is a
 /// slice of it, and an option of several pieces is joined (RFC 3396).
-#[derive(Debug, Drop)]
+#[derive(Drop)]
 pub struct Message<'a> {
     head: Header,
     size: usize,

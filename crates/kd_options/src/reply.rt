@@ -9,7 +9,7 @@ use kd_wire::{Header, put_end, put_piece, write_header};
 use std::alloc::{AllocError, Global};
 
 /// A reply before it is written: its header, and its options in order.
-#[derive(Debug, Drop)]
+#[derive(Drop)]
 pub struct Reply {
     /// The header; op is 1 or 2.
     pub header: Header,

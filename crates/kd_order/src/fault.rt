@@ -3,10 +3,11 @@ ghost use Rattle.kd_order.specs.Order.{fault_number};
 ghost use Rattle.kd_order.specs.declared.fault.LineFault.TheVariants.{Memory};
 
 use std::alloc::AllocError;
+use std::fmt;
 use thiserror::Error;
 
 /// Why the words are no order.
-#[derive(Clone, Copy, Debug, PartialEq, Eq, Error)]
+#[derive(Clone, Copy, PartialEq, Eq, Error)]
 pub enum LineFault {
     /// The words are not as the help text says.
     #[error("CommandLine")]
@@ -14,6 +15,12 @@ pub enum LineFault {
     /// Memory ran out.
     #[error("Memory")]
     Memory,
+}
+
+impl fmt::Debug for LineFault {
+    fn fmt<W: fmt::Write>(&self, f: &mut fmt::Formatter<W>) -> fmt::Result {
+        fmt::Display::fmt(self, f)
+    }
 }
 
 impl LineFault {

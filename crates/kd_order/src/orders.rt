@@ -1,5 +1,5 @@
 /// What the command line asks for.
-#[derive(Debug, Drop)]
+#[derive(Drop)]
 pub enum Order {
     /// The help text, for standard output.
     Help(String),

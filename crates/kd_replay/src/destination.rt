@@ -1,5 +1,5 @@
 /// How a reply is sent (RFC 2131 section 4.1).
-#[derive(Clone, Copy, Debug, PartialEq, Eq)]
+#[derive(Clone, Copy, PartialEq, Eq)]
 pub enum Mode {
     /// To the relay that the message came through.
     Relay,
@@ -12,7 +12,7 @@ pub enum Mode {
 }
 
 /// Where a reply goes.
-#[derive(Clone, Copy, Debug, PartialEq, Eq)]
+#[derive(Clone, Copy, PartialEq, Eq)]
 pub struct Destination {
     /// How it is sent.
     pub mode: Mode,

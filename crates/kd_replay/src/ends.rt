@@ -1,9 +1,16 @@
+use std::fmt;
 use thiserror::Error;
 
 /// A source can not be read, or a sink not be written.
-#[derive(Clone, Copy, Debug, PartialEq, Eq, Error)]
+#[derive(Clone, Copy, PartialEq, Eq, Error)]
 #[error("EndFailed")]
 pub struct EndFailed;
+
+impl fmt::Debug for EndFailed {
+    fn fmt<W: fmt::Write>(&self, f: &mut fmt::Formatter<W>) -> fmt::Result {
+        fmt::Display::fmt(self, f)
+    }
+}
 
 /// Where a replay reads its input.
 pub trait Source {

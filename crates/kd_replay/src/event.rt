@@ -3,7 +3,7 @@ use crate::reason::Reason;
 use kd_wire::Bytes;
 
 /// One datagram at one moment.
-#[derive(Debug, Drop)]
+#[derive(Drop)]
 pub struct Event {
     /// When it came, in whole seconds; a server takes moments below 2^40.
     pub moment: u64,
@@ -12,7 +12,7 @@ pub struct Event {
 }
 
 /// What was done with one event.
-#[derive(Debug, Drop)]
+#[derive(Drop)]
 pub struct Handled {
     /// The moment at which it counts, in whole seconds: that of the event, or the latest change of a
     /// lease where that is later.
@@ -22,7 +22,7 @@ pub struct Handled {
 }
 
 /// What is sent for an event, or why nothing is.
-#[derive(Debug, Drop)]
+#[derive(Drop)]
 pub enum Response {
     /// A reply: where it goes, and its bytes.
     Reply(Destination, Bytes),

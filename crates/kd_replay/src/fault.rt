@@ -3,10 +3,11 @@ ghost use Rattle.kd_replay.specs.Faults.{replay_fault_number, serve_fault_number
 
 use kd_options::MessageType;
 use std::alloc::AllocError;
+use std::fmt;
 use thiserror::Error;
 
 /// Why an event is not handled.
-#[derive(Clone, Copy, Debug, PartialEq, Eq, Error)]
+#[derive(Clone, Copy, PartialEq, Eq, Error)]
 pub enum ServeFault {
     /// Messages of this type are not served yet.
     #[error("Unsupported {}", .0.number())]
@@ -17,6 +18,12 @@ pub enum ServeFault {
     /// There is no memory for the event.
     #[error("Memory")]
     Memory,
+}
+
+impl fmt::Debug for ServeFault {
+    fn fmt<W: fmt::Write>(&self, f: &mut fmt::Formatter<W>) -> fmt::Result {
+        fmt::Display::fmt(self, f)
+    }
 }
 
 impl ServeFault {
@@ -43,7 +50,7 @@ impl From<AllocError> for ServeFault {
 }
 
 /// Why a replay ends before its input does.
-#[derive(Clone, Copy, Debug, PartialEq, Eq, Error)]
+#[derive(Clone, Copy, PartialEq, Eq, Error)]
 pub enum ReplayFault {
     /// There is no memory for the lines, or for an event.
     #[error("Memory")]
@@ -60,6 +67,12 @@ pub enum ReplayFault {
     /// The line with this number, from 1, is no event.
     #[error("BadLine {0}")]
     BadLine(u64),
+}
+
+impl fmt::Debug for ReplayFault {
+    fn fmt<W: fmt::Write>(&self, f: &mut fmt::Formatter<W>) -> fmt::Result {
+        fmt::Display::fmt(self, f)
+    }
 }
 
 impl ReplayFault {

@@ -4,7 +4,7 @@ ghost use Rattle.kd_replay.specs.Reason.{reason_name, reason_number};
 use std::fmt;
 
 /// Why a datagram gets no reply.
-#[derive(Clone, Copy, Debug, PartialEq, Eq)]
+#[derive(Clone, Copy, PartialEq, Eq)]
 pub enum Reason {
     /// The datagram reads as no DHCP message.
     Unreadable,

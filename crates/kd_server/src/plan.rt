@@ -2,7 +2,7 @@ use kd_options::Reply;
 use kd_replay::Reason;
 
 // What a planned reply is (RFC 2131 sections 3.1 and 4.3).
-#[derive(Clone, Copy, Debug, PartialEq, Eq)]
+#[derive(Clone, Copy, PartialEq, Eq)]
 pub(crate) enum PlanKind {
     // An OFFER of an address.
     Offer,
@@ -15,7 +15,7 @@ pub(crate) enum PlanKind {
 }
 
 // A reply before it is written and sent.
-#[derive(Debug, Drop)]
+#[derive(Drop)]
 pub(crate) struct Plan {
     // What the reply is.
     pub(crate) kind: PlanKind,
@@ -28,7 +28,7 @@ pub(crate) struct Plan {
 }
 
 // What the rules answer for a message.
-#[derive(Debug, Drop)]
+#[derive(Drop)]
 pub(crate) enum Decision {
     // A reply is sent.
     Plan(Plan),

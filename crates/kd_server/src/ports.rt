@@ -1,5 +1,5 @@
 /// The UDP ports of a server and its clients (RFC 2131 section 4.1).
-#[derive(Clone, Copy, Debug, PartialEq, Eq)]
+#[derive(Clone, Copy, PartialEq, Eq)]
 pub struct Ports {
     /// Where servers and relays receive: 67, unless set otherwise.
     pub server: u16,

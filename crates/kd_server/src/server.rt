@@ -25,7 +25,7 @@ use std::alloc::Global;
 use std::marker::Model;
 
 /// A server that goes by a configuration; no address is leased.
-#[derive(Debug, Drop)]
+#[derive(Drop)]
 pub struct Server {
     ports: Ports,
     config: Config,

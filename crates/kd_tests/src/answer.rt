@@ -28,21 +28,35 @@ fn texts_of(order: &Order) -> (&str, &str, &str) {
 // What is printed of them is that of a mistake, since they are not hexadecimal.
 #[test]
 fn words_are_handed_on_as_they_are(rt: HostRuntime) -> Result<(), Fail> {
-    let rows: [(&[&str], (&str, &str, &str)); 15] = [
-        (&["show", "not hexadecimal"], ("show", "not hexadecimal", "")),
+    let rows: [(&[&str], (&str, &str, &str)); 17] = [
+        (
+            &["show", "not hexadecimal"],
+            ("show", "not hexadecimal", ""),
+        ),
         (&["show", "--", "-a"], ("show", "-a", "")),
         (&["show", "a", "--"], ("show", "a", "")),
         (&["show", "-"], ("show", "-", "")),
-        (&["verify", "no hexadecimal"], ("verify", "no hexadecimal", "")),
+        (
+            &["verify", "no hexadecimal"],
+            ("verify", "no hexadecimal", ""),
+        ),
         (&["verify", "--", "-a"], ("verify", "-a", "")),
-        (&["eval", "no hexadecimal", ""], ("eval", "no hexadecimal", "")),
+        (
+            &["eval", "no hexadecimal", ""],
+            ("eval", "no hexadecimal", ""),
+        ),
         (&["eval", "--", "-a", "-b"], ("eval", "-a", "-b")),
         (&["eval", "4b", "--", "-b"], ("eval", "4b", "-b")),
         (&["eval", "--", "--", "01"], ("eval", "--", "01")),
         (&["eval", "show", "eval"], ("eval", "show", "eval")),
         (&["eval", "--", "--text", "01"], ("eval", "--text", "01")),
         (&["eval", "4b", "--", "--text"], ("eval", "4b", "--text")),
-        (&["eval", "--text", "--", "-1 == 1", "-b"], ("--text", "-1 == 1", "-b")),
+        (
+            &["eval", "--text", "--", "-1 == 1", "-b"],
+            ("--text", "-1 == 1", "-b"),
+        ),
+        (&["eval", "a", "--text", "--", "-b"], ("--text", "a", "-b")),
+        (&["eval", "--text", "a", "--", "-b"], ("--text", "a", "-b")),
         (&["eval", "a", "b", "--text", "--"], ("--text", "a", "b")),
     ];
     for (words, want) in rows {
@@ -52,16 +66,19 @@ fn words_are_handed_on_as_they_are(rt: HostRuntime) -> Result<(), Fail> {
     Ok(())
 }
 
-// Those of the faults that no case reaches.
+// Those that no case tells: of faults of the store, of memory and of the output, and of those within Serve.
 #[test]
 fn each_fault_has_its_exit_status(rt: HostRuntime) {
     for (number, status) in [
         (80, 4),
         (81, 4),
+        (89, 3),
+        (90, 3),
         (91, 1),
         (92, 4),
         (93, 4),
         (95, 1),
+        (96, 3),
         (99, 3),
     ] {
         assert!(rt; exit_status(number) == status, "{number}");
@@ -106,7 +123,11 @@ fn want_of_memory_is_answered_as_such(rt: HostRuntime) -> Result<(), Fail> {
             "",
         ),
         (&["expr", "concat('a','b')"], "", "fault 26 WantsBool 0\n"),
-        (&["expr", "concat('a','b') == $"], "", "fault 20 BadToken 19\n"),
+        (
+            &["expr", "concat('a','b') == $"],
+            "",
+            "fault 20 BadToken 19\n",
+        ),
         (
             &["compile", "option[60].hex == 'a'"],
             "4b34544b010003021000000003033c0100016109\n",
@@ -133,7 +154,12 @@ fn want_of_memory_is_answered_as_such(rt: HostRuntime) -> Result<(), Fail> {
         (&["eval", exists, no_type.as_str()], "", "fault 6 NoType\n"),
         (&["eval", short, no_type.as_str()], "", "fault 40 Short 1\n"),
         (
-            &["eval", "--text", "hexstring(option[60].hex,':') == '6b:64'", vendor.as_str()],
+            &[
+                "eval",
+                "--text",
+                "hexstring(option[60].hex,':') == '6b:64'",
+                vendor.as_str(),
+            ],
             "true steps 5 depth 2 length 5\n",
             "",
         ),

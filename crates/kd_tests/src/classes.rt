@@ -112,6 +112,14 @@ fn there_are_at_most_256_definitions(rt: HostRuntime) -> Result<(), Fail> {
         define(rt.alloc(), &mut same, b"A", None)?;
     }
     assert!(rt; Classes::new(same).err() == Some(ClassFault::TooMany));
+    Ok(())
+}
+
+// A configuration prints the names of these faults within another's, without their numbers, and the last not at all.
+#[test]
+fn faults_have_their_numbers(rt: HostRuntime) -> Result<(), Fail> {
+    assert!(rt; ClassFault::Duplicate(7).number() == 60);
+    assert!(rt; ClassFault::UnknownMember(255).number() == 61);
     assert!(rt; ClassFault::TooMany.number() == 62);
     let text = format!(in rt.alloc(); "{}", ClassFault::TooMany)?;
     assert!(rt; text.as_str() == "TooMany");

@@ -1,6 +1,6 @@
 use crate::support::{DISCOVER, Fault, datagram};
 use kd_compile::{CompileFault, compile};
-use kd_expr::{read, type_of};
+use kd_expr::{ExprFault, read, type_of};
 use kd_machine::{Held, Outcome, eval};
 use kd_options::Message;
 use std::alloc::Global;
@@ -44,8 +44,9 @@ fn want_of_memory_is_answered_as_such(rt: HostRuntime) -> Result<(), Fail> {
 
 #[test]
 fn want_of_memory_is_fault_91(rt: HostRuntime) -> Result<(), Fail> {
+    assert!(rt; ExprFault::Memory.number() == 91);
     assert!(rt; CompileFault::Memory.number() == 91);
-    let name = format!(in rt.alloc(); "{}", CompileFault::Memory)?;
-    assert!(rt; name.as_str() == "Memory");
+    let names = format!(in rt.alloc(); "{} {}", ExprFault::Memory, CompileFault::Memory)?;
+    assert!(rt; names.as_str() == "Memory Memory");
     Ok(())
 }

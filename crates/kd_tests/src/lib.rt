@@ -5,13 +5,29 @@
 #![tactic(auto)]
 
 #[cfg(test)]
+mod answer;
+#[cfg(test)]
 mod classes;
+#[cfg(test)]
+mod compile;
+#[cfg(test)]
+mod config;
+#[cfg(test)]
+mod doubles;
+#[cfg(test)]
+mod ends;
+#[cfg(test)]
+mod expr;
 #[cfg(test)]
 mod machine;
 #[cfg(test)]
 mod message;
 #[cfg(test)]
+mod replay;
+#[cfg(test)]
 mod reply;
+#[cfg(test)]
+mod server;
 #[cfg(test)]
 mod support;
 #[cfg(test)]

@@ -1,4 +1,6 @@
 use kd_classes::ClassFault;
+use kd_compile::CompileFault;
+use kd_expr::ExprFault;
 use kd_options::ReadFault;
 use kd_token::{FileFault, Program, Verified, VerifyFault, verify};
 use std::alloc::{AllocError, Global};

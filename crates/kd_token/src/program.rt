@@ -15,7 +15,7 @@ use std::marker::Model;
 
 /// A program of tokens, within the limits of a token file: at most 1,024 declared steps and 1,024
 /// tokens, a declared depth of at most 64, and at most 64 names.
-#[derive(Debug, Drop)]
+#[derive(Drop)]
 pub struct Program {
     version: Version,
     steps: u16,

@@ -7,6 +7,13 @@ use byteorder::{BigEndian, ByteOrder};
 use kd_wire::Bytes;
 use std::alloc::AllocError;
 
+// Writes a byte at the end.
+fn put(out: &mut Vec<u8>, byte: u8) -> Result<(), AllocError>
+    ensures { OnOk result (out.new.items ≡ out.old.items ++ (byte ∷ [])) }
+{
+    Ok(out.push(byte)?)
+}
+
 // Writes a number of two bytes at the end.
 pub(crate) fn put_u16(out: &mut Vec<u8>, number: u16) -> Result<(), AllocError>
     ensures { OnOk result (out.new.items ≡ out.old.items ++ big_bytes 2 number) }
@@ -61,7 +68,7 @@ fn put_count(out: &mut Vec<u8>, count: Option<i32>) -> Result<(), AllocError>
             out.push(0)?;
             put_i32(out, count)
         }
-        None => Ok(out.push(1)?),
+        None => put(out, 1),
     }
 }
 
@@ -109,16 +116,16 @@ pub(crate) fn put_token(out: &mut Vec<u8>, token: &Token) -> Result<(), AllocErr
         Token::PopBranchFalse(skip) => put_skip(out, 0x21, *skip),
         Token::BranchFalseElsePop(skip) => put_skip(out, 0x22, *skip),
         Token::BranchTrueElsePop(skip) => put_skip(out, 0x23, *skip),
-        Token::Equal => Ok(out.push(0x09)?),
-        Token::Not => Ok(out.push(0x0a)?),
-        Token::And => Ok(out.push(0x0b)?),
-        Token::Or => Ok(out.push(0x0c)?),
-        Token::IfElse => Ok(out.push(0x0d)?),
-        Token::Concat => Ok(out.push(0x0f)?),
-        Token::HexString => Ok(out.push(0x10)?),
-        Token::Lower => Ok(out.push(0x11)?),
-        Token::Upper => Ok(out.push(0x12)?),
-        Token::IntToText => Ok(out.push(0x13)?),
-        Token::IntBytes => Ok(out.push(0x14)?),
+        Token::Equal => put(out, 0x09),
+        Token::Not => put(out, 0x0a),
+        Token::And => put(out, 0x0b),
+        Token::Or => put(out, 0x0c),
+        Token::IfElse => put(out, 0x0d),
+        Token::Concat => put(out, 0x0f),
+        Token::HexString => put(out, 0x10),
+        Token::Lower => put(out, 0x11),
+        Token::Upper => put(out, 0x12),
+        Token::IntToText => put(out, 0x13),
+        Token::IntBytes => put(out, 0x14),
     }
 }

@@ -4,7 +4,7 @@ ghost use Rattle.kd_token.specs.File.{field_number, version_number};
 use kd_wire::Bytes;
 
 /// The version of a token file.
-#[derive(Clone, Copy, Debug, PartialEq, Eq)]
+#[derive(Clone, Copy, PartialEq, Eq)]
 pub enum Version {
     /// Version 1: every token runs.
     One,
@@ -25,7 +25,7 @@ impl Version {
 }
 
 /// A field of the message that a token pushes (RFC 2131 section 2).
-#[derive(Clone, Copy, Debug, PartialEq, Eq)]
+#[derive(Clone, Copy, PartialEq, Eq)]
 pub enum Field {
     /// The hardware address: the first `hlen` bytes of `chaddr`, at most 16.
     Mac,
@@ -70,7 +70,7 @@ impl Field {
 }
 
 /// One token of a program: what it takes from the top of the stack, and what it gives.
-#[derive(Debug, Drop)]
+#[derive(Drop)]
 pub enum Token {
     /// Pushes these bytes, at most 65,535.
     PushBytes(Bytes),

@@ -21,7 +21,7 @@ use std::mem;
 /// A program that the verifier has accepted: along each way through it each token finds what it wants, no
 /// stack is deeper and no value longer than the program declares, and it ends in the declared steps with
 /// one truth value.
-#[derive(Debug, Drop)]
+#[derive(Drop)]
 pub struct Verified {
     program: Program,
 }

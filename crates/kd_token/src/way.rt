@@ -4,7 +4,7 @@ ghost use Rattle.kd_token.specs.Accepts.{way_of};
 use crate::token::Token;
 
 /// How a run goes on from a token; a number says how many tokens are skipped.
-#[derive(Clone, Copy, Debug, PartialEq, Eq)]
+#[derive(Clone, Copy, PartialEq, Eq)]
 pub enum Way {
     /// To the next token.
     On,

@@ -1,7 +1,7 @@
 use std::marker::Model;
 
 /// A list of bytes that owns its memory.
-#[derive(Debug, Drop)]
+#[derive(Drop)]
 pub struct Bytes {
     content: Vec<u8>,
 }

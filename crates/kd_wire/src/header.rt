@@ -2,11 +2,12 @@ ghost use Rattle.std.specs.Prelude.{◌≡◌, ◌≤◌, IfOk, length};
 ghost use Rattle.kd_wire.specs.Header.{header_of, header_read, fault_number};
 
 use byteorder::{BigEndian, ByteOrder};
+use std::fmt;
 use thiserror::Error;
 
 /// The fields of a DHCP message from `op` to `file` (RFC 2131 section 2), as they stand in the
 /// datagram. Addresses are numbers in host order.
-#[derive(Clone, Copy, Debug, PartialEq, Eq)]
+#[derive(Clone, Copy, PartialEq, Eq)]
 pub struct Header {
     /// 1 from a client, 2 from a server.
     pub op: u8,
@@ -39,7 +40,7 @@ pub struct Header {
 }
 
 /// Why bytes are no DHCP message's header.
-#[derive(Clone, Copy, Debug, PartialEq, Eq, Error)]
+#[derive(Clone, Copy, PartialEq, Eq, Error)]
 pub enum WireFault {
     /// The datagram has fewer than 240 bytes, the header and the cookie.
     #[error("Short")]
@@ -53,6 +54,12 @@ pub enum WireFault {
     /// The field `op` is neither 1 nor 2.
     #[error("BadOp")]
     BadOp,
+}
+
+impl fmt::Debug for WireFault {
+    fn fmt<W: fmt::Write>(&self, f: &mut fmt::Formatter<W>) -> fmt::Result {
+        fmt::Display::fmt(self, f)
+    }
 }
 
 impl WireFault {
