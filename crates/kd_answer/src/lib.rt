@@ -12,8 +12,6 @@ mod refusal;
 mod run;
 mod show;
 mod status;
-#[cfg(test)]
-mod tests;
 mod token_file;
 
 pub use answering::answer;

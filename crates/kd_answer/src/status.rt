@@ -25,6 +25,3 @@ pub fn replay_status(fault: ReplayFault) -> u8
         other => exit_status(other.number()),
     }
 }
-
-#[cfg(test)]
-mod tests;

@@ -14,8 +14,6 @@ mod fault;
 pub mod laws;
 mod option_list;
 mod order;
-#[cfg(test)]
-mod tests;
 
 pub use classes::Classes;
 pub use definition::ClassDef;

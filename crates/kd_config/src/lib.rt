@@ -31,8 +31,6 @@ mod reservation;
 mod rules;
 mod settings;
 mod subnet;
-#[cfg(test)]
-mod tests;
 mod times;
 mod token_file;
 mod values;

@@ -129,6 +129,3 @@ fn token_file<R: Files + AllocGlobal>(
     let bytes = Bytes::own(read_file(rt, path, MOST_BYTES)?);
     Ok(TokenFile { name, bytes })
 }
-
-#[cfg(test)]
-mod tests;

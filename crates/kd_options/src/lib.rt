@@ -17,8 +17,6 @@ pub mod laws;
 mod message;
 mod relay;
 mod reply;
-#[cfg(test)]
-mod tests;
 
 pub use fault::{AddressOption, ReadFault, WriteFault};
 pub use item::{Item, Items};

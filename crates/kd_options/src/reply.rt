@@ -169,6 +169,3 @@ fn put_value(out: &mut [u8], at: usize, code: u8, value: &[u8]) -> usize
     }
     next
 }
-
-#[cfg(test)]
-mod tests;

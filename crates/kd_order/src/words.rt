@@ -312,6 +312,3 @@ fn answer_to(alloc: Global, error: &clap::Error) -> Result<Order, LineFault>
         _ => Err(LineFault::CommandLine),
     }
 }
-
-#[cfg(test)]
-mod tests;

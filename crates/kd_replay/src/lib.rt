@@ -7,8 +7,6 @@
 
 mod ahead;
 mod destination;
-#[cfg(test)]
-mod doubles;
 mod ends;
 mod event;
 mod fault;

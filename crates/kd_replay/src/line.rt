@@ -83,6 +83,3 @@ fn bytes_in(alloc: Global, text: &[u8]) -> Result<Option<Bytes>, AllocError>
         },
     }
 }
-
-#[cfg(test)]
-mod tests;

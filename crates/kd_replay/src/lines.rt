@@ -43,6 +43,3 @@ pub(crate) fn next_line<S: Source>(
     }
     unreachable!()
 }
-
-#[cfg(test)]
-mod tests;

@@ -136,6 +136,3 @@ fn write_handled<W: Sink>(
     put_line(room, handled);
     write_all(sink, room.as_slice())
 }
-
-#[cfg(test)]
-mod tests;

@@ -104,6 +104,3 @@ fn mask_of(prefix: Prefix) -> [u8; 4]
     let mask = (1u64 << 32) - prefix.size();
     (mask as u32).to_be_bytes()
 }
-
-#[cfg(test)]
-mod tests;

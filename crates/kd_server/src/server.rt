@@ -194,10 +194,3 @@ fn sent(
         Err(WriteFault::TooLong) => unreachable!(),
     }
 }
-
-#[cfg(test)]
-mod configured;
-#[cfg(test)]
-mod replays;
-#[cfg(test)]
-pub(crate) mod tests;

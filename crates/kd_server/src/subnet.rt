@@ -71,6 +71,3 @@ fn pool_of(subnet: &Subnet, address: u32) -> Option<&Pool>
         .iter()
         .find(|pool| pool.range.contains(address))
 }
-
-#[cfg(test)]
-mod tests;

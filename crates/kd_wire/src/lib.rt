@@ -11,8 +11,6 @@ mod area;
 mod bytes;
 mod header;
 mod put;
-#[cfg(test)]
-mod tests;
 mod walk;
 
 pub use area::{Cut, pieces};
