@@ -2,7 +2,7 @@
 """What a server with the configuration of an example answers to INFORMs.
 
     answers.py FOLDER      reads FOLDER/config.json, FOLDER/*.k4tk and FOLDER/events.lines, prints the answers
-    answers.py             writes replies.lines into each folder of crates/kd_examples/data
+    answers.py             writes replies.lines into each folder of crates/kd_cases/data/examples
 
 The answers are worked out here once more, from RFC 2131, 2132, 3046 and Kea's manual, in another language and
 by another hand than the server's. Nothing of the server's code is used.
@@ -239,7 +239,7 @@ def main():
     if len(sys.argv) == 2:
         sys.stdout.writelines(answers(sys.argv[1]))
         return
-    for path in sorted(glob.glob(f"{HERE}/../crates/kd_examples/data/*/config.json")):
+    for path in sorted(glob.glob(f"{HERE}/../crates/kd_cases/data/examples/*/config.json")):
         folder = os.path.dirname(path)
         with open(f"{folder}/replies.lines", "w", encoding="ascii") as file:
             file.writelines(answers(folder))

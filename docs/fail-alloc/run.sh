@@ -79,7 +79,7 @@ each_refusal_of_replay() {
     done
 }
 each_refusal_of_replay examples/replay/informs.lines examples/replay/informs.replies
-for folder in crates/kd_examples/data/*/; do
+for folder in crates/kd_cases/data/examples/*/; do
     each_refusal_of_replay "$folder/events.lines" "$folder/replies.lines" \
         --config "$folder/config.json" --token-dir "$folder"
 done
@@ -91,10 +91,8 @@ SHORT_IO=1 LD_PRELOAD=$room/fail.so crates/kdhcp/out/kdhcp replay <examples/repl
 echo "replay byte by byte: the same"
 
 all=0 passed=0 building=0 second=0 other=0
-for test in kd_options:tests kd_options:reply::tests kd_server:server::replays kd_expr_tests:tests::memory \
-    kd_token_tests:tests::verifier kd_machine_tests:tests kd_compile_tests:tests kd_classes:tests::held \
-    kd_config_tests:tests::faults kd_replay:replaying::tests kd_answer:tests::show; do
-    run=(crates/"${test%%:*}"/out/"${test%%:*}"_tests "${test#*:}"::want_of_memory_is_answered_as_such)
+for module in answer classes compile config expr machine message replay reply server token; do
+    run=(crates/kd_tests/out/kd_tests_tests "$module::want_of_memory_is_answered_as_such")
     for n in $(seq 1 "$(asked_by "${run[@]}")"); do
         all=$((all + 1))
         if got=$(FAIL_AT=$n LD_PRELOAD=$room/fail.so "${run[@]}" 2>&1); then passed=$((passed + 1))

@@ -115,7 +115,7 @@ fn lines_are_found_in_pieces(rt: HostRuntime) -> Result<(), Fail> {
 // With a refused request for memory a replay answers want of memory, or the sink has failed for want of it; the same
 // replay made again gives what it gives with ample memory.
 #[test]
-fn a_replay_answers_want_of_memory(rt: HostRuntime) -> Result<(), Fail> {
+fn want_of_memory_is_answered_as_such(rt: HostRuntime) -> Result<(), Fail> {
     let ends = (1000, false, 1000);
     match replayed(rt.alloc(), "5 \n6 00\n", ends) {
         Ok((Err(ReplayFault::Memory) | Err(ReplayFault::Write), sink)) => {
