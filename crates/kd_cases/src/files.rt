@@ -59,7 +59,7 @@ impl Files {
     ) -> Result<Config, StartFault> {
         match path.and_then(|path| self.file(path)) {
             Some(text) => {
-                let tokens = self.tokens(rt.alloc(), folder)?;
+                let tokens = self.token_files(rt.alloc(), folder)?;
                 Ok(Config::read(rt.alloc(), text, &tokens)?)
             }
             None => configuration(rt, path, folder),
@@ -77,7 +77,11 @@ impl Files {
     }
 
     // The token files of a folder in memory, the first ones first.
-    fn tokens(&self, alloc: Global, folder: Option<&str>) -> Result<Vec<TokenFile>, AllocError> {
+    fn token_files(
+        &self,
+        alloc: Global,
+        folder: Option<&str>,
+    ) -> Result<Vec<TokenFile>, AllocError> {
         let mut tokens = Vec::new(alloc);
         for (path, bytes) in &self.files {
             if let Some((place, name)) = path.rsplit_once('/') {

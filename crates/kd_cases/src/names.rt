@@ -27,7 +27,7 @@ impl Names {
         for (index, piece) in line.split("${").enumerate() {
             match piece.split_once('}') {
                 Some((reference, rest)) if index > 0 => {
-                    out.push_str(self.part(reference).unwrap_or(reference))?;
+                    out.push_str(self.text_of(reference).unwrap_or(reference))?;
                     out.push_str(rest)?;
                 }
                 _ => out.push_str(piece)?,
@@ -37,7 +37,7 @@ impl Names {
     }
 
     // The text of a reference.
-    fn part(&self, reference: &str) -> Option<&str> {
+    fn text_of(&self, reference: &str) -> Option<&str> {
         let mut words = reference.split(':');
         let text = self.texts.get(words.next()?)?.as_str();
         let from = words.next().map_or(Some(0), |word| word.parse().ok())?;
