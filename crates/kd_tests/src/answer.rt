@@ -4,14 +4,13 @@ use kd_order::{LineFault, Order, order};
 use std::alloc::{AllocError, Global};
 use std::test::Fail;
 
-// The order that these words give.
-fn ordered(alloc: Global, words: &[&str]) -> Result<Order, LineFault> {
+// Words of a command line.
+fn owned(alloc: Global, words: &[&str]) -> Result<Vec<String>, AllocError> {
     let mut owned = Vec::new(alloc);
     for word in words {
-        let word = String::from_str(alloc, word)?;
-        owned.push(word).map_err(|_| LineFault::Memory)?;
+        owned.push(String::from_str(alloc, word)?)?;
     }
-    order(alloc, &owned)
+    Ok(owned)
 }
 
 // The name of an order and its texts, the second one empty where it has one alone.
@@ -60,7 +59,7 @@ const HANDED_ON: [(&[&str], (&str, &str, &str)); 17] = [
 
 // Whether words give this order.
 fn gives(alloc: Global, words: &[&str], want: (&str, &str, &str)) -> Result<bool, LineFault> {
-    Ok(texts_of(&ordered(alloc, words)?) == want)
+    Ok(texts_of(&order(alloc, &owned(alloc, words)?)?) == want)
 }
 
 #[test]
@@ -91,8 +90,8 @@ fn each_fault_has_its_exit_status(rt: HostRuntime) {
 }
 
 // What is printed for these words.
-fn printed(alloc: Global, words: &[&str]) -> Result<Printed, AllocError> {
-    match ordered(alloc, words) {
+fn printed(alloc: Global, words: &[String]) -> Result<Printed, AllocError> {
+    match order(alloc, words) {
         Ok(order) => answer(alloc, &order),
         Err(_) => Err(AllocError),
     }
@@ -181,13 +180,23 @@ const REFUSED: [(&[&str], &str); 4] = [
 ];
 
 // Whether words print this, or want of memory is answered at the first call and not at the second.
-fn prints_again(alloc: Global, words: &[&str], out: &str, fault: &str) -> Result<bool, AllocError> {
+fn print_again(
+    alloc: Global,
+    words: &[String],
+    out: &str,
+    fault: &str,
+) -> Result<bool, AllocError> {
     if let Ok(first) = printed(alloc, words) {
         if !prints(&first, out, fault) {
             return Ok(false);
         }
     }
     Ok(prints(&printed(alloc, words)?, out, fault))
+}
+
+// The same of words that are not owned.
+fn prints_again(alloc: Global, words: &[&str], out: &str, fault: &str) -> Result<bool, AllocError> {
+    print_again(alloc, &owned(alloc, words)?, out, fault)
 }
 
 // The same of words and a datagram of these options behind them.
@@ -198,10 +207,9 @@ fn prints_with(
     out: &str,
     fault: &str,
 ) -> Result<bool, AllocError> {
-    let digits = hex::encode(alloc, datagram(alloc, options)?)?;
-    let mut all = Vec::from_slice(alloc, words)?;
-    all.push(digits.as_str())?;
-    prints_again(alloc, all.as_slice(), out, fault)
+    let mut all = owned(alloc, words)?;
+    all.push(hex::encode(alloc, datagram(alloc, options)?)?)?;
+    print_again(alloc, &all, out, fault)
 }
 
 // Where an allocation is refused the answer is that, and the same call made again gives the lines.
