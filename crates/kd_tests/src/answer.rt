@@ -4,14 +4,13 @@ use kd_order::{LineFault, Order, order};
 use std::alloc::{AllocError, Global};
 use std::test::Fail;
 
-// The order that these words give.
-fn ordered(alloc: Global, words: &[&str]) -> Result<Order, LineFault> {
+// Words of a command line.
+fn owned(alloc: Global, words: &[&str]) -> Result<Vec<String>, AllocError> {
     let mut owned = Vec::new(alloc);
     for word in words {
-        let word = String::from_str(alloc, word)?;
-        owned.push(word).map_err(|_| LineFault::Memory)?;
+        owned.push(String::from_str(alloc, word)?)?;
     }
-    order(alloc, &owned)
+    Ok(owned)
 }
 
 // The name of an order and its texts, the second one empty where it has one alone.
@@ -25,43 +24,48 @@ fn texts_of(order: &Order) -> (&str, &str, &str) {
     }
 }
 
-// What is printed of them is that of a mistake, since they are not hexadecimal.
+// Words, and the order that they give. What is printed of them is that of a mistake, since they are not hexadecimal.
+const HANDED_ON: [(&[&str], (&str, &str, &str)); 17] = [
+    (
+        &["show", "not hexadecimal"],
+        ("show", "not hexadecimal", ""),
+    ),
+    (&["show", "--", "-a"], ("show", "-a", "")),
+    (&["show", "a", "--"], ("show", "a", "")),
+    (&["show", "-"], ("show", "-", "")),
+    (
+        &["verify", "no hexadecimal"],
+        ("verify", "no hexadecimal", ""),
+    ),
+    (&["verify", "--", "-a"], ("verify", "-a", "")),
+    (
+        &["eval", "no hexadecimal", ""],
+        ("eval", "no hexadecimal", ""),
+    ),
+    (&["eval", "--", "-a", "-b"], ("eval", "-a", "-b")),
+    (&["eval", "4b", "--", "-b"], ("eval", "4b", "-b")),
+    (&["eval", "--", "--", "01"], ("eval", "--", "01")),
+    (&["eval", "show", "eval"], ("eval", "show", "eval")),
+    (&["eval", "--", "--text", "01"], ("eval", "--text", "01")),
+    (&["eval", "4b", "--", "--text"], ("eval", "4b", "--text")),
+    (
+        &["eval", "--text", "--", "-1 == 1", "-b"],
+        ("--text", "-1 == 1", "-b"),
+    ),
+    (&["eval", "a", "--text", "--", "-b"], ("--text", "a", "-b")),
+    (&["eval", "--text", "a", "--", "-b"], ("--text", "a", "-b")),
+    (&["eval", "a", "b", "--text", "--"], ("--text", "a", "b")),
+];
+
+// Whether words give this order.
+fn gives(alloc: Global, words: &[&str], want: (&str, &str, &str)) -> Result<bool, LineFault> {
+    Ok(texts_of(&order(alloc, &owned(alloc, words)?)?) == want)
+}
+
 #[test]
 fn words_are_handed_on_as_they_are(rt: HostRuntime) -> Result<(), Fail> {
-    let rows: [(&[&str], (&str, &str, &str)); 17] = [
-        (
-            &["show", "not hexadecimal"],
-            ("show", "not hexadecimal", ""),
-        ),
-        (&["show", "--", "-a"], ("show", "-a", "")),
-        (&["show", "a", "--"], ("show", "a", "")),
-        (&["show", "-"], ("show", "-", "")),
-        (
-            &["verify", "no hexadecimal"],
-            ("verify", "no hexadecimal", ""),
-        ),
-        (&["verify", "--", "-a"], ("verify", "-a", "")),
-        (
-            &["eval", "no hexadecimal", ""],
-            ("eval", "no hexadecimal", ""),
-        ),
-        (&["eval", "--", "-a", "-b"], ("eval", "-a", "-b")),
-        (&["eval", "4b", "--", "-b"], ("eval", "4b", "-b")),
-        (&["eval", "--", "--", "01"], ("eval", "--", "01")),
-        (&["eval", "show", "eval"], ("eval", "show", "eval")),
-        (&["eval", "--", "--text", "01"], ("eval", "--text", "01")),
-        (&["eval", "4b", "--", "--text"], ("eval", "4b", "--text")),
-        (
-            &["eval", "--text", "--", "-1 == 1", "-b"],
-            ("--text", "-1 == 1", "-b"),
-        ),
-        (&["eval", "a", "--text", "--", "-b"], ("--text", "a", "-b")),
-        (&["eval", "--text", "a", "--", "-b"], ("--text", "a", "-b")),
-        (&["eval", "a", "b", "--text", "--"], ("--text", "a", "b")),
-    ];
-    for (words, want) in rows {
-        let order = ordered(rt.alloc(), words)?;
-        assert!(rt; texts_of(&order) == want, "{words:?}");
+    for (words, want) in HANDED_ON {
+        assert!(rt; gives(rt.alloc(), words, want)?, "{words:?}");
     }
     Ok(())
 }
@@ -86,8 +90,8 @@ fn each_fault_has_its_exit_status(rt: HostRuntime) {
 }
 
 // What is printed for these words.
-fn printed(alloc: Global, words: &[&str]) -> Result<Printed, AllocError> {
-    match ordered(alloc, words) {
+fn printed(alloc: Global, words: &[String]) -> Result<Printed, AllocError> {
+    match order(alloc, words) {
         Ok(order) => answer(alloc, &order),
         Err(_) => Err(AllocError),
     }
@@ -102,84 +106,131 @@ fn prints(printed: &Printed, out: &str, fault: &str) -> bool {
 const SHOWN: &str =
     "len 250\nop 1 htype 1 hlen 6 hops 0 xid 00000001 secs 0 flags 0000\nciaddr 0.0.0.0 yiaddr 0.0.0.0 siaddr 0.0.0.0 giaddr 0.0.0.0\nmac 0a0000000001\ntype 1\noption 53 01\noption 60 6b6461\n";
 
+// Words, and what they print: the line on standard output, and the fault line.
+const PRINTED: [(&[&str], &str, &str); 9] = [
+    (
+        &["expr", "not option[host-name].exists and 'a' + 'b' == 0x1"],
+        "bool 8\n",
+        "",
+    ),
+    (&["expr", "concat('a','b')"], "", "fault 26 WantsBool 0\n"),
+    (
+        &["expr", "concat('a','b') == $"],
+        "",
+        "fault 20 BadToken 19\n",
+    ),
+    (
+        &["compile", "option[60].hex == 'a'"],
+        "4b34544b010003021000000003033c0100016109\n",
+        "",
+    ),
+    (&["compile", "option[60].hex"], "", "fault 26 WantsBool 0\n"),
+    (
+        &[
+            "compile",
+            "hexstring(option[43].hex, option[60].hex) == 'x'",
+        ],
+        "",
+        "fault 53 TooLong\n",
+    ),
+    (
+        &["verify", "4b34544b010003021000000003033c0100016109"],
+        "accepted steps 3 depth 2 length 4096 tokens 3\n",
+        "",
+    ),
+    (
+        &["verify", "4b34544b010002010000000002063c0b"],
+        "",
+        "fault 40 Short 1\n",
+    ),
+    (
+        &["verify", "4b34544b010001010000000001063c00"],
+        "",
+        "fault 35 Rest 15\n",
+    ),
+];
+
+// The words of `eval` but for the datagram, of vendor class `kd`, and the line that they print.
+const RUN: [(&[&str], &str); 2] = [
+    (
+        &["eval", "4b34544b010005022fff000005033c0100013a100100017809"],
+        "false steps 5 depth 2 length 5\n",
+    ),
+    (
+        &["eval", "--text", "hexstring(option[60].hex,':') == '6b:64'"],
+        "true steps 5 depth 2 length 5\n",
+    ),
+];
+
+// The same of a datagram without a type, and the fault line.
+const REFUSED: [(&[&str], &str); 4] = [
+    (
+        &["eval", "4b34544b010001010000000001063c"],
+        "fault 6 NoType\n",
+    ),
+    (
+        &["eval", "4b34544b010002010000000002063c0b"],
+        "fault 40 Short 1\n",
+    ),
+    (&["eval", "--text", "'a' == 'a'"], "fault 6 NoType\n"),
+    (
+        &["eval", "--text", "option[60].hex"],
+        "fault 26 WantsBool 0\n",
+    ),
+];
+
+// Whether words print this, or want of memory is answered at the first call and not at the second.
+fn print_again(
+    alloc: Global,
+    words: &[String],
+    out: &str,
+    fault: &str,
+) -> Result<bool, AllocError> {
+    if let Ok(first) = printed(alloc, words) {
+        if !prints(&first, out, fault) {
+            return Ok(false);
+        }
+    }
+    Ok(prints(&printed(alloc, words)?, out, fault))
+}
+
+// The same of words that are not owned.
+fn prints_again(alloc: Global, words: &[&str], out: &str, fault: &str) -> Result<bool, AllocError> {
+    print_again(alloc, &owned(alloc, words)?, out, fault)
+}
+
+// The same of words and a datagram of these options behind them.
+fn prints_with(
+    alloc: Global,
+    words: &[&str],
+    options: &[u8],
+    out: &str,
+    fault: &str,
+) -> Result<bool, AllocError> {
+    let mut all = owned(alloc, words)?;
+    all.push(hex::encode(alloc, datagram(alloc, options)?)?)?;
+    print_again(alloc, &all, out, fault)
+}
+
 // Where an allocation is refused the answer is that, and the same call made again gives the lines.
 #[test]
 fn want_of_memory_is_answered_as_such(rt: HostRuntime) -> Result<(), Fail> {
-    let joined = hex::encode(
-        rt.alloc(),
-        datagram(rt.alloc(), b"\x35\x01\x01\x3c\x02kd\x3c\x01a")?,
-    )?;
-    let vendor = hex::encode(rt.alloc(), datagram(rt.alloc(), DISCOVER)?)?;
-    let no_type = hex::encode(rt.alloc(), datagram(rt.alloc(), b"\x3c\x01a\xff")?)?;
-    let spells = "4b34544b010005022fff000005033c0100013a100100017809";
-    let exists = "4b34544b010001010000000001063c";
-    let short = "4b34544b010002010000000002063c0b";
-    let long = "hexstring(option[43].hex, option[60].hex) == 'x'";
-    let rows: [(&[&str], &str, &str); 16] = [
-        (&["show", joined.as_str()], SHOWN, ""),
-        (
-            &["expr", "not option[host-name].exists and 'a' + 'b' == 0x1"],
-            "bool 8\n",
-            "",
-        ),
-        (&["expr", "concat('a','b')"], "", "fault 26 WantsBool 0\n"),
-        (
-            &["expr", "concat('a','b') == $"],
-            "",
-            "fault 20 BadToken 19\n",
-        ),
-        (
-            &["compile", "option[60].hex == 'a'"],
-            "4b34544b010003021000000003033c0100016109\n",
-            "",
-        ),
-        (&["compile", "option[60].hex"], "", "fault 26 WantsBool 0\n"),
-        (&["compile", long], "", "fault 53 TooLong\n"),
-        (
-            &["verify", "4b34544b010003021000000003033c0100016109"],
-            "accepted steps 3 depth 2 length 4096 tokens 3\n",
-            "",
-        ),
-        (&["verify", short], "", "fault 40 Short 1\n"),
-        (
-            &["verify", "4b34544b010001010000000001063c00"],
-            "",
-            "fault 35 Rest 15\n",
-        ),
-        (
-            &["eval", spells, vendor.as_str()],
-            "false steps 5 depth 2 length 5\n",
-            "",
-        ),
-        (&["eval", exists, no_type.as_str()], "", "fault 6 NoType\n"),
-        (&["eval", short, no_type.as_str()], "", "fault 40 Short 1\n"),
-        (
-            &[
-                "eval",
-                "--text",
-                "hexstring(option[60].hex,':') == '6b:64'",
-                vendor.as_str(),
-            ],
-            "true steps 5 depth 2 length 5\n",
-            "",
-        ),
-        (
-            &["eval", "--text", "'a' == 'a'", no_type.as_str()],
-            "",
-            "fault 6 NoType\n",
-        ),
-        (
-            &["eval", "--text", "option[60].hex", no_type.as_str()],
-            "",
-            "fault 26 WantsBool 0\n",
-        ),
-    ];
-    for (words, out, fault) in rows {
-        if let Ok(first) = printed(rt.alloc(), words) {
-            assert!(rt; prints(&first, out, fault), "{words:?}");
-        }
-        let again = printed(rt.alloc(), words)?;
-        assert!(rt; prints(&again, out, fault), "{words:?}");
+    for (words, out, fault) in PRINTED {
+        assert!(rt; prints_again(rt.alloc(), words, out, fault)?, "{words:?}");
+    }
+    let joined = b"\x35\x01\x01\x3c\x02kd\x3c\x01a";
+    assert!(rt; prints_with(rt.alloc(), &["show"], joined, SHOWN, "")?);
+    for (words, out) in RUN {
+        assert!(rt;
+            prints_with(rt.alloc(), words, DISCOVER, out, "")?,
+            "{words:?}"
+        );
+    }
+    for (words, fault) in REFUSED {
+        assert!(rt;
+            prints_with(rt.alloc(), words, b"\x3c\x01a\xff", "", fault)?,
+            "{words:?}"
+        );
     }
     Ok(())
 }

@@ -1,9 +1,10 @@
-use kd_classes::{ClassDef, OptionData};
-use kd_config::{Config, ConfigFault, Identity, Prefix, Range, Times, TokenFile};
+use kd_classes::{ClassDef, Classes, OptionData, OptionList};
+use kd_config::{
+    Config, ConfigFault, Identity, Pool, Prefix, Range, Reservation, Subnet, Times, TokenFile,
+};
 use kd_token::Token;
 use kd_wire::Bytes;
 use std::alloc::{AllocError, Global};
-use std::process::Abort;
 use std::test::Fail;
 
 // A program of one token: option 61 is present.
@@ -22,9 +23,8 @@ const BUILT_IN: &[u8] = br#"{"Dhcp4":{"server-address":"192.0.2.1","valid-lifeti
 "offer-hold":60,"decline-hold":600,"subnet4":[{"subnet":"192.0.2.0/24",
 "pools":[{"pool":"192.0.2.10 - 192.0.2.11"}]}]}}"#;
 
-// A configuration has the settings of the built-in one.
-fn is_built_in(rt: &impl Abort, config: &Config) {
-    assert_eq!(rt; config.server(), 0xc000_0201);
+// Whether a configuration has the settings of the built-in one.
+fn is_built_in(config: &Config) -> bool {
     let times = Times {
         lifetime: 3600,
         renew: 1800,
@@ -32,42 +32,66 @@ fn is_built_in(rt: &impl Abort, config: &Config) {
         offer_hold: 60,
         decline_hold: 600,
     };
-    assert!(rt; config.times() == times);
-    assert!(rt; config.options().is_empty());
-    assert_eq!(rt; config.classes().len(), 0);
-    let subnets = config.subnets();
-    assert_eq!(rt; subnets.len(), 1);
+    config.server() == 0xc000_0201
+        && config.times() == times
+        && config.options().is_empty()
+        && config.classes().len() == 0
+        && matches!(config.subnets(), [subnet] if is_built_in_subnet(subnet))
+}
+
+// Whether a subnet is that of the built-in configuration.
+fn is_built_in_subnet(subnet: &Subnet) -> bool {
     let prefix = Prefix {
         address: 0xc000_0200,
         length: 24,
     };
-    assert!(rt; subnets[0].prefix == prefix);
-    assert!(rt; subnets[0].class.is_none());
-    assert!(rt; subnets[0].reservations.as_slice().is_empty());
-    assert!(rt; subnets[0].options.as_slice().is_empty());
-    let pools = subnets[0].pools.as_slice();
-    assert_eq!(rt; pools.len(), 1);
+    subnet.prefix == prefix
+        && subnet.class.is_none()
+        && subnet.reservations.as_slice().is_empty()
+        && subnet.options.as_slice().is_empty()
+        && matches!(subnet.pools.as_slice(), [pool] if is_built_in_pool(pool))
+}
+
+// Whether a pool is that of the built-in configuration.
+fn is_built_in_pool(pool: &Pool) -> bool {
     let range = Range {
         first: 0xc000_020a,
         last: 0xc000_020b,
     };
-    assert!(rt; pools[0].range == range);
-    assert!(rt; pools[0].options.as_slice().is_empty());
+    pool.range == range && pool.options.as_slice().is_empty()
 }
 
 #[test]
 fn the_built_in_text_has_the_settings_of_the_built_in_configuration(
     rt: HostRuntime,
 ) -> Result<(), Fail> {
-    is_built_in(&rt, &Config::read(rt.alloc(), BUILT_IN, &[])?);
-    is_built_in(&rt, &Config::builtin(rt.alloc())?);
+    assert!(rt; is_built_in(&Config::read(rt.alloc(), BUILT_IN, &[])?));
+    assert!(rt; is_built_in(&Config::builtin(rt.alloc())?));
     Ok(())
 }
 
+// The times of a configuration of a server's address and these further keys.
+fn times_of(alloc: Global, more: &str) -> Result<Times, Fail> {
+    let text = format!(in alloc; "{{\"Dhcp4\":{{\"server-address\":\"192.0.2.1\"{more}}}}}")?;
+    Ok(Config::read(alloc, text.as_bytes(), &[])?.times())
+}
+
+// The same with this lifetime.
+fn times_for(alloc: Global, lifetime: u32) -> Result<Times, Fail> {
+    let more = format!(in alloc; ",\"valid-lifetime\":{lifetime}")?;
+    times_of(alloc, more.as_str())
+}
+
+// A lifetime, and half and 7/8 of it, rounded down.
+const TIMES: [(u32, u32, u32); 4] = [
+    (1, 0, 0),
+    (9, 4, 7),
+    (15, 7, 13),
+    (2_147_483_647, 1_073_741_823, 1_879_048_191),
+];
+
 #[test]
 fn times_have_their_defaults(rt: HostRuntime) -> Result<(), Fail> {
-    let text = br#"{"Dhcp4":{"server-address":"192.0.2.1"}}"#;
-    let config = Config::read(rt.alloc(), text, &[])?;
     let times = Times {
         lifetime: 7200,
         renew: 3600,
@@ -75,26 +99,23 @@ fn times_have_their_defaults(rt: HostRuntime) -> Result<(), Fail> {
         offer_hold: 60,
         decline_hold: 86_400,
     };
-    assert!(rt; config.times() == times);
-    assert!(rt; config.options().is_empty());
-    assert_eq!(rt; config.classes().len(), 0);
-    assert!(rt; config.subnets().is_empty());
-    // half and 7/8 of a lifetime, rounded down
-    for (lifetime, renew, rebind) in [
-        (1, 0, 0),
-        (9, 4, 7),
-        (15, 7, 13),
-        (2_147_483_647, 1_073_741_823, 1_879_048_191),
-    ] {
-        let text = format!(in rt.alloc();
-            "{{\"Dhcp4\":{{\"server-address\":\"192.0.2.1\",\"valid-lifetime\":{lifetime}}}}}"
-        )?;
-        let times = Config::read(rt.alloc(), text.as_bytes(), &[])?.times();
-        assert_eq!(rt;
-            (times.lifetime, times.renew, times.rebind),
-            (lifetime, renew, rebind)
-        );
+    assert!(rt; times_of(rt.alloc(), "")? == times);
+    for (lifetime, renew, rebind) in TIMES {
+        let found = times_for(rt.alloc(), lifetime)?;
+        assert!(rt; (found.lifetime, found.renew, found.rebind) == (lifetime, renew, rebind));
     }
+    Ok(())
+}
+
+// Whether a configuration has no lists.
+fn has_no_lists(config: &Config) -> bool {
+    config.options().is_empty() && config.classes().len() == 0 && config.subnets().is_empty()
+}
+
+#[test]
+fn lists_may_be_left_out(rt: HostRuntime) -> Result<(), Fail> {
+    let text = br#"{"Dhcp4":{"server-address":"192.0.2.1"}}"#;
+    assert!(rt; has_no_lists(&Config::read(rt.alloc(), text, &[])?));
     Ok(())
 }
 
@@ -131,10 +152,39 @@ fn first_token(class: &ClassDef) -> Option<&Token> {
     }
 }
 
+// Whether an option list has one option, of this code and value.
+fn is_one(options: &OptionList, code: u8, value: &[u8]) -> bool {
+    one(options.as_slice()) == Some((code, value))
+}
+
+// Whether a class stands at an index, with this name and so many options.
+fn is_class(classes: &Classes, index: usize, name: &[u8], options: usize) -> bool {
+    match classes.def_at(index) {
+        Some(class) => class.name.as_slice() == name && class.options.as_slice().len() == options,
+        None => false,
+    }
+}
+
+// Whether there are three classes: by a text, by a token file, and without a test.
+fn are_three(classes: &Classes) -> bool {
+    classes.len() == 3
+        && is_class(classes, 0, b"A", 0)
+        && is_class(classes, 1, b"B", 1)
+        && is_class(classes, 2, b"C", 0)
+        && matches!(
+            classes.def_at(0).and_then(first_token),
+            Some(Token::PushBytes(_))
+        )
+        && matches!(
+            classes.def_at(1).and_then(first_token),
+            Some(Token::OptionExists(61))
+        )
+        && classes.def_at(2).and_then(first_token).is_none()
+}
+
 #[test]
 fn each_key_has_its_setting(rt: HostRuntime) -> Result<(), Fail> {
     let config = full(rt.alloc())?;
-    assert_eq!(rt; config.server(), 0x0a00_0001);
     let times = Times {
         lifetime: 1000,
         renew: 100,
@@ -142,65 +192,86 @@ fn each_key_has_its_setting(rt: HostRuntime) -> Result<(), Fail> {
         offer_hold: 5,
         decline_hold: 7,
     };
-    assert!(rt; config.times() == times);
-    assert_eq!(rt;
-        one(config.options()),
-        Some((6, b"\x0a\x00\x00\x01".as_slice()))
-    );
-    let classes = config.classes();
-    assert_eq!(rt; classes.len(), 3);
-    for (index, name, count) in [(0, b"A", 0), (1, b"B", 1), (2, b"C", 0)] {
-        let class = classes.def_at(index).ok_or("no class")?;
-        assert_eq!(rt; class.name.as_slice(), name.as_slice());
-        assert_eq!(rt; class.options.as_slice().len(), count);
-    }
-    let written = classes.def_at(0).and_then(first_token);
-    assert!(rt; matches!(written, Some(Token::PushBytes(_))));
-    let loaded = classes.def_at(1).and_then(first_token);
-    assert!(rt; matches!(loaded, Some(Token::OptionExists(61))));
-    assert!(rt; classes.def_at(2).and_then(first_token).is_none());
+    assert!(rt; config.server() == 0x0a00_0001 && config.times() == times);
+    assert!(rt; one(config.options()) == Some((6, b"\x0a\x00\x00\x01".as_slice())));
+    assert!(rt; are_three(config.classes()));
     Ok(())
 }
 
-#[test]
-fn a_subnet_has_all_its_lists(rt: HostRuntime) -> Result<(), Fail> {
-    let config = full(rt.alloc())?;
-    let subnets = config.subnets();
-    assert_eq!(rt; subnets.len(), 2);
-    let prefix = Prefix {
-        address: 0x0a00_0000,
-        length: 8,
-    };
-    assert!(rt; subnets[0].prefix == prefix);
-    let class = subnets[0].class.as_ref().map(|class| class.as_slice());
-    assert_eq!(rt; class, Some(b"A".as_slice()));
-    let pools = subnets[0].pools.as_slice();
-    assert_eq!(rt; pools.len(), 1);
+// Whether a pool is 10.1.0.0/16 with its router.
+fn is_pool(pool: &Pool) -> bool {
     let range = Range {
         first: 0x0a01_0000,
         last: 0x0a01_ffff,
     };
-    assert!(rt; pools[0].range == range);
-    let options = one(pools[0].options.as_slice());
-    assert_eq!(rt; options, Some((3, b"\x0a\x00\x00\x01".as_slice())));
-    let reservations = subnets[0].reservations.as_slice();
-    assert_eq!(rt; reservations.len(), 2);
-    assert_eq!(rt; reservations[0].address, 0x0a02_0001);
-    assert!(rt;
-        matches!(&reservations[0].identity, Identity::Hardware(mac) if mac.as_slice() == b"\x0a\x00\x00\x00\x00\x02".as_slice())
-    );
-    assert_eq!(rt; reservations[1].address, 0x0a02_0002);
-    assert!(rt;
-        matches!(&reservations[1].identity, Identity::ClientId(id) if id.as_slice() == b"\x01".as_slice())
-    );
-    let options = one(subnets[0].options.as_slice());
-    assert_eq!(rt; options, Some((42, b"\x0a\x00\x00\x02".as_slice())));
-    let everything = Prefix {
+    pool.range == range && is_one(&pool.options, 3, b"\x0a\x00\x00\x01")
+}
+
+// Whether reservations are one by hardware address and one by client identifier.
+fn are_reservations(reservations: &[Reservation]) -> bool {
+    match reservations {
+        [first, second] => {
+            (first.address, second.address) == (0x0a02_0001, 0x0a02_0002)
+                && is_hardware(&first.identity)
+                && is_client(&second.identity)
+        }
+        _ => false,
+    }
+}
+
+// Whether an identity is the hardware address 0a0000000002.
+fn is_hardware(identity: &Identity) -> bool {
+    match identity {
+        Identity::Hardware(mac) => mac.as_slice() == b"\x0a\x00\x00\x00\x00\x02".as_slice(),
+        Identity::ClientId(_) => false,
+    }
+}
+
+// Whether an identity is the client identifier 01.
+fn is_client(identity: &Identity) -> bool {
+    match identity {
+        Identity::ClientId(id) => id.as_slice() == b"\x01".as_slice(),
+        Identity::Hardware(_) => false,
+    }
+}
+
+// Whether a subnet is 10.0.0.0/8 of class A with its option.
+fn is_first(subnet: &Subnet) -> bool {
+    let prefix = Prefix {
+        address: 0x0a00_0000,
+        length: 8,
+    };
+    let class = subnet.class.as_ref().map(|class| class.as_slice());
+    subnet.prefix == prefix
+        && class == Some(b"A".as_slice())
+        && is_one(&subnet.options, 42, b"\x0a\x00\x00\x02")
+}
+
+// Whether a subnet is 0.0.0.0/0 of no class.
+fn is_everything(subnet: &Subnet) -> bool {
+    let prefix = Prefix {
         address: 0,
         length: 0,
     };
-    assert!(rt; subnets[1].prefix == everything);
-    assert!(rt; subnets[1].class.is_none());
+    subnet.prefix == prefix && subnet.class.is_none()
+}
+
+// Whether subnets are those two, the first with one pool and two reservations.
+fn are_both(subnets: &[Subnet]) -> bool {
+    match subnets {
+        [first, second] => {
+            is_first(first)
+                && is_everything(second)
+                && matches!(first.pools.as_slice(), [pool] if is_pool(pool))
+                && are_reservations(first.reservations.as_slice())
+        }
+        _ => false,
+    }
+}
+
+#[test]
+fn a_subnet_has_all_its_lists(rt: HostRuntime) -> Result<(), Fail> {
+    assert!(rt; are_both(full(rt.alloc())?.subnets()));
     Ok(())
 }
 
@@ -208,7 +279,7 @@ fn a_subnet_has_all_its_lists(rt: HostRuntime) -> Result<(), Fail> {
 fn prefixes_and_pools_know_their_addresses(rt: HostRuntime) {
     for (length, size) in [(0, 4_294_967_296), (1, 2_147_483_648), (24, 256), (32, 1)] {
         let prefix = Prefix { address: 0, length };
-        assert_eq!(rt; prefix.size(), size, "{length}");
+        assert!(rt; prefix.size() == size);
     }
     let prefix = Prefix {
         address: 0xc000_0200,
@@ -224,8 +295,7 @@ fn prefixes_and_pools_know_their_addresses(rt: HostRuntime) {
         (0xc000_02ff, true),
         (0xc000_0300, false),
     ] {
-        assert_eq!(rt; prefix.contains(address), want, "{address}");
-        assert_eq!(rt; range.contains(address), want, "{address}");
+        assert!(rt; prefix.contains(address) == want && range.contains(address) == want);
     }
 }
 
@@ -241,31 +311,37 @@ fn answer(alloc: Global, text: &[u8], files: &[TokenFile]) -> Result<String, All
 const BY_FILE: &[u8] =
     br#"{"Dhcp4":{"server-address":"192.0.2.1","client-classes":[{"name":"B","tokens":"t"}]}}"#;
 
+// Names and bytes of three token files, and what is answered with them.
+const FILES: [([(&[u8], &[u8]); 3], &str); 4] = [
+    ([(b"s", b""), (b"t", HAS_CLIENT), (b"t", b"")], "accepted"),
+    (
+        [(b"s", b""), (b"t", b"K4TX"), (b"t", HAS_CLIENT)],
+        "78 Tokens 0 Magic",
+    ),
+    (
+        [(b"", HAS_CLIENT), (b"T", HAS_CLIENT), (b"tt", HAS_CLIENT)],
+        "78 Tokens 0 Absent",
+    ),
+    // a file that no class names is not read
+    (
+        [(b"t", HAS_CLIENT), (b"u", b""), (b"v", b"K4TX")],
+        "accepted",
+    ),
+];
+
+// What is answered with these token files.
+fn answer_with(alloc: Global, rows: &[(&[u8], &[u8])]) -> Result<String, AllocError> {
+    let mut files = Vec::new(alloc);
+    for (name, bytes) in rows {
+        files.push(file(alloc, name, bytes)?)?;
+    }
+    answer(alloc, BY_FILE, &files)
+}
+
 #[test]
 fn of_files_with_equal_names_the_first_counts(rt: HostRuntime) -> Result<(), Fail> {
-    let table: [([(&[u8], &[u8]); 3], &str); 4] = [
-        ([(b"s", b""), (b"t", HAS_CLIENT), (b"t", b"")], "accepted"),
-        (
-            [(b"s", b""), (b"t", b"K4TX"), (b"t", HAS_CLIENT)],
-            "78 Tokens 0 Magic",
-        ),
-        (
-            [(b"", HAS_CLIENT), (b"T", HAS_CLIENT), (b"tt", HAS_CLIENT)],
-            "78 Tokens 0 Absent",
-        ),
-        // a file that no class names is not read
-        (
-            [(b"t", HAS_CLIENT), (b"u", b""), (b"v", b"K4TX")],
-            "accepted",
-        ),
-    ];
-    for (rows, want) in table {
-        let mut files = Vec::new(rt.alloc());
-        for (name, bytes) in rows {
-            files.push(file(rt.alloc(), name, bytes)?)?;
-        }
-        let found = answer(rt.alloc(), BY_FILE, &files)?;
-        assert_eq!(rt; found.as_str(), want);
+    for (rows, want) in FILES {
+        assert!(rt; answer_with(rt.alloc(), &rows)?.as_str() == want, "{want}");
     }
     Ok(())
 }
@@ -317,9 +393,9 @@ fn want_of_memory_is_answered_as_such(rt: HostRuntime) -> Result<(), Fail> {
     for (text, want) in ROWS {
         let first = number_of(rt.alloc(), text, &files);
         assert!(rt; first == want || first == Some(91));
-        assert_eq!(rt; number_of(rt.alloc(), text, &files), want);
+        assert!(rt; number_of(rt.alloc(), text, &files) == want);
     }
     let text = format!(in rt.alloc(); "{}", ConfigFault::Memory)?;
-    assert_eq!(rt; text.as_str(), "Memory");
+    assert!(rt; text.as_str() == "Memory");
     Ok(())
 }

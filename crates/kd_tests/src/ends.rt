@@ -1,4 +1,6 @@
+use kd_config::TokenFile;
 use kd_ends::{InputFault, MOST_BYTES, read_file, token_files};
+use std::alloc::Global;
 use std::os::unix::fs::symlink;
 use std::test::Fail;
 use std::{env, fs, process};
@@ -22,112 +24,155 @@ fn within(rt: &HostRuntime, folder: &str, name: &str) -> Result<String, Fail> {
     Ok(format!(in rt.alloc(); "{folder}/{name}")?)
 }
 
+// Lengths of files, limits, and whether the file is read.
+const LIMITS: [(usize, u64, bool); 7] = [
+    (0, 0, true),
+    (1, 0, false),
+    (5, 5, true),
+    (6, 5, false),
+    (7, 5, false),
+    (100_000, 100_000, true),
+    (100_001, 100_000, false),
+];
+
+// Whether a file of so many bytes is read, whole; it may not be where it is longer than the limit.
+fn is_read(rt: &HostRuntime, path: &str, length: usize, most: u64) -> Result<bool, Fail> {
+    let mut bytes: Vec<u8> = Vec::new(rt.alloc());
+    bytes.resize(length, 7)?;
+    fs::write(rt, path, bytes.as_slice())?;
+    match read_file(rt, path, most) {
+        Ok(read) => Ok(read == bytes),
+        Err(InputFault::Read) => Ok(false),
+        Err(InputFault::Memory) => Err("Memory".into()),
+    }
+}
+
 #[test]
 fn a_file_has_at_most_its_bytes(rt: HostRuntime) -> Result<(), Fail> {
     let folder = folder(&rt, "file")?;
     let path = within(&rt, folder.as_str(), "a")?;
-    for (length, most, fits) in [
-        (0, 0, true),
-        (1, 0, false),
-        (5, 5, true),
-        (6, 5, false),
-        (7, 5, false),
-        (100_000, 100_000, true),
-        (100_001, 100_000, false),
-    ] {
-        let mut bytes: Vec<u8> = Vec::new(rt.alloc());
-        bytes.resize(length, 7)?;
-        fs::write(&rt, path.as_str(), bytes.as_slice())?;
-        match read_file(&rt, path.as_str(), most) {
-            Ok(read) => assert!(rt; fits && read == bytes, "{length} of {most}"),
-            Err(fault) => assert!(rt; !fits && fault == InputFault::Read, "{length} of {most}"),
-        }
+    for (length, most, fits) in LIMITS {
+        assert!(rt;
+            is_read(&rt, path.as_str(), length, most)? == fits,
+            "{length} of {most}"
+        );
     }
     fs::remove_dir_all(&rt, folder.as_str())?;
     Ok(())
+}
+
+// Whether a path is that of no file.
+fn is_unread(rt: &HostRuntime, path: &str) -> bool {
+    read_file(rt, path, MOST_BYTES).err() == Some(InputFault::Read)
 }
 
 #[test]
 fn what_is_no_file_is_not_read(rt: HostRuntime) -> Result<(), Fail> {
     let folder = folder(&rt, "none")?;
     let missing = within(&rt, folder.as_str(), "missing")?;
-    for path in [folder.as_str(), missing.as_str(), ""] {
-        let found = read_file(&rt, path, MOST_BYTES).err();
-        assert!(rt; found == Some(InputFault::Read), "{path}");
-    }
-    let found = token_files(&rt, missing.as_str()).err();
-    assert!(rt; found == Some(InputFault::Read));
+    assert!(rt; is_unread(&rt, folder.as_str()));
+    assert!(rt; is_unread(&rt, missing.as_str()));
+    assert!(rt; is_unread(&rt, ""));
+    assert!(rt; token_files(&rt, missing.as_str()).err() == Some(InputFault::Read));
     fs::remove_dir_all(&rt, folder.as_str())?;
-    assert_eq!(rt; InputFault::Memory.number(), 91);
-    let text = format!(in rt.alloc(); "{}", InputFault::Memory)?;
-    assert_eq!(rt; text.as_str(), "Memory");
     Ok(())
+}
+
+#[test]
+fn want_of_memory_is_fault_91(rt: HostRuntime) -> Result<(), Fail> {
+    assert!(rt; InputFault::Memory.number() == 91);
+    let text = format!(in rt.alloc(); "{}", InputFault::Memory)?;
+    assert!(rt; text.as_str() == "Memory");
+    Ok(())
+}
+
+// A token file as `name=bytes;`.
+fn row(alloc: Global, file: &TokenFile) -> Result<String, Fail> {
+    let name = str::from_utf8(file.name.as_slice())?;
+    let bytes = str::from_utf8(file.bytes.as_slice())?;
+    Ok(format!(in alloc; "{name}={bytes};")?)
 }
 
 // The names and the bytes of a folder's token files, as a text of rows in rising order.
 fn listed(rt: &HostRuntime, folder: &str) -> Result<String, Fail> {
     let mut rows = Vec::new(rt.alloc());
     for file in token_files(rt, folder)? {
-        let name = str::from_utf8(file.name.as_slice())?;
-        let bytes = str::from_utf8(file.bytes.as_slice())?;
-        rows.push(format!(in rt.alloc(); "{name}={bytes};")?)?;
+        rows.push(row(rt.alloc(), &file)?)?;
     }
     rows.sort()?;
-    let mut text = String::new(rt.alloc());
-    for row in rows {
-        text.push_str(row.as_str())?;
+    Ok(rows.join(rt.alloc(), "")?)
+}
+
+// The names of files, and their texts.
+const NAMED: [(&str, &str); 8] = [
+    ("b.k4tk", "two"),
+    ("a.k4tk", "one"),
+    ("empty.k4tk", ""),
+    (".k4tk", "hidden"),
+    ("a.K4TK", "capital"),
+    ("k4tk", "no dot"),
+    ("a.k4tk.old", "old"),
+    ("plain", "other"),
+];
+
+// What links lead to, and their names.
+const LINKS: [(&str, &str); 3] = [
+    ("plain", "link.k4tk"),
+    ("folder.k4tk", "to-folder.k4tk"),
+    ("nothing", "to-nothing.k4tk"),
+];
+
+// A file of a name in a folder.
+fn put_file(rt: &HostRuntime, folder: &str, name: &str, text: &str) -> Result<(), Fail> {
+    let path = within(rt, folder, name)?;
+    Ok(fs::write(rt, path.as_str(), text.as_bytes())?)
+}
+
+// A link of a name in a folder.
+fn put_link(rt: &HostRuntime, folder: &str, target: &str, name: &str) -> Result<(), Fail> {
+    let path = within(rt, folder, name)?;
+    Ok(symlink(rt, target, path.as_str())?)
+}
+
+// Those files and links, and a folder whose name is that of a token file.
+fn fill(rt: &HostRuntime, folder: &str) -> Result<(), Fail> {
+    for (name, text) in NAMED {
+        put_file(rt, folder, name, text)?;
     }
-    Ok(text)
+    fs::create_dir(rt, within(rt, folder, "folder.k4tk")?.as_str())?;
+    for (target, name) in LINKS {
+        put_link(rt, folder, target, name)?;
+    }
+    Ok(())
 }
 
 #[test]
 fn token_files_are_those_of_the_name(rt: HostRuntime) -> Result<(), Fail> {
     let folder = folder(&rt, "tokens")?;
-    assert_eq!(rt; listed(&rt, folder.as_str())?.as_str(), "");
-    for (name, text) in [
-        ("b.k4tk", "two"),
-        ("a.k4tk", "one"),
-        ("empty.k4tk", ""),
-        (".k4tk", "hidden"),
-        ("a.K4TK", "capital"),
-        ("k4tk", "no dot"),
-        ("a.k4tk.old", "old"),
-        ("plain", "other"),
-    ] {
-        fs::write(
-            &rt,
-            within(&rt, folder.as_str(), name)?.as_str(),
-            text.as_bytes(),
-        )?;
-    }
-    fs::create_dir(&rt, within(&rt, folder.as_str(), "folder.k4tk")?.as_str())?;
-    for (target, link) in [
-        ("plain", "link.k4tk"),
-        ("folder.k4tk", "to-folder.k4tk"),
-        ("nothing", "to-nothing.k4tk"),
-    ] {
-        symlink(&rt, target, within(&rt, folder.as_str(), link)?.as_str())?;
-    }
-    assert_eq!(rt;
-        listed(&rt, folder.as_str())?.as_str(),
-        ".k4tk=hidden;a.k4tk=one;b.k4tk=two;empty.k4tk=;link.k4tk=other;"
-    );
+    assert!(rt; listed(&rt, folder.as_str())?.is_empty());
+    fill(&rt, folder.as_str())?;
+    let want = ".k4tk=hidden;a.k4tk=one;b.k4tk=two;empty.k4tk=;link.k4tk=other;";
+    assert!(rt; listed(&rt, folder.as_str())?.as_str() == want);
     fs::remove_dir_all(&rt, folder.as_str())?;
     Ok(())
+}
+
+// How many token files a folder has where there is one of so many bytes, or none where one is too long.
+fn files_of(rt: &HostRuntime, folder: &str, length: u64) -> Result<Option<usize>, Fail> {
+    let path = within(rt, folder, "large.k4tk")?;
+    fs::create(rt, path.as_str())?.set_len(length)?;
+    match token_files(rt, folder) {
+        Ok(files) => Ok(Some(files.len())),
+        Err(InputFault::Read) => Ok(None),
+        Err(InputFault::Memory) => Err("Memory".into()),
+    }
 }
 
 #[test]
 fn a_token_file_over_the_limit_is_a_fault(rt: HostRuntime) -> Result<(), Fail> {
     let folder = folder(&rt, "large")?;
-    let path = within(&rt, folder.as_str(), "large.k4tk")?;
-    for (length, fits) in [(MOST_BYTES, true), (MOST_BYTES + 1, false)] {
-        let file = fs::create(&rt, path.as_str())?;
-        file.set_len(length)?;
-        match token_files(&rt, folder.as_str()) {
-            Ok(files) => assert!(rt; fits && files.len() == 1, "{length}"),
-            Err(fault) => assert!(rt; !fits && fault == InputFault::Read, "{length}"),
-        }
-    }
+    assert!(rt; files_of(&rt, folder.as_str(), MOST_BYTES)? == Some(1));
+    assert!(rt; files_of(&rt, folder.as_str(), MOST_BYTES + 1)?.is_none());
     fs::remove_dir_all(&rt, folder.as_str())?;
     Ok(())
 }

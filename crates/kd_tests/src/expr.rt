@@ -334,14 +334,35 @@ const RESPELLED: [(&[u8], &[u8]); 14] = [
     ),
 ];
 
+// Whether the nodes of a text's tree have these places.
+fn has_places(alloc: Global, text: &[u8], places: &[usize]) -> Result<bool, Fail> {
+    let typed = test_of(alloc, text)?;
+    Ok(places_of(alloc, typed.tree())?.as_slice() == places)
+}
+
+// What the printer writes of a text's tree, and how many nodes that has.
+fn printed(alloc: Global, text: &[u8]) -> Result<(Vec<u8>, u32), Fail> {
+    let typed = test_of(alloc, text)?;
+    Ok((text_of(alloc, typed.tree())?, typed.nodes()))
+}
+
+// Whether the printer writes this of a text's tree.
+fn is_printed(alloc: Global, text: &[u8], want: &[u8]) -> Result<bool, Fail> {
+    Ok(printed(alloc, text)?.0.as_slice() == want)
+}
+
+// Whether a text's tree has so many nodes, and what is printed of it a tree of as many, which is printed alike.
+fn reads_again(alloc: Global, text: &[u8], nodes: u32) -> Result<bool, Fail> {
+    let (once, first) = printed(alloc, text)?;
+    let (twice, second) = printed(alloc, &once)?;
+    Ok(first == nodes && second == nodes && twice.as_slice() == once.as_slice())
+}
+
 #[test]
 fn trees_have_their_places(rt: HostRuntime) -> Result<(), Fail> {
     for (text, places) in TREES {
-        let typed = test_of(rt.alloc(), text)?;
-        let found = places_of(rt.alloc(), typed.tree())?;
-        assert!(rt; found.as_slice() == places, "{text:?} {found:?}");
-        let again = text_of(rt.alloc(), typed.tree())?;
-        assert!(rt; again.as_slice() == text, "{text:?} {again:?}");
+        assert!(rt; has_places(rt.alloc(), text, places)?, "{text:?}");
+        assert!(rt; is_printed(rt.alloc(), text, text)?, "{text:?}");
     }
     Ok(())
 }
@@ -349,18 +370,10 @@ fn trees_have_their_places(rt: HostRuntime) -> Result<(), Fail> {
 #[test]
 fn other_spellings_have_the_same_tree(rt: HostRuntime) -> Result<(), Fail> {
     for (text, want) in RESPELLED {
-        let typed = test_of(rt.alloc(), text)?;
-        let found = text_of(rt.alloc(), typed.tree())?;
-        assert!(rt; found.as_slice() == want, "{text:?} {found:?}");
+        assert!(rt; is_printed(rt.alloc(), text, want)?, "{text:?}");
     }
     for (text, nodes) in TESTS {
-        let typed = test_of(rt.alloc(), text)?;
-        assert!(rt; typed.nodes() == nodes, "{text:?}");
-        let printed = text_of(rt.alloc(), typed.tree())?;
-        let again = test_of(rt.alloc(), &printed)?;
-        assert!(rt; again.nodes() == nodes, "{text:?}");
-        let twice = text_of(rt.alloc(), again.tree())?;
-        assert!(rt; twice.as_slice() == printed.as_slice(), "{text:?}");
+        assert!(rt; reads_again(rt.alloc(), text, nodes)?, "{text:?}");
     }
     Ok(())
 }

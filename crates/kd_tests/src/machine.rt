@@ -1,27 +1,48 @@
 use crate::support::{DISCOVER, Fault, datagram, is, program_in, token_file};
 use kd_machine::{Held, Outcome, eval};
 use kd_options::Message;
-use std::alloc::Global;
+use std::alloc::{AllocError, Global};
 use std::test::Fail;
 
-#[test]
-fn a_name_is_added_once_and_last(rt: HostRuntime) -> Result<(), Fail> {
-    let bytes = datagram(rt.alloc(), DISCOVER)?;
-    let message = Message::read(rt.alloc(), &bytes)?;
-    let mut held = Held::base(rt.alloc(), &message)?;
-    assert!(rt; held.contains(b"ALL"));
-    assert!(rt; !held.contains(b""));
-    let names: [&[u8]; 7] = [b"B", b"A", b"ALL", b"B", b"VENDOR_CLASS_kd", b"", b""];
-    for name in names {
+// The names that a DISCOVER of vendor class `kd` holds before any definition.
+fn base(alloc: Global) -> Result<Held, Fault> {
+    let bytes = datagram(alloc, DISCOVER)?;
+    let message = Message::read(alloc, &bytes)?;
+    Ok(Held::base(alloc, &message)?)
+}
+
+// Names that are added to them, and what they are then.
+const ADDED: [&[u8]; 7] = [b"B", b"A", b"ALL", b"B", b"VENDOR_CLASS_kd", b"", b""];
+
+const HELD: [&[u8]; 5] = [b"ALL", b"VENDOR_CLASS_kd", b"B", b"A", b""];
+
+// Whether each name is held once it is added.
+fn holds_each(held: &mut Held) -> Result<bool, AllocError> {
+    for name in ADDED {
         held.add(name)?;
-        assert!(rt; held.contains(name));
+        if !held.contains(name) {
+            return Ok(false);
+        }
     }
-    let want: [&[u8]; 5] = [b"ALL", b"VENDOR_CLASS_kd", b"B", b"A", b""];
-    for (index, name) in want.iter().enumerate() {
-        assert!(rt; is(held.name_at(index), name));
+    Ok(true)
+}
+
+// Whether these names are held, in this order, and no others.
+fn are(held: &Held, names: &[&[u8]]) -> bool {
+    for (index, name) in names.iter().enumerate() {
+        if !is(held.name_at(index), name) {
+            return false;
+        }
     }
-    assert!(rt; held.name_at(5).is_none());
-    assert!(rt; held.name_at(usize::MAX).is_none());
+    held.name_at(names.len()).is_none() && held.name_at(usize::MAX).is_none()
+}
+
+#[test]
+fn a_name_is_added_once_and_last(rt: HostRuntime) -> Result<(), Fault> {
+    let mut held = base(rt.alloc())?;
+    assert!(rt; held.contains(b"ALL") && !held.contains(b""));
+    assert!(rt; holds_each(&mut held)?);
+    assert!(rt; are(&held, &HELD));
     Ok(())
 }
 

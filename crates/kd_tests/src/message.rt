@@ -11,25 +11,40 @@ fn is_at(entry: Option<(u8, &[u8])>, code: u8, want: &[u8]) -> bool {
     }
 }
 
+// Whether a message is a DISCOVER of 258 bytes, with xid 1 and the hardware address 0a0000000001.
+fn has_header(message: &Message<'_>) -> bool {
+    message.len() == 258
+        && message.header().xid == 1
+        && message.mac() == b"\x0a\x00\x00\x00\x00\x01".as_slice()
+        && message.kind() == MessageType::Discover
+}
+
+// Whether it has three options, the second one 60.
+fn has_options(message: &Message<'_>) -> bool {
+    is_at(message.option_at(1), 60, b"kd")
+        && message.option_at(3).is_none()
+        && is(message.option(60), b"kd")
+        && message.option(61).is_none()
+}
+
+// Whether it has two sub-options.
+fn has_sub_options(message: &Message<'_>) -> bool {
+    is(message.relay(1), b"")
+        && is(message.relay(2), b"z")
+        && message.relay(3).is_none()
+        && is_at(message.relay_at(1), 2, b"z")
+        && message.relay_at(2).is_none()
+}
+
 // Option 82 has sub-options 1, empty, 2 `z`, and 2 again.
 #[test]
 fn a_message_tells_its_parts(rt: HostRuntime) -> Result<(), Fail> {
     let options = b"\x35\x01\x01\x3c\x02kd\x52\x08\x01\x00\x02\x01z\x02\x01y\xff";
     let bytes = datagram(rt.alloc(), options)?;
     let message = Message::read(rt.alloc(), &bytes)?;
-    assert!(rt; message.len() == 258);
-    assert!(rt; message.header().xid == 1);
-    assert!(rt; message.mac() == b"\x0a\x00\x00\x00\x00\x01".as_slice());
-    assert!(rt; message.kind() == MessageType::Discover);
-    assert!(rt; is_at(message.option_at(1), 60, b"kd"));
-    assert!(rt; message.option_at(3).is_none());
-    assert!(rt; is(message.option(60), b"kd"));
-    assert!(rt; message.option(61).is_none());
-    assert!(rt; is(message.relay(1), b""));
-    assert!(rt; is(message.relay(2), b"z"));
-    assert!(rt; message.relay(3).is_none());
-    assert!(rt; is_at(message.relay_at(1), 2, b"z"));
-    assert!(rt; message.relay_at(2).is_none());
+    assert!(rt; has_header(&message));
+    assert!(rt; has_options(&message));
+    assert!(rt; has_sub_options(&message));
     assert!(rt; AddressOption::RequestedAddress.code() == 50);
     Ok(())
 }

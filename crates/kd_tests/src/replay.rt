@@ -35,96 +35,135 @@ fn printed(alloc: Global, handled: Result<u64, ReplayFault>) -> Result<String, A
     }
 }
 
-// A source and a sink that fail in mid-stream: an input and its ends, the answer, and what stands written.
+// Whether a replay of an input answers this, and writes this.
+fn ends_as(
+    alloc: Global,
+    input: &str,
+    ends: Ends,
+    want: &str,
+    output: &str,
+) -> Result<bool, AllocError> {
+    let (result, sink) = replayed(alloc, input, ends)?;
+    let found = printed(alloc, result)?;
+    Ok(found.as_str() == want && sink.as_slice() == output.as_bytes())
+}
+
+// An input and its ends, the answer, and what stands written.
+const ENDED: [(&str, Ends, &str, &str); 7] = [
+    (
+        "5 \n6 00",
+        (1, false, 1000),
+        "2",
+        "5 quiet 1 Unreadable\n6 quiet 1 Unreadable\n",
+    ),
+    (
+        "5 \n6 ",
+        (1000, true, 1000),
+        "94 Read",
+        "5 quiet 1 Unreadable\n",
+    ),
+    (
+        "5 \n6 ",
+        (1, true, 1000),
+        "94 Read",
+        "5 quiet 1 Unreadable\n",
+    ),
+    ("", (1000, true, 1000), "94 Read", ""),
+    ("5 \n", (1000, false, 3), "95 Write", "5 q"),
+    ("5 \n", (1, false, 3), "95 Write", "5 q"),
+    (
+        "5 \n6 \n",
+        (1000, false, 21),
+        "95 Write",
+        "5 quiet 1 Unreadable\n",
+    ),
+];
+
+// A source and a sink that fail in mid-stream.
 #[test]
 fn a_replay_ends_as_its_ends_do(rt: HostRuntime) -> Result<(), Fail> {
-    let table: [(&str, Ends, &str, &str); 7] = [
-        (
-            "5 \n6 00",
-            (1, false, 1000),
-            "2",
-            "5 quiet 1 Unreadable\n6 quiet 1 Unreadable\n",
-        ),
-        (
-            "5 \n6 ",
-            (1000, true, 1000),
-            "94 Read",
-            "5 quiet 1 Unreadable\n",
-        ),
-        (
-            "5 \n6 ",
-            (1, true, 1000),
-            "94 Read",
-            "5 quiet 1 Unreadable\n",
-        ),
-        ("", (1000, true, 1000), "94 Read", ""),
-        ("5 \n", (1000, false, 3), "95 Write", "5 q"),
-        ("5 \n", (1, false, 3), "95 Write", "5 q"),
-        (
-            "5 \n6 \n",
-            (1000, false, 21),
-            "95 Write",
-            "5 quiet 1 Unreadable\n",
-        ),
-    ];
-    for (input, ends, want, output) in table {
-        let (result, sink) = replayed(rt.alloc(), input, ends)?;
-        let found = printed(rt.alloc(), result)?;
-        assert_eq!(rt; found.as_str(), want, "{input}");
-        assert!(rt; sink.as_slice() == output.as_bytes(), "{input}");
+    for (input, ends, want, output) in ENDED {
+        assert!(rt; ends_as(rt.alloc(), input, ends, want, output)?, "{input}");
     }
     Ok(())
 }
 
+// What a replay of an input answers whose source gives at most so many bytes a call.
+fn answers(alloc: Global, input: &str, step: usize, want: &str) -> Result<bool, AllocError> {
+    let (result, _) = replayed(alloc, input, (step, false, 1000))?;
+    Ok(printed(alloc, result)?.as_str() == want)
+}
+
+// Inputs, and what a replay of them answers.
+const CUT: [(&str, &str); 8] = [
+    ("", "0"),
+    ("\n", "97 BadLine 1"),
+    ("5 ", "1"),
+    ("5 \n", "1"),
+    ("5 \n67 89ab", "2"),
+    ("5 \n\n6 \n", "97 BadLine 2"),
+    ("5 \n6 \r\n7 \n", "97 BadLine 2"),
+    ("5 00\n6 01\n7 02\n8 03\n", "4"),
+];
+
 // Lines end at line feeds and at the end of the input, however many bytes each call gives.
 #[test]
 fn lines_are_found_in_pieces(rt: HostRuntime) -> Result<(), Fail> {
-    let table = [
-        ("", "0"),
-        ("\n", "97 BadLine 1"),
-        ("5 ", "1"),
-        ("5 \n", "1"),
-        ("5 \n67 89ab", "2"),
-        ("5 \n\n6 \n", "97 BadLine 2"),
-        ("5 \n6 \r\n7 \n", "97 BadLine 2"),
-        ("5 00\n6 01\n7 02\n8 03\n", "4"),
-    ];
-    for (input, want) in table {
+    for (input, want) in CUT {
         for step in [1, 2, 3, 1_000_000] {
-            let (result, _) = replayed(rt.alloc(), input, (step, false, 1000))?;
-            let found = printed(rt.alloc(), result)?;
-            assert_eq!(rt; found.as_str(), want, "{input} by {step}");
-        }
-    }
-    for (count, want) in [
-        (131_070, "1"),
-        (131_072, "97 BadLine 1"),
-        (200_000, "97 BadLine 1"),
-    ] {
-        let zeros = "0".repeat(rt.alloc(), count)?;
-        let input = format!(in rt.alloc(); "5 {zeros}\n")?;
-        for step in [50_000, 65_536, 1_000_000] {
-            let (result, _) = replayed(rt.alloc(), input.as_str(), (step, false, 1000))?;
-            let found = printed(rt.alloc(), result)?;
-            assert_eq!(rt; found.as_str(), want, "{count} digits by {step}");
+            assert!(rt;
+                answers(rt.alloc(), input, step, want)?,
+                "{input} by {step}"
+            );
         }
     }
     Ok(())
+}
+
+// What a replay of a line with so many digits answers.
+fn answers_long(alloc: Global, count: usize, step: usize, want: &str) -> Result<bool, AllocError> {
+    let zeros = "0".repeat(alloc, count)?;
+    let input = format!(in alloc; "5 {zeros}\n")?;
+    answers(alloc, input.as_str(), step, want)
+}
+
+// Numbers of digits of a line's datagram, and what a replay of the line answers.
+const LONG: [(usize, &str); 3] = [
+    (131_070, "1"),
+    (131_072, "97 BadLine 1"),
+    (200_000, "97 BadLine 1"),
+];
+
+// A line has at most 131,072 bytes, however many each call gives.
+#[test]
+fn a_line_may_be_long(rt: HostRuntime) -> Result<(), Fail> {
+    for (count, want) in LONG {
+        for step in [50_000, 65_536, 1_000_000] {
+            assert!(rt;
+                answers_long(rt.alloc(), count, step, want)?,
+                "{count} digits by {step}"
+            );
+        }
+    }
+    Ok(())
+}
+
+// Whether a replay answers want of memory, or its sink has failed for want of it, or it ends well.
+fn is_right(replayed: Result<(Result<u64, ReplayFault>, Keeping), AllocError>) -> bool {
+    match replayed {
+        Ok((Err(ReplayFault::Memory) | Err(ReplayFault::Write), sink)) => {
+            sink.as_slice().len() <= 42
+        }
+        Ok((result, _)) => result == Ok(2),
+        Err(AllocError) => true,
+    }
 }
 
 // With a refused request for memory a replay answers want of memory, or the sink has failed for want of it; the same
 // replay made again gives what it gives with ample memory.
 #[test]
 fn want_of_memory_is_answered_as_such(rt: HostRuntime) -> Result<(), Fail> {
-    let ends = (1000, false, 1000);
-    match replayed(rt.alloc(), "5 \n6 00\n", ends) {
-        Ok((Err(ReplayFault::Memory) | Err(ReplayFault::Write), sink)) => {
-            assert!(rt; sink.as_slice().len() <= 42)
-        }
-        Ok((result, _)) => assert!(rt; result == Ok(2)),
-        Err(AllocError) => {}
-    }
-    let (again, _) = replayed(rt.alloc(), "5 \n6 00\n", ends)?;
-    assert!(rt; again == Ok(2));
+    assert!(rt; is_right(replayed(rt.alloc(), "5 \n6 00\n", (1000, false, 1000))));
+    assert!(rt; answers(rt.alloc(), "5 \n6 00\n", 1000, "2")?);
     Ok(())
 }

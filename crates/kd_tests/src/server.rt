@@ -1,6 +1,6 @@
 use crate::support::COOKIE;
 use kd_config::Config;
-use kd_replay::{Event, Mode, Reason, Response, ServeFault};
+use kd_replay::{Destination, Event, Mode, Reason, Response, ServeFault};
 use kd_server::{Ports, Server};
 use kd_wire::Bytes;
 use std::alloc::{AllocError, Global};
@@ -28,27 +28,44 @@ fn inform(alloc: Global, relay: &[u8; 4]) -> Result<Vec<u8>, AllocError> {
     Ok(bytes)
 }
 
+// Where the reply to an INFORM through a relay goes, with the moment at which it was handled.
+fn sent(alloc: Global, server: &mut Server, relay: &[u8; 4]) -> Result<(u64, Destination), Fail> {
+    let bytes = inform(alloc, relay)?;
+    let handled = server.handle(1000, bytes.as_slice())?;
+    match handled.response {
+        Response::Reply(destination, _) => Ok((handled.now, destination)),
+        Response::Quiet(_) => Err("no reply".into()),
+    }
+}
+
+// Relays, and where replies go then.
+const WAYS: [([u8; 4], Destination); 2] = [
+    (
+        [0, 0, 0, 0],
+        Destination {
+            mode: Mode::Unicast,
+            address: 0xc000_024d,
+            port: 1068,
+        },
+    ),
+    (
+        [192, 0, 2, 254],
+        Destination {
+            mode: Mode::Relay,
+            address: 0xc000_02fe,
+            port: 1067,
+        },
+    ),
+];
+
 #[test]
 fn a_server_has_its_ports_and_gives_its_configuration_back(rt: HostRuntime) -> Result<(), Fail> {
     let mut server = server(rt.alloc())?;
-    for (relay, mode, address, port) in [
-        (&[0, 0, 0, 0], Mode::Unicast, 0xc000_024d, 1068),
-        (&[192, 0, 2, 254], Mode::Relay, 0xc000_02fe, 1067),
-    ] {
-        let bytes = inform(rt.alloc(), relay)?;
-        let handled = server.handle(1000, bytes.as_slice())?;
-        assert_eq!(rt; handled.now, 1000);
-        match handled.response {
-            Response::Reply(destination, _) => {
-                assert!(rt; destination.mode == mode);
-                assert_eq!(rt; (destination.address, destination.port), (address, port));
-            }
-            Response::Quiet(_) => panic!(rt; "no reply"),
-        }
+    for (relay, destination) in WAYS {
+        assert!(rt; sent(rt.alloc(), &mut server, &relay)? == (1000, destination));
     }
     let config = server.close();
-    assert_eq!(rt; config.server(), 0xc000_0201);
-    assert_eq!(rt; config.subnets().len(), 1);
+    assert!(rt; config.server() == 0xc000_0201 && config.subnets().len() == 1);
     Ok(())
 }
 
@@ -60,44 +77,60 @@ fn event(moment: u64, bytes: Vec<u8>) -> Event {
     }
 }
 
+// How many events were handled, and the fault; the first is a reply and the others are unreadable.
+fn run(server: &mut Server, events: &[Event]) -> (usize, Option<ServeFault>) {
+    let (list, fault) = server.run(events);
+    for (index, handled) in list.iter().enumerate() {
+        let is_as_wanted = match &handled.response {
+            Response::Reply(..) => index == 0,
+            Response::Quiet(reason) => index > 0 && *reason == Reason::Unreadable,
+        };
+        if !is_as_wanted {
+            return (usize::MAX, fault);
+        }
+    }
+    (list.len(), fault)
+}
+
+// An INFORM, and a datagram of no bytes, at these moments.
+fn events(alloc: Global, moments: &[u64]) -> Result<Vec<Event>, AllocError> {
+    let mut events = Vec::new(alloc);
+    events.push(event(1, inform(alloc, &[0; 4])?))?;
+    for moment in moments {
+        events.push(event(*moment, Vec::new(alloc)))?;
+    }
+    Ok(events)
+}
+
 // Events that are run give what they give one by one; a fault ends the list, and nothing is left out.
 #[test]
 fn a_run_ends_at_the_first_fault(rt: HostRuntime) -> Result<(), Fail> {
-    let mut events = Vec::new(rt.alloc());
-    events.push(event(1, inform(rt.alloc(), &[0; 4])?))?;
-    events.push(event(2, Vec::new(rt.alloc())))?;
     let mut server = server(rt.alloc())?;
-    let (list, fault) = server.run(&events);
-    assert_eq!(rt; list.len(), 2);
-    assert!(rt; fault.is_none());
-    assert!(rt; matches!(list[0].response, Response::Reply(..)));
-    assert!(rt; matches!(list[1].response, Response::Quiet(Reason::Unreadable)));
-    events.push(event(1 << 40, Vec::new(rt.alloc())))?;
-    events.push(event(3, Vec::new(rt.alloc())))?;
-    let (list, fault) = server.run(&events);
-    assert_eq!(rt; list.len(), 2);
-    assert!(rt; fault == Some(ServeFault::MomentTooLarge));
+    assert!(rt; run(&mut server, &events(rt.alloc(), &[2])?) == (2, None));
+    let late = events(rt.alloc(), &[2, 1 << 40, 3])?;
+    assert!(rt; run(&mut server, &late) == (2, Some(ServeFault::MomentTooLarge)));
     Ok(())
+}
+
+// Whether an INFORM is answered.
+fn is_answered(alloc: Global, server: &mut Server) -> Result<bool, Fail> {
+    let bytes = inform(alloc, &[0; 4])?;
+    match server.handle(5, bytes.as_slice()) {
+        Ok(handled) => Ok(matches!(handled.response, Response::Reply(..))),
+        Err(fault) => Ok(fault == ServeFault::Memory),
+    }
 }
 
 // With a refused request for memory a run and an event answer want of memory, and the same call made again gives what
 // it gives with ample memory.
 #[test]
 fn want_of_memory_is_answered_as_such(rt: HostRuntime) -> Result<(), Fail> {
-    let mut events = Vec::new(rt.alloc());
-    events.push(event(5, inform(rt.alloc(), &[0; 4])?))?;
     let mut server = server(rt.alloc())?;
-    let (list, fault) = server.run(&events);
-    assert!(rt; fault == Some(ServeFault::Memory) || fault.is_none());
-    assert_eq!(rt; list.len(), usize::from(fault.is_none()));
-    let (list, fault) = server.run(&events);
-    assert_eq!(rt; list.len(), 1);
-    assert!(rt; fault.is_none());
-    match server.handle(5, events[0].bytes.as_slice()) {
-        Err(fault) => assert!(rt; fault == ServeFault::Memory),
-        Ok(handled) => assert!(rt; matches!(handled.response, Response::Reply(..))),
-    }
-    let again = server.handle(5, events[0].bytes.as_slice())?;
-    assert!(rt; matches!(again.response, Response::Reply(..)));
+    let events = events(rt.alloc(), &[])?;
+    let first = run(&mut server, &events);
+    assert!(rt; first == (0, Some(ServeFault::Memory)) || first == (1, None));
+    assert!(rt; run(&mut server, &events) == (1, None));
+    assert!(rt; is_answered(rt.alloc(), &mut server)?);
+    assert!(rt; sent(rt.alloc(), &mut server, &[0; 4])?.0 == 1000);
     Ok(())
 }

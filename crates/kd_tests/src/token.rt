@@ -19,22 +19,36 @@ const CHOICE: &[u8] = b"K4TK\x02\x00\x06\x02\x00\x01\x00\x00\x07\
 // Its second token wants two values and finds one.
 const REFUSED: &[u8] = b"K4TK\x01\x00\x02\x01\x00\x00\x00\x00\x02\x06\x3c\x0b";
 
+// Whether a program declares all that one may, and has the one name `kd`.
+fn declares_all(program: &Program) -> bool {
+    program.version() == Version::Two
+        && (program.steps(), program.depth(), program.length()) == (1024, 64, 65535)
+        && matches!(program.name_at(0), Some(b"kd"))
+        && program.name_at(1).is_none()
+}
+
+// Whether tokens have these at their places.
+fn are_each(tokens: &[Token]) -> bool {
+    tokens.len() == 26
+        && matches!(tokens[1], Token::PushInt(0xffff_ffff))
+        && matches!(tokens[4], Token::PushField(Field::Length))
+        && matches!(tokens[13], Token::Substring(-5, Some(4)))
+        && matches!(tokens[14], Token::Substring(i32::MIN, None))
+        && matches!(tokens[21], Token::Branch(4))
+}
+
+// Whether a file's program is written as that file.
+fn is_written_again(alloc: Global, file: &[u8]) -> Result<bool, FileFault> {
+    Ok(Program::read(alloc, file)?.write(alloc)?.as_slice() == file)
+}
+
 #[test]
 fn a_program_tells_its_parts_and_is_written_again(rt: HostRuntime) -> Result<(), Fail> {
     let program = Program::read(rt.alloc(), EACH)?;
-    assert!(rt; program.version() == Version::Two);
-    assert!(rt; (program.steps(), program.depth(), program.length()) == (1024, 64, 65535));
-    assert!(rt; matches!(program.name_at(0), Some(b"kd")));
-    assert!(rt; program.name_at(1).is_none());
-    assert!(rt; program.tokens().len() == 26);
-    assert!(rt; matches!(program.tokens()[1], Token::PushInt(0xffff_ffff)));
-    assert!(rt; matches!(program.tokens()[4], Token::PushField(Field::Length)));
-    assert!(rt; matches!(program.tokens()[13], Token::Substring(-5, Some(4))));
-    assert!(rt; matches!(program.tokens()[14], Token::Substring(i32::MIN, None)));
-    assert!(rt; matches!(program.tokens()[21], Token::Branch(4)));
+    assert!(rt; declares_all(&program));
+    assert!(rt; are_each(program.tokens()));
     for file in [EACH, SHORT, CHOICE] {
-        let program = Program::read(rt.alloc(), file)?;
-        assert!(rt; program.write(rt.alloc())?.as_slice() == file);
+        assert!(rt; is_written_again(rt.alloc(), file)?);
     }
     Ok(())
 }
