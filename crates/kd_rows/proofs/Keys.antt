@@ -1,5 +1,5 @@
 -- The order of keys, and places in the index.
-use Rattle.std.proofs.Common.{◌≡◌, ℕ, ◌+◌, ◌<◌, ◌≤◌, ◌≢◌, Bool, true, false, ◌||◌, ◌==◌, List, [], ◌∷◌, zero, suc, length, get_or, refl, sym, ap, ◌∙◌, subst, ◌⊎◌, inl, inr, ⊎_elim, arith}
+use Rattle.std.proofs.Common.{◌≡◌, ℕ, ◌+◌, ◌<◌, ◌≤◌, Bool, true, false, ◌||◌, ◌==◌, List, [], ◌∷◌, suc, length, get_or, refl, sym, ap, ◌∙◌, subst, ◌⊎◌, inl, inr, ⊎_elim, arith}
 use Rattle.std.specs.Cmp.{IsTotalOrder, nat_cmp_total}
 use Rattle.std.specs.Cmp.Lexicographic.{nat_list_cmp_total}
 use Rattle.std.specs.Ordering.{is_lt}
@@ -9,7 +9,7 @@ use Rattle.std.proofs.lemmas.Bool.{cases_eq, cases_lt, eqb-true, false≢true}
 use Rattle.std.proofs.lemmas.Cmp.{on_total, then_total, tied_itself}
 use Rattle.std.proofs.lemmas.Map.Lookups.{exact_bytes, exact_pairs, exact_unsigned}
 use Rattle.kd_rows.specs.declared.row.Row.{Row}
-use Rattle.kd_rows.specs.Index.{IsBelow, IsKeyPlace, Rises, client_at, has, key_at, key_order}
+use Rattle.kd_rows.specs.Index.{IsBelow, IsKeyPlace, Rises, client_at, lists, key_at, key_order}
 
 pub keys_total : IsTotalOrder key_order
 keys_total = then_total (on_total (λ (k : List ℕ × ℕ). k.0) nat_list_cmp_total) (on_total (λ (k : List ℕ × ℕ). k.1) nat_cmp_total)
@@ -60,31 +60,31 @@ pub read_key : (rows : List Row) (index : List ℕ) (k : List ℕ × ℕ) (middl
 read_key rows index k middle at client test is of result = result ∙ ap (λ (x : List ℕ). is_lt (key_order (x, at) k)) of ∙ ap (λ (b : ℕ). is_lt (key_order (key_at rows b) k)) is
 
 -- an address that a list has stands in it
-pub record Standing (xs : List ℕ) (a : ℕ) : Type 0 where
+pub record Stands (xs : List ℕ) (a : ℕ) : Type 0 where
   pub place : ℕ
   pub within : place < length xs
   pub here : get_or xs place 0 ≡ a
 
-pub has_place : (xs : List ℕ) (a : ℕ) → has xs a ≡ true → Standing xs a
-has_place [] a h = absurd (false≢true h)
-has_place (x ∷ xs) a h = by (x == a) refl h (has_place xs a) where
-  by : (b : Bool) → (x == a) ≡ b → (b || has xs a) ≡ true → (has xs a ≡ true → Standing xs a) → Standing (x ∷ xs) a
+pub listed_at : (xs : List ℕ) (a : ℕ) → lists xs a ≡ true → Stands xs a
+listed_at [] a h = absurd (false≢true h)
+listed_at (x ∷ xs) a h = by (x == a) refl h (listed_at xs a) where
+  by : (b : Bool) → (x == a) ≡ b → (b || lists xs a) ≡ true → (lists xs a ≡ true → Stands xs a) → Stands (x ∷ xs) a
   by true e h rest = record { place = 0; within = omega arith; here = eqb-true x a e }
   by false e h rest = let r = rest h in record { place = suc r.place; within = omega (arith, r.within); here = r.here }
 
 -- an address of the index stands at the place of its key
-pub key_here : (key : ℕ → List ℕ × ℕ) (index : List ℕ) (a place : ℕ) → Rises key index → IsKeyPlace key index (key a) place → has index a ≡ true → (place < length index) × (get_or index place 0 ≡ a)
-key_here key index a place rising p h = by (has_place index a h) where
-  by : Standing index a → (place < length index) × (get_or index place 0 ≡ a)
+pub key_here : (key : ℕ → List ℕ × ℕ) (index : List ℕ) (a place : ℕ) → Rises key index → IsKeyPlace key index (key a) place → lists index a ≡ true → (place < length index) × (get_or index place 0 ≡ a)
+key_here key index a place rising p h = by (listed_at index a h) where
+  by : Stands index a → (place < length index) × (get_or index place 0 ≡ a)
   by s =
       ⊎_elim (λ before. absurd (not_below_itself (key a) (subst (λ (x : ℕ). IsBelow (key x) (key a)) s.here (p.below s.place before))))
       (λ after. ⊎_elim (λ e. let w : place < length index = omega (arith, s.within) in (w, subst (λ (j : ℕ). get_or index j 0 ≡ a) e s.here))
-        (λ n. absurd (p.above place (omega arith) (omega (arith, s.within)) (subst (λ (x : ℕ). IsBelow (key (get_or index place 0)) (key x)) s.here (rising place s.place (omega arith) s.within))))
-        (cases_eq s.place place))
+      (λ n. absurd (p.above place (omega arith) (omega (arith, s.within)) (subst (λ (x : ℕ). IsBelow (key (get_or index place 0)) (key x)) s.here (rising place s.place (omega arith) s.within))))
+      (cases_eq s.place place))
       (cases_lt s.place place)
 
 -- the same of a slice and a client that were read
-pub taken_here : (rows : List Row) (index read : List ℕ) (client : List ℕ) (a place : ℕ) → Rises (key_at rows) index → read ≡ index → client ≡ client_at rows a → IsKeyPlace (key_at rows) read (client, a) place → has index a ≡ true → (place < length index) × (get_or index place 0 ≡ a)
+pub taken_here : (rows : List Row) (index read : List ℕ) (client : List ℕ) (a place : ℕ) → Rises (key_at rows) index → read ≡ index → client ≡ client_at rows a → IsKeyPlace (key_at rows) read (client, a) place → lists index a ≡ true → (place < length index) × (get_or index place 0 ≡ a)
 taken_here rows index read client a place rising same of p h =
     key_here (key_at rows) index a place rising
     (subst (λ (c : List ℕ). IsKeyPlace (key_at rows) index (c, a) place) of (subst (λ (xs : List ℕ). IsKeyPlace (key_at rows) xs (client, a) place) same p)) h

@@ -1,5 +1,5 @@
 -- The rows are a map from addresses.
-use Rattle.std.proofs.Common.{◌≡◌, ℕ, Bool, List, [], ◌∷◌, map, refl, sym, ap, ◌∙◌, Option, Some, None, cond, arith, if◌then◌else◌, ◌==◌}
+use Rattle.std.proofs.Common.{◌≡◌, ℕ, List, [], ◌∷◌, map, refl, sym, ap, ◌∙◌, Option, Some, arith, if◌then◌else◌, ◌==◌}
 use Rattle.std.specs.Cmp.{nat_cmp_total}
 use Rattle.std.specs.FinMap.{find, get, get-from_entries, get-insert, insert, nat_cmp-IsAntisymmetric, same_map}
 use Rattle.std.specs.Ordering.{eq_by_cmp, nat_cmp}
@@ -22,4 +22,4 @@ get-map_of rows a = get-from_entries nat_cmp_total (map (λ (row : Row). (row.ad
 pub map_of-with_row : (row : Row) (rows : List Row) → map_of (with_row row rows) ≡ insert (map_of rows) row.address row
 map_of-with_row row rows = same_map nat_cmp_total nat_cmp-IsAntisymmetric (map_of (with_row row rows)) (insert (map_of rows) row.address row)
     (λ a. get-map_of (with_row row rows) a ∙ row_at-with_row row rows a
-      ∙ sym (get-insert nat_cmp_total (map_of rows) row.address row a ∙ rw (ties a row.address) (ap (λ (o : Option Row). if row.address == a then Some row else o) (get-map_of rows a))))
+    ∙ sym (get-insert nat_cmp_total (map_of rows) row.address row a ∙ rw (ties a row.address) (ap (λ (o : Option Row). if row.address == a then Some row else o) (get-map_of rows a))))

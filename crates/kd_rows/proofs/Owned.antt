@@ -1,5 +1,5 @@
 -- The addresses of a client are a run of the index.
-use Rattle.std.proofs.Common.{◌≡◌, ℕ, ◌+◌, ◌-◌, ◌<◌, ◌≤◌, ◌≢◌, Bool, true, false, ◌&&◌, ◌||◌, List, [], ◌∷◌, length, get_or, drop, map, zero, suc, refl, sym, ap, ◌∙◌, subst, Option, Some, None, is_some, ◌⊎◌, inl, inr, ⊎_elim, arith, if◌then◌else◌, ◌==◌, nat_eq, slice_get}
+use Rattle.std.proofs.Common.{◌≡◌, ℕ, ◌+◌, ◌-◌, ◌<◌, ◌≤◌, Bool, true, false, ◌&&◌, ◌||◌, List, [], ◌∷◌, length, get_or, drop, map, zero, suc, refl, sym, ap, ◌∙◌, subst, Option, Some, None, is_some, ⊎_elim, arith, if◌then◌else◌, ◌==◌, nat_eq, slice_get}
 use Rattle.std.specs.Cmp.Lexicographic.{bytes_decides, nat_list_cmp_total, pointwise, slice_cmp}
 use Rattle.std.specs.List.{filter}
 use Rattle.std.specs.Ordering.{nat_cmp, ordering_then}
@@ -11,7 +11,7 @@ use Rattle.std.proofs.lemmas.Cmp.{tied_itself}
 use Rattle.std.proofs.lemmas.List.{get_or-drop, length-drop}
 use Rattle.std.proofs.lemmas.Map.Lookups.{exact_bytes}
 use Rattle.kd_rows.specs.declared.row.Row.{Row}
-use Rattle.kd_rows.specs.Index.{IsBelow, IsIndex, IsKeyPlace, Rises, client_at, client_in, has, key_at, key_order}
+use Rattle.kd_rows.specs.Index.{IsBelow, IsIndex, IsKeyPlace, Rises, client_at, client_in, lists, key_at}
 use Rattle.kd_rows.specs.Table.{Rise, RiseFrom, addresses_of, is_of, row_at}
 use Rattle.kd_rows.proofs.Places.{none_below}
 
@@ -24,69 +24,73 @@ pub ascends_from : (n m : ℕ) (xs : List ℕ) → n ≤ m → Ascends m xs → 
 ascends_from n m [] le h = tt
 ascends_from n m (x ∷ xs) le h = let g = h.0 in (omega arith, h.1)
 
-pub ascends_has : (n : ℕ) (xs : List ℕ) (a : ℕ) → Ascends n xs → has xs a ≡ true → n ≤ a
-ascends_has n [] a h e = cc
-ascends_has n (x ∷ xs) a h e =
-    let tail = ascends_has (x + 1) xs a h.1 in
+pub ascends_lists : (n : ℕ) (xs : List ℕ) (a : ℕ) → Ascends n xs → lists xs a ≡ true → n ≤ a
+ascends_lists n [] a h e = cc
+ascends_lists n (x ∷ xs) a h e =
+    let tail = ascends_lists (x + 1) xs a h.1 in
     let head = h.0 in
     grind (arith, nat_tests)
 
-pub same_ascending : (m n : ℕ) (xs ys : List ℕ) → Ascends m xs → Ascends n ys → ((a : ℕ) → has xs a ≡ has ys a) → xs ≡ ys
+pub same_ascending : (m n : ℕ) (xs ys : List ℕ) → Ascends m xs → Ascends n ys → ((a : ℕ) → lists xs a ≡ lists ys a) → xs ≡ ys
 same_ascending m n [] [] h g same = refl
 same_ascending m n [] (y ∷ ys) h g same = let e = same y in grind (arith, nat_tests)
 same_ascending m n (x ∷ xs) [] h g same = let e = same x in grind (arith, nat_tests)
 same_ascending m n (x ∷ xs) (y ∷ ys) h g same = by (both x y xs ys h.1 g.1 same) (same_ascending (x + 1) (y + 1) xs ys h.1 g.1) where
-  both : (x y : ℕ) (xs ys : List ℕ) → Ascends (x + 1) xs → Ascends (y + 1) ys → ((a : ℕ) → has (x ∷ xs) a ≡ has (y ∷ ys) a) → x ≡ y
+  both : (x y : ℕ) (xs ys : List ℕ) → Ascends (x + 1) xs → Ascends (y + 1) ys → ((a : ℕ) → lists (x ∷ xs) a ≡ lists (y ∷ ys) a) → x ≡ y
   both x y xs ys h g same =
-      let left = ascends_has (x + 1) xs y h in
-      let right = ascends_has (y + 1) ys x g in
+      let left = ascends_lists (x + 1) xs y h in
+      let right = ascends_lists (y + 1) ys x g in
       let at_x = same x in
       let at_y = same y in
       grind (arith, nat_tests)
-  rest : (x y : ℕ) (xs ys : List ℕ) → Ascends (x + 1) xs → Ascends (y + 1) ys → ((a : ℕ) → has (x ∷ xs) a ≡ has (y ∷ ys) a) → x ≡ y → (a : ℕ) → has xs a ≡ has ys a
+
+  rest : (x y : ℕ) (xs ys : List ℕ) → Ascends (x + 1) xs → Ascends (y + 1) ys → ((a : ℕ) → lists (x ∷ xs) a ≡ lists (y ∷ ys) a) → x ≡ y → (a : ℕ) → lists xs a ≡ lists ys a
   rest x y xs ys h g same e a =
-      let left = ascends_has (x + 1) xs a h in
-      let right = ascends_has (y + 1) ys a g in
+      let left = ascends_lists (x + 1) xs a h in
+      let right = ascends_lists (y + 1) ys a g in
       let here = same a in
       grind (arith, nat_tests)
-  by : x ≡ y → (((a : ℕ) → has xs a ≡ has ys a) → xs ≡ ys) → ◌≡◌ {A = List ℕ} (x ∷ xs) (y ∷ ys)
+
+  by : x ≡ y → (((a : ℕ) → lists xs a ≡ lists ys a) → xs ≡ ys) → ◌≡◌ {A = List ℕ} (x ∷ xs) (y ∷ ys)
   by e tails = let t = tails (rest x y xs ys h.1 g.1 same e) in cc
 
 -- which addresses are a client's
 abbrev pub owns : List Row → List ℕ → ℕ → Bool
 owns rows client a = pointwise nat_eq (client_at rows a) client
 
-pub has-filter : (p : ℕ → Bool) (xs : List ℕ) (a : ℕ) → has (filter p xs) a ≡ (p a && has xs a)
-has-filter p [] a = by (p a) where
+pub lists-filter : (p : ℕ → Bool) (xs : List ℕ) (a : ℕ) → lists (filter p xs) a ≡ (p a && lists xs a)
+lists-filter p [] a = by (p a) where
   by : (b : Bool) → false ≡ (b && false)
   by true = refl
   by false = refl
-has-filter p (x ∷ xs) a = by (p x) (x == a) refl refl (has-filter p xs a) where
-  by : (b t : Bool) → p x ≡ b → (x == a) ≡ t → has (filter p xs) a ≡ (p a && has xs a) → has (if b then x ∷ filter p xs else filter p xs) a ≡ (p a && (t || has xs a))
+lists-filter p (x ∷ xs) a = by (p x) (x == a) refl refl (lists-filter p xs a) where
+  by : (b t : Bool) → p x ≡ b → (x == a) ≡ t → lists (filter p xs) a ≡ (p a && lists xs a) → lists (if b then x ∷ filter p xs else filter p xs) a ≡ (p a && (t || lists xs a))
   by b true e t h = let g = ap p (eqb-true x a t) in grind (arith, nat_tests)
   by true false e t h = rw t h
   by false false e t h = h
 
 -- which addresses are among a client's
-pub has-addresses : (client : List ℕ) (n : ℕ) (rows : List Row) (a : ℕ) → RiseFrom n rows → has (addresses_of client rows) a ≡ (owns rows client a && is_some (row_at rows a))
-has-addresses client n [] a rise = by (pointwise nat_eq [] client) where
+pub lists-addresses : (client : List ℕ) (n : ℕ) (rows : List Row) (a : ℕ) → RiseFrom n rows → lists (addresses_of client rows) a ≡ (owns rows client a && is_some (row_at rows a))
+lists-addresses client n [] a rise = by (pointwise nat_eq [] client) where
   by : (b : Bool) → false ≡ (b && false)
   by true = refl
   by false = refl
-has-addresses client n (r ∷ rows) a rise =
-    by (r.address == a) (is_of client r) refl refl (has-addresses client (r.address + 1) rows a rise.1) (λ e. none_below (r.address + 1) rows a rise.1 (omega (arith, e))) where
-  both : (b : Bool) (o : Option Row) → o ≡ None → (b && is_some o) ≡ false
-  both true o e = ap is_some e
-  both false o e = refl
-  right : (b : Bool) → b ≡ (b && true)
-  right true = refl
-  right false = refl
-  by : (t b : Bool) → (r.address == a) ≡ t → is_of client r ≡ b → has (addresses_of client rows) a ≡ (owns rows client a && is_some (row_at rows a)) → (r.address ≡ a → row_at rows a ≡ None)
-    → has (map (λ (row : Row). row.address) (if b then r ∷ filter (is_of client) rows else filter (is_of client) rows)) a ≡ (pointwise nat_eq (client_in (if t then Some r else row_at rows a)) client && is_some (if t then Some r else row_at rows a))
-  by true true t e h none = rw (t, e) refl
-  by true false t e h none = h ∙ (both (owns rows client a) (row_at rows a) (none (eqb-true r.address a t)) ∙ rw e refl)
-  by false true t e h none = rw t h
-  by false false t e h none = h
+lists-addresses client n (r ∷ rows) a rise =
+    by (r.address == a) (is_of client r) refl refl (lists-addresses client (r.address + 1) rows a rise.1) (λ e. none_below (r.address + 1) rows a rise.1 (omega (arith, e))) where
+      both : (b : Bool) (o : Option Row) → o ≡ None → (b && is_some o) ≡ false
+      both true o e = ap is_some e
+      both false o e = refl
+
+      right : (b : Bool) → b ≡ (b && true)
+      right true = refl
+      right false = refl
+
+      by : (t b : Bool) → (r.address == a) ≡ t → is_of client r ≡ b → lists (addresses_of client rows) a ≡ (owns rows client a && is_some (row_at rows a)) → (r.address ≡ a → row_at rows a ≡ None)
+          → lists (map (λ (row : Row). row.address) (if b then r ∷ filter (is_of client) rows else filter (is_of client) rows)) a ≡ (pointwise nat_eq (client_in (if t then Some r else row_at rows a)) client && is_some (if t then Some r else row_at rows a))
+      by true true t e h none = rw (t, e) refl
+      by true false t e h none = h ∙ (both (owns rows client a) (row_at rows a) (none (eqb-true r.address a t)) ∙ rw e refl)
+      by false true t e h none = rw t h
+      by false false t e h none = h
 
 pub addresses_ascend : (client : List ℕ) (n : ℕ) (rows : List Row) → RiseFrom n rows → Ascends n (addresses_of client rows)
 addresses_ascend client n [] rise = tt
@@ -105,15 +109,19 @@ pub owned_ascend : (f : ℕ → List ℕ) (client : List ℕ) (n : ℕ) (index :
 owned_ascend f client n [] rising from = tt
 owned_ascend f client n (x ∷ index) rising from =
     by (pointwise nat_eq (f x) client) refl (owned_ascend f client (x + 1) index tail) (owned_ascend f client n index tail (λ i within own. from (suc i) (omega arith) own)) where
-  tail : Rises (λ a. (f a, a)) index
-  tail i j order within = rising (suc i) (suc j) (omega arith) (omega arith)
-  by : (b : Bool) → pointwise nat_eq (f x) client ≡ b → (((i : ℕ) → i < length index → pointwise nat_eq (f (get_or index i 0)) client ≡ true → x + 1 ≤ get_or index i 0) → Ascends (x + 1) (filter (λ a. pointwise nat_eq (f a) client) index)) → Ascends n (filter (λ a. pointwise nat_eq (f a) client) index)
-    → Ascends n (if b then x ∷ filter (λ a. pointwise nat_eq (f a) client) index else filter (λ a. pointwise nat_eq (f a) client) index)
-  by true e onward skipped = (from 0 (omega arith) e, onward (λ i within own.
-    let same : f x ≡ f (get_or index i 0) = (bytes_decides (f x) client).0 e ∙ sym ((bytes_decides (f (get_or index i 0)) client).0 own) in
-    let order = same_client (f x) (f (get_or index i 0)) x (get_or index i 0) same (rising 0 (suc i) (omega arith) (omega arith)) in
-    omega arith))
-  by false e onward skipped = skipped
+      tail : Rises (λ a. (f a, a)) index
+      tail i j order within = rising (suc i) (suc j) (omega arith) (omega arith)
+
+      by : (b : Bool) → pointwise nat_eq (f x) client ≡ b → (((i : ℕ) → i < length index → pointwise nat_eq (f (get_or index i 0)) client ≡ true → x + 1 ≤ get_or index i 0) → Ascends (x + 1) (filter (λ a. pointwise nat_eq (f a) client) index)) → Ascends n (filter (λ a. pointwise nat_eq (f a) client) index)
+          → Ascends n (if b then x ∷ filter (λ a. pointwise nat_eq (f a) client) index else filter (λ a. pointwise nat_eq (f a) client) index)
+      by true e onward skipped = (
+        from 0 (omega arith) e,
+        onward (λ i within own.
+            let same : f x ≡ f (get_or index i 0) = (bytes_decides (f x) client).0 e ∙ sym ((bytes_decides (f (get_or index i 0)) client).0 own) in
+            let order = same_client (f x) (f (get_or index i 0)) x (get_or index i 0) same (rising 0 (suc i) (omega arith) (omega arith)) in
+            omega arith),
+      )
+      by false e onward skipped = skipped
 
 -- a filter that once failed fails from there on: it keeps a front
 pub kept_none : (p : ℕ → Bool) (xs : List ℕ) → ((i : ℕ) → i < length xs → p (get_or xs i 0) ≡ false) → filter p xs ≡ []
@@ -127,9 +135,9 @@ kept_some p [] i front within here = absurd (omega arith)
 kept_some p (x ∷ xs) zero front within here = let head : p x ≡ true = here in rw head refl
 kept_some p (x ∷ xs) (suc i) front within here =
     by (p x) refl (kept_some p xs i (λ i j order inside. front (suc i) (suc j) (omega arith) (omega arith)) (omega arith) here) where
-  by : (b : Bool) → p x ≡ b → slice_get (filter p xs) i ≡ Some (get_or xs i 0) → slice_get (if b then x ∷ filter p xs else filter p xs) (suc i) ≡ Some (get_or xs i 0)
-  by true e h = h
-  by false e h = let g = front 0 (suc i) (omega arith) within e in cc
+      by : (b : Bool) → p x ≡ b → slice_get (filter p xs) i ≡ Some (get_or xs i 0) → slice_get (if b then x ∷ filter p xs else filter p xs) (suc i) ≡ Some (get_or xs i 0)
+      by true e h = h
+      by false e h = let g = front 0 (suc i) (omega arith) within e in cc
 
 pub past_none : (p : ℕ → Bool) (xs : List ℕ) (i : ℕ) → ((i j : ℕ) → i < j → j < length xs → p (get_or xs i 0) ≡ false → p (get_or xs j 0) ≡ false) → (i < length xs → p (get_or xs i 0) ≡ false) → slice_get (filter p xs) i ≡ None
 past_none p [] i front out = refl
@@ -137,9 +145,9 @@ past_none p (x ∷ xs) zero front out =
     rw (kept_none p (x ∷ xs) (λ i within. ⊎_elim (λ e. subst (λ (j : ℕ). p (get_or (x ∷ xs) j 0) ≡ false) (sym e) (out (omega arith))) (λ n. front 0 i (omega arith) within (out (omega arith))) (cases_eq i 0))) refl
 past_none p (x ∷ xs) (suc i) front out =
     by (p x) refl (past_none p xs i (λ i j order inside. front (suc i) (suc j) (omega arith) (omega arith)) (λ within. out (omega arith))) where
-  by : (b : Bool) → p x ≡ b → slice_get (filter p xs) i ≡ None → slice_get (if b then x ∷ filter p xs else filter p xs) (suc i) ≡ None
-  by true e h = h
-  by false e h = rw (kept_none p xs (λ j within. front 0 (suc j) (omega arith) (omega arith) e)) refl
+      by : (b : Bool) → p x ≡ b → slice_get (filter p xs) i ≡ None → slice_get (if b then x ∷ filter p xs else filter p xs) (suc i) ≡ None
+      by true e h = h
+      by false e h = rw (kept_none p xs (λ j within. front 0 (suc j) (omega arith) (omega arith) e)) refl
 
 -- what fails in front is left out
 pub skipped : (p : ℕ → Bool) (xs : List ℕ) (start : ℕ) → start ≤ length xs → ((i : ℕ) → i < start → p (get_or xs i 0) ≡ false) → filter p xs ≡ filter p (drop start xs)
@@ -154,7 +162,7 @@ pub addresses_are : (rows : List Row) (index : List ℕ) (client : List ℕ) →
 addresses_are rows index client rise indexed =
     same_ascending 0 0 (addresses_of client rows) (filter (owns rows client) index) (addresses_ascend client 0 rows rise)
     (owned_ascend (client_at rows) client 0 index indexed.rising (λ i within own. omega arith))
-    (λ a. has-addresses client 0 rows a rise ∙ sym (has-filter (owns rows client) index a ∙ ap (λ (b : Bool). owns rows client a && b) (indexed.same a)))
+    (λ a. lists-addresses client 0 rows a rise ∙ sym (lists-filter (owns rows client) index a ∙ ap (λ (b : Bool). owns rows client a && b) (indexed.same a)))
 
 -- a key that is not below a client's first, but below one of its, is the client's
 pub not_again : (c client : List ℕ) (x y : ℕ) → (IsBelow (c, x) (client, 0) → ⊥) → IsBelow (c, x) (client, y) → c ≡ client

@@ -1,18 +1,19 @@
 -- The rows by their places: what is read at an address, and where one belongs.
-use Rattle.std.proofs.Common.{◌≡◌, ℕ, ◌+◌, ◌-◌, ◌<◌, ◌≤◌, ◌≢◌, Bool, true, false, List, [], ◌∷◌, length, get_or, take, drop, set, zero, suc, refl, sym, ap, ◌∙◌, Option, Some, None, IsSome, is_some, arith, if◌then◌else◌, ◌==◌, nat_lt, slice_get, ◌⊎◌, inl, inr, ⊎_elim, subst}
+use Rattle.std.proofs.Common.{◌≡◌, ℕ, ◌+◌, ◌-◌, ◌<◌, ◌≤◌, ◌≢◌, List, [], ◌∷◌, length, get_or, zero, suc, refl, sym, ap, ◌∙◌, Some, None, IsSome, is_some, arith, slice_get, ◌⊎◌, inl, inr, ⊎_elim, subst}
 use Rattle.std.specs.Cmp.{nat_cmp_total}
-use Rattle.std.specs.List.{insert}
+use Rattle.std.specs.List.{All}
 use Rattle.std.specs.List.Sorted.{IsNonDecreasingBy, IsPartitionPoint}
 use Rattle.std.specs.Ordering.{nat_cmp, ordering_index}
-use Rattle.std.specs.declared.cmp.Ordering.TheVariants.{Less, Equal, Greater}
+use Rattle.std.specs.declared.cmp.Ordering.TheVariants.{Less, Greater}
 use Rattle.std.proofs.lemmas.Bool.{cases_eq, cases_lt}
 use Rattle.std.proofs.lemmas.Bool.Decides.{nat_tests}
 use Rattle.std.proofs.lemmas.List.{get_or_default}
 use Rattle.std.proofs.lemmas.Option.{slice_get_cases}
 use Rattle.std.proofs.lemmas.List.Sorted.{searchable_from_sorted}
 use Rattle.kd_rows.specs.declared.row.Row.{Row}
+use Rattle.kd_rows.specs.Row.{IsInRange}
 use Rattle.kd_rows.specs.Table.{IsNext, Rise, RiseFrom, row_at}
-use Rattle.kd_rows.specs.Index.{IsAt, IsFound, IsPlace}
+use Rattle.kd_rows.specs.Index.{IsAt, IsPlace}
 
 -- rows that rise from n on stand there or above
 pub from_on : (n : ℕ) (rows : List Row) → RiseFrom n rows → (i : ℕ) (d : Row) → i < length rows → n + i ≤ (get_or rows i d).address
@@ -67,7 +68,7 @@ pub place_at : (rows : List Row) (a place : ℕ) → Rise rows → place < lengt
 place_at rows a place rise within here = record {
   in_range = omega arith;
   below = λ i d before. omega (arith, apart rows rise i place d (omega arith) within, here d);
-  above = λ i d after inside. omega (arith, apart rows rise place i d after inside, here d)
+  above = λ i d after inside. omega (arith, apart rows rise place i d after inside, here d);
 }
 
 -- rows by their addresses against one: those below come first
@@ -80,10 +81,11 @@ pub place_between : (rows : List Row) (a place : ℕ) → place ≤ length rows 
 place_between rows a place within parts = record {
   in_range = within;
   below = λ i d before. let h = parts.0 i d (omega arith) before in less _ a h;
-  above = λ i d after inside. let h = parts.1 i d after inside in greater _ a h
+  above = λ i d after inside. let h = parts.1 i d after inside in greater _ a h;
 } where
   less : (x y : ℕ) → nat_cmp x y ≡ Less → x < y
   less x y h = grind (arith, nat_tests)
+
   greater : (x y : ℕ) → nat_cmp x y ≡ Greater → y ≤ x
   greater x y h = grind (arith, nat_tests)
 
@@ -105,7 +107,7 @@ is_at rows a place rise within here = record {
   in_range = within;
   here = here;
   found = λ d. found_at rows place a d within (λ i before. (place_at rows a place rise within here).below i d before) (here d);
-  below = λ i d before. (place_at rows a place rise within here).below i d before
+  below = λ i d before. (place_at rows a place rise within here).below i d before;
 }
 
 -- what is read at a place, whatever stands in for a place outside
@@ -158,10 +160,35 @@ next_at rows a place rise p = by (slice_get_cases rows place).1 where
   by (inl h) = subst (IsNext rows a) (sym h.2) (there, above, between) where
     at : (d : Row) → (get_or rows place d).address ≡ h.0.address
     at d = same_at rows place d h.0 h.1 ∙ ap (λ (r : Row). r.address) h.3
+
     there : row_at rows h.0.address ≡ Some h.0
     there = (is_at rows h.0.address place rise h.1 at).found h.0 ∙ ap Some h.3
+
     above : a ≤ h.0.address
     above = let g = p.above place h.0 (omega arith) h.1 in let e = at h.0 in omega arith
+
     between : (b : ℕ) → a ≤ b → b < h.0.address → row_at rows b ≡ None
     between b from before = none_at rows b (λ i d within e. ⊎_elim (λ l. let g = p.below i d l in omega arith) (λ l. let g = apart rows rise place i d l within in let f = at d in omega arith) (cases_lt i place))
   by (inr h) = subst (IsNext rows a) (sym h.1) (λ b from. none_at rows b (λ i d within e. let g = p.below i d (omega (arith, h.0)) in omega arith))
+
+-- rows each of which stands above the one before rise
+pub rise_from_steps : (n : ℕ) (rows : List Row) → ((d : Row) → 0 < length rows → n ≤ (get_or rows 0 d).address) → ((i j : ℕ) (d : Row) → i + 1 ≡ j → j < length rows → (get_or rows i d).address < (get_or rows j d).address) → RiseFrom n rows
+rise_from_steps n [] first steps = tt
+rise_from_steps n (r ∷ rows) first steps =
+    (first r (omega arith), rise_from_steps (r.address + 1) rows (λ d within. let h = steps 0 1 d (omega arith) (omega arith) in omega arith) (λ i j d next within. steps (suc i) (suc j) d (omega arith) (omega arith)))
+
+-- what a loop over rows keeps: each one passed is in range, and above the one before
+pub record Accepted (rows : List Row) (n : ℕ) : Type 0 where
+  pub ranges : (k : ℕ) (d : Row) → k < n → IsInRange (get_or rows k d)
+  pub steps : (i j : ℕ) (d : Row) → i + 1 ≡ j → j < n → (get_or rows i d).address < (get_or rows j d).address
+
+pub accepted_all : (rows : List Row) (n : ℕ) → length rows ≤ n → Accepted rows n → Rise rows × All IsInRange rows
+accepted_all rows n all h =
+    (rise_from_steps 0 rows (λ d within. omega arith) (λ i j d next within. h.steps i j d next (omega arith)), λ k d within. h.ranges k d (omega arith))
+
+-- a row that does not stand above the one before: the rows do not rise
+pub not_above : (rows : List Row) (i : ℕ) (d e : Row) → 0 < i → i < length rows → (get_or rows i d).address ≤ (get_or rows (i - 1) e).address → Rise rows → ⊥
+not_above rows i d e from within le rise =
+    let same = same_at rows (i - 1) e d (omega arith) in
+    let h = apart rows rise (i - 1) i d (omega arith) within in
+    omega arith

@@ -1,5 +1,5 @@
 -- The rows after one is set.
-use Rattle.std.proofs.Common.{◌≡◌, ℕ, ◌+◌, ◌<◌, ◌≤◌, max, Bool, true, false, List, [], ◌∷◌, length, get_or, set, zero, suc, refl, sym, ap, ◌∙◌, ◌⊎◌, ◌^◌, ◌↔◌, IsTrue, inl, inr, lit<, subst, Option, Some, None, arith, if◌then◌else◌, ◌==◌, nat_lt}
+use Rattle.std.proofs.Common.{◌≡◌, ℕ, ◌+◌, ◌<◌, ◌≤◌, Bool, true, false, List, [], ◌∷◌, length, get_or, set, zero, suc, refl, sym, ap, ◌∙◌, ◌⊎◌, ◌^◌, ◌↔◌, IsTrue, inl, inr, lit<, subst, Option, Some, None, arith, if◌then◌else◌, ◌==◌, nat_lt}
 use Rattle.std.specs.List.{All, insert}
 use Rattle.std.proofs.lemmas.Bool.{cases_lt, eq-eqb, eqb-true, le-ltb}
 use Rattle.std.proofs.lemmas.Bool.Decides.{nat_tests}
@@ -49,7 +49,7 @@ pub rise_from-with_row : (row : Row) (n : ℕ) (rows : List Row) → n ≤ row.a
 rise_from-with_row row n [] le rise = (le, tt)
 rise_from-with_row row n (r ∷ rows) le rise = by (nat_lt row.address r.address) (r.address == row.address) refl refl (rise_from-with_row row (r.address + 1) rows) where
   by : (b t : Bool) → nat_lt row.address r.address ≡ b → (r.address == row.address) ≡ t → (r.address + 1 ≤ row.address → RiseFrom (r.address + 1) rows → RiseFrom (r.address + 1) (with_row row rows))
-    → RiseFrom n (if b then row ∷ r ∷ rows else if t then row ∷ rows else r ∷ with_row row rows)
+      → RiseFrom n (if b then row ∷ r ∷ rows else if t then row ∷ rows else r ∷ with_row row rows)
   by true t below same rest = let h : row.address + 1 ≤ r.address = grind (arith, nat_tests) in (le, (h, rise.1))
   by false true below same rest = (le, subst (λ (a : ℕ). RiseFrom (a + 1) rows) (eqb-true r.address row.address same) rise.1)
   by false false below same rest = let h : r.address + 1 ≤ row.address = grind (arith, nat_tests) in (rise.0, rest h rise.1)
@@ -105,8 +105,9 @@ unchanged_from row n (r ∷ rows) rise there = by (r.address == row.address) ref
   late : (o : Option Row) → o ≡ Some row → (row.address < r.address + 1 → o ≡ None) → (row.address < r.address + 1) ⊎ (r.address + 1 ≤ row.address) → r.address + 1 ≤ row.address
   late o there none (inl l) = let h = none l in cc
   late o there none (inr l) = l
+
   by : (t : Bool) → (r.address == row.address) ≡ t → (if t then Some r else row_at rows row.address) ≡ Some row → (row_at rows row.address ≡ Some row → with_row row rows ≡ rows) → (row.address < r.address + 1 → row_at rows row.address ≡ None)
-    → (if nat_lt row.address r.address then row ∷ r ∷ rows else if t then row ∷ rows else r ∷ with_row row rows) ≡ r ∷ rows
+      → (if nat_lt row.address r.address then row ∷ r ∷ rows else if t then row ∷ rows else r ∷ with_row row rows) ≡ r ∷ rows
   by true e found rest none =
       let here : r ≡ row = cc in
       let same = eqb-true r.address row.address e in

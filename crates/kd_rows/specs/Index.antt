@@ -35,13 +35,13 @@ abbrev pub Rises : (ℕ → List ℕ × ℕ) → List ℕ → Type 0
 Rises key index = (i j : ℕ) → i < j → j < length index → IsBelow (key (slice_index index i)) (key (slice_index index j))
 
 -- a list has an address
-abbrev pub has : List ℕ → ℕ → Bool
-has [] a = false
-has (x ∷ xs) a = (x == a) || has xs a
+abbrev pub lists : List ℕ → ℕ → Bool
+lists [] a = false
+lists (x ∷ xs) a = (x == a) || lists xs a
 
 -- the index has the addresses of the rows, in the order of their keys
 pub record IsIndex (rows : List Row) (index : List ℕ) : Type 0 where
-  pub same : (a : ℕ) → has index a ≡ is_some (row_at rows a)
+  pub same : (a : ℕ) → lists index a ≡ is_some (row_at rows a)
   pub rising : Rises (key_at rows) index
 
 -- what is true of the fields of a table

@@ -1,6 +1,6 @@
 ghost use Rattle.std.specs.Prelude.{◌≡◌, ◌+◌, ◌<◌, IfOk, true, vec_capacity, vec_len, length, slice_get};
 ghost use Rattle.std.specs.Ordering.{is_lt};
-ghost use Rattle.kd_rows.specs.Index.{Gives, IsIndex, IsKeyPlace, Rises, Takes, key_at, key_order, has};
+ghost use Rattle.kd_rows.specs.Index.{Gives, IsIndex, IsKeyPlace, Rises, Takes, key_at, key_order, lists};
 ghost use Rattle.kd_rows.specs.Table.{Rise, addresses_of};
 
 use crate::find::client_of;
@@ -77,7 +77,7 @@ pub(crate) fn give_key(rows: &[Row], index: &mut Vec<u32>, client: &[u8], addres
 pub(crate) fn take_key(rows: &[Row], index: &mut Vec<u32>, address: u32)
     requires rise { Rise rows.now }
     requires rising { Rises (key_at rows.now) index.old.items }
-    requires there { has index.old.items address ≡ true }
+    requires there { lists index.old.items address ≡ true }
     ensures taken { Takes index.old.items address index.new.items }
     ensures len { vec_len index.new + 1 ≡ vec_len index.old }
     ensures capacity { vec_capacity index.new ≡ vec_capacity index.old }

@@ -6,11 +6,9 @@ ghost use Rattle.kd_rows.specs.Laws.{GetOfSet, RowsAreAMap};
 /// and to set a row is to insert an entry.
 pub fn rows_are_a_map()
     ensures { RowsAreAMap }
-{
-}
+{}
 
 /// After a row is set its address has that row, and each other what it had.
 pub fn get_of_set()
     ensures { GetOfSet }
-{
-}
+{}

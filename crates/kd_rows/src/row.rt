@@ -1,5 +1,5 @@
-ghost use Rattle.std.specs.Prelude.{◌≡◌, ◌≢◌, MatchOption};
-ghost use Rattle.kd_rows.specs.Row.{state_number};
+ghost use Rattle.std.specs.Prelude.{◌≡◌, ◌≢◌, ◌↔◌, IsTrue, MatchOption};
+ghost use Rattle.kd_rows.specs.Row.{IsInRange, state_number};
 ghost use Rattle.kd_rows.specs.declared.row.State.{State};
 
 use kd_wire::Bytes;
@@ -57,4 +57,16 @@ pub struct Row {
     pub changed: u64,
     /// The moment from which the row does not hold, in seconds.
     pub ends: u64,
+}
+
+impl Row {
+    /// Whether the times are in range: set below 2^40, ended no earlier than that, and 2^31 - 1
+    /// seconds later at most.
+    pub fn is_in_range(&self) -> bool
+        ensures { IsTrue result ↔ IsInRange self.now }
+    {
+        self.changed < 1 << 40
+            && self.changed <= self.ends
+            && self.ends - self.changed <= 0x7fff_ffff
+    }
 }

@@ -34,6 +34,21 @@ impl Model for Rows {
 }
 
 impl Rows {
+    /// Whether rows can be a table: they rise in address, one an address, and are in range.
+    pub fn accepts(rows: &[Row]) -> bool
+        ensures { IsTrue result ↔ Rise rows.now × All IsInRange rows.now }
+    {
+        for i in 0..rows.len() {
+            if !rows[i].is_in_range() {
+                return false;
+            }
+            if i > 0 && rows[i].address <= rows[i - 1].address {
+                return false;
+            }
+        }
+        true
+    }
+
     /// The table of rows that rise in address, one an address.
     ///
     /// # Errors

@@ -8,7 +8,7 @@ halves-preserved-then-rows-middle c = record {
   order = omega arith;
   in_range = omega arith;
   below = run_more _ _ _ _ c.index-rows-middle.result c.requires.rise c.place_of-start.ensures (omega arith) (omega arith) c.if-rows-middle.true;
-  above = c.halves.invariant.above
+  above = c.halves.invariant.above;
 }
 
 pub halves-preserved : goal.halves-preserved
@@ -17,7 +17,7 @@ halves-preserved c = record {
   order = omega arith;
   in_range = omega arith;
   below = c.halves.invariant.below;
-  above = run_less _ _ _ _ c.index-rows-middle.result c.requires.rise c.place_of-start.ensures (omega arith) (omega arith) c.if-rows-middle.false
+  above = run_less _ _ _ _ c.index-rows-middle.result c.requires.rise c.place_of-start.ensures (omega arith) (omega arith) c.if-rows-middle.false;
 }
 
 pub returns-then-run-last : goal.returns-then-run-last

@@ -8,7 +8,7 @@ invariant-halves l = record {
   order : l.low ≤ l.high;
   in_range : l.high ≤ length l.rows;
   below : (i : ℕ) (d : Row) → l.start ≤ i → i < l.low → (get_or l.rows i d).address ≡ l.first + (i - l.start);
-  above : (i : ℕ) (d : Row) → l.high ≤ i → i < length l.rows → l.first + (i - l.start) < (get_or l.rows i d).address
+  above : (i : ℕ) (d : Row) → l.high ≤ i → i < length l.rows → l.first + (i - l.start) < (get_or l.rows i d).address;
 }
 
 abbrev pub decreases-halves : goal.decreases-halves

@@ -1,9 +1,6 @@
 use Rattle.std.proofs.Common.{rules, arith}
 use Rattle.std.proofs.lemmas.Bool.Decides.{nat_tests}
 use Rattle.std.proofs.lemmas.List.Sorted.{answers_always}
-use Rattle.std.specs.List.{HoldsAt}
-use Rattle.std.specs.Ordering.{nat_cmp}
-use Rattle.kd_rows.specs.declared.row.Row.{Row}
 use Rattle.kd_rows.proofs.Places.{place_at, place_between, searchable}
 use Rattle.kd_rows.proofs.find.place_of.Goals as goal
 

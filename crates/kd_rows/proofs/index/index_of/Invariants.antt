@@ -6,5 +6,5 @@ abbrev pub invariant-loop-row : goal.invariant-loop-row
 invariant-loop-row l = record {
   made : Made l.rows.items l.row-index l.index.items;
   len : vec_len l.index ≡ l.row-index;
-  capacity : length l.rows.items ≤ vec_capacity l.index
+  capacity : length l.rows.items ≤ vec_capacity l.index;
 }

@@ -13,7 +13,7 @@ halves-preserved-then-is_below c =
       order = omega arith;
       in_range = omega arith;
       below = low_more key c.args.index.now k middle c.requires.rising (omega arith) (below_if _ k (sym read ∙ c.if-is_below.true));
-      above = c.halves.invariant.above
+      above = c.halves.invariant.above;
     }
 
 pub halves-preserved : goal.halves-preserved
@@ -26,5 +26,5 @@ halves-preserved c =
       order = omega arith;
       in_range = omega arith;
       below = c.halves.invariant.below;
-      above = high_less key c.args.index.now k middle c.requires.rising (not_below_if _ k (sym read ∙ c.if-is_below.false))
+      above = high_less key c.args.index.now k middle c.requires.rising (not_below_if _ k (sym read ∙ c.if-is_below.false));
     }

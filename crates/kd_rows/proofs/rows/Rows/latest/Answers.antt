@@ -1,4 +1,4 @@
-use Rattle.std.proofs.Common.{◌≡◌, ◌<◌, ◌^◌, subst, sym}
+use Rattle.std.proofs.Common.{◌<◌, ◌^◌, subst, sym}
 use Rattle.kd_rows.proofs.Sets.{latest_early}
 use Rattle.kd_rows.proofs.rows.Rows.latest.Goals as goal
 

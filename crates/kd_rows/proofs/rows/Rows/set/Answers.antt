@@ -1,4 +1,4 @@
-use Rattle.std.proofs.Common.{◌≤◌, ◌≡◌, List, ap, arith, subst, sym, ◌∙◌}
+use Rattle.std.proofs.Common.{◌≤◌, ap, arith, subst, sym, ◌∙◌}
 use Rattle.std.specs.List.{All}
 use Rattle.kd_rows.specs.declared.row.Row.{Row}
 use Rattle.kd_rows.specs.Row.{IsInRange}
@@ -16,5 +16,5 @@ invariant_of-self c =
       ranged = subst (All IsInRange) e (all-with_row IsInRange c.args.row old c.requires.range c.self.invariant.ranged);
       newest = sym (latest_of-with_row c.args.row old late) ∙ ap latest_of e;
       ends = subst (All (λ (row : Row). c.min-self-inside.result ≤ row.ends)) e (all-with_row (λ (row : Row). c.min-self-inside.result ≤ row.ends) c.args.row old (omega (arith, c.min-self-inside.ensures)) (λ k d within. let h = c.self.invariant.ends k d within in omega (arith, c.min-self-inside.ensures)));
-      indexed = c.put_row.ensures.indexed
+      indexed = c.put_row.ensures.indexed;
     }
