@@ -2,7 +2,7 @@
 use Rattle.std.proofs.Common.{◌≡◌, ℕ, ◌+◌, ◌-◌, ◌<◌, ◌≤◌, Bool, true, false, ◌||◌, List, [], ◌∷◌, ◌++◌, length, get_or, take, drop, zero, suc, refl, sym, ap, ◌∙◌, subst, Option, Some, None, is_some, ⊎_elim, arith, if◌then◌else◌, ◌==◌}
 use Rattle.std.specs.List.{insert, remove}
 use Rattle.std.proofs.lemmas.Bool.{cases_Bool, cases_eq, cases_lt, eqb-true, eq-eqb, ne_eqb, false≢true}
-use Rattle.std.proofs.lemmas.List.{drop_more, get_or-take, length-take, take-append-drop, take_all, take_more}
+use Rattle.std.proofs.lemmas.List.{drop_more, get_or-take, length-take, take-append-drop, take_more}
 use Rattle.std.proofs.lemmas.List.Edits.{get_or-insert_above, get_or-insert_at, get_or-insert_below, get_or-remove_above, get_or-remove_below, length-insert, length-remove}
 use Rattle.kd_rows.specs.declared.row.Row.{Row}
 use Rattle.kd_rows.specs.Index.{Gives, IsBelow, IsIndex, IsKeyPlace, Moves, Rises, Takes, client_at, client_in, lists, key_at}
@@ -220,9 +220,3 @@ made_more rows i row old new rise within is made gives = subst (Made rows (i + 1
   same a =
       lists-insert old gives.0 row.address a ∙ ap (λ (b : Bool). (row.address == a) || b) (made.same a)
       ∙ sym (ap (λ (xs : List Row). is_some (row_at xs a)) (take_more rows i row within ∙ ap (λ (r : Row). take i rows ++ r ∷ []) (sym is)) ∙ row_at-push (take i rows) row a)
-
-pub made_all : (rows : List Row) (i : ℕ) (index : List ℕ) → length rows ≤ i → Made rows i index → IsIndex rows index
-made_all rows i index all made = record {
-  same = λ a. made.same a ∙ ap (λ (xs : List Row). is_some (row_at xs a)) (take_all i rows all);
-  rising = made.rising;
-}

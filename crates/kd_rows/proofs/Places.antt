@@ -56,13 +56,6 @@ none_at (r ∷ rows) a others =
     let g : r.address ≢ a = others 0 r (omega arith) in
     grind (arith, nat_tests)
 
--- a row that is read stands at its address
-pub address_of : (rows : List Row) (a : ℕ) (row : Row) → row_at rows a ≡ Some row → row.address ≡ a
-address_of [] a row e = cc
-address_of (r ∷ rows) a row e =
-    let h = address_of rows a row in
-    grind (arith, nat_tests)
-
 -- the place of a row is that of its address
 pub place_at : (rows : List Row) (a place : ℕ) → Rise rows → place < length rows → ((d : Row) → (get_or rows place d).address ≡ a) → IsPlace rows a place
 place_at rows a place rise within here = record {
