@@ -1,0 +1,90 @@
+-- The order of keys, and places in the index.
+use Rattle.std.proofs.Common.{◌≡◌, ℕ, ◌+◌, ◌<◌, ◌≤◌, Bool, true, false, ◌||◌, ◌==◌, List, [], ◌∷◌, suc, length, get_or, refl, sym, ap, ◌∙◌, subst, ◌⊎◌, inl, inr, ⊎_elim, arith}
+use Rattle.std.specs.Cmp.{IsTotalOrder, nat_cmp_total}
+use Rattle.std.specs.Cmp.Lexicographic.{nat_list_cmp_total}
+use Rattle.std.specs.Ordering.{is_lt}
+use Rattle.std.specs.declared.cmp.Ordering.{Ordering}
+use Rattle.std.specs.declared.cmp.Ordering.TheVariants.{Less, Equal, Greater}
+use Rattle.std.proofs.lemmas.Bool.{cases_eq, cases_lt, eqb-true, false≢true}
+use Rattle.std.proofs.lemmas.Cmp.{on_total, then_total, tied_itself}
+use Rattle.std.proofs.lemmas.Map.Lookups.{exact_bytes, exact_pairs, exact_unsigned}
+use Rattle.kd_rows.specs.declared.row.Row.{Row}
+use Rattle.kd_rows.specs.Index.{IsBelow, IsKeyPlace, Rises, client_at, lists, key_at, key_order}
+
+pub keys_total : IsTotalOrder key_order
+keys_total = then_total (on_total (λ (k : List ℕ × ℕ). k.0) nat_list_cmp_total) (on_total (λ (k : List ℕ × ℕ). k.1) nat_cmp_total)
+
+pub same_keys : (k l : List ℕ × ℕ) → key_order k l ≡ Equal → k ≡ l
+same_keys = exact_pairs _ _ exact_bytes exact_unsigned
+
+pub below_trans : (k l m : List ℕ × ℕ) → IsBelow k l → IsBelow l m → IsBelow k m
+below_trans k l m = keys_total.trans k l m
+
+pub not_below_itself : (k : List ℕ × ℕ) → IsBelow k k → ⊥
+not_below_itself k h = let e = tied_itself keys_total k in cc
+
+-- of two keys that are not the same one comes first
+pub below_from : (k l : List ℕ × ℕ) → (k ≡ l → ⊥) → (IsBelow l k → ⊥) → IsBelow k l
+below_from k l other not_above = by (key_order k l) refl where
+  by : (o : Ordering) → key_order k l ≡ o → IsBelow k l
+  by Less e = e
+  by Equal e = absurd (other (same_keys k l e))
+  by Greater e = absurd (not_above (keys_total.antisymm l k ∙ rw e refl))
+
+-- what a test of two keys says
+pub below_if : (k l : List ℕ × ℕ) → is_lt (key_order k l) ≡ true → IsBelow k l
+below_if k l = by (key_order k l) where
+  by : (o : Ordering) → is_lt o ≡ true → o ≡ Less
+  by Less e = refl
+  by Equal e = cc
+  by Greater e = cc
+
+pub not_below_if : (k l : List ℕ × ℕ) → is_lt (key_order k l) ≡ false → IsBelow k l → ⊥
+not_below_if k l e h = let g = ap is_lt h in cc
+
+-- a half of the index is passed
+pub low_more : (key : ℕ → List ℕ × ℕ) (index : List ℕ) (k : List ℕ × ℕ) (middle : ℕ) → Rises key index → middle < length index → IsBelow (key (get_or index middle 0)) k → (i : ℕ) → i < middle + 1 → IsBelow (key (get_or index i 0)) k
+low_more key index k middle rising within here i before = by (cases_eq i middle) where
+  by : (i ≡ middle) ⊎ (i ≡ middle → ⊥) → IsBelow (key (get_or index i 0)) k
+  by (inl e) = subst (λ (j : ℕ). IsBelow (key (get_or index j 0)) k) (sym e) here
+  by (inr n) = below_trans (key (get_or index i 0)) (key (get_or index middle 0)) k (rising i middle (omega arith) within) here
+
+pub high_less : (key : ℕ → List ℕ × ℕ) (index : List ℕ) (k : List ℕ × ℕ) (middle : ℕ) → Rises key index → (IsBelow (key (get_or index middle 0)) k → ⊥) → (i : ℕ) → middle ≤ i → i < length index → IsBelow (key (get_or index i 0)) k → ⊥
+high_less key index k middle rising here i after within h = by (cases_eq i middle) where
+  by : (i ≡ middle) ⊎ (i ≡ middle → ⊥) → ⊥
+  by (inl e) = here (subst (λ (j : ℕ). IsBelow (key (get_or index j 0)) k) e h)
+  by (inr n) = here (below_trans (key (get_or index middle 0)) (key (get_or index i 0)) k (rising middle i (omega arith) within) h)
+
+-- the key that a step of the search compares
+pub read_key : (rows : List Row) (index : List ℕ) (k : List ℕ × ℕ) (middle at : ℕ) (client : List ℕ) (test : Bool) → at ≡ get_or index middle 0 → client ≡ client_at rows at → test ≡ is_lt (key_order (client, at) k) → test ≡ is_lt (key_order (key_at rows (get_or index middle 0)) k)
+read_key rows index k middle at client test is of result = result ∙ ap (λ (x : List ℕ). is_lt (key_order (x, at) k)) of ∙ ap (λ (b : ℕ). is_lt (key_order (key_at rows b) k)) is
+
+-- an address that a list has stands in it
+pub record Stands (xs : List ℕ) (a : ℕ) : Type 0 where
+  pub place : ℕ
+  pub within : place < length xs
+  pub here : get_or xs place 0 ≡ a
+
+pub listed_at : (xs : List ℕ) (a : ℕ) → lists xs a ≡ true → Stands xs a
+listed_at [] a h = absurd (false≢true h)
+listed_at (x ∷ xs) a h = by (x == a) refl h (listed_at xs a) where
+  by : (b : Bool) → (x == a) ≡ b → (b || lists xs a) ≡ true → (lists xs a ≡ true → Stands xs a) → Stands (x ∷ xs) a
+  by true e h rest = record { place = 0; within = omega arith; here = eqb-true x a e }
+  by false e h rest = let r = rest h in record { place = suc r.place; within = omega (arith, r.within); here = r.here }
+
+-- an address of the index stands at the place of its key
+pub key_here : (key : ℕ → List ℕ × ℕ) (index : List ℕ) (a place : ℕ) → Rises key index → IsKeyPlace key index (key a) place → lists index a ≡ true → (place < length index) × (get_or index place 0 ≡ a)
+key_here key index a place rising p h = by (listed_at index a h) where
+  by : Stands index a → (place < length index) × (get_or index place 0 ≡ a)
+  by s =
+      ⊎_elim (λ before. absurd (not_below_itself (key a) (subst (λ (x : ℕ). IsBelow (key x) (key a)) s.here (p.below s.place before))))
+      (λ after. ⊎_elim (λ e. let w : place < length index = omega (arith, s.within) in (w, subst (λ (j : ℕ). get_or index j 0 ≡ a) e s.here))
+      (λ n. absurd (p.above place (omega arith) (omega (arith, s.within)) (subst (λ (x : ℕ). IsBelow (key (get_or index place 0)) (key x)) s.here (rising place s.place (omega arith) s.within))))
+      (cases_eq s.place place))
+      (cases_lt s.place place)
+
+-- the same of a slice and a client that were read
+pub taken_here : (rows : List Row) (index read : List ℕ) (client : List ℕ) (a place : ℕ) → Rises (key_at rows) index → read ≡ index → client ≡ client_at rows a → IsKeyPlace (key_at rows) read (client, a) place → lists index a ≡ true → (place < length index) × (get_or index place 0 ≡ a)
+taken_here rows index read client a place rising same of p h =
+    key_here (key_at rows) index a place rising
+    (subst (λ (c : List ℕ). IsKeyPlace (key_at rows) index (c, a) place) of (subst (λ (xs : List ℕ). IsKeyPlace (key_at rows) xs (client, a) place) same p)) h

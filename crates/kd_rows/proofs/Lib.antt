@@ -1,0 +1,6 @@
+pub mod Indexes
+pub mod Keys
+pub mod Maps
+pub mod Owned
+pub mod Places
+pub mod Sets

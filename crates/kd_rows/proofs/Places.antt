@@ -1,0 +1,187 @@
+-- The rows by their places: what is read at an address, and where one belongs.
+use Rattle.std.proofs.Common.{◌≡◌, ℕ, ◌+◌, ◌-◌, ◌<◌, ◌≤◌, ◌≢◌, List, [], ◌∷◌, length, get_or, zero, suc, refl, sym, ap, ◌∙◌, Some, None, IsSome, is_some, arith, slice_get, ◌⊎◌, inl, inr, ⊎_elim, subst}
+use Rattle.std.specs.Cmp.{nat_cmp_total}
+use Rattle.std.specs.List.{All}
+use Rattle.std.specs.List.Sorted.{IsNonDecreasingBy, IsPartitionPoint}
+use Rattle.std.specs.Ordering.{nat_cmp, ordering_index}
+use Rattle.std.specs.declared.cmp.Ordering.TheVariants.{Less, Greater}
+use Rattle.std.proofs.lemmas.Bool.{cases_eq, cases_lt}
+use Rattle.std.proofs.lemmas.Bool.Decides.{nat_tests}
+use Rattle.std.proofs.lemmas.List.{get_or_default}
+use Rattle.std.proofs.lemmas.Option.{slice_get_cases}
+use Rattle.std.proofs.lemmas.List.Sorted.{searchable_from_sorted}
+use Rattle.kd_rows.specs.declared.row.Row.{Row}
+use Rattle.kd_rows.specs.Row.{IsInRange}
+use Rattle.kd_rows.specs.Table.{IsNext, Rise, RiseFrom, row_at}
+use Rattle.kd_rows.specs.Index.{IsAt, IsPlace}
+
+-- rows that rise from n on stand there or above
+pub from_on : (n : ℕ) (rows : List Row) → RiseFrom n rows → (i : ℕ) (d : Row) → i < length rows → n + i ≤ (get_or rows i d).address
+from_on n [] rise i d within = absurd (omega arith)
+from_on n (r ∷ rows) rise zero d within = let h = rise.0 in omega arith
+from_on n (r ∷ rows) rise (suc i) d within =
+    let h = from_on (r.address + 1) rows rise.1 i d (omega arith) in
+    let g = rise.0 in
+    omega arith
+
+-- of two rows the later stands as far above as it is later, at least
+pub apart_from : (n : ℕ) (rows : List Row) → RiseFrom n rows → (i j : ℕ) (d : Row) → i ≤ j → j < length rows → (get_or rows i d).address + (j - i) ≤ (get_or rows j d).address
+apart_from n [] rise i j d order within = absurd (omega arith)
+apart_from n (r ∷ rows) rise zero zero d order within = omega arith
+apart_from n (r ∷ rows) rise zero (suc j) d order within =
+    let h = from_on (r.address + 1) rows rise.1 j d (omega arith) in
+    omega arith
+apart_from n (r ∷ rows) rise (suc i) zero d order within = absurd (omega arith)
+apart_from n (r ∷ rows) rise (suc i) (suc j) d order within =
+    let h = apart_from (r.address + 1) rows rise.1 i j d (omega arith) (omega arith) in
+    omega arith
+
+pub apart : (rows : List Row) → Rise rows → (i j : ℕ) (d : Row) → i ≤ j → j < length rows → (get_or rows i d).address + (j - i) ≤ (get_or rows j d).address
+apart rows rise i j d order within = apart_from 0 rows rise i j d order within
+
+-- the row of an address is where it stands, if none before stands there
+pub found_at : (rows : List Row) (place a : ℕ) (d : Row) → place < length rows → ((i : ℕ) → i < place → (get_or rows i d).address < a) → (get_or rows place d).address ≡ a → row_at rows a ≡ Some (get_or rows place d)
+found_at [] place a d within below here = absurd (omega arith)
+found_at (r ∷ rows) zero a d within below here = grind (arith, nat_tests)
+found_at (r ∷ rows) (suc place) a d within below here =
+    let h = found_at rows place a d (omega arith) (λ i before. below (suc i) (omega arith)) here in
+    let g : r.address < a = below 0 (omega arith) in
+    grind (arith, nat_tests)
+
+-- an address that no row stands at has none
+pub none_at : (rows : List Row) (a : ℕ) → ((i : ℕ) (d : Row) → i < length rows → (get_or rows i d).address ≢ a) → row_at rows a ≡ None
+none_at [] a others = refl
+none_at (r ∷ rows) a others =
+    let h = none_at rows a (λ i d within. others (suc i) d (omega arith)) in
+    let g : r.address ≢ a = others 0 r (omega arith) in
+    grind (arith, nat_tests)
+
+-- the place of a row is that of its address
+pub place_at : (rows : List Row) (a place : ℕ) → Rise rows → place < length rows → ((d : Row) → (get_or rows place d).address ≡ a) → IsPlace rows a place
+place_at rows a place rise within here = record {
+  in_range = omega arith;
+  below = λ i d before. omega (arith, apart rows rise i place d (omega arith) within, here d);
+  above = λ i d after inside. omega (arith, apart rows rise place i d after inside, here d);
+}
+
+-- rows by their addresses against one: those below come first
+pub searchable : (rows : List Row) (a : ℕ) → Rise rows → IsNonDecreasingBy (λ (row : Row). ordering_index (nat_cmp row.address a)) rows
+searchable rows a rise =
+    searchable_from_sorted nat_cmp_total (λ (row : Row). row.address) rows a
+    (λ k d low high. let h = apart rows rise k (k + 1) d (omega arith) high in grind (arith, nat_tests))
+
+pub place_between : (rows : List Row) (a place : ℕ) → place ≤ length rows → IsPartitionPoint (λ (row : Row). nat_cmp row.address a ≡ Less) (λ (row : Row). nat_cmp row.address a ≡ Greater) rows place → IsPlace rows a place
+place_between rows a place within parts = record {
+  in_range = within;
+  below = λ i d before. let h = parts.0 i d (omega arith) before in less _ a h;
+  above = λ i d after inside. let h = parts.1 i d after inside in greater _ a h;
+} where
+  less : (x y : ℕ) → nat_cmp x y ≡ Less → x < y
+  less x y h = grind (arith, nat_tests)
+
+  greater : (x y : ℕ) → nat_cmp x y ≡ Greater → y ≤ x
+  greater x y h = grind (arith, nat_tests)
+
+-- an address has no row if none stands there at its place
+pub absent_at : (rows : List Row) (a place : ℕ) → Rise rows → IsPlace rows a place → ((d : Row) → place < length rows → (get_or rows place d).address ≢ a) → row_at rows a ≡ None
+absent_at rows a place rise p other = none_at rows a by where
+  by : (i : ℕ) (d : Row) → i < length rows → (get_or rows i d).address ≢ a
+  by i d within = ⊎_elim (λ before. omega (arith, p.below i d before)) (λ after. later i d within after (cases_eq i place)) (cases_lt i place) where
+    later : (i : ℕ) (d : Row) → i < length rows → place ≤ i → (i ≡ place) ⊎ (i ≡ place → ⊥) → (get_or rows i d).address ≢ a
+    later i d within after (inl e) = subst (λ (j : ℕ). (get_or rows j d).address ≢ a) (sym e) (other d (omega arith))
+    later i d within after (inr n) =
+        let h = apart rows rise place i d after within in
+        let g = p.above place d (omega arith) (omega arith) in
+        omega arith
+
+-- a row at its place is found there
+pub is_at : (rows : List Row) (a place : ℕ) → Rise rows → place < length rows → ((d : Row) → (get_or rows place d).address ≡ a) → IsAt rows a place
+is_at rows a place rise within here = record {
+  in_range = within;
+  here = here;
+  found = λ d. found_at rows place a d within (λ i before. (place_at rows a place rise within here).below i d before) (here d);
+  below = λ i d before. (place_at rows a place rise within here).below i d before;
+}
+
+-- what is read at a place, whatever stands in for a place outside
+pub same_at : (rows : List Row) (place : ℕ) (d e : Row) → place < length rows → (get_or rows place d).address ≡ (get_or rows place e).address
+same_at rows place d e within = ap (λ (r : Row). r.address) (get_or_default rows place d e within)
+
+-- the search for a gap: where the row in the middle stands as far from `first` as its place, so do those before it
+pub run_more : (rows : List Row) (first start middle : ℕ) (e : Row) → Rise rows → IsPlace rows first start → start ≤ middle → middle < length rows → (get_or rows middle e).address - first ≡ middle - start → (i : ℕ) (d : Row) → start ≤ i → i < middle + 1 → (get_or rows i d).address ≡ first + (i - start)
+run_more rows first start middle e rise p order within run i d after before =
+    let at = same_at rows middle d e within in
+    let low = p.above start d (omega arith) (omega arith) in
+    let left = apart rows rise start i d after (omega arith) in
+    let right = apart rows rise i middle d (omega arith) within in
+    omega arith
+
+pub run_less : (rows : List Row) (first start middle : ℕ) (e : Row) → Rise rows → IsPlace rows first start → start ≤ middle → middle < length rows → ((get_or rows middle e).address - first ≡ middle - start → ⊥) → (i : ℕ) (d : Row) → middle ≤ i → i < length rows → first + (i - start) < (get_or rows i d).address
+run_less rows first start middle e rise p order within run i d after before =
+    let at = same_at rows middle d e within in
+    let low = p.above start d (omega arith) (omega arith) in
+    let left = apart rows rise start middle d order within in
+    let right = apart rows rise middle i d after before in
+    let far : (get_or rows middle d).address - first ≢ middle - start = (λ h. run (ap (λ (x : ℕ). x - first) (sym at) ∙ h)) in
+    omega arith
+
+-- each address of the run has a row
+pub run_has : (rows : List Row) (first start low : ℕ) → Rise rows → low ≤ length rows → ((i : ℕ) (d : Row) → start ≤ i → i < low → (get_or rows i d).address ≡ first + (i - start)) → (a : ℕ) → first ≤ a → a < first + (low - start) → IsSome (row_at rows a)
+run_has [] first start low rise within run a from before = absurd (omega arith)
+run_has (r ∷ rows) first start low rise within run a from before =
+    let i : ℕ = start + (a - first) in
+    let here : (d : Row) → (get_or (r ∷ rows) i d).address ≡ a = (λ d. let h = run i d (omega arith) (omega arith) in omega arith) in
+    ap is_some ((is_at (r ∷ rows) a i rise (omega arith) here).found r)
+
+-- the address behind the run has none
+pub run_ends : (rows : List Row) (first start low : ℕ) → IsPlace rows first start → start ≤ low → ((i : ℕ) (d : Row) → start ≤ i → i < low → (get_or rows i d).address ≡ first + (i - start)) → ((i : ℕ) (d : Row) → low ≤ i → i < length rows → first + (i - start) < (get_or rows i d).address) → row_at rows (first + (low - start)) ≡ None
+run_ends rows first start low p order run above = none_at rows (first + (low - start))
+    (λ i d within e. ⊎_elim (λ before. let h = p.below i d before in omega arith) (λ after. ⊎_elim (λ inside. let h = run i d after inside in omega arith) (λ beyond. let h = above i d beyond within in omega arith) (cases_lt i low)) (cases_lt i start))
+
+-- rows that rise from n on have none below
+pub none_below : (n : ℕ) (rows : List Row) (a : ℕ) → RiseFrom n rows → a < n → row_at rows a ≡ None
+none_below n [] a rise before = refl
+none_below n (r ∷ rows) a rise before =
+    let head = rise.0 in
+    let tail = none_below (r.address + 1) rows a rise.1 (omega arith) in
+    grind (arith, nat_tests)
+
+-- the row at the place of an address is the next from there on
+pub next_at : (rows : List Row) (a place : ℕ) → Rise rows → IsPlace rows a place → IsNext rows a (slice_get rows place)
+next_at rows a place rise p = by (slice_get_cases rows place).1 where
+  by : ((x : Row) × (place < length rows) × (slice_get rows place ≡ Some x) × (get_or rows place x ≡ x)) ⊎ ((length rows ≤ place) × (slice_get rows place ≡ None)) → IsNext rows a (slice_get rows place)
+  by (inl h) = subst (IsNext rows a) (sym h.2) (there, above, between) where
+    at : (d : Row) → (get_or rows place d).address ≡ h.0.address
+    at d = same_at rows place d h.0 h.1 ∙ ap (λ (r : Row). r.address) h.3
+
+    there : row_at rows h.0.address ≡ Some h.0
+    there = (is_at rows h.0.address place rise h.1 at).found h.0 ∙ ap Some h.3
+
+    above : a ≤ h.0.address
+    above = let g = p.above place h.0 (omega arith) h.1 in let e = at h.0 in omega arith
+
+    between : (b : ℕ) → a ≤ b → b < h.0.address → row_at rows b ≡ None
+    between b from before = none_at rows b (λ i d within e. ⊎_elim (λ l. let g = p.below i d l in omega arith) (λ l. let g = apart rows rise place i d l within in let f = at d in omega arith) (cases_lt i place))
+  by (inr h) = subst (IsNext rows a) (sym h.1) (λ b from. none_at rows b (λ i d within e. let g = p.below i d (omega (arith, h.0)) in omega arith))
+
+-- rows each of which stands above the one before rise
+pub rise_from_steps : (n : ℕ) (rows : List Row) → ((d : Row) → 0 < length rows → n ≤ (get_or rows 0 d).address) → ((i j : ℕ) (d : Row) → i + 1 ≡ j → j < length rows → (get_or rows i d).address < (get_or rows j d).address) → RiseFrom n rows
+rise_from_steps n [] first steps = tt
+rise_from_steps n (r ∷ rows) first steps =
+    (first r (omega arith), rise_from_steps (r.address + 1) rows (λ d within. let h = steps 0 1 d (omega arith) (omega arith) in omega arith) (λ i j d next within. steps (suc i) (suc j) d (omega arith) (omega arith)))
+
+-- what a loop over rows keeps: each one passed is in range, and above the one before
+pub record Accepted (rows : List Row) (n : ℕ) : Type 0 where
+  pub ranges : (k : ℕ) (d : Row) → k < n → IsInRange (get_or rows k d)
+  pub steps : (i j : ℕ) (d : Row) → i + 1 ≡ j → j < n → (get_or rows i d).address < (get_or rows j d).address
+
+pub accepted_all : (rows : List Row) (n : ℕ) → length rows ≤ n → Accepted rows n → Rise rows × All IsInRange rows
+accepted_all rows n all h =
+    (rise_from_steps 0 rows (λ d within. omega arith) (λ i j d next within. h.steps i j d next (omega arith)), λ k d within. h.ranges k d (omega arith))
+
+-- a row that does not stand above the one before: the rows do not rise
+pub not_above : (rows : List Row) (i : ℕ) (d e : Row) → 0 < i → i < length rows → (get_or rows i d).address ≤ (get_or rows (i - 1) e).address → Rise rows → ⊥
+not_above rows i d e from within le rise =
+    let same = same_at rows (i - 1) e d (omega arith) in
+    let h = apart rows rise (i - 1) i d (omega arith) within in
+    omega arith

@@ -1,0 +1,15 @@
+use Rattle.std.proofs.Common.{◌≡◌, ℕ, ◌+◌, ◌-◌, ◌<◌, ◌≤◌, length, get_or}
+use Rattle.kd_rows.specs.declared.row.Row.{Row}
+use Rattle.kd_rows.proofs.find.gap_in.Given as goal
+
+abbrev pub invariant-halves : goal.invariant-halves
+invariant-halves l = record {
+  from_start : l.start ≤ l.low;
+  order : l.low ≤ l.high;
+  in_range : l.high ≤ length l.rows;
+  below : (i : ℕ) (d : Row) → l.start ≤ i → i < l.low → (get_or l.rows i d).address ≡ l.first + (i - l.start);
+  above : (i : ℕ) (d : Row) → l.high ≤ i → i < length l.rows → l.first + (i - l.start) < (get_or l.rows i d).address;
+}
+
+abbrev pub decreases-halves : goal.decreases-halves
+decreases-halves l = l.high - l.low

@@ -1,0 +1,89 @@
+-- The index of the table, and places in it and among the rows: words of private contracts and of the invariant alone.
+use Rattle.std.specs.Prelude.{◌≡◌, ℕ, ◌<◌, ◌≤◌, Bool, false, ◌||◌, List, [], ◌∷◌, length, Option, Some, None, is_some, slice_index, slice_index_or, ◌==◌}
+use Rattle.std.specs.List.{All, insert, remove}
+use Rattle.std.specs.Cmp.Lexicographic.{slice_cmp}
+use Rattle.std.specs.Ordering.{nat_cmp, ordering_then}
+use Rattle.std.specs.declared.cmp.Ordering.{Ordering}
+use Rattle.std.specs.declared.cmp.Ordering.TheVariants.{Less}
+use Rattle.kd_rows.specs.declared.row.Row.{Row}
+use Rattle.kd_rows.specs.Row.{IsInRange}
+use Rattle.kd_rows.specs.Table.{Rise, row_at, latest_of}
+
+-- the client of a row
+abbrev pub client_in : Option Row → List ℕ
+client_in None = []
+client_in (Some row) = row.client
+
+-- the client that has an address, no bytes where it has no row
+abbrev pub client_at : List Row → ℕ → List ℕ
+client_at rows a = client_in (row_at rows a)
+
+-- by client, then by address
+abbrev pub key_order : List ℕ × ℕ → List ℕ × ℕ → Ordering
+key_order k l = ordering_then (slice_cmp nat_cmp k.0 l.0) (nat_cmp k.1 l.1)
+
+-- a key comes before another
+abbrev pub IsBelow : List ℕ × ℕ → List ℕ × ℕ → Type 0
+IsBelow k l = key_order k l ≡ Less
+
+-- what an address of the index is ordered by
+abbrev pub key_at : List Row → ℕ → List ℕ × ℕ
+key_at rows a = (client_at rows a, a)
+
+-- the addresses stand in the order of their keys
+abbrev pub Rises : (ℕ → List ℕ × ℕ) → List ℕ → Type 0
+Rises key index = (i j : ℕ) → i < j → j < length index → IsBelow (key (slice_index index i)) (key (slice_index index j))
+
+-- a list has an address
+abbrev pub lists : List ℕ → ℕ → Bool
+lists [] a = false
+lists (x ∷ xs) a = (x == a) || lists xs a
+
+-- the index has the addresses of the rows, in the order of their keys
+pub record IsIndex (rows : List Row) (index : List ℕ) : Type 0 where
+  pub same : (a : ℕ) → lists index a ≡ is_some (row_at rows a)
+  pub rising : Rises (key_at rows) index
+
+-- what is true of the fields of a table
+pub record IsKept (rows : List Row) (latest least : ℕ) (index : List ℕ) : Type 0 where
+  pub rise : Rise rows
+  pub ranged : All IsInRange rows
+  pub newest : latest ≡ latest_of rows
+  pub ends : All (λ row. least ≤ row.ends) rows
+  pub indexed : IsIndex rows index
+
+-- the rows before a place have lesser addresses, and those from it on do not
+pub record IsPlace (rows : List Row) (a place : ℕ) : Type 0 where
+  pub in_range : place ≤ length rows
+  pub below : (i : ℕ) (d : Row) → i < place → (slice_index_or rows i d).address < a
+  pub above : (i : ℕ) (d : Row) → place ≤ i → i < length rows → a ≤ (slice_index_or rows i d).address
+
+-- a place is that of the row of an address
+pub record IsAt (rows : List Row) (a place : ℕ) : Type 0 where
+  pub in_range : place < length rows
+  pub here : (d : Row) → (slice_index_or rows place d).address ≡ a
+  pub found : (d : Row) → row_at rows a ≡ Some (slice_index_or rows place d)
+  pub below : (i : ℕ) (d : Row) → i < place → (slice_index_or rows i d).address < a
+
+-- the place of the row of an address, or that it has none
+abbrev pub IsFound : List Row → ℕ → Option ℕ → Type 0
+IsFound rows a None = row_at rows a ≡ None
+IsFound rows a (Some place) = IsAt rows a place
+
+-- the addresses before a place have keys below k, and those from it on do not
+pub record IsKeyPlace (key : ℕ → List ℕ × ℕ) (index : List ℕ) (k : List ℕ × ℕ) (place : ℕ) : Type 0 where
+  pub in_range : place ≤ length index
+  pub below : (i : ℕ) → i < place → IsBelow (key (slice_index index i)) k
+  pub above : (i : ℕ) → place ≤ i → i < length index → IsBelow (key (slice_index index i)) k → ⊥
+
+-- an address is put at the place of its key
+abbrev pub Gives : (ℕ → List ℕ × ℕ) → List ℕ → List ℕ × ℕ → List ℕ → Type 0
+Gives key old k new = (place : ℕ) × IsKeyPlace key old k place × (new ≡ insert old place k.1)
+
+-- an address is taken from its place
+abbrev pub Takes : List ℕ → ℕ → List ℕ → Type 0
+Takes old a new = (place : ℕ) × (place < length old) × (slice_index old place ≡ a) × (new ≡ remove old place)
+
+-- an address is taken from its place, and put at that of another key
+abbrev pub Moves : (ℕ → List ℕ × ℕ) → List ℕ → List ℕ × ℕ → List ℕ → Type 0
+Moves key old k new = (between : List ℕ) × Takes old k.1 between × Gives key between k new

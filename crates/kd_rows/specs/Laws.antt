@@ -1,0 +1,20 @@
+-- What is true of each list of rows.
+use Rattle.std.specs.Prelude.{◌≡◌, ℕ, List, map, Some, if◌then◌else◌, ◌==◌}
+use Rattle.std.specs.FinMap.{FinMap, from_entries, get, insert}
+use Rattle.std.specs.Ordering.{nat_cmp}
+use Rattle.kd_rows.specs.declared.row.Row.{Row}
+use Rattle.kd_rows.specs.Table.{row_at, with_row}
+
+-- the map from addresses that rows spell; of two at one address it has the first
+abbrev pub map_of : List Row → FinMap nat_cmp Row
+map_of rows = from_entries (map (λ (row : Row). (row.address, row)) rows)
+
+-- rows are that map: to read is to get, to set is to insert
+abbrev pub RowsAreAMap : Type 0
+RowsAreAMap =
+    ((rows : List Row) (a : ℕ) → get (map_of rows) a ≡ row_at rows a)
+    × ((row : Row) (rows : List Row) → map_of (with_row row rows) ≡ insert (map_of rows) row.address row)
+
+-- after a row is set its address has it, and each other what it had
+abbrev pub GetOfSet : Type 0
+GetOfSet = (row : Row) (rows : List Row) (a : ℕ) → row_at (with_row row rows) a ≡ (if row.address == a then Some row else row_at rows a)

@@ -1,0 +1,4 @@
+pub mod Row
+pub mod Table
+pub mod Index
+pub mod Laws

@@ -1,0 +1,59 @@
+-- The table of leases: its rows, one an address, in rising address.
+use Rattle.std.specs.Prelude.{◌≡◌, ℕ, ◌+◌, ◌<◌, ◌≤◌, max, Bool, ◌||◌, List, [], ◌∷◌, map, Option, Some, None, is_some, IsSome, nat_eq, nat_lt, ◌==◌, if◌then◌else◌}
+use Rattle.std.specs.List.{filter}
+use Rattle.std.specs.Cmp.Lexicographic.{pointwise}
+use Rattle.kd_rows.specs.declared.row.Row.{Row}
+
+-- the rows, and for how many new addresses there is memory
+pub record Table : Type 0 where
+  pub rows : List Row
+  pub room : ℕ
+
+-- each address is n or above it, and above those before it
+abbrev pub RiseFrom : ℕ → List Row → Type 0
+RiseFrom n [] = Unit {0}
+RiseFrom n (row ∷ rows) = (n ≤ row.address) × RiseFrom (row.address + 1) rows
+
+-- the rows stand in rising address, one an address
+abbrev pub Rise : List Row → Type 0
+Rise rows = RiseFrom 0 rows
+
+-- the row of an address
+abbrev pub row_at : List Row → ℕ → Option Row
+row_at [] a = None
+row_at (row ∷ rows) a = if row.address == a then Some row else row_at rows a
+
+-- the rows with one set: in place of the row of its address, or where that address belongs
+abbrev pub with_row : Row → List Row → List Row
+with_row row [] = row ∷ []
+with_row row (r ∷ rows) =
+    if nat_lt row.address r.address then row ∷ r ∷ rows else if r.address == row.address then row ∷ rows else r ∷ with_row row rows
+
+-- the greatest moment at which a row was set, 0 without rows
+abbrev pub latest_of : List Row → ℕ
+latest_of [] = 0
+latest_of (row ∷ rows) = max row.changed (latest_of rows)
+
+-- a row is this client's
+abbrev pub is_of : List ℕ → Row → Bool
+is_of client row = pointwise nat_eq row.client client
+
+-- the addresses of a client's rows, rising
+abbrev pub addresses_of : List ℕ → List Row → List ℕ
+addresses_of client rows = map (λ row. row.address) (filter (is_of client) rows)
+
+-- a row can be set without memory
+abbrev pub spare : Table → Row → Bool
+spare table row = is_some (row_at table.rows row.address) || nat_lt 0 table.room
+
+-- the least address from first to last that has no row, or that each has one
+abbrev pub IsFirstGap : List Row → ℕ → ℕ → Option ℕ → Type 0
+IsFirstGap rows first last None = (a : ℕ) → first ≤ a → a ≤ last → IsSome (row_at rows a)
+IsFirstGap rows first last (Some gap) =
+    (first ≤ gap) × (gap ≤ last) × (row_at rows gap ≡ None) × ((a : ℕ) → first ≤ a → a < gap → IsSome (row_at rows a))
+
+-- the row of the least address from a on, or that there is none
+abbrev pub IsNext : List Row → ℕ → Option Row → Type 0
+IsNext rows a None = (b : ℕ) → a ≤ b → row_at rows b ≡ None
+IsNext rows a (Some row) =
+    (row_at rows row.address ≡ Some row) × (a ≤ row.address) × ((b : ℕ) → a ≤ b → b < row.address → row_at rows b ≡ None)

@@ -1,0 +1,100 @@
+ghost use Rattle.std.specs.Prelude.{◌≡◌, ◌+◌, ◌<◌, IfOk, true, vec_capacity, vec_len, length, slice_get};
+ghost use Rattle.std.specs.Ordering.{is_lt};
+ghost use Rattle.kd_rows.specs.Index.{Gives, IsIndex, IsKeyPlace, Rises, Takes, key_at, key_order, lists};
+ghost use Rattle.kd_rows.specs.Table.{Rise, addresses_of};
+
+use crate::find::client_of;
+use crate::row::Row;
+use std::alloc::AllocError;
+use std::cmp::Ordering;
+
+// Whether one key comes before another: by client, then by address.
+fn is_below(c: &[u8], a: u32, d: &[u8], b: u32) -> bool
+    ensures { result ≡ is_lt (key_order (c.now, a) (d.now, b)) }
+{
+    match c.cmp(d) {
+        Ordering::Less => true,
+        Ordering::Equal => a < b,
+        Ordering::Greater => false,
+    }
+}
+
+// The place of a key: before it stand the addresses whose keys come before.
+fn key_place(rows: &[Row], index: &[u32], client: &[u8], address: u32) -> usize
+    requires rise { Rise rows.now }
+    requires rising { Rises (key_at rows.now) index.now }
+    ensures { IsKeyPlace (key_at rows.now) index.now (client.now, address) result }
+{
+    let mut low = 0;
+    let mut high = index.len();
+    'halves: while low < high {
+        let middle = low + (high - low) / 2;
+        let at = index[middle];
+        if is_below(client_of(rows, at), at, client, address) {
+            low = middle + 1;
+        } else {
+            high = middle;
+        }
+    }
+    low
+}
+
+// The address at a place of the index, where it is this client's.
+pub(crate) fn nth_of(rows: &[Row], index: &[u32], client: &[u8], i: usize) -> Option<u32>
+    requires rise { Rise rows.now }
+    requires indexed { IsIndex rows.now index.now }
+    ensures { result ≡ slice_get (addresses_of client.now rows.now) i }
+{
+    let start = key_place(rows, index, client, 0);
+    if i >= index.len() - start {
+        return None;
+    }
+    let address = index[start + i];
+    if client_of(rows, address) == client {
+        Some(address)
+    } else {
+        None
+    }
+}
+
+// Puts an address at the place of its key. The keys of the others are read from the rows.
+pub(crate) fn give_key(rows: &[Row], index: &mut Vec<u32>, client: &[u8], address: u32)
+    requires rise { Rise rows.now }
+    requires rising { Rises (key_at rows.now) index.old.items }
+    requires room { vec_len index.old < vec_capacity index.old }
+    ensures given { Gives (key_at rows.now) index.old.items (client.now, address) index.new.items }
+    ensures len { vec_len index.new ≡ vec_len index.old + 1 }
+    ensures capacity { vec_capacity index.new ≡ vec_capacity index.old }
+{
+    let place = key_place(rows, index, client, address);
+    match index.insert(place, address) {
+        Ok(()) => (),
+        Err(_) => unreachable!(),
+    }
+}
+
+// Takes an address that has a row from its place.
+pub(crate) fn take_key(rows: &[Row], index: &mut Vec<u32>, address: u32)
+    requires rise { Rise rows.now }
+    requires rising { Rises (key_at rows.now) index.old.items }
+    requires there { lists index.old.items address ≡ true }
+    ensures taken { Takes index.old.items address index.new.items }
+    ensures len { vec_len index.new + 1 ≡ vec_len index.old }
+    ensures capacity { vec_capacity index.new ≡ vec_capacity index.old }
+{
+    let place = key_place(rows, index, client_of(rows, address), address);
+    index.remove(place);
+}
+
+// The index of rows: their addresses are given to it one by one.
+pub(crate) fn index_of(rows: &Vec<Row>) -> Result<Vec<u32>, AllocError>
+    requires { Rise rows.now.items }
+    ensures { IfOk result (λ index. IsIndex rows.now.items index.items) }
+{
+    let mut index = Vec::new(*rows.allocator());
+    index.reserve_exact(rows.len())?;
+    for row in rows {
+        give_key(rows, &mut index, row.client.as_slice(), row.address);
+    }
+    Ok(index)
+}

@@ -1,0 +1,16 @@
+//! The table of leases in memory: a row an address, found by address and by client.
+//!
+//! What this layer promises to the one above: the table is the list of its rows in rising address
+//! (`specs/Table.antt`), each call says what it reads or changes there, and setting a row takes no
+//! memory, which is asked for before. Times are in seconds, in the ranges of `specs/Row.antt`.
+#![tactic(auto)]
+
+mod find;
+mod index;
+pub mod laws;
+mod put;
+mod row;
+mod rows;
+
+pub use row::{Row, State};
+pub use rows::Rows;

@@ -1,0 +1,217 @@
+ghost use Rattle.std.specs.Prelude.{◌≡◌, ◌+◌, ◌-◌, ◌≤◌, ◌<◌, ◌^◌, ◌↔◌, length, IfOk, IsTrue, OnErr, OnOk, false, is_some, if◌then◌else◌, true, slice_get};
+ghost use Rattle.std.specs.List.{All};
+ghost use Rattle.std.specs.Option.{option_copied};
+ghost use Rattle.kd_rows.specs.Row.{IsInRange};
+ghost use Rattle.kd_rows.specs.Table.{IsFirstGap, IsNext, Rise, addresses_of, latest_of, row_at, spare, with_row};
+
+use crate::find::{find, gap_in, place_of};
+use crate::index::{index_of, nth_of};
+use crate::put::put_row;
+use crate::row::Row;
+use std::alloc::AllocError;
+use std::marker::Model;
+
+/// The table of leases: a row an address, found by address and by client.
+#[derive(Drop)]
+pub struct Rows {
+    rows: Vec<Row>,
+    // The addresses in the order of client, then of address.
+    index: Vec<u32>,
+    latest: u64,
+    least: u64,
+}
+
+impl Model for Rows {
+    ghost use Rattle.std.specs.Prelude.{◌-◌, min, vec_capacity, vec_len};
+    ghost use Rattle.kd_rows.specs.Index.{IsKept};
+    ghost use Rattle.kd_rows.specs.Table.{Table};
+
+    ghost Value = { Table };
+
+    ghost view = { λ t. record { rows = t.rows.items; room = min (vec_capacity t.rows - vec_len t.rows) (vec_capacity t.index - vec_len t.index) } };
+
+    ghost invariant = { λ t. IsKept t.rows.items t.latest t.least t.index.items };
+}
+
+impl Rows {
+    /// Whether rows can be a table: they rise in address, one an address, and are in range.
+    pub fn accepts(rows: &[Row]) -> bool
+        ensures { IsTrue result ↔ Rise rows.now × All IsInRange rows.now }
+    {
+        for i in 0..rows.len() {
+            if !rows[i].is_in_range() {
+                return false;
+            }
+            if i > 0 && rows[i].address <= rows[i - 1].address {
+                return false;
+            }
+        }
+        true
+    }
+
+    /// The table of rows that rise in address, one an address.
+    ///
+    /// # Errors
+    ///
+    /// There is no memory for the index.
+    pub fn new(rows: Vec<Row>) -> Result<Rows, AllocError>
+        requires rise { Rise rows.items }
+        requires ranges { All IsInRange rows.items }
+        ensures { IfOk result (λ t. t.rows ≡ rows.items) }
+    {
+        let index = index_of(&rows)?;
+        let latest = latest_in(&rows);
+        let least = least_in(&rows);
+        Ok(Rows {
+            rows,
+            index,
+            latest,
+            least,
+        })
+    }
+
+    /// How many rows there are; they rise in address, and their times are in range.
+    pub fn len(&self) -> usize
+        ensures len { result ≡ length self.now.rows }
+        ensures rise { Rise self.now.rows }
+        ensures ranges { All IsInRange self.now.rows }
+    {
+        self.rows.len()
+    }
+
+    /// The row at an index, in rising address.
+    pub fn at(&self, i: usize) -> Option<&Row>
+        ensures { option_copied result ≡ slice_get self.now.rows i }
+    {
+        self.rows.get(i)
+    }
+
+    /// The row of an address.
+    pub fn get(&self, address: u32) -> Option<&Row>
+        ensures { option_copied result ≡ row_at self.now.rows address }
+    {
+        match find(&self.rows, address) {
+            Some(place) => Some(&self.rows[place]),
+            None => None,
+        }
+    }
+
+    /// Whether this very row is there, so that to set it would change nothing.
+    pub fn has(&self, row: &Row) -> bool
+        ensures { IsTrue result ↔ (with_row row.now self.now.rows ≡ self.now.rows) }
+    {
+        match find(&self.rows, row.address) {
+            Some(place) => is_same(&self.rows[place], row),
+            None => false,
+        }
+    }
+
+    /// The greatest moment at which a row was set, 0 without rows.
+    pub fn latest(&self) -> u64
+        ensures latest { result ≡ latest_of self.now.rows }
+        ensures early { result < 2 ^ 40 }
+    {
+        self.latest
+    }
+
+    /// A moment at which no row has ended yet: each ends then or later.
+    pub fn least_end(&self) -> u64
+        ensures { All (λ row. result ≤ row.ends) self.now.rows }
+    {
+        self.least
+    }
+
+    /// The address at an index among those of a client, which rise.
+    pub fn of_client(&self, client: &[u8], i: usize) -> Option<u32>
+        ensures { result ≡ slice_get (addresses_of client.now self.now.rows) i }
+    {
+        nth_of(&self.rows, &self.index, client, i)
+    }
+
+    /// The least address from `first` to `last` that has no row.
+    pub fn first_gap(&self, first: u32, last: u32) -> Option<u32>
+        requires { first ≤ last }
+        ensures { IsFirstGap self.now.rows first last result }
+    {
+        gap_in(&self.rows, first, last)
+    }
+
+    /// The row of the least address that is this one or above it.
+    pub fn next_from(&self, address: u32) -> Option<&Row>
+        ensures { IsNext self.now.rows address (option_copied result) }
+    {
+        self.at(place_of(&self.rows, address))
+    }
+
+    /// Whether a row can be set without memory: its address has one, or there is room for one more.
+    pub fn spare(&self, row: &Row) -> bool
+        ensures { result ≡ spare self.now row.now }
+    {
+        find(&self.rows, row.address).is_some()
+            || (self.rows.len() < self.rows.capacity() && self.index.len() < self.index.capacity())
+    }
+
+    /// Makes room, so that a row can be set without memory.
+    ///
+    /// # Errors
+    ///
+    /// There was no room, and there is no memory for it; the rows stay as they are.
+    pub fn reserve(&mut self, row: &Row) -> Result<(), AllocError>
+        ensures rows { self.new.rows ≡ self.old.rows }
+        ensures spare { OnOk result (spare self.new row.now ≡ true) }
+        ensures needed { OnErr result (spare self.old row.now ≡ false) }
+    {
+        if !self.spare(row) {
+            self.rows.reserve(1)?;
+            self.index.reserve(1)?;
+        }
+        Ok(())
+    }
+
+    /// Sets a row: in place of the row of its address, or where that address belongs. No memory is
+    /// taken.
+    pub fn set(&mut self, row: Row)
+        requires spare { spare self.old row ≡ true }
+        requires changed { latest_of self.old.rows ≤ row.changed }
+        requires range { IsInRange row }
+        ensures rows { self.new.rows ≡ with_row row self.old.rows }
+        ensures room { self.new.room ≡ self.old.room - (if is_some (row_at self.old.rows row.address) then 0 else 1) }
+    {
+        self.latest = row.changed;
+        self.least = self.least.min(row.ends);
+        put_row(&mut self.rows, &mut self.index, row);
+    }
+}
+
+// Whether two rows are the same.
+fn is_same(a: &Row, b: &Row) -> bool
+    ensures { IsTrue result ↔ (a.now ≡ b.now) }
+{
+    a.address == b.address
+        && a.state == b.state
+        && a.changed == b.changed
+        && a.ends == b.ends
+        && a.client.as_slice() == b.client.as_slice()
+}
+
+// The greatest moment at which a row was set, 0 without rows.
+fn latest_in(rows: &[Row]) -> u64
+    ensures { result ≡ latest_of rows.now }
+{
+    let mut latest = 0;
+    for row in rows {
+        latest = row.changed.max(latest);
+    }
+    latest
+}
+
+// The least moment at which a row ends, the greatest of all without rows.
+fn least_in(rows: &[Row]) -> u64
+    ensures { All (λ row. result ≤ row.ends) rows.now }
+{
+    let mut least = u64::MAX;
+    for row in rows {
+        least = row.ends.min(least);
+    }
+    least
+}
