@@ -1,0 +1,51 @@
+ghost use Rattle.std.specs.Prelude.{◌≡◌};
+ghost use Rattle.kd_keeps.specs.Fault.{store_fault_number};
+
+use std::fmt;
+use thiserror::Error;
+
+/// Why a database does not answer, by the names of SQLite's result codes.
+#[derive(Clone, Copy, PartialEq, Eq)]
+pub enum Cause {
+    /// There is no memory.
+    OutOfMemory,
+    /// The disk can not be read or written.
+    SystemIoFailure,
+    /// The disk is full.
+    DiskFull,
+    /// The database would grow over its greatest size.
+    TooBig,
+    /// The file is damaged.
+    DatabaseCorrupt,
+    /// An earlier failure of the disk has closed the database.
+    Closed,
+}
+
+/// Why a store does not answer.
+#[derive(Clone, Copy, PartialEq, Eq, Error)]
+pub enum StoreFault {
+    /// The database has a table `lease` that is not ours, or a row that is out of range.
+    #[error("Schema")]
+    Schema,
+    /// The database does not answer. The cause is not printed.
+    #[error("Sql")]
+    Sql(Cause),
+}
+
+impl fmt::Debug for StoreFault {
+    fn fmt<W: fmt::Write>(&self, f: &mut fmt::Formatter<W>) -> fmt::Result {
+        fmt::Display::fmt(self, f)
+    }
+}
+
+impl StoreFault {
+    /// The fault's number: 80 or 81.
+    pub fn number(self) -> u8
+        ensures { result ≡ store_fault_number self }
+    {
+        match self {
+            StoreFault::Schema => 80,
+            StoreFault::Sql(_) => 81,
+        }
+    }
+}
