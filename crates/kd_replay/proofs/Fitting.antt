@@ -2,9 +2,9 @@
 use Rattle.std.proofs.Common.{ℕ, ◌^◌, ◌<◌, ◌≤◌, length}
 use Rattle.kd_replay.proofs.Texts.{line_fits, quiet_length, reply_length}
 use Rattle.kd_replay.specs.Text.{IsSmall, line_of, line_room, response_text}
-use Rattle.kd_replay.specs.declared.event.Handled.{Handled}
-use Rattle.kd_replay.specs.declared.event.Response.{Response}
-use Rattle.kd_replay.specs.declared.event.Response.TheVariants as responses
+use Rattle.kd_event.specs.declared.event.Handled.{Handled}
+use Rattle.kd_event.specs.declared.event.Response.{Response}
+use Rattle.kd_event.specs.declared.event.Response.TheVariants as responses
 
 response_fits : (response : Response) → IsSmall response → length (response_text response) ≤ 3100
 response_fits (responses.Reply d bytes) small = reply_length d bytes small.1 small.2 small.0

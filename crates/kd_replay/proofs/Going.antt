@@ -8,8 +8,8 @@ use Rattle.kd_replay.specs.Lines.{IsEventLine, lines_of}
 use Rattle.kd_replay.specs.Parts.{FindsIn}
 use Rattle.kd_replay.specs.Replay.{Did, Ends, Handles, IsNoEvent, Leaves, most_lines}
 use Rattle.kd_replay.specs.Text.{line_of}
-use Rattle.kd_replay.specs.declared.event.Event.{Event}
-use Rattle.kd_replay.specs.declared.event.Handled.{Handled}
+use Rattle.kd_event.specs.declared.event.Event.{Event}
+use Rattle.kd_event.specs.declared.event.Handled.{Handled}
 use Rattle.kd_replay.specs.declared.fault.ReplayFault.{ReplayFault}
 use Rattle.kd_replay.specs.declared.fault.ReplayFault.TheVariants as faults
 use Rattle.kd_replay.specs.declared.fault.ServeFault.{ServeFault}

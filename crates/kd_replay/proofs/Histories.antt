@@ -4,8 +4,8 @@ use Rattle.std.proofs.lemmas.List.{drop_more, take-append-drop, take_more}
 use Rattle.kd_replay.specs.History.{Halts, History, Runs}
 use Rattle.kd_replay.specs.Lines.{IsEventLine}
 use Rattle.kd_replay.specs.Replay.{AreEvents}
-use Rattle.kd_replay.specs.declared.event.Event.{Event}
-use Rattle.kd_replay.specs.declared.event.Handled.{Handled}
+use Rattle.kd_event.specs.declared.event.Event.{Event}
+use Rattle.kd_event.specs.declared.event.Handled.{Handled}
 use Rattle.kd_replay.specs.declared.fault.ServeFault.{ServeFault}
 use Rattle.kd_replay.specs.declared.fault.ServeFault.TheVariants as faults
 

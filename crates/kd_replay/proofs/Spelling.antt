@@ -8,7 +8,7 @@ use Rattle.hex.specs.Hex.{decode_of}
 use Rattle.memchr.specs.Find.{IsFirstByte, is_byte}
 use Rattle.kd_replay.specs.Lines.{IsEventLine, IsMoment, number_after}
 use Rattle.kd_replay.specs.Parts.{HasNo}
-use Rattle.kd_replay.specs.declared.event.Event.{Event}
+use Rattle.kd_event.specs.declared.event.Event.{Event}
 use Rattle.kd_replay.proofs.Looking.{plain_front, split_first}
 
 pub split_at_first : (line : List ℕ) (at : ℕ) → IsFirstByte (is_byte 32) line (Some at) → (line ≡ take at line ++ 32 ∷ take (length line - (at + 1)) (drop (at + 1) line)) × HasNo 32 (take at line)

@@ -4,14 +4,14 @@ use Rattle.std.specs.Prelude.{decimal}
 use Rattle.std.proofs.lemmas.Fmt.{length-decimal-le}
 use Rattle.hex.specs.Hex.{encode_lower, lower_digits}
 use Rattle.hex.proofs.HexLemmas.{length-encode_with}
-use Rattle.kd_replay.specs.Reason.{reason_name, reason_number}
+use Rattle.kd_event.specs.Reason.{reason_name, reason_number}
 use Rattle.kd_replay.specs.Text.{address_text, bytes_text, line_of, line_room, mode_word, quiet_line, reply_line, response_text}
-use Rattle.kd_replay.specs.declared.destination.Destination.{Destination}
-use Rattle.kd_replay.specs.declared.destination.Mode.{Mode}
-use Rattle.kd_replay.specs.declared.destination.Mode.TheVariants as modes
-use Rattle.kd_replay.specs.declared.event.Handled.{Handled}
-use Rattle.kd_replay.specs.declared.reason.Reason.{Reason}
-use Rattle.kd_replay.specs.declared.reason.Reason.TheVariants as reasons
+use Rattle.kd_event.specs.declared.destination.Destination.{Destination}
+use Rattle.kd_event.specs.declared.destination.Mode.{Mode}
+use Rattle.kd_event.specs.declared.destination.Mode.TheVariants as modes
+use Rattle.kd_event.specs.declared.event.Handled.{Handled}
+use Rattle.kd_event.specs.declared.reason.Reason.{Reason}
+use Rattle.kd_event.specs.declared.reason.Reason.TheVariants as reasons
 
 pub hex_length : (bytes : List ℕ) → length (encode_lower bytes) ≡ 2 * length bytes
 hex_length bytes = length-encode_with lower_digits bytes

@@ -10,6 +10,8 @@ abbrev pub serve_fault_number : ServeFault → ℕ
 serve_fault_number (serving.Unsupported kind) = 89
 serve_fault_number serving.MomentTooLarge = 90
 serve_fault_number serving.Memory = 91
+serve_fault_number (serving.Store fault) = 92
+serve_fault_number serving.Failed = 93
 
 -- the number of each fault of a replay
 abbrev pub replay_fault_number : ReplayFault → ℕ

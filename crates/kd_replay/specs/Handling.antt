@@ -3,8 +3,8 @@ use Rattle.std.specs.Prelude.{◌≡◌, ◌≢◌, ℕ, List, Option}
 use Rattle.std.specs.Io.KnownBytes.{Appends}
 use Rattle.kd_replay.specs.Parts.{WritesPart}
 use Rattle.kd_replay.specs.Text.{line_of}
-use Rattle.kd_replay.specs.declared.event.Event.{Event}
-use Rattle.kd_replay.specs.declared.event.Handled.{Handled}
+use Rattle.kd_event.specs.declared.event.Event.{Event}
+use Rattle.kd_event.specs.declared.event.Handled.{Handled}
 use Rattle.kd_replay.specs.declared.fault.ReplayFault.{ReplayFault}
 use Rattle.kd_replay.specs.declared.fault.ReplayFault.TheVariants as faults
 use Rattle.kd_replay.specs.declared.fault.ServeFault.{ServeFault}

@@ -3,6 +3,5 @@ pub mod Handling
 pub mod History
 pub mod Lines
 pub mod Parts
-pub mod Reason
 pub mod Replay
 pub mod Text

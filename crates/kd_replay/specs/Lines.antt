@@ -2,7 +2,7 @@
 use Rattle.std.specs.Prelude.{◌≡◌, ℕ, ◌+◌, ◌-◌, ◌*◌, ◌^◌, ◌<◌, ◌≤◌, ◌==◌, ◌&&◌, nat_lt, List, [], ◌∷◌, ◌++◌, Option, Some, None, Ok, length, if◌then◌else◌}
 use Rattle.std.specs.Char.{is_ascii_digit}
 use Rattle.hex.specs.Hex.{decode_of}
-use Rattle.kd_replay.specs.declared.event.Event.{Event}
+use Rattle.kd_event.specs.declared.event.Event.{Event}
 
 -- the most bytes that a line has, without its line feed
 abbrev pub line_limit : ℕ

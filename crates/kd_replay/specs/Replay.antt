@@ -4,8 +4,8 @@ use Rattle.std.specs.List.{flat_map}
 use Rattle.kd_replay.specs.History.{History}
 use Rattle.kd_replay.specs.Lines.{IsEventLine, lines_of}
 use Rattle.kd_replay.specs.Text.{line_of}
-use Rattle.kd_replay.specs.declared.event.Event.{Event}
-use Rattle.kd_replay.specs.declared.event.Handled.{Handled}
+use Rattle.kd_event.specs.declared.event.Event.{Event}
+use Rattle.kd_event.specs.declared.event.Handled.{Handled}
 use Rattle.kd_replay.specs.declared.fault.ReplayFault.{ReplayFault}
 use Rattle.kd_replay.specs.declared.fault.ReplayFault.TheVariants as faults
 use Rattle.kd_replay.specs.declared.fault.ServeFault.{ServeFault}

@@ -1,13 +1,13 @@
 -- The text of a handled event: the line that a replay writes for it.
 use Rattle.std.specs.Prelude.{ℕ, ◌/◌, ◌%◌, ◌^◌, ◌<◌, ◌≤◌, List, [], ◌∷◌, ◌++◌, codes, decimal, length}
 use Rattle.hex.specs.Hex.{encode_lower}
-use Rattle.kd_replay.specs.Reason.{reason_name, reason_number}
-use Rattle.kd_replay.specs.declared.destination.Destination.{Destination}
-use Rattle.kd_replay.specs.declared.destination.Mode.{Mode}
-use Rattle.kd_replay.specs.declared.destination.Mode.TheVariants as modes
-use Rattle.kd_replay.specs.declared.event.Handled.{Handled}
-use Rattle.kd_replay.specs.declared.event.Response.{Response}
-use Rattle.kd_replay.specs.declared.event.Response.TheVariants as responses
+use Rattle.kd_event.specs.Reason.{reason_name, reason_number}
+use Rattle.kd_event.specs.declared.destination.Destination.{Destination}
+use Rattle.kd_event.specs.declared.destination.Mode.{Mode}
+use Rattle.kd_event.specs.declared.destination.Mode.TheVariants as modes
+use Rattle.kd_event.specs.declared.event.Handled.{Handled}
+use Rattle.kd_event.specs.declared.event.Response.{Response}
+use Rattle.kd_event.specs.declared.event.Response.TheVariants as responses
 
 -- the word for how a reply is sent
 abbrev pub mode_word : Mode → List ℕ

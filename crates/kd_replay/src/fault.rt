@@ -1,6 +1,7 @@
 ghost use Rattle.std.specs.Prelude.{◌≡◌};
 ghost use Rattle.kd_replay.specs.Faults.{replay_fault_number, serve_fault_number};
 
+use kd_keeps::StoreFault;
 use kd_options::MessageType;
 use std::alloc::AllocError;
 use std::fmt;
@@ -18,6 +19,13 @@ pub enum ServeFault {
     /// There is no memory for the event.
     #[error("Memory")]
     Memory,
+    /// The store of leases has failed at this event: no reply is sent, and the store holds the rows from
+    /// before or those with the event's change.
+    #[error("Store {0}")]
+    Store(StoreFault),
+    /// The store of leases has failed at an earlier event and was not opened again.
+    #[error("Failed")]
+    Failed,
 }
 
 impl fmt::Debug for ServeFault {
@@ -27,7 +35,7 @@ impl fmt::Debug for ServeFault {
 }
 
 impl ServeFault {
-    /// The fault's number: 89 to 91.
+    /// The fault's number: 89 to 93.
     pub fn number(self) -> u8
         ensures { result ≡ serve_fault_number self }
     {
@@ -35,6 +43,8 @@ impl ServeFault {
             ServeFault::Unsupported(_) => 89,
             ServeFault::MomentTooLarge => 90,
             ServeFault::Memory => 91,
+            ServeFault::Store(_) => 92,
+            ServeFault::Failed => 93,
         }
     }
 }

@@ -6,13 +6,10 @@
 #![tactic(auto)]
 
 mod ahead;
-mod destination;
 mod ends;
-mod event;
 mod fault;
 mod line;
 mod lines;
-mod reason;
 mod replaying;
 mod room;
 mod running;
@@ -20,11 +17,8 @@ mod serves;
 mod text;
 mod writing;
 
-pub use destination::{Destination, Mode};
 pub use ends::{EndFailed, Sink, Source};
-pub use event::{Event, Handled, Response};
 pub use fault::{ReplayFault, ServeFault};
-pub use reason::Reason;
 pub use replaying::replay_with;
 pub use running::run_with;
 pub use serves::Serves;

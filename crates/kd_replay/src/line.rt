@@ -3,9 +3,9 @@ ghost use Rattle.std.specs.Char.{is_ascii_digit};
 ghost use Rattle.hex.specs.Hex.{decode_of};
 ghost use Rattle.kd_replay.specs.Lines.{IsEventLine, IsMoment, line_limit};
 ghost use Rattle.kd_replay.specs.Parts.{HasNo};
-ghost use Rattle.kd_replay.specs.declared.event.Event.{Event};
+ghost use Rattle.kd_event.specs.declared.event.Event.{Event};
 
-use crate::event::Event;
+use kd_event::Event;
 use hex::FromHexError;
 use kd_wire::Bytes;
 use memchr::memchr;

@@ -10,7 +10,7 @@ ghost use Rattle.kd_replay.specs.declared.fault.ReplayFault.TheVariants as fault
 
 use crate::ahead::Ahead;
 use crate::ends::{EndFailed, Sink, Source};
-use crate::event::{Event, Handled};
+use kd_event::{Event, Handled};
 use crate::fault::{ReplayFault, ServeFault};
 use crate::line::event_in;
 use crate::lines::{Found, LINE_LIMIT, next_line};

@@ -1,7 +1,7 @@
 ghost use Rattle.std.specs.Prelude.{◌≡◌, ◌+◌, ◌<◌, ◌∷◌, ◌++◌, [], vec_capacity, vec_len};
 ghost use Rattle.kd_replay.specs.History.{Runs};
 
-use crate::event::{Event, Handled};
+use kd_event::{Event, Handled};
 use crate::fault::ServeFault;
 use crate::serves::Serves;
 use std::alloc::Global;

@@ -1,4 +1,4 @@
-use crate::event::Handled;
+use kd_event::Handled;
 use crate::fault::ServeFault;
 
 /// What handles events: a replay and a run are written over it, whatever an event does.
@@ -6,8 +6,8 @@ pub trait Serves {
     ghost use Rattle.std.specs.Prelude.{◌≡◌, IfErr, IfOk};
     ghost use Rattle.std.specs.Result.{IsErrOf};
     ghost use Rattle.kd_replay.specs.Text.{IsSmall};
-    ghost use Rattle.kd_replay.specs.declared.event.Event.{Event};
-    ghost use Rattle.kd_replay.specs.declared.event.Handled.{Handled};
+    ghost use Rattle.kd_event.specs.declared.event.Event.{Event};
+    ghost use Rattle.kd_event.specs.declared.event.Handled.{Handled};
     ghost use Rattle.kd_replay.specs.declared.fault.ServeFault.{ServeFault};
     ghost use Rattle.kd_replay.specs.declared.fault.ServeFault.TheVariants as faults;
 

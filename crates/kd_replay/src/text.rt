@@ -1,11 +1,9 @@
 ghost use Rattle.std.specs.Prelude.{◌≡◌, ◌+◌, ◌≤◌, ◌++◌, length, codes, decimal, vec_capacity};
 ghost use Rattle.hex.specs.Hex.{encode_lower};
-ghost use Rattle.kd_replay.specs.Reason.{reason_name, reason_number};
+ghost use Rattle.kd_event.specs.Reason.{reason_name, reason_number};
 ghost use Rattle.kd_replay.specs.Text.{address_text, bytes_text, destination_text, line_of, mode_word, quiet_line, reply_line, response_text};
 
-use crate::destination::{Destination, Mode};
-use crate::event::{Handled, Response};
-use crate::reason::Reason;
+use kd_event::{Destination, Handled, Mode, Reason, Response};
 use crate::room::put;
 use itoa::Buffer;
 

@@ -1,12 +1,4 @@
-pub mod Change
-pub mod Client
-pub mod Decision
-pub mod Destination
-pub mod Given
-pub mod Plan
-pub mod ReplyOf
 pub mod Responding
 pub mod Standing
 pub mod Step
-pub mod SubnetOf
-pub mod Valuing
+pub mod Unserved

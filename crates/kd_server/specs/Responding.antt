@@ -5,18 +5,18 @@ use Rattle.kd_classes.specs.HeldSet.{HeldSet}
 use Rattle.kd_config.specs.Configuration.{Configuration}
 use Rattle.kd_options.specs.Message.{Seen, Reads}
 use Rattle.kd_options.specs.Reply.{reply_text}
-use Rattle.kd_server.specs.Change.{outcome_of}
-use Rattle.kd_server.specs.Decision.{IsUnserved}
-use Rattle.kd_server.specs.Destination.{destination_of}
-use Rattle.kd_server.specs.Plan.{Outcome}
+use Rattle.kd_lease.specs.Change.{outcome_of}
+use Rattle.kd_server.specs.Unserved.{IsUnserved}
+use Rattle.kd_lease.specs.Destination.{destination_of}
+use Rattle.kd_lease.specs.Plan.{Outcome}
 use Rattle.kd_server.specs.Step.{Responds}
-use Rattle.kd_server.specs.declared.ports.Ports.{Ports}
-use Rattle.kd_replay.specs.declared.event.Response.{Response}
-use Rattle.kd_replay.specs.declared.event.Response.TheVariants as responses
+use Rattle.kd_event.specs.declared.ports.Ports.{Ports}
+use Rattle.kd_event.specs.declared.event.Response.{Response}
+use Rattle.kd_event.specs.declared.event.Response.TheVariants as responses
 use Rattle.kd_replay.specs.declared.fault.ServeFault.{ServeFault}
-use Rattle.kd_replay.specs.declared.fault.ServeFault.TheVariants.{Unsupported, MomentTooLarge, Memory}
-use Rattle.kd_server.specs.declared.plan.Plan.{Plan}
-use Rattle.kd_replay.specs.declared.reason.Reason.TheVariants as reasons
+use Rattle.kd_replay.specs.declared.fault.ServeFault.TheVariants.{Unsupported, MomentTooLarge, Memory, Store, Failed}
+use Rattle.kd_lease.specs.declared.plan.Plan.{Plan}
+use Rattle.kd_event.specs.declared.reason.Reason.TheVariants as reasons
 
 -- a planned reply is sent
 abbrev pub IsSent : Ports → Seen → Plan → Response → Type 0
@@ -53,3 +53,5 @@ abbrev pub IsUnanswered : Configuration → List ℕ → ServeFault → Type 0
 IsUnanswered config bytes (Unsupported kind) = (m : Seen) × Reads bytes m × IsUnserved config m (Unsupported kind)
 IsUnanswered config bytes MomentTooLarge = ⊥
 IsUnanswered config bytes Memory = Unit {0}
+IsUnanswered config bytes (Store fault) = ⊥
+IsUnanswered config bytes Failed = ⊥

@@ -3,14 +3,14 @@
 use Rattle.std.specs.Prelude.{◌≡◌, ◌^◌, ◌≤◌, ◌<◌}
 use Rattle.kd_config.specs.Configuration.{Configuration}
 use Rattle.kd_options.specs.Message.{Seen, Reads}
-use Rattle.kd_server.specs.Change.{Changes, Table, latest}
-use Rattle.kd_server.specs.Decision.{IsUnserved}
+use Rattle.kd_lease.specs.Change.{Changes, Table, latest}
+use Rattle.kd_server.specs.Unserved.{IsUnserved}
 use Rattle.kd_server.specs.Step.{IsStep}
-use Rattle.kd_server.specs.declared.ports.Ports.{Ports}
-use Rattle.kd_replay.specs.declared.event.Event.{Event}
-use Rattle.kd_replay.specs.declared.event.Handled.{Handled}
+use Rattle.kd_event.specs.declared.ports.Ports.{Ports}
+use Rattle.kd_event.specs.declared.event.Event.{Event}
+use Rattle.kd_event.specs.declared.event.Handled.{Handled}
 use Rattle.kd_replay.specs.declared.fault.ServeFault.{ServeFault}
-use Rattle.kd_replay.specs.declared.fault.ServeFault.TheVariants.{Unsupported, MomentTooLarge, Memory}
+use Rattle.kd_replay.specs.declared.fault.ServeFault.TheVariants.{Unsupported, MomentTooLarge, Memory, Store, Failed}
 
 -- what contracts see of a server: its ports, the configuration that it goes by, and the table that it
 -- stands at
@@ -33,11 +33,13 @@ pub record IsUnsupported (config : Configuration) (event : Event) (fault : Serve
   pub unserved : IsUnserved config message fault
 
 -- why an event is not handled: its moment is 2^40 or more, its message's type has no rule, or memory ran
--- out
+-- out; there is no store yet that could fail
 abbrev pub IsFault : Configuration → Event → ServeFault → Type 0
 IsFault config event (Unsupported kind) = IsUnsupported config event (Unsupported kind)
 IsFault config event MomentTooLarge = 2 ^ 40 ≤ event.moment
 IsFault config event Memory = event.moment < 2 ^ 40
+IsFault config event (Store fault) = ⊥
+IsFault config event Failed = ⊥
 
 -- an event is not handled, and the server stands where it stood
 pub record Fails (old : Standing) (event : Event) (fault : ServeFault) (new : Standing) : Type 0 where

@@ -2,17 +2,17 @@
 -- parameter.
 use Rattle.std.specs.Prelude.{◌≡◌, ℕ, ◌^◌, ◌<◌, max, ◌⊎◌}
 use Rattle.kd_options.specs.Message.{Seen, Reads}
-use Rattle.kd_server.specs.Client.{room_of}
-use Rattle.kd_server.specs.Destination.{destination_of}
-use Rattle.kd_server.specs.Plan.{Outcome}
-use Rattle.kd_server.specs.Plan.Outcome.{planned, quiet}
-use Rattle.kd_server.specs.ReplyOf.{IsReplyText, reply_header}
-use Rattle.kd_server.specs.declared.ports.Ports.{Ports}
-use Rattle.kd_replay.specs.declared.event.Event.{Event}
-use Rattle.kd_replay.specs.declared.event.Handled.{Handled}
-use Rattle.kd_replay.specs.declared.event.Response.{Response}
-use Rattle.kd_replay.specs.declared.event.Response.TheVariants as responses
-use Rattle.kd_replay.specs.declared.reason.Reason.TheVariants as reasons
+use Rattle.kd_lease.specs.Client.{room_of}
+use Rattle.kd_lease.specs.Destination.{destination_of}
+use Rattle.kd_lease.specs.Plan.{Outcome}
+use Rattle.kd_lease.specs.Plan.Outcome.{planned, quiet}
+use Rattle.kd_lease.specs.ReplyOf.{IsReplyText, reply_header}
+use Rattle.kd_event.specs.declared.ports.Ports.{Ports}
+use Rattle.kd_event.specs.declared.event.Event.{Event}
+use Rattle.kd_event.specs.declared.event.Handled.{Handled}
+use Rattle.kd_event.specs.declared.event.Response.{Response}
+use Rattle.kd_event.specs.declared.event.Response.TheVariants as responses
+use Rattle.kd_event.specs.declared.reason.Reason.TheVariants as reasons
 
 -- what is sent for a message that gets this: a planned reply's text, to its destination; else the reason
 abbrev pub Responds : Ports → Seen → Outcome → Response → Type 0

@@ -1,7 +1,7 @@
 ghost use Rattle.std.specs.Prelude.{◌≡◌, ◌≤◌, ◌⊎◌, ℕ, List, Some, true, false, IfErr, IfOk};
 ghost use Rattle.std.specs.Result.{IsErrOf};
 ghost use Rattle.kd_options.specs.Reply.{Fits};
-ghost use Rattle.kd_server.specs.Decision.{IsUnserved};
+ghost use Rattle.kd_server.specs.Unserved.{IsUnserved};
 ghost use Rattle.kd_replay.specs.History.{Runs};
 ghost use Rattle.kd_replay.specs.Replay.{Handles, Leaves, most_lines};
 ghost use Rattle.kd_server.specs.Responding.{IsAnswerBy, IsResponse, IsSent, IsUnanswered};
@@ -10,16 +10,11 @@ ghost use Rattle.kd_replay.specs.Text.{IsSmall};
 ghost use Rattle.kd_replay.specs.declared.fault.ReplayFault.TheVariants as faults;
 ghost use Rattle.kd_replay.specs.declared.fault.ServeFault.TheVariants.{Memory};
 
-use crate::plan::{Decision, Plan};
-use crate::ports::Ports;
-use crate::rules::decide;
-use crate::sending::destination;
 use kd_config::Config;
+use kd_event::{Event, Handled, Ports, Reason, Response};
+use kd_lease::{Decision, Plan, decide, destination};
 use kd_options::{Message, ReadFault, WriteFault};
-use kd_replay::{
-    Event, Handled, Reason, ReplayFault, Response, ServeFault, Serves, Sink, Source, replay_with,
-    run_with,
-};
+use kd_replay::{ReplayFault, ServeFault, Serves, Sink, Source, replay_with, run_with};
 use kd_wire::Bytes;
 use std::alloc::Global;
 use std::marker::Model;
@@ -169,8 +164,9 @@ fn answer(
 {
     let names = config.classes().held(alloc, message)?;
     match decide(alloc, config, &names, message)? {
-        Decision::Quiet(reason) => Ok(Response::Quiet(reason)),
-        Decision::Plan(plan) => sent(alloc, ports, message, &plan),
+        Some(Decision::Quiet(reason)) => Ok(Response::Quiet(reason)),
+        Some(Decision::Plan(plan)) => sent(alloc, ports, message, &plan),
+        None => Err(ServeFault::Unsupported(message.kind())),
     }
 }
 

@@ -1,7 +1,8 @@
 use crate::doubles::{Giving, Keeping};
 use kd_config::Config;
+use kd_event::Ports;
 use kd_replay::ReplayFault;
-use kd_server::{Ports, Server, replay};
+use kd_server::{Server, replay};
 use std::alloc::{AllocError, Global};
 use std::test::Fail;
 

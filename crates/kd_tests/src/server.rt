@@ -1,7 +1,8 @@
 use crate::support::COOKIE;
 use kd_config::Config;
-use kd_replay::{Destination, Event, Mode, Reason, Response, ServeFault};
-use kd_server::{Ports, Server};
+use kd_event::{Destination, Event, Mode, Ports, Reason, Response};
+use kd_replay::ServeFault;
+use kd_server::Server;
 use kd_wire::Bytes;
 use std::alloc::{AllocError, Global};
 use std::test::Fail;

@@ -7,8 +7,9 @@
 
 use kd_answer::{Printed, answer, exit_status, replay_status};
 use kd_ends::{Input, Output, configuration};
+use kd_event::Ports;
 use kd_order::{LineFault, Order, order};
-use kd_server::{Ports, Server, replay};
+use kd_server::{Server, replay};
 use std::fmt::Display;
 use std::io;
 use std::io::Write;

@@ -1,0 +1,65 @@
+-- The options that a configuration gives to a client (RFC 2132; Kea Administrator Reference Manual, chapters
+-- DHCPv4 Server Configuration and Client Classification): where they come from, in order of precedence, and
+-- which of them a reply sends (RFC 2132 section 9.8).
+use Rattle.std.specs.Prelude.{ℕ, ◌-◌, ◌^◌, Bool, false, ◌==◌, List, [], ◌∷◌, ◌++◌, filter, Option, Some, None, option_map, if◌then◌else◌}
+use Rattle.std.specs.List.{find, flat_map, range_with_len}
+use Rattle.byteorder.specs.Endian.{big_bytes}
+use Rattle.kd_classes.specs.declared.definition.ClassDef.{ClassDef}
+use Rattle.kd_classes.specs.declared.option_list.OptionData.{OptionData}
+use Rattle.kd_config.specs.Address.{size_of}
+use Rattle.kd_config.specs.Apart.{has}
+use Rattle.kd_config.specs.Configuration.{Configuration}
+use Rattle.kd_config.specs.declared.pool.Pool.{Pool}
+use Rattle.kd_config.specs.declared.prefix.Prefix.{Prefix}
+use Rattle.kd_config.specs.declared.subnet.Subnet.{Subnet}
+use Rattle.kd_machine.specs.World.{is_held}
+use Rattle.kd_options.specs.Message.{Seen}
+use Rattle.kd_lease.specs.Client.{asks_for}
+use Rattle.kd_lease.specs.Plan.{ReplyOption}
+
+-- the options of a pool, where there is one
+abbrev pub options_in : Option Pool → List OptionData
+options_in None = []
+options_in (Some pool) = pool.options
+
+-- the options of the first of the pools that has the address
+abbrev pub pool_options : List Pool → ℕ → List OptionData
+pool_options pools address = options_in (find (λ pool. has pool.range address) pools)
+
+-- the options of the classes whose names are held, in order
+abbrev pub class_options : List ClassDef → List (List ℕ) → List OptionData
+class_options classes names = flat_map (λ class. class.options) (filter (λ class. is_held class.name names) classes)
+
+-- the mask of a prefix (RFC 2132 section 3.3): ones, as many as its length, and zeros, in network order
+abbrev pub mask_of : Prefix → List ℕ
+mask_of prefix = big_bytes 4 (2 ^ 32 - size_of prefix.length)
+
+-- the mask as an option
+abbrev pub mask_option : Prefix → OptionData
+mask_option prefix = record { code = 1; value = mask_of prefix }
+
+-- the options given at an address of a subnet to the holder of these names, the first of a code before others
+unfoldable pub given : Configuration → Subnet → List (List ℕ) → ℕ → List OptionData
+given config subnet names address =
+    pool_options subnet.pools address ++ subnet.options ++ class_options config.classes names ++ config.options ++ mask_option subnet.prefix ∷ []
+
+-- the value of a code: that of the first option that has it
+abbrev pub value_in : ℕ → List OptionData → Option (List ℕ)
+value_in code options = option_map (λ option. option.value) (find (λ option. option.code == code) options)
+
+-- an option that is sent where there is room
+abbrev pub optional : ℕ → List ℕ → List ReplyOption
+optional code value = record { code = code; value = value; obligatory = false } ∷ []
+
+-- a configured option: it is sent where it has a value and the client asks for it
+abbrev pub configured : Bool → ℕ → Option (List ℕ) → List ReplyOption
+configured asked code None = []
+configured asked code (Some value) = if asked then optional code value else []
+
+-- the configured option with a code, for the reply to a message
+abbrev pub configured_at : Seen → List OptionData → ℕ → List ReplyOption
+configured_at m options code = configured (asks_for code m) code (value_in code options)
+
+-- the configured options of the reply to a message, in rising code
+unfoldable pub configured_options : Seen → List OptionData → List ReplyOption
+configured_options m options = flat_map (configured_at m options) (range_with_len 1 254)

@@ -1,0 +1,9 @@
+pub mod Change
+pub mod Client
+pub mod Decision
+pub mod Destination
+pub mod Given
+pub mod Plan
+pub mod ReplyOf
+pub mod SubnetOf
+pub mod Valuing

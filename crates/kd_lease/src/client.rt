@@ -1,0 +1,57 @@
+ghost use Rattle.std.specs.Prelude.{◌≡◌, is_some};
+ghost use Rattle.kd_options.specs.Joined.{value_of};
+ghost use Rattle.kd_lease.specs.Client.{asks_for, greatest_by, identity, is_from_server, room_of};
+
+use kd_options::{Message, MessageType};
+
+// The message is one that servers send.
+pub(crate) fn is_from_server(message: &Message<'_>) -> bool
+    ensures { result ≡ is_from_server message.now }
+{
+    if message.header().op == 2 {
+        return true;
+    }
+    match message.kind() {
+        MessageType::Offer => true,
+        MessageType::Ack => true,
+        MessageType::Nak => true,
+        _ => false,
+    }
+}
+
+// The message says who its client is.
+pub(crate) fn has_identity(message: &Message<'_>) -> bool
+    ensures { result ≡ is_some (identity message.now) }
+{
+    match message.option(61) {
+        Some([_, ..]) => true,
+        _ => !message.mac().is_empty(),
+    }
+}
+
+// The message asks for the option with this code.
+pub(crate) fn asks_for(message: &Message<'_>, code: u8) -> bool
+    ensures { result ≡ asks_for code message.now }
+{
+    match message.option(55) {
+        Some(list) => list.contains(&code),
+        None => true,
+    }
+}
+
+// The room for the reply, in bytes.
+pub(crate) fn room_of(message: &Message<'_>) -> u16
+    ensures { result ≡ room_of message.now }
+{
+    (greatest_of(message).max(576) - 28).min(1472)
+}
+
+// The greatest message that the client takes, with the headers of IP and UDP.
+fn greatest_of(message: &Message<'_>) -> u16
+    ensures { result ≡ greatest_by (value_of 57 message.now.options) }
+{
+    match message.option(57) {
+        Some([high, low]) => u16::from(*high) * 256 + u16::from(*low),
+        _ => 576,
+    }
+}

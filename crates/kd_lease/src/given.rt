@@ -1,0 +1,106 @@
+ghost use Rattle.std.specs.Prelude.{◌≡◌, ◌++◌, ◌∷◌, [], IfOk, List, OnOk, map, option_copied};
+ghost use Rattle.kd_classes.specs.declared.option_list.OptionData.{OptionData};
+ghost use Rattle.kd_lease.specs.Client.{asks_for};
+ghost use Rattle.kd_lease.specs.Given.{class_options, configured, configured_options, given, mask_of, value_in};
+ghost use Rattle.kd_lease.specs.Plan.{option_in};
+ghost use Rattle.kd_lease.specs.Valuing.{HasValues};
+ghost use Rattle.kd_wire.specs.Area.{IsCode};
+
+use crate::client::asks_for;
+use crate::reply::put_optional;
+use crate::subnet::pool_options;
+use crate::values::Values;
+use kd_classes::{ClassDef, Classes};
+use kd_config::{Config, Prefix, Subnet};
+use kd_machine::Held;
+use kd_options::{Item, Message};
+use std::alloc::{AllocError, Global};
+
+// Puts the options that the configuration gives at an address of a subnet to the holder of these names, as
+// far as the client asks for them, behind the others.
+pub(crate) fn put_given(
+    alloc: Global,
+    list: &mut Vec<Item>,
+    config: &Config,
+    names: &Held,
+    subnet: &Subnet,
+    message: &Message<'_>,
+) -> Result<(), AllocError>
+    ensures { OnOk result (map option_in list.new.items ≡ map option_in list.old.items
+        ++ configured_options message.now (given config.now subnet.now names.now message.now.header.ciaddr)) }
+{
+    let mask = mask_of(subnet.prefix);
+    let mut values = Values::new();
+    values.put_all(pool_options(subnet, message.header().ciaddr));
+    values.put_all(subnet.options.as_slice());
+    put_class_options(&mut values, config.classes(), names);
+    values.put_all(config.options());
+    values.put(1, &mask);
+    put_values(alloc, list, message, &values)
+}
+
+// Puts the options of the classes whose names are held behind those of others.
+fn put_class_options<'a>(values: &mut Values<'a>, classes: &'a Classes, names: &Held)
+    ensures { (before : List OptionData) → HasValues values.old.by_code before
+        → HasValues values.new.by_code (before ++ class_options classes.now names.now) }
+{
+    for i in 0..classes.len() {
+        match classes.def_at(i) {
+            Some(class) => put_options_of(values, class, names),
+            None => unreachable!(),
+        }
+    }
+}
+
+// Puts the options of a class whose name is held behind those of others.
+fn put_options_of<'a>(values: &mut Values<'a>, class: &'a ClassDef, names: &Held)
+    ensures { (before : List OptionData) → HasValues values.old.by_code before
+        → HasValues values.new.by_code (before ++ class_options (class.now ∷ []) names.now) }
+{
+    if names.contains(class.name.as_slice()) {
+        values.put_all(class.options.as_slice());
+    }
+}
+
+// Puts the options with these values that the client asks for, in rising code.
+fn put_values(
+    alloc: Global,
+    list: &mut Vec<Item>,
+    message: &Message<'_>,
+    values: &Values<'_>,
+) -> Result<(), AllocError>
+    ensures { (options : List OptionData) → HasValues values.now.by_code options
+        → OnOk result (map option_in list.new.items ≡ map option_in list.old.items
+        ++ configured_options message.now options) }
+{
+    for code in 1..255u8 {
+        put_configured(alloc, list, message, code, values.value(code))?;
+    }
+    Ok(())
+}
+
+// Puts a configured option, where it has a value and the client asks for it.
+fn put_configured(
+    alloc: Global,
+    list: &mut Vec<Item>,
+    message: &Message<'_>,
+    code: u8,
+    value: Option<&[u8]>,
+) -> Result<(), AllocError>
+    requires { IsCode code }
+    ensures { OnOk result (map option_in list.new.items
+        ≡ map option_in list.old.items ++ configured (asks_for code message.now) code (option_copied value.entry)) }
+{
+    match value {
+        Some(value) if asks_for(message, code) => put_optional(alloc, list, code, value),
+        _ => Ok(()),
+    }
+}
+
+// The mask of a prefix, in network order (RFC 2132 section 3.3).
+fn mask_of(prefix: Prefix) -> [u8; 4]
+    ensures { result ≡ mask_of prefix }
+{
+    let mask = (1u64 << 32) - prefix.size();
+    (mask as u32).to_be_bytes()
+}

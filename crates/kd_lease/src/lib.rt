@@ -1,0 +1,20 @@
+//! The rules of leases: what each message of a client gets, and where the reply goes.
+//!
+//! What this layer promises to the one above: a message gets what the rules say over the configuration, by the
+//! classes that it is in (`specs/Change.antt`), in the subnet that serves it (`specs/SubnetOf.antt`); a reply's
+//! configured options are those that the configuration gives to the client (`specs/Given.antt`); its header and
+//! its destination are those of `specs/ReplyOf.antt` and `specs/Destination.antt`.
+#![tactic(auto)]
+
+mod client;
+mod given;
+mod plan;
+mod reply;
+mod rules;
+mod sending;
+mod subnet;
+mod values;
+
+pub use plan::{Decision, Plan, PlanKind};
+pub use rules::decide;
+pub use sending::destination;

@@ -1,0 +1,37 @@
+use kd_event::Reason;
+use kd_options::Reply;
+
+/// What a planned reply is (RFC 2131 sections 3.1 and 4.3).
+#[derive(Clone, Copy, PartialEq, Eq)]
+pub enum PlanKind {
+    /// An OFFER of an address.
+    Offer,
+    /// An ACK that grants an address.
+    Ack,
+    /// An ACK of an INFORM, which grants settings alone.
+    InformAck,
+    /// A NAK.
+    Nak,
+}
+
+/// A reply before it is written and sent.
+#[derive(Drop)]
+pub struct Plan {
+    /// What the reply is.
+    pub kind: PlanKind,
+    /// The client's new address, or zero.
+    pub yiaddr: u32,
+    /// The reply.
+    pub reply: Reply,
+    /// The bytes that it may have, 548 to 1472.
+    pub room: u16,
+}
+
+/// What the rules answer for a message.
+#[derive(Drop)]
+pub enum Decision {
+    /// A reply is sent.
+    Plan(Plan),
+    /// Nothing is sent.
+    Quiet(Reason),
+}

@@ -1,0 +1,128 @@
+ghost use Rattle.std.specs.Prelude.{◌≡◌, ◌++◌, ◌∷◌, [], IsTrue, OnOk, map, option_copied};
+ghost use Rattle.kd_options.specs.Reply.{Fits};
+ghost use Rattle.kd_lease.specs.Change.{obligatory, returned};
+ghost use Rattle.kd_lease.specs.Given.{optional};
+ghost use Rattle.kd_lease.specs.Plan.{option_in};
+ghost use Rattle.kd_lease.specs.ReplyOf.{is_short, reply_ciaddr, reply_flags, reply_header};
+ghost use Rattle.kd_wire.specs.Area.{IsCode};
+
+use crate::plan::PlanKind;
+use kd_options::{Item, Reply};
+use kd_wire::{Bytes, Header};
+use std::alloc::{AllocError, Global};
+
+// The header of a reply to a message with this header.
+#[tactic(auto, unfolding(crate::specs::ReplyOf::reply_header))]
+pub(crate) fn reply_header(kind: PlanKind, yiaddr: u32, header: &Header) -> Header
+    ensures { result ≡ reply_header kind yiaddr header.now }
+{
+    Header {
+        op: 2,
+        htype: header.htype,
+        hlen: header.hlen,
+        hops: 0,
+        xid: header.xid,
+        secs: 0,
+        flags: reply_flags(kind, header),
+        ciaddr: reply_ciaddr(kind, header),
+        yiaddr,
+        siaddr: 0,
+        giaddr: header.giaddr,
+        chaddr: header.chaddr,
+        sname: [0; 64],
+        file: [0; 128],
+    }
+}
+
+// The flags: a NAK through a relay asks it to broadcast.
+fn reply_flags(kind: PlanKind, header: &Header) -> u16
+    ensures { result ≡ reply_flags kind header.now }
+{
+    match kind {
+        PlanKind::Nak if header.giaddr != 0 => header.flags | 0x8000,
+        _ => header.flags,
+    }
+}
+
+// The field ciaddr: that of the message in an ACK.
+fn reply_ciaddr(kind: PlanKind, header: &Header) -> u32
+    ensures { result ≡ reply_ciaddr kind header.now }
+{
+    match kind {
+        PlanKind::Offer => 0,
+        PlanKind::Ack => header.ciaddr,
+        PlanKind::InformAck => header.ciaddr,
+        PlanKind::Nak => 0,
+    }
+}
+
+// The obligatory options of a reply fit into the room.
+pub(crate) fn is_short(reply: &Reply, room: u16) -> bool
+    ensures short { result ≡ is_short room (map option_in reply.now.items) }
+    ensures fits { IsTrue result → Fits room reply.now.items }
+{
+    reply.fits(room)
+}
+
+// Puts an option that is always written behind the others.
+pub(crate) fn put_obligatory(
+    alloc: Global,
+    list: &mut Vec<Item>,
+    code: u8,
+    value: &[u8],
+) -> Result<(), AllocError>
+    requires { IsCode code }
+    ensures { OnOk result (map option_in list.new.items ≡ map option_in list.old.items ++ obligatory code value.now) }
+{
+    put_option(alloc, list, code, value, true)
+}
+
+// Puts an option of the message as it came, where it is there.
+pub(crate) fn put_returned(
+    alloc: Global,
+    list: &mut Vec<Item>,
+    code: u8,
+    value: Option<&[u8]>,
+) -> Result<(), AllocError>
+    requires { IsCode code }
+    ensures { OnOk result (map option_in list.new.items
+        ≡ map option_in list.old.items ++ returned code (option_copied value.entry)) }
+{
+    match value {
+        Some(value) => put_obligatory(alloc, list, code, value),
+        None => Ok(()),
+    }
+}
+
+// Puts an option that is left out where there is no room for it.
+pub(crate) fn put_optional(
+    alloc: Global,
+    list: &mut Vec<Item>,
+    code: u8,
+    value: &[u8],
+) -> Result<(), AllocError>
+    requires { IsCode code }
+    ensures { OnOk result (map option_in list.new.items ≡ map option_in list.old.items ++ optional code value.now) }
+{
+    put_option(alloc, list, code, value, false)
+}
+
+fn put_option(
+    alloc: Global,
+    list: &mut Vec<Item>,
+    code: u8,
+    value: &[u8],
+    obligatory: bool,
+) -> Result<(), AllocError>
+    requires { IsCode code }
+    ensures { OnOk result (map option_in list.new.items ≡ map option_in list.old.items
+        ++ record { code = code; value = value.now; obligatory = obligatory } ∷ []) }
+{
+    let value = Bytes::own(Vec::from_slice(alloc, value)?);
+    list.push(Item {
+        code,
+        value,
+        obligatory,
+    })?;
+    Ok(())
+}

@@ -1,7 +1,0 @@
-use Rattle.std.proofs.Common.{◌++◌, List, take}
-use Rattle.kd_classes.specs.declared.option_list.OptionData.{OptionData}
-use Rattle.kd_server.specs.Valuing.{HasValues}
-use Rattle.kd_server.proofs.values.Values.put_all.Given as goal
-
-abbrev pub invariant-loop-option : goal.invariant-loop-option
-invariant-loop-option l = (before : List OptionData) → HasValues l.fn.self.by_code before → HasValues l.self.by_code (before ++ take l.option-index l.options)
