@@ -1,4 +1,4 @@
-use Rattle.std.proofs.Common.{◌≡◌, ◌<◌, ◌≤◌, ◌++◌, ◌∷◌, [], ap, sym, ◌∙◌, subst, length, take, option_copied, append_assoc, arith}
+use Rattle.std.proofs.Common.{◌≡◌, ◌++◌, ◌∷◌, [], ap, sym, ◌∙◌, subst, take, option_copied, append_assoc, arith}
 use Rattle.std.proofs.lemmas.List.{take_all}
 use Rattle.kd_lease.specs.Given.{class_options}
 use Rattle.kd_lease.specs.Valuing.{HasValues}

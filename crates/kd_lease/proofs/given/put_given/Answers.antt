@@ -1,4 +1,4 @@
-use Rattle.std.proofs.Common.{◌≡◌, ◌++◌, ◌∷◌, [], ap, sym, ◌∙◌, subst, refl}
+use Rattle.std.proofs.Common.{◌≡◌, ◌++◌, [], ap, ◌∙◌, subst}
 use Rattle.kd_lease.specs.Given.{class_options, given, pool_options}
 use Rattle.kd_lease.specs.Valuing.{HasValues}
 use Rattle.kd_lease.proofs.Giving.{all_given}

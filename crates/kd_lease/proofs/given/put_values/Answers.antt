@@ -1,7 +1,7 @@
-use Rattle.std.proofs.Common.{◌≡◌, ◌++◌, ◌-◌, ap, sym, ◌∙◌, map, option_copied, arith}
+use Rattle.std.proofs.Common.{◌≡◌, ◌++◌, ◌-◌, ap, ◌∙◌, map, arith}
 use Rattle.std.specs.List.{flat_map, range_with_len}
 use Rattle.kd_lease.specs.Client.{asks_for}
-use Rattle.kd_lease.specs.Given.{configured, configured_at, configured_options, value_in}
+use Rattle.kd_lease.specs.Given.{configured, configured_at, configured_options}
 use Rattle.kd_lease.specs.Plan.{option_in}
 use Rattle.kd_lease.proofs.Giving.{more_codes}
 use Rattle.kd_lease.proofs.given.put_values.Goals as goal
