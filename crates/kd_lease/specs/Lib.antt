@@ -1,9 +1,12 @@
 pub mod Change
+pub mod Choice
 pub mod Client
 pub mod Decision
 pub mod Destination
 pub mod Given
 pub mod Plan
 pub mod ReplyOf
+pub mod Rules
+pub mod Seeking
 pub mod SubnetOf
 pub mod Valuing

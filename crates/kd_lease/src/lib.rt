@@ -9,12 +9,17 @@
 mod client;
 mod given;
 mod plan;
+mod planned;
+mod question;
 mod reply;
 mod rules;
+mod seeking;
 mod sending;
 mod subnet;
 mod values;
 
 pub use plan::{Decision, Plan, PlanKind};
+pub use planned::{Effect, Planned};
+pub use question::Question;
 pub use rules::decide;
 pub use sending::destination;

@@ -1,0 +1,45 @@
+-- Words of private contracts alone: what the rules are asked over as the code holds it, what is sought among
+-- a client's addresses and in pools, and the first of one rank.
+use Rattle.std.specs.Prelude.{◌≡◌, ℕ, ◌<◌, ◌≤◌, Bool, true, false, not, ◌&&◌, is_none, Option, Some, None, if◌then◌else◌}
+use Rattle.kd_config.specs.Address.{contains}
+use Rattle.kd_config.specs.declared.subnet.Subnet.{Subnet}
+use Rattle.kd_rows.specs.Table.{row_at}
+use Rattle.kd_rows.specs.declared.row.Row.{Row}
+use Rattle.kd_lease.specs.Choice.{Asking, IsFirst, Rank, fits, has_rank, has_such, is_live, is_newer}
+use Rattle.kd_lease.specs.Choice.Rank.{own, past, fresh, expired}
+use Rattle.kd_lease.specs.Rules.{is_offer, is_record}
+use Rattle.kd_lease.specs.declared.seeking.Sought.{Sought}
+use Rattle.kd_lease.specs.declared.seeking.Sought.TheVariants as seeks
+
+-- an address is sought
+abbrev pub is_sought : Asking → Sought → ℕ → Bool
+is_sought q (seeks.Own s) a = has_rank q s.now own a
+is_sought q (seeks.Past s) a = has_rank q s.now past a
+is_sought q seeks.Offer a = is_offer q a
+is_sought q (seeks.Record s) a = is_record q s.now a
+
+-- the newer of what was found and an address that is sought
+abbrev pub better : Asking → Sought → Option ℕ → ℕ → Option ℕ
+better q sought None a = if is_sought q sought a then Some a else None
+better q sought (Some b) a = if is_sought q sought a && is_newer q.rows a b then Some a else Some b
+
+-- what is found is the first of a rank, or nothing where no address has it
+abbrev pub IsRanked : Asking → Subnet → Rank → Option ℕ → Type 0
+IsRanked q s rank None = (b : ℕ) → has_rank q s rank b ≡ false
+IsRanked q s rank (Some a) = IsFirst q s rank a
+
+-- the rank of pools that is looked for: addresses that nobody had yet, or those whose rows have ended
+abbrev pub pool_rank : Bool → Rank
+pool_rank true = fresh
+pool_rank false = expired
+
+-- an address, where it is in a pool, has that rank
+abbrev pub is_open : Asking → Subnet → Bool → ℕ → Bool
+is_open q s true a = is_none (row_at q.rows a) && fits q s a
+is_open q s false a = has_such (λ row. not (is_live q.now row)) (row_at q.rows a) && fits q s a
+
+-- the least address from first to last that is open, or that none is
+abbrev pub IsLeastOpen : Asking → Subnet → Bool → ℕ → ℕ → Option ℕ → Type 0
+IsLeastOpen q s new first last None = (a : ℕ) → first ≤ a → a ≤ last → is_open q s new a ≡ false
+IsLeastOpen q s new first last (Some found) =
+    (first ≤ found) × (found ≤ last) × (is_open q s new found ≡ true) × ((a : ℕ) → first ≤ a → a < found → is_open q s new a ≡ false)
