@@ -30,7 +30,7 @@ asking question = record {
   names = question.names.now;
   message = question.message.now;
   client = question.client.now;
-  now = question.now;
+  now = question.moment;
 }
 
 -- a row of the client, set now

@@ -7,11 +7,13 @@
 #![tactic(auto)]
 
 mod client;
+mod fitting;
 mod given;
 mod plan;
 mod planned;
 mod question;
 mod reply;
+mod reservation;
 mod rules;
 mod seeking;
 mod sending;

@@ -17,5 +17,5 @@ pub struct Question<'a> {
     /// The identity of its client.
     pub client: &'a [u8],
     /// The moment, in seconds; no row was set later.
-    pub now: u64,
+    pub moment: u64,
 }
