@@ -1,2 +1,4 @@
 pub mod Giving
+pub mod Newest
+pub mod Pools
 pub mod Valuing

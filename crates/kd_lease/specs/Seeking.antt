@@ -1,15 +1,17 @@
 -- Words of private contracts alone: what the rules are asked over as the code holds it, what is sought among
 -- a client's addresses and in pools, and the first of one rank.
 use Rattle.std.specs.Prelude.{◌≡◌, ℕ, ◌<◌, ◌≤◌, Bool, true, false, not, ◌&&◌, is_none, Option, Some, None, if◌then◌else◌}
-use Rattle.kd_config.specs.Address.{contains}
 use Rattle.kd_config.specs.declared.subnet.Subnet.{Subnet}
 use Rattle.kd_rows.specs.Table.{row_at}
-use Rattle.kd_rows.specs.declared.row.Row.{Row}
-use Rattle.kd_lease.specs.Choice.{Asking, IsFirst, Rank, fits, has_rank, has_such, is_live, is_newer}
+use Rattle.kd_lease.specs.Choice.{Asking, IsFirst, Rank, fits, has_rank, has_such, is_live, is_newer, is_past}
 use Rattle.kd_lease.specs.Choice.Rank.{own, past, fresh, expired}
 use Rattle.kd_lease.specs.Rules.{is_offer, is_record}
 use Rattle.kd_lease.specs.declared.seeking.Sought.{Sought}
 use Rattle.kd_lease.specs.declared.seeking.Sought.TheVariants as seeks
+
+-- the row of an address is the client's and has ended
+abbrev pub is_past_at : Asking → ℕ → Bool
+is_past_at q a = has_such (is_past q) (row_at q.rows a)
 
 -- an address is sought
 abbrev pub is_sought : Asking → Sought → ℕ → Bool

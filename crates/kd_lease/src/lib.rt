@@ -6,11 +6,13 @@
 //! its destination are those of `specs/ReplyOf.antt` and `specs/Destination.antt`.
 #![tactic(auto)]
 
+mod choice;
 mod client;
 mod fitting;
 mod given;
 mod plan;
 mod planned;
+mod pooling;
 mod question;
 mod reply;
 mod reservation;

@@ -1,4 +1,13 @@
+ghost use Rattle.std.specs.Prelude.{◌≡◌};
+ghost use Rattle.kd_lease.specs.Choice.{changed_in, is_newer};
+ghost use Rattle.kd_lease.specs.Rules.{IsNewest, asking, is_bound, is_client_at, is_held_at, is_leased, is_offer, is_offered, is_record};
+ghost use Rattle.kd_lease.specs.Seeking.{better, is_past_at, is_sought};
+ghost use Rattle.kd_rows.specs.Table.{row_at};
+
+use crate::fitting::{fits, is_held_by, is_live, is_of, is_past};
+use crate::question::Question;
 use kd_config::Subnet;
+use kd_rows::{Rows, State};
 
 // What is sought among the addresses of a client.
 #[derive(Clone, Copy)]
@@ -11,4 +20,144 @@ pub(crate) enum Sought<'a> {
     Offer,
     // Those in the subnet's prefix.
     Record(&'a Subnet),
+}
+
+// The newest of the client's addresses that are sought.
+pub(crate) fn newest(question: &Question<'_>, sought: &Sought<'_>) -> Option<u32>
+    ensures { IsNewest (asking question.now).rows (is_sought (asking question.now) sought.now) result }
+{
+    let mut best = None;
+    for i in 0..question.rows.len() {
+        match question.rows.of_client(question.client, i) {
+            Some(address) => best = better(question, sought, best, address),
+            None => return best,
+        }
+    }
+    best
+}
+
+// The newer of what was found and an address that is sought.
+fn better(question: &Question<'_>, sought: &Sought<'_>, best: Option<u32>, address: u32) -> Option<u32>
+    ensures { result ≡ better (asking question.now) sought.now best address }
+{
+    if !is_sought(question, sought, address) {
+        return best;
+    }
+    match best {
+        None => Some(address),
+        Some(found) => {
+            if is_newer(question.rows, address, found) {
+                Some(address)
+            } else {
+                Some(found)
+            }
+        }
+    }
+}
+
+// An address is sought.
+fn is_sought(question: &Question<'_>, sought: &Sought<'_>, address: u32) -> bool
+    ensures { result ≡ is_sought (asking question.now) sought.now address }
+{
+    match sought {
+        Sought::Own(subnet) => is_held_at(question, address) && fits(question, subnet, address),
+        Sought::Past(subnet) => is_past_at(question, address) && fits(question, subnet, address),
+        Sought::Offer => is_offer(question, address),
+        Sought::Record(subnet) => {
+            is_client_at(question, address) && subnet.prefix.contains(address)
+        }
+    }
+}
+
+// Of two addresses the first is newer: its row was set later, or at one moment and it is the lesser address.
+fn is_newer(rows: &Rows, a: u32, b: u32) -> bool
+    ensures { result ≡ is_newer rows.now.rows a b }
+{
+    let m = changed_at(rows, a);
+    let n = changed_at(rows, b);
+    n < m || (m == n && a < b)
+}
+
+// The moment at which the row of an address was set, 0 where there is none.
+fn changed_at(rows: &Rows, address: u32) -> u64
+    ensures { result ≡ changed_in (row_at rows.now.rows address) }
+{
+    match rows.get(address) {
+        Some(row) => row.changed,
+        None => 0,
+    }
+}
+
+// The client holds an address: its row is the client's, live, and offered or bound.
+pub(crate) fn is_held_at(question: &Question<'_>, address: u32) -> bool
+    ensures { result ≡ is_held_at (asking question.now) address }
+{
+    match question.rows.get(address) {
+        Some(row) => is_held_by(question, row),
+        None => false,
+    }
+}
+
+// The row of an address is the client's and has ended.
+fn is_past_at(question: &Question<'_>, address: u32) -> bool
+    ensures { result ≡ is_past_at (asking question.now) address }
+{
+    match question.rows.get(address) {
+        Some(row) => is_past(question, row),
+        None => false,
+    }
+}
+
+// The row of an address is the client's.
+pub(crate) fn is_client_at(question: &Question<'_>, address: u32) -> bool
+    ensures { result ≡ is_client_at (asking question.now) address }
+{
+    match question.rows.get(address) {
+        Some(row) => is_of(question.client, row),
+        None => false,
+    }
+}
+
+// The client leases an address: its row is the client's, live and bound.
+pub(crate) fn is_leased(question: &Question<'_>, address: u32) -> bool
+    ensures { result ≡ is_leased (asking question.now) address }
+{
+    match question.rows.get(address) {
+        Some(row) => {
+            is_live(question.moment, row) && (is_of(question.client, row) && is_bound(row.state))
+        }
+        None => false,
+    }
+}
+
+// An address is offered to the client: its row is the client's, live and offered.
+fn is_offer(question: &Question<'_>, address: u32) -> bool
+    ensures { result ≡ is_offer (asking question.now) address }
+{
+    match question.rows.get(address) {
+        Some(row) => {
+            is_live(question.moment, row) && (is_of(question.client, row) && is_offered(row.state))
+        }
+        None => false,
+    }
+}
+
+// A state of leases.
+fn is_bound(state: State) -> bool
+    ensures { result ≡ is_bound state }
+{
+    match state {
+        State::Bound => true,
+        _ => false,
+    }
+}
+
+// A state of offers.
+fn is_offered(state: State) -> bool
+    ensures { result ≡ is_offered state }
+{
+    match state {
+        State::Offered => true,
+        _ => false,
+    }
 }
