@@ -8,8 +8,10 @@
 
 mod choice;
 mod client;
+mod effects;
 mod fitting;
 mod given;
+mod identities;
 mod plan;
 mod planned;
 mod pooling;
@@ -19,9 +21,12 @@ mod reservation;
 mod rules;
 mod seeking;
 mod sending;
+mod setting;
 mod subnet;
 mod values;
 
+pub use effects::effect_of;
+pub use identities::identity;
 pub use plan::{Decision, Plan, PlanKind};
 pub use planned::{Effect, Planned};
 pub use question::Question;

@@ -1,0 +1,288 @@
+ghost use Rattle.std.specs.Prelude.{◌≡◌, ◌<◌, ◌^◌, IfOk, None, Some};
+ghost use Rattle.std.specs.Option.{option_copied};
+ghost use Rattle.kd_lease.specs.Rules.{Does, InSubnet, OnDecline, OnDiscover, OnInform, OnOther, OnRelease, OnRenew, OnRequest, OnSelect, WithAsked, asking, leased, may_renew, names_other, renewed_of, server_of, subnet_for};
+ghost use Rattle.kd_lease.specs.Choice.{requested_of};
+ghost use Rattle.kd_lease.specs.declared.planned.Planned.TheVariants as plans;
+
+use crate::choice::choose;
+use crate::fitting::{address_in, fits, is_usable, requested_of};
+use crate::planned::{Effect, Planned};
+use crate::question::Question;
+use crate::seeking::{Sought, is_client_at, is_held_at, newest};
+use crate::setting::{declined, leased, offer_row, released};
+use crate::subnet::subnet_of;
+use kd_config::Subnet;
+use kd_event::Reason;
+use kd_options::{Message, MessageType};
+use std::alloc::{AllocError, Global};
+
+/// What a message does (RFC 2131 section 4.3): the row of the table that is set, or none, and what is planned for it,
+/// which is all but its reply. The checks that come before its type are not made here.
+///
+/// # Errors
+///
+/// There is no memory for the client's identity in the row.
+pub fn effect_of(alloc: Global, question: &Question<'_>) -> Result<Effect, AllocError>
+    requires { question.now.moment < 2 ^ 40 }
+    ensures { IfOk result (λ effect. Does (asking question.now) effect.row effect.planned) }
+{
+    match question.message.kind() {
+        MessageType::Discover => discover(alloc, question),
+        MessageType::Request => request(alloc, question),
+        MessageType::Decline => decline(alloc, question),
+        MessageType::Release => release(alloc, question),
+        MessageType::Inform => Ok(inform(question)),
+        MessageType::Offer => Ok(quiet(Reason::NotRequest)),
+        MessageType::Ack => Ok(quiet(Reason::NotRequest)),
+        MessageType::Nak => Ok(quiet(Reason::NotRequest)),
+    }
+}
+
+// A DISCOVER (RFC 2131 section 4.3.1).
+fn discover(alloc: Global, question: &Question<'_>) -> Result<Effect, AllocError>
+    requires { question.now.moment < 2 ^ 40 }
+    ensures { IfOk result (λ effect. InSubnet (subnet_for (asking question.now)) (OnDiscover (asking question.now)) effect.row effect.planned) }
+{
+    match subnet_for(question) {
+        Some(subnet) => discover_in(alloc, question, subnet),
+        None => Ok(quiet(Reason::NoSubnet)),
+    }
+}
+
+// A DISCOVER in its subnet.
+fn discover_in(alloc: Global, question: &Question<'_>, subnet: &Subnet) -> Result<Effect, AllocError>
+    requires { question.now.moment < 2 ^ 40 }
+    ensures { IfOk result (λ effect. OnDiscover (asking question.now) subnet.now effect.row effect.planned) }
+{
+    match choose(question, subnet) {
+        Some(address) => Ok(Effect {
+            row: offer_row(alloc, question, address)?,
+            planned: Planned::Offer(address),
+        }),
+        None => Ok(quiet(Reason::NoAddress)),
+    }
+}
+
+// A REQUEST, by the server that it names (RFC 2131 section 4.3.2).
+fn request(alloc: Global, question: &Question<'_>) -> Result<Effect, AllocError>
+    requires { question.now.moment < 2 ^ 40 }
+    ensures { IfOk result (λ effect. OnRequest (asking question.now) (server_of question.now.message.now) effect.row effect.planned) }
+{
+    match server_of(question.message) {
+        Some(server) => {
+            if server == question.config.server() {
+                select(alloc, question)
+            } else {
+                other(alloc, question)
+            }
+        }
+        None => renew(alloc, question),
+    }
+}
+
+// A REQUEST to this server for an address (SELECTING).
+fn select(alloc: Global, question: &Question<'_>) -> Result<Effect, AllocError>
+    requires { question.now.moment < 2 ^ 40 }
+    ensures { IfOk result (λ effect. WithAsked (requested_of question.now.message.now)
+        (λ a. InSubnet (subnet_for (asking question.now)) (λ s. OnSelect (asking question.now) s a)) effect.row effect.planned) }
+{
+    let Some(address) = requested_of(question.message) else {
+        return Ok(quiet(Reason::NoRequested));
+    };
+    match subnet_for(question) {
+        Some(subnet) => select_in(alloc, question, subnet, address),
+        None => Ok(quiet(Reason::NoSubnet)),
+    }
+}
+
+// Such a REQUEST in its subnet.
+fn select_in(alloc: Global, question: &Question<'_>, subnet: &Subnet, address: u32) -> Result<Effect, AllocError>
+    requires { question.now.moment < 2 ^ 40 }
+    ensures { IfOk result (λ effect. OnSelect (asking question.now) subnet.now address effect.row effect.planned) }
+{
+    if is_usable(question, subnet, address) {
+        lease(alloc, question, address)
+    } else {
+        Ok(nak())
+    }
+}
+
+// A REQUEST to another server: the newest offer to the client is given back.
+fn other(alloc: Global, question: &Question<'_>) -> Result<Effect, AllocError>
+    ensures { IfOk result (λ effect. OnOther (asking question.now) effect.row effect.planned) }
+{
+    match newest(question, &Sought::Offer) {
+        Some(address) => Ok(Effect {
+            row: Some(released(alloc, question, address)?),
+            planned: Planned::Quiet(Reason::OtherServer),
+        }),
+        None => Ok(quiet(Reason::OtherServer)),
+    }
+}
+
+// A REQUEST that names no server (INIT-REBOOT, RENEWING and REBINDING).
+fn renew(alloc: Global, question: &Question<'_>) -> Result<Effect, AllocError>
+    requires { question.now.moment < 2 ^ 40 }
+    ensures { IfOk result (λ effect. WithAsked (renewed_of question.now.message.now)
+        (λ a. InSubnet (subnet_for (asking question.now)) (λ s. OnRenew (asking question.now) s a)) effect.row effect.planned) }
+{
+    let Some(address) = renewed_of(question.message) else {
+        return Ok(quiet(Reason::NoRequested));
+    };
+    match subnet_for(question) {
+        Some(subnet) => renew_in(alloc, question, subnet, address),
+        None => Ok(quiet(Reason::NoSubnet)),
+    }
+}
+
+// Such a REQUEST in its subnet.
+fn renew_in(alloc: Global, question: &Question<'_>, subnet: &Subnet, address: u32) -> Result<Effect, AllocError>
+    requires { question.now.moment < 2 ^ 40 }
+    ensures { IfOk result (λ effect. OnRenew (asking question.now) subnet.now address effect.row effect.planned) }
+{
+    if !subnet.prefix.contains(address) {
+        return Ok(nak());
+    }
+    match newest(question, &Sought::Record(subnet)) {
+        Some(_) => {
+            if may_renew(question, subnet, address) {
+                lease(alloc, question, address)
+            } else {
+                Ok(nak())
+            }
+        }
+        None => Ok(quiet(Reason::NoRecord)),
+    }
+}
+
+// The client may renew its lease of an address: its row is the client's, and it fits.
+fn may_renew(question: &Question<'_>, subnet: &Subnet, address: u32) -> bool
+    ensures { result ≡ may_renew (asking question.now) subnet.now address }
+{
+    is_client_at(question, address) && fits(question, subnet, address)
+}
+
+// A DECLINE (RFC 2131 section 4.3.3).
+fn decline(alloc: Global, question: &Question<'_>) -> Result<Effect, AllocError>
+    requires { question.now.moment < 2 ^ 40 }
+    ensures { IfOk result (λ effect. OnDecline (asking question.now) effect.row effect.planned) }
+{
+    if names_other(question.config.server(), server_of(question.message)) {
+        return Ok(quiet(Reason::OtherServer));
+    }
+    let Some(address) = requested_of(question.message) else {
+        return Ok(quiet(Reason::NoRequested));
+    };
+    if is_held_at(question, address) {
+        Ok(Effect {
+            row: Some(declined(alloc, question, address)),
+            planned: Planned::Quiet(Reason::Declined),
+        })
+    } else {
+        Ok(quiet(Reason::NotHeld))
+    }
+}
+
+// A RELEASE (RFC 2131 section 4.3.4).
+fn release(alloc: Global, question: &Question<'_>) -> Result<Effect, AllocError>
+    ensures { IfOk result (λ effect. OnRelease (asking question.now) effect.row effect.planned) }
+{
+    if names_other(question.config.server(), server_of(question.message)) {
+        return Ok(quiet(Reason::OtherServer));
+    }
+    let address = question.message.header().ciaddr;
+    if address == 0 {
+        return Ok(quiet(Reason::NoCiaddr));
+    }
+    if is_held_at(question, address) {
+        Ok(Effect {
+            row: Some(released(alloc, question, address)?),
+            planned: Planned::Quiet(Reason::Released),
+        })
+    } else {
+        Ok(quiet(Reason::NotHeld))
+    }
+}
+
+// An INFORM (RFC 2131 section 4.3.5).
+fn inform(question: &Question<'_>) -> Effect
+    ensures { OnInform (asking question.now) result.row result.planned }
+{
+    if question.message.header().ciaddr == 0 {
+        return quiet(Reason::NoCiaddr);
+    }
+    match subnet_for(question) {
+        Some(_) => Effect {
+            row: None,
+            planned: Planned::Inform,
+        },
+        None => quiet(Reason::NoSubnet),
+    }
+}
+
+// An address is leased to the client.
+fn lease(alloc: Global, question: &Question<'_>, address: u32) -> Result<Effect, AllocError>
+    requires { question.now.moment < 2 ^ 40 }
+    ensures { IfOk result (λ effect. effect ≡ record { row = Some (leased (asking question.now) address); planned = plans.Ack address }) }
+{
+    Ok(Effect {
+        row: Some(leased(alloc, question, address)?),
+        planned: Planned::Ack(address),
+    })
+}
+
+// A NAK sets no row.
+fn nak() -> Effect
+    ensures { result ≡ record { row = None; planned = plans.Nak } }
+{
+    Effect {
+        row: None,
+        planned: Planned::Nak,
+    }
+}
+
+// No row is set, and there is no answer, for this reason.
+fn quiet(reason: Reason) -> Effect
+    ensures { result ≡ record { row = None; planned = plans.Quiet reason } }
+{
+    Effect {
+        row: None,
+        planned: Planned::Quiet(reason),
+    }
+}
+
+// The subnet that serves the message.
+fn subnet_for<'a>(question: &Question<'a>) -> Option<&'a Subnet>
+    ensures { option_copied result ≡ subnet_for (asking question.now) }
+{
+    subnet_of(question.config, question.names, &question.message.header())
+}
+
+// The server that a message names (RFC 2132 section 9.7).
+fn server_of(message: &Message<'_>) -> Option<u32>
+    ensures { result ≡ server_of message.now }
+{
+    address_in(message.option(54))
+}
+
+// A message names another server.
+fn names_other(server: u32, named: Option<u32>) -> bool
+    ensures { result ≡ names_other server named }
+{
+    match named {
+        Some(named) => named != server,
+        None => false,
+    }
+}
+
+// The address of a REQUEST that names no server: the one that the client has, else the one that it asks for.
+fn renewed_of(message: &Message<'_>) -> Option<u32>
+    ensures { result ≡ renewed_of message.now }
+{
+    let ciaddr = message.header().ciaddr;
+    if ciaddr == 0 {
+        requested_of(message)
+    } else {
+        Some(ciaddr)
+    }
+}

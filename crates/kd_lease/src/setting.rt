@@ -1,0 +1,78 @@
+ghost use Rattle.std.specs.Prelude.{◌≡◌, ◌<◌, ◌^◌, IfOk};
+ghost use Rattle.kd_lease.specs.Rules.{asking, declined, leased, offer_row, offered, released, row_of};
+
+use crate::question::Question;
+use crate::seeking::is_leased;
+use kd_rows::{Row, State};
+use kd_wire::Bytes;
+use std::alloc::{AllocError, Global};
+
+// The row that an offer sets: none where the client leases the address.
+pub(crate) fn offer_row(alloc: Global, question: &Question<'_>, address: u32) -> Result<Option<Row>, AllocError>
+    requires { question.now.moment < 2 ^ 40 }
+    ensures { IfOk result (λ row. row ≡ offer_row (asking question.now) address) }
+{
+    if is_leased(question, address) {
+        Ok(None)
+    } else {
+        Ok(Some(offered(alloc, question, address)?))
+    }
+}
+
+// The row of an address that is offered.
+fn offered(alloc: Global, question: &Question<'_>, address: u32) -> Result<Row, AllocError>
+    requires { question.now.moment < 2 ^ 40 }
+    ensures { IfOk result (λ row. row ≡ offered (asking question.now) address) }
+{
+    let ends = question.moment + u64::from(question.config.times().offer_hold);
+    row_of(alloc, question, address, State::Offered, ends)
+}
+
+// The row of an address that is leased.
+pub(crate) fn leased(alloc: Global, question: &Question<'_>, address: u32) -> Result<Row, AllocError>
+    requires { question.now.moment < 2 ^ 40 }
+    ensures { IfOk result (λ row. row ≡ leased (asking question.now) address) }
+{
+    let ends = question.moment + u64::from(question.config.times().lifetime);
+    row_of(alloc, question, address, State::Bound, ends)
+}
+
+// The row of an address that its client gave back.
+pub(crate) fn released(alloc: Global, question: &Question<'_>, address: u32) -> Result<Row, AllocError>
+    ensures { IfOk result (λ row. row ≡ released (asking question.now) address) }
+{
+    row_of(alloc, question, address, State::Released, question.moment)
+}
+
+// The row of an address that is in use by another host.
+pub(crate) fn declined(alloc: Global, question: &Question<'_>, address: u32) -> Row
+    requires { question.now.moment < 2 ^ 40 }
+    ensures { result ≡ declined (asking question.now) address }
+{
+    Row {
+        address,
+        client: Bytes::own(Vec::new(alloc)),
+        state: State::Declined,
+        changed: question.moment,
+        ends: question.moment + u64::from(question.config.times().decline_hold),
+    }
+}
+
+// A row of the client, set now.
+fn row_of(
+    alloc: Global,
+    question: &Question<'_>,
+    address: u32,
+    state: State,
+    ends: u64,
+) -> Result<Row, AllocError>
+    ensures { IfOk result (λ row. row ≡ row_of (asking question.now) address state ends) }
+{
+    Ok(Row {
+        address,
+        client: Bytes::own(Vec::from_slice(alloc, question.client)?),
+        state,
+        changed: question.moment,
+        ends,
+    })
+}
