@@ -4,6 +4,7 @@ pub mod Client
 pub mod Decision
 pub mod Destination
 pub mod Given
+pub mod Laws
 pub mod Plan
 pub mod ReplyOf
 pub mod Rules

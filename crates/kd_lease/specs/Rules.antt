@@ -11,6 +11,7 @@ use Rattle.kd_options.specs.Kind.{type_number}
 use Rattle.kd_options.specs.Message.{Seen}
 use Rattle.kd_options.specs.declared.kind.MessageType.{MessageType}
 use Rattle.kd_options.specs.declared.kind.MessageType.TheVariants as types
+use Rattle.kd_rows.specs.Row.{IsInRange}
 use Rattle.kd_rows.specs.Table.{is_of, row_at}
 use Rattle.kd_rows.specs.declared.row.Row.{Row}
 use Rattle.kd_rows.specs.declared.row.State.{State}
@@ -195,9 +196,13 @@ OnRelease q set planned =
     let a = q.message.header.ciaddr in
     UnlessOther (names_other q.config.server (server_of q.message)) (WithCiaddr (a == 0) (GivesUp (is_held_at q a) (released q a) reasons.Released)) set planned
 
--- an INFORM (section 4.3.5) sets no row
+-- an answer to an INFORM sets no row
+abbrev pub Informs : Subnet → Option Row → Planned → Type 0
+Informs s set planned = (set ≡ None) × (planned ≡ plans.Inform)
+
+-- an INFORM (section 4.3.5), in its subnet
 abbrev pub OnInform : Asking → Option Row → Planned → Type 0
-OnInform q set planned = WithCiaddr (q.message.header.ciaddr == 0) (InSubnet (subnet_for q) (λ s set planned. (set ≡ None) × (planned ≡ plans.Inform))) set planned
+OnInform q set planned = WithCiaddr (q.message.header.ciaddr == 0) (InSubnet (subnet_for q) Informs) set planned
 
 -- what a message of this type does; those that servers send do nothing
 abbrev pub Sets : Asking → MessageType → Option Row → Planned → Type 0
@@ -213,3 +218,8 @@ pub record Does (q : Asking) (set : Option Row) (planned : Planned) : Type 0 whe
   pub type : MessageType
   pub is : type_number type ≡ kind_of q.message
   pub sets : Sets q type set planned
+
+-- a row that was changed now, and whose times are in range
+pub record IsSetNow (q : Asking) (row : Row) : Type 0 where
+  pub changed : row.changed ≡ q.now
+  pub in_range : IsInRange row

@@ -1,6 +1,7 @@
-ghost use Rattle.std.specs.Prelude.{◌≡◌, ◌<◌, ◌^◌, IfOk, None, Some};
+ghost use Rattle.std.specs.Prelude.{◌≡◌, ◌<◌, ◌^◌, IfOk, IfSome, None, Some};
+ghost use Rattle.kd_config.specs.Sound.{AreTimes};
 ghost use Rattle.std.specs.Option.{option_copied};
-ghost use Rattle.kd_lease.specs.Rules.{Does, InSubnet, OnDecline, OnDiscover, OnInform, OnOther, OnRelease, OnRenew, OnRequest, OnSelect, WithAsked, asking, leased, may_renew, names_other, renewed_of, server_of, subnet_for};
+ghost use Rattle.kd_lease.specs.Rules.{Does, InSubnet, IsSetNow, OnDecline, OnDiscover, OnInform, OnOther, OnRelease, OnRenew, OnRequest, OnSelect, WithAsked, asking, leased, may_renew, names_other, renewed_of, server_of, subnet_for};
 ghost use Rattle.kd_lease.specs.Choice.{requested_of};
 ghost use Rattle.kd_lease.specs.declared.planned.Planned.TheVariants as plans;
 
@@ -11,7 +12,7 @@ use crate::question::Question;
 use crate::seeking::{Sought, is_client_at, is_held_at, newest};
 use crate::setting::{declined, leased, offer_row, released};
 use crate::subnet::subnet_of;
-use kd_config::Subnet;
+use kd_config::{Config, Subnet};
 use kd_event::Reason;
 use kd_options::{Message, MessageType};
 use std::alloc::{AllocError, Global};
@@ -23,6 +24,24 @@ use std::alloc::{AllocError, Global};
 ///
 /// There is no memory for the client's identity in the row.
 pub fn effect_of(alloc: Global, question: &Question<'_>) -> Result<Effect, AllocError>
+    requires { question.now.moment < 2 ^ 40 }
+    ensures does { IfOk result (λ effect. Does (asking question.now) effect.row effect.planned) }
+    ensures set { IfOk result (λ effect. IfSome effect.row (IsSetNow (asking question.now))) }
+{
+    let effect = effect_by_type(alloc, question)?;
+    have_ranges(question.config);
+    Ok(effect)
+}
+
+// The times of a configuration are in their ranges, which is all that this says.
+fn have_ranges(config: &Config)
+    ensures { AreTimes config.now.times }
+{
+    config.times();
+}
+
+// What a message does, by its type.
+fn effect_by_type(alloc: Global, question: &Question<'_>) -> Result<Effect, AllocError>
     requires { question.now.moment < 2 ^ 40 }
     ensures { IfOk result (λ effect. Does (asking question.now) effect.row effect.planned) }
 {

@@ -12,6 +12,7 @@ mod effects;
 mod fitting;
 mod given;
 mod identities;
+pub mod laws;
 mod plan;
 mod planned;
 mod pooling;

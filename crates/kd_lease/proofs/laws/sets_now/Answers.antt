@@ -1,0 +1,6 @@
+use Rattle.std.proofs.Common.{refl, Some}
+use Rattle.kd_lease.proofs.Guards.{guarded}
+use Rattle.kd_lease.proofs.laws.sets_now.Goals as goal
+
+pub returns : goal.returns
+returns c = λ q type row planned h. let good = (guarded q type (Some row) planned h).good row refl in good.changed

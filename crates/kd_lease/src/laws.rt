@@ -1,0 +1,24 @@
+//! What is true of the rules, whatever the program does: each law is the contract of a function that
+//! does nothing.
+ghost use Rattle.kd_lease.specs.Laws.{HeldHasNoRank, HeldIsNotGiven, NakSetsNone, SetsNow};
+
+/// A row that is set was changed now.
+pub fn sets_now()
+    ensures { SetsNow }
+{}
+
+/// A NAK sets no row.
+pub fn nak_sets_none()
+    ensures { NakSetsNone }
+{}
+
+/// An address whose row is another client's and has not ended, be it offered, bound or declined, has
+/// no rank: it is the choice for nobody else.
+pub fn held_has_no_rank()
+    ensures { HeldHasNoRank }
+{}
+
+/// Such an address is neither offered nor leased to anybody else.
+pub fn held_is_not_given()
+    ensures { HeldIsNotGiven }
+{}
