@@ -1,6 +1,6 @@
 -- What a message does: the rows that are set were changed now and are in range, a NAK sets none, and no address is
 -- given that another client holds.
-use Rattle.std.proofs.Common.{◌≡◌, ℕ, ◌+◌, ◌<◌, ◌≤◌, ◌^◌, ◌==◌, Bool, true, false, Option, Some, None, IfSome, option_map, sym, ◌∙◌, subst, arith, if◌then◌else◌}
+use Rattle.std.proofs.Common.{◌≡◌, ℕ, ◌<◌, ◌^◌, ◌==◌, Bool, true, false, Option, Some, None, IfSome, option_map, sym, ◌∙◌, subst, arith, if◌then◌else◌}
 use Rattle.std.proofs.lemmas.Bool.{false≢true}
 use Rattle.std.proofs.lemmas.Option.{none-some}
 use Rattle.kd_config.specs.Sound.{AreTimes}
@@ -13,7 +13,7 @@ use Rattle.kd_rows.specs.Row.{IsInRange}
 use Rattle.kd_rows.specs.declared.row.Row.{Row}
 use Rattle.kd_lease.specs.Choice.{Asking, has_rank, is_usable, requested_of}
 use Rattle.kd_lease.specs.Laws.{IsAnothers}
-use Rattle.kd_lease.specs.Rules.{Does, GivesUp, InSubnet, Informs, IsQuiet, IsSetNow, OnDiscover, OnNamed, OnOther, OnRenew, OnRequest, OnSelect, Sets, UnlessOther, WithAsked, WithCiaddr, declined, is_held_at, is_leased, leased, may_renew, names_other, offer_row, offered, released, renewed_of, server_of, subnet_for}
+use Rattle.kd_lease.specs.Rules.{Does, GivesUp, InSubnet, Informs, IsQuiet, IsSetNow, OnDiscover, OnNamed, OnOther, OnRenew, OnRequest, OnSelect, Sets, UnlessOther, WithAsked, WithCiaddr, declined, is_held_at, is_leased, leased, may_renew, names_other, offered, released, renewed_of, server_of, subnet_for}
 use Rattle.kd_lease.specs.declared.planned.Planned.{Planned}
 use Rattle.kd_lease.specs.declared.planned.Planned.TheVariants as plans
 use Rattle.kd_lease.proofs.Held.{no_rank, not_renewed, not_usable}
@@ -147,14 +147,14 @@ guarded q types.Request set planned h = requested q (server_of q.message) set pl
 guarded q types.Decline set planned h =
     unless_other q (names_other q.config.server (server_of q.message)) (WithAsked (requested_of q.message) (λ a. GivesUp (is_held_at q a) (declined q a) reasons.Declined)) set planned
     (λ g. with_asked q (requested_of q.message) (λ a. GivesUp (is_held_at q a) (declined q a) reasons.Declined) set planned
-        (λ a f. gives_up q (is_held_at q a) (declined q a) reasons.Declined set planned (good_declined q a) f) g) h
+    (λ a f. gives_up q (is_held_at q a) (declined q a) reasons.Declined set planned (good_declined q a) f) g) h
 guarded q types.Ack set planned h = quiet_set q _ set planned h
 guarded q types.Nak set planned h = quiet_set q _ set planned h
 guarded q types.Release set planned h =
     let a = q.message.header.ciaddr in
     unless_other q (names_other q.config.server (server_of q.message)) (WithCiaddr (a == 0) (GivesUp (is_held_at q a) (released q a) reasons.Released)) set planned
     (λ g. with_ciaddr q (a == 0) (GivesUp (is_held_at q a) (released q a) reasons.Released) set planned
-        (λ f. gives_up q (is_held_at q a) (released q a) reasons.Released set planned (good_released q a) f) g) h
+    (λ f. gives_up q (is_held_at q a) (released q a) reasons.Released set planned (good_released q a) f) g) h
 guarded q types.Inform set planned h =
     with_ciaddr q (q.message.header.ciaddr == 0) (InSubnet (subnet_for q) Informs) set planned
     (λ g. in_subnet q (subnet_for q) Informs set planned (λ s f. none_set q set planned f.0 (λ a row held e. subst (λ (p : Planned). Gives p a) f.1 e)) g) h

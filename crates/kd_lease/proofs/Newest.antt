@@ -64,10 +64,13 @@ newest_of_all rows such client n None own all h = λ a. by a (such a) refl where
   by : (a : ℕ) (b : Bool) → such a ≡ b → such a ≡ false
   by a true e = let s = stands client rows a (own a e) in let l = s.1 in ap such (sym s.2) ∙ h s.0 (omega arith)
   by a false e = e
-newest_of_all rows such client n (Some a) own all h = (h.0, λ b e.
-    let s = stands client rows b (own b e) in
-    let l = s.1 in
-    ap (λ x. is_newer rows x a) (sym s.2) ∙ h.1 s.0 (omega arith) (ap such s.2 ∙ e))
+newest_of_all rows such client n (Some a) own all h = (
+  h.0,
+  λ b e.
+      let s = stands client rows b (own b e) in
+      let l = s.1 in
+      ap (λ x. is_newer rows x a) (sym s.2) ∙ h.1 s.0 (omega arith) (ap such s.2 ∙ e),
+)
 
 -- an address that is sought is the client's
 both : (t u : Bool) → (t && u) ≡ true → t ≡ true

@@ -129,10 +129,10 @@ first_open q s new n pool found less is h least = record {
       no_earlier (pool_of s.pools b) (pool_of s.pools found) b found
       (⊎_elim (λ l. absurd (false≢true (sym (h b l) ∙ opened))) (λ m. let k : pool_of s.pools found ≤ pool_of s.pools b = omega arith in k) (cases_lt (pool_of s.pools b) n))
       (λ e lower.
-        let there : pool_of s.pools b ≡ n = e ∙ same in
-        let here : has (get_or s.pools n pool).range b ≡ true = subst (λ (k : ℕ). has (get_or s.pools k pool).range b ≡ true) there (pool_at s.pools b pool (pool_within s.pools b within)) in
-        let bounds = inside pool.range b (subst (λ (p : Pool). has p.range b ≡ true) (sym is) here) in
-        false≢true (sym (least.3 b bounds.0 lower) ∙ opened))
+      let there : pool_of s.pools b ≡ n = e ∙ same in
+      let here : has (get_or s.pools n pool).range b ≡ true = subst (λ (k : ℕ). has (get_or s.pools k pool).range b ≡ true) there (pool_at s.pools b pool (pool_within s.pools b within)) in
+      let bounds = inside pool.range b (subst (λ (p : Pool). has p.range b ≡ true) (sym is) here) in
+      false≢true (sym (least.3 b bounds.0 lower) ∙ opened))
 
 pub no_open : (q : Asking) (s : Subnet) (new : Bool) (n : ℕ) → length s.pools ≤ n → NoneIn q s new n → IsRanked q s (pool_rank new) None
 no_open q s new n all h b = ranked q s new b ∙ by (in_pools s b) refl where

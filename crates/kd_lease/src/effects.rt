@@ -69,7 +69,11 @@ fn discover(alloc: Global, question: &Question<'_>) -> Result<Effect, AllocError
 }
 
 // A DISCOVER in its subnet.
-fn discover_in(alloc: Global, question: &Question<'_>, subnet: &Subnet) -> Result<Effect, AllocError>
+fn discover_in(
+    alloc: Global,
+    question: &Question<'_>,
+    subnet: &Subnet,
+) -> Result<Effect, AllocError>
     requires { question.now.moment < 2 ^ 40 }
     ensures { IfOk result (λ effect. OnDiscover (asking question.now) subnet.now effect.row effect.planned) }
 {
@@ -115,7 +119,12 @@ fn select(alloc: Global, question: &Question<'_>) -> Result<Effect, AllocError>
 }
 
 // Such a REQUEST in its subnet.
-fn select_in(alloc: Global, question: &Question<'_>, subnet: &Subnet, address: u32) -> Result<Effect, AllocError>
+fn select_in(
+    alloc: Global,
+    question: &Question<'_>,
+    subnet: &Subnet,
+    address: u32,
+) -> Result<Effect, AllocError>
     requires { question.now.moment < 2 ^ 40 }
     ensures { IfOk result (λ effect. OnSelect (asking question.now) subnet.now address effect.row effect.planned) }
 {
@@ -155,7 +164,12 @@ fn renew(alloc: Global, question: &Question<'_>) -> Result<Effect, AllocError>
 }
 
 // Such a REQUEST in its subnet.
-fn renew_in(alloc: Global, question: &Question<'_>, subnet: &Subnet, address: u32) -> Result<Effect, AllocError>
+fn renew_in(
+    alloc: Global,
+    question: &Question<'_>,
+    subnet: &Subnet,
+    address: u32,
+) -> Result<Effect, AllocError>
     requires { question.now.moment < 2 ^ 40 }
     ensures { IfOk result (λ effect. OnRenew (asking question.now) subnet.now address effect.row effect.planned) }
 {

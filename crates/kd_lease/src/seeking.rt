@@ -37,7 +37,12 @@ pub(crate) fn newest(question: &Question<'_>, sought: &Sought<'_>) -> Option<u32
 }
 
 // The newer of what was found and an address that is sought.
-fn better(question: &Question<'_>, sought: &Sought<'_>, best: Option<u32>, address: u32) -> Option<u32>
+fn better(
+    question: &Question<'_>,
+    sought: &Sought<'_>,
+    best: Option<u32>,
+    address: u32,
+) -> Option<u32>
     ensures { result ≡ better (asking question.now) sought.now best address }
 {
     if !is_sought(question, sought, address) {

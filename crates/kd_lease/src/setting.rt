@@ -8,7 +8,11 @@ use kd_wire::Bytes;
 use std::alloc::{AllocError, Global};
 
 // The row that an offer sets: none where the client leases the address.
-pub(crate) fn offer_row(alloc: Global, question: &Question<'_>, address: u32) -> Result<Option<Row>, AllocError>
+pub(crate) fn offer_row(
+    alloc: Global,
+    question: &Question<'_>,
+    address: u32,
+) -> Result<Option<Row>, AllocError>
     requires { question.now.moment < 2 ^ 40 }
     ensures { IfOk result (λ row. row ≡ offer_row (asking question.now) address) }
 {
@@ -29,7 +33,11 @@ fn offered(alloc: Global, question: &Question<'_>, address: u32) -> Result<Row, 
 }
 
 // The row of an address that is leased.
-pub(crate) fn leased(alloc: Global, question: &Question<'_>, address: u32) -> Result<Row, AllocError>
+pub(crate) fn leased(
+    alloc: Global,
+    question: &Question<'_>,
+    address: u32,
+) -> Result<Row, AllocError>
     requires { question.now.moment < 2 ^ 40 }
     ensures { IfOk result (λ row. row ≡ leased (asking question.now) address) }
 {
@@ -38,7 +46,11 @@ pub(crate) fn leased(alloc: Global, question: &Question<'_>, address: u32) -> Re
 }
 
 // The row of an address that its client gave back.
-pub(crate) fn released(alloc: Global, question: &Question<'_>, address: u32) -> Result<Row, AllocError>
+pub(crate) fn released(
+    alloc: Global,
+    question: &Question<'_>,
+    address: u32,
+) -> Result<Row, AllocError>
     ensures { IfOk result (λ row. row ≡ released (asking question.now) address) }
 {
     row_of(alloc, question, address, State::Released, question.moment)
