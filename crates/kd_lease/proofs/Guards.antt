@@ -13,7 +13,7 @@ use Rattle.kd_rows.specs.Row.{IsInRange}
 use Rattle.kd_rows.specs.declared.row.Row.{Row}
 use Rattle.kd_lease.specs.Choice.{Asking, has_rank, is_usable, requested_of}
 use Rattle.kd_lease.specs.Laws.{IsAnothers}
-use Rattle.kd_lease.specs.Rules.{Does, GivesUp, InSubnet, Informs, IsQuiet, IsSetNow, OnDiscover, OnNamed, OnOther, OnRenew, OnRequest, OnSelect, Sets, UnlessOther, WithAsked, WithCiaddr, declined, is_held_at, is_leased, leased, may_renew, names_other, offered, released, renewed_of, server_of, subnet_for}
+use Rattle.kd_lease.specs.Rules.{Does, GivesUp, InSubnet, Informs, IsQuiet, IsSetAt, OnDiscover, OnNamed, OnOther, OnRenew, OnRequest, OnSelect, Sets, UnlessOther, WithAsked, WithCiaddr, declined, is_held_at, is_leased, leased, may_renew, names_other, offered, released, renewed_of, server_of, subnet_for}
 use Rattle.kd_lease.specs.declared.planned.Planned.{Planned}
 use Rattle.kd_lease.specs.declared.planned.Planned.TheVariants as plans
 use Rattle.kd_lease.proofs.Held.{no_rank, not_renewed, not_usable}
@@ -160,7 +160,7 @@ guarded q types.Inform set planned h =
     (λ g. in_subnet q (subnet_for q) Informs set planned (λ s f. none_set q set planned f.0 (λ a row held e. subst (λ (p : Planned). Gives p a) f.1 e)) g) h
 
 -- the row that a message sets is set now
-pub set_now : (q : Asking) (set : Option Row) (planned : Planned) → Does q set planned → q.now < 2 ^ 40 → AreTimes q.config.times → IfSome set (IsSetNow q)
+pub set_now : (q : Asking) (set : Option Row) (planned : Planned) → Does q set planned → q.now < 2 ^ 40 → AreTimes q.config.times → IfSome set (IsSetAt q.now)
 set_now q None planned does early times = tt
 set_now q (Some row) planned does early times =
     let good = (guarded q does.type (Some row) planned does.sets).good row (λ i. Some row) in

@@ -1,75 +1,87 @@
--- What a message changes (RFC 2131 section 4.3), over a configuration, and as long as no address is leased:
--- nothing changes, and of the messages that a client sends only an INFORM is answered.
-use Rattle.std.specs.Prelude.{◌≡◌, ℕ, true, ◌==◌, not, is_none, List, [], ◌∷◌, ◌++◌, Option, Some, None, codes, if◌then◌else◌}
-use Rattle.byteorder.specs.Endian.{big_bytes}
+-- What a message changes (RFC 2131 section 4.3): the row that is set in the table of leases, or none, and what
+-- the message gets. The rules say both; a reply whose obligatory options do not fit is not sent, and then no
+-- row is set (the choice is ours).
+use Rattle.std.specs.Prelude.{◌≡◌, ℕ, Bool, true, false, List, Option, Some, None, codes}
 use Rattle.kd_classes.specs.HeldSet.{HeldSet}
 use Rattle.kd_config.specs.Configuration.{Configuration}
-use Rattle.kd_config.specs.declared.subnet.Subnet.{Subnet}
-use Rattle.kd_machine.specs.World.{is_held}
-use Rattle.kd_options.specs.Joined.{value_of}
-use Rattle.kd_options.specs.Message.{Seen}
-use Rattle.kd_lease.specs.Client.{identity, is_from_server, kind_of, room_of}
-use Rattle.kd_lease.specs.Given.{configured_options, given}
-use Rattle.kd_lease.specs.Plan.{Outcome, ReplyOption}
-use Rattle.kd_lease.specs.Plan.Outcome.{planned, quiet}
-use Rattle.kd_lease.specs.ReplyOf.{is_short}
-use Rattle.kd_lease.specs.SubnetOf.{subnet_of}
-use Rattle.kd_lease.specs.declared.plan.PlanKind.TheVariants as kinds
+use Rattle.kd_event.specs.declared.reason.Reason.{Reason}
 use Rattle.kd_event.specs.declared.reason.Reason.TheVariants as reasons
+use Rattle.kd_machine.specs.World.{is_held}
+use Rattle.kd_options.specs.Message.{Seen}
+use Rattle.kd_rows.specs.Table.{with_row}
+use Rattle.kd_rows.specs.declared.row.Row.{Row}
+use Rattle.kd_lease.specs.Choice.{Asking}
+use Rattle.kd_lease.specs.Client.{identity, is_from_server, room_of}
+use Rattle.kd_lease.specs.Plan.{Outcome}
+use Rattle.kd_lease.specs.Plan.Outcome.{planned, quiet}
+use Rattle.kd_lease.specs.ReplyOf.{fits_room}
+use Rattle.kd_lease.specs.ReplyOptions.{reply_options}
+use Rattle.kd_lease.specs.Rules.{Does}
+use Rattle.kd_lease.specs.declared.plan.PlanKind.{PlanKind}
+use Rattle.kd_lease.specs.declared.plan.PlanKind.TheVariants as kinds
+use Rattle.kd_lease.specs.declared.planned.Planned.{Planned}
+use Rattle.kd_lease.specs.declared.planned.Planned.TheVariants as plans
 
--- the table of leases: no address is leased
-abbrev pub Table : Type 0
-Table = Unit {0}
+-- a reply of a kind, with the address that it gives or zero, and its options
+abbrev pub reply_in : Asking → PlanKind → ℕ → Outcome
+reply_in q kind yiaddr = planned kind yiaddr (reply_options q kind yiaddr)
 
--- the latest change in the table
-abbrev pub latest : Table → ℕ
-latest table = 0
+-- what a message gets for what is planned
+abbrev pub outcome_for : Asking → Planned → Outcome
+outcome_for q (plans.Offer a) = reply_in q kinds.Offer a
+outcome_for q (plans.Ack a) = reply_in q kinds.Ack a
+outcome_for q plans.Nak = reply_in q kinds.Nak 0
+outcome_for q plans.Inform = reply_in q kinds.InformAck 0
+outcome_for q (plans.Quiet reason) = quiet reason
 
--- an option that is always written
-abbrev pub obligatory : ℕ → List ℕ → List ReplyOption
-obligatory code value = record { code = code; value = value; obligatory = true } ∷ []
+-- the obligatory options fit, where there is a reply
+abbrev pub fits_in : ℕ → Outcome → Bool
+fits_in room (planned kind yiaddr options) = fits_room room options
+fits_in room (quiet reason) = true
 
--- an option of the message, returned as it came, where it is there
-abbrev pub returned : ℕ → Option (List ℕ) → List ReplyOption
-returned code None = []
-returned code (Some value) = obligatory code value
+-- this row is set and this is got, where the reply fits; else nothing is set, and there is no reply
+abbrev pub WhereFits : Bool → Option Row → Outcome → Option Row → Outcome → Type 0
+WhereFits true row outcome set got = (set ≡ row) × (got ≡ outcome)
+WhereFits false row outcome set got = (set ≡ None) × (got ≡ quiet reasons.ReplyTooLong)
 
--- the options of the ACK of an INFORM: type and server, the client identifier (RFC 6842), the configured
--- ones, the relay's information (RFC 3046)
-abbrev pub inform_options : Configuration → List (List ℕ) → Subnet → Seen → List ReplyOption
-inform_options config names subnet m =
-    obligatory 53 (5 ∷ []) ++ obligatory 54 (big_bytes 4 config.server) ++ returned 61 (value_of 61 m.options)
-    ++ configured_options m (given config subnet names m.header.ciaddr) ++ returned 82 (value_of 82 m.options)
+-- what a message does by its rule, and gets
+pub record Answers (q : Asking) (set : Option Row) (got : Outcome) : Type 0 where
+  pub row : Option Row
+  pub plan : Planned
+  pub does : Does q row plan
+  pub replies : WhereFits (fits_in (room_of q.message) (outcome_for q plan)) row (outcome_for q plan) set got
 
--- what an INFORM gets in its subnet: an ACK without an address
-abbrev pub inform_in : Configuration → List (List ℕ) → Seen → Option Subnet → Outcome
-inform_in config names m None = quiet reasons.NoSubnet
-inform_in config names m (Some subnet) =
-    if not (is_short (room_of m) (inform_options config names subnet m)) then quiet reasons.ReplyTooLong
-    else planned kinds.InformAck 0 (inform_options config names subnet m)
+-- nothing is done and there is no answer, for this reason, where it applies
+abbrev pub Unless : Bool → Reason → (Option Row → Outcome → Type 0) → Option Row → Outcome → Type 0
+Unless true reason Done set got = (set ≡ None) × (got ≡ quiet reason)
+Unless false reason Done set got = Done set got
 
--- what an INFORM gets, where it says its own address
-unfoldable pub inform_outcome : Configuration → List (List ℕ) → Seen → Outcome
-inform_outcome config names m =
-    if m.header.ciaddr == 0 then quiet reasons.NoCiaddr
-    else inform_in config names m (subnet_of config names m.header)
+-- what is done for a client by its identity; nothing where there is none
+abbrev pub ForClient : Option (List ℕ) → (List ℕ → Option Row → Outcome → Type 0) → Option Row → Outcome → Type 0
+ForClient None Done set got = (set ≡ None) × (got ≡ quiet reasons.NoIdentity)
+ForClient (Some client) Done set got = Done client set got
 
--- what a message whose classes have these names gets, where its type is served: only clients' messages with
--- an identity are answered, and none of the class DROP
-unfoldable pub outcome_of : Configuration → List (List ℕ) → Seen → Option Outcome
-outcome_of config names m =
-    if is_from_server m then Some (quiet reasons.NotRequest)
-    else if is_none (identity m) then Some (quiet reasons.NoIdentity)
-    else if is_held (codes "DROP") names then Some (quiet reasons.DropClass)
-    else if kind_of m == 8 then Some (inform_outcome config names m)
-    else None
+-- what the rules are asked for a client's message over a table
+abbrev pub asked_for : Configuration → List Row → List (List ℕ) → Seen → ℕ → List ℕ → Asking
+asked_for config rows names m now client =
+    record { config = config; rows = rows; names = names; message = m; client = client; now = now }
 
--- what a message gets, by the classes that it is in, where its type is served
-pub record Gets (config : Configuration) (m : Seen) (outcome : Option Outcome) : Type 0 where
+-- what a message sets and gets whose classes have these names: only clients' messages with an identity are
+-- answered, and none of the class DROP
+abbrev pub Decides : Configuration → List Row → List (List ℕ) → Seen → ℕ → Option Row → Outcome → Type 0
+Decides config rows names m now set got =
+    Unless (is_from_server m) reasons.NotRequest
+    (ForClient (identity m) (λ client. Unless (is_held (codes "DROP") names) reasons.DropClass (Answers (asked_for config rows names m now client)))) set got
+
+-- the rows after one is set, or none
+abbrev pub after : List Row → Option Row → List Row
+after rows None = rows
+after rows (Some row) = with_row row rows
+
+-- a message at a moment changes the table to this one, and gets this, by the classes that it is in
+pub record Changes (config : Configuration) (old : List Row) (m : Seen) (now : ℕ) (new : List Row) (outcome : Outcome) : Type 0 where
   pub names : List (List ℕ)
   pub held : HeldSet m config.classes names
-  pub is : outcome ≡ outcome_of config names m
-
--- a message at a moment changes the table to this one, and gets this
-abbrev pub Changes : Configuration → Table → Seen → ℕ → Table → Outcome → Type 0
-Changes config old m now new outcome = Gets config m (Some outcome) × (new ≡ old)
+  pub set : Option Row
+  pub decides : Decides config old names m now set outcome
+  pub becomes : new ≡ after old set

@@ -6,8 +6,8 @@ use Rattle.kd_lease.specs.Client.{room_of}
 use Rattle.kd_lease.specs.Plan.{Outcome, ReplyOption, option_in}
 use Rattle.kd_lease.specs.Plan.Outcome.{planned, quiet}
 use Rattle.kd_lease.specs.ReplyOf.{reply_header}
-use Rattle.kd_lease.specs.declared.plan.Decision.{Decision}
-use Rattle.kd_lease.specs.declared.plan.Decision.TheVariants as decisions
+use Rattle.kd_lease.specs.declared.plan.Answer.{Answer}
+use Rattle.kd_lease.specs.declared.plan.Answer.TheVariants as answers
 use Rattle.kd_lease.specs.declared.plan.Plan.{Plan}
 use Rattle.kd_lease.specs.declared.plan.PlanKind.{PlanKind}
 
@@ -21,14 +21,14 @@ pub record IsPlan (m : Seen) (kind : PlanKind) (yiaddr : ℕ) (options : List Re
   pub fits : Fits plan.room plan.reply.items
 
 -- a decision is this outcome
-abbrev pub IsDecision : Seen → Outcome → Decision → Type 0
-IsDecision m (quiet reason) (decisions.Quiet other) = other ≡ reason
-IsDecision m (quiet reason) (decisions.Plan plan) = ⊥
-IsDecision m (planned kind yiaddr options) (decisions.Quiet other) = ⊥
-IsDecision m (planned kind yiaddr options) (decisions.Plan plan) = IsPlan m kind yiaddr options plan
+abbrev pub IsDecision : Seen → Outcome → Answer → Type 0
+IsDecision m (quiet reason) (answers.Quiet other) = other ≡ reason
+IsDecision m (quiet reason) (answers.Plan plan) = ⊥
+IsDecision m (planned kind yiaddr options) (answers.Quiet other) = ⊥
+IsDecision m (planned kind yiaddr options) (answers.Plan plan) = IsPlan m kind yiaddr options plan
 
 -- a decision is this outcome, and there is none where there is no rule
-abbrev pub IsDecided : Seen → Option Outcome → Option Decision → Type 0
+abbrev pub IsDecided : Seen → Option Outcome → Option Answer → Type 0
 IsDecided m None None = Unit {0}
 IsDecided m None (Some decision) = ⊥
 IsDecided m (Some outcome) None = ⊥

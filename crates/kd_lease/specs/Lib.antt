@@ -1,13 +1,16 @@
 pub mod Change
 pub mod Choice
 pub mod Client
+pub mod Decided
 pub mod Decision
 pub mod Destination
 pub mod Given
 pub mod Laws
 pub mod Plan
 pub mod ReplyOf
+pub mod ReplyOptions
 pub mod Rules
 pub mod Seeking
 pub mod SubnetOf
+pub mod Unleased
 pub mod Valuing

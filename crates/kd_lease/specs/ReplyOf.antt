@@ -1,6 +1,6 @@
 -- The reply to a message: its header, whether its options fit, and its text (RFC 2131 sections 4.1 and
 -- 4.3, table 3).
-use Rattle.std.specs.Prelude.{◌≡◌, ℕ, ◌+◌, Bool, ◌==◌, List, map, replicate, length, nat_le, sum_by, bit_or, if◌then◌else◌}
+use Rattle.std.specs.Prelude.{◌≡◌, ℕ, ◌+◌, Bool, true, ◌==◌, List, [], ◌∷◌, Option, Some, None, map, replicate, length, nat_le, sum_by, bit_or, if◌then◌else◌}
 use Rattle.kd_options.specs.Reply.{cost_of, reply_text}
 use Rattle.kd_options.specs.declared.item.Item.{Item}
 use Rattle.kd_lease.specs.Plan.{ReplyOption, option_in}
@@ -39,13 +39,22 @@ reply_header kind yiaddr h = record {
   file = replicate 128 0;
 }
 
+-- an option that is always written
+abbrev pub obligatory : ℕ → List ℕ → List ReplyOption
+obligatory code value = record { code = code; value = value; obligatory = true } ∷ []
+
+-- an option of the message, returned as it came, where it is there
+abbrev pub returned : ℕ → Option (List ℕ) → List ReplyOption
+returned code None = []
+returned code (Some value) = obligatory code value
+
 -- what an option costs that has to be there
 abbrev pub needed : ReplyOption → ℕ
 needed option = if option.obligatory then cost_of (length option.value) else 0
 
 -- the options that have to be there fit into the room, with header, cookie and End
-abbrev pub is_short : ℕ → List ReplyOption → Bool
-is_short room options = nat_le (240 + sum_by needed options + 1) room
+abbrev pub fits_room : ℕ → List ReplyOption → Bool
+fits_room room options = nat_le (240 + sum_by needed options + 1) room
 
 -- the text of a reply with these options
 abbrev pub IsReplyText : Header → ℕ → List ReplyOption → List ℕ → Type 0

@@ -219,7 +219,7 @@ pub record Does (q : Asking) (set : Option Row) (planned : Planned) : Type 0 whe
   pub is : type_number type ≡ kind_of q.message
   pub sets : Sets q type set planned
 
--- a row that was changed now, and whose times are in range
-pub record IsSetNow (q : Asking) (row : Row) : Type 0 where
-  pub changed : row.changed ≡ q.now
+-- a row that was changed at a moment, and whose times are in range
+pub record IsSetAt (moment : ℕ) (row : Row) : Type 0 where
+  pub changed : row.changed ≡ moment
   pub in_range : IsInRange row

@@ -1,7 +1,7 @@
 ghost use Rattle.std.specs.Prelude.{◌≡◌, ◌<◌, ◌^◌, IfOk, IfSome, None, Some};
 ghost use Rattle.kd_config.specs.Sound.{AreTimes};
 ghost use Rattle.std.specs.Option.{option_copied};
-ghost use Rattle.kd_lease.specs.Rules.{Does, InSubnet, IsSetNow, OnDecline, OnDiscover, OnInform, OnOther, OnRelease, OnRenew, OnRequest, OnSelect, WithAsked, asking, leased, may_renew, names_other, renewed_of, server_of, subnet_for};
+ghost use Rattle.kd_lease.specs.Rules.{Does, InSubnet, IsSetAt, OnDecline, OnDiscover, OnInform, OnOther, OnRelease, OnRenew, OnRequest, OnSelect, WithAsked, asking, leased, may_renew, names_other, renewed_of, server_of, subnet_for};
 ghost use Rattle.kd_lease.specs.Choice.{requested_of};
 ghost use Rattle.kd_lease.specs.declared.planned.Planned.TheVariants as plans;
 
@@ -26,7 +26,7 @@ use std::alloc::{AllocError, Global};
 pub fn effect_of(alloc: Global, question: &Question<'_>) -> Result<Effect, AllocError>
     requires { question.now.moment < 2 ^ 40 }
     ensures does { IfOk result (λ effect. Does (asking question.now) effect.row effect.planned) }
-    ensures set { IfOk result (λ effect. IfSome effect.row (IsSetNow (asking question.now))) }
+    ensures set { IfOk result (λ effect. IfSome effect.row (IsSetAt question.now.moment)) }
 {
     let effect = effect_by_type(alloc, question)?;
     have_ranges(question.config);
@@ -285,7 +285,7 @@ fn quiet(reason: Reason) -> Effect
 }
 
 // The subnet that serves the message.
-fn subnet_for<'a>(question: &Question<'a>) -> Option<&'a Subnet>
+pub(crate) fn subnet_for<'a>(question: &Question<'a>) -> Option<&'a Subnet>
     ensures { option_copied result ≡ subnet_for (asking question.now) }
 {
     subnet_of(question.config, question.names, &question.message.header())

@@ -25,13 +25,14 @@ pub(crate) fn put_given(
     names: &Held,
     subnet: &Subnet,
     message: &Message<'_>,
+    address: u32,
 ) -> Result<(), AllocError>
     ensures { OnOk result (map option_in list.new.items ≡ map option_in list.old.items
-        ++ configured_options message.now (given config.now subnet.now names.now message.now.header.ciaddr)) }
+        ++ configured_options message.now (given config.now subnet.now names.now address)) }
 {
     let mask = mask_of(subnet.prefix);
     let mut values = Values::new();
-    values.put_all(pool_options(subnet, message.header().ciaddr));
+    values.put_all(pool_options(subnet, address));
     values.put_all(subnet.options.as_slice());
     put_class_options(&mut values, config.classes(), names);
     values.put_all(config.options());

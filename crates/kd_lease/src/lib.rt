@@ -8,10 +8,12 @@
 
 mod choice;
 mod client;
+mod deciding;
 mod effects;
 mod fitting;
 mod given;
 mod identities;
+mod items;
 pub mod laws;
 mod plan;
 mod planned;
@@ -19,17 +21,18 @@ mod pooling;
 mod question;
 mod reply;
 mod reservation;
-mod rules;
 mod seeking;
 mod sending;
 mod setting;
 mod subnet;
+mod unleased;
 mod values;
 
 pub use effects::effect_of;
 pub use identities::identity;
-pub use plan::{Decision, Plan, PlanKind};
+pub use deciding::decide;
+pub use plan::{Answer, Decision, Plan, PlanKind};
 pub use planned::{Effect, Planned};
 pub use question::Question;
-pub use rules::decide;
 pub use sending::destination;
+pub use unleased::decide_unleased;

@@ -1,5 +1,6 @@
 use kd_event::Reason;
 use kd_options::Reply;
+use kd_rows::Row;
 
 /// What a planned reply is (RFC 2131 sections 3.1 and 4.3).
 #[derive(Clone, Copy, PartialEq, Eq)]
@@ -27,11 +28,20 @@ pub struct Plan {
     pub room: u16,
 }
 
-/// What the rules answer for a message.
+/// What a message gets.
 #[derive(Drop)]
-pub enum Decision {
+pub enum Answer {
     /// A reply is sent.
     Plan(Plan),
     /// Nothing is sent.
     Quiet(Reason),
+}
+
+/// What the rules decide for a message.
+#[derive(Drop)]
+pub struct Decision {
+    /// The row that is set in the table of leases, if one is.
+    pub row: Option<Row>,
+    /// What the message gets.
+    pub answer: Answer,
 }

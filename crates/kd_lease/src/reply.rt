@@ -1,9 +1,8 @@
 ghost use Rattle.std.specs.Prelude.{◌≡◌, ◌++◌, ◌∷◌, [], IsTrue, OnOk, map, option_copied};
 ghost use Rattle.kd_options.specs.Reply.{Fits};
-ghost use Rattle.kd_lease.specs.Change.{obligatory, returned};
 ghost use Rattle.kd_lease.specs.Given.{optional};
 ghost use Rattle.kd_lease.specs.Plan.{option_in};
-ghost use Rattle.kd_lease.specs.ReplyOf.{is_short, reply_ciaddr, reply_flags, reply_header};
+ghost use Rattle.kd_lease.specs.ReplyOf.{fits_room, obligatory, returned, reply_ciaddr, reply_flags, reply_header};
 ghost use Rattle.kd_wire.specs.Area.{IsCode};
 
 use crate::plan::PlanKind;
@@ -57,8 +56,8 @@ fn reply_ciaddr(kind: PlanKind, header: &Header) -> u32
 }
 
 // The obligatory options of a reply fit into the room.
-pub(crate) fn is_short(reply: &Reply, room: u16) -> bool
-    ensures short { result ≡ is_short room (map option_in reply.now.items) }
+pub(crate) fn fits_room(reply: &Reply, room: u16) -> bool
+    ensures short { result ≡ fits_room room (map option_in reply.now.items) }
     ensures fits { IsTrue result → Fits room reply.now.items }
 {
     reply.fits(room)

@@ -5,7 +5,7 @@ use Rattle.kd_classes.specs.HeldSet.{HeldSet}
 use Rattle.kd_config.specs.Configuration.{Configuration}
 use Rattle.kd_options.specs.Message.{Seen, Reads}
 use Rattle.kd_options.specs.Reply.{reply_text}
-use Rattle.kd_lease.specs.Change.{outcome_of}
+use Rattle.kd_lease.specs.Unleased.{outcome_of}
 use Rattle.kd_server.specs.Unserved.{IsUnserved}
 use Rattle.kd_lease.specs.Destination.{destination_of}
 use Rattle.kd_lease.specs.Plan.{Outcome}

@@ -3,7 +3,7 @@
 use Rattle.std.specs.Prelude.{◌≡◌, ◌^◌, ◌≤◌, ◌<◌}
 use Rattle.kd_config.specs.Configuration.{Configuration}
 use Rattle.kd_options.specs.Message.{Seen, Reads}
-use Rattle.kd_lease.specs.Change.{Changes, Table, latest}
+use Rattle.kd_lease.specs.Unleased.{Changes, Table, latest}
 use Rattle.kd_server.specs.Unserved.{IsUnserved}
 use Rattle.kd_server.specs.Step.{IsStep}
 use Rattle.kd_event.specs.declared.ports.Ports.{Ports}

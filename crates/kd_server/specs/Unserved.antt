@@ -1,7 +1,7 @@
 -- Why a message is not served.
 use Rattle.std.specs.Prelude.{◌≡◌, None}
 use Rattle.kd_config.specs.Configuration.{Configuration}
-use Rattle.kd_lease.specs.Change.{Gets}
+use Rattle.kd_lease.specs.Unleased.{Gets}
 use Rattle.kd_lease.specs.Client.{kind_of}
 use Rattle.kd_options.specs.Kind.{type_number}
 use Rattle.kd_options.specs.Message.{Seen}

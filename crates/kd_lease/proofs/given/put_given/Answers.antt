@@ -1,4 +1,4 @@
-use Rattle.std.proofs.Common.{◌≡◌, ◌++◌, [], ap, ◌∙◌, subst}
+use Rattle.std.proofs.Common.{◌≡◌, ◌++◌, [], ap, subst}
 use Rattle.kd_lease.specs.Given.{class_options, given, pool_options}
 use Rattle.kd_lease.specs.Valuing.{HasValues}
 use Rattle.kd_lease.proofs.Giving.{all_given}
@@ -9,7 +9,7 @@ returns c =
     let config = c.args.config.now in
     let subnet = c.args.subnet.now in
     let names = c.args.names.now in
-    let address = c.args.message.now.header.ciaddr in
+    let address = c.args.address in
     let pool = c.pool_options.result.now in
     let own = c.as_slice.result.now in
     let classes = class_options c.classes.result.now names in
@@ -19,7 +19,7 @@ returns c =
     let three = c.put_class_options.ensures (pool ++ own) two in
     let four = c.put_all-3.ensures (pool ++ own ++ classes) three in
     let five = c.put.ensures (pool ++ own ++ classes ++ all) four in
-    let here : pool ≡ pool_options subnet.pools address = c.pool_options.ensures ∙ ap (λ h. pool_options subnet.pools h.ciaddr) c.header.ensures in
+    let here : pool ≡ pool_options subnet.pools address = c.pool_options.ensures in
     let held : classes ≡ class_options config.classes names = ap (λ cs. class_options cs names) c.classes.ensures.same in
     c.put_values.ensures
     (given config subnet names address)

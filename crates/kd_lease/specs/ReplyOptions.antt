@@ -1,0 +1,52 @@
+-- The options of a reply (RFC 2131 section 4.3.1, table 3; RFC 2132 sections 9.2, 9.6, 9.7, 9.11 and 9.12;
+-- RFC 6842 section 3; RFC 3046 section 2.2): which stand in a reply of each kind, and in which order.
+use Rattle.std.specs.Prelude.{ℕ, List, [], ◌∷◌, ◌++◌, Option, Some, None}
+use Rattle.byteorder.specs.Endian.{big_bytes}
+use Rattle.kd_config.specs.declared.subnet.Subnet.{Subnet}
+use Rattle.kd_config.specs.declared.times.Times.{Times}
+use Rattle.kd_options.specs.Joined.{value_of}
+use Rattle.kd_lease.specs.Choice.{Asking}
+use Rattle.kd_lease.specs.Given.{configured_options, given}
+use Rattle.kd_lease.specs.Plan.{ReplyOption}
+use Rattle.kd_lease.specs.ReplyOf.{obligatory, returned}
+use Rattle.kd_lease.specs.Rules.{subnet_for}
+use Rattle.kd_lease.specs.declared.plan.PlanKind.{PlanKind}
+use Rattle.kd_lease.specs.declared.plan.PlanKind.TheVariants as kinds
+
+-- the message type of a reply
+abbrev pub reply_type : PlanKind → ℕ
+reply_type kinds.Offer = 2
+reply_type kinds.Ack = 5
+reply_type kinds.InformAck = 5
+reply_type kinds.Nak = 6
+
+-- the times of a lease: how long it lasts, and when to renew and to rebind it
+abbrev pub lease_times : Times → List ReplyOption
+lease_times times =
+    obligatory 51 (big_bytes 4 times.lifetime) ++ obligatory 58 (big_bytes 4 times.renew) ++ obligatory 59 (big_bytes 4 times.rebind)
+
+-- the times in a reply: only an address that is given has them
+abbrev pub times_in : PlanKind → Times → List ReplyOption
+times_in kinds.Offer times = lease_times times
+times_in kinds.Ack times = lease_times times
+times_in kinds.InformAck times = []
+times_in kinds.Nak times = []
+
+-- the configured options at an address of a subnet, where there is one
+abbrev pub configured_in : Asking → Option Subnet → ℕ → List ReplyOption
+configured_in q None address = []
+configured_in q (Some s) address = configured_options q.message (given q.config s q.names address)
+
+-- the configured options of a reply: at the address that it gives, or that the client has; a NAK has none
+abbrev pub configured_for : Asking → PlanKind → ℕ → List ReplyOption
+configured_for q kinds.Offer yiaddr = configured_in q (subnet_for q) yiaddr
+configured_for q kinds.Ack yiaddr = configured_in q (subnet_for q) yiaddr
+configured_for q kinds.InformAck yiaddr = configured_in q (subnet_for q) q.message.header.ciaddr
+configured_for q kinds.Nak yiaddr = []
+
+-- the options of a reply: type and server, the times of a lease, the client identifier as it came, the
+-- configured ones, the relay's information as it came
+unfoldable pub reply_options : Asking → PlanKind → ℕ → List ReplyOption
+reply_options q kind yiaddr =
+    obligatory 53 (reply_type kind ∷ []) ++ obligatory 54 (big_bytes 4 q.config.server) ++ times_in kind q.config.times
+    ++ returned 61 (value_of 61 q.message.options) ++ configured_for q kind yiaddr ++ returned 82 (value_of 82 q.message.options)

@@ -1,0 +1,117 @@
+ghost use Rattle.std.specs.Prelude.{◌≡◌, ◌++◌, IfOk, OnOk, map};
+ghost use Rattle.kd_lease.specs.Plan.{option_in};
+ghost use Rattle.kd_lease.specs.ReplyOptions.{configured_for, configured_in, lease_times, reply_options, reply_type, times_in};
+ghost use Rattle.kd_lease.specs.Rules.{asking, subnet_for};
+
+use crate::effects::subnet_for;
+use crate::given::put_given;
+use crate::plan::PlanKind;
+use crate::question::Question;
+use crate::reply::{put_obligatory, put_returned};
+use kd_config::Times;
+use kd_options::{Item, Items};
+use std::alloc::{AllocError, Global};
+
+// The options of a reply of a kind, which gives an address or none, in their order.
+#[tactic(auto, unfolding(crate::specs::ReplyOptions::reply_options))]
+pub(crate) fn reply_items(
+    alloc: Global,
+    question: &Question<'_>,
+    kind: PlanKind,
+    yiaddr: u32,
+) -> Result<Items, AllocError>
+    ensures { IfOk result (λ items. map option_in items ≡ reply_options (asking question.now) kind yiaddr) }
+{
+    let message = question.message;
+    let server = question.config.server().to_be_bytes();
+    let mut list = Vec::new(alloc);
+    put_obligatory(alloc, &mut list, 53, &[reply_type(kind)])?;
+    put_obligatory(alloc, &mut list, 54, &server)?;
+    put_times(alloc, &mut list, kind, question.config.times())?;
+    put_returned(alloc, &mut list, 61, message.option(61))?;
+    put_configured_for(alloc, &mut list, question, kind, yiaddr)?;
+    put_returned(alloc, &mut list, 82, message.option(82))?;
+    Ok(Items::own(list))
+}
+
+// The message type of a reply (RFC 2132 section 9.6).
+fn reply_type(kind: PlanKind) -> u8
+    ensures { result ≡ reply_type kind }
+{
+    match kind {
+        PlanKind::Offer => 2,
+        PlanKind::Ack => 5,
+        PlanKind::InformAck => 5,
+        PlanKind::Nak => 6,
+    }
+}
+
+// Puts the times of a lease behind the others, where an address is given.
+fn put_times(
+    alloc: Global,
+    list: &mut Vec<Item>,
+    kind: PlanKind,
+    times: Times,
+) -> Result<(), AllocError>
+    ensures { OnOk result (map option_in list.new.items ≡ map option_in list.old.items ++ times_in kind times) }
+{
+    match kind {
+        PlanKind::Offer => put_lease_times(alloc, list, times),
+        PlanKind::Ack => put_lease_times(alloc, list, times),
+        PlanKind::InformAck => Ok(()),
+        PlanKind::Nak => Ok(()),
+    }
+}
+
+// Puts how long a lease lasts, and when to renew and to rebind it.
+fn put_lease_times(alloc: Global, list: &mut Vec<Item>, times: Times) -> Result<(), AllocError>
+    ensures { OnOk result (map option_in list.new.items ≡ map option_in list.old.items ++ lease_times times) }
+{
+    put_obligatory(alloc, list, 51, &times.lifetime.to_be_bytes())?;
+    put_obligatory(alloc, list, 58, &times.renew.to_be_bytes())?;
+    put_obligatory(alloc, list, 59, &times.rebind.to_be_bytes())
+}
+
+// Puts the configured options of a reply behind the others: at the address that it gives, or that the client has.
+fn put_configured_for(
+    alloc: Global,
+    list: &mut Vec<Item>,
+    question: &Question<'_>,
+    kind: PlanKind,
+    yiaddr: u32,
+) -> Result<(), AllocError>
+    ensures { OnOk result (map option_in list.new.items ≡ map option_in list.old.items ++ configured_for (asking question.now) kind yiaddr) }
+{
+    match kind {
+        PlanKind::Offer => put_configured_at(alloc, list, question, yiaddr),
+        PlanKind::Ack => put_configured_at(alloc, list, question, yiaddr),
+        PlanKind::InformAck => {
+            put_configured_at(alloc, list, question, question.message.header().ciaddr)
+        }
+        PlanKind::Nak => Ok(()),
+    }
+}
+
+// Puts the configured options at an address of the message's subnet, where there is one.
+fn put_configured_at(
+    alloc: Global,
+    list: &mut Vec<Item>,
+    question: &Question<'_>,
+    address: u32,
+) -> Result<(), AllocError>
+    ensures { OnOk result (map option_in list.new.items ≡ map option_in list.old.items
+        ++ configured_in (asking question.now) (subnet_for (asking question.now)) address) }
+{
+    match subnet_for(question) {
+        Some(subnet) => put_given(
+            alloc,
+            list,
+            question.config,
+            question.names,
+            subnet,
+            question.message,
+            address,
+        ),
+        None => Ok(()),
+    }
+}
