@@ -1,4 +1,7 @@
+pub mod Keeping
 pub mod Responding
 pub mod Standing
 pub mod Step
+pub mod Turn
+pub mod Unkept
 pub mod Unserved

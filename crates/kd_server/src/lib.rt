@@ -5,6 +5,9 @@
 //! by the rules of `kd_lease`; `run` and `replay` are those of `kd_replay`, over this server.
 #![tactic(auto)]
 
+mod leasing;
 mod server;
+mod turning;
 
+pub use leasing::LeaseServer;
 pub use server::{Server, replay};

@@ -8,15 +8,14 @@ ghost use Rattle.kd_server.specs.Responding.{IsAnswerBy, IsResponse, IsSent, IsU
 ghost use Rattle.kd_server.specs.Standing.{Fails, Gives};
 ghost use Rattle.kd_replay.specs.Text.{IsSmall};
 ghost use Rattle.kd_replay.specs.declared.fault.ReplayFault.TheVariants as faults;
-ghost use Rattle.kd_replay.specs.declared.fault.ServeFault.TheVariants.{Memory};
 
 use kd_config::Config;
 use kd_event::{Event, Handled, Ports, Reason, Response};
-use kd_lease::{Decision, Plan, decide, destination};
+use kd_lease::{Answer, Plan, decide_unleased, destination};
 use kd_options::{Message, ReadFault, WriteFault};
 use kd_replay::{ReplayFault, ServeFault, Serves, Sink, Source, replay_with, run_with};
 use kd_wire::Bytes;
-use std::alloc::Global;
+use std::alloc::{AllocError, Global};
 use std::marker::Model;
 
 /// A server that goes by a configuration; no address is leased.
@@ -163,30 +162,29 @@ fn answer(
     ensures fault { IfErr result (IsUnserved config.now message.now) }
 {
     let names = config.classes().held(alloc, message)?;
-    match decide(alloc, config, &names, message)? {
-        Some(Decision::Quiet(reason)) => Ok(Response::Quiet(reason)),
-        Some(Decision::Plan(plan)) => sent(alloc, ports, message, &plan),
+    match decide_unleased(alloc, config, &names, message)? {
+        Some(Answer::Quiet(reason)) => Ok(Response::Quiet(reason)),
+        Some(Answer::Plan(plan)) => Ok(sent(alloc, ports, message, &plan)?),
         None => Err(ServeFault::Unsupported(message.kind())),
     }
 }
 
 // A planned reply, as it is sent.
-fn sent(
+pub(crate) fn sent(
     alloc: Global,
     ports: Ports,
     message: &Message<'_>,
     plan: &Plan,
-) -> Result<Response, ServeFault>
+) -> Result<Response, AllocError>
     requires fits { Fits plan.now.room plan.now.reply.items }
     requires least { 300 ≤ plan.now.room }
     requires most { plan.now.room ≤ 1472 }
     ensures found { IfOk result (IsSent ports message.now plan.now) }
     ensures small { IfOk result IsSmall }
-    ensures fault { IfErr result (λ fault. fault ≡ Memory) }
 {
     match plan.reply.write(alloc, plan.room) {
         Ok(bytes) => Ok(Response::Reply(destination(message, plan, ports), Bytes::own(bytes))),
-        Err(WriteFault::Memory) => Err(ServeFault::Memory),
+        Err(WriteFault::Memory) => Err(AllocError),
         Err(WriteFault::TooLong) => unreachable!(),
     }
 }

@@ -1,0 +1,16 @@
+use Rattle.std.proofs.Common.{◌≡◌, IfErr, List, ap, arith, max, subst, sym, ◌∙◌}
+use Rattle.kd_event.specs.declared.event.Event.{Event}
+use Rattle.kd_server.specs.Keeping.{Keeping, Refuses}
+use Rattle.kd_server.proofs.Stopping.{refused_if}
+use Rattle.kd_server.proofs.leasing.LeaseServer.handle.Goals as goal
+
+pub returns-clause-failed : goal.returns-clause-failed
+returns-clause-failed g c =
+    let ports = c.self.inside.ports in
+    let config = c.self.inside.config in
+    let event : Event = record { moment = c.args.moment; bytes = c.args.bytes.now } in
+    let old : Keeping _ = record { ports = ports; config = config; rows = c.self.inside.rows.rows; store = c.self.inside.store } in
+    let new : Keeping _ = record { ports = ports; config = config; rows = c.settle.new.rows.rows; store = c.settle.new.store } in
+    subst (λ (k : Keeping _). IfErr c.settle.result (λ fault. Refuses g.S.Keeps k event fault new)) c.self.view_is
+    (refused_if g.S.Keeps old event c.in_ok-turn.turn.row c.in_ok-turn.turn.response c.max-now.result c.settle.result c.settle.new.rows.rows c.settle.new.store
+    (sym c.failed.ensures ∙ c.if-failed.false) (omega arith) (c.max-now.ensures ∙ ap (max c.args.moment) c.latest.ensures.latest) c.in_ok-turn.ensures.found c.settle.ensures.failed)

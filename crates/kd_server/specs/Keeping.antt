@@ -1,0 +1,77 @@
+-- What a server with leases stands at, over any store that keeps them, and what it does with an event: it answers
+-- and changes its rows as the history says, and the store keeps those rows.
+use Rattle.std.specs.Prelude.{◌≡◌, ◌≢◌, ℕ, ◌^◌, ◌≤◌, ◌<◌, Bool, true, false, List}
+use Rattle.kd_config.specs.Configuration.{Configuration}
+use Rattle.kd_event.specs.declared.event.Event.{Event}
+use Rattle.kd_event.specs.declared.event.Handled.{Handled}
+use Rattle.kd_event.specs.declared.ports.Ports.{Ports}
+use Rattle.kd_keeps.specs.declared.keeps.Keeps.{Ghosts}
+use Rattle.kd_lease.specs.Change.{Changes}
+use Rattle.kd_replay.specs.declared.fault.ServeFault.{ServeFault}
+use Rattle.kd_replay.specs.declared.fault.ServeFault.TheVariants as faults
+use Rattle.kd_rows.specs.Table.{latest_of}
+use Rattle.kd_rows.specs.declared.row.Row.{Row}
+use Rattle.kd_server.specs.Step.{IsStep}
+
+-- what contracts see of a server: its ports, the configuration that it goes by, its rows, and its store
+pub record Keeping (S : Type 0) : Type 0 where
+  pub ports : Ports
+  pub config : Configuration
+  pub rows : List Row
+  pub store : S
+
+-- one event of the history, from rows to rows
+abbrev pub StepsTo : Configuration → Ports → List Row → Event → Handled → List Row → Type 0
+StepsTo config ports rows event handled new = IsStep latest_of (Changes config) ports rows event handled new
+
+module _ {S : Type 0} (g : Ghosts S) where
+  -- a store stands at these rows, and a crash leaves them
+  pub record Holds (store : S) (rows : List Row) : Type 0 where
+    pub stands : g.stands store rows
+    pub leaves : g.leaves store rows rows
+
+  -- a store that works: where its disk is clean it was clean before, and a store that held the rows from before
+  -- holds those from after
+  pub record StillHolds (old new : S) (before rows : List Row) : Type 0 where
+    pub works : g.has_failed new ≡ false
+    pub clean : g.has_clean_disk new → g.has_clean_disk old
+    pub holds : g.has_clean_disk new → Holds old before → Holds new rows
+
+  -- a store that has failed at a change: a crash leaves the rows from before or those from after
+  pub record Loses (old new : S) (before rows : List Row) : Type 0 where
+    pub failed : g.has_failed new ≡ true
+    pub clean : g.has_clean_disk new → g.has_clean_disk old
+    pub changed : rows ≢ before
+    pub left : g.has_clean_disk new → Holds old before → g.leaves new before rows
+
+  -- a server keeps its ports, its configuration and its rows
+  pub record IsSameBut (old new : Keeping S) : Type 0 where
+    pub ports : new.ports ≡ old.ports
+    pub config : new.config ≡ old.config
+    pub rows : new.rows ≡ old.rows
+
+  -- the server's step: the history's, from rows to rows, and the store keeps the new ones
+  pub record Steps (old : Keeping S) (event : Event) (handled : Handled) (new : Keeping S) : Type 0 where
+    pub worked : g.has_failed old.store ≡ false
+    pub ports : new.ports ≡ old.ports
+    pub config : new.config ≡ old.config
+    pub step : StepsTo old.config old.ports old.rows event handled new.rows
+    pub store : StillHolds old.store new.store old.rows new.rows
+
+  -- the store has failed at the change of an event: there is no answer, and the server's rows are those from before
+  pub record IsStopped (old : Keeping S) (event : Event) (new : Keeping S) : Type 0 where
+    pub worked : g.has_failed old.store ≡ false
+    pub same : IsSameBut old new
+    pub handled : Handled
+    pub after : List Row
+    pub step : StepsTo old.config old.ports old.rows event handled after
+    pub store : Loses old.store new.store old.rows after
+
+  -- why an event is not handled, and what stands then: want of memory, a moment of 2^40 or more and a store that
+  -- has failed before change nothing; else the store has failed at this event
+  abbrev pub Refuses : Keeping S → Event → ServeFault → Keeping S → Type 0
+  Refuses old event (faults.Unsupported kind) new = ⊥
+  Refuses old event faults.MomentTooLarge new = (g.has_failed old.store ≡ false) × (2 ^ 40 ≤ event.moment) × (new ≡ old)
+  Refuses old event faults.Memory new = (g.has_failed old.store ≡ false) × (event.moment < 2 ^ 40) × (new ≡ old)
+  Refuses old event (faults.Store fault) new = IsStopped old event new
+  Refuses old event faults.Failed new = (g.has_failed old.store ≡ true) × (new ≡ old)

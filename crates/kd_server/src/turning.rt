@@ -1,0 +1,83 @@
+ghost use Rattle.std.specs.Prelude.{◌≡◌, ◌≤◌, ◌<◌, ◌^◌, IfOk, IfSome};
+ghost use Rattle.kd_lease.specs.Decided.{IsAnswerTo, outcome_in};
+ghost use Rattle.kd_lease.specs.Rules.{IsSetAt};
+ghost use Rattle.kd_replay.specs.Text.{IsSmall};
+ghost use Rattle.kd_server.specs.Step.{Responds};
+ghost use Rattle.kd_server.specs.Turn.{IsTurn, Turns};
+
+use crate::server::sent;
+use kd_config::Config;
+use kd_event::{Ports, Reason, Response};
+use kd_lease::{Answer, Decision, decide};
+use kd_options::{Message, ReadFault};
+use kd_replay::ServeFault;
+use kd_rows::{Row, Rows};
+use std::alloc::{AllocError, Global};
+
+// What a datagram does: the row that it sets, if it sets one, and what is sent.
+#[derive(Drop)]
+pub(crate) struct Turn {
+    pub(crate) row: Option<Row>,
+    pub(crate) response: Response,
+}
+
+// What a datagram does at a moment.
+pub(crate) fn turn_at(
+    alloc: Global,
+    ports: Ports,
+    config: &Config,
+    rows: &Rows,
+    moment: u64,
+    bytes: &[u8],
+) -> Result<Turn, AllocError>
+    requires { moment < 2 ^ 40 }
+    ensures found { IfOk result (λ t. IsTurn config.now ports rows.now.rows moment bytes.now t.row t.response) }
+    ensures small { IfOk result (λ t. IsSmall t.response) }
+    ensures set { IfOk result (λ t. IfSome t.row (IsSetAt moment)) }
+{
+    match Message::read(alloc, bytes) {
+        Ok(message) => turn_of(alloc, ports, config, rows, moment, &message),
+        Err(ReadFault::Memory) => Err(AllocError),
+        Err(_) => Ok(Turn {
+            row: None,
+            response: Response::Quiet(Reason::Unreadable),
+        }),
+    }
+}
+
+// What a message does at a moment.
+fn turn_of(
+    alloc: Global,
+    ports: Ports,
+    config: &Config,
+    rows: &Rows,
+    moment: u64,
+    message: &Message<'_>,
+) -> Result<Turn, AllocError>
+    requires { moment < 2 ^ 40 }
+    ensures found { IfOk result (λ t. Turns config.now ports rows.now.rows moment message.now t.row t.response) }
+    ensures small { IfOk result (λ t. IsSmall t.response) }
+    ensures set { IfOk result (λ t. IfSome t.row (IsSetAt moment)) }
+{
+    let names = config.classes().held(alloc, message)?;
+    let Decision { row, answer } = decide(alloc, config, rows, message, &names, moment)?;
+    let response = response_to(alloc, ports, message, &answer)?;
+    Ok(Turn { row, response })
+}
+
+// What is sent for an answer to a message.
+fn response_to(
+    alloc: Global,
+    ports: Ports,
+    message: &Message<'_>,
+    answer: &Answer,
+) -> Result<Response, AllocError>
+    requires { IsAnswerTo message.now answer.now }
+    ensures found { IfOk result (Responds ports message.now (outcome_in answer.now)) }
+    ensures small { IfOk result IsSmall }
+{
+    match answer {
+        Answer::Plan(plan) => sent(alloc, ports, message, plan),
+        Answer::Quiet(reason) => Ok(Response::Quiet(*reason)),
+    }
+}
