@@ -1,5 +1,5 @@
 -- An event whose row is not kept.
-use Rattle.std.proofs.Common.{◌≡◌, ℕ, ◌^◌, ◌<◌, ◌⊎◌, inl, inr, IfErr, List, Option, None, Result, Ok, Err, false, max, refl, sym, ap, subst, ◌∙◌}
+use Rattle.std.proofs.Common.{◌≡◌, ℕ, ◌^◌, ◌<◌, inl, inr, IfErr, List, Option, Result, Ok, Err, false, max, refl, sym, ap, subst}
 use Rattle.kd_event.specs.declared.event.Event.{Event}
 use Rattle.kd_event.specs.declared.event.Handled.{Handled}
 use Rattle.kd_event.specs.declared.event.Response.{Response}
@@ -10,7 +10,7 @@ use Rattle.kd_replay.specs.declared.fault.ServeFault.TheVariants as faults
 use Rattle.kd_rows.specs.Table.{latest_of}
 use Rattle.kd_rows.specs.declared.row.Row.{Row}
 use Rattle.kd_server.specs.Keeping.{Keeping, Refuses, StepsTo}
-use Rattle.kd_server.specs.Turn.{IsNoTurn, IsTurn, TurnsAs}
+use Rattle.kd_server.specs.Turn.{IsTurn}
 use Rattle.kd_server.specs.Unkept.{IsUnkept}
 
 -- what a datagram does is one event of the history
@@ -38,9 +38,12 @@ pub refused : {S : Type 0} (g : Ghosts S) (old : Keeping S) (event : Event) (row
     → Refuses g old event fault (record { ports = old.ports; config = old.config; rows = rows; store = store })
 refused g old event row response now (faults.Unsupported kind) rows store works early is turn unkept = absurd unkept
 refused g old event row response now faults.MomentTooLarge rows store works early is turn unkept = absurd unkept
-refused g old event row response now faults.Memory rows store works early is turn unkept =
-    (works, early, subst (λ (r : List Row). record { ports = old.ports; config = old.config; rows = r; store = store } ≡ old) (sym unkept.0)
-    (ap (λ s. record { ports = old.ports; config = old.config; rows = old.rows; store = s }) unkept.1))
+refused g old event row response now faults.Memory rows store works early is turn unkept = (
+  works,
+  early,
+  subst (λ (r : List Row). record { ports = old.ports; config = old.config; rows = r; store = store } ≡ old) (sym unkept.0)
+      (ap (λ s. record { ports = old.ports; config = old.config; rows = old.rows; store = s }) unkept.1),
+)
 refused g old event row response now (faults.Store fault) rows store works early is turn unkept = record {
   worked = works;
   same = record { ports = refl; config = refl; rows = unkept.0 };

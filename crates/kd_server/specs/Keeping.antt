@@ -1,6 +1,6 @@
 -- What a server with leases stands at, over any store that keeps them, and what it does with an event: it answers
 -- and changes its rows as the history says, and the store keeps those rows.
-use Rattle.std.specs.Prelude.{◌≡◌, ◌≢◌, ℕ, ◌^◌, ◌≤◌, ◌<◌, Bool, true, false, List}
+use Rattle.std.specs.Prelude.{◌≡◌, ◌≢◌, ◌^◌, ◌≤◌, ◌<◌, Bool, true, false, List}
 use Rattle.kd_config.specs.Configuration.{Configuration}
 use Rattle.kd_event.specs.declared.event.Event.{Event}
 use Rattle.kd_event.specs.declared.event.Handled.{Handled}
@@ -23,6 +23,14 @@ pub record Keeping (S : Type 0) : Type 0 where
 -- one event of the history, from rows to rows
 abbrev pub StepsTo : Configuration → Ports → List Row → Event → Handled → List Row → Type 0
 StepsTo config ports rows event handled new = IsStep latest_of (Changes config) ports rows event handled new
+
+-- why no server was opened: memory ran out, or the store has failed
+abbrev pub IsOpenFault : ServeFault → Bool → Type 0
+IsOpenFault (faults.Unsupported kind) failed = ⊥
+IsOpenFault faults.MomentTooLarge failed = ⊥
+IsOpenFault faults.Memory failed = failed ≡ false
+IsOpenFault (faults.Store fault) failed = failed ≡ true
+IsOpenFault faults.Failed failed = ⊥
 
 module _ {S : Type 0} (g : Ghosts S) where
   -- a store stands at these rows, and a crash leaves them
@@ -75,3 +83,20 @@ module _ {S : Type 0} (g : Ghosts S) where
   Refuses old event faults.Memory new = (g.has_failed old.store ≡ false) × (event.moment < 2 ^ 40) × (new ≡ old)
   Refuses old event (faults.Store fault) new = IsStopped old event new
   Refuses old event faults.Failed new = (g.has_failed old.store ≡ true) × (new ≡ old)
+
+  -- a server that was opened over a store: where the store stood at a table, its rows are that table, and the store
+  -- holds them
+  pub record Opens (ports : Ports) (config : Configuration) (store : S) (server : Keeping S) : Type 0 where
+    pub ports_are : server.ports ≡ ports
+    pub config_is : server.config ≡ config
+    pub works : g.has_failed server.store ≡ false
+    pub clean : g.has_clean_disk server.store → g.has_clean_disk store
+    pub holds : g.has_clean_disk server.store → (table : List Row) → g.stands store table → (server.rows ≡ table) × Holds server.store table
+
+  -- no server was opened: the configuration and the store come back, and a crash leaves the table that the store
+  -- stood at
+  pub record IsUnopened (config : Configuration) (store : S) (fault : ServeFault) (same : Configuration) (back : S) : Type 0 where
+    pub config_is : same ≡ config
+    pub why : IsOpenFault fault (g.has_failed back)
+    pub clean : g.has_clean_disk back → g.has_clean_disk store
+    pub left : g.has_clean_disk back → (table : List Row) → g.stands store table → g.leaves back table table

@@ -1,6 +1,6 @@
 -- The steps in which a server keeps a row. Proofs tie these to the history's one event; no public contract cites
 -- them.
-use Rattle.std.specs.Prelude.{◌≡◌, ℕ, ◌≤◌, List}
+use Rattle.std.specs.Prelude.{◌≡◌, ◌≤◌, List}
 use Rattle.kd_keeps.specs.declared.keeps.Keeps.{Ghosts}
 use Rattle.kd_replay.specs.declared.fault.ServeFault.{ServeFault}
 use Rattle.kd_replay.specs.declared.fault.ServeFault.TheVariants as faults

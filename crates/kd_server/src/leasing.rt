@@ -1,16 +1,17 @@
 ghost use Rattle.std.specs.Prelude.{◌≡◌, ◌≤◌, ◌<◌, ◌^◌, IfErr, IfOk, IfSome, OnOk, false};
 ghost use Rattle.kd_lease.specs.Change.{after};
 ghost use Rattle.kd_lease.specs.Rules.{IsSetAt};
+ghost use Rattle.kd_replay.specs.History.{Runs};
 ghost use Rattle.kd_replay.specs.Text.{IsSmall};
 ghost use Rattle.kd_rows.specs.Table.{with_row};
-ghost use Rattle.kd_server.specs.Keeping.{Refuses, Steps, StillHolds};
+ghost use Rattle.kd_server.specs.Keeping.{IsUnopened, Opens, Refuses, Steps, StillHolds};
 ghost use Rattle.kd_server.specs.Unkept.{IsSettable, IsUnkept};
 
 use crate::turning::{Turn, turn_at};
 use kd_config::Config;
-use kd_event::{Handled, Ports};
+use kd_event::{Event, Handled, Ports};
 use kd_keeps::Keeps;
-use kd_replay::ServeFault;
+use kd_replay::{ServeFault, Serves, run_with};
 use kd_rows::{Row, Rows};
 use std::alloc::Global;
 use std::marker::Model;
@@ -37,6 +38,56 @@ impl<S: Keeps> Model for LeaseServer<S> {
 const MOMENTS: u64 = 0x100_0000_0000;
 
 impl<S: Keeps> LeaseServer<S> {
+    /// A server with these ports that goes by this configuration, and stands at the leases of this store.
+    ///
+    /// # Errors
+    ///
+    /// `Store` where the store fails, and `Memory`; configuration and store come back.
+    pub fn open(
+        alloc: Global,
+        config: Config,
+        mut store: S,
+        ports: Ports,
+    ) -> Result<LeaseServer<S>, (ServeFault, Config, S)>
+        requires { S.has_failed store ≡ false }
+        ensures opened { IfOk result (Opens S.Keeps ports config store) }
+        ensures refused { IfErr result (λ back. IsUnopened S.Keeps config store back.0 back.1 back.2) }
+    {
+        match store.rows() {
+            Ok(list) => match Rows::new(list) {
+                Ok(rows) => Ok(LeaseServer {
+                    ports,
+                    config,
+                    rows,
+                    store,
+                    alloc,
+                }),
+                Err(_) => Err((ServeFault::Memory, config, store)),
+            },
+            Err(fault) => Err((ServeFault::Store(fault), config, store)),
+        }
+    }
+
+    /// The server's end: the configuration that it went by, and its store.
+    pub fn close(self) -> (Config, S)
+        ensures config { result.0 ≡ self.config }
+        ensures store { result.1 ≡ self.store }
+    {
+        let LeaseServer { config, store, .. } = self;
+        (config, store)
+    }
+
+    /// Handles events one after another, up to the first fault. The list for all of them is grown first.
+    ///
+    /// # Errors
+    ///
+    /// Beside the list of what was handled, the fault of the next event; or `Memory` before the first.
+    pub fn run(&mut self, events: &[Event]) -> (Vec<Handled>, Option<ServeFault>)
+        ensures { Runs (Steps S.Keeps) (Refuses S.Keeps) events.now result.0.items result.1 self.old self.new }
+    {
+        run_with(self.alloc, self, events)
+    }
+
     /// What is sent for a datagram at a moment, in whole seconds (RFC 2131 section 4.3). The row that it sets is
     /// committed to the store before.
     ///
@@ -59,15 +110,20 @@ impl<S: Keeps> LeaseServer<S> {
             return Err(ServeFault::MomentTooLarge);
         }
         let now = moment.max(self.rows.latest());
-        let turn = turn_at(
-            self.alloc,
-            self.ports,
-            &self.config,
-            &self.rows,
-            now,
-            bytes,
-        )?;
+        let turn = turn_at(self.alloc, self.ports, &self.config, &self.rows, now, bytes)?;
         settle(&mut self.rows, &mut self.store, now, turn)
+    }
+}
+
+impl<S: Keeps> Serves for LeaseServer<S> {
+    ghost use Rattle.kd_server.specs.Keeping.{Refuses, Steps};
+
+    ghost gives = { Steps S.Keeps };
+
+    ghost fails = { Refuses S.Keeps };
+
+    fn handle(&mut self, moment: u64, bytes: &[u8]) -> Result<Handled, ServeFault> {
+        LeaseServer::handle(self, moment, bytes)
     }
 }
 

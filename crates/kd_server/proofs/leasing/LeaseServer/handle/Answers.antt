@@ -1,4 +1,4 @@
-use Rattle.std.proofs.Common.{◌≡◌, IfErr, List, ap, arith, max, subst, sym, ◌∙◌}
+use Rattle.std.proofs.Common.{IfErr, ap, arith, max, subst, sym, ◌∙◌}
 use Rattle.kd_event.specs.declared.event.Event.{Event}
 use Rattle.kd_server.specs.Keeping.{Keeping, Refuses}
 use Rattle.kd_server.proofs.Stopping.{refused_if}
