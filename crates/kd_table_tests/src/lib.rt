@@ -1,0 +1,9 @@
+//! Tests of the table of leases by values: what is found in it, by address and by client, and what stands after a
+//! refused request for memory.
+//!
+//! They are a crate of their own since a crate is proved once more with its tests, and stand beside `kd_tests` since
+//! they need the table's crates alone.
+#![tactic(auto)]
+
+#[cfg(test)]
+mod rows;
