@@ -1,4 +1,4 @@
-ghost use Rattle.std.specs.Prelude.{◌≡◌, ◌<◌, ◌++◌, ◌∷◌, [], IfOk, OnOk, false, length, map};
+ghost use Rattle.std.specs.Prelude.{◌≡◌, ◌<◌, ◌++◌, ◌∷◌, ◌&&◌, [], IfOk, OnOk, false, length, map};
 ghost use Rattle.std.specs.List.{list_all};
 ghost use Rattle.indexmap.specs.IndexSet.{keys};
 ghost use Rattle.kd_config.specs.Apart.{are_apart};
@@ -203,11 +203,33 @@ fn check_reservations(
     let mut clients = IndexSet::new(alloc);
     for i in 0..reservations.len() {
         let place = Place::Item(&*at, i);
-        let reservation = &reservations[i];
-        check_address(alloc, prefix, reservation, &place, earlier)?;
-        check_client(alloc, &reservation.identity, &place, &mut clients)?;
+        check_reservation(
+            alloc,
+            prefix,
+            &reservations[i],
+            &place,
+            earlier,
+            &mut clients,
+        )?;
     }
     Ok(())
+}
+
+// A reservation has an address and a client that no earlier one has; they join these.
+fn check_reservation<'a>(
+    alloc: Global,
+    prefix: Prefix,
+    reservation: &'a Reservation,
+    at: &Place<'_>,
+    earlier: &mut IndexSet<u32>,
+    clients: &mut IndexSet<(bool, &'a [u8])>,
+) -> Result<(), ConfigFault>
+    ensures reserved { IfOk result (λ _. keys earlier.new ≡ keys earlier.old ++ reservation.now.address ∷ []) }
+    ensures known { IfOk result (λ _. map client_by (keys clients.new) ≡ map client_by (keys clients.old) ++ reservation.now.identity ∷ []) }
+    ensures checked { Gives result (must (may_reserve prefix (keys earlier.old) reservation.now && is_new (map client_by (keys clients.old)) reservation.now.identity)) }
+{
+    check_address(alloc, prefix, reservation, at, earlier)?;
+    check_client(alloc, &reservation.identity, at, clients)
 }
 
 // A reservation has an address of the prefix that no earlier one has; the address joins them.
