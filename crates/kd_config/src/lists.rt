@@ -1,10 +1,9 @@
-ghost use Rattle.std.specs.Prelude.{◌≡◌};
+ghost use Rattle.std.specs.Prelude.{◌≡◌, Option};
+ghost use Rattle.serde_json.specs.Data.{Data};
 ghost use Rattle.serde_json.specs.Find.{get};
 ghost use Rattle.serde_json.specs.View.{items_view, view};
 ghost use Rattle.kd_config.specs.Gives.{Gives, GivesAs};
 ghost use Rattle.kd_config.specs.Lists.{all_of, items_or_none, list_of};
-ghost use Rattle.std.specs.Prelude.{Option};
-ghost use Rattle.serde_json.specs.Data.{Data};
 
 use crate::entries::Entries;
 use crate::fault::ConfigFault;
@@ -32,7 +31,7 @@ pub(crate) fn list_at<'a>(
     }
 }
 
-// What stands in a list, each by itself.
+// What the values of a list mean, each by itself.
 pub(crate) trait Entry: Drop + Sized {
     // What a value means.
     ghost means: { Data → Option Self };
