@@ -91,8 +91,9 @@ SHORT_IO=1 LD_PRELOAD=$room/fail.so crates/kdhcp/out/kdhcp replay <examples/repl
 echo "replay byte by byte: the same"
 
 all=0 passed=0 building=0 second=0 other=0
-for module in answer classes compile config expr machine message replay reply server token; do
-    run=(crates/kd_tests/out/kd_tests_tests "$module::want_of_memory_is_answered_as_such")
+for test in kd_tests:{answer,classes,compile,config,expr,machine,message,replay,reply,server,token} kd_table_tests:rows; do
+    name=${test%:*}
+    run=("crates/$name/out/${name}_tests" "${test#*:}::want_of_memory_is_answered_as_such")
     for n in $(seq 1 "$(asked_by "${run[@]}")"); do
         all=$((all + 1))
         if got=$(FAIL_AT=$n LD_PRELOAD=$room/fail.so "${run[@]}" 2>&1); then passed=$((passed + 1))

@@ -1,14 +1,11 @@
-ghost use Rattle.std.specs.Prelude.{◌≡◌, codes, option_map};
-ghost use Rattle.serde_json.specs.Find.{get};
+ghost use Rattle.std.specs.Prelude.{◌≡◌, option_map};
 ghost use Rattle.serde_json.specs.View.{view};
 ghost use Rattle.kd_config.specs.Class.{class_of, has_class_keys, name_in, source_in, source_of};
 ghost use Rattle.kd_config.specs.Gives.{Gives};
-ghost use Rattle.kd_config.specs.Lists.{list_of};
 ghost use Rattle.kd_config.specs.Steps.{must};
 
-use crate::entries::Entries;
 use crate::fault::ConfigFault;
-use crate::lists::list_at;
+use crate::lists::Entry;
 use crate::options::options_of;
 use crate::place::{Place, bad_value};
 use crate::values::{check_keys, owned, text_or_none};
@@ -39,42 +36,24 @@ pub(crate) struct ClassEntry {
     pub(crate) options: OptionList,
 }
 
-// The classes of the list at the key `client-classes`.
-#[tactic(auto, unfolding(crate::specs::Lists::list_of))]
-pub(crate) fn classes_of(
-    alloc: Global,
-    object: &Value,
-    at: &Place<'_>,
-) -> Result<Entries<ClassEntry>, ConfigFault>
-    ensures { Gives result (list_of 256 class_of (get (codes "client-classes") (view object.now))) }
-{
-    let values = list_at(alloc, object, at, "client-classes", 256)?;
-    let at = Place::Key(&*at, "client-classes");
-    let mut list = Vec::new(alloc);
-    for i in 0..values.len() {
-        let class = class_of(alloc, &values[i], &Place::Item(&at, i))?;
-        list.push(class)?;
-    }
-    Ok(Entries::own(list))
-}
+impl Entry for ClassEntry {
+    ghost means = { class_of };
 
-// The class that a value means.
-#[tactic(auto, unfolding(crate::specs::Class::class_of))]
-fn class_of(alloc: Global, value: &Value, at: &Place<'_>) -> Result<ClassEntry, ConfigFault>
-    ensures { Gives result (class_of (view value.now)) }
-{
-    check_class(alloc, value, at)?;
-    let name = match value.get("name").and_then(name_in) {
-        Some(name) => owned(alloc, name)?,
-        None => return Err(bad_value(alloc, at, "name")),
-    };
-    let source = source_in(alloc, value, at)?;
-    let options = options_of(alloc, value, at)?;
-    Ok(ClassEntry {
-        name,
-        source,
-        options,
-    })
+    #[tactic(auto, unfolding(crate::specs::Class::class_of))]
+    fn read(alloc: Global, value: &Value, at: &Place<'_>) -> Result<ClassEntry, ConfigFault> {
+        check_class(alloc, value, at)?;
+        let name = match value.get("name").and_then(name_in) {
+            Some(name) => owned(alloc, name)?,
+            None => return Err(bad_value(alloc, at, "name")),
+        };
+        let source = source_in(alloc, value, at)?;
+        let options = options_of(alloc, value, at)?;
+        Ok(ClassEntry {
+            name,
+            source,
+            options,
+        })
+    }
 }
 
 // The value is an object with the keys of a class.

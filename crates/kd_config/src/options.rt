@@ -1,8 +1,8 @@
-ghost use Rattle.std.specs.Prelude.{◌≡◌, codes};
+ghost use Rattle.std.specs.Prelude.{◌≡◌, [], codes};
 ghost use Rattle.serde_json.specs.Find.{get};
-ghost use Rattle.serde_json.specs.View.{view};
+ghost use Rattle.serde_json.specs.View.{items_view, view};
 ghost use Rattle.kd_config.specs.Gives.{Gives};
-ghost use Rattle.kd_config.specs.Options.{code_in, has_code, has_option_keys, option_behind, options_of};
+ghost use Rattle.kd_config.specs.Options.{code_in, has_code, has_option_keys, option_behind, options_behind, options_of};
 ghost use Rattle.kd_config.specs.Steps.{must};
 
 use crate::fault::ConfigFault;
@@ -26,10 +26,16 @@ pub(crate) fn options_of(
     ensures { Gives result (options_of (get (codes "option-data") (view object.now))) }
 {
     let values = list_at(alloc, object, at, "option-data", 64)?;
-    let at = Place::Key(&*at, "option-data");
+    options_in(alloc, values, &Place::Key(&*at, "option-data"))
+}
+
+// The options that values mean, each code once.
+fn options_in(alloc: Global, values: &[Value], at: &Place<'_>) -> Result<OptionList, ConfigFault>
+    ensures { Gives result (options_behind [] (items_view values.now)) }
+{
     let mut list = Vec::new(alloc);
     for i in 0..values.len() {
-        let option = option_behind(alloc, &values[i], &Place::Item(&at, i), &list)?;
+        let option = option_behind(alloc, &values[i], &Place::Item(&*at, i), &list)?;
         list.push(option)?;
     }
     Ok(OptionList::own(list))

@@ -5,6 +5,7 @@ ghost use Rattle.kd_config.specs.Pool.{has_pool_keys, pool_of, range_in};
 ghost use Rattle.kd_config.specs.Steps.{must};
 
 use crate::fault::ConfigFault;
+use crate::lists::Entry;
 use crate::options::options_of;
 use crate::place::{Place, bad_value};
 use crate::range::{Range, range_of};
@@ -22,17 +23,18 @@ pub struct Pool {
     pub options: OptionList,
 }
 
-// The pool that a value means.
-#[tactic(auto, unfolding(crate::specs::Pool::pool_of))]
-pub(crate) fn pool_of(alloc: Global, value: &Value, at: &Place<'_>) -> Result<Pool, ConfigFault>
-    ensures { Gives result (pool_of (view value.now)) }
-{
-    check_pool(alloc, value, at)?;
-    let Some(range) = value.get("pool").and_then(range_in) else {
-        return Err(bad_value(alloc, at, "pool"));
-    };
-    let options = options_of(alloc, value, at)?;
-    Ok(Pool { range, options })
+impl Entry for Pool {
+    ghost means = { pool_of };
+
+    #[tactic(auto, unfolding(crate::specs::Pool::pool_of))]
+    fn read(alloc: Global, value: &Value, at: &Place<'_>) -> Result<Pool, ConfigFault> {
+        check_pool(alloc, value, at)?;
+        let Some(range) = value.get("pool").and_then(range_in) else {
+            return Err(bad_value(alloc, at, "pool"));
+        };
+        let options = options_of(alloc, value, at)?;
+        Ok(Pool { range, options })
+    }
 }
 
 // The value is an object with the keys of a pool.

@@ -1,8 +1,9 @@
-ghost use Rattle.std.specs.Prelude.{◌≡◌, ◌≢◌, IfErr, IfOk, Option};
+ghost use Rattle.std.specs.Prelude.{◌≡◌, ◌≢◌, IfErr, IfOk, Ok, Option};
 ghost use Rattle.kd_classes.specs.Order.{names_of};
 ghost use Rattle.kd_compile.specs.declared.fault.CompileFault.TheVariants as compiling;
 ghost use Rattle.kd_config.specs.Configured.{IsFileTest, IsProgramOf, IsTest, IsTextTest};
 ghost use Rattle.kd_config.specs.declared.fault.ConfigFault.TheVariants.{Memory};
+ghost use Rattle.kd_expr.specs.Typing.{test_type};
 ghost use Rattle.kd_expr.specs.View.{tree_of};
 ghost use Rattle.kd_expr.specs.declared.fault.ExprFault.TheVariants as reading;
 ghost use Rattle.kd_token.specs.Accepts.{Accepts};
@@ -14,7 +15,7 @@ use crate::class::TestSource;
 use crate::fault::{ConfigFault, FileTestFault, TestFault};
 use crate::token_file::{TokenFile, file_named};
 use kd_compile::{CompileFault, compile};
-use kd_expr::{Expr, ExprFault};
+use kd_expr::{Expr, ExprFault, Typed};
 use kd_token::{FileFault, Program, Verified, VerifyFault, verify};
 use std::alloc::Global;
 
@@ -66,11 +67,20 @@ fn program_of_expr(alloc: Global, number: usize, expr: Expr) -> Result<Verified,
     ensures refused { IfErr result (λ fault. fault ≢ Memory → (program : Code) → IsProgramOf (tree_of expr) program → ⊥) }
 {
     match kd_expr::type_of(expr) {
-        Ok(test) => match compile(alloc, &test) {
-            Ok(program) => Ok(program),
-            Err(fault) => Err(uncompiled(number, fault)),
-        },
+        Ok(test) => program_of_test(alloc, number, &test),
         Err((fault, _)) => Err(ConfigFault::Expression(number, TestFault::Typing(fault))),
+    }
+}
+
+// The program of a class test.
+fn program_of_test(alloc: Global, number: usize, test: &Typed) -> Result<Verified, ConfigFault>
+    requires { test_type (tree_of test.now) ≡ Ok tt }
+    ensures found { IfOk result (λ program. IsProgramOf (tree_of test.now) program) }
+    ensures refused { IfErr result (λ fault. fault ≢ Memory → (program : Code) → IsProgramOf (tree_of test.now) program → ⊥) }
+{
+    match compile(alloc, test) {
+        Ok(program) => Ok(program),
+        Err(fault) => Err(uncompiled(number, fault)),
     }
 }
 

@@ -5,6 +5,7 @@ ghost use Rattle.kd_config.specs.Reservation.{has_reservation_keys, identity_of,
 ghost use Rattle.kd_config.specs.Steps.{must};
 
 use crate::fault::ConfigFault;
+use crate::lists::Entry;
 use crate::place::{Place, bad_value, missing};
 use crate::values::{address_in, bytes_or_none, check_keys};
 use kd_wire::Bytes;
@@ -29,23 +30,20 @@ pub struct Reservation {
     pub address: u32,
 }
 
-// The reservation that a value means.
-#[tactic(auto, unfolding(crate::specs::Reservation::reservation_of))]
-pub(crate) fn reservation_of(
-    alloc: Global,
-    value: &Value,
-    at: &Place<'_>,
-) -> Result<Reservation, ConfigFault>
-    ensures { Gives result (reservation_of (view value.now)) }
-{
-    check_reservation(alloc, value, at)?;
-    let hardware = bytes_or_none(alloc, value, at, "hw-address", 16)?;
-    let client = bytes_or_none(alloc, value, at, "client-id", 255)?;
-    let identity = identity_of(alloc, at, hardware, client)?;
-    let Some(address) = value.get("ip-address").and_then(address_in) else {
-        return Err(bad_value(alloc, at, "ip-address"));
-    };
-    Ok(Reservation { identity, address })
+impl Entry for Reservation {
+    ghost means = { reservation_of };
+
+    #[tactic(auto, unfolding(crate::specs::Reservation::reservation_of))]
+    fn read(alloc: Global, value: &Value, at: &Place<'_>) -> Result<Reservation, ConfigFault> {
+        check_reservation(alloc, value, at)?;
+        let hardware = bytes_or_none(alloc, value, at, "hw-address", 16)?;
+        let client = bytes_or_none(alloc, value, at, "client-id", 255)?;
+        let identity = identity_of(alloc, at, hardware, client)?;
+        let Some(address) = value.get("ip-address").and_then(address_in) else {
+            return Err(bad_value(alloc, at, "ip-address"));
+        };
+        Ok(Reservation { identity, address })
+    }
 }
 
 // The value is an object with the keys of a reservation.

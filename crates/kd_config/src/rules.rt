@@ -1,4 +1,4 @@
-ghost use Rattle.std.specs.Prelude.{◌≡◌, ◌<◌, ◌++◌, ◌∷◌, [], IfOk, OnOk, false, length, map};
+ghost use Rattle.std.specs.Prelude.{◌≡◌, ◌<◌, ◌≤◌, ◌-◌, ◌++◌, ◌∷◌, ◌&&◌, [], IfOk, OnOk, false, length, map};
 ghost use Rattle.std.specs.List.{list_all};
 ghost use Rattle.indexmap.specs.IndexSet.{keys};
 ghost use Rattle.kd_config.specs.Apart.{are_apart};
@@ -73,30 +73,42 @@ fn check_to_overlap(
     let mut earlier = IndexSet::new(alloc);
     for i in 0..subnets.len() {
         let place = Place::Item(&*at, i);
-        let count = subnets[i].pools.as_slice().len();
-        if left < count {
-            return refuse_pool(alloc, &subnets[i], left, &place);
-        }
-        left -= count;
-        check_subnet(alloc, &subnets[i], &place, &mut earlier)?;
+        left = check_to_pool(alloc, &subnets[i], left, &place, &mut earlier)?;
     }
     // the pool is one of theirs
     unreachable!()
 }
 
-// The first fault of a subnet's pools up to the one with this number, which shares an address.
-fn refuse_pool(
+// The pool with this number, counted from a subnet on, is of a later subnet, and the subnet obeys its rules:
+// the pool's number from the next subnet on.
+fn check_to_pool(
     alloc: Global,
     subnet: &Subnet,
-    number: usize,
+    left: usize,
     at: &Place<'_>,
-) -> Result<Infallible, ConfigFault>
+    earlier: &mut IndexSet<u32>,
+) -> Result<usize, ConfigFault>
+    ensures behind { IfOk result (λ _. length subnet.now.pools ≤ left) }
+    ensures fewer { IfOk result (λ fewer. fewer ≡ left - length subnet.now.pools) }
+{
+    let count = subnet.pools.as_slice().len();
+    if left < count {
+        return Err(pool_fault(alloc, subnet, left, at));
+    }
+    check_subnet(alloc, subnet, at, earlier)?;
+    Ok(left - count)
+}
+
+// The first fault of a subnet's pools up to the one with this number, which shares an address with an earlier one.
+fn pool_fault(alloc: Global, subnet: &Subnet, number: usize, at: &Place<'_>) -> ConfigFault
     requires { number < length subnet.now.pools }
 {
     let place = Place::Key(&*at, "pools");
     let pools = subnet.pools.as_slice();
-    check_pools(alloc, subnet.prefix, &pools[..number + 1], &place)?;
-    Err(overlap(alloc, &Place::Item(&place, number), "pool"))
+    match check_pools(alloc, subnet.prefix, &pools[..number + 1], &place) {
+        Ok(()) => overlap(alloc, &Place::Item(&place, number), "pool"),
+        Err(fault) => fault,
+    }
 }
 
 // How many ranges stand before the first that shares an address with one of them.
@@ -203,11 +215,33 @@ fn check_reservations(
     let mut clients = IndexSet::new(alloc);
     for i in 0..reservations.len() {
         let place = Place::Item(&*at, i);
-        let reservation = &reservations[i];
-        check_address(alloc, prefix, reservation, &place, earlier)?;
-        check_client(alloc, &reservation.identity, &place, &mut clients)?;
+        check_reservation(
+            alloc,
+            prefix,
+            &reservations[i],
+            &place,
+            earlier,
+            &mut clients,
+        )?;
     }
     Ok(())
+}
+
+// A reservation has an address and a client that no earlier one has; they join these.
+fn check_reservation<'a>(
+    alloc: Global,
+    prefix: Prefix,
+    reservation: &'a Reservation,
+    at: &Place<'_>,
+    earlier: &mut IndexSet<u32>,
+    clients: &mut IndexSet<(bool, &'a [u8])>,
+) -> Result<(), ConfigFault>
+    ensures reserved { IfOk result (λ _. keys earlier.new ≡ keys earlier.old ++ reservation.now.address ∷ []) }
+    ensures known { IfOk result (λ _. map client_by (keys clients.new) ≡ map client_by (keys clients.old) ++ reservation.now.identity ∷ []) }
+    ensures checked { Gives result (must (may_reserve prefix (keys earlier.old) reservation.now && is_new (map client_by (keys clients.old)) reservation.now.identity)) }
+{
+    check_address(alloc, prefix, reservation, at, earlier)?;
+    check_client(alloc, &reservation.identity, at, clients)
 }
 
 // A reservation has an address of the prefix that no earlier one has; the address joins them.

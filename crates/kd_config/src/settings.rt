@@ -4,12 +4,13 @@ ghost use Rattle.kd_config.specs.Gives.{Gives};
 ghost use Rattle.kd_config.specs.Settings.{has_dhcp4_keys, has_root_keys, root_of, server_in, settings_of};
 ghost use Rattle.kd_config.specs.Steps.{must};
 
-use crate::class::{ClassEntry, classes_of};
+use crate::class::ClassEntry;
 use crate::entries::Entries;
 use crate::fault::ConfigFault;
+use crate::lists::entries_of;
 use crate::options::options_of;
 use crate::place::{Place, bad_value, missing};
-use crate::subnet::{Subnet, subnets_of};
+use crate::subnet::Subnet;
 use crate::times::{Times, times_of};
 use crate::values::{address_in, check_keys};
 use kd_classes::OptionList;
@@ -55,8 +56,8 @@ fn settings_of(alloc: Global, value: &Value, at: &Place<'_>) -> Result<Settings,
     };
     let times = times_of(alloc, value, at)?;
     let options = options_of(alloc, value, at)?;
-    let classes = classes_of(alloc, value, at)?;
-    let subnets = subnets_of(alloc, value, at)?;
+    let classes = entries_of(alloc, value, at, "client-classes", 256)?;
+    let subnets = entries_of(alloc, value, at, "subnet4", 256)?;
     Ok(Settings {
         server,
         times,

@@ -1,7 +1,8 @@
 ghost use Rattle.std.specs.Prelude.{◌≡◌, ◌≤◌, ◌<◌, IfOk, MatchResult, length, codes, bytes_eq};
 ghost use Rattle.kd_expr.specs.Gives.{Gives};
 ghost use Rattle.kd_expr.specs.Reading.{below, or_at, and_at, not_at, compare_at, sum_at, primary_at, group_at};
-ghost use Rattle.kd_expr.specs.Tree.{at_of};
+ghost use Rattle.kd_expr.specs.Reading as reading;
+ghost use Rattle.kd_expr.specs.Tree.{Equal, Not, at_of};
 ghost use Rattle.kd_expr.specs.View.{lexemes, tree_of};
 ghost use Rattle.kd_expr.specs.declared.fault.SyntaxFault.TheVariants as faults;
 
@@ -36,6 +37,46 @@ fn boxed(
     Ok((at, left, Box::new(alloc, right)?))
 }
 
+// A disjunction of two operands.
+fn disjunction(alloc: Global, left: Node, right: Node) -> Result<Node, SyntaxFault>
+    ensures { MatchResult result (λ node. tree_of node ≡ reading.or_of (tree_of left) (tree_of right)) (λ fault. fault ≡ faults.Memory) }
+{
+    let (at, left, right) = boxed(alloc, left, right)?;
+    Ok(Node::Or { at, left, right })
+}
+
+// A conjunction of two operands.
+fn conjunction(alloc: Global, left: Node, right: Node) -> Result<Node, SyntaxFault>
+    ensures { MatchResult result (λ node. tree_of node ≡ reading.and_of (tree_of left) (tree_of right)) (λ fault. fault ≡ faults.Memory) }
+{
+    let (at, left, right) = boxed(alloc, left, right)?;
+    Ok(Node::And { at, left, right })
+}
+
+// A sum of two operands.
+fn concatenation(alloc: Global, left: Node, right: Node) -> Result<Node, SyntaxFault>
+    ensures { MatchResult result (λ node. tree_of node ≡ reading.sum_of (tree_of left) (tree_of right)) (λ fault. fault ≡ faults.Memory) }
+{
+    let (at, left, right) = boxed(alloc, left, right)?;
+    Ok(Node::Concat { at, left, right })
+}
+
+// A comparison of two operands.
+fn equality(alloc: Global, left: Node, right: Node) -> Result<Node, SyntaxFault>
+    ensures { MatchResult result (λ node. tree_of node ≡ Equal (at_of (tree_of left)) (tree_of left) (tree_of right)) (λ fault. fault ≡ faults.Memory) }
+{
+    let (at, left, right) = boxed(alloc, left, right)?;
+    Ok(Node::Equal { at, left, right })
+}
+
+// The negation at a place of an operand.
+fn negation(alloc: Global, at: usize, operand: Node) -> Result<Node, SyntaxFault>
+    ensures { MatchResult result (λ node. tree_of node ≡ Not at (tree_of operand)) (λ fault. fault ≡ faults.Memory) }
+{
+    let operand = Box::new(alloc, operand)?;
+    Ok(Node::Not { at, operand })
+}
+
 // A disjunction, which is any expression, where `depth` more brackets and `not`s may be nested.
 #[cycle(parser)]
 #[tactic(auto, unfolding(crate::specs::Reading::or_at, crate::specs::Reading::chain, crate::specs::Reading::joined))]
@@ -50,8 +91,7 @@ pub(crate) fn or_of<'t, 'a>(
     let (mut first, mut rest) = and_of(source, tokens, depth)?;
     while let Some((_, after)) = word(rest, b"or") {
         let (next, behind) = and_of(source, after, depth)?;
-        let (at, left, right) = boxed(source.alloc, first, next)?;
-        first = Node::Or { at, left, right };
+        first = disjunction(source.alloc, first, next)?;
         rest = behind;
     }
     Ok((first, rest))
@@ -71,8 +111,7 @@ fn and_of<'t, 'a>(
     let (mut first, mut rest) = not_of(source, tokens, depth)?;
     while let Some((_, after)) = word(rest, b"and") {
         let (next, behind) = not_of(source, after, depth)?;
-        let (at, left, right) = boxed(source.alloc, first, next)?;
-        first = Node::And { at, left, right };
+        first = conjunction(source.alloc, first, next)?;
         rest = behind;
     }
     Ok((first, rest))
@@ -92,8 +131,7 @@ fn not_of<'t, 'a>(
     match word(tokens, b"not") {
         Some((at, after)) => {
             let (operand, rest) = operand_deeper(source, after, depth, at)?;
-            let operand = Box::new(source.alloc, operand)?;
-            Ok((Node::Not { at, operand }, rest))
+            Ok((negation(source.alloc, at, operand)?, rest))
         }
         None => compare_of(source, tokens, depth),
     }
@@ -114,8 +152,7 @@ fn compare_of<'t, 'a>(
     match sign(rest, b'=') {
         Some((_, after)) => {
             let (second, behind) = sum_of(source, after, depth)?;
-            let (at, left, right) = boxed(source.alloc, first, second)?;
-            Ok((Node::Equal { at, left, right }, behind))
+            Ok((equality(source.alloc, first, second)?, behind))
         }
         None => Ok((first, rest)),
     }
@@ -135,8 +172,7 @@ fn sum_of<'t, 'a>(
     let (mut first, mut rest) = primary_of(source, tokens, depth)?;
     while let Some((_, after)) = sign(rest, b'+') {
         let (next, behind) = primary_of(source, after, depth)?;
-        let (at, left, right) = boxed(source.alloc, first, next)?;
-        first = Node::Concat { at, left, right };
+        first = concatenation(source.alloc, first, next)?;
         rest = behind;
     }
     Ok((first, rest))

@@ -5,8 +5,8 @@ ghost use Rattle.kd_replay.specs.Lines.{IsEventLine, IsMoment, line_limit};
 ghost use Rattle.kd_replay.specs.Parts.{HasNo};
 ghost use Rattle.kd_event.specs.declared.event.Event.{Event};
 
-use kd_event::Event;
 use hex::FromHexError;
+use kd_event::Event;
 use kd_wire::Bytes;
 use memchr::memchr;
 use std::alloc::{AllocError, Global};

@@ -10,13 +10,13 @@ ghost use Rattle.kd_replay.specs.declared.fault.ReplayFault.TheVariants as fault
 
 use crate::ahead::Ahead;
 use crate::ends::{EndFailed, Sink, Source};
-use kd_event::{Event, Handled};
 use crate::fault::{ReplayFault, ServeFault};
 use crate::line::event_in;
 use crate::lines::{Found, LINE_LIMIT, next_line};
 use crate::serves::Serves;
 use crate::text::put_line;
 use crate::writing::write_all;
+use kd_event::{Event, Handled};
 use std::alloc::{AllocError, Global};
 
 const MOST_LINES: u64 = 1_000_000;

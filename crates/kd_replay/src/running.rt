@@ -1,9 +1,9 @@
 ghost use Rattle.std.specs.Prelude.{◌≡◌, ◌+◌, ◌<◌, ◌∷◌, ◌++◌, [], vec_capacity, vec_len};
 ghost use Rattle.kd_replay.specs.History.{Runs};
 
-use kd_event::{Event, Handled};
 use crate::fault::ServeFault;
 use crate::serves::Serves;
+use kd_event::{Event, Handled};
 use std::alloc::Global;
 
 /// Handles events one after another, up to the first fault. The list for all of them is grown first.

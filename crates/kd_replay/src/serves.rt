@@ -1,5 +1,5 @@
-use kd_event::Handled;
 use crate::fault::ServeFault;
+use kd_event::Handled;
 
 /// What handles events: a replay and a run are written over it, whatever an event does.
 pub trait Serves {

@@ -3,9 +3,9 @@ ghost use Rattle.hex.specs.Hex.{encode_lower};
 ghost use Rattle.kd_event.specs.Reason.{reason_name, reason_number};
 ghost use Rattle.kd_replay.specs.Text.{address_text, bytes_text, destination_text, line_of, mode_word, quiet_line, reply_line, response_text};
 
-use kd_event::{Destination, Handled, Mode, Reason, Response};
 use crate::room::put;
 use itoa::Buffer;
+use kd_event::{Destination, Handled, Mode, Reason, Response};
 
 // The line of a handled event, with its line feed; no memory is taken.
 #[tactic(auto, unfolding(crate::specs::Text::line_of))]

@@ -1,3 +1,4 @@
+pub mod Ends
 pub mod Indexes
 pub mod Keys
 pub mod Maps

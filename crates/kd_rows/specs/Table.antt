@@ -1,12 +1,13 @@
 -- The table of leases: its rows, one an address, in rising address.
-use Rattle.std.specs.Prelude.{◌≡◌, ℕ, ◌+◌, ◌<◌, ◌≤◌, max, Bool, ◌||◌, List, [], ◌∷◌, map, Option, Some, None, is_some, IsSome, nat_eq, nat_lt, ◌==◌, if◌then◌else◌}
+use Rattle.std.specs.Prelude.{◌≡◌, ℕ, ◌+◌, ◌-◌, ◌^◌, ◌<◌, ◌≤◌, max, min, Bool, ◌||◌, List, [], ◌∷◌, map, Option, Some, None, is_some, IsSome, nat_eq, nat_lt, ◌==◌, if◌then◌else◌}
 use Rattle.std.specs.List.{filter}
 use Rattle.std.specs.Cmp.Lexicographic.{pointwise}
 use Rattle.kd_rows.specs.declared.row.Row.{Row}
 
--- the rows, and for how many new addresses there is memory
+-- the rows, a moment before which none of them ends, and for how many new addresses there is memory
 pub record Table : Type 0 where
   pub rows : List Row
+  pub least : ℕ
   pub room : ℕ
 
 -- each address is n or above it, and above those before it
@@ -33,6 +34,11 @@ with_row row (r ∷ rows) =
 abbrev pub latest_of : List Row → ℕ
 latest_of [] = 0
 latest_of (row ∷ rows) = max row.changed (latest_of rows)
+
+-- the least moment at which a row ends, the greatest of all moments without rows
+abbrev pub least_of : List Row → ℕ
+least_of [] = 2 ^ 64 - 1
+least_of (row ∷ rows) = min row.ends (least_of rows)
 
 -- a row is this client's
 abbrev pub is_of : List ℕ → Row → Bool

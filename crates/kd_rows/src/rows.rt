@@ -1,8 +1,8 @@
-ghost use Rattle.std.specs.Prelude.{◌≡◌, ◌+◌, ◌-◌, ◌≤◌, ◌<◌, ◌^◌, ◌↔◌, length, IfOk, IsTrue, OnErr, OnOk, false, is_some, if◌then◌else◌, true, slice_get};
+ghost use Rattle.std.specs.Prelude.{◌≡◌, ◌+◌, ◌-◌, ◌≤◌, ◌<◌, ◌^◌, ◌↔◌, length, IfOk, IsTrue, OnErr, OnOk, false, is_some, if◌then◌else◌, min, true, slice_get};
 ghost use Rattle.std.specs.List.{All};
 ghost use Rattle.std.specs.Option.{option_copied};
 ghost use Rattle.kd_rows.specs.Row.{IsInRange};
-ghost use Rattle.kd_rows.specs.Table.{IsFirstGap, IsNext, Rise, addresses_of, latest_of, row_at, spare, with_row};
+ghost use Rattle.kd_rows.specs.Table.{IsFirstGap, IsNext, Rise, addresses_of, latest_of, least_of, row_at, spare, with_row};
 
 use crate::find::{find, gap_in, place_of};
 use crate::index::{index_of, nth_of};
@@ -28,7 +28,7 @@ impl Model for Rows {
 
     ghost Value = { Table };
 
-    ghost view = { λ t. record { rows = t.rows.items; room = min (vec_capacity t.rows - vec_len t.rows) (vec_capacity t.index - vec_len t.index) } };
+    ghost view = { λ t. record { rows = t.rows.items; least = t.least; room = min (vec_capacity t.rows - vec_len t.rows) (vec_capacity t.index - vec_len t.index) } };
 
     ghost invariant = { λ t. IsKept t.rows.items t.latest t.least t.index.items };
 }
@@ -57,7 +57,8 @@ impl Rows {
     pub fn new(rows: Vec<Row>) -> Result<Rows, AllocError>
         requires rise { Rise rows.items }
         requires ranges { All IsInRange rows.items }
-        ensures { IfOk result (λ t. t.rows ≡ rows.items) }
+        ensures rows { IfOk result (λ t. t.rows ≡ rows.items) }
+        ensures least { IfOk result (λ t. t.least ≡ least_of rows.items) }
     {
         let index = index_of(&rows)?;
         let latest = latest_in(&rows);
@@ -114,9 +115,10 @@ impl Rows {
         self.latest
     }
 
-    /// A moment at which no row has ended yet: each ends then or later.
+    /// A moment before which no row ends: of the rows at first, and of each that was set, the least end.
     pub fn least_end(&self) -> u64
-        ensures { All (λ row. result ≤ row.ends) self.now.rows }
+        ensures least { result ≡ self.now.least }
+        ensures bound { All (λ row. result ≤ row.ends) self.now.rows }
     {
         self.least
     }
@@ -158,6 +160,7 @@ impl Rows {
     /// There was no room, and there is no memory for it; the rows stay as they are.
     pub fn reserve(&mut self, row: &Row) -> Result<(), AllocError>
         ensures rows { self.new.rows ≡ self.old.rows }
+        ensures least { self.new.least ≡ self.old.least }
         ensures spare { OnOk result (spare self.new row.now ≡ true) }
         ensures needed { OnErr result (spare self.old row.now ≡ false) }
     {
@@ -175,6 +178,7 @@ impl Rows {
         requires changed { latest_of self.old.rows ≤ row.changed }
         requires range { IsInRange row }
         ensures rows { self.new.rows ≡ with_row row self.old.rows }
+        ensures least { self.new.least ≡ min self.old.least row.ends }
         ensures room { self.new.room ≡ self.old.room - (if is_some (row_at self.old.rows row.address) then 0 else 1) }
     {
         self.latest = row.changed;
@@ -207,7 +211,8 @@ fn latest_in(rows: &[Row]) -> u64
 
 // The least moment at which a row ends, the greatest of all without rows.
 fn least_in(rows: &[Row]) -> u64
-    ensures { All (λ row. result ≤ row.ends) rows.now }
+    ensures least { result ≡ least_of rows.now }
+    ensures bound { All (λ row. result ≤ row.ends) rows.now }
 {
     let mut least = u64::MAX;
     for row in rows {

@@ -1,0 +1,218 @@
+use kd_config::Config;
+use kd_event::{Mode, Ports, Reason, Response};
+use kd_replay::ServeFault;
+use kd_server::LeaseServer;
+use kd_table_tests::Fused;
+use std::alloc::{AllocError, Global};
+use std::test::Fail;
+
+// Why a call gives nothing.
+#[derive(Clone, Copy, Debug, PartialEq, Eq)]
+enum Fault {
+    // There is no memory.
+    Memory,
+    // Any other cause.
+    Other,
+}
+
+impl From<AllocError> for Fault {
+    fn from(_fault: AllocError) -> Fault {
+        Fault::Memory
+    }
+}
+
+// A message: the moment, the last byte of its client's hardware address, its options behind the cookie, and ciaddr.
+type Sent = (u64, u8, &'static [u8], u32);
+
+// What comes back: the type of a reply, its yiaddr and how it is sent; or the reason for which there is none.
+#[derive(Clone, Copy, PartialEq, Eq)]
+enum Got {
+    Reply(u8, u32, Mode),
+    Quiet(Reason),
+}
+
+// A day: messages, and what comes back for each.
+type Day = &'static [(Sent, Got)];
+
+// The server's address, 192.0.2.1, and the two of its pool.
+const POOL: [u32; 2] = [0xc000_020a, 0xc000_020b];
+
+const DISCOVER: &[u8] = b"\x35\x01\x01\xff";
+
+// A DISCOVER that asks for 192.0.2.10, and one that asks for .11.
+const DISCOVER_10: &[u8] = b"\x35\x01\x01\x32\x04\xc0\x00\x02\x0a\xff";
+
+// REQUESTs to this server for .10 and .11; to 192.0.2.99; and without a server, for .10 and for 198.51.100.7.
+const SELECT_10: &[u8] = b"\x35\x01\x03\x36\x04\xc0\x00\x02\x01\x32\x04\xc0\x00\x02\x0a\xff";
+const SELECT_11: &[u8] = b"\x35\x01\x03\x36\x04\xc0\x00\x02\x01\x32\x04\xc0\x00\x02\x0b\xff";
+const OTHER: &[u8] = b"\x35\x01\x03\x36\x04\xc0\x00\x02\x63\x32\x04\xc0\x00\x02\x0a\xff";
+const REBOOT_10: &[u8] = b"\x35\x01\x03\x32\x04\xc0\x00\x02\x0a\xff";
+const REBOOT_FAR: &[u8] = b"\x35\x01\x03\x32\x04\xc6\x33\x64\x07\xff";
+const RENEW: &[u8] = b"\x35\x01\x03\xff";
+const RELEASE: &[u8] = b"\x35\x01\x07\xff";
+const DECLINE_10: &[u8] = b"\x35\x01\x04\x32\x04\xc0\x00\x02\x0a\xff";
+const INFORM: &[u8] = b"\x35\x01\x08\xff";
+
+// An address is offered while it is free, the next client gets the next one, and a third none; what is not asked for
+// in time goes to the third.
+const OFFERS: Day = &[
+    ((100, 1, DISCOVER, 0), Got::Reply(2, POOL[0], Mode::Hardware)),
+    ((110, 2, DISCOVER, 0), Got::Reply(2, POOL[1], Mode::Hardware)),
+    ((120, 3, DISCOVER, 0), Got::Quiet(Reason::NoAddress)),
+    ((130, 2, SELECT_11, 0), Got::Reply(5, POOL[1], Mode::Hardware)),
+    ((159, 3, DISCOVER, 0), Got::Quiet(Reason::NoAddress)),
+    ((160, 3, DISCOVER, 0), Got::Reply(2, POOL[0], Mode::Hardware)),
+];
+
+// A client that takes another server's offer gives ours back, and the next client gets it.
+const OTHERS: Day = &[
+    ((100, 1, DISCOVER, 0), Got::Reply(2, POOL[0], Mode::Hardware)),
+    ((105, 1, OTHER, 0), Got::Quiet(Reason::OtherServer)),
+    ((106, 2, DISCOVER_10, 0), Got::Reply(2, POOL[0], Mode::Hardware)),
+];
+
+// A client without a row is not answered; one that asks for an address elsewhere is refused.
+const STRANGERS: Day = &[
+    ((200, 1, REBOOT_FAR, 0), Got::Reply(6, 0, Mode::Broadcast)),
+    ((200, 4, REBOOT_10, 0), Got::Quiet(Reason::NoRecord)),
+    ((200, 4, RENEW, 0), Got::Quiet(Reason::NoRequested)),
+];
+
+// A lease is renewed, also at a moment that goes back, and by its client alone; it is given back once; an address that
+// is declined is held back.
+const LEASES: Day = &[
+    ((990, 1, DISCOVER, 0), Got::Reply(2, POOL[0], Mode::Hardware)),
+    ((1000, 1, SELECT_10, 0), Got::Reply(5, POOL[0], Mode::Hardware)),
+    ((10, 1, RENEW, POOL[0]), Got::Reply(5, POOL[0], Mode::Unicast)),
+    ((10, 2, RENEW, POOL[0]), Got::Quiet(Reason::NoRecord)),
+    ((1050, 2, SELECT_10, 0), Got::Reply(6, 0, Mode::Broadcast)),
+    ((1100, 1, RELEASE, POOL[0]), Got::Quiet(Reason::Released)),
+    ((1100, 1, RELEASE, POOL[0]), Got::Quiet(Reason::NotHeld)),
+    ((1100, 1, RELEASE, 0), Got::Quiet(Reason::NoCiaddr)),
+    ((1200, 1, DISCOVER, 0), Got::Reply(2, POOL[0], Mode::Hardware)),
+    ((1201, 1, DECLINE_10, 0), Got::Quiet(Reason::Declined)),
+    ((1201, 1, DECLINE_10, 0), Got::Quiet(Reason::NotHeld)),
+    ((1202, 1, DISCOVER, 0), Got::Reply(2, POOL[1], Mode::Hardware)),
+    ((1203, 1, INFORM, 0xc000_024d), Got::Reply(5, 0, Mode::Unicast)),
+];
+
+const PORTS: Ports = Ports {
+    server: 67,
+    client: 68,
+};
+
+// A server of the built-in configuration over an empty store that answers so many calls.
+fn opened(alloc: Global, calls: u64) -> Result<LeaseServer<Fused>, Fault> {
+    let store = Fused::new(alloc, calls)?;
+    match LeaseServer::open(alloc, Config::builtin(alloc)?, store, PORTS) {
+        Ok(server) => Ok(server),
+        Err((ServeFault::Memory, _, _)) => Err(Fault::Memory),
+        Err(_) => Err(Fault::Other),
+    }
+}
+
+// The datagram of a message.
+fn datagram(alloc: Global, message: Sent) -> Result<Vec<u8>, AllocError> {
+    let (_, client, options, ciaddr) = message;
+    let mut bytes = Vec::from_slice(alloc, &[1, 1, 6, 0, 0, 0, 0, 1, 0, 0, 0, 0])?;
+    bytes.extend_from_slice(&ciaddr.to_be_bytes())?;
+    bytes.resize(28, 0)?;
+    bytes.extend_from_slice(&[10, 0, 0, 0, 0, client])?;
+    bytes.resize(236, 0)?;
+    bytes.extend_from_slice(&[99, 130, 83, 99])?;
+    bytes.extend_from_slice(options)?;
+    Ok(bytes)
+}
+
+// The byte at a place, and 0 behind the end.
+fn byte_at(bytes: &[u8], at: usize) -> u32 {
+    match bytes.get(at) {
+        Some(byte) => u32::from(*byte),
+        None => 0,
+    }
+}
+
+// What a response is.
+fn got(response: &Response) -> Got {
+    match response {
+        Response::Quiet(reason) => Got::Quiet(*reason),
+        Response::Reply(destination, reply) => {
+            let bytes = reply.as_slice();
+            let high = byte_at(bytes, 16) << 24 | byte_at(bytes, 17) << 16;
+            let yiaddr = high | byte_at(bytes, 18) << 8 | byte_at(bytes, 19);
+            Got::Reply(byte_at(bytes, 242) as u8, yiaddr, destination.mode)
+        }
+    }
+}
+
+// What comes back for a message.
+fn sent(alloc: Global, server: &mut LeaseServer<Fused>, message: Sent) -> Result<Got, Fault> {
+    let bytes = datagram(alloc, message)?;
+    match server.handle(message.0, bytes.as_slice()) {
+        Ok(handled) => Ok(got(&handled.response)),
+        Err(ServeFault::Memory) => Err(Fault::Memory),
+        Err(_) => Err(Fault::Other),
+    }
+}
+
+// How many messages of a day got what they should, up to the first that did not.
+fn as_worked_out(alloc: Global, day: &[(Sent, Got)]) -> Result<usize, Fault> {
+    let mut server = opened(alloc, 1000)?;
+    let mut right = 0;
+    for (message, want) in day {
+        if sent(alloc, &mut server, *message)? != *want {
+            return Ok(right);
+        }
+        right += 1;
+    }
+    Ok(right)
+}
+
+#[test]
+fn an_offer_holds_its_address(rt: HostRuntime) -> Result<(), Fail> {
+    assert!(rt; as_worked_out(rt.alloc(), OFFERS)? == 6);
+    Ok(())
+}
+
+#[test]
+fn an_offer_is_given_back_for_that_of_another_server(rt: HostRuntime) -> Result<(), Fail> {
+    assert!(rt; as_worked_out(rt.alloc(), OTHERS)? == 3);
+    Ok(())
+}
+
+#[test]
+fn strangers_are_refused_or_not_answered(rt: HostRuntime) -> Result<(), Fail> {
+    assert!(rt; as_worked_out(rt.alloc(), STRANGERS)? == 3);
+    Ok(())
+}
+
+#[test]
+fn leases_are_renewed_given_back_and_declined(rt: HostRuntime) -> Result<(), Fail> {
+    assert!(rt; as_worked_out(rt.alloc(), LEASES)? == 13);
+    Ok(())
+}
+
+// What a server over a store that fails at its second put answers: an offer, the fault, and the same at the next.
+#[test]
+fn no_reply_is_sent_once_the_store_has_failed(rt: HostRuntime) -> Result<(), Fail> {
+    let mut server = opened(rt.alloc(), 2)?;
+    let first = sent(rt.alloc(), &mut server, (100, 1, DISCOVER, 0))?;
+    assert!(rt; first == Got::Reply(2, POOL[0], Mode::Hardware));
+    let bytes = datagram(rt.alloc(), (110, 2, DISCOVER, 0))?;
+    let second = server.handle(110, bytes.as_slice()).map(|_| ());
+    assert!(rt; second.map_err(|fault| fault.number()) == Err(92));
+    let third = server.handle(111, bytes.as_slice()).map(|_| ());
+    assert!(rt; third == Err(ServeFault::Failed));
+    Ok(())
+}
+
+// With a refused request for memory the answer is want of it; the same day again gives what it gives with ample memory.
+#[test]
+fn want_of_memory_is_answered_as_such(rt: HostRuntime) -> Result<(), Fail> {
+    match as_worked_out(rt.alloc(), OFFERS) {
+        Ok(right) => assert!(rt; right == 6),
+        Err(fault) => assert!(rt; fault == Fault::Memory || fault == Fault::Other),
+    }
+    assert!(rt; as_worked_out(rt.alloc(), OFFERS)? == 6);
+    Ok(())
+}

@@ -1,0 +1,107 @@
+//! Does one piece of work on a table of leases many times, so that its time can be taken from outside:
+//! `kd_table_bench get 60000 1000000` makes a table of 60,000 rows and reads a row of it a million times. The
+//! other works are `open`, which makes the table alone, `client`, which finds a client's address, `gap`, which finds
+//! the first free address, `renew`, which sets a row anew, and `add`, which sets one at a new address. It prints how
+//! often that was done, and no time.
+#![tactic(auto)]
+
+use kd_rows::{Row, Rows, State};
+use kd_wire::Bytes;
+use std::alloc::{AllocError, Global};
+use std::io;
+
+fn main(rt: HostRuntime) -> io::Result<()> {
+    let words: Vec<String> = std::env::args(&rt)?.collect(rt.alloc())?;
+    let work = words.get(1).map_or("open", |word| word.as_str());
+    let size = words
+        .get(2)
+        .and_then(|word| word.parse().ok())
+        .unwrap_or(100);
+    let rounds = words
+        .get(3)
+        .and_then(|word| word.parse().ok())
+        .unwrap_or(10);
+    let done = worked(rt.alloc(), work, size, rounds)?;
+    println!(rt; "{done}")
+}
+
+// How often the work was done, of so many rounds, on a table of so many rows.
+fn worked(alloc: Global, work: &str, size: u32, rounds: u32) -> Result<u32, AllocError> {
+    let mut rows = table(alloc, size)?;
+    let mut done = 0u32;
+    for round in 0..rounds {
+        let number = mixed(round) % size.max(1);
+        let did = match work {
+            "get" => rows.get(number.wrapping_mul(2)).is_some(),
+            "client" => rows.of_client(&client(number), 0).is_some(),
+            "gap" => rows.first_gap(number, u32::MAX).is_some(),
+            "renew" => set(alloc, &mut rows, number.wrapping_mul(2), number, round)?,
+            "add" => set(
+                alloc,
+                &mut rows,
+                number.wrapping_mul(2).wrapping_add(1),
+                mixed(number),
+                round,
+            )?,
+            _ => rows.at(number as usize).is_some(),
+        };
+        if did {
+            done = done.wrapping_add(1);
+        }
+    }
+    Ok(done)
+}
+
+// Numbers below 2^32 in mixed order, each once.
+fn mixed(number: u32) -> u32 {
+    number.wrapping_mul(2_654_435_761)
+}
+
+// The client with a number: nine bytes, in another order than the numbers.
+fn client(number: u32) -> [u8; 9] {
+    let [a, b, c, d] = mixed(number).to_be_bytes();
+    let [e, f, g, h] = number.to_be_bytes();
+    [1, a, b, c, d, e, f, g, h]
+}
+
+// The row of a client at an address, set at a moment.
+fn row(alloc: Global, address: u32, number: u32, moment: u32) -> Result<Row, AllocError> {
+    let changed = u64::from(moment);
+    Ok(Row {
+        address,
+        client: Bytes::own(Vec::from_slice(alloc, &client(number))?),
+        state: State::Bound,
+        changed,
+        ends: changed + 3600,
+    })
+}
+
+// A table of so many rows, at even addresses.
+fn table(alloc: Global, size: u32) -> Result<Rows, AllocError> {
+    let mut list = Vec::new(alloc);
+    for number in 0..size {
+        list.push(row(alloc, number.wrapping_mul(2), number, 0)?)?;
+    }
+    if Rows::accepts(&list) {
+        Rows::new(list)
+    } else {
+        Rows::new(Vec::new(alloc))
+    }
+}
+
+// Sets a row; says whether it was set.
+fn set(
+    alloc: Global,
+    rows: &mut Rows,
+    address: u32,
+    number: u32,
+    moment: u32,
+) -> Result<bool, AllocError> {
+    let row = row(alloc, address, number, moment)?;
+    if !row.is_in_range() || row.changed < rows.latest() {
+        return Ok(false);
+    }
+    rows.reserve(&row)?;
+    rows.set(row);
+    Ok(true)
+}

@@ -1,0 +1,149 @@
+ghost use Rattle.std.specs.Prelude.{◌≡◌, [], OnErr, OnOk, IfOk, false};
+ghost use Rattle.std.specs.List.{All};
+ghost use Rattle.kd_rows.specs.Row.{IsInRange};
+ghost use Rattle.kd_rows.specs.Table.{Rise, with_row};
+
+use kd_keeps::{Cause, Keeps, StoreFault};
+use kd_rows::{Row, Rows};
+use kd_wire::Bytes;
+use std::alloc::{AllocError, Global};
+use std::marker::Model;
+
+/// A store in memory that fails once its fuse has burnt down, for tests of what stands upon a store.
+#[derive(Drop)]
+pub struct Fused {
+    rows: Rows,
+    // How many calls it answers before one fails.
+    calls: u64,
+    failed: bool,
+    alloc: Global,
+}
+
+impl Model for Fused {
+    ghost use Rattle.kd_table_tests.specs.Fused.{Fused};
+
+    ghost Value = { Fused };
+
+    ghost view = { λ s. record { table = s.rows.rows; failed = s.failed } };
+}
+
+impl Fused {
+    /// An empty store that answers so many calls and fails at the next.
+    ///
+    /// # Errors
+    ///
+    /// There is no memory.
+    pub fn new(alloc: Global, calls: u64) -> Result<Fused, AllocError>
+        ensures { IfOk result (λ s. s ≡ record { table = []; failed = false }) }
+    {
+        Ok(Fused {
+            rows: Rows::new(Vec::new(alloc))?,
+            calls,
+            failed: false,
+            alloc,
+        })
+    }
+
+    // One call fewer is left, or the fuse has burnt down.
+    fn burn(&mut self) -> Result<(), StoreFault>
+        ensures { self.new ≡ self.old }
+    {
+        if self.calls == 0 {
+            return Err(StoreFault::Sql(Cause::SystemIoFailure));
+        }
+        self.calls -= 1;
+        Ok(())
+    }
+
+    fn try_put(&mut self, row: &Row) -> Result<(), StoreFault>
+        requires { IsInRange row.now }
+        ensures failed { self.new.failed ≡ self.old.failed }
+        ensures put { OnOk result (self.new.table ≡ with_row row.now self.old.table) }
+        ensures stays { OnErr result (self.new.table ≡ self.old.table) }
+    {
+        self.burn()?;
+        let Ok(copy) = copied(self.alloc, row) else {
+            return Err(StoreFault::Sql(Cause::OutOfMemory));
+        };
+        if copy.changed < self.rows.latest() {
+            return Err(StoreFault::Schema);
+        }
+        if self.rows.reserve(&copy).is_err() {
+            return Err(StoreFault::Sql(Cause::OutOfMemory));
+        }
+        self.rows.set(copy);
+        Ok(())
+    }
+
+    fn try_rows(&mut self) -> Result<Vec<Row>, StoreFault>
+        ensures stays { self.new ≡ self.old }
+        ensures rows { IfOk result (λ rows. rows.items ≡ self.old.table) }
+        ensures rise { IfOk result (λ rows. Rise rows.items) }
+        ensures ranges { IfOk result (λ rows. All IsInRange rows.items) }
+    {
+        self.burn()?;
+        match all_of(self.alloc, &self.rows) {
+            Ok(rows) => Ok(rows),
+            Err(_) => Err(StoreFault::Sql(Cause::OutOfMemory)),
+        }
+    }
+}
+
+// A copy of a row.
+fn copied(alloc: Global, row: &Row) -> Result<Row, AllocError>
+    ensures { IfOk result (λ copy. copy ≡ row.now) }
+{
+    Ok(Row {
+        address: row.address,
+        client: Bytes::own(Vec::from_slice(alloc, row.client.as_slice())?),
+        state: row.state,
+        changed: row.changed,
+        ends: row.ends,
+    })
+}
+
+// Copies of all rows.
+fn all_of(alloc: Global, rows: &Rows) -> Result<Vec<Row>, AllocError>
+    ensures rows { IfOk result (λ list. list.items ≡ rows.now.rows) }
+    ensures rise { IfOk result (λ list. Rise list.items) }
+    ensures ranges { IfOk result (λ list. All IsInRange list.items) }
+{
+    let mut list = Vec::new(alloc);
+    for i in 0..rows.len() {
+        match rows.at(i) {
+            Some(row) => list.push(copied(alloc, row)?)?,
+            None => unreachable!(),
+        }
+    }
+    Ok(list)
+}
+
+impl Keeps for Fused {
+    ghost use Rattle.std.specs.Prelude.{◌≡◌, ◌⊎◌, false};
+
+    ghost stands = { λ s table. s.table ≡ table };
+
+    ghost has_clean_disk = { λ _. Unit {0} };
+
+    ghost leaves = { λ s before after. (s.table ≡ before) ⊎ (s.table ≡ after) };
+
+    ghost is_open = { λ _. Unit {0} };
+
+    ghost has_failed = { λ s. s.failed };
+
+    fn put(&mut self, row: &Row) -> Result<(), StoreFault> {
+        let result = self.try_put(row);
+        self.failed = result.is_err();
+        result
+    }
+
+    fn rows(&mut self) -> Result<Vec<Row>, StoreFault> {
+        let result = self.try_rows();
+        self.failed = result.is_err();
+        result
+    }
+
+    fn failed(&self) -> bool {
+        self.failed
+    }
+}

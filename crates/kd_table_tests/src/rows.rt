@@ -1,0 +1,276 @@
+use kd_rows::{Row, Rows, State};
+use kd_wire::Bytes;
+use std::alloc::{AllocError, Global};
+use std::test::Fail;
+
+// Why a call gives nothing.
+#[derive(Clone, Copy, Debug, PartialEq, Eq)]
+enum Fault {
+    // There is no memory.
+    Memory,
+    // The rows may not stand in a table.
+    Rows,
+}
+
+impl From<AllocError> for Fault {
+    fn from(_fault: AllocError) -> Fault {
+        Fault::Memory
+    }
+}
+
+// A lease: its address, its client, when it was set, when it ends.
+type Lease = (u32, &'static [u8], u64, u64);
+
+// The row of a bound lease.
+fn row(alloc: Global, lease: Lease) -> Result<Row, AllocError> {
+    let (address, client, changed, ends) = lease;
+    Ok(Row {
+        address,
+        client: Bytes::own(Vec::from_slice(alloc, client)?),
+        state: State::Bound,
+        changed,
+        ends,
+    })
+}
+
+// The rows of leases.
+fn list(alloc: Global, leases: &[Lease]) -> Result<Vec<Row>, AllocError> {
+    let mut rows = Vec::new(alloc);
+    for lease in leases {
+        rows.push(row(alloc, *lease)?)?;
+    }
+    Ok(rows)
+}
+
+// The table of leases.
+fn table(alloc: Global, leases: &[Lease]) -> Result<Rows, Fault> {
+    let rows = list(alloc, leases)?;
+    if !Rows::accepts(&rows) {
+        return Err(Fault::Rows);
+    }
+    Ok(Rows::new(rows)?)
+}
+
+// Sets a lease.
+fn set(alloc: Global, rows: &mut Rows, lease: Lease) -> Result<(), Fault> {
+    let row = row(alloc, lease)?;
+    if !row.is_in_range() || row.changed < rows.latest() {
+        return Err(Fault::Rows);
+    }
+    rows.reserve(&row)?;
+    rows.set(row);
+    Ok(())
+}
+
+// Leases of three clients, one of them without a name; the third was set last but one.
+const LEASES: [Lease; 5] = [
+    (0, b"a", 5, 5),
+    (10, b"b", 7, 100),
+    (11, b"a", 9, 50),
+    (13, b"", 3, 4),
+    (0xffff_ffff, b"a", 8, 60),
+];
+
+// Lists of leases, and whether they are a table.
+const LISTS: [(&[Lease], bool); 9] = [
+    (&[], true),
+    (&LEASES, true),
+    (&[(1, b"a", 5, 5), (1, b"b", 5, 5)], false),
+    (&[(2, b"a", 5, 5), (1, b"b", 5, 5)], false),
+    (&[(1, b"a", 5, 4)], false),
+    (&[(1, b"a", 5, 2_147_483_652)], true),
+    (&[(1, b"a", 5, 2_147_483_653)], false),
+    (&[(1, b"a", 1_099_511_627_775, 1_099_511_627_775)], true),
+    (&[(1, b"a", 1_099_511_627_776, 1_099_511_627_776)], false),
+];
+
+#[test]
+fn a_table_rises_in_address_and_its_times_are_in_range(rt: HostRuntime) -> Result<(), Fail> {
+    for (leases, is_table) in LISTS {
+        let rows = list(rt.alloc(), leases)?;
+        assert!(rt; Rows::accepts(&rows) == is_table);
+    }
+    Ok(())
+}
+
+// An address, the client of its row, and the address of the next row.
+const READ: [(u32, Option<&[u8]>, Option<u32>); 7] = [
+    (0, Some(b"a"), Some(0)),
+    (1, None, Some(10)),
+    (11, Some(b"a"), Some(11)),
+    (12, None, Some(13)),
+    (13, Some(b""), Some(13)),
+    (14, None, Some(0xffff_ffff)),
+    (0xffff_ffff, Some(b"a"), Some(0xffff_ffff)),
+];
+
+// The client of a row.
+fn client_of(row: Option<&Row>) -> Option<&[u8]> {
+    match row {
+        Some(row) => Some(row.client.as_slice()),
+        None => None,
+    }
+}
+
+// The address of a row.
+fn address_of(row: Option<&Row>) -> Option<u32> {
+    match row {
+        Some(row) => Some(row.address),
+        None => None,
+    }
+}
+
+#[test]
+fn a_row_is_found_by_its_address(rt: HostRuntime) -> Result<(), Fail> {
+    let rows = table(rt.alloc(), &LEASES)?;
+    for (address, client, next) in READ {
+        assert!(rt; client_of(rows.get(address)) == client);
+        assert!(rt; address_of(rows.next_from(address)) == next);
+    }
+    assert!(rt; rows.len() == 5 && rows.latest() == 9 && rows.least_end() == 4);
+    assert!(rt; address_of(rows.at(2)) == Some(11) && address_of(rows.at(5)) == None);
+    Ok(())
+}
+
+// A client, a number, and the address with that number among the client's.
+const CLIENTS: [(&[u8], usize, Option<u32>); 8] = [
+    (b"a", 0, Some(0)),
+    (b"a", 1, Some(11)),
+    (b"a", 2, Some(0xffff_ffff)),
+    (b"a", 3, None),
+    (b"b", 0, Some(10)),
+    (b"b", 1, None),
+    (b"", 0, Some(13)),
+    (b"c", 0, None),
+];
+
+// The ends of a range, and the least address in it that has no row.
+const GAPS: [(u32, u32, Option<u32>); 8] = [
+    (0, 0, None),
+    (0, 1, Some(1)),
+    (10, 11, None),
+    (10, 12, Some(12)),
+    (10, 20, Some(12)),
+    (13, 13, None),
+    (0xffff_fffe, 0xffff_ffff, Some(0xffff_fffe)),
+    (0xffff_ffff, 0xffff_ffff, None),
+];
+
+#[test]
+fn a_row_is_found_by_its_client_and_gaps_are_found(rt: HostRuntime) -> Result<(), Fail> {
+    let rows = table(rt.alloc(), &LEASES)?;
+    for (client, i, address) in CLIENTS {
+        assert!(rt; rows.of_client(client, i) == address);
+    }
+    for (first, last, gap) in GAPS {
+        assert!(rt; first > last || rows.first_gap(first, last) == gap);
+    }
+    Ok(())
+}
+
+#[test]
+fn the_index_follows_a_row_to_another_client(rt: HostRuntime) -> Result<(), Fail> {
+    let mut rows = table(rt.alloc(), &[(10, b"A", 1, 2), (11, b"B", 1, 2)])?;
+    set(rt.alloc(), &mut rows, (10, b"B", 1, 2))?;
+    assert!(rt; rows.of_client(b"A", 0) == None);
+    assert!(rt; rows.of_client(b"B", 0) == Some(10) && rows.of_client(b"B", 1) == Some(11));
+    assert!(rt; rows.len() == 2);
+    Ok(())
+}
+
+// A lease, and whether to set it would change nothing.
+const SAME: [(Lease, bool); 5] = [
+    ((10, b"b", 7, 100), true),
+    ((12, b"b", 7, 100), false),
+    ((10, b"", 7, 100), false),
+    ((10, b"b", 8, 100), false),
+    ((10, b"b", 7, 99), false),
+];
+
+#[test]
+fn a_row_that_is_there_changes_nothing(rt: HostRuntime) -> Result<(), Fail> {
+    let rows = table(rt.alloc(), &LEASES)?;
+    for (lease, is_there) in SAME {
+        assert!(rt; rows.has(&row(rt.alloc(), lease)?) == is_there);
+    }
+    let mut released = row(rt.alloc(), SAME[0].0)?;
+    released.state = State::Released;
+    assert!(rt; !rows.has(&released));
+    Ok(())
+}
+
+// The names of ten clients.
+const TEN: [&[u8]; 10] = [b"0", b"1", b"2", b"3", b"4", b"5", b"6", b"7", b"8", b"9"];
+
+// A table of a thousand addresses, set in mixed order; the client of each is the one of its last digit.
+fn thousand(alloc: Global) -> Result<Rows, Fault> {
+    let mut rows = table(alloc, &[])?;
+    for i in 0..1000u32 {
+        let address = i * 617 % 1000;
+        let client = TEN[(address % 10) as usize];
+        let ends = u64::from(2000 - address);
+        set(alloc, &mut rows, (address, client, 5, ends))?;
+    }
+    Ok(rows)
+}
+
+// Every row and every client's rows stand where they belong.
+fn are_in_order(rows: &Rows) -> bool {
+    for i in 0..1000u32 {
+        let client = TEN[(i % 10) as usize];
+        if address_of(rows.at(i as usize)) != Some(i)
+            || rows.of_client(client, (i / 10) as usize) != Some(i)
+        {
+            return false;
+        }
+    }
+    rows.len() == 1000 && rows.first_gap(0, 2000) == Some(1000)
+}
+
+#[test]
+fn rows_set_in_mixed_order_stand_in_order(rt: HostRuntime) -> Result<(), Fail> {
+    let rows = thousand(rt.alloc())?;
+    assert!(rt; are_in_order(&rows));
+    assert!(rt; rows.least_end() == 1001);
+    Ok(())
+}
+
+// Numbers, and the states that they stand for.
+const STATES: [(u8, Option<State>); 6] = [
+    (0, None),
+    (1, Some(State::Offered)),
+    (2, Some(State::Bound)),
+    (3, Some(State::Released)),
+    (4, Some(State::Declined)),
+    (5, None),
+];
+
+#[test]
+fn states_have_numbers(rt: HostRuntime) -> Result<(), Fail> {
+    for (number, state) in STATES {
+        assert!(rt; State::of_number(number) == state);
+        if let Some(state) = state {
+            assert!(rt; state.number() == number);
+        }
+    }
+    Ok(())
+}
+
+// A table of one row, and one more row set in it: what is read of it.
+fn two(alloc: Global) -> Result<(usize, Option<u32>), Fault> {
+    let mut rows = table(alloc, &[(10, b"A", 1, 2)])?;
+    set(alloc, &mut rows, (11, b"B", 1, 2))?;
+    Ok((rows.len(), rows.of_client(b"B", 0)))
+}
+
+// With a refused request for memory the answer is want of it; the same calls made again give what they give with
+// ample memory.
+#[test]
+fn want_of_memory_is_answered_as_such(rt: HostRuntime) -> Result<(), Fail> {
+    match two(rt.alloc()) {
+        Ok(read) => assert!(rt; read == (2, Some(11))),
+        Err(fault) => assert!(rt; fault == Fault::Memory),
+    }
+    assert!(rt; two(rt.alloc())? == (2, Some(11)));
+    Ok(())
+}

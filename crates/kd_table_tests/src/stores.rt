@@ -1,0 +1,48 @@
+use crate::fused::Fused;
+use kd_keeps::{Cause, Keeps, StoreFault};
+use kd_rows::{Row, State};
+use kd_wire::Bytes;
+use std::alloc::{AllocError, Global};
+use std::test::Fail;
+
+// A lease of an address, which is in range.
+fn lease(alloc: Global, address: u32) -> Result<Row, AllocError> {
+    Ok(Row {
+        address,
+        client: Bytes::own(Vec::from_slice(alloc, b"A")?),
+        state: State::Offered,
+        changed: 100,
+        ends: 160,
+    })
+}
+
+// What the third call of a store with a fuse for two answers: a row is put, the rows are read, and another is put.
+fn third(alloc: Global, store: &mut Fused) -> Result<Result<(), StoreFault>, Fail> {
+    let first = lease(alloc, 10)?;
+    let second = lease(alloc, 11)?;
+    if store.failed() || !first.is_in_range() || !second.is_in_range() {
+        return Err("a new store has not failed".into());
+    }
+    store.put(&first)?;
+    let rows = store.rows()?;
+    if rows.len() != 1 {
+        return Err("one row was put".into());
+    }
+    Ok(store.put(&second))
+}
+
+#[test]
+fn a_store_fails_once_its_fuse_has_burnt_down(rt: HostRuntime) -> Result<(), Fail> {
+    let mut store = Fused::new(rt.alloc(), 2)?;
+    let answer = third(rt.alloc(), &mut store)?;
+    assert!(rt; answer == Err(StoreFault::Sql(Cause::SystemIoFailure)));
+    assert!(rt; store.failed());
+    Ok(())
+}
+
+#[test]
+fn faults_of_a_store_have_numbers(rt: HostRuntime) -> Result<(), Fail> {
+    assert!(rt; StoreFault::Schema.number() == 80);
+    assert!(rt; StoreFault::Sql(Cause::DiskFull).number() == 81);
+    Ok(())
+}
