@@ -133,7 +133,7 @@ fn byte_at(bytes: &[u8], at: usize) -> u32 {
 }
 
 // What a response is.
-fn got(response: &Response) -> Got {
+fn received(response: &Response) -> Got {
     match response {
         Response::Quiet(reason) => Got::Quiet(*reason),
         Response::Reply(destination, reply) => {
@@ -149,7 +149,7 @@ fn got(response: &Response) -> Got {
 fn sent(alloc: Global, server: &mut LeaseServer<Fused>, message: Sent) -> Result<Got, Fault> {
     let bytes = datagram(alloc, message)?;
     match server.handle(message.0, bytes.as_slice()) {
-        Ok(handled) => Ok(got(&handled.response)),
+        Ok(handled) => Ok(received(&handled.response)),
         Err(ServeFault::Memory) => Err(Fault::Memory),
         Err(_) => Err(Fault::Other),
     }
