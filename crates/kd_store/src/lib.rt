@@ -1,0 +1,4 @@
+//! The table of leases in SQL.
+#![tactic(auto)]
+
+mod fault;
