@@ -1,2 +1,3 @@
 pub mod Texts
 pub mod Tables
+pub mod Puts

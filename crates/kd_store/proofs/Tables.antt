@@ -25,7 +25,7 @@ use Rattle.kd_store.specs.Stands.{shown, Lists}
 swapped : {X : Type 0} (x y : X) (xs : List X) → IsPermutation (x ∷ y ∷ xs) (y ∷ x ∷ xs)
 swapped x y xs = IsPermutation-middle (x ∷ []) y xs
 
-number_of : (a b : ℕ) → value_cmp (Int (pos a)) (Int (pos b)) ≡ nat_cmp a b
+pub number_of : (a b : ℕ) → value_cmp (Int (pos a)) (Int (pos b)) ≡ nat_cmp a b
 number_of a b = value_cmp-Int (pos a) (pos b) ∙ grind (arith, nat_tests)
 
 -- whether a row is stored under a number
