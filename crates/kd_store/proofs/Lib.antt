@@ -1,3 +1,5 @@
 pub mod Texts
 pub mod Tables
 pub mod Puts
+pub mod States
+pub mod Reading

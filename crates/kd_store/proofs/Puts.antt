@@ -217,10 +217,6 @@ went (inr on) = on
 same_value : {B E : Type 0} {a b : B} → ◌≡◌ {A = Result B E} (Ok a) (Ok b) → a ≡ b
 same_value e = cc
 
--- the parameters of the statement
-abbrev pub params_of : Row → Columns
-params_of row = Int (pos row.address) ∷ Bytes row.client ∷ Int (pos (state_number row.state)) ∷ Int (pos row.changed) ∷ Int (pos row.ends) ∷ []
-
 nothing_in : {A : Type 0} (xs : List A) → length xs ≡ 0 → xs ≡ []
 nothing_in [] e = refl
 nothing_in (x ∷ xs) e = absurd (omega arith)
@@ -233,7 +229,7 @@ no_step row there at none =
 
 module _ (limit : Option ℕ) (row : Row) where
   abbrev pub task : Task
-  task = record { limit = limit; keys = Enforced; schema = lease_schema; table = lease; params = params_of row }
+  task = record { limit = limit; keys = Enforced; schema = lease_schema; table = lease; params = columns_of row }
 
   puts : (db : Trees) (table : List Row) (w : Written) → Lists db table → Puts task (stored row) db (Ok w) → Lists w.trees (with_row row table)
   puts db table w h p =
@@ -250,7 +246,7 @@ module _ (limit : Option ℕ) (row : Row) where
       let it = went p in
       let rows = it.0 in
       let a : IsAnswer update (overlay db []) (given row) rows =
-      subst (λ (v : Value). IsAnswer update (overlay db []) (params_of row ++ v ∷ shown_of lease (stored row)) rows) at (it.1.answer Null) in
+      subst (λ (v : Value). IsAnswer update (overlay db []) (columns_of row ++ v ∷ shown_of lease (stored row)) rows) at (it.1.answer Null) in
       let to = updates_to row (overlay db []) rows (keyed db table h) a in
       let some : rows ≡ [] → ⊥ = λ none. no_step row there at (none_of (steps row) (db 0) there (nothing_in _ (sym to.1 ∙ ap length none)) has) in
       let next = went it.2 in
@@ -275,11 +271,11 @@ module _ (limit : Option ℕ) (row : Row) where
 
   -- a database with our schema has the row afterwards
   pub does : (db after : Database) (text : List ℕ) (tally : Tally) (table : List Row) → db.schema ≡ lease_schema → Lists db.trees table
-      → Does limit (record { keys = Enforced; in_doubt = false; may_wait = false }) (params_of row) db text None (InsertOr 0 Abort (Values terms 6) (clause ∷ [])) (Ok (tally, after))
+      → Does limit (record { keys = Enforced; in_doubt = false; may_wait = false }) (columns_of row) db text None (InsertOr 0 Abort (Values terms 6) (clause ∷ [])) (Ok (tally, after))
       → (after.schema ≡ lease_schema) × Lists after.trees (with_row row table)
   does db after text tally table has h d =
       let command = InsertOr 0 Abort (Values terms 6) (clause ∷ []) in
-      let all = went (subst (λ s. Does limit (record { keys = Enforced; in_doubt = false; may_wait = false }) (params_of row) (record { schema = s; trees = db.trees }) text None command (Ok (tally, after))) has d) in
+      let all = went (subst (λ s. Does limit (record { keys = Enforced; in_doubt = false; may_wait = false }) (columns_of row) (record { schema = s; trees = db.trees }) text None command (Ok (tally, after))) has d) in
       let sourced = went all.1 in
       let numbered = went sourced.2 in
       let each = went numbered.2 in

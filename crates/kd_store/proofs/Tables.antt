@@ -10,7 +10,7 @@ use Rattle.sqlite_value.specs.declared.value.Value.TheVariants.{Null, Int, Blob 
 use Rattle.sqlite_value.specs.Order.{Row as Columns, value_cmp}
 use Rattle.sqlite_value.proofs.OrderLemmas.{value_cmp-Int}
 use Rattle.sqlite_trees.specs.Tree.{Trees, rowid, has_rowid, put_row, without_rowid, IsAscending}
-use Rattle.sqlite_trees.proofs.ListLemmas.{filter-map, filter_all, IsPermutation-filter, all-permutation, all_from_map, all-map}
+use Rattle.sqlite_trees.proofs.ListLemmas.{filter-map, filter_all, IsPermutation-filter, all-permutation, all_from_map, all-map, all_weaker, all-append}
 use Rattle.sqlite_rules.specs.Edit.{is_taken}
 use Rattle.sqlite.proofs.Callers.{one_permutation}
 use Rattle.kd_rows.specs.declared.row.Row.{Row}
@@ -172,3 +172,16 @@ one_order n m (x ∷ xs) (y ∷ ys) up over same =
 -- trees list one table
 pub one_table : (trees : Trees) (a b : List Row) → Lists trees a → Lists trees b → a ≡ b
 one_table trees a b h k = one_order 0 0 a b h.rise k.rise (IsPermutation-trans _ _ _ h.same (IsPermutation-sym _ _ k.same))
+
+-- ---- rows that are read in turn
+
+-- a row above all others goes to the end
+rise_from_push : (n : ℕ) (rows : List Row) (row : Row) → RiseFrom n rows → n ≤ row.address → AllByRecursion (λ y. y.address < row.address) rows → RiseFrom n (rows ++ row ∷ [])
+rise_from_push n [] row rise le below = (le, tt)
+rise_from_push n (y ∷ rows) row rise le below = (rise.0, rise_from_push (y.address + 1) rows row rise.1 (omega (arith, below.0)) below.1)
+
+pub rise_push : (rows : List Row) (row : Row) (least : ℕ) → Rise rows → AllByRecursion (λ y. y.address < least) rows → least ≤ row.address
+    → Rise (rows ++ row ∷ []) × AllByRecursion (λ y. y.address < row.address + 1) (rows ++ row ∷ [])
+rise_push rows row least rise below le =
+    (rise_from_push 0 rows row rise (omega arith) (all_weaker _ (λ y. y.address < row.address) (λ y lt. omega (arith, lt, le)) rows below),
+    all-append _ rows (row ∷ []) (all_weaker _ (λ y. y.address < row.address + 1) (λ y lt. omega (arith, lt, le)) rows below) (omega arith, tt))

@@ -1,3 +1,5 @@
 pub mod Lease
 pub mod Stands
+pub mod Kept
 pub mod Fault
+pub mod Statement
