@@ -3,3 +3,4 @@ pub mod Tables
 pub mod Puts
 pub mod States
 pub mod Reading
+pub mod Making

@@ -17,7 +17,7 @@ use Rattle.kd_rows.specs.declared.row.Row.{Row}
 use Rattle.kd_rows.specs.Table.{Rise}
 use Rattle.kd_store.specs.Lease.{lease_schema, rows_text, columns_of}
 use Rattle.kd_store.specs.Stands.{shown, Lists, Stands, Leaves}
-use Rattle.kd_store.specs.Statement.{first_five}
+use Rattle.kd_store.specs.Statement.{first_five, IsReady}
 use Rattle.kd_store.proofs.Texts.{select, selects, names, rows_is, rows_plain, rows_unlisted}
 use Rattle.kd_store.proofs.Tables.{one_table}
 use Rattle.kd_store.proofs.States.{Settles, left_of, after_query, stands_same}
@@ -57,6 +57,15 @@ reads_table items (Err e) old new found table h is are rise = tt
 reads_table items (Ok v) old new found table h is are rise =
     let reads = reads_as rows_text [] old new lease_schema h.schema _ rows_is rows_plain rows_unlisted found is in
     (one_table old.now.trees (items v) table (lists_read old.now found (items v) reads are rise) h.holds.1, stands_same old new table h (after_query old new rows_text [] found (plain old table h) is))
+
+-- where the connection is ready, what is read is the table at which it stands
+pub finds_table : {V E : Type 0} (items : V → List Row) (r : Result V E) (old new : State) (found : List Columns) → IsReady old → Shown rows_text [] old new found
+    → IfOk r (λ v. map columns_of (items v) ≡ map first_five found) → IfOk r (λ v. Rise (items v)) → IfOk r (λ v. Stands old (items v) × Stands new (items v))
+finds_table items (Err e) old new found h is are rise = tt
+finds_table items (Ok v) old new found h is are rise =
+    let reads = reads_as rows_text [] old new lease_schema h.schema _ rows_is rows_plain rows_unlisted found is in
+    let stands : Stands old (items v) = record { is_open = h.is_open; ready = h.ready; schema = h.schema; holds = (h.sound, lists_read old.now found (items v) reads are rise); settled = h.settled } in
+    (stands, stands_same old new (items v) stands (after_query old new rows_text [] found (plain old (items v) stands) is))
 
 pub stands_on_err : {V E : Type 0} (r : Result V E) (old new : State) (found : List Columns) (table : List Row) → Stands old table → Shown rows_text [] old new found → OnErr r (IsTrue new.is_open → Stands new table)
 stands_on_err (Ok v) old new found table h is = tt

@@ -1,7 +1,18 @@
--- The columns of a row that a query shows: a word of private contracts alone.
-use Rattle.std.specs.Prelude.{[], ◌∷◌}
+-- The columns of a row that a query shows, and a connection that is ready for one: words of private contracts alone.
+use Rattle.std.specs.Prelude.{◌≡◌, false, [], ◌∷◌, IsTrue}
 use Rattle.sqlite.specs.Order.{Row as Columns, column}
+use Rattle.sqlite.specs.State.{State}
+use Rattle.sqlite_catalog.specs.Listing.{IsSound}
+use Rattle.kd_store.specs.Lease.{lease_schema}
 
 -- the first five columns
 abbrev pub first_five : Columns → Columns
 first_five c = column c 0 ∷ column c 1 ∷ column c 2 ∷ column c 3 ∷ column c 4 ∷ []
+
+-- a connection is open, in no transaction, and what it has committed is a database with our schema
+pub record IsReady (s : State) : Type 0 where
+  pub is_open : IsTrue s.is_open
+  pub ready : s.in_transaction ≡ false
+  pub schema : s.now.schema ≡ lease_schema
+  pub sound : IsSound lease_schema s.now.trees
+  pub settled : s.committed ≡ s.now

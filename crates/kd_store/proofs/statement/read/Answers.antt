@@ -1,9 +1,13 @@
 use Rattle.std.proofs.Common.{[]}
 use Rattle.sqlite.specs.Held.{state}
-use Rattle.kd_store.proofs.Reading.{reads_table, stands_on_err, read_leaves}
+use Rattle.kd_store.proofs.Reading.{finds_table, reads_table, stands_on_err, read_leaves}
 use Rattle.kd_store.proofs.States.{after_query_error, stands_rests}
 use Rattle.kd_store.specs.Lease.{rows_text}
 use Rattle.kd_store.proofs.statement.read.Goals as goal
+
+pub returns-in-Ok-clause-found : goal.returns-in-Ok-clause-found
+returns-in-Ok-clause-found g c clean h =
+    finds_table (λ rows. rows.items) c.decode_all.result (state g.S.Store c.args.conn.now) (state g.S.Store c.query_all.new.self) c.in-Ok.shown.items h (c.in-Ok.ensures.ok clean) (rw c.as_slice.ensures.value at c.decode_all.ensures.columns) c.decode_all.ensures.rise
 
 pub returns-in-Ok-clause-rows : goal.returns-in-Ok-clause-rows
 returns-in-Ok-clause-rows g c clean table h =
