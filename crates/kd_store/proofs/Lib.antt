@@ -4,3 +4,4 @@ pub mod Puts
 pub mod States
 pub mod Reading
 pub mod Making
+pub mod Reopening

@@ -104,10 +104,14 @@ make_commits old table db live (inr there) h =
     let bare = subst IsPlain (sym known) again_plain in
     let m = rw (bare.0, bare.1) at h.2 in
     let may = subst (λ k. MayCommit old None k (text_of make_text h.0) [] db) (ap command_of known ∙ make_again) m in
-    absurd (elim may [
-      | inl other ↦ elim other.0 [ inl commits ↦ (let e = commits in cc) | inr releases ↦ (let e = releases.2 in cc) ]
-      | inr w ↦ let e = w.3 in ?
-    ])
+    elim may [
+      | inl other ↦ absurd (elim other.0 [ inl commits ↦ (let e = commits in cc) | inr releases ↦ (let e = releases.2 in cc) ])
+      | inr w ↦ absurd (let e = w.3 in cc)
+    ]
 
 pub make_leaves : (old new : State) (table : List Row) → IsLive old → HasCleanDisk new → Finds old table → Survives old new (CommitsBy make_text [] old) → (db : Trees) → new.may_leave db → old.may_leave db ⊎ Holds db table
 make_leaves old new table live clean h survives db may = elim (survives.crash clean db may) [ inl before ↦ inl before | inr commits ↦ inr (make_commits old table db live h commits) ]
+
+-- the table at which a connection stands was found, where nothing has changed since
+pub opened : (old mid new : State) (table : List Row) → IsUnchanged old mid → Stands mid table × Stands new table → (t : List Row) × Finds old t × Stands new t
+opened old mid new table u h = (table, inr (u.0.was_open, subst (λ (d : Database). Holds d.trees table) u.0.now_is h.0.holds), h.1)

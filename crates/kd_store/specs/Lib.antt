@@ -3,3 +3,4 @@ pub mod Stands
 pub mod Kept
 pub mod Fault
 pub mod Statement
+pub mod Laws

@@ -3,6 +3,7 @@
 
 mod decode;
 mod fault;
+pub mod laws;
 mod statement;
 mod store;
 

@@ -4,9 +4,10 @@ ghost use Rattle.sqlite.specs.State.{HasCleanDisk};
 ghost use Rattle.sqlite.specs.View.{doubt};
 ghost use Rattle.kd_rows.specs.declared.row.Row.{Row as LeaseRow};
 ghost use Rattle.kd_store.specs.Lease.{lease_schema, no_schema};
-ghost use Rattle.kd_store.specs.Stands.{Finds, Stands};
+ghost use Rattle.kd_store.specs.Stands.{Finds, Holds, Stands};
+ghost use Rattle.sqlite.specs.Tree.{Trees};
 
-use crate::statement::{put, read};
+use crate::statement::{make, put, read};
 use kd_keeps::{Keeps, StoreFault};
 use kd_rows::Row;
 use sqlite::{Alter, Connection};
@@ -42,6 +43,40 @@ impl<S: Alter> Model for Store<S> {
 }
 
 impl<S: Alter> Store<S> {
+    /// The store over a connection, at the table that its database holds. Where there is no table yet
+    /// an empty one is made.
+    ///
+    /// # Errors
+    ///
+    /// The connection comes back, and finds what it found before, while it is still open. It may have gained the
+    /// empty table.
+    pub fn open(
+        alloc: Global,
+        mut conn: Connection<S>,
+    ) -> Result<Store<S>, (StoreFault, Connection<S>)>
+        requires ready { (state S.Store conn).in_transaction ≡ false }
+        ensures clean { IfOk result (λ store. HasCleanDisk (state S.Store store.conn) → HasCleanDisk (state S.Store conn)) }
+        ensures err_clean { IfErr result (λ e. HasCleanDisk (state S.Store e.1) → HasCleanDisk (state S.Store conn)) }
+        ensures table { IfOk result (λ store. HasCleanDisk (state S.Store store.conn) → (table : List LeaseRow) → Finds (state S.Store conn) table → Stands (state S.Store store.conn) table) }
+        ensures stands { IfOk result (λ store. HasCleanDisk (state S.Store store.conn) → ((state S.Store conn).now.schema ≡ no_schema) ⊎ ((state S.Store conn).now.schema ≡ lease_schema)
+            → (table : List LeaseRow) × Finds (state S.Store conn) table × Stands (state S.Store store.conn) table) }
+        ensures fault { IfErr result (λ e. HasCleanDisk (state S.Store e.1) → (table : List LeaseRow) → Finds (state S.Store conn) table → IsTrue (state S.Store e.1).is_open → Finds (state S.Store e.1) table) }
+        ensures crash { IfErr result (λ e. HasCleanDisk (state S.Store e.1) → (table : List LeaseRow) → Finds (state S.Store conn) table → (db : Trees) → (state S.Store e.1).may_leave db → (state S.Store conn).may_leave db ⊎ Holds db table) }
+        ensures failed { IfOk result (λ store. store.failed ≡ false) }
+    {
+        if let Err(fault) = make(&mut conn) {
+            return Err((fault, conn));
+        }
+        match read(alloc, &mut conn) {
+            Ok(_) => Ok(Store {
+                conn,
+                failed: false,
+                alloc,
+            }),
+            Err(fault) => Err((fault, conn)),
+        }
+    }
+
     /// The connection of the store, given back.
     pub fn close(self) -> Connection<S>
         ensures { result ≡ self.conn }
