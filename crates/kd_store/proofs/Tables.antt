@@ -102,7 +102,7 @@ lists_put old new row table rest h left free is = record {
 
 -- ---- one table
 
-state_once : (s t : State) → state_number s ≡ state_number t → s ≡ t
+pub state_once : (s t : State) → state_number s ≡ state_number t → s ≡ t
 state_once Offered Offered e = refl
 state_once Offered Bound e = absurd (omega arith)
 state_once Offered Released e = absurd (omega arith)
