@@ -1,13 +1,38 @@
-//! What holds over a crash.
-ghost use Rattle.std.specs.Prelude.{List};
+//! What holds over several calls, and over a crash.
+ghost use Rattle.std.specs.Prelude.{◌≡◌, false, List, OnOk};
 ghost use Rattle.sqlite.specs.Held.{state};
 ghost use Rattle.sqlite.specs.View.{IsClean};
 ghost use Rattle.kd_rows.specs.declared.row.Row.{Row as LeaseRow};
 ghost use Rattle.kd_store.specs.Laws.{LetGo, Reopens};
-ghost use Rattle.kd_store.specs.Stands.{Leaves};
+ghost use Rattle.kd_rows.specs.Row.{IsInRange};
+ghost use Rattle.kd_rows.specs.Table.{with_row};
+ghost use Rattle.sqlite.specs.State.{HasCleanDisk};
+ghost use Rattle.kd_store.specs.Stands.{Leaves, Stands};
 
+use crate::store::Store;
+use kd_keeps::{Keeps, StoreFault};
+use kd_rows::Row;
 use sqlite::{Alter, Connection};
 use sqlite_disk::Disk;
+
+/// Two rows, set one after the other. That the disk is clean after both is premise enough for each.
+///
+/// # Errors
+///
+/// Those of `put`, of the first or the second row.
+pub fn put_both<S: Alter>(
+    store: &mut Store<S>,
+    first: &Row,
+    second: &Row,
+) -> Result<(), StoreFault>
+    requires ready { store.old.failed ≡ false }
+    requires first { IsInRange first.now }
+    requires second { IsInRange second.now }
+    ensures { HasCleanDisk (state S.Store store.new.conn) → (table : List LeaseRow) → Stands (state S.Store store.old.conn) table → OnOk result (Stands (state S.Store store.new.conn) (with_row second.now (with_row first.now table))) }
+{
+    store.put(first)?;
+    store.put(second)
+}
 
 /// What a connection is over, let go: a crash leaves of it what it leaves of the connection.
 pub fn let_go<S: Alter + Drop>(conn: Connection<S>) -> S

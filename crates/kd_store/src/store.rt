@@ -14,7 +14,8 @@ use sqlite::{Alter, Connection};
 use std::alloc::Global;
 use std::marker::Model;
 
-/// The table of leases in a database, over its connection.
+/// The table of leases in a database, over its connection. In a contract a store is a record: `conn`,
+/// what the connection shows, and `failed`.
 pub struct Store<S: Alter> {
     conn: Connection<S>,
     failed: bool,
@@ -44,12 +45,13 @@ impl<S: Alter> Model for Store<S> {
 
 impl<S: Alter> Store<S> {
     /// The store over a connection, at the table that its database holds. Where there is no table yet
-    /// an empty one is made.
+    /// an empty one is made, and a table that is there is never made anew.
     ///
     /// # Errors
     ///
-    /// The connection comes back, and finds what it found before, while it is still open. It may have gained the
-    /// empty table.
+    /// The database has a table `lease` that is not ours or a row out of range (`Schema`), or does not
+    /// answer (`Sql`). The connection comes back; while it is open it finds the table that it found
+    /// before. A table that was not there may have been made.
     pub fn open(
         alloc: Global,
         mut conn: Connection<S>,
@@ -77,16 +79,16 @@ impl<S: Alter> Store<S> {
         }
     }
 
-    /// The connection of the store, given back.
+    /// The connection, given back. A store that has failed is closed, and opened again.
     pub fn close(self) -> Connection<S>
         ensures { result ≡ self.conn }
     {
         let Store {
-            conn,
+            conn: connection,
             failed: _,
             alloc: _,
         } = self;
-        conn
+        connection
     }
 }
 
