@@ -1,13 +1,11 @@
 -- What the statement that makes the table does to a connection.
-use Rattle.std.proofs.Common.{◌≡◌, ◌⊎◌, inl, inr, ℕ, Bool, true, false, List, [], ◌∷◌, map, Some, None, Option, Ok, Err, Result, IsTrue, refl, sym, ap, subst, ◌∙◌, append-nil}
+use Rattle.std.proofs.Common.{◌≡◌, ◌⊎◌, inl, inr, ℕ, false, List, [], map, None, Ok, Err, Result, IsTrue, refl, sym, ap, subst, ◌∙◌}
 use Rattle.std.specs.Prelude.{IsPermutation}
 use Rattle.std.proofs.lemmas.List.Sorted.{IsPermutation-refl}
-use Rattle.sqlite_value.specs.Order.{Row as Columns}
 use Rattle.sqlite_trees.specs.Tree.{Trees}
 use Rattle.sqlite_catalog.specs.Listing.{IsSound}
 use Rattle.sqlite_catalog.proofs.ReadLemmas.{lists_once}
 use Rattle.sqlite.specs.Change.{created, next_tree}
-use Rattle.sqlite_schema.specs.declared.schema.Schema.{Schema}
 use Rattle.sqlite.specs.Effect.{Database}
 use Rattle.sqlite.specs.Does.{Tally, Does, lacks_sequence}
 use Rattle.sqlite.specs.Command.TheVariants.{CreateTable, Nothing}
@@ -15,12 +13,12 @@ use Rattle.sqlite.specs.Listing.{understood}
 use Rattle.sqlite.specs.State.{State, HasCleanDisk, IsLive, IsUnchanged, Survives, Executes, CommitsBy, MayCommit, mode_of, text_of, Writes}
 use Rattle.sqlite.proofs.Callers.{IsPlain, command_of, statement_of, runs_as}
 use Rattle.kd_rows.specs.declared.row.Row.{Row}
-use Rattle.kd_store.specs.Lease.{lease, lease_schema, no_schema, make_text, columns_of}
+use Rattle.kd_store.specs.Lease.{lease, lease_schema, no_schema, make_text}
 use Rattle.kd_store.specs.Stands.{shown, Lists, Holds, Stands, Finds}
 use Rattle.kd_store.specs.Statement.{IsReady}
 use Rattle.kd_store.proofs.Texts.{make_is, make_again, make_plain, again_plain}
 use Rattle.kd_store.proofs.Puts.{went, same_value}
-use Rattle.kd_store.proofs.States.{Rests, after_error, stands_same}
+use Rattle.kd_store.proofs.States.{Rests, after_error}
 
 -- the text makes our schema of none, and an empty table
 made_of : (old : State) (after : Database) (text : List ℕ) (tally : Tally) → text ≡ make_text → old.now.schema ≡ no_schema → Does old.step_limit (mode_of old) [] old.now text None CreateTable (Ok (tally, after))
@@ -56,14 +54,16 @@ IsSettled s = IsTrue s.is_open → s.now ≡ s.committed
 
 pub again : (old new : State) (count : ℕ) → old.in_transaction ≡ false → old.now.schema ≡ lease_schema → IsLive old → IsSettled old → Executes make_text [] old new (Ok count) → IsReady new × IsUnchanged old new
 again old new count ready has live settled ran =
-    let u = (runs_as make_text [] old new lease_schema has Nothing make_again again_plain count ran).0 in
-    (record {
-      is_open = u.0.is_open;
-      ready = u.0.mode ∙ ready;
-      schema = ap (λ (d : Database). d.schema) u.0.now_is ∙ has;
-      sound = subst (λ (d : Database). IsSound lease_schema d.trees) (sym u.0.now_is) (subst (λ s. IsSound s old.now.trees) has (live u.0.was_open).0);
-      settled = u.0.committed_is ∙ sym (settled u.0.was_open) ∙ sym u.0.now_is;
-    }, u)
+    let u = (runs_as make_text [] old new lease_schema has Nothing make_again again_plain count ran).0 in (
+      record {
+        is_open = u.0.is_open;
+        ready = u.0.mode ∙ ready;
+        schema = ap (λ (d : Database). d.schema) u.0.now_is ∙ has;
+        sound = subst (λ (d : Database). IsSound lease_schema d.trees) (sym u.0.now_is) (subst (λ s. IsSound s old.now.trees) has (live u.0.was_open).0);
+        settled = u.0.committed_is ∙ sym (settled u.0.was_open) ∙ sym u.0.now_is;
+      },
+      u,
+    )
 
 -- a connection whose trees hold a table has our schema
 pub ours : (s : State) (table : List Row) → IsLive s → IsTrue s.is_open → Holds s.now.trees table → s.now.schema ≡ lease_schema
@@ -97,7 +97,7 @@ make_commits old table db live (inl none) h =
     elim may [
       | inl other ↦ absurd (elim other.0 [ inl commits ↦ (let e = commits in cc) | inr releases ↦ (let e = releases.2 in cc) ])
       | inr w ↦ let made = made_of old w.2 (text_of make_text h.0) w.1 (ap (statement_of make_text) known ∙ make_is.1) none.0 w.3 in
-      subst (λ t. Holds db t) (sym none.1) (subst (λ trees. Holds trees []) (sym w.5) (subst (λ k. IsSound k w.2.trees) made.0 w.4, lists_none w.2.trees made.1))
+          subst (λ t. Holds db t) (sym none.1) (subst (λ trees. Holds trees []) (sym w.5) (subst (λ k. IsSound k w.2.trees) made.0 w.4, lists_none w.2.trees made.1))
     ]
 make_commits old table db live (inr there) h =
     let known = sym h.1.is ∙ ap (λ x. understood x make_text) (ours old table live there.0 there.1) in

@@ -1,15 +1,14 @@
 -- What the statement that sets a row does to the trees.
-use Rattle.std.proofs.Common.{◌≡◌, ◌⊎◌, inl, inr, ℕ, ◌+◌, ◌<◌, zero, suc, ℤ, pos, Bool, true, false, not, cond, List, [], ◌∷◌, ◌++◌, map, length, ◌&&◌, ◌||◌, drop, refl, sym, ap, ap₂, subst, subst₂, ◌∙◌, arith, if◌then◌else◌, ◌==◌, Some, None, Option, Ok, Err, Result, true≢false}
-use Rattle.std.specs.Prelude.{IsPermutation, filter, flat_map}
-use Rattle.std.specs.List.{AllByRecursion, list_any, list_all}
+use Rattle.std.proofs.Common.{◌≡◌, ◌⊎◌, inl, inr, ℕ, ℤ, pos, Bool, true, false, not, cond, List, [], ◌∷◌, ◌++◌, map, length, ◌&&◌, ◌||◌, drop, refl, sym, ap, ap₂, subst, subst₂, ◌∙◌, arith, ◌==◌, Some, None, Option, Ok, Err, Result, true≢false}
+use Rattle.std.specs.Prelude.{flat_map}
+use Rattle.std.specs.List.{AllByRecursion, list_any}
 use Rattle.std.specs.Ordering.{is_eq}
-use Rattle.std.proofs.lemmas.Bool.{eqb-true, cases_Bool}
 use Rattle.std.proofs.lemmas.Bool.Decides.{nat_tests}
 use Rattle.std.proofs.lemmas.List.{length-map}
 use Rattle.std.proofs.lemmas.List.Sorted.{length_permutation, list_any-IsPermutation}
 use Rattle.sqlite_value.specs.declared.value.Value.{Value}
 use Rattle.sqlite_value.specs.declared.value.Value.TheVariants.{Null, Int, Blob as Bytes}
-use Rattle.sqlite_value.specs.Order.{Row as Columns, column, value_cmp}
+use Rattle.sqlite_value.specs.Order.{Row as Columns, value_cmp}
 use Rattle.sqlite_value.specs.Keys.{first_key}
 use Rattle.sqlite_sql.specs.Ops.{unary, binary, is_true, from_truth}
 use Rattle.sqlite_sql.specs.declared.ops.BinaryOp.TheVariants.{Compare}
@@ -18,7 +17,7 @@ use Rattle.sqlite.specs.Collation.TheVariants.{Binary}
 use Rattle.sqlite.specs.Kind.TheVariants.{Integer}
 use Rattle.sqlite.specs.Cast.{cast, cast_row}
 use Rattle.sqlite_trees.specs.Tree.{Trees, rowid, has_rowid, put_row, without_rowid}
-use Rattle.sqlite_trees.proofs.ListLemmas.{all_of, all_weaker, all_from_map, all-map, all-permutation, all-flat_map, filter_all}
+use Rattle.sqlite_trees.proofs.ListLemmas.{all_of, all_weaker, all_from_map, all-map, all-permutation, all-flat_map}
 use Rattle.sqlite_rules.specs.Lists.{Has}
 use Rattle.sqlite_rules.specs.Keys.{AreConflicts, conflicts}
 use Rattle.sqlite_rules.specs.Calls.{ids_of}
@@ -26,7 +25,7 @@ use Rattle.sqlite_rules.specs.Edit.{Edit, edit_of, with_rowid, is_taken, are_fre
 use Rattle.sqlite_schema.specs.declared.schema.Keys.TheVariants.{Enforced}
 use Rattle.sqlite.specs.Rowids.TheVariants.{Given, Chosen}
 use Rattle.sqlite.specs.Effect.{Database}
-use Rattle.sqlite.specs.Query.{IsAnswer, IsAnswerAs, Output, output}
+use Rattle.sqlite.specs.Query.{IsAnswer, Output, output}
 use Rattle.sqlite.specs.Term.{Env}
 use Rattle.sqlite.specs.Program.{overlay}
 use Rattle.sqlite.specs.Rows.{Then, TriesEach, count_of, higher, joined, nothing, shown as shown_of, Task, Written, Puts, Clears, Resolves, Meets, Upserts, Judged, Tries}
@@ -145,9 +144,10 @@ updates_to row db rows keys a =
     let all : AllByRecursion (λ env. output update env ≡ made_of row) a.staged = subst (AllByRecursion (λ env. output update env ≡ made_of row)) (sym staged) (all-flat_map _ (steps row) (db 0) (all_weaker IsKeyed _ (each_is row) (db 0) keys)) in
     let kept : AllByRecursion (λ o. o ≡ made_of row) a.kept = subst (AllByRecursion (λ o. o ≡ made_of row)) (sym a.distinct) (all-map _ (output update) a.staged all) in
     let ordered = all-permutation (λ o. o ≡ made_of row) _ _ a.same kept in
-    let shows : rows ≡ map (λ (o : Output). o.1) a.ordered = a.shown in
-    (subst (AllByRecursion (λ x. x ≡ Int (pos row.address) ∷ stored row)) (sym shows) (all-map _ (λ (o : Output). o.1) a.ordered (all_weaker _ (λ (o : Output). o.1 ≡ Int (pos row.address) ∷ stored row) (λ o e. ap (λ (o : Output). o.1) e) a.ordered ordered)),
-    ap length shows ∙ length-map a.ordered (λ (o : Output). o.1) ∙ length_permutation _ _ a.same ∙ ap length a.distinct ∙ length-map a.staged (output update) ∙ ap length staged)
+    let shows : rows ≡ map (λ (o : Output). o.1) a.ordered = a.shown in (
+      subst (AllByRecursion (λ x. x ≡ Int (pos row.address) ∷ stored row)) (sym shows) (all-map _ (λ (o : Output). o.1) a.ordered (all_weaker _ (λ (o : Output). o.1 ≡ Int (pos row.address) ∷ stored row) (λ o e. ap (λ (o : Output). o.1) e) a.ordered ordered)),
+      ap length shows ∙ length-map a.ordered (λ (o : Output). o.1) ∙ length_permutation _ _ a.same ∙ ap length a.distinct ∙ length-map a.staged (output update) ∙ ap length staged,
+    )
 
 -- ---- the rows that the statement writes
 

@@ -1,10 +1,8 @@
 -- What a connection finds that is opened on what a crash left.
-use Rattle.std.proofs.Common.{◌≡◌, ◌⊎◌, inl, inr, ℕ, Bool, true, false, ◌&&◌, ◌==◌, List, [], ◌∷◌, length, IsTrue, refl, sym, ap, ap₂, subst, ◌∙◌, true≢false, arith}
+use Rattle.std.proofs.Common.{◌≡◌, ◌⊎◌, inl, inr, ℕ, Bool, true, false, ◌&&◌, ◌==◌, List, [], ◌∷◌, length, refl, sym, ap, ap₂, subst, ◌∙◌, true≢false, arith}
 use Rattle.std.proofs.Math.Logic.{∥∥₁_elim, ∥∥₁_map, ⊎_elim}
-use Rattle.std.proofs.lemmas.Bool.{cases_Bool}
 use Rattle.std.proofs.lemmas.Bool.Decides.{nat_tests}
 use Rattle.sqlite_disk.specs.declared.Disk.{Ghosts}
-use Rattle.sqlite_trees.specs.Tree.{Trees}
 use Rattle.sqlite_catalog.proofs.ReadLemmas.{lists_once}
 use Rattle.sqlite_schema.specs.declared.schema.Schema.{Schema}
 use Rattle.sqlite.specs.Effect.{Database}
@@ -13,7 +11,7 @@ use Rattle.sqlite.proofs.Theorems.{next_run}
 use Rattle.kd_rows.specs.declared.row.Row.{Row}
 use Rattle.kd_rows.specs.Row.{state_number}
 use Rattle.kd_store.specs.Lease.{lease_schema, no_schema}
-use Rattle.kd_store.specs.Stands.{Lists, Holds, Finds}
+use Rattle.kd_store.specs.Stands.{Holds, Finds}
 use Rattle.kd_store.specs.Laws.{Reopens}
 use Rattle.kd_store.proofs.Tables.{one_table, state_once}
 
@@ -83,6 +81,7 @@ one_of : (found before after : List Row) → ∥ (found ≡ before) ⊎ (found �
 one_of found before after some = by (same_rows found before) refl (same_rows found after) refl where
   other : (table : List Row) → same_rows found table ≡ false → found ≡ table → ⊥
   other table differs is = true≢false (sym (ap (same_rows found) (sym is) ∙ rows_same found) ∙ differs)
+
   by : (b : Bool) → same_rows found before ≡ b → (c : Bool) → same_rows found after ≡ c → (found ≡ before) ⊎ (found ≡ after)
   by true is c e = inl (rows_are found before is)
   by false differs true is = inr (rows_are found after is)

@@ -1,27 +1,22 @@
 -- What a call leaves of a connection that stands at a table.
-use Rattle.std.proofs.Common.{◌≡◌, ◌⊎◌, inl, inr, ℕ, Bool, true, false, List, [], ◌∷◌, map, Some, None, Option, Ok, Err, Result, OnOk, IsTrue, refl, sym, ap, subst, subst₂, ◌∙◌, append-nil, cond}
-use Rattle.std.specs.Prelude.{IsPermutation}
+use Rattle.std.proofs.Common.{◌≡◌, ◌⊎◌, inl, inr, ℕ, false, List, Some, None, Option, Ok, Err, Result, OnOk, IsTrue, sym, ap, subst, ◌∙◌, append-nil}
 use Rattle.std.proofs.lemmas.Bool.{cases_Bool}
 use Rattle.sqlite_value.specs.Order.{Row as Columns}
 use Rattle.sqlite_trees.specs.Tree.{Trees}
 use Rattle.sqlite_catalog.specs.Listing.{IsSound}
-use Rattle.sqlite_schema.specs.declared.schema.Schema.{Schema}
 use Rattle.sqlite_schema.specs.declared.command.Returning.{Returning}
 use Rattle.sqlite_resolve.specs.declared.compiled.Compiled.{Compiled}
 use Rattle.sqlite.specs.declared.error.Error.{Error}
 use Rattle.sqlite.specs.Effect.{Database}
 use Rattle.sqlite.specs.Clock.{timed}
-use Rattle.sqlite.specs.Source.TheVariants.{Values}
-use Rattle.sqlite.specs.Command.TheVariants.{InsertOr}
-use Rattle.sqlite_schema.specs.declared.command.Conflict.TheVariants.{Abort}
 use Rattle.sqlite.specs.Listing.{understood}
 use Rattle.sqlite.specs.State.{State, HasCleanDisk, IsUnchanged, IsRolledBack, Survives, IsNotRun, ExecutesIn, Executes, CommitsBy, MayCommit, text_of, shows_rows, RunsCommand, FailsToQuery, FailsToShow, Shown, ShowsRows}
 use Rattle.sqlite.proofs.Callers.{IsPlain, command_of, statement_of, runs_as}
 use Rattle.kd_rows.specs.declared.row.Row.{Row}
 use Rattle.kd_rows.specs.Table.{with_row}
-use Rattle.kd_store.specs.Lease.{lease_schema, put_text, rows_text, columns_of}
-use Rattle.kd_store.specs.Stands.{Lists, Holds, Stands, Leaves}
-use Rattle.kd_store.proofs.Texts.{terms, clause, put_is, put_plain}
+use Rattle.kd_store.specs.Lease.{lease_schema, put_text, columns_of}
+use Rattle.kd_store.specs.Stands.{Holds, Stands, Leaves}
+use Rattle.kd_store.proofs.Texts.{put_is, put_plain}
 use Rattle.kd_store.proofs.Puts.{does}
 
 -- while it is open a crash leaves what is committed
@@ -125,7 +120,7 @@ put_commits old row table db s h =
     elim may [
       | inl other ↦ absurd (elim other.0 [ inl commits ↦ (let e = commits in cc) | inr releases ↦ (let e = releases.2 in cc) ])
       | inr w ↦ let made = does old.step_limit row old.now w.2 (text_of put_text h.0) w.1 table s.schema s.holds.1 w.3 in
-      subst (λ trees. Holds trees (with_row row table)) (sym w.5) (subst (λ k. IsSound k w.2.trees) made.0 w.4, made.1)
+          subst (λ trees. Holds trees (with_row row table)) (sym w.5) (subst (λ k. IsSound k w.2.trees) made.0 w.4, made.1)
     ]
 
 pub put_leaves : (old new : State) (row : Row) (table : List Row) → Settles old → HasCleanDisk new → Stands old table → Survives old new (CommitsBy put_text (columns_of row) old) → Leaves new table (with_row row table)

@@ -1,16 +1,16 @@
 -- Lists of rows in rising address, and the columns by which they are stored.
-use Rattle.std.proofs.Common.{◌≡◌, ℕ, ◌+◌, ◌<◌, ◌≤◌, pos, Bool, true, false, not, List, [], ◌∷◌, ◌++◌, map, refl, sym, ap, ap₂, subst, subst₂, length, ◌∙◌, arith, if◌then◌else◌, ◌==◌, nat_lt, IsTrue, Ordering, Less, Equal, Greater, nat_cmp, int_cmp, true≢false}
+use Rattle.std.proofs.Common.{◌≡◌, ℕ, ◌+◌, ◌<◌, ◌≤◌, pos, Bool, true, false, not, List, [], ◌∷◌, ◌++◌, map, refl, sym, ap, ap₂, subst, subst₂, ◌∙◌, arith, if◌then◌else◌, ◌==◌, nat_lt, Ordering, Less, Equal, Greater, nat_cmp, true≢false}
 use Rattle.std.specs.Prelude.{IsPermutation, filter}
-use Rattle.std.specs.List.{AllByRecursion, list_any}
-use Rattle.std.specs.Ordering.{is_eq, is_lt, match_ordering}
+use Rattle.std.specs.List.{AllByRecursion}
+use Rattle.std.specs.Ordering.{is_eq, match_ordering}
 use Rattle.std.proofs.lemmas.Bool.{eqb-true}
 use Rattle.std.proofs.lemmas.Bool.Decides.{nat_tests}
 use Rattle.std.proofs.lemmas.List.Sorted.{IsPermutation-refl, IsPermutation-trans, IsPermutation-sym, IsPermutation-cons, IsPermutation-map, IsPermutation-middle, length_permutation}
 use Rattle.sqlite_value.specs.declared.value.Value.TheVariants.{Null, Int, Blob as Bytes}
 use Rattle.sqlite_value.specs.Order.{Row as Columns, value_cmp}
 use Rattle.sqlite_value.proofs.OrderLemmas.{value_cmp-Int}
-use Rattle.sqlite_trees.specs.Tree.{Trees, rowid, has_rowid, put_row, without_rowid, IsAscending}
-use Rattle.sqlite_trees.proofs.ListLemmas.{filter-map, filter_all, IsPermutation-filter, all-permutation, all_from_map, all-map, all_weaker, all-append}
+use Rattle.sqlite_trees.specs.Tree.{Trees, rowid, has_rowid, put_row, without_rowid}
+use Rattle.sqlite_trees.proofs.ListLemmas.{filter-map, IsPermutation-filter, all_weaker, all-append}
 use Rattle.sqlite_rules.specs.Edit.{is_taken}
 use Rattle.sqlite.proofs.Callers.{one_permutation}
 use Rattle.kd_rows.specs.declared.row.Row.{Row}
@@ -182,6 +182,7 @@ rise_from_push n (y ∷ rows) row rise le below = (rise.0, rise_from_push (y.add
 
 pub rise_push : (rows : List Row) (row : Row) (least : ℕ) → Rise rows → AllByRecursion (λ y. y.address < least) rows → least ≤ row.address
     → Rise (rows ++ row ∷ []) × AllByRecursion (λ y. y.address < row.address + 1) (rows ++ row ∷ [])
-rise_push rows row least rise below le =
-    (rise_from_push 0 rows row rise (omega arith) (all_weaker _ (λ y. y.address < row.address) (λ y lt. omega (arith, lt, le)) rows below),
-    all-append _ rows (row ∷ []) (all_weaker _ (λ y. y.address < row.address + 1) (λ y lt. omega (arith, lt, le)) rows below) (omega arith, tt))
+rise_push rows row least rise below le = (
+  rise_from_push 0 rows row rise (omega arith) (all_weaker _ (λ y. y.address < row.address) (λ y lt. omega (arith, lt, le)) rows below),
+  all-append _ rows (row ∷ []) (all_weaker _ (λ y. y.address < row.address + 1) (λ y lt. omega (arith, lt, le)) rows below) (omega arith, tt),
+)

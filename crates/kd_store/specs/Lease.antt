@@ -1,5 +1,5 @@
 -- The table of leases in SQL: the texts of the statements, the schema, and the columns of a row.
-use Rattle.std.specs.Prelude.{◌≡◌, ◌⊎◌, ℕ, pos, true, false, List, [], ◌∷◌, map, codes, Some, Result, Ok, Err}
+use Rattle.std.specs.Prelude.{ℕ, pos, true, false, List, [], ◌∷◌, codes, Some, Result, Ok, Err}
 use Rattle.sqlite.specs.declared.types.Value.TheVariants.{Null, Int, Blob as Bytes}
 use Rattle.sqlite.specs.Order.{Row as Columns}
 use Rattle.sqlite.specs.Collation.TheVariants.{Binary}

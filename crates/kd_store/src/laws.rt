@@ -20,11 +20,7 @@ use sqlite_disk::Disk;
 /// # Errors
 ///
 /// Those of `put`, of the first or the second row.
-pub fn put_both<S: Alter>(
-    store: &mut Store<S>,
-    first: &Row,
-    second: &Row,
-) -> Result<(), StoreFault>
+pub fn put_both<S: Alter>(store: &mut Store<S>, first: &Row, second: &Row) -> Result<(), StoreFault>
     requires ready { store.old.failed ≡ false }
     requires first { IsInRange first.now }
     requires second { IsInRange second.now }

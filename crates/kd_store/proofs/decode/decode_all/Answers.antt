@@ -19,7 +19,7 @@ loop-columns-preserved c =
     let more = take_more c.args.shown.now c.loop-columns.columns-index item (omega arith) in
     let up = rise_push c.loop-columns.rows.items c.in_ok-row.row c.loop-columns.least was.1 was.2 (omega (arith, c.from-address.ensures, c.if-address-least.false)) in (
       ap (map columns_of) items ∙ map_push columns_of c.loop-columns.rows.items c.in_ok-row.row ∙ ap₂ (λ (a : List Columns) (b : Columns). a ++ b ∷ []) was.0 at
-      ∙ sym (map_push first_five (take c.loop-columns.columns-index c.args.shown.now) (get_or c.args.shown.now c.loop-columns.columns-index item)) ∙ ap (map first_five) (sym more),
+          ∙ sym (map_push first_five (take c.loop-columns.columns-index c.args.shown.now) (get_or c.args.shown.now c.loop-columns.columns-index item)) ∙ ap (map first_five) (sym more),
       subst Rise (sym items) up.0,
       rw (items, c.from-address.ensures) up.1,
       subst (All IsInRange) (sym items) (All-push IsInRange c.loop-columns.rows.items c.in_ok-row.row was.3 c.in_ok-row.ensures.range),

@@ -1,7 +1,6 @@
-use Rattle.std.proofs.Common.{[], refl}
+use Rattle.std.proofs.Common.{refl}
 use Rattle.sqlite.specs.Held.{state}
-use Rattle.sqlite.specs.State.{IsLive}
-use Rattle.kd_store.proofs.Making.{IsSettled, makes, again, makes_found, fails_found, make_leaves}
+use Rattle.kd_store.proofs.Making.{makes, again, makes_found, fails_found, make_leaves}
 use Rattle.kd_store.proofs.statement.make.Goals as goal
 
 pub returns-in-Ok-clause-made : goal.returns-in-Ok-clause-made

@@ -1,4 +1,4 @@
-use Rattle.std.proofs.Common.{◌≡◌, inl, inr, [], refl, arith}
+use Rattle.std.proofs.Common.{inl, inr, [], refl, arith}
 use Rattle.std.proofs.Math.Logic.{⊎_elim}
 use Rattle.sqlite.specs.Held.{state}
 use Rattle.sqlite.specs.State.{HasCleanDisk}
@@ -21,7 +21,7 @@ returns-clause-stands g c = elim c.match-read.branch [
       elim has [
         | inl none ↦ ([], inl (none, refl), (w.in-Ok.ensures.rows clean [] (c.in_default.ensures.made mid none)).1)
         | inr ours ↦ let it = c.in_default.ensures.same mid ours in
-        opened (state g.S.Store c.args.conn) (state g.S.Store c.make.new.conn) (state g.S.Store c.read.new.conn) _ it.1 (w.in-Ok.ensures.found clean it.0)
+            opened (state g.S.Store c.args.conn) (state g.S.Store c.make.new.conn) (state g.S.Store c.read.new.conn) _ it.1 (w.in-Ok.ensures.found clean it.0)
       ])
   | in-Err-read w ↦ rw w.result-is tt
 ]
