@@ -14,7 +14,7 @@ use Rattle.sqlite.specs.State.{State, HasCleanDisk, IsLive, IsUnchanged, Survive
 use Rattle.sqlite.proofs.Callers.{IsPlain, command_of, statement_of, runs_as}
 use Rattle.kd_rows.specs.declared.row.Row.{Row}
 use Rattle.kd_store.specs.Lease.{lease, lease_schema, no_schema, make_text}
-use Rattle.kd_store.specs.Stands.{shown, Lists, Holds, Stands, Finds}
+use Rattle.kd_store.specs.Stands.{columns_in, Lists, Holds, Stands, Finds}
 use Rattle.kd_store.specs.Statement.{IsReady}
 use Rattle.kd_store.proofs.Texts.{make_is, make_again, make_plain, again_plain}
 use Rattle.kd_store.proofs.Puts.{went, same_value}
@@ -35,7 +35,7 @@ made_of old after text tally same has does =
     (ap (λ (d : Database). d.schema) now ∙ schema, ap (λ (d : Database). d.trees 0) now ∙ subst (λ s. first.0.trees (next_tree s) ≡ []) has made.empty)
 
 lists_none : (trees : Trees) → trees 0 ≡ [] → Lists trees []
-lists_none trees none = record { rise = tt; same = subst (λ l. IsPermutation [] (map shown l)) (sym none) (IsPermutation-refl []) }
+lists_none trees none = record { rise = tt; same = subst (λ l. IsPermutation [] (map columns_in l)) (sym none) (IsPermutation-refl []) }
 
 pub makes : (old new : State) (count : ℕ) → old.in_transaction ≡ false → old.now.schema ≡ no_schema → Executes make_text [] old new (Ok count) → Stands new []
 makes old new count ready has ran =

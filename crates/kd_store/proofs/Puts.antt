@@ -39,7 +39,7 @@ use Rattle.kd_rows.specs.declared.row.Row.{Row}
 use Rattle.kd_rows.specs.Row.{state_number}
 use Rattle.kd_rows.specs.Table.{with_row}
 use Rattle.kd_store.specs.Lease.{lease, lease_schema, columns_of}
-use Rattle.kd_store.specs.Stands.{shown, Lists}
+use Rattle.kd_store.specs.Stands.{columns_in, Lists}
 use Rattle.kd_store.proofs.Texts.{terms, update, updates, clause}
 use Rattle.kd_store.proofs.Tables.{stored, lists_put, one_more, number_of}
 
@@ -81,7 +81,7 @@ IsKeyed r = (n : ℕ) × (rowid r ≡ Int (pos n))
 pub keyed : (trees : Trees) (table : List Row) → Lists trees table → AllByRecursion IsKeyed (trees 0)
 keyed trees table h =
     let first : AllByRecursion IsKeyed (map columns_of table) = all-map IsKeyed columns_of table (all_of _ (λ row. (row.address, refl)) table) in
-    all_from_map IsKeyed shown (trees 0) (all-permutation IsKeyed _ _ h.same first)
+    all_from_map IsKeyed columns_in (trees 0) (all-permutation IsKeyed _ _ h.same first)
 
 all_has : {X : Type 0} (P : X → Type 0) (xs : List X) (x : X) → AllByRecursion P xs → Has xs x → P x
 all_has P [] x all h = absurd h

@@ -15,34 +15,34 @@ use Rattle.sqlite.proofs.Callers.{IsPlain, reads_as, never_commits}
 use Rattle.kd_rows.specs.declared.row.Row.{Row}
 use Rattle.kd_rows.specs.Table.{Rise}
 use Rattle.kd_store.specs.Lease.{lease_schema, rows_text, columns_of}
-use Rattle.kd_store.specs.Stands.{shown, Lists, Stands, Leaves}
+use Rattle.kd_store.specs.Stands.{columns_in, Lists, Stands, Leaves}
 use Rattle.kd_store.specs.Statement.{first_five, IsReady}
 use Rattle.kd_store.proofs.Texts.{select, selects, names, rows_is, rows_plain, rows_unlisted}
 use Rattle.kd_store.proofs.Tables.{one_table}
 use Rattle.kd_store.proofs.States.{Settles, left_of, after_query, stands_same}
 
 -- each row is shown once
-all_shown : (rows : List Columns) → map (λ (o : Output). o.1) (map (output select) (flat_map (λ (r : Columns). let env : Env = [] ∷ r ∷ [] in env ∷ []) rows)) ≡ map shown rows
+all_shown : (rows : List Columns) → map (λ (o : Output). o.1) (map (output select) (flat_map (λ (r : Columns). let env : Env = [] ∷ r ∷ [] in env ∷ []) rows)) ≡ map columns_in rows
 all_shown [] = refl
-all_shown (r ∷ rows) = ap (λ l. shown r ∷ l) (all_shown rows)
+all_shown (r ∷ rows) = ap (λ l. columns_in r ∷ l) (all_shown rows)
 
-five_of_shown : (rows : List Columns) → map first_five (map shown rows) ≡ map shown rows
+five_of_shown : (rows : List Columns) → map first_five (map columns_in rows) ≡ map columns_in rows
 five_of_shown [] = refl
-five_of_shown (r ∷ rows) = ap (λ l. shown r ∷ l) (five_of_shown rows)
+five_of_shown (r ∷ rows) = ap (λ l. columns_in r ∷ l) (five_of_shown rows)
 
-pub read_shows : (db : Database) (rows : List Columns) → Reads (Select selects names) db [] rows → IsPermutation (map shown (db.trees 0)) rows
+pub read_shows : (db : Database) (rows : List Columns) → Reads (Select selects names) db [] rows → IsPermutation (map columns_in (db.trees 0)) rows
 read_shows db rows reads =
     let a : IsAnswer select (overlay db.trees []) [] rows = reads.answer Null in
     let same = IsPermutation-map (λ (o : Output). o.1) _ _ a.same in
-    let kept : map (λ (o : Output). o.1) a.kept ≡ map shown (db.trees 0) = ap (map (λ (o : Output). o.1)) (a.distinct ∙ ap (map (output select)) a.grouped) ∙ all_shown (db.trees 0) in
-    subst (IsPermutation (map shown (db.trees 0))) (sym a.shown) (subst (λ l. IsPermutation l (map (λ (o : Output). o.1) a.ordered)) kept same)
+    let kept : map (λ (o : Output). o.1) a.kept ≡ map columns_in (db.trees 0) = ap (map (λ (o : Output). o.1)) (a.distinct ∙ ap (map (output select)) a.grouped) ∙ all_shown (db.trees 0) in
+    subst (IsPermutation (map columns_in (db.trees 0))) (sym a.shown) (subst (λ l. IsPermutation l (map (λ (o : Output). o.1) a.ordered)) kept same)
 
 -- rows that are read from the trees, and rise, are what the trees list
 pub lists_read : (db : Database) (found : List Columns) (rows : List Row) → Reads (Select selects names) db [] found → map columns_of rows ≡ map first_five found → Rise rows → Lists db.trees rows
 lists_read db found rows reads are rise = record {
   rise = rise;
   same =
-      subst (λ l. IsPermutation l (map shown (db.trees 0))) (sym are)
+      subst (λ l. IsPermutation l (map columns_in (db.trees 0))) (sym are)
       (subst (IsPermutation (map first_five found)) (five_of_shown (db.trees 0)) (IsPermutation-sym _ _ (IsPermutation-map first_five _ _ (read_shows db found reads))));
 }
 

@@ -19,7 +19,7 @@ use Rattle.kd_rows.specs.declared.row.State.TheVariants.{Offered, Bound, Release
 use Rattle.kd_rows.specs.Row.{state_number}
 use Rattle.kd_rows.specs.Table.{Rise, RiseFrom, with_row}
 use Rattle.kd_store.specs.Lease.{columns_of}
-use Rattle.kd_store.specs.Stands.{shown, Lists}
+use Rattle.kd_store.specs.Stands.{columns_in, Lists}
 
 -- two heads change places
 swapped : {X : Type 0} (x y : X) (xs : List X) → IsPermutation (x ∷ y ∷ xs) (y ∷ x ∷ xs)
@@ -85,8 +85,8 @@ one_more new (r ∷ rows) free = by (value_cmp (rowid r) (rowid new)) refl (one_
   by Greater is rest = IsPermutation-refl _
 
 -- the rowid is shown first
-shown_without : (a : ℕ) (rows : List Columns) → map shown (without_rowid (pos a) rows) ≡ without_rowid (pos a) (map shown rows)
-shown_without a rows = sym (filter-map (λ r. not (has_rowid (pos a) r)) shown rows)
+shown_without : (a : ℕ) (rows : List Columns) → map columns_in (without_rowid (pos a) rows) ≡ without_rowid (pos a) (map columns_in rows)
+shown_without a rows = sym (filter-map (λ r. not (has_rowid (pos a) r)) columns_in rows)
 
 -- where no row has its rowid a row is put among those of other rowids, the trees list the table with it
 pub lists_put : (old new : Trees) (row : Row) (table : List Row) (rest : List Columns) → Lists old table → rest ≡ without_rowid (pos row.address) (old 0) → is_taken rest (stored row) ≡ false → new 0 ≡ put_row (stored row) rest → Lists new (with_row row table)
@@ -94,9 +94,9 @@ lists_put old new row table rest h left free is = record {
   rise = rise_from-with_row row 0 table (omega arith) h.rise;
   same =
       let kept = IsPermutation-filter (λ r. not (has_rowid (pos row.address) r)) _ _ h.same in
-      let now : IsPermutation (map shown (new 0)) (columns_of row ∷ without_rowid (pos row.address) (map shown (old 0))) =
-      subst (λ l. IsPermutation (map shown (new 0)) (columns_of row ∷ l)) (ap (map shown) left ∙ shown_without row.address (old 0))
-      (subst (λ l. IsPermutation (map shown l) (columns_of row ∷ map shown rest)) (sym is) (IsPermutation-map shown _ _ (one_more (stored row) rest free))) in
+      let now : IsPermutation (map columns_in (new 0)) (columns_of row ∷ without_rowid (pos row.address) (map columns_in (old 0))) =
+      subst (λ l. IsPermutation (map columns_in (new 0)) (columns_of row ∷ l)) (ap (map columns_in) left ∙ shown_without row.address (old 0))
+      (subst (λ l. IsPermutation (map columns_in l) (columns_of row ∷ map columns_in rest)) (sym is) (IsPermutation-map columns_in _ _ (one_more (stored row) rest free))) in
       IsPermutation-trans _ _ _ (set_of row 0 table h.rise) (IsPermutation-trans _ _ _ (IsPermutation-cons (columns_of row) _ _ kept) (IsPermutation-sym _ _ now));
 }
 

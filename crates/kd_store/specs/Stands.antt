@@ -9,13 +9,13 @@ use Rattle.kd_rows.specs.Table.{Rise}
 use Rattle.kd_store.specs.Lease.{lease_schema, no_schema, columns_of}
 
 -- the columns of a stored row: its address, by which it is kept, and those after the key's own place
-abbrev pub shown : Columns → Columns
-shown stored = column stored 0 ∷ column stored 2 ∷ column stored 3 ∷ column stored 4 ∷ column stored 5 ∷ []
+abbrev pub columns_in : Columns → Columns
+columns_in stored = column stored 0 ∷ column stored 2 ∷ column stored 3 ∷ column stored 4 ∷ column stored 5 ∷ []
 
 -- the trees list the rows of a table: the rows rise, and what is stored are their columns, in some order
 pub record Lists (trees : Trees) (table : List Row) : Type 0 where
   pub rise : Rise table
-  pub same : IsPermutation (map columns_of table) (map shown (trees 0))
+  pub same : IsPermutation (map columns_of table) (map columns_in (trees 0))
 
 -- the trees are a database with our schema, and list the rows of this table
 abbrev pub Holds : Trees → List Row → Type 0
