@@ -18,3 +18,6 @@ returns-in-Err-clause-fault g c clean table h =
 pub returns-in-Err-clause-crash : goal.returns-in-Err-clause-crash
 returns-in-Err-clause-crash g c clean table h =
     put_leaves (state g.S.Store c.args.conn.now) (state g.S.Store c.execute_put.new.conn) c.args.row.now table (g.met.S.Store.settled c.args.conn.now.store) clean h c.execute_put.ensures.survives
+
+pub returns-in-Err-clause-told : goal.returns-in-Err-clause-told
+returns-in-Err-clause-told g c clean = (c.in-Err.error, c.fault_of.ensures, c.in-Err.ensures.runs clean)

@@ -1,4 +1,4 @@
-use Rattle.std.proofs.Common.{[]}
+use Rattle.std.proofs.Common.{[], inr}
 use Rattle.sqlite.specs.Held.{state}
 use Rattle.kd_store.proofs.Reading.{finds_table, reads_table, stands_on_err, read_leaves}
 use Rattle.kd_store.proofs.States.{after_query_error, stands_rests}
@@ -29,3 +29,6 @@ returns-in-Err-clause-fault g c clean table h =
 pub returns-in-Err-clause-crash : goal.returns-in-Err-clause-crash
 returns-in-Err-clause-crash g c clean table h =
     read_leaves (state g.S.Store c.args.conn.now) (state g.S.Store c.query_all.new.self) table (g.met.S.Store.settled c.args.conn.now.store) clean h c.query_all.ensures.survives
+
+pub returns-in-Err-clause-told : goal.returns-in-Err-clause-told
+returns-in-Err-clause-told g c clean = inr (c.in-Err.error, c.fault_of.ensures, c.in-Err.ensures.err clean)
