@@ -4,6 +4,8 @@ use Rattle.std.proofs.Math.Logic.{∥∥₁_elim, ∥∥₁_map, ⊎_elim}
 use Rattle.std.proofs.lemmas.Bool.Decides.{nat_tests}
 use Rattle.sqlite_disk.specs.declared.Disk.{Ghosts}
 use Rattle.sqlite_catalog.proofs.ReadLemmas.{lists_once}
+use Rattle.std.specs.Coded.{Coded-set}
+use Rattle.sqlite_schema.specs.contracts.schema.Schema as schema
 use Rattle.sqlite_schema.specs.declared.schema.Schema.{Schema}
 use Rattle.sqlite.specs.Effect.{Database}
 use Rattle.sqlite.specs.State.{State, IsLive, Opens}
@@ -87,6 +89,14 @@ one_of found before after some = by (same_rows found before) refl (same_rows fou
   by false differs true is = inr (rows_are found after is)
   by false differs false too = absurd (∥∥₁_elim some (λ a b. absurd a) (λ one. ⊎_elim (other before differs) (other after too) one))
 
+-- what holds a table has our schema
+ours_held : (s : State) (table : List Row) → Opens s → IsLive s → Holds s.committed.trees table → s.now.schema ≡ lease_schema
+ours_held s table opens live h = lists_once _ s.now.schema lease_schema (live opens.is_open).0.lists (subst (λ (d : Database). Holds d.trees table) (sym opens.clean) h).0.lists
+
 pub reopens : {D E : Type 0} (g : Ghosts D) (h : Ghosts E) → Reopens g h
-reopens g h it before after leaves image may opened is finds_in found finds =
-    one_of found before after (∥∥₁_map (next_run it leaves.numbered leaves.sound image may _ finds_in) (λ db. ⊎_elim (λ was. inl (found_held _ found before is.0 is.1 finds was)) (λ now. inr (found_held _ found after is.0 is.1 finds now)) (leaves.one _ db)))
+reopens g h it before after leaves image may opened is finds_in =
+    let left = next_run it leaves.numbered leaves.sound image may _ finds_in in (
+      ∥∥₁_elim left (Coded-set schema.the_row.coded _ _) (λ db. ⊎_elim (ours_held _ before is.0 is.1) (ours_held _ after is.0 is.1) (leaves.one _ db)),
+      λ found finds.
+          one_of found before after (∥∥₁_map left (λ db. ⊎_elim (λ was. inl (found_held _ found before is.0 is.1 finds was)) (λ now. inr (found_held _ found after is.0 is.1 finds now)) (leaves.one _ db))),
+    )

@@ -10,6 +10,7 @@ use Rattle.sqlite.specs.Files.{over_files, file_state, IsOpened}
 use Rattle.sqlite_trees.specs.declared.store.Store as store
 use Rattle.sqlite.specs.Start.{FindsIn}
 use Rattle.kd_rows.specs.declared.row.Row.{Row}
+use Rattle.kd_store.specs.Lease.{lease_schema}
 use Rattle.kd_store.specs.Stands.{Holds, Finds}
 
 -- what a connection has let go of: whatever a crash leaves of it is a database, with one of these two tables
@@ -18,9 +19,9 @@ pub record LetGo {S : Type 0} (g : store.Ghosts S) (it : S) (before after : List
   pub sound : AreDatabases (g.recovers it)
   pub one : (db : Trees) → g.recovers it db → Holds db before ⊎ Holds db after
 
--- a connection opened on what a crash of such a file left finds one of those two tables, and no other
+-- a connection that is opened on what a crash of such a file left has our schema, and the table that it finds is one of those two
 abbrev pub Reopens : {D E : Type 0} → Ghosts D → Ghosts E → Type 0
 Reopens {D} {E} g h =
     (it : FileStore D g) (before after : List Row) → LetGo over_files it before after
     → (image : Image) → (files.state it).may_leave image → (opened : Held (FileStore E h)) → IsOpened opened → FindsIn image (file_state opened)
-    → (found : List Row) → Finds (file_state opened) found → (found ≡ before) ⊎ (found ≡ after)
+    → ((file_state opened).now.schema ≡ lease_schema) × ((found : List Row) → Finds (file_state opened) found → (found ≡ before) ⊎ (found ≡ after))

@@ -62,8 +62,9 @@ pub fn let_go<S: Alter + Drop>(conn: Connection<S>) -> S
     conn.into_store()
 }
 
-/// A connection that is opened on what a crash left of a file finds the table from before the last call
-/// or the one after it, and no other. The function does nothing: its contract is the law.
+/// A connection that is opened on what a crash left of a file has our schema, so that a store stands at
+/// the table that it finds; and that is the table from before the last call or the one after it, and no
+/// other. The function does nothing: its contract is the law.
 pub fn reopens<D: Disk, E: Disk>()
     ensures { Reopens D.Disk E.Disk }
 {}
