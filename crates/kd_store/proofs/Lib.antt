@@ -1,0 +1,7 @@
+pub mod Texts
+pub mod Tables
+pub mod Puts
+pub mod States
+pub mod Reading
+pub mod Making
+pub mod Reopening

@@ -1,0 +1,90 @@
+ghost use Rattle.std.specs.Prelude.{◌≡◌, IfOk, IfErr, map};
+ghost use Rattle.std.specs.List.{All};
+ghost use Rattle.kd_rows.specs.Row.{IsInRange, state_number};
+ghost use Rattle.kd_rows.specs.Table.{Rise};
+ghost use Rattle.kd_store.specs.Lease.{columns_of};
+ghost use Rattle.kd_store.specs.Statement.{IsUnreadable, first_five};
+ghost use Rattle.sqlite.specs.Order.{column};
+
+use crate::fault::{NO_MEMORY, fault_of};
+use kd_keeps::StoreFault;
+use kd_rows::{Row, State};
+use kd_wire::Bytes;
+use sqlite::types::FromSql;
+use std::alloc::Global;
+
+// The value of a column.
+fn column<T: FromSql>(columns: &sqlite::Row, at: usize) -> Result<T, StoreFault>
+    ensures value { IfOk result (λ value. T.FromSql.reads_as (column columns.now at) value) }
+    ensures fault { IfErr result IsUnreadable }
+{
+    match columns.get(at) {
+        Ok(value) => Ok(value),
+        Err(error) => Err(fault_of(error)),
+    }
+}
+
+// The state that a number stands for.
+fn state_of(number: u32) -> Result<State, StoreFault>
+    ensures value { IfOk result (λ state. number ≡ state_number state) }
+    ensures fault { IfErr result IsUnreadable }
+{
+    let known = match u8::try_from(number) {
+        Ok(number) => State::of_number(number),
+        Err(_) => None,
+    };
+    match known {
+        Some(state) => Ok(state),
+        None => Err(StoreFault::Schema),
+    }
+}
+
+// The row that the columns spell, where it is in range.
+fn decode(columns: &sqlite::Row) -> Result<Row, StoreFault>
+    ensures columns { IfOk result (λ row. columns_of row ≡ first_five columns.now) }
+    ensures range { IfOk result IsInRange }
+    ensures fault { IfErr result IsUnreadable }
+{
+    let address: u32 = column(columns, 0)?;
+    let client: Vec<u8> = column(columns, 1)?;
+    let number: u32 = column(columns, 2)?;
+    let changed: u64 = column(columns, 3)?;
+    let ends: u64 = column(columns, 4)?;
+    let row = Row {
+        address,
+        client: Bytes::own(client),
+        state: state_of(number)?,
+        changed,
+        ends,
+    };
+    if row.is_in_range() {
+        Ok(row)
+    } else {
+        Err(StoreFault::Schema)
+    }
+}
+
+// The rows that the columns spell, where they rise in address and are in range.
+pub(crate) fn decode_all(alloc: Global, shown: &[sqlite::Row]) -> Result<Vec<Row>, StoreFault>
+    ensures columns { IfOk result (λ rows. map columns_of rows.items ≡ map first_five shown.now) }
+    ensures rise { IfOk result (λ rows. Rise rows.items) }
+    ensures ranges { IfOk result (λ rows. All IsInRange rows.items) }
+    ensures fault { IfErr result IsUnreadable }
+{
+    let Ok(mut rows) = Vec::with_capacity(alloc, shown.len()) else {
+        return Err(NO_MEMORY);
+    };
+    let mut least: u64 = 0;
+    for columns in shown {
+        let row = decode(columns)?;
+        let address = u64::from(row.address);
+        if address < least {
+            return Err(StoreFault::Schema);
+        }
+        least = address + 1;
+        if rows.push(row).is_err() {
+            return Err(NO_MEMORY);
+        }
+    }
+    Ok(rows)
+}
