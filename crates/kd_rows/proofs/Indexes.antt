@@ -1,14 +1,15 @@
 -- The index after an address is taken or given.
-use Rattle.std.proofs.Common.{◌≡◌, ℕ, ◌+◌, ◌-◌, ◌<◌, ◌≤◌, Bool, true, false, ◌||◌, List, [], ◌∷◌, ◌++◌, length, get_or, take, drop, zero, suc, refl, sym, ap, ◌∙◌, subst, Option, Some, None, is_some, ⊎_elim, arith, if◌then◌else◌, ◌==◌}
+use Rattle.std.proofs.Common.{◌≡◌, ℕ, ◌+◌, ◌-◌, ◌<◌, ◌≤◌, Bool, true, false, ◌||◌, List, [], ◌∷◌, ◌++◌, length, get_or, take, drop, zero, suc, refl, sym, ap, ◌∙◌, subst, Option, Some, None, is_some, ⊎_elim, arith, if◌then◌else◌, ◌==◌, nat_lt, map}
 use Rattle.std.specs.List.{insert, remove}
 use Rattle.std.proofs.lemmas.Bool.{cases_Bool, cases_eq, cases_lt, eqb-true, eq-eqb, ne_eqb, false≢true}
-use Rattle.std.proofs.lemmas.List.{drop_more, get_or-take, length-take, take-append-drop, take_more}
+use Rattle.std.proofs.lemmas.Bool.Decides.{nat_tests}
+use Rattle.std.proofs.lemmas.List.{drop_more, get_or-map, get_or_default, length-map, map_more, take-append-drop}
 use Rattle.std.proofs.lemmas.List.Edits.{get_or-insert_above, get_or-insert_at, get_or-insert_below, get_or-remove_above, get_or-remove_below, length-insert, length-remove}
 use Rattle.kd_rows.specs.declared.row.Row.{Row}
-use Rattle.kd_rows.specs.Index.{Gives, IsBelow, IsIndex, IsKeyPlace, Moves, Rises, Takes, client_at, client_in, lists, key_at}
+use Rattle.kd_rows.specs.Index.{Gives, IsBelow, IsByClient, IsIndex, IsKeyPlace, Moves, Rises, Takes, client_at, client_in, lists, key_at, key_in, row_in}
 use Rattle.kd_rows.specs.Table.{Rise, row_at, with_row}
 use Rattle.kd_rows.proofs.Keys.{Stands, below_from, listed_at, not_below_itself}
-use Rattle.kd_rows.proofs.Places.{is_at, none_at, place_at, same_at}
+use Rattle.kd_rows.proofs.Places.{is_at, same_at}
 use Rattle.kd_rows.proofs.Sets.{row_at-with_row}
 
 join : (g : ℕ → List ℕ × ℕ) (x y u v : ℕ) → u ≡ x → v ≡ y → IsBelow (g x) (g y) → IsBelow (g u) (g v)
@@ -97,7 +98,7 @@ lists-remove_this f xs place rising inside = ⊎_elim (λ h. absurd (twice (list
       (λ l. not_below_itself (f (get_or xs place 0)) (subst (λ (x : ℕ). IsBelow (f (get_or xs place 0)) (f x)) (sym (get_or-remove_above xs place 0 s.place l inside) ∙ s.here) (rising place (s.place + 1) (omega arith) (omega (arith, s.within, length-remove xs place inside)))))
       (cases_lt s.place place)
 
-at_lists : (xs : List ℕ) (i : ℕ) → i < length xs → lists xs (get_or xs i 0) ≡ true
+pub at_lists : (xs : List ℕ) (i : ℕ) → i < length xs → lists xs (get_or xs i 0) ≡ true
 at_lists [] i within = absurd (omega arith)
 at_lists (x ∷ xs) zero within = rw (eq-eqb x x refl) refl
 at_lists (x ∷ xs) (suc i) within = by (x == get_or xs i 0) (at_lists xs i (omega arith)) where
@@ -179,44 +180,82 @@ same_index rows row r old indexed found client = record {
   theirs true a e = sym (ap client_in (subst (λ (x : ℕ). row_at rows x ≡ Some r) (eqb-true row.address a e) found) ∙ client)
   theirs false a e = refl
 
-row_at-push : (xs : List Row) (row : Row) (a : ℕ) → is_some (row_at (xs ++ row ∷ []) a) ≡ ((row.address == a) || is_some (row_at xs a))
-row_at-push [] row a = by (row.address == a) where
-  by : (b : Bool) → is_some (if b then Some row else None) ≡ (b || false)
-  by true = refl
-  by false = refl
-row_at-push (x ∷ xs) row a = by (x.address == a) (row.address == a) (row_at-push xs row a) where
-  by : (b t : Bool) → is_some (row_at (xs ++ row ∷ []) a) ≡ (t || is_some (row_at xs a)) → is_some (if b then Some x else row_at (xs ++ row ∷ []) a) ≡ (t || is_some (if b then Some x else row_at xs a))
-  by true true h = refl
-  by true false h = refl
-  by false t h = h
+-- rows that are numbered by slots: each slot's row is the one of its address, and there is no other
+pub record Known (rows slots : List Row) : Type 0 where
+  pub known : (n : ℕ) → n < length slots → row_at rows (row_in slots n).address ≡ Some (row_in slots n)
+  pub only : (a : ℕ) → is_some (row_at rows a) ≡ true → (n : ℕ) × (n < length slots) × ((row_in slots n).address ≡ a)
 
--- one row more in an index that is made
-pub record Made (rows : List Row) (i : ℕ) (index : List ℕ) : Type 0 where
-  pub same : (a : ℕ) → lists index a ≡ is_some (row_at (take i rows) a)
-  pub rising : Rises (key_at rows) index
+-- the addresses of numbers
+abbrev pub addresses_in : List Row → List ℕ → List ℕ
+addresses_in slots numbers = map (λ n. (row_in slots n).address) numbers
 
-pub made_more : (rows : List Row) (i : ℕ) (row : Row) (old new : List ℕ) → Rise rows → i < length rows → row ≡ get_or rows i row → Made rows i old → Gives (key_at rows) old (row.client, row.address) new → Made rows (i + 1) new
-made_more rows i row old new rise within is made gives = subst (Made rows (i + 1)) (sym gives.2) (record { same = same; rising = rises }) where
-  here : (d : Row) → (get_or rows i d).address ≡ row.address
-  here d = same_at rows i d row within ∙ sym (ap (λ (r : Row). r.address) is)
+-- the numbers of slots in the order of their keys give the addresses of the rows in that order
+pub index_from : (rows slots : List Row) (numbers : List ℕ) → Known rows slots → IsByClient slots numbers → IsIndex rows (addresses_in slots numbers)
+index_from rows slots numbers all numbered = record { same = same; rising = rising } where
+  address : ℕ → ℕ
+  address n = (row_in slots n).address
 
-  found : row_at rows row.address ≡ Some row
-  found = (is_at rows row.address i rise within here).found row ∙ sym (ap Some is)
+  there : (n : ℕ) → lists numbers n ≡ true → n < length slots
+  there n h = below n (length slots) (sym (numbered.same n) ∙ h) where
+    below : (a b : ℕ) → nat_lt a b ≡ true → a < b
+    below a b h = grind (arith, nat_tests)
 
-  none : row_at (take i rows) row.address ≡ None
-  none = none_at (take i rows) row.address (λ j d inside e.
-      let before : j < i = omega (arith, length-take i rows) in
-      let low = (place_at rows row.address i rise within here).below j d before in
-      let read : (get_or (take i rows) j d).address ≡ (get_or rows j d).address = ap (λ (r : Row). r.address) (get_or-take i rows j d before) in
-      omega arith)
+  key_is : (n : ℕ) → n < length slots → key_at rows (address n) ≡ key_in slots n
+  key_is n within = ap (λ (o : Option Row). (client_in o, address n)) (all.known n within)
 
-  out : lists old row.address ≡ false
-  out = made.same row.address ∙ ap is_some none
+  at : (i : ℕ) → i < length numbers → key_at rows (get_or (addresses_in slots numbers) i 0) ≡ key_in slots (get_or numbers i 0)
+  at i within = ap (key_at rows) (get_or-map address numbers i 0 0 within) ∙ key_is (get_or numbers i 0) (there (get_or numbers i 0) (at_lists numbers i within))
 
-  rises : Rises (key_at rows) (insert old gives.0 row.address)
-  rises = rises_insert (key_at rows) (key_at rows) old (row.client, row.address) gives.0 made.rising gives.1 (λ j inside. refl) (ap (λ (o : Option Row). (client_in o, row.address)) found) (λ j inside e. not_there old row.address out j inside (ap (λ (k : List ℕ × ℕ). k.1) e))
+  rising : Rises (key_at rows) (addresses_in slots numbers)
+  rising i j order within =
+      let n : j < length numbers = omega (arith, length-map numbers address) in
+      subst (λ (l : List ℕ × ℕ). IsBelow (key_at rows (get_or (addresses_in slots numbers) i 0)) l) (sym (at j n)) (subst (λ (l : List ℕ × ℕ). IsBelow l (key_in slots (get_or numbers j 0))) (sym (at i (omega arith))) (numbered.rising i j order n))
 
-  same : (a : ℕ) → lists (insert old gives.0 row.address) a ≡ is_some (row_at (take (i + 1) rows) a)
-  same a =
-      lists-insert old gives.0 row.address a ∙ ap (λ (b : Bool). (row.address == a) || b) (made.same a)
-      ∙ sym (ap (λ (xs : List Row). is_some (row_at xs a)) (take_more rows i row within ∙ ap (λ (r : Row). take i rows ++ r ∷ []) (sym is)) ∙ row_at-push (take i rows) row a)
+  found : (xs : List ℕ) (n : ℕ) → lists xs n ≡ true → lists (map address xs) (address n) ≡ true
+  found xs n h = let s = listed_at xs n h in
+      subst (λ (a : ℕ). lists (map address xs) a ≡ true) (get_or-map address xs s.place 0 0 s.within ∙ ap address s.here) (at_lists (map address xs) s.place (omega (arith, s.within, length-map xs address)))
+
+  listed : (a : ℕ) → is_some (row_at rows a) ≡ true → lists (addresses_in slots numbers) a ≡ true
+  listed a h = let n = all.only a h in
+      subst (λ (x : ℕ). lists (addresses_in slots numbers) x ≡ true) n.2 (found numbers n.0 (numbered.same n.0 ∙ lt n.0 (length slots) n.1)) where
+        lt : (a b : ℕ) → a < b → nat_lt a b ≡ true
+        lt a b h = grind (arith, nat_tests)
+
+  has : (a : ℕ) → lists (addresses_in slots numbers) a ≡ true → is_some (row_at rows a) ≡ true
+  has a h =
+      let s = listed_at (addresses_in slots numbers) a h in
+      let within : s.place < length numbers = omega (arith, s.within, length-map numbers address) in
+      let n : ℕ = get_or numbers s.place 0 in
+      subst (λ (x : ℕ). is_some (row_at rows x) ≡ true) (sym (get_or-map address numbers s.place 0 0 within) ∙ s.here) (ap is_some (all.known n (there n (at_lists numbers s.place within))))
+
+  same : (a : ℕ) → lists (addresses_in slots numbers) a ≡ is_some (row_at rows a)
+  same a = alike _ _ (has a) (listed a) where
+    alike : (b t : Bool) → (b ≡ true → t ≡ true) → (t ≡ true → b ≡ true) → b ≡ t
+    alike true t f g = sym (f refl)
+    alike false true f g = g refl
+    alike false false f g = refl
+
+pub numbered_within : (slots : List Row) (numbers : List ℕ) → IsByClient slots numbers → (i : ℕ) → i < length numbers → get_or numbers i 0 < length slots
+numbered_within slots numbers numbered i within = below _ _ (sym (numbered.same (get_or numbers i 0)) ∙ at_lists numbers i within) where
+  below : (a b : ℕ) → nat_lt a b ≡ true → a < b
+  below a b h = grind (arith, nat_tests)
+
+-- one address more
+pub addresses_more : (slots : List Row) (numbers : List ℕ) (i : ℕ) (row : Row) (old new : List ℕ) → i < length numbers → get_or numbers i 0 < length slots → row ≡ get_or slots (get_or numbers i 0) row → old ≡ addresses_in slots (take i numbers) → new ≡ old ++ row.address ∷ [] → new ≡ addresses_in slots (take (i + 1) numbers)
+addresses_more slots numbers i row old new within there is so_far pushed =
+    pushed ∙ ap (λ (xs : List ℕ). xs ++ row.address ∷ []) so_far
+    ∙ ap (λ (r : Row). addresses_in slots (take i numbers) ++ r.address ∷ []) (is ∙ get_or_default slots (get_or numbers i 0) row (row_in [] 0) there)
+    ∙ sym (map_more (λ n. (row_in slots n).address) numbers i 0 within)
+
+-- rows are their own slots
+pub known_rows : (rows : List Row) → Rise rows → Known rows rows
+known_rows rows rise = record { known = known; only = only rows } where
+  known : (n : ℕ) → n < length rows → row_at rows (row_in rows n).address ≡ Some (row_in rows n)
+  known n within = (is_at rows (row_in rows n).address n rise within (λ d. same_at rows n d (row_in [] 0) within)).found (row_in [] 0)
+
+  only : (rows : List Row) (a : ℕ) → is_some (row_at rows a) ≡ true → (n : ℕ) × (n < length rows) × ((row_in rows n).address ≡ a)
+  only [] a h = absurd (false≢true h)
+  only (r ∷ rows) a h = by (r.address == a) refl h (only rows a) where
+    by : (b : Bool) → (r.address == a) ≡ b → is_some (if b then Some r else row_at rows a) ≡ true → (is_some (row_at rows a) ≡ true → (n : ℕ) × (n < length rows) × ((row_in rows n).address ≡ a)) → (n : ℕ) × (n < length (r ∷ rows)) × ((row_in (r ∷ rows) n).address ≡ a)
+    by true e h rest = (0, omega arith, eqb-true r.address a e)
+    by false e h rest = let n = rest h in (suc n.0, omega (arith, n.1), n.2)

@@ -5,3 +5,4 @@ pub mod Maps
 pub mod Owned
 pub mod Places
 pub mod Sets
+pub mod Sorting

@@ -1,11 +1,12 @@
 -- The index of the table, and places in it and among the rows: words of private contracts and of the invariant alone.
-use Rattle.std.specs.Prelude.{◌≡◌, ℕ, ◌<◌, ◌≤◌, Bool, false, ◌||◌, List, [], ◌∷◌, length, Option, Some, None, is_some, slice_index, slice_index_or, ◌==◌}
-use Rattle.std.specs.List.{All, insert, remove}
+use Rattle.std.specs.Prelude.{◌≡◌, ℕ, ◌<◌, ◌≤◌, Bool, false, ◌||◌, List, [], ◌∷◌, length, Option, Some, None, is_some, slice_index, slice_index_or, ◌==◌, map, nat_lt}
+use Rattle.std.specs.List.{All, insert, range_with_len, remove}
 use Rattle.std.specs.Cmp.Lexicographic.{slice_cmp}
 use Rattle.std.specs.Ordering.{nat_cmp, ordering_then}
 use Rattle.std.specs.declared.cmp.Ordering.{Ordering}
 use Rattle.std.specs.declared.cmp.Ordering.TheVariants.{Less}
 use Rattle.kd_rows.specs.declared.row.Row.{Row}
+use Rattle.kd_rows.specs.declared.row.State.TheVariants.{Offered}
 use Rattle.kd_rows.specs.Row.{IsInRange}
 use Rattle.kd_rows.specs.Table.{Rise, row_at, latest_of}
 
@@ -43,6 +44,24 @@ lists (x ∷ xs) a = (x == a) || lists xs a
 pub record IsIndex (rows : List Row) (index : List ℕ) : Type 0 where
   pub same : (a : ℕ) → lists index a ≡ is_some (row_at rows a)
   pub rising : Rises (key_at rows) index
+
+-- the row of a number, and one that is none past the last
+abbrev pub row_in : List Row → ℕ → Row
+row_in slots n = slice_index_or slots n (record { address = 0; client = []; state = Offered; changed = 0; ends = 0 })
+
+-- what a number is ordered by
+abbrev pub key_in : List Row → ℕ → List ℕ × ℕ
+key_in slots n = ((row_in slots n).client, (row_in slots n).address)
+
+-- the numbers of the slots, in the order of their keys
+pub record IsByClient (slots : List Row) (numbers : List ℕ) : Type 0 where
+  pub same : (n : ℕ) → lists numbers n ≡ nat_lt n (length slots)
+  pub rising : Rises (key_in slots) numbers
+
+-- keys with their numbers: the first so many numbers, each with the key of its slot
+pub record AreKeys {X : Type 0} (key : X → List ℕ × ℕ) (number : X → ℕ) (slots : List Row) (count : ℕ) (keys : List X) : Type 0 where
+  pub numbers : map number keys ≡ range_with_len 0 count
+  pub keyed : All (λ x. key x ≡ key_in slots (number x)) keys
 
 -- what is true of the fields of a table
 pub record IsKept (rows : List Row) (latest least : ℕ) (index : List ℕ) : Type 0 where

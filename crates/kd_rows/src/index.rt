@@ -1,6 +1,6 @@
-ghost use Rattle.std.specs.Prelude.{◌≡◌, ◌+◌, ◌<◌, IfOk, true, vec_capacity, vec_len, length, slice_get};
+ghost use Rattle.std.specs.Prelude.{◌≡◌, ◌+◌, ◌<◌, ◌≤◌, ◌^◌, IfOk, true, vec_capacity, vec_len, length, slice_get};
 ghost use Rattle.std.specs.Ordering.{is_lt};
-ghost use Rattle.kd_rows.specs.Index.{Gives, IsIndex, IsKeyPlace, Rises, Takes, key_at, key_order, lists};
+ghost use Rattle.kd_rows.specs.Index.{AreKeys, Gives, IsByClient, IsIndex, IsKeyPlace, Rises, Takes, key_at, key_order, lists};
 ghost use Rattle.kd_rows.specs.Table.{Rise, addresses_of};
 
 use crate::find::client_of;
@@ -86,15 +86,67 @@ pub(crate) fn take_key(rows: &[Row], index: &mut Vec<u32>, address: u32)
     index.remove(place);
 }
 
-// The index of rows: their addresses are given to it one by one.
+// The number of a row that stands at an address. Addresses rise by 1 at least, so it is no greater.
+fn number_of(place: usize, address: u32) -> u32
+    requires { place ≤ address }
+    ensures number { result ≡ place }
+    ensures bound { address < 2 ^ 32 }
+{
+    place as u32
+}
+
+// The key of a row with its number.
+fn key_of(row: &Row, number: usize) -> (&[u8], u32, u32)
+    requires { number ≤ row.now.address }
+    ensures client { result.0.now ≡ row.now.client }
+    ensures address { result.1 ≡ row.now.address }
+    ensures number { result.2 ≡ number }
+{
+    (
+        row.client.as_slice(),
+        row.address,
+        number_of(number, row.address),
+    )
+}
+
+// The keys of rows, each with the number of its row.
+fn keys_of(rows: &Vec<Row>) -> Result<Vec<(&[u8], u32, u32)>, AllocError>
+    requires { Rise rows.now.items }
+    ensures { IfOk result (λ keys. AreKeys (λ x. (x.0.now, x.1)) (λ x. x.2) rows.now.items (length rows.now.items) keys.items) }
+{
+    let mut keys = Vec::new(*rows.allocator());
+    keys.reserve_exact(rows.len())?;
+    for i in 0..rows.len() {
+        keys.push(key_of(&rows[i], i))?;
+    }
+    Ok(keys)
+}
+
+// The numbers of rows in the order of their keys.
+fn numbers_by_client(rows: &Vec<Row>) -> Result<Vec<u32>, AllocError>
+    requires { Rise rows.now.items }
+    ensures { IfOk result (λ numbers. IsByClient rows.now.items numbers.items) }
+{
+    let mut keys = keys_of(rows)?;
+    keys.sort_unstable();
+    let mut numbers = Vec::new(*rows.allocator());
+    numbers.reserve_exact(keys.len())?;
+    for key in &keys {
+        numbers.push(key.2)?;
+    }
+    Ok(numbers)
+}
+
+// The index of rows.
 pub(crate) fn index_of(rows: &Vec<Row>) -> Result<Vec<u32>, AllocError>
     requires { Rise rows.now.items }
     ensures { IfOk result (λ index. IsIndex rows.now.items index.items) }
 {
+    let numbers = numbers_by_client(rows)?;
     let mut index = Vec::new(*rows.allocator());
     index.reserve_exact(rows.len())?;
-    for row in rows {
-        give_key(rows, &mut index, row.client.as_slice(), row.address);
+    for number in &numbers {
+        index.push(rows[*number as usize].address)?;
     }
     Ok(index)
 }

@@ -1,18 +1,20 @@
-use Rattle.std.proofs.Common.{ℕ, ◌≡◌, List, get_or, ap, length, arith, subst}
-use Rattle.kd_rows.specs.declared.row.Row.{Row}
-use Rattle.kd_rows.specs.Index.{Gives, key_at}
-use Rattle.kd_rows.proofs.Indexes.{made_more}
+use Rattle.std.proofs.Common.{subst, sym, ap, ◌∙◌, arith}
+use Rattle.std.proofs.lemmas.List.{take_all}
+use Rattle.kd_rows.specs.Index.{IsByClient, IsIndex}
+use Rattle.kd_rows.proofs.Indexes.{addresses_in, addresses_more, index_from, known_rows, numbered_within}
 use Rattle.kd_rows.proofs.index.index_of.Goals as goal
 
-pub loop-row-preserved : goal.loop-row-preserved
-loop-row-preserved c =
-    let rows = c.args.rows.now.items in
-    let row = c.row-item.result in
-    let given = subst (λ (client : List ℕ). Gives (key_at rows) c.loop-row.index.items (client, row.address) c.give_key.new.index.items) c.as_slice.ensures
-    (subst (λ (rows : List Row). Gives (key_at rows) c.loop-row.index.items (c.as_slice.result.now, row.address) c.give_key.new.index.items) c.deref.ensures.value c.give_key.ensures.given) in
-    record {
-      made = made_more rows c.loop-row.row-index row c.loop-row.index.items c.give_key.new.index.items c.requires (omega (arith, c.loop-row-test.true, ap length c.deref-row-items.ensures.value, c.args.rows.now.ok))
-          (subst (λ (rows : List Row). row ≡ get_or rows c.loop-row.row-index row) c.deref-row-items.ensures.value c.row-item.is) c.loop-row.invariant.made given;
-      len = omega arith;
-      capacity = omega arith;
-    }
+pub index-requires : goal.index-requires
+index-requires c =
+    let numbered = subst (IsByClient c.args.rows.now.items) (sym c.deref-number-items.ensures.value) c.in_ok-numbers.ensures in
+    omega (arith, numbered_within c.args.rows.now.items c.deref-number-items.result.now numbered c.loop-number.number-index c.loop-number-test.true, c.args.rows.now.ok.0)
+
+pub loop-number-preserved : goal.loop-number-preserved
+loop-number-preserved c =
+    let numbered = subst (IsByClient c.args.rows.now.items) (sym c.deref-number-items.ensures.value) c.in_ok-numbers.ensures in
+    addresses_more c.args.rows.now.items c.deref-number-items.result.now c.loop-number.number-index c.index.result.now _ _ c.loop-number-test.true
+    (numbered_within c.args.rows.now.items c.deref-number-items.result.now numbered c.loop-number.number-index c.loop-number-test.true) c.index.ensures c.loop-number.invariant c.in_ok-push.ensures.items
+
+pub returns : goal.returns
+returns c = subst (IsIndex c.args.rows.now.items) (sym (c.loop-number.invariant ∙ ap (addresses_in c.args.rows.now.items) (take_all c.loop-number.number-index _ c.loop-number-test.false ∙ c.deref-number-items.ensures.value)))
+    (index_from c.args.rows.now.items c.args.rows.now.items c.in_ok-numbers.numbers.items (known_rows c.args.rows.now.items c.requires) c.in_ok-numbers.ensures)

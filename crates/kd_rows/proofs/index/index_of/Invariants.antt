@@ -1,10 +1,6 @@
-use Rattle.std.proofs.Common.{◌≡◌, ◌≤◌, length, vec_capacity, vec_len}
-use Rattle.kd_rows.proofs.Indexes.{Made}
+use Rattle.std.proofs.Common.{◌≡◌, map, take}
+use Rattle.kd_rows.specs.Index.{row_in}
 use Rattle.kd_rows.proofs.index.index_of.Given as goal
 
-abbrev pub invariant-loop-row : goal.invariant-loop-row
-invariant-loop-row l = record {
-  made : Made l.rows.items l.row-index l.index.items;
-  len : vec_len l.index ≡ l.row-index;
-  capacity : length l.rows.items ≤ vec_capacity l.index;
-}
+abbrev pub invariant-loop-number : goal.invariant-loop-number
+invariant-loop-number l = l.index.items ≡ map (λ n. (row_in l.rows.items n).address) (take l.number-index l.number-items)

@@ -1,4 +1,4 @@
-use Rattle.std.proofs.Common.{◌≡◌, ◌≤◌, arith, subst, sym}
+use Rattle.std.proofs.Common.{◌≤◌, arith, subst, sym}
 use Rattle.std.specs.List.{All}
 use Rattle.kd_rows.specs.declared.row.Row.{Row}
 use Rattle.kd_rows.proofs.Ends.{least_bound, least_last, least_next}
