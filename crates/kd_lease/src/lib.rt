@@ -30,9 +30,9 @@ mod subnet;
 mod unleased;
 mod values;
 
+pub use deciding::decide;
 pub use effects::effect_of;
 pub use identities::identity;
-pub use deciding::decide;
 pub use plan::{Answer, Decision, Plan, PlanKind};
 pub use planned::{Effect, Planned};
 pub use question::Question;

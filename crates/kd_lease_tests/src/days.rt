@@ -44,31 +44,57 @@ const DISCOVER_10: &[u8] = b"\x35\x01\x01\x32\x04\xc0\x00\x02\x0a\xff";
 
 // REQUESTs to this server for .10 and .11; to 192.0.2.99; and without a server, for .10 and for 198.51.100.7.
 const SELECT_10: &[u8] = b"\x35\x01\x03\x36\x04\xc0\x00\x02\x01\x32\x04\xc0\x00\x02\x0a\xff";
+
 const SELECT_11: &[u8] = b"\x35\x01\x03\x36\x04\xc0\x00\x02\x01\x32\x04\xc0\x00\x02\x0b\xff";
+
 const OTHER: &[u8] = b"\x35\x01\x03\x36\x04\xc0\x00\x02\x63\x32\x04\xc0\x00\x02\x0a\xff";
+
 const REBOOT_10: &[u8] = b"\x35\x01\x03\x32\x04\xc0\x00\x02\x0a\xff";
+
 const REBOOT_FAR: &[u8] = b"\x35\x01\x03\x32\x04\xc6\x33\x64\x07\xff";
+
 const RENEW: &[u8] = b"\x35\x01\x03\xff";
+
 const RELEASE: &[u8] = b"\x35\x01\x07\xff";
+
 const DECLINE_10: &[u8] = b"\x35\x01\x04\x32\x04\xc0\x00\x02\x0a\xff";
+
 const INFORM: &[u8] = b"\x35\x01\x08\xff";
 
 // An address is offered while it is free, the next client gets the next one, and a third none; what is not asked for
 // in time goes to the third.
 const OFFERS: Day = &[
-    ((100, 1, DISCOVER, 0), Got::Reply(2, POOL[0], Mode::Hardware)),
-    ((110, 2, DISCOVER, 0), Got::Reply(2, POOL[1], Mode::Hardware)),
+    (
+        (100, 1, DISCOVER, 0),
+        Got::Reply(2, POOL[0], Mode::Hardware),
+    ),
+    (
+        (110, 2, DISCOVER, 0),
+        Got::Reply(2, POOL[1], Mode::Hardware),
+    ),
     ((120, 3, DISCOVER, 0), Got::Quiet(Reason::NoAddress)),
-    ((130, 2, SELECT_11, 0), Got::Reply(5, POOL[1], Mode::Hardware)),
+    (
+        (130, 2, SELECT_11, 0),
+        Got::Reply(5, POOL[1], Mode::Hardware),
+    ),
     ((159, 3, DISCOVER, 0), Got::Quiet(Reason::NoAddress)),
-    ((160, 3, DISCOVER, 0), Got::Reply(2, POOL[0], Mode::Hardware)),
+    (
+        (160, 3, DISCOVER, 0),
+        Got::Reply(2, POOL[0], Mode::Hardware),
+    ),
 ];
 
 // A client that takes another server's offer gives ours back, and the next client gets it.
 const OTHERS: Day = &[
-    ((100, 1, DISCOVER, 0), Got::Reply(2, POOL[0], Mode::Hardware)),
+    (
+        (100, 1, DISCOVER, 0),
+        Got::Reply(2, POOL[0], Mode::Hardware),
+    ),
     ((105, 1, OTHER, 0), Got::Quiet(Reason::OtherServer)),
-    ((106, 2, DISCOVER_10, 0), Got::Reply(2, POOL[0], Mode::Hardware)),
+    (
+        (106, 2, DISCOVER_10, 0),
+        Got::Reply(2, POOL[0], Mode::Hardware),
+    ),
 ];
 
 // A client without a row is not answered; one that asks for an address elsewhere is refused.
@@ -81,19 +107,37 @@ const STRANGERS: Day = &[
 // A lease is renewed, also at a moment that goes back, and by its client alone; it is given back once; an address that
 // is declined is held back.
 const LEASES: Day = &[
-    ((990, 1, DISCOVER, 0), Got::Reply(2, POOL[0], Mode::Hardware)),
-    ((1000, 1, SELECT_10, 0), Got::Reply(5, POOL[0], Mode::Hardware)),
-    ((10, 1, RENEW, POOL[0]), Got::Reply(5, POOL[0], Mode::Unicast)),
+    (
+        (990, 1, DISCOVER, 0),
+        Got::Reply(2, POOL[0], Mode::Hardware),
+    ),
+    (
+        (1000, 1, SELECT_10, 0),
+        Got::Reply(5, POOL[0], Mode::Hardware),
+    ),
+    (
+        (10, 1, RENEW, POOL[0]),
+        Got::Reply(5, POOL[0], Mode::Unicast),
+    ),
     ((10, 2, RENEW, POOL[0]), Got::Quiet(Reason::NoRecord)),
     ((1050, 2, SELECT_10, 0), Got::Reply(6, 0, Mode::Broadcast)),
     ((1100, 1, RELEASE, POOL[0]), Got::Quiet(Reason::Released)),
     ((1100, 1, RELEASE, POOL[0]), Got::Quiet(Reason::NotHeld)),
     ((1100, 1, RELEASE, 0), Got::Quiet(Reason::NoCiaddr)),
-    ((1200, 1, DISCOVER, 0), Got::Reply(2, POOL[0], Mode::Hardware)),
+    (
+        (1200, 1, DISCOVER, 0),
+        Got::Reply(2, POOL[0], Mode::Hardware),
+    ),
     ((1201, 1, DECLINE_10, 0), Got::Quiet(Reason::Declined)),
     ((1201, 1, DECLINE_10, 0), Got::Quiet(Reason::NotHeld)),
-    ((1202, 1, DISCOVER, 0), Got::Reply(2, POOL[1], Mode::Hardware)),
-    ((1203, 1, INFORM, 0xc000_024d), Got::Reply(5, 0, Mode::Unicast)),
+    (
+        (1202, 1, DISCOVER, 0),
+        Got::Reply(2, POOL[1], Mode::Hardware),
+    ),
+    (
+        (1203, 1, INFORM, 0xc000_024d),
+        Got::Reply(5, 0, Mode::Unicast),
+    ),
 ];
 
 const PORTS: Ports = Ports {
@@ -125,11 +169,21 @@ fn datagram(alloc: Global, message: Sent) -> Result<Vec<u8>, AllocError> {
 }
 
 // The byte at a place, and 0 behind the end.
-fn byte_at(bytes: &[u8], at: usize) -> u32 {
+fn byte_at(bytes: &[u8], at: usize) -> u8 {
     match bytes.get(at) {
-        Some(byte) => u32::from(*byte),
+        Some(byte) => *byte,
         None => 0,
     }
+}
+
+// The address that a reply gives, its bytes 16 to 19.
+fn yiaddr_of(bytes: &[u8]) -> u32 {
+    u32::from_be_bytes([
+        byte_at(bytes, 16),
+        byte_at(bytes, 17),
+        byte_at(bytes, 18),
+        byte_at(bytes, 19),
+    ])
 }
 
 // What a response is.
@@ -138,9 +192,7 @@ fn received(response: &Response) -> Got {
         Response::Quiet(reason) => Got::Quiet(*reason),
         Response::Reply(destination, reply) => {
             let bytes = reply.as_slice();
-            let high = byte_at(bytes, 16) << 24 | byte_at(bytes, 17) << 16;
-            let yiaddr = high | byte_at(bytes, 18) << 8 | byte_at(bytes, 19);
-            Got::Reply(byte_at(bytes, 242) as u8, yiaddr, destination.mode)
+            Got::Reply(byte_at(bytes, 242), yiaddr_of(bytes), destination.mode)
         }
     }
 }
@@ -158,14 +210,12 @@ fn sent(alloc: Global, server: &mut LeaseServer<Fused>, message: Sent) -> Result
 // How many messages of a day got what they should, up to the first that did not.
 fn as_worked_out(alloc: Global, day: &[(Sent, Got)]) -> Result<usize, Fault> {
     let mut server = opened(alloc, 1000)?;
-    let mut right = 0;
-    for (message, want) in day {
+    for (right, (message, want)) in day.iter().enumerate() {
         if sent(alloc, &mut server, *message)? != *want {
             return Ok(right);
         }
-        right += 1;
     }
-    Ok(right)
+    Ok(day.len())
 }
 
 #[test]
