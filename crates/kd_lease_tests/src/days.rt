@@ -1,3 +1,4 @@
+use crate::fields::{DIRECT, Fields, bytes_of};
 use kd_config::Config;
 use kd_event::{Mode, Ports, Reason, Response};
 use kd_replay::ServeFault;
@@ -158,14 +159,15 @@ fn opened(alloc: Global, calls: u64) -> Result<LeaseServer<Fused>, Fault> {
 // The datagram of a message.
 fn datagram(alloc: Global, message: Sent) -> Result<Vec<u8>, AllocError> {
     let (_, client, options, ciaddr) = message;
-    let mut bytes = Vec::from_slice(alloc, &[1, 1, 6, 0, 0, 0, 0, 1, 0, 0, 0, 0])?;
-    bytes.extend_from_slice(&ciaddr.to_be_bytes())?;
-    bytes.resize(28, 0)?;
-    bytes.extend_from_slice(&[10, 0, 0, 0, 0, client])?;
-    bytes.resize(236, 0)?;
-    bytes.extend_from_slice(&[99, 130, 83, 99])?;
-    bytes.extend_from_slice(options)?;
-    Ok(bytes)
+    bytes_of(
+        alloc,
+        &Fields {
+            client,
+            options,
+            ciaddr,
+            ..DIRECT
+        },
+    )
 }
 
 // The byte at a place, and 0 behind the end.

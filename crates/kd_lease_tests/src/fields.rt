@@ -1,0 +1,36 @@
+use std::alloc::{AllocError, Global};
+
+/// The fields of a client's message that tests set.
+#[derive(Clone, Copy)]
+pub(crate) struct Fields<'a> {
+    /// The last byte of its hardware address.
+    pub(crate) client: u8,
+    /// Its options, behind the cookie.
+    pub(crate) options: &'a [u8],
+    pub(crate) ciaddr: u32,
+    pub(crate) giaddr: u32,
+    pub(crate) flags: u16,
+}
+
+/// A message that comes through no relay, from a client without an address.
+pub(crate) const DIRECT: Fields<'static> = Fields {
+    client: 1,
+    options: b"\x35\x01\x01\xff",
+    ciaddr: 0,
+    giaddr: 0,
+    flags: 0,
+};
+
+/// The datagram of a message.
+pub(crate) fn bytes_of(alloc: Global, fields: &Fields<'_>) -> Result<Vec<u8>, AllocError> {
+    let mut bytes = Vec::from_slice(alloc, &[1, 1, 6, 0, 0, 0, 0, 1, 0, 0])?;
+    bytes.extend_from_slice(&fields.flags.to_be_bytes())?;
+    bytes.extend_from_slice(&fields.ciaddr.to_be_bytes())?;
+    bytes.resize(24, 0)?;
+    bytes.extend_from_slice(&fields.giaddr.to_be_bytes())?;
+    bytes.extend_from_slice(&[10, 0, 0, 0, 0, fields.client])?;
+    bytes.resize(236, 0)?;
+    bytes.extend_from_slice(&[99, 130, 83, 99])?;
+    bytes.extend_from_slice(fields.options)?;
+    Ok(bytes)
+}
