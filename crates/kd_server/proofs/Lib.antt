@@ -1,1 +1,4 @@
+pub mod LiveLeases
+pub mod Overlap
+pub mod Ruled
 pub mod Stopping

@@ -1,4 +1,5 @@
 pub mod Keeping
+pub mod NoOverlap
 pub mod Responding
 pub mod Standing
 pub mod Step

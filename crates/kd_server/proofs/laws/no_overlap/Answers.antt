@@ -1,0 +1,6 @@
+use Rattle.kd_server.proofs.Overlap.{none_overlap}
+use Rattle.kd_server.proofs.laws.no_overlap.Goals as goal
+
+pub returns : goal.returns
+returns c = λ config rows es history i j e f client other a before is_e is_f leases gives apart.
+    none_overlap config rows es i j e f client other a history before is_e is_f leases gives apart
