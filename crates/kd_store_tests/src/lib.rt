@@ -1,0 +1,8 @@
+//! Tests of the store of leases by values, over a database in memory: what is read of what was put, a table that is
+//! not ours, and a refused request for memory.
+//!
+//! They are a crate of their own since a crate is proved once more with its tests.
+#![tactic(auto)]
+
+#[cfg(test)]
+mod memory;
