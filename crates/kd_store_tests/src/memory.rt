@@ -1,49 +1,11 @@
+use crate::leases::{Lease, are_rows_of, row};
 use kd_keeps::{Cause, Keeps, StoreFault};
-use kd_rows::{Row, State};
+use kd_rows::State;
 use kd_store::Store;
 use kd_store::laws::in_memory;
-use kd_wire::Bytes;
 use sqlite::{Connection, Error, MemStore};
-use std::alloc::{AllocError, Global};
+use std::alloc::Global;
 use std::test::Fail;
-
-// A lease: its address, its client, its state, when it was set, when it ends.
-type Lease = (u32, &'static [u8], State, u64, u64);
-
-// The row of a lease.
-fn row(alloc: Global, lease: Lease) -> Result<Row, AllocError> {
-    let (address, client, state, changed, ends) = lease;
-    Ok(Row {
-        address,
-        client: Bytes::own(Vec::from_slice(alloc, client)?),
-        state,
-        changed,
-        ends,
-    })
-}
-
-// The row has all that the lease says.
-fn is_row_of(row: &Row, lease: Lease) -> bool {
-    let (address, client, state, changed, ends) = lease;
-    row.address == address
-        && row.client.as_slice() == client
-        && row.state == state
-        && row.changed == changed
-        && row.ends == ends
-}
-
-// The rows are those of the leases, in their order.
-fn are_rows_of(rows: &[Row], leases: &[Lease]) -> bool {
-    if rows.len() != leases.len() {
-        return false;
-    }
-    for i in 0..rows.len() {
-        if !is_row_of(&rows[i], leases[i]) {
-            return false;
-        }
-    }
-    true
-}
 
 // The store over a connection.
 fn opened(alloc: Global, conn: Connection<MemStore>) -> Result<Store<MemStore>, Fail> {
