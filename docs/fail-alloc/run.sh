@@ -91,15 +91,15 @@ SHORT_IO=1 LD_PRELOAD=$room/fail.so crates/kdhcp/out/kdhcp replay <examples/repl
 echo "replay byte by byte: the same"
 
 all=0 passed=0 building=0 second=0 other=0
-for test in kd_tests:{answer,classes,compile,config,expr,machine,message,replay,reply,server,token} kd_table_tests:rows; do
+for test in kd_tests:{answer,classes,compile,config,expr,machine,message,replay,reply,server,token} kd_{table_tests:rows,store_tests:memory}; do
     name=${test%:*}
     run=("crates/$name/out/${name}_tests" "${test#*:}::want_of_memory_is_answered_as_such")
     for n in $(seq 1 "$(asked_by "${run[@]}")"); do
         all=$((all + 1))
         if got=$(FAIL_AT=$n LD_PRELOAD=$room/fail.so "${run[@]}" 2>&1); then passed=$((passed + 1))
         elif [[ $got == *AllocError* || $got == *AllocFailed* || $got == *OutOfMemory* ]]; then building=$((building + 1))
-        # a sink of a test that cannot grow has failed, which is Write
-        elif [[ $got == *Memory* || $got == *"Err(Write)"* || $got == *"Some(91)"* ]]; then second=$((second + 1))
+        # a sink of a test that cannot grow has failed, which is Write; a store's want of memory is Sql
+        elif [[ $got == *Memory* || $got == *"Err(Write)"* || $got == *"Some(91)"* || $got == *"error: Sql"* ]]; then second=$((second + 1))
         else
             other=$((other + 1))
             echo "refusal $n of ${run[*]}: $got"

@@ -1,0 +1,185 @@
+use crate::leases::{Lease, are_rows_of, row};
+use kd_keeps::{Cause, Keeps, StoreFault};
+use kd_rows::State;
+use kd_store::Store;
+use kd_store::laws::in_memory;
+use sqlite::{Connection, Error, MemStore};
+use std::alloc::Global;
+use std::test::Fail;
+
+// The store over a connection.
+fn opened(alloc: Global, conn: Connection<MemStore>) -> Result<Store<MemStore>, Fail> {
+    if !conn.is_autocommit() {
+        return Err("the connection is in a transaction".into());
+    }
+    match Store::open(alloc, conn) {
+        Ok(store) => Ok(store),
+        Err((fault, _)) => Err(fault.into()),
+    }
+}
+
+// Sets the leases, one after the other.
+fn put_all(alloc: Global, store: &mut Store<MemStore>, leases: &[Lease]) -> Result<(), Fail> {
+    for lease in leases {
+        let row = row(alloc, *lease)?;
+        if store.failed() || !row.is_in_range() {
+            return Err("the store has failed, or the row is out of range".into());
+        }
+        store.put(&row)?;
+    }
+    Ok(())
+}
+
+// The store has not failed, and holds the rows of the leases and no other.
+fn holds(store: &mut Store<MemStore>, leases: &[Lease]) -> Result<bool, Fail> {
+    if store.failed() {
+        return Ok(false);
+    }
+    let rows = store.rows()?;
+    Ok(!store.failed() && are_rows_of(rows.as_slice(), leases))
+}
+
+// Leases in mixed order, with the ends of all ranges; the address 7 comes twice.
+const PUT: [Lease; 6] = [
+    (7, b"a", State::Offered, 5, 5),
+    (0xffff_ffff, b"b", State::Bound, 9, 2_147_483_656),
+    (0, b"", State::Declined, 0, 0),
+    (8, b"a'", State::Bound, 1_099_511_627_775, 1_101_659_111_422),
+    (0x8000_0000, b"a", State::Offered, 6, 7),
+    (7, b"c", State::Released, 4, 60),
+];
+
+// The same in rising address, one an address.
+const KEPT: [Lease; 5] = [
+    (0, b"", State::Declined, 0, 0),
+    (7, b"c", State::Released, 4, 60),
+    (8, b"a'", State::Bound, 1_099_511_627_775, 1_101_659_111_422),
+    (0x8000_0000, b"a", State::Offered, 6, 7),
+    (0xffff_ffff, b"b", State::Bound, 9, 2_147_483_656),
+];
+
+#[test]
+fn rows_are_kept_in_rising_address_and_found_again(rt: HostRuntime) -> Result<(), Fail> {
+    let mut store = opened(rt.alloc(), Connection::open_in_memory(rt.alloc())?)?;
+    assert!(rt; holds(&mut store, &[])?);
+    put_all(rt.alloc(), &mut store, &PUT)?;
+    assert!(rt; holds(&mut store, &KEPT)?);
+    let mut again = opened(rt.alloc(), store.close())?;
+    assert!(rt; holds(&mut again, &KEPT)?);
+    Ok(())
+}
+
+// A table of our name and columns that has none of our rules.
+const LOOSE: &str =
+    "CREATE TABLE lease (address INTEGER PRIMARY KEY, client BLOB, state INTEGER, changed INTEGER, ends INTEGER) STRICT";
+
+// Tables that are not ours, or rows that are out of range, with the statement that puts one row.
+const STRANGE: [(&str, &str); 12] = [
+    (
+        "CREATE TABLE lease (address INTEGER PRIMARY KEY, name TEXT NOT NULL) STRICT",
+        "INSERT INTO lease VALUES (1, 'a')",
+    ),
+    (
+        "CREATE TABLE lease (address INTEGER PRIMARY KEY, client TEXT, state INTEGER, changed INTEGER, ends INTEGER) STRICT",
+        "INSERT INTO lease VALUES (1, 'a', 2, 5, 6)",
+    ),
+    (LOOSE, "INSERT INTO lease VALUES (-1, x'61', 2, 5, 6)"),
+    (
+        LOOSE,
+        "INSERT INTO lease VALUES (4294967296, x'61', 2, 5, 6)",
+    ),
+    (LOOSE, "INSERT INTO lease VALUES (1, NULL, 2, 5, 6)"),
+    (LOOSE, "INSERT INTO lease VALUES (1, x'61', 0, 5, 6)"),
+    (LOOSE, "INSERT INTO lease VALUES (1, x'61', 5, 5, 6)"),
+    (LOOSE, "INSERT INTO lease VALUES (1, x'61', 258, 5, 6)"),
+    (LOOSE, "INSERT INTO lease VALUES (1, x'61', 2, -1, 6)"),
+    (LOOSE, "INSERT INTO lease VALUES (1, x'61', 2, 5, 4)"),
+    (
+        LOOSE,
+        "INSERT INTO lease VALUES (1, x'61', 2, 5, 2147483653)",
+    ),
+    (
+        LOOSE,
+        "INSERT INTO lease VALUES (1, x'61', 2, 1099511627776, 1099511627776)",
+    ),
+];
+
+// A connection to a new database with a table and a row.
+fn connected(alloc: Global, table: &str, row: &str) -> Result<Connection<MemStore>, Fail> {
+    let mut conn = Connection::open_in_memory(alloc)?;
+    run(&mut conn, table)?;
+    run(&mut conn, row)?;
+    Ok(conn)
+}
+
+// Runs one statement.
+fn run(conn: &mut Connection<MemStore>, statement: &str) -> Result<(), Error> {
+    conn.execute(statement, &[])?;
+    Ok(())
+}
+
+// How many rows the table has.
+fn count(conn: &mut Connection<MemStore>) -> Result<i64, Error> {
+    conn.query_row("SELECT count(*) FROM lease", &[])?.get(0)
+}
+
+// The fault with which a connection is refused, and how many rows the table has over the connection that comes back.
+fn refused(alloc: Global, conn: Connection<MemStore>) -> Result<(StoreFault, i64), Fail> {
+    if !conn.is_autocommit() {
+        return Err("the connection is in a transaction".into());
+    }
+    match Store::open(alloc, conn) {
+        Ok(_) => Err("the table is not refused".into()),
+        Err((fault, mut conn)) => Ok((fault, count(&mut conn)?)),
+    }
+}
+
+#[test]
+fn a_table_that_is_not_ours_is_refused_and_stays(rt: HostRuntime) -> Result<(), Fail> {
+    for (table, row) in STRANGE {
+        let conn = connected(rt.alloc(), table, row)?;
+        assert!(rt; refused(rt.alloc(), conn)? == (StoreFault::Schema, 1));
+    }
+    Ok(())
+}
+
+// A row in range, in the table that has none of our rules.
+const IN_RANGE: &str = "INSERT INTO lease VALUES (8, x'6127', 2, 1099511627775, 1101659111422)";
+
+#[test]
+fn a_row_in_range_is_read_from_a_table_without_rules(rt: HostRuntime) -> Result<(), Fail> {
+    let mut store = opened(rt.alloc(), connected(rt.alloc(), LOOSE, IN_RANGE)?)?;
+    assert!(rt;
+        holds(
+            &mut store,
+            &[(8, b"a'", State::Bound, 1_099_511_627_775, 1_101_659_111_422)]
+        )?
+    );
+    Ok(())
+}
+
+// Two rows, put in a new store: how many are read.
+fn two(alloc: Global) -> Result<usize, StoreFault> {
+    let Ok(first) = row(alloc, KEPT[0]) else {
+        return Err(StoreFault::Sql(Cause::OutOfMemory));
+    };
+    let Ok(second) = row(alloc, KEPT[1]) else {
+        return Err(StoreFault::Sql(Cause::OutOfMemory));
+    };
+    if !first.is_in_range() || !second.is_in_range() {
+        return Err(StoreFault::Schema);
+    }
+    Ok(in_memory(alloc, &first, &second)?.len())
+}
+
+// With a refused request for memory the answer is want of it; the same calls made again give what they give with
+// ample memory.
+#[test]
+fn want_of_memory_is_answered_as_such(rt: HostRuntime) -> Result<(), Fail> {
+    match two(rt.alloc()) {
+        Ok(read) => assert!(rt; read == 2),
+        Err(fault) => assert!(rt; fault == StoreFault::Sql(Cause::OutOfMemory)),
+    }
+    assert!(rt; two(rt.alloc())? == 2);
+    Ok(())
+}
