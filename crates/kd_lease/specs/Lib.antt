@@ -2,7 +2,6 @@ pub mod Change
 pub mod Choice
 pub mod Client
 pub mod Decided
-pub mod Decision
 pub mod Destination
 pub mod Given
 pub mod Laws
@@ -12,5 +11,4 @@ pub mod ReplyOptions
 pub mod Rules
 pub mod Seeking
 pub mod SubnetOf
-pub mod Unleased
 pub mod Valuing

@@ -1,6 +1,6 @@
-ghost use Rattle.std.specs.Prelude.{◌≡◌, is_some};
+ghost use Rattle.std.specs.Prelude.{◌≡◌};
 ghost use Rattle.kd_options.specs.Joined.{value_of};
-ghost use Rattle.kd_lease.specs.Client.{asks_for, greatest_by, identity, is_from_server, room_of};
+ghost use Rattle.kd_lease.specs.Client.{asks_for, greatest_by, is_from_server, room_of};
 
 use kd_options::{Message, MessageType};
 
@@ -16,16 +16,6 @@ pub(crate) fn is_from_server(message: &Message<'_>) -> bool
         MessageType::Ack => true,
         MessageType::Nak => true,
         _ => false,
-    }
-}
-
-// The message says who its client is.
-pub(crate) fn has_identity(message: &Message<'_>) -> bool
-    ensures { result ≡ is_some (identity message.now) }
-{
-    match message.option(61) {
-        Some([_, ..]) => true,
-        _ => !message.mac().is_empty(),
     }
 }
 

@@ -27,7 +27,6 @@ mod seeking;
 mod sending;
 mod setting;
 mod subnet;
-mod unleased;
 mod values;
 
 pub use deciding::decide;
@@ -37,4 +36,3 @@ pub use plan::{Answer, Decision, Plan, PlanKind};
 pub use planned::{Effect, Planned};
 pub use question::Question;
 pub use sending::destination;
-pub use unleased::decide_unleased;

@@ -7,7 +7,6 @@ use Rattle.kd_replay.specs.declared.fault.ServeFault.TheVariants as serving
 
 -- the number of each fault of handling an event
 abbrev pub serve_fault_number : ServeFault → ℕ
-serve_fault_number (serving.Unsupported kind) = 89
 serve_fault_number serving.MomentTooLarge = 90
 serve_fault_number serving.Memory = 91
 serve_fault_number (serving.Store fault) = 92

@@ -2,7 +2,6 @@ ghost use Rattle.std.specs.Prelude.{◌≡◌};
 ghost use Rattle.kd_replay.specs.Faults.{replay_fault_number, serve_fault_number};
 
 use kd_keeps::StoreFault;
-use kd_options::MessageType;
 use std::alloc::AllocError;
 use std::fmt;
 use thiserror::Error;
@@ -10,9 +9,6 @@ use thiserror::Error;
 /// Why an event is not handled.
 #[derive(Clone, Copy, PartialEq, Eq, Error)]
 pub enum ServeFault {
-    /// Messages of this type are not served yet.
-    #[error("Unsupported {}", .0.number())]
-    Unsupported(MessageType),
     /// The moment is not below 2^40.
     #[error("MomentTooLarge")]
     MomentTooLarge,
@@ -35,12 +31,11 @@ impl fmt::Debug for ServeFault {
 }
 
 impl ServeFault {
-    /// The fault's number: 89 to 93.
+    /// The fault's number: 90 to 93.
     pub fn number(self) -> u8
         ensures { result ≡ serve_fault_number self }
     {
         match self {
-            ServeFault::Unsupported(_) => 89,
             ServeFault::MomentTooLarge => 90,
             ServeFault::Memory => 91,
             ServeFault::Store(_) => 92,

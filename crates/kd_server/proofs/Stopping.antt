@@ -36,7 +36,6 @@ pub refused : {S : Type 0} (g : Ghosts S) (old : Keeping S) (event : Event) (row
     → g.has_failed old.store ≡ false → event.moment < 2 ^ 40 → now ≡ max event.moment (latest_of old.rows)
     → IsTurn old.config old.ports old.rows now event.bytes row response → IsUnkept g old.rows rows old.store store (after old.rows row) fault
     → Refuses g old event fault (record { ports = old.ports; config = old.config; rows = rows; store = store })
-refused g old event row response now (faults.Unsupported kind) rows store works early is turn unkept = absurd unkept
 refused g old event row response now faults.MomentTooLarge rows store works early is turn unkept = absurd unkept
 refused g old event row response now faults.Memory rows store works early is turn unkept = (
   works,

@@ -26,7 +26,6 @@ StepsTo config ports rows event handled new = IsStep latest_of (Changes config) 
 
 -- why no server was opened: memory ran out, or the store has failed
 abbrev pub IsOpenFault : ServeFault → Bool → Type 0
-IsOpenFault (faults.Unsupported kind) failed = ⊥
 IsOpenFault faults.MomentTooLarge failed = ⊥
 IsOpenFault faults.Memory failed = failed ≡ false
 IsOpenFault (faults.Store fault) failed = failed ≡ true
@@ -78,7 +77,6 @@ module _ {S : Type 0} (g : Ghosts S) where
   -- why an event is not handled, and what stands then: want of memory, a moment of 2^40 or more and a store that
   -- has failed before change nothing; else the store has failed at this event
   abbrev pub Refuses : Keeping S → Event → ServeFault → Keeping S → Type 0
-  Refuses old event (faults.Unsupported kind) new = ⊥
   Refuses old event faults.MomentTooLarge new = (g.has_failed old.store ≡ false) × (2 ^ 40 ≤ event.moment) × (new ≡ old)
   Refuses old event faults.Memory new = (g.has_failed old.store ≡ false) × (event.moment < 2 ^ 40) × (new ≡ old)
   Refuses old event (faults.Store fault) new = IsStopped old event new

@@ -8,10 +8,20 @@ use Rattle.kd_event.specs.declared.event.Response.TheVariants as responses
 use Rattle.kd_event.specs.declared.ports.Ports.{Ports}
 use Rattle.kd_event.specs.declared.reason.Reason.TheVariants as reasons
 use Rattle.kd_lease.specs.Change.{Decides}
+use Rattle.kd_lease.specs.Destination.{destination_of}
 use Rattle.kd_lease.specs.Plan.{Outcome}
+use Rattle.kd_lease.specs.declared.plan.Plan.{Plan}
 use Rattle.kd_options.specs.Message.{Seen, Reads}
+use Rattle.kd_options.specs.Reply.{reply_text}
 use Rattle.kd_rows.specs.declared.row.Row.{Row}
 use Rattle.kd_server.specs.Step.{Responds}
+
+-- a planned reply is sent
+abbrev pub IsSent : Ports → Seen → Plan → Response → Type 0
+IsSent ports m plan (responses.Quiet reason) = ⊥
+IsSent ports m plan (responses.Reply destination text) =
+    (destination ≡ destination_of m.header plan.kind plan.yiaddr ports)
+    × (text ≡ reply_text plan.reply.header plan.room plan.reply.items)
 
 -- a message sets this row, and this is sent
 pub record Turns (config : Configuration) (ports : Ports) (rows : List Row) (now : ℕ) (m : Seen) (row : Option Row) (response : Response) : Type 0 where

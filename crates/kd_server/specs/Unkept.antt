@@ -17,7 +17,6 @@ pub record IsSettable (rows : List Row) (row : Row) : Type 0 where
 module _ {S : Type 0} (g : Ghosts S) where
   -- a row is not kept: memory ran out, and nothing changed; or the store failed, and the rows stay
   abbrev pub IsUnkept : List Row → List Row → S → S → List Row → ServeFault → Type 0
-  IsUnkept before rows old new after (faults.Unsupported kind) = ⊥
   IsUnkept before rows old new after faults.MomentTooLarge = ⊥
   IsUnkept before rows old new after faults.Memory = (rows ≡ before) × (new ≡ old)
   IsUnkept before rows old new after (faults.Store fault) = (rows ≡ before) × Loses g old new before after

@@ -1,16 +1,16 @@
-//! The server: what it sends for a datagram, over its configuration.
+//! The server: what it sends for a datagram, and what it keeps of the leases.
 //!
-//! What this layer promises to the one above: an event is answered as the history of events says, over
-//! the configuration that the server goes by and the lease table that it stands at (`specs/Standing.antt`),
-//! by the rules of `kd_lease`; `run` and `replay` are those of `kd_replay`, over this server. While
-//! an address is leased to a client, no history gives it to another (`specs/NoOverlap.antt`,
+//! What this layer promises to the one above: an event is answered as the history of events says, over the
+//! configuration that the server goes by and the rows that it stands at, which its store keeps
+//! (`specs/Keeping.antt`), by the rules of `kd_lease`; `run` and `replay` are those of `kd_replay`, over this server.
+//! While an address is leased to a client, no history gives it to another (`specs/NoOverlap.antt`,
 //! `laws::no_overlap`).
 #![tactic(auto)]
 
 pub mod laws;
-mod leasing;
+mod replaying;
 mod server;
 mod turning;
 
-pub use leasing::LeaseServer;
-pub use server::{Server, replay};
+pub use replaying::replay;
+pub use server::Server;

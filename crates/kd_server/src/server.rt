@@ -1,84 +1,80 @@
-ghost use Rattle.std.specs.Prelude.{◌≡◌, ◌≤◌, ◌⊎◌, ℕ, List, Some, true, false, IfErr, IfOk};
-ghost use Rattle.std.specs.Result.{IsErrOf};
-ghost use Rattle.kd_options.specs.Reply.{Fits};
-ghost use Rattle.kd_server.specs.Unserved.{IsUnserved};
+ghost use Rattle.std.specs.Prelude.{◌≡◌, ◌≤◌, ◌<◌, ◌^◌, IfErr, IfOk, IfSome, OnOk, false};
+ghost use Rattle.kd_lease.specs.Change.{after};
+ghost use Rattle.kd_lease.specs.Rules.{IsSetAt};
 ghost use Rattle.kd_replay.specs.History.{Runs};
-ghost use Rattle.kd_replay.specs.Replay.{Handles, Leaves, most_lines};
-ghost use Rattle.kd_server.specs.Responding.{IsAnswerBy, IsResponse, IsSent, IsUnanswered};
-ghost use Rattle.kd_server.specs.Standing.{Fails, Gives};
 ghost use Rattle.kd_replay.specs.Text.{IsSmall};
-ghost use Rattle.kd_replay.specs.declared.fault.ReplayFault.TheVariants as faults;
+ghost use Rattle.kd_rows.specs.Table.{with_row};
+ghost use Rattle.kd_server.specs.Keeping.{IsUnopened, Opens, Refuses, Steps, StillHolds};
+ghost use Rattle.kd_server.specs.Unkept.{IsSettable, IsUnkept};
 
+use crate::turning::{Turn, turn_at};
 use kd_config::Config;
-use kd_event::{Event, Handled, Ports, Reason, Response};
-use kd_lease::{Answer, Plan, decide_unleased, destination};
-use kd_options::{Message, ReadFault, WriteFault};
-use kd_replay::{ReplayFault, ServeFault, Serves, Sink, Source, replay_with, run_with};
-use kd_wire::Bytes;
-use std::alloc::{AllocError, Global};
+use kd_event::{Event, Handled, Ports};
+use kd_keeps::Keeps;
+use kd_replay::{ServeFault, Serves, run_with};
+use kd_rows::{Row, Rows};
+use std::alloc::Global;
 use std::marker::Model;
 
-/// A server that goes by a configuration; no address is leased.
+/// A server that goes by a configuration, gives out leases, and keeps them in a store.
 #[derive(Drop)]
-pub struct Server {
+pub struct Server<S: Keeps> {
     ports: Ports,
     config: Config,
+    rows: Rows,
+    store: S,
     alloc: Global,
 }
 
-impl Model for Server {
-    ghost use Rattle.kd_server.specs.Standing.{Standing};
+impl<S: Keeps> Model for Server<S> {
+    ghost use Rattle.kd_server.specs.Keeping.{Keeping};
 
-    ghost Value = { Standing };
+    ghost Value = { Keeping S };
 
-    ghost view = { λ s. record { ports = s.ports; config = s.config; table = tt } };
+    ghost view = { λ s. record { ports = s.ports; config = s.config; rows = s.rows.rows; store = s.store } };
 }
 
 // Moments are below this, 2^40 seconds.
 const MOMENTS: u64 = 0x100_0000_0000;
 
-impl Server {
-    /// A server with these ports that goes by this configuration. It keeps the allocator for its calls,
-    /// and takes no memory itself.
-    pub fn new(alloc: Global, config: Config, ports: Ports) -> Server
-        ensures { result ≡ record { ports = ports; config = config; table = tt } }
-    {
-        Server {
-            ports,
-            config,
-            alloc,
-        }
-    }
-
-    /// The server's end: the configuration that it went by.
-    pub fn close(self) -> Config
-        ensures { result ≡ self.config }
-    {
-        let Server { config, .. } = self;
-        config
-    }
-
-    /// What is sent for a datagram at a moment, in whole seconds (RFC 2131 section 4.3).
+impl<S: Keeps> Server<S> {
+    /// A server with these ports that goes by this configuration, and stands at the leases of this store.
     ///
     /// # Errors
     ///
-    /// `MomentTooLarge` where the moment is not below 2^40, `Unsupported` where the datagram is a client's
-    /// message of another type than INFORM, and `Memory`. Nothing is changed then.
-    pub fn handle(&mut self, moment: u64, bytes: &[u8]) -> Result<Handled, ServeFault>
-        ensures handled { IfOk result (λ handled.
-            Gives self.old (record { moment = moment; bytes = bytes.now }) handled self.new) }
-        ensures small { IfOk result (λ handled. IsSmall handled.response) }
-        ensures failed { IfErr result (λ fault.
-            Fails self.old (record { moment = moment; bytes = bytes.now }) fault self.new) }
+    /// `Store` where the store fails, and `Memory`; configuration and store come back.
+    pub fn open(
+        alloc: Global,
+        config: Config,
+        mut store: S,
+        ports: Ports,
+    ) -> Result<Server<S>, (ServeFault, Config, S)>
+        requires { S.has_failed store ≡ false }
+        ensures opened { IfOk result (Opens S.Keeps ports config store) }
+        ensures refused { IfErr result (λ back. IsUnopened S.Keeps config store back.0 back.1 back.2) }
     {
-        if moment >= MOMENTS {
-            return Err(ServeFault::MomentTooLarge);
+        match store.rows() {
+            Ok(list) => match Rows::new(list) {
+                Ok(rows) => Ok(Server {
+                    ports,
+                    config,
+                    rows,
+                    store,
+                    alloc,
+                }),
+                Err(_) => Err((ServeFault::Memory, config, store)),
+            },
+            Err(fault) => Err((ServeFault::Store(fault), config, store)),
         }
-        let response = respond(self.alloc, self.ports, &self.config, bytes)?;
-        Ok(Handled {
-            now: moment,
-            response,
-        })
+    }
+
+    /// The server's end: the configuration that it went by, and its store.
+    pub fn close(self) -> (Config, S)
+        ensures config { result.0 ≡ self.config }
+        ensures store { result.1 ≡ self.store }
+    {
+        let Server { config, store, .. } = self;
+        (config, store)
     }
 
     /// Handles events one after another, up to the first fault. The list for all of them is grown first.
@@ -87,104 +83,100 @@ impl Server {
     ///
     /// Beside the list of what was handled, the fault of the next event; or `Memory` before the first.
     pub fn run(&mut self, events: &[Event]) -> (Vec<Handled>, Option<ServeFault>)
-        ensures { Runs Gives Fails events.now result.0.items result.1 self.old self.new }
+        ensures { Runs (Steps S.Keeps) (Refuses S.Keeps) events.now result.0.items result.1 self.old self.new }
     {
         run_with(self.alloc, self, events)
     }
+
+    /// What is sent for a datagram at a moment, in whole seconds (RFC 2131 section 4.3). The row that it sets is
+    /// committed to the store before.
+    ///
+    /// # Errors
+    ///
+    /// `Failed` where the store has failed before, `MomentTooLarge` where the moment is not below 2^40, and
+    /// `Memory`: nothing is changed then. `Store` where the store fails at the row: the server's rows are those from
+    /// before, and the store holds these or those with the row.
+    pub fn handle(&mut self, moment: u64, bytes: &[u8]) -> Result<Handled, ServeFault>
+        ensures handled { IfOk result (λ handled.
+            Steps S.Keeps self.old (record { moment = moment; bytes = bytes.now }) handled self.new) }
+        ensures small { IfOk result (λ handled. IsSmall handled.response) }
+        ensures failed { IfErr result (λ fault.
+            Refuses S.Keeps self.old (record { moment = moment; bytes = bytes.now }) fault self.new) }
+    {
+        if self.store.failed() {
+            return Err(ServeFault::Failed);
+        }
+        if moment >= MOMENTS {
+            return Err(ServeFault::MomentTooLarge);
+        }
+        let now = moment.max(self.rows.latest());
+        let turn = turn_at(self.alloc, self.ports, &self.config, &self.rows, now, bytes)?;
+        settle(&mut self.rows, &mut self.store, now, turn)
+    }
 }
 
-impl Serves for Server {
-    ghost use Rattle.kd_server.specs.Standing.{Fails, Gives};
+impl<S: Keeps> Serves for Server<S> {
+    ghost use Rattle.kd_server.specs.Keeping.{Refuses, Steps};
 
-    ghost gives = { Gives };
+    ghost gives = { Steps S.Keeps };
 
-    ghost fails = { Fails };
+    ghost fails = { Refuses S.Keeps };
 
     fn handle(&mut self, moment: u64, bytes: &[u8]) -> Result<Handled, ServeFault> {
         Server::handle(self, moment, bytes)
     }
 }
 
-/// Handles the events of the source's lines, one after another, and writes a line for each to the sink, up
-/// to the first fault; says how many were handled. An input line has a moment in decimal, a space, and a
-/// datagram in hexadecimal.
-///
-/// # Errors
-///
-/// `Read` where the source fails, or has more than 1,000,000 lines; `BadLine` at a line that is no event;
-/// `Serve` with the fault of a line's event; `Write` where the sink fails; `Memory`. What was handled
-/// before stands written.
-pub fn replay<R: Source, W: Sink>(
-    alloc: Global,
-    source: &mut R,
-    sink: &mut W,
-    server: &mut Server,
-) -> Result<u64, ReplayFault>
-    requires source { R.has_failed source.old ≡ false }
-    requires sink { W.has_failed sink.old ≡ false }
-    ensures replayed { (input old : List ℕ) → R.remaining source.old ≡ Some input → W.contents sink.old ≡ Some old
-        → Leaves Gives Fails (R.has_failed source.new ≡ true) result input server.old server.new old (W.contents sink.new) }
-    ensures counted { IfOk result (λ count. Handles Gives count server.old server.new) }
-    ensures read { IsErrOf result faults.Read
-        → (R.has_failed source.new ≡ true) ⊎ Handles Gives most_lines server.old server.new }
-    ensures write { IsErrOf result faults.Write → W.has_failed sink.new ≡ true }
+// Keeps the row that a datagram sets, and then hands out what is sent for it.
+fn settle<S: Keeps>(
+    rows: &mut Rows,
+    store: &mut S,
+    now: u64,
+    turn: Turn,
+) -> Result<Handled, ServeFault>
+    requires works { S.has_failed store.old ≡ false }
+    requires set { IfSome turn.row (IsSettable rows.old.rows) }
+    ensures handled { IfOk result (λ handled. handled ≡ record { now = now; response = turn.response }) }
+    ensures rows { OnOk result (rows.new.rows ≡ after rows.old.rows turn.row) }
+    ensures store { OnOk result (StillHolds S.Keeps store.old store.new rows.old.rows rows.new.rows) }
+    ensures failed { IfErr result (IsUnkept S.Keeps rows.old.rows rows.new.rows store.old store.new (after rows.old.rows turn.row)) }
 {
-    replay_with(alloc, source, sink, server)
+    let Turn { row, response } = turn;
+    keep(rows, store, row)?;
+    Ok(Handled { now, response })
 }
 
-// What is sent for a datagram.
-fn respond(
-    alloc: Global,
-    ports: Ports,
-    config: &Config,
-    bytes: &[u8],
-) -> Result<Response, ServeFault>
-    ensures found { IfOk result (IsResponse config.now ports bytes.now) }
-    ensures small { IfOk result IsSmall }
-    ensures fault { IfErr result (IsUnanswered config.now bytes.now) }
+// Sets a row in the store and among the rows, where there is one and it changes them.
+fn keep<S: Keeps>(rows: &mut Rows, store: &mut S, row: Option<Row>) -> Result<(), ServeFault>
+    requires works { S.has_failed store.old ≡ false }
+    requires set { IfSome row (IsSettable rows.old.rows) }
+    ensures rows { OnOk result (rows.new.rows ≡ after rows.old.rows row) }
+    ensures store { OnOk result (StillHolds S.Keeps store.old store.new rows.old.rows rows.new.rows) }
+    ensures failed { IfErr result (IsUnkept S.Keeps rows.old.rows rows.new.rows store.old store.new (after rows.old.rows row)) }
 {
-    match Message::read(alloc, bytes) {
-        Ok(message) => answer(alloc, ports, config, &message),
-        Err(ReadFault::Memory) => Err(ServeFault::Memory),
-        Err(_) => Ok(Response::Quiet(Reason::Unreadable)),
+    match row {
+        Some(row) => keep_row(rows, store, row),
+        None => Ok(()),
     }
 }
 
-// What is sent for a message.
-fn answer(
-    alloc: Global,
-    ports: Ports,
-    config: &Config,
-    message: &Message<'_>,
-) -> Result<Response, ServeFault>
-    ensures found { IfOk result (IsAnswerBy config.now ports message.now) }
-    ensures small { IfOk result IsSmall }
-    ensures fault { IfErr result (IsUnserved config.now message.now) }
+// Sets a row in the store and among the rows, where it changes them.
+fn keep_row<S: Keeps>(rows: &mut Rows, store: &mut S, row: Row) -> Result<(), ServeFault>
+    requires works { S.has_failed store.old ≡ false }
+    requires set { IsSettable rows.old.rows row }
+    ensures rows { OnOk result (rows.new.rows ≡ with_row row rows.old.rows) }
+    ensures store { OnOk result (StillHolds S.Keeps store.old store.new rows.old.rows rows.new.rows) }
+    ensures failed { IfErr result (IsUnkept S.Keeps rows.old.rows rows.new.rows store.old store.new (with_row row rows.old.rows)) }
 {
-    let names = config.classes().held(alloc, message)?;
-    match decide_unleased(alloc, config, &names, message)? {
-        Some(Answer::Quiet(reason)) => Ok(Response::Quiet(reason)),
-        Some(Answer::Plan(plan)) => Ok(sent(alloc, ports, message, &plan)?),
-        None => Err(ServeFault::Unsupported(message.kind())),
+    if rows.has(&row) {
+        return Ok(());
     }
-}
-
-// A planned reply, as it is sent.
-pub(crate) fn sent(
-    alloc: Global,
-    ports: Ports,
-    message: &Message<'_>,
-    plan: &Plan,
-) -> Result<Response, AllocError>
-    requires fits { Fits plan.now.room plan.now.reply.items }
-    requires least { 300 ≤ plan.now.room }
-    requires most { plan.now.room ≤ 1472 }
-    ensures found { IfOk result (IsSent ports message.now plan.now) }
-    ensures small { IfOk result IsSmall }
-{
-    match plan.reply.write(alloc, plan.room) {
-        Ok(bytes) => Ok(Response::Reply(destination(message, plan, ports), Bytes::own(bytes))),
-        Err(WriteFault::Memory) => Err(AllocError),
-        Err(WriteFault::TooLong) => unreachable!(),
+    rows.reserve(&row)?;
+    match store.put(&row) {
+        Ok(()) => {
+            rows.set(row);
+            Ok(())
+        }
+        Err(fault) => Err(ServeFault::Store(fault)),
     }
 }

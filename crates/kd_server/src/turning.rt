@@ -1,17 +1,18 @@
 ghost use Rattle.std.specs.Prelude.{◌≡◌, ◌≤◌, ◌<◌, ◌^◌, IfOk, IfSome};
 ghost use Rattle.kd_lease.specs.Decided.{IsAnswerTo, outcome_in};
 ghost use Rattle.kd_lease.specs.Rules.{IsSetAt};
+ghost use Rattle.kd_options.specs.Reply.{Fits};
 ghost use Rattle.kd_replay.specs.Text.{IsSmall};
 ghost use Rattle.kd_server.specs.Step.{Responds};
-ghost use Rattle.kd_server.specs.Turn.{IsTurn, Turns};
+ghost use Rattle.kd_server.specs.Turn.{IsSent, IsTurn, Turns};
 
-use crate::server::sent;
 use kd_config::Config;
 use kd_event::{Ports, Reason, Response};
-use kd_lease::{Answer, Decision, decide};
-use kd_options::{Message, ReadFault};
+use kd_lease::{Answer, Decision, Plan, decide, destination};
+use kd_options::{Message, ReadFault, WriteFault};
 use kd_replay::ServeFault;
 use kd_rows::{Row, Rows};
+use kd_wire::Bytes;
 use std::alloc::{AllocError, Global};
 
 // What a datagram does: the row that it sets, if it sets one, and what is sent.
@@ -79,5 +80,25 @@ fn response_to(
     match answer {
         Answer::Plan(plan) => sent(alloc, ports, message, plan),
         Answer::Quiet(reason) => Ok(Response::Quiet(*reason)),
+    }
+}
+
+// A planned reply, as it is sent.
+fn sent(
+    alloc: Global,
+    ports: Ports,
+    message: &Message<'_>,
+    plan: &Plan,
+) -> Result<Response, AllocError>
+    requires fits { Fits plan.now.room plan.now.reply.items }
+    requires least { 300 ≤ plan.now.room }
+    requires most { plan.now.room ≤ 1472 }
+    ensures found { IfOk result (IsSent ports message.now plan.now) }
+    ensures small { IfOk result IsSmall }
+{
+    match plan.reply.write(alloc, plan.room) {
+        Ok(bytes) => Ok(Response::Reply(destination(message, plan, ports), Bytes::own(bytes))),
+        Err(WriteFault::Memory) => Err(AllocError),
+        Err(WriteFault::TooLong) => unreachable!(),
     }
 }

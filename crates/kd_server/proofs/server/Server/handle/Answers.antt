@@ -2,7 +2,7 @@ use Rattle.std.proofs.Common.{IfErr, ap, arith, max, subst, sym, ◌∙◌}
 use Rattle.kd_event.specs.declared.event.Event.{Event}
 use Rattle.kd_server.specs.Keeping.{Keeping, Refuses}
 use Rattle.kd_server.proofs.Stopping.{refused_if}
-use Rattle.kd_server.proofs.leasing.LeaseServer.handle.Goals as goal
+use Rattle.kd_server.proofs.server.Server.handle.Goals as goal
 
 pub returns-clause-failed : goal.returns-clause-failed
 returns-clause-failed g c =
