@@ -1,9 +1,12 @@
+ghost use Rattle.std.specs.Prelude.{◌≡◌, false};
+
 use crate::case::Written;
 use crate::files::Files;
 use kd_answer::{Printed, answer, exit_status, replay_status};
 use kd_config::Config;
-use kd_ends::{Input, Output};
+use kd_ends::{Input, Output, store_in_memory};
 use kd_event::Ports;
+use kd_keeps::Keeps;
 use kd_order::{LineFault, Order, order};
 use kd_server::{Server, replay};
 use std::alloc::{AllocError, Global};
@@ -48,11 +51,7 @@ fn text(alloc: Global, bytes: &[u8]) -> Result<String, AllocError> {
 
 // Why the words are no order, or get no answer.
 fn unanswered(alloc: Global, fault: LineFault) -> io::Result<Written> {
-    Ok(Written {
-        out: String::new(alloc),
-        fault: fault_line(alloc, fault.number(), &fault)?,
-        status: exit_status(fault.number()),
-    })
+    failed(alloc, fault.number(), &fault)
 }
 
 // A fault's line.
@@ -70,25 +69,56 @@ fn replayed(
 ) -> io::Result<Written> {
     match files.configuration(rt, config, token_dir) {
         Ok(config) => replayed_by(rt.alloc(), config, input),
-        Err(fault) => Ok(Written {
-            out: String::new(rt.alloc()),
-            fault: fault_line(rt.alloc(), fault.number(), &fault)?,
-            status: exit_status(fault.number()),
-        }),
+        Err(fault) => failed(rt.alloc(), fault.number(), &fault),
     }
 }
 
-// The events of an input, replayed by a server of a configuration and the standard's ports.
+// A fault that comes before anything is written.
+fn failed<F: Display>(alloc: Global, number: u8, fault: &F) -> io::Result<Written> {
+    Ok(Written {
+        out: String::new(alloc),
+        fault: fault_line(alloc, number, fault)?,
+        status: exit_status(number),
+    })
+}
+
+// The events of an input, replayed by a server of a configuration over a new store in memory.
 fn replayed_by(alloc: Global, config: Config, input: &str) -> io::Result<Written> {
+    match store_in_memory(alloc) {
+        Ok(store) => replayed_over(alloc, config, store, input),
+        Err(fault) => failed(alloc, fault.number(), &fault),
+    }
+}
+
+// The events of an input, replayed by a server of a configuration over a store, on the standard's ports.
+fn replayed_over<S: Keeps + Drop>(
+    alloc: Global,
+    config: Config,
+    store: S,
+    input: &str,
+) -> io::Result<Written>
+    requires { S.has_failed store ≡ false }
+{
     let ports = Ports {
         server: 67,
         client: 68,
     };
+    match Server::open(alloc, config, store, ports) {
+        Ok(mut server) => replayed_at(alloc, &mut server, input),
+        Err((fault, _, _)) => failed(alloc, fault.number(), &fault),
+    }
+}
+
+// The events of an input, replayed by a server.
+fn replayed_at<S: Keeps + Drop>(
+    alloc: Global,
+    server: &mut Server<S>,
+    input: &str,
+) -> io::Result<Written> {
     let mut out = Vec::new(alloc);
     let mut source = Input::over(input.as_bytes());
     let mut sink = Output::over(&mut out);
-    let mut server = Server::new(alloc, config, ports);
-    let done = replay(alloc, &mut source, &mut sink, &mut server);
+    let done = replay(alloc, &mut source, &mut sink, server);
     let out = text(alloc, out.as_slice())?;
     match done {
         Ok(_) => Ok(Written {

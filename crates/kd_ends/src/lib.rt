@@ -3,12 +3,15 @@
 //! What this layer promises to the one above: a reader is the source of a replay with the reader's bytes, and a writer
 //! a sink with the writer's, each failed once a call of it has failed, and by nothing else. A file is read whole, and
 //! the token files of a folder by their names; what a file system gave, no proof knows.
+//! A store of leases is opened in memory or in a file.
 #![tactic(auto)]
 
 mod files;
 mod start;
+mod stores;
 mod streams;
 
 pub use files::{InputFault, MOST_BYTES, read_file, token_files};
 pub use start::{StartFault, configuration};
+pub use stores::{InFile, store_in_file, store_in_memory};
 pub use streams::{Input, Output};

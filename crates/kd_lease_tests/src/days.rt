@@ -2,7 +2,7 @@ use crate::fields::{DIRECT, Fields, bytes_of};
 use kd_config::Config;
 use kd_event::{Mode, Ports, Reason, Response};
 use kd_replay::ServeFault;
-use kd_server::LeaseServer;
+use kd_server::Server;
 use kd_table_tests::Fused;
 use std::alloc::{AllocError, Global};
 use std::test::Fail;
@@ -147,9 +147,9 @@ const PORTS: Ports = Ports {
 };
 
 // A server of the built-in configuration over an empty store that answers so many calls.
-fn opened(alloc: Global, calls: u64) -> Result<LeaseServer<Fused>, Fault> {
+fn opened(alloc: Global, calls: u64) -> Result<Server<Fused>, Fault> {
     let store = Fused::new(alloc, calls)?;
-    match LeaseServer::open(alloc, Config::builtin(alloc)?, store, PORTS) {
+    match Server::open(alloc, Config::builtin(alloc)?, store, PORTS) {
         Ok(server) => Ok(server),
         Err((ServeFault::Memory, _, _)) => Err(Fault::Memory),
         Err(_) => Err(Fault::Other),
@@ -200,7 +200,7 @@ fn received(response: &Response) -> Got {
 }
 
 // What comes back for a message.
-fn sent(alloc: Global, server: &mut LeaseServer<Fused>, message: Sent) -> Result<Got, Fault> {
+fn sent(alloc: Global, server: &mut Server<Fused>, message: Sent) -> Result<Got, Fault> {
     let bytes = datagram(alloc, message)?;
     match server.handle(message.0, bytes.as_slice()) {
         Ok(handled) => Ok(received(&handled.response)),

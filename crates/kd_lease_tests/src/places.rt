@@ -3,7 +3,7 @@ use kd_config::Config;
 use kd_event::{Destination, Mode, Ports, Reason, Response};
 use kd_lease::{Plan, PlanKind, destination};
 use kd_options::{Items, Message, Reply};
-use kd_server::LeaseServer;
+use kd_server::Server;
 use kd_table_tests::Fused;
 use std::alloc::Global;
 use std::test::Fail;
@@ -99,7 +99,7 @@ const RELAYS: [(u32, Result<Mode, Reason>); 3] = [
 // How a DISCOVER through this relay is answered.
 fn answered(alloc: Global, giaddr: u32) -> Result<Result<Mode, Reason>, Fail> {
     let store = Fused::new(alloc, 10)?;
-    let Ok(mut server) = LeaseServer::open(alloc, Config::builtin(alloc)?, store, PORTS) else {
+    let Ok(mut server) = Server::open(alloc, Config::builtin(alloc)?, store, PORTS) else {
         return Err("no server".into());
     };
     let bytes = bytes_of(alloc, &Fields { giaddr, ..DIRECT })?;

@@ -1,5 +1,5 @@
 -- A replay that goes on: the lines so far are handled, and the rest of the input is not read.
-use Rattle.std.proofs.Common.{◌≡◌, ℕ, ◌+◌, List, [], ◌∷◌, ◌++◌, Some, None, refl, sym, ap, ◌∙◌, arith, append_assoc, length, length-append, inl, inr}
+use Rattle.std.proofs.Common.{◌≡◌, ℕ, ◌+◌, ◌<◌, ◌≤◌, ◌⊎◌, List, [], ◌∷◌, ◌++◌, Some, None, refl, sym, ap, ◌∙◌, arith, append_assoc, length, length-append, inl, inr}
 use Rattle.std.specs.Prelude.{Option, Ok, Err}
 use Rattle.std.specs.Io.KnownBytes.{Appends, prepend_known}
 use Rattle.std.proofs.lemmas.List.{append-nil, flat_map_more}
@@ -80,50 +80,50 @@ module _ {H : Type 0} (gives : H → Event → Handled → H → Type 0) where
   }
 
 module _ {H : Type 0} (gives : H → Event → Handled → H → Type 0) (fails : H → Event → ServeFault → H → Type 0) where
-  module _ (source_failed : Type 0) (input : List ℕ) (server : H) (old : List ℕ) (number : ℕ) (mid : H) (left contents : Option (List ℕ)) (g : Going gives input server old number mid left contents) where
+  module _ (source_failed : Type 0) (input : List ℕ) (server : H) (old : List ℕ) (number : ℕ) (mid : H) (left contents : Option (List ℕ)) (g : Going gives input server old number mid left contents) (few : number ≤ most_lines) where
     pub leaves_end : (left' : Option (List ℕ)) (text : List ℕ) → FindsIn found.End g.rest left' text → Leaves gives fails source_failed (Ok number) input server mid old contents
     leaves_end left' text f =
         let e : lines_of input ≡ g.before = g.lines ∙ ap (λ r. g.before ++ r) f.finds ∙ append-nil g.before in
-        record { out = g.out; told = g.told; replays = (rw e (sym g.count), rw e g.did) }
+        record { out = g.out; told = g.told; replays = (rw e (sym g.count), few, rw e g.did) }
 
-    stopped : (fault : ReplayFault) (new : H) (out : List ℕ) (contents' : Option (List ℕ)) → contents' ≡ Some out → Ends gives fails source_failed fault (number + 1) (lines_of g.rest) mid new g.out out
+    stopped : (fault : ReplayFault) (new : H) (out : List ℕ) (contents' : Option (List ℕ)) → contents' ≡ Some out → (fault ≡ faults.Read) ⊎ (number < most_lines) → Ends gives fails source_failed fault (number + 1) (lines_of g.rest) mid new g.out out
         → Leaves gives fails source_failed (Err fault) input server new old contents'
-    stopped fault new out contents' told ends = record {
+    stopped fault new out contents' told early ends = record {
       out = out;
       told = told;
-      replays = record { before = g.before; after = lines_of g.rest; mid = mid; between = g.out; all = g.lines; did = g.did; ends = rw g.count ends };
+      replays = record { before = g.before; after = lines_of g.rest; mid = mid; between = g.out; all = g.lines; few = rw g.count few; early = rw g.count early; did = g.did; ends = rw g.count ends };
     }
 
     pub leaves_read : source_failed → Leaves gives fails source_failed (Err faults.Read) input server mid old contents
-    leaves_read failed = stopped faults.Read mid g.out contents g.told (inl failed, refl, refl)
+    leaves_read failed = stopped faults.Read mid g.out contents g.told (inl refl) (inl failed, refl, refl)
 
-    pub leaves_memory : Leaves gives fails source_failed (Err faults.Memory) input server mid old contents
-    leaves_memory = stopped faults.Memory mid g.out contents g.told (refl, refl)
+    pub leaves_memory : number < most_lines → Leaves gives fails source_failed (Err faults.Memory) input server mid old contents
+    leaves_memory early = stopped faults.Memory mid g.out contents g.told (inr early) (refl, refl)
 
-    pub leaves_too_long : (left' : Option (List ℕ)) (text : List ℕ) → FindsIn found.TooLong g.rest left' text → Leaves gives fails source_failed (Err (faults.BadLine (number + 1))) input server mid old contents
-    leaves_too_long left' text f =
+    pub leaves_too_long : number < most_lines → (left' : Option (List ℕ)) (text : List ℕ) → FindsIn found.TooLong g.rest left' text → Leaves gives fails source_failed (Err (faults.BadLine (number + 1))) input server mid old contents
+    leaves_too_long early left' text f =
         let none : IsNoEvent f.finds.first = λ event p. omega (arith, p.short, f.finds.long) in
-        stopped (faults.BadLine (number + 1)) mid g.out contents g.told (rw f.finds.all (refl, none, refl, refl))
+        stopped (faults.BadLine (number + 1)) mid g.out contents g.told (inr early) (rw f.finds.all (refl, none, refl, refl))
 
-    pub leaves_bad : (left' : Option (List ℕ)) (text : List ℕ) → FindsIn found.Line g.rest left' text → IsNoEvent text
+    pub leaves_bad : number < most_lines → (left' : Option (List ℕ)) (text : List ℕ) → FindsIn found.Line g.rest left' text → IsNoEvent text
         → Leaves gives fails source_failed (Err (faults.BadLine (number + 1))) input server mid old contents
-    leaves_bad left' text f none = stopped (faults.BadLine (number + 1)) mid g.out contents g.told (rw f.finds.0 (refl, none, refl, refl))
+    leaves_bad early left' text f none = stopped (faults.BadLine (number + 1)) mid g.out contents g.told (inr early) (rw f.finds.0 (refl, none, refl, refl))
 
-    pub leaves_event : (left' : Option (List ℕ)) (text : List ℕ) (event : Event) (fault : ReplayFault) (new : H) (contents' : Option (List ℕ)) → FindsIn found.Line g.rest left' text
+    pub leaves_event : number < most_lines → (left' : Option (List ℕ)) (text : List ℕ) (event : Event) (fault : ReplayFault) (new : H) (contents' : Option (List ℕ)) → FindsIn found.Line g.rest left' text
         → IsEventLine text event → EndsEvent gives fails fault event mid new contents contents' → Leaves gives fails source_failed (Err fault) input server new old contents'
-    leaves_event left' text event (faults.BadLine k) new contents' f is e = absurd e
-    leaves_event left' text event (faults.Serve fault) new contents' f is e =
-        stopped (faults.Serve fault) new g.out contents' (e.2 ∙ g.told) (rw f.finds.0 (record { event = event; spelled = is; failed = e.0; other = e.1 }, refl))
-    leaves_event left' text event faults.Write new contents' f is e =
-        stopped faults.Write new (g.out ++ e.cut.part) contents' (appended contents contents' e.cut.part g.out e.cut.written g.told)
+    leaves_event early left' text event (faults.BadLine k) new contents' f is e = absurd e
+    leaves_event early left' text event (faults.Serve fault) new contents' f is e =
+        stopped (faults.Serve fault) new g.out contents' (e.2 ∙ g.told) (inr early) (rw f.finds.0 (record { event = event; spelled = is; failed = e.0; other = e.1 }, refl))
+    leaves_event early left' text event faults.Write new contents' f is e =
+        stopped faults.Write new (g.out ++ e.cut.part) contents' (appended contents contents' e.cut.part g.out e.cut.written g.told) (inr early)
         (rw f.finds.0 (record { event = event; handled = e.handled; part = e.cut.part; more = e.cut.more; spelled = is; given = e.given; cut = e.cut.cut; written = refl }))
-    leaves_event left' text event faults.Read new contents' f is e = absurd e
-    leaves_event left' text event faults.Memory new contents' f is e = stopped faults.Memory new g.out contents' (e.1 ∙ g.told) (e.0, refl)
+    leaves_event early left' text event faults.Read new contents' f is e = absurd e
+    leaves_event early left' text event faults.Memory new contents' f is e = stopped faults.Memory new g.out contents' (e.1 ∙ g.told) (inr early) (e.0, refl)
 
     -- there is one line too many
     module _ (all : number ≡ most_lines) where
       pub leaves_more : (left' : Option (List ℕ)) (text : List ℕ) → FindsIn found.Line g.rest left' text → Leaves gives fails source_failed (Err faults.Read) input server mid old contents
-      leaves_more left' text f = stopped faults.Read mid g.out contents g.told (inr (ap (λ n. n + 1) all, rw f.finds.0 (omega arith)), refl, refl)
+      leaves_more left' text f = stopped faults.Read mid g.out contents g.told (inl refl) (inr (ap (λ n. n + 1) all, rw f.finds.0 (omega arith)), refl, refl)
 
       pub leaves_more_long : (left' : Option (List ℕ)) (text : List ℕ) → FindsIn found.TooLong g.rest left' text → Leaves gives fails source_failed (Err faults.Read) input server mid old contents
-      leaves_more_long left' text f = stopped faults.Read mid g.out contents g.told (inr (ap (λ n. n + 1) all, rw f.finds.all (omega arith)), refl, refl)
+      leaves_more_long left' text f = stopped faults.Read mid g.out contents g.told (inl refl) (inr (ap (λ n. n + 1) all, rw f.finds.all (omega arith)), refl, refl)

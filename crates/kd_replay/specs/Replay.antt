@@ -1,5 +1,5 @@
 -- A replay: which lines of the input are handled, what is written for them, and how it ends.
-use Rattle.std.specs.Prelude.{◌≡◌, ◌≢◌, ℕ, ◌+◌, ◌<◌, List, [], ◌∷◌, ◌++◌, ◌⊎◌, Option, Some, Result, Ok, Err, length}
+use Rattle.std.specs.Prelude.{◌≡◌, ◌≢◌, ℕ, ◌+◌, ◌<◌, ◌≤◌, List, [], ◌∷◌, ◌++◌, ◌⊎◌, Option, Some, Result, Ok, Err, length}
 use Rattle.std.specs.List.{flat_map}
 use Rattle.kd_replay.specs.History.{History}
 use Rattle.kd_replay.specs.Lines.{IsEventLine, lines_of}
@@ -80,19 +80,22 @@ module _ {H : Type 0} (gives : H → Event → Handled → H → Type 0) (fails 
       (source_failed ⊎ ((number ≡ most_lines + 1) × (0 < length lines))) × (new ≡ server) × (out ≡ old)
   Ends source_failed faults.Memory number lines server new old out = (new ≡ server) × (out ≡ old)
 
-  -- a replay stops: the lines before are handled, and it ends at the next
+  -- a replay stops: the lines before are handled, and it ends at the next, which is one of the first 1,000,000 but where
+  -- the source has failed or there is one line too many
   pub record Stops (source_failed : Type 0) (fault : ReplayFault) (lines : List (List ℕ)) (server new : H) (old out : List ℕ) : Type 0 where
     pub before : List (List ℕ)
     pub after : List (List ℕ)
     pub mid : H
     pub between : List ℕ
     pub all : lines ≡ before ++ after
+    pub few : length before ≤ most_lines
+    pub early : (fault ≡ faults.Read) ⊎ (length before < most_lines)
     pub did : Did gives before server mid old between
     pub ends : Ends source_failed fault (length before + 1) after mid new between out
 
-  -- a replay: all lines are handled, as many as it says, or it stops with its fault
+  -- a replay: all lines are handled, as many as it says and 1,000,000 at most, or it stops with its fault
   abbrev pub Replays : Type 0 → Result ℕ ReplayFault → List (List ℕ) → H → H → List ℕ → List ℕ → Type 0
-  Replays source_failed (Ok count) lines server new old out = (count ≡ length lines) × Did gives lines server new old out
+  Replays source_failed (Ok count) lines server new old out = (count ≡ length lines) × (count ≤ most_lines) × Did gives lines server new old out
   Replays source_failed (Err fault) lines server new old out = Stops source_failed fault lines server new old out
 
   -- what a replay of an input leaves in the sink, whose contents are known

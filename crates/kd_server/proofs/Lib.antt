@@ -2,3 +2,4 @@ pub mod LiveLeases
 pub mod Overlap
 pub mod Ruled
 pub mod Stopping
+pub mod Taken

@@ -1,4 +1,5 @@
 pub mod Keeping
+pub mod Leases
 pub mod NoOverlap
 pub mod Step
 pub mod Turn

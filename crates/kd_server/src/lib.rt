@@ -8,9 +8,11 @@
 #![tactic(auto)]
 
 pub mod laws;
+mod leases;
 mod replaying;
 mod server;
 mod turning;
 
+pub use leases::{Lease, lease_lines};
 pub use replaying::replay;
 pub use server::Server;

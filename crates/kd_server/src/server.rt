@@ -5,8 +5,10 @@ ghost use Rattle.kd_replay.specs.History.{Runs};
 ghost use Rattle.kd_replay.specs.Text.{IsSmall};
 ghost use Rattle.kd_rows.specs.Table.{with_row};
 ghost use Rattle.kd_server.specs.Keeping.{IsUnopened, Opens, Refuses, Steps, StillHolds};
+ghost use Rattle.kd_server.specs.Leases.{IsNoList, leases_at};
 ghost use Rattle.kd_server.specs.Unkept.{IsSettable, IsUnkept};
 
+use crate::leases::{Lease, leases_of};
 use crate::turning::{Turn, turn_at};
 use kd_config::Config;
 use kd_event::{Event, Handled, Ports};
@@ -75,6 +77,26 @@ impl<S: Keeps> Server<S> {
     {
         let Server { config, store, .. } = self;
         (config, store)
+    }
+
+    /// The leases at a moment, in whole seconds: the rows in rising address, and which of them have not ended.
+    ///
+    /// # Errors
+    ///
+    /// `Failed` where the store has failed, `MomentTooLarge` where the moment is not below 2^40, and `Memory`.
+    pub fn leases(&self, moment: u64) -> Result<Vec<Lease>, ServeFault>
+        ensures leases { IfOk result (λ list. list.items ≡ leases_at moment self.now.rows) }
+        ensures works { IfOk result (λ list. (S.has_failed self.now.store ≡ false) × (moment < 2 ^ 40)) }
+        ensures failed { IfErr result (IsNoList (S.has_failed self.now.store) moment) }
+    {
+        if self.store.failed() {
+            return Err(ServeFault::Failed);
+        }
+        if moment >= MOMENTS {
+            return Err(ServeFault::MomentTooLarge);
+        }
+        let now = moment.max(self.rows.latest());
+        Ok(leases_of(self.alloc, &self.rows, now)?)
     }
 
     /// Handles events one after another, up to the first fault. The list for all of them is grown first.

@@ -1,8 +1,8 @@
 use crate::doubles::{Giving, Keeping};
-use kd_config::Config;
+use crate::support::server_on;
 use kd_event::Ports;
 use kd_replay::ReplayFault;
-use kd_server::{Server, replay};
+use kd_server::replay;
 use std::alloc::{AllocError, Global};
 use std::test::Fail;
 
@@ -23,7 +23,7 @@ fn replayed(
         server: 67,
         client: 68,
     };
-    let mut server = Server::new(alloc, Config::builtin(alloc)?, ports);
+    let mut server = server_on(alloc, ports)?;
     let result = replay(alloc, &mut source, &mut sink, &mut server);
     Ok((result, sink))
 }

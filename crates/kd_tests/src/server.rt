@@ -1,19 +1,19 @@
-use crate::support::COOKIE;
-use kd_config::Config;
+use crate::support::{COOKIE, server_on};
 use kd_event::{Destination, Event, Mode, Ports, Reason, Response};
 use kd_replay::ServeFault;
 use kd_server::Server;
+use kd_table_tests::Fused;
 use kd_wire::Bytes;
 use std::alloc::{AllocError, Global};
 use std::test::Fail;
 
 // A server of the built-in configuration, on ports of its own.
-fn server(alloc: Global) -> Result<Server, AllocError> {
+fn server(alloc: Global) -> Result<Server<Fused>, AllocError> {
     let ports = Ports {
         server: 1067,
         client: 1068,
     };
-    Ok(Server::new(alloc, Config::builtin(alloc)?, ports))
+    server_on(alloc, ports)
 }
 
 // An INFORM of 192.0.2.77, through this relay.
@@ -30,7 +30,7 @@ fn inform(alloc: Global, relay: &[u8; 4]) -> Result<Vec<u8>, AllocError> {
 }
 
 // Where the reply to an INFORM through a relay goes, with the moment at which it was handled.
-fn sent(alloc: Global, server: &mut Server, relay: &[u8; 4]) -> Result<(u64, Destination), Fail> {
+fn sent(alloc: Global, server: &mut Server<Fused>, relay: &[u8; 4]) -> Result<(u64, Destination), Fail> {
     let bytes = inform(alloc, relay)?;
     let handled = server.handle(1000, bytes.as_slice())?;
     match handled.response {
@@ -65,7 +65,7 @@ fn a_server_has_its_ports_and_gives_its_configuration_back(rt: HostRuntime) -> R
     for (relay, destination) in WAYS {
         assert!(rt; sent(rt.alloc(), &mut server, &relay)? == (1000, destination));
     }
-    let config = server.close();
+    let (config, _) = server.close();
     assert!(rt; config.server() == 0xc000_0201 && config.subnets().len() == 1);
     Ok(())
 }
@@ -79,7 +79,7 @@ fn event(moment: u64, bytes: Vec<u8>) -> Event {
 }
 
 // How many events were handled, and the fault; the first is a reply and the others are unreadable.
-fn run(server: &mut Server, events: &[Event]) -> (usize, Option<ServeFault>) {
+fn run(server: &mut Server<Fused>, events: &[Event]) -> (usize, Option<ServeFault>) {
     let (list, fault) = server.run(events);
     for (index, handled) in list.iter().enumerate() {
         let is_as_wanted = match &handled.response {
@@ -114,7 +114,7 @@ fn a_run_ends_at_the_first_fault(rt: HostRuntime) -> Result<(), Fail> {
 }
 
 // Whether an INFORM is answered.
-fn is_answered(alloc: Global, server: &mut Server) -> Result<bool, Fail> {
+fn is_answered(alloc: Global, server: &mut Server<Fused>) -> Result<bool, Fail> {
     let bytes = inform(alloc, &[0; 4])?;
     match server.handle(5, bytes.as_slice()) {
         Ok(handled) => Ok(matches!(handled.response, Response::Reply(..))),

@@ -4,10 +4,13 @@
 //! `kd_server` replays the events of a source into a sink. This page ties them to the standard streams and to the
 //! files of a configuration.
 #![tactic(auto)]
+ghost use Rattle.std.specs.Prelude.{◌≡◌, false};
 
 use kd_answer::{Printed, answer, exit_status, replay_status};
-use kd_ends::{Input, Output, configuration};
+use kd_config::Config;
+use kd_ends::{Input, Output, configuration, store_in_memory};
 use kd_event::Ports;
+use kd_keeps::Keeps;
 use kd_order::{LineFault, Order, order};
 use kd_server::{Server, replay};
 use std::fmt::Display;
@@ -57,8 +60,8 @@ fn refuse<F: Display>(rt: &HostRuntime, number: u8, fault: &F, status: u8) -> io
     Ok(ExitCode::from(status))
 }
 
-// Replays the events of standard input to standard output, as a server that goes by the configuration of
-// these files, on the standard's ports.
+// Replays the events of standard input to standard output, as a server that goes by the configuration of these files
+// and keeps its leases in memory, on the standard's ports.
 fn replayed(
     rt: &HostRuntime,
     config: Option<&str>,
@@ -68,13 +71,32 @@ fn replayed(
         Ok(config) => config,
         Err(fault) => return refuse(rt, fault.number(), &fault, exit_status(fault.number())),
     };
-    let mut source = Input::over(rt.reader());
-    let mut sink = Output::over(io::writer(rt));
+    match store_in_memory(rt.alloc()) {
+        Ok(store) => replayed_over(rt, config, store),
+        Err(fault) => refuse(rt, fault.number(), &fault, exit_status(fault.number())),
+    }
+}
+
+// Replays the events of standard input as a server of a configuration, over a store.
+fn replayed_over<S: Keeps + Drop>(
+    rt: &HostRuntime,
+    config: Config,
+    store: S,
+) -> io::Result<ExitCode>
+    requires { S.has_failed store ≡ false }
+{
     let ports = Ports {
         server: 67,
         client: 68,
     };
-    let mut server = Server::new(rt.alloc(), config, ports);
+    let mut server = match Server::open(rt.alloc(), config, store, ports) {
+        Ok(server) => server,
+        Err((fault, _, _)) => {
+            return refuse(rt, fault.number(), &fault, exit_status(fault.number()));
+        }
+    };
+    let mut source = Input::over(rt.reader());
+    let mut sink = Output::over(io::writer(rt));
     match replay(rt.alloc(), &mut source, &mut sink, &mut server) {
         Ok(_) => Ok(ExitCode::SUCCESS),
         Err(fault) => refuse(rt, fault.number(), &fault, replay_status(fault)),

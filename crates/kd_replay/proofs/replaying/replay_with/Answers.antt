@@ -7,7 +7,7 @@ use Rattle.kd_replay.proofs.replaying.replay_with.Goals as goal
 pub returns-in_err-work-clause-replayed : goal.returns-in_err-work-clause-replayed
 returns-in_err-work-clause-replayed g c = λ input old known told.
     let p = err_from_is_err_and c.from_residual.result c.from_residual.ensures.1 in
-    rw (p.1, p.2) (leaves_memory g.H.Serves.gives g.H.Serves.fails _ _ _ _ _ _ _ _ (going_none g.H.Serves.gives input c.args.server.now old _ _ known told))
+    rw (p.1, p.2) (leaves_memory g.H.Serves.gives g.H.Serves.fails _ _ _ _ _ _ _ _ (going_none g.H.Serves.gives input c.args.server.now old _ _ known told) (omega arith) (omega arith))
 
 pub loop-number-init : goal.loop-number-init
 loop-number-init g c = record {
@@ -21,24 +21,24 @@ pub returns-in-Ok-End-clause-replayed : goal.returns-in-Ok-End-clause-replayed
 returns-in-Ok-End-clause-replayed g c = λ input old known told.
     let going = c.loop-number.invariant.going input old known told in
     let found = rw c.in-Ok-End.field-0-is at (c.in-Ok-End.ensures.found going.rest going.known) in
-    leaves_end g.H.Serves.gives g.H.Serves.fails _ _ _ _ _ _ _ _ going _ _ found
+    leaves_end g.H.Serves.gives g.H.Serves.fails _ _ _ _ _ _ _ _ going (omega arith) _ _ found
 
 pub returns-in-Ok-TooLong-clause-replayed : goal.returns-in-Ok-TooLong-clause-replayed
 returns-in-Ok-TooLong-clause-replayed g c = λ input old known told.
     let going = c.loop-number.invariant.going input old known told in
     let found = rw c.in-Ok-TooLong.field-0-is at (c.in-Ok-TooLong.ensures.found going.rest going.known) in
-    leaves_too_long g.H.Serves.gives g.H.Serves.fails _ _ _ _ _ _ _ _ going _ _ found
+    leaves_too_long g.H.Serves.gives g.H.Serves.fails _ _ _ _ _ _ _ _ going (omega arith) (omega arith) _ _ found
 
 pub returns-in-Err-clause-replayed : goal.returns-in-Err-clause-replayed
 returns-in-Err-clause-replayed g c = λ input old known told.
-    leaves_read g.H.Serves.gives g.H.Serves.fails _ _ _ _ _ _ _ _ (c.loop-number.invariant.going input old known told) c.in-Err.ensures.failed
+    leaves_read g.H.Serves.gives g.H.Serves.fails _ _ _ _ _ _ _ _ (c.loop-number.invariant.going input old known told) (omega arith) c.in-Err.ensures.failed
 
 pub returns-in-Ok-End-next_line-clause-replayed : goal.returns-in-Ok-End-next_line-clause-replayed
 returns-in-Ok-End-next_line-clause-replayed g c = λ input old known told.
     let going = c.loop-number.invariant.going input old known told in
     let found = rw c.in-Ok-End-next_line.field-0-is at (c.in-Ok-End-next_line.ensures.found going.rest going.known) in
     let all : c.loop-number.number ≡ most_lines = omega arith in
-    rw (← all) (leaves_end g.H.Serves.gives g.H.Serves.fails _ _ _ _ _ _ _ _ going _ _ found)
+    rw (← all) (leaves_end g.H.Serves.gives g.H.Serves.fails _ _ _ _ _ _ _ _ going (omega arith) _ _ found)
 
 pub returns-in-Ok-Line-next_line-clause-replayed :
     goal.returns-in-Ok-Line-next_line-clause-replayed
@@ -46,7 +46,7 @@ returns-in-Ok-Line-next_line-clause-replayed g c = λ input old known told.
     let going = c.loop-number.invariant.going input old known told in
     let found = rw c.in-Ok-Line-next_line.field-0-is at (c.in-Ok-Line-next_line.ensures.found going.rest going.known) in
     let all : c.loop-number.number ≡ most_lines = omega arith in
-    leaves_more g.H.Serves.gives g.H.Serves.fails _ _ _ _ _ _ _ _ going all _ _ found
+    leaves_more g.H.Serves.gives g.H.Serves.fails _ _ _ _ _ _ _ _ going (omega arith) all _ _ found
 
 pub returns-in-Ok-TooLong-next_line-clause-replayed :
     goal.returns-in-Ok-TooLong-next_line-clause-replayed
@@ -54,23 +54,23 @@ returns-in-Ok-TooLong-next_line-clause-replayed g c = λ input old known told.
     let going = c.loop-number.invariant.going input old known told in
     let found = rw c.in-Ok-TooLong-next_line.field-0-is at (c.in-Ok-TooLong-next_line.ensures.found going.rest going.known) in
     let all : c.loop-number.number ≡ most_lines = omega arith in
-    leaves_more_long g.H.Serves.gives g.H.Serves.fails _ _ _ _ _ _ _ _ going all _ _ found
+    leaves_more_long g.H.Serves.gives g.H.Serves.fails _ _ _ _ _ _ _ _ going (omega arith) all _ _ found
 
 pub returns-clause-replayed : goal.returns-clause-replayed
 returns-clause-replayed g c = λ input old known told.
-    leaves_read g.H.Serves.gives g.H.Serves.fails _ _ _ _ _ _ _ _ (c.loop-number.invariant.going input old known told) c.in-Err-next_line.ensures.failed
+    leaves_read g.H.Serves.gives g.H.Serves.fails _ _ _ _ _ _ _ _ (c.loop-number.invariant.going input old known told) (omega arith) c.in-Err-next_line.ensures.failed
 
 pub returns-in_err-event-in-Ok-Line-clause-replayed : goal.returns-in_err-event-in-Ok-Line-clause-replayed
 returns-in_err-event-in-Ok-Line-clause-replayed g c = λ input old known told.
     let p = err_from_is_err_and c.from_residual-in_err-event-in-Ok-Line.result c.from_residual-in_err-event-in-Ok-Line.ensures.1 in
-    rw (p.1, p.2) (leaves_memory g.H.Serves.gives g.H.Serves.fails _ _ _ _ _ _ _ _ (c.loop-number.invariant.going input old known told))
+    rw (p.1, p.2) (leaves_memory g.H.Serves.gives g.H.Serves.fails _ _ _ _ _ _ _ _ (c.loop-number.invariant.going input old known told) (omega arith) (omega arith))
 
 pub returns-in_default-clause-replayed : goal.returns-in_default-clause-replayed
 returns-in_default-clause-replayed g c = λ input old known told.
     let going = c.loop-number.invariant.going input old known told in
     let found = rw c.in-Ok-Line.field-0-is at (c.in-Ok-Line.ensures.found going.rest going.known) in
     let none = rw (c.in_default.is, c.deref.ensures.value) at c.in_ok-event-in-Ok-Line.ensures in
-    leaves_bad g.H.Serves.gives g.H.Serves.fails _ _ _ _ _ _ _ _ going _ _ found none
+    leaves_bad g.H.Serves.gives g.H.Serves.fails _ _ _ _ _ _ _ _ going (omega arith) (omega arith) _ _ found none
 
 pub returns-in_err-replay_event-in-Ok-Line-clause-replayed : goal.returns-in_err-replay_event-in-Ok-Line-clause-replayed
 returns-in_err-replay_event-in-Ok-Line-clause-replayed g c = λ input old known told.
@@ -78,7 +78,7 @@ returns-in_err-replay_event-in-Ok-Line-clause-replayed g c = λ input old known 
     let going = c.loop-number.invariant.going input old known told in
     let found = rw c.in-Ok-Line.field-0-is at (c.in-Ok-Line.ensures.found going.rest going.known) in
     let is = rw (c.in-Some.is, c.deref.ensures.value) at c.in_ok-event-in-Ok-Line.ensures in
-    rw (p.1, p.2) (leaves_event g.H.Serves.gives g.H.Serves.fails _ _ _ _ _ _ _ _ going _ _ _ _ _ _ found is c.in_err-replay_event-in-Ok-Line.ensures.ended)
+    rw (p.1, p.2) (leaves_event g.H.Serves.gives g.H.Serves.fails _ _ _ _ _ _ _ _ going (omega arith) (omega arith) _ _ _ _ _ _ found is c.in_err-replay_event-in-Ok-Line.ensures.ended)
 
 pub loop-number-preserved : goal.loop-number-preserved
 loop-number-preserved g c = record {

@@ -1,0 +1,129 @@
+ghost use Rattle.std.specs.Prelude.{◌≡◌, ◌++◌, nat_lt, IfOk, OnOk, map, codes, string_bytes};
+ghost use Rattle.std.specs.Fmt.{decimal};
+ghost use Rattle.std.specs.List.{flat_map};
+ghost use Rattle.kd_replay.specs.Text.{address_text, bytes_text};
+ghost use Rattle.kd_server.specs.Leases.{lease_at, lease_line, live_word, state_word};
+
+use kd_rows::{Row, Rows, State};
+use kd_wire::Bytes;
+use std::alloc::{AllocError, Global};
+use std::fmt::Write;
+
+/// A row of the table of leases at a moment.
+#[derive(Drop)]
+pub struct Lease {
+    /// The row.
+    pub row: Row,
+    /// Whether the row has not ended yet.
+    pub live: bool,
+}
+
+// The rows at a moment.
+pub(crate) fn leases_of(alloc: Global, rows: &Rows, now: u64) -> Result<Vec<Lease>, AllocError>
+    ensures { IfOk result (λ list. list.items ≡ map (lease_at now) rows.now.rows) }
+{
+    let mut list = Vec::with_capacity(alloc, rows.len())?;
+    let mut index = 0;
+    while let Some(row) = rows.at(index) {
+        list.push(lease_at(alloc, row, now)?)?;
+        index += 1;
+    }
+    Ok(list)
+}
+
+// A row at a moment.
+fn lease_at(alloc: Global, row: &Row, now: u64) -> Result<Lease, AllocError>
+    ensures { IfOk result (λ lease. lease ≡ lease_at now row.now) }
+{
+    Ok(Lease {
+        row: Row {
+            address: row.address,
+            client: Bytes::own(Vec::from_slice(alloc, row.client.as_slice())?),
+            state: row.state,
+            changed: row.changed,
+            ends: row.ends,
+        },
+        live: now < row.ends,
+    })
+}
+
+/// The lines of leases, each with its line feed: `ADDRESS STATE CLIENT changed MOMENT ends MOMENT`, and `live` or
+/// `past`. The client's identity is in hexadecimal, or a dash where there is none.
+///
+/// # Errors
+///
+/// There is no memory for the lines.
+pub fn lease_lines(alloc: Global, leases: &[Lease]) -> Result<String, AllocError>
+    ensures { IfOk result (λ text. string_bytes text ≡ flat_map lease_line leases.now) }
+{
+    let mut out = String::new(alloc);
+    for lease in leases {
+        put_lease(alloc, &mut out, lease)?;
+    }
+    Ok(out)
+}
+
+// The line of a lease.
+#[tactic(auto, unfolding(crate::specs::Leases::lease_line))]
+fn put_lease(alloc: Global, out: &mut String, lease: &Lease) -> Result<(), AllocError>
+    ensures { OnOk result (string_bytes out.new ≡ string_bytes out.old ++ lease_line lease.now) }
+{
+    let Lease { row, live } = lease;
+    put_address(out, row.address)?;
+    out.push_str(" ")?;
+    out.push_str(state_word(row.state))?;
+    out.push_str(" ")?;
+    put_bytes(alloc, out, row.client.as_slice())?;
+    put_moments(out, row.changed, row.ends)?;
+    out.push_str(live_word(*live))?;
+    out.push_str("\n")
+}
+
+// The address, in decimal.
+fn put_address(out: &mut String, address: u32) -> Result<(), AllocError>
+    ensures { OnOk result (string_bytes out.new ≡ string_bytes out.old ++ address_text address) }
+{
+    let a = address / 0x100_0000;
+    let b = address / 0x1_0000 % 256;
+    let c = address / 0x100 % 256;
+    let d = address % 256;
+    write!(out, "{a}.{b}.{c}.{d}")
+}
+
+// Bytes in hexadecimal, or a dash.
+fn put_bytes(alloc: Global, out: &mut String, bytes: &[u8]) -> Result<(), AllocError>
+    ensures { OnOk result (string_bytes out.new ≡ string_bytes out.old ++ bytes_text bytes.now) }
+{
+    if bytes.is_empty() {
+        return out.push_str("-");
+    }
+    let text = hex::encode(alloc, bytes)?;
+    out.push_str(text.as_str())
+}
+
+// When the row was set, and its end.
+fn put_moments(out: &mut String, changed: u64, ends: u64) -> Result<(), AllocError>
+    ensures { OnOk result (string_bytes out.new ≡ string_bytes out.old
+        ++ (codes " changed " ++ decimal changed ++ codes " ends " ++ decimal ends ++ codes " ")) }
+{
+    write!(out, " changed {changed} ends {ends} ")
+}
+
+// The word for a state.
+fn state_word(state: State) -> &'static str
+    ensures { result.now ≡ state_word state }
+{
+    match state {
+        State::Offered => "Offered",
+        State::Bound => "Bound",
+        State::Released => "Released",
+        State::Declined => "Declined",
+    }
+}
+
+// The word for whether a row is live.
+fn live_word(live: bool) -> &'static str
+    ensures { result.now ≡ live_word live }
+{
+    if live { "live" } else { "past" }
+}
