@@ -1,4 +1,6 @@
-ghost use Rattle.std.specs.Prelude.{◌≡◌, ◌↔◌, IfErr, IfOk, Some, codes, false, if◌then◌else◌, map, option_map};
+ghost use Rattle.std.specs.Prelude.{◌≡◌, ◌↔◌, IfErr, IfOk, Some, codes, false, if◌then◌else◌, map, option_and_then};
+ghost use Rattle.std.specs.Prelude.{option_map};
+ghost use Rattle.std.specs.Str.{all_ascii_digits};
 ghost use Rattle.std.specs.String.{string_bytes};
 ghost use Rattle.clap.specs.Words.{app_of, first_value, found_of, kind_of};
 ghost use Rattle.clap.specs.Words.{rule_of, subcommand_rows_of};
@@ -6,8 +8,9 @@ ghost use Rattle.clap.specs.declared.builder.command.Command.TheViews.{out-Comma
 ghost use Rattle.kd_order.specs.Line.{IsHelpLine, IsLine};
 ghost use Rattle.kd_order.specs.Order.{Asked, Asks, AsksFor, GivesUnlessFull, HasFault};
 ghost use Rattle.kd_order.specs.Order.{HelpsUnlessFull, asked_of, command_line, program_line, replay_line};
-ghost use Rattle.kd_order.specs.Order.{compile_line, eval_line, expr_line, show_line, verify_line};
+ghost use Rattle.kd_order.specs.Order.{compile_line, eval_line, expr_line, files_line, leases_line, show_line, verify_line};
 ghost use Rattle.kd_order.specs.Order.{compiles, evaluates, evaluation_of, flag, given_by, is_flagged, needed};
+ghost use Rattle.kd_order.specs.Order.{are_digits, listing_of, moment_of, needed_value};
 ghost use Rattle.kd_order.specs.Order.{replays, shows, tests, types, valued, verifies};
 ghost use Rattle.kd_order.specs.Steps.{AnswersKind, GivesIfThere};
 
@@ -17,11 +20,14 @@ use clap::error::ErrorKind;
 use clap::{Arg, ArgAction, ArgMatches, Command};
 use std::alloc::{AllocError, Global};
 
+// The most digits that a moment has.
+const MOST_DIGITS: usize = 20;
+
 /// The order that the words give, which are those behind the program's name.
 ///
 /// # Errors
 ///
-/// `CommandLine` where the words are no command of the program, and `Memory`.
+/// `CommandLine` where the words are no command of the program or `--at` has no moment, and `Memory`.
 pub fn order(alloc: Global, words: &[String]) -> Result<Order, LineFault>
     ensures order { IfOk result (AsksFor (map string_bytes words.now)) }
     ensures fault { IfErr result (HasFault (map string_bytes words.now)) }
@@ -48,7 +54,8 @@ fn kdhcp<'a>(alloc: Global) -> Result<Command<'a>, AllocError>
         .subcommand(compile(alloc)?)?
         .subcommand(verify(alloc)?)?
         .subcommand(eval(alloc)?)?
-        .subcommand(replay(alloc)?)
+        .subcommand(replay(alloc)?)?
+        .subcommand(leases(alloc)?)
 }
 
 // The command line before its subcommands.
@@ -168,17 +175,49 @@ fn valued<'a>(alloc: Global, name: &'a str, value: &'a str, help: &'a str) -> Ar
         .action(ArgAction::Set)
 }
 
-// `replay [--config F] [--token-dir D]`.
-fn replay<'a>(alloc: Global) -> Result<Command<'a>, AllocError>
-    ensures app { IfOk result (λ c. app_of c ≡ replay_line) }
+// A subcommand over files: `NAME [--config F] [--token-dir D] [--store F]`.
+fn over_files<'a>(alloc: Global, name: &'a str, about: &'a str) -> Result<Command<'a>, AllocError>
+    ensures app { IfOk result (λ c. app_of c ≡ files_line name.entry.now) }
     ensures local { IfOk result (λ c. (out-Command c).has_globals ≡ false) }
 {
     let config = valued(alloc, "config", "F", "The file of the configuration, JSON");
     let token_dir = valued(alloc, "token-dir", "D", "The folder of the token files");
-    Command::new(alloc, "replay")
-        .about("Replay the events of standard input")
+    let store = valued(
+        alloc,
+        "store",
+        "F",
+        "The file of the leases, a database of SQLite; in memory without it",
+    );
+    Command::new(alloc, name)
+        .about(about)
         .arg(config)?
-        .arg(token_dir)
+        .arg(token_dir)?
+        .arg(store)
+}
+
+// `replay [--config F] [--token-dir D] [--store F]`.
+fn replay<'a>(alloc: Global) -> Result<Command<'a>, AllocError>
+    ensures app { IfOk result (λ c. app_of c ≡ replay_line) }
+    ensures local { IfOk result (λ c. (out-Command c).has_globals ≡ false) }
+{
+    over_files(alloc, "replay", "Replay the events of standard input")
+}
+
+// `--at M`, which has to be there.
+fn at_moment<'a>(alloc: Global) -> Arg<'a>
+    ensures rule { rule_of result ≡ needed_value (codes "at") }
+    ensures local { result.global ≡ false }
+{
+    valued(alloc, "at", "M", "The moment, in whole seconds").required(true)
+}
+
+// `leases [--config F] [--token-dir D] [--store F] --at M`.
+fn leases<'a>(alloc: Global) -> Result<Command<'a>, AllocError>
+    ensures app { IfOk result (λ c. app_of c ≡ leases_line) }
+    ensures local { IfOk result (λ c. (out-Command c).has_globals ≡ false) }
+{
+    let command = over_files(alloc, "leases", "Print the leases of a store at a moment")?;
+    command.arg(at_moment(alloc))
 }
 
 // What matches of the command line ask for.
@@ -192,6 +231,7 @@ fn asked_for(alloc: Global, matches: &ArgMatches<'_>) -> Result<Order, LineFault
         Some(("verify", inner)) => verified(alloc, inner),
         Some(("eval", inner)) => evaluated(alloc, inner),
         Some(("replay", inner)) => replayed(alloc, inner),
+        Some(("leases", inner)) => listed(alloc, inner),
         _ => Err(LineFault::CommandLine),
     }
 }
@@ -282,14 +322,115 @@ fn is_flagged(value: Option<&str>) -> bool
     }
 }
 
-// What matches of `replay` ask for.
-fn replayed(alloc: Global, matches: &ArgMatches<'_>) -> Result<Order, LineFault>
-    ensures { GivesIfThere (Some (replays (first_value (found_of matches.now) (codes "config"))
-        (first_value (found_of matches.now) (codes "token-dir")))) result }
+// The paths of the files that a subcommand reads, where the line gives them.
+#[derive(Drop)]
+struct Files {
+    config: Option<String>,
+    token_dir: Option<String>,
+    store: Option<String>,
+}
+
+// The paths that matches give.
+fn files_of(alloc: Global, matches: &ArgMatches<'_>) -> Result<Files, AllocError>
+    ensures config { IfOk result (λ files.
+        option_map string_bytes files.config ≡ first_value (found_of matches.now) (codes "config")) }
+    ensures token_dir { IfOk result (λ files.
+        option_map string_bytes files.token_dir ≡ first_value (found_of matches.now) (codes "token-dir")) }
+    ensures store { IfOk result (λ files.
+        option_map string_bytes files.store ≡ first_value (found_of matches.now) (codes "store")) }
 {
     let config = text_of(alloc, matches, "config")?;
     let token_dir = text_of(alloc, matches, "token-dir")?;
-    Ok(Order::Replay { config, token_dir })
+    let store = text_of(alloc, matches, "store")?;
+    Ok(Files {
+        config,
+        token_dir,
+        store,
+    })
+}
+
+// What matches of `replay` ask for.
+fn replayed(alloc: Global, matches: &ArgMatches<'_>) -> Result<Order, LineFault>
+    ensures { GivesIfThere (Some (replays (first_value (found_of matches.now) (codes "config"))
+        (first_value (found_of matches.now) (codes "token-dir"))
+        (first_value (found_of matches.now) (codes "store")))) result }
+{
+    let Files {
+        config,
+        token_dir,
+        store,
+    } = files_of(alloc, matches)?;
+    Ok(Order::Replay {
+        config,
+        token_dir,
+        store,
+    })
+}
+
+// What matches of `leases` ask for.
+fn listed(alloc: Global, matches: &ArgMatches<'_>) -> Result<Order, LineFault>
+    ensures { GivesIfThere (listing_of (first_value (found_of matches.now) (codes "config"))
+        (first_value (found_of matches.now) (codes "token-dir"))
+        (first_value (found_of matches.now) (codes "store"))
+        (first_value (found_of matches.now) (codes "at"))) result }
+{
+    let Some(at) = moment_given(matches.get_str("at")) else {
+        return Err(LineFault::CommandLine);
+    };
+    let Files {
+        config,
+        token_dir,
+        store,
+    } = files_of(alloc, matches)?;
+    Ok(Order::Leases {
+        config,
+        token_dir,
+        store,
+        at,
+    })
+}
+
+// The moment of an argument, where it is there and is one.
+fn moment_given(value: Option<&str>) -> Option<u64>
+    ensures { result ≡ option_and_then (λ text. moment_of text.now) value.entry }
+{
+    match value {
+        Some(text) => moment_in(text),
+        None => None,
+    }
+}
+
+// The moment of a text, where it is one.
+fn moment_in(text: &str) -> Option<u64>
+    ensures { result ≡ moment_of text.now }
+{
+    if are_digits(text) {
+        text.parse::<u64>().ok()
+    } else {
+        None
+    }
+}
+
+// Whether a text is 1 to 20 decimal digits.
+fn are_digits(text: &str) -> bool
+    ensures { result ≡ are_digits text.now }
+{
+    if text.is_empty() || text.len() > MOST_DIGITS {
+        return false;
+    }
+    has_digits_only(text.as_bytes())
+}
+
+// Whether each byte is a decimal digit.
+fn has_digits_only(bytes: &[u8]) -> bool
+    ensures { result ≡ all_ascii_digits bytes.now }
+{
+    for byte in bytes {
+        if !byte.is_ascii_digit() {
+            return false;
+        }
+    }
+    true
 }
 
 // The text of an argument, where the matches have one.
