@@ -1,6 +1,5 @@
 -- Options whose names differ: what a look-up of a name finds in them, in whichever order they stand.
 use Rattle.std.proofs.Common.{◌≡◌, ◌⊎◌, ◌∙◌, sym, ap, refl, subst, inl, inr, true, false, Bool, List, [], ◌∷◌, ◌++◌, map, Option, Some, None, is_some}
-use Rattle.std.specs.Prelude.{if◌then◌else◌}
 use Rattle.std.specs.List.{All, AllByRecursion, IsDistinct}
 use Rattle.std.specs.List.Sorted.{IsPermutation}
 use Rattle.std.specs.Map.{keys_of}
@@ -13,7 +12,7 @@ use Rattle.clap.specs.Words.{Text, first_of}
 use Rattle.clap.specs.Takes.{is_given}
 use Rattle.clap.specs.Walk.{has_row}
 use Rattle.kd_order.specs.Line.{IsOneOf, given}
-use Rattle.kd_order.proofs.Held.{row_of, rows_of}
+use Rattle.kd_order.proofs.Held.{rows_of}
 
 -- ---- names that differ
 

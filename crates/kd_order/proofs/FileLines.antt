@@ -1,18 +1,17 @@
 -- Which words are a line of `replay` or of `leases`: the rules of the two, and what their options ask for.
-use Rattle.std.proofs.Common.{◌≡◌, ◌⊎◌, ◌∙◌, sym, ap, ap₂, refl, subst, inl, inr, ℕ, true, false, Bool, List, [], ◌∷◌, ◌++◌, codes, Option, Some, None, is_some, option_map}
+use Rattle.std.proofs.Common.{◌≡◌, ◌⊎◌, ◌∙◌, sym, ap, refl, subst, inl, inr, ℕ, true, false, Bool, List, [], ◌∷◌, codes, Option, Some, None, is_some, option_map}
 use Rattle.std.specs.Prelude.{◌||◌, if◌then◌else◌, not}
-use Rattle.std.specs.List.{All, IsDistinct, list_any}
-use Rattle.std.specs.Map.{keys_of}
+use Rattle.std.specs.List.{All, IsDistinct}
 use Rattle.std.specs.Str.{bytes_eq, IsUtf8}
 use Rattle.std.specs.List.Sorted.{IsPermutation}
 use Rattle.std.proofs.lemmas.List.Sorted.{All-permutation, IsPermutation-sym}
 use Rattle.std.proofs.lemmas.Slice.Eq.{bytes_eq-Decides}
-use Rattle.clap.specs.Words.{Rule, Shape, Text, fault_of, first_of, subcommand_of}
+use Rattle.clap.specs.Words.{Rule, Shape, Text, fault_of, subcommand_of}
 use Rattle.clap.specs.Takes.{is_given}
 use Rattle.clap.specs.Walk.{arg_by_long, arg_by_short, has_long, has_short}
 use Rattle.clap.specs.declared.error.kind.ErrorKind.TheVariants.{DisplayHelp}
 use Rattle.clap.proofs.OnLiterals.{clap_on_literals}
-use Rattle.kd_order.specs.Line.{AreOptions, IsHelpFlag, IsLine, IsOneOf, IsOptionLine, given}
+use Rattle.kd_order.specs.Line.{IsHelpFlag, IsLine, IsOneOf, given}
 use Rattle.kd_order.specs.Order.{Asked, asked_of, command_line, leases_line, listing_of, lists, moment_of, replay_line, replays}
 use Rattle.kd_order.proofs.Apart.{apart_given, apart_in_order, given_is, have_given, have_in_order, in_some_order, ones_given, value_of}
 use Rattle.kd_order.proofs.Flags.{ShortsFail, help_built}
@@ -212,16 +211,20 @@ lists_for : (rest : List Text) (read : AreRead listing_names needed_names rest) 
 lists_for rest read digits moment is spells =
     let order = in_some_order listing_names read.options listing_names_apart read.apart read.ones in
     let values : Option Text → List (Text × Option Text) = λ at.
-        (codes "config", value_of (codes "config") read.options) ∷ (codes "token-dir", value_of (codes "token-dir") read.options)
-        ∷ (codes "store", value_of (codes "store") read.options) ∷ (codes "at", at) ∷ [] in (
+    (codes "config", value_of (codes "config") read.options) ∷ (codes "token-dir", value_of (codes "token-dir") read.options)
+    ∷ (codes "store", value_of (codes "store") read.options) ∷ (codes "at", at) ∷ [] in (
       lists (value_of (codes "config") read.options) (value_of (codes "token-dir") read.options) (value_of (codes "store") read.options) moment,
-      (digits, spells, record {
-        behind = rest;
-        options = read.options;
-        named = refl;
-        options_behind = read.are;
-        in_some_order = subst (λ at. IsPermutation read.options (given (values at))) is order;
-      }),
+      (
+        digits,
+        spells,
+        record {
+          behind = rest;
+          options = read.options;
+          named = refl;
+          options_behind = read.are;
+          in_some_order = subst (λ at. IsPermutation read.options (given (values at))) is order;
+        },
+      ),
     )
 
 -- and for nothing where none is

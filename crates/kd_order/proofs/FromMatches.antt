@@ -182,7 +182,7 @@ at_eval m inner name r named has is gives =
 pub at_replay : (m inner : ArgMatches) (name : Text) (r : Result Order LineFault) → Some name ≡ subcommand_name_of m
     → Some (rows_of (found_of inner)) ≡ option_map (λ p. p.1) (subcommand_rows_of m) → name ≡ codes "replay"
     → GivesIfThere (Some (replays (first_value (found_of inner) (codes "config")) (first_value (found_of inner) (codes "token-dir"))
-        (first_value (found_of inner) (codes "store")))) r
+    (first_value (found_of inner) (codes "store")))) r
     → GivesIfThere (asked_of (subcommand_rows_of m)) r
 at_replay m inner name r named has is gives =
     let config = first_value-rows (found_of inner) (codes "config") in
@@ -195,7 +195,7 @@ at_replay m inner name r named has is gives =
 pub at_leases : (m inner : ArgMatches) (name : Text) (r : Result Order LineFault) → Some name ≡ subcommand_name_of m
     → Some (rows_of (found_of inner)) ≡ option_map (λ p. p.1) (subcommand_rows_of m) → name ≡ codes "leases"
     → GivesIfThere (listing_of (first_value (found_of inner) (codes "config")) (first_value (found_of inner) (codes "token-dir"))
-        (first_value (found_of inner) (codes "store")) (first_value (found_of inner) (codes "at"))) r
+    (first_value (found_of inner) (codes "store")) (first_value (found_of inner) (codes "at"))) r
     → GivesIfThere (asked_of (subcommand_rows_of m)) r
 at_leases m inner name r named has is gives =
     let config = first_value-rows (found_of inner) (codes "config") in

@@ -1,17 +1,15 @@
 -- What the walk of clap holds once it has read these options, each once.
-use Rattle.std.proofs.Common.{◌≡◌, ◌∙◌, sym, ap, refl, subst, true, false, Bool, List, [], ◌∷◌, ◌++◌, map, fold, Some, None}
+use Rattle.std.proofs.Common.{◌≡◌, ◌∙◌, sym, ap, refl, true, false, Bool, List, [], ◌∷◌, ◌++◌, map, fold, Some, None}
 use Rattle.std.specs.Prelude.{if◌then◌else◌}
 use Rattle.std.specs.List.{AllByRecursion}
 use Rattle.std.specs.Str.{bytes_eq}
 use Rattle.std.proofs.lemmas.List.{append-nil, map-append}
 use Rattle.clap.specs.Words.{Row, Rule, Text}
-use Rattle.clap.specs.Walk.{Held, at_row, finished, has_row, more_values, nothing_held, reacted, reading_by, settled, used, with_default, without}
+use Rattle.clap.specs.Walk.{Held, at_row, has_row, more_values, nothing_held, reacted, reading_by, settled, used, with_default, without}
 use Rattle.clap.specs.Faults.{defaults_fault, settle_fault, use_fault}
 use Rattle.clap.specs.declared.error.kind.ErrorKind.TheVariants.{ArgumentConflict, InvalidValue}
 use Rattle.clap.specs.declared.parser.matches.ValueSource.TheVariants.{CommandLine}
 use Rattle.clap.proofs.OnLiterals.{clap_on_literals}
-use Rattle.kd_order.specs.Line.{IsOneOf}
-use Rattle.kd_order.proofs.Flags.{neither}
 use Rattle.kd_order.proofs.Options.{IsOption, built_of}
 
 -- the row of an option
@@ -116,7 +114,6 @@ with_no_default rows a e = rw e (same_both (has_row a.id rows) rows)
 pub no_defaults : (c : List Rule) (rows : List Row) → AllByRecursion (λ a. a.defaults ≡ []) c → fold with_default rows c ≡ rows
 no_defaults [] rows none = refl
 no_defaults (a ∷ c) rows (e, none) = ap (λ l. fold with_default l c) (with_no_default rows a e) ∙ no_defaults c rows none
-
 
 pub defaults_pass : (c : List Rule) (rows : List Row) → AllByRecursion (λ a. a.defaults ≡ []) c → defaults_fault rows c ≡ []
 unfolding defaults_fault

@@ -1,6 +1,6 @@
 -- Which words are a line of a subcommand that has options alone, by the walk of clap over them.
-use Rattle.std.proofs.Common.{◌≡◌, ◌⊎◌, ◌∙◌, sym, ap, ap₂, refl, subst, inl, inr, true, false, Bool, List, [], ◌∷◌, ◌++◌, codes, map, Option, Some, None, append_assoc}
-use Rattle.std.specs.Prelude.{fold, if◌then◌else◌, not}
+use Rattle.std.proofs.Common.{◌≡◌, ◌∙◌, sym, ap, ap₂, refl, subst, inl, inr, true, false, Bool, List, [], ◌∷◌, ◌++◌, codes, Option, Some, None, append_assoc}
+use Rattle.std.specs.Prelude.{if◌then◌else◌, not}
 use Rattle.std.specs.List.{All, IsDistinct, list_any}
 use Rattle.std.specs.Map.{keys_of}
 use Rattle.std.specs.Str.{bytes_eq, IsUtf8}
@@ -8,7 +8,7 @@ use Rattle.std.proofs.lemmas.List.{append-nil}
 use Rattle.std.proofs.lemmas.List.Elements.{All-cons, All-head, All-nil, All-tail}
 use Rattle.std.proofs.lemmas.Slice.Eq.{bytes_eq-Decides}
 use Rattle.clap.specs.Lexer.{long_of}
-use Rattle.clap.specs.Words.{Row, Rule, Shape, Text, fault_of, first_of, new_app, subcommand_of}
+use Rattle.clap.specs.Words.{Rule, Shape, Text, fault_of, new_app, subcommand_of}
 use Rattle.clap.specs.Walk.{Held, Waiting, Walk, finished, has_row, idle, nothing_held, option, positional, settled, walked}
 use Rattle.clap.specs.Takes.{is_given}
 use Rattle.clap.specs.Faults.{option_fault, settle_fault, turn_fault, use_fault, walk_fault}

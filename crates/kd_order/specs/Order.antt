@@ -151,7 +151,7 @@ asked_by name rows =
     then Some (replays (first_of (codes "config") rows) (first_of (codes "token-dir") rows) (first_of (codes "store") rows))
     else (if bytes_eq name (codes "leases")
     then listing_of (first_of (codes "config") rows) (first_of (codes "token-dir") rows) (first_of (codes "store") rows)
-        (first_of (codes "at") rows)
+    (first_of (codes "at") rows)
     else None))))))
 
 -- the same of the subcommand that was entered, if one was
