@@ -1,33 +1,30 @@
-ghost use Rattle.std.specs.Prelude.{◌≡◌, ◌↔◌, IfErr, IfOk, Some, codes, false, if◌then◌else◌, map, option_and_then};
-ghost use Rattle.std.specs.Prelude.{option_map};
-ghost use Rattle.std.specs.Str.{all_ascii_digits};
+ghost use Rattle.std.specs.Prelude.{◌≡◌, ◌↔◌, IfErr, IfOk, Some, codes, false, if◌then◌else◌, map};
+ghost use Rattle.std.specs.Prelude.{option_and_then, option_map};
 ghost use Rattle.std.specs.String.{string_bytes};
 ghost use Rattle.clap.specs.Words.{app_of, first_value, found_of, kind_of};
 ghost use Rattle.clap.specs.Words.{rule_of, subcommand_rows_of};
 ghost use Rattle.clap.specs.declared.builder.command.Command.TheViews.{out-Command};
 ghost use Rattle.kd_order.specs.Line.{IsHelpLine, IsLine};
-ghost use Rattle.kd_order.specs.Order.{Asked, Asks, AsksFor, GivesUnlessFull, HasFault};
-ghost use Rattle.kd_order.specs.Order.{HelpsUnlessFull, asked_of, command_line, program_line, replay_line};
-ghost use Rattle.kd_order.specs.Order.{compile_line, eval_line, expr_line, files_line, leases_line, show_line, verify_line};
-ghost use Rattle.kd_order.specs.Order.{compiles, evaluates, evaluation_of, flag, given_by, is_flagged, needed};
-ghost use Rattle.kd_order.specs.Order.{are_digits, listing_of, moment_of, needed_value};
+ghost use Rattle.kd_order.specs.Order.{Asked, Asks, AsksFor, GivesUnlessFull, HasFault, HelpsUnlessFull};
+ghost use Rattle.kd_order.specs.Order.{asked_of, command_line, compile_line, eval_line, expr_line, files_line};
+ghost use Rattle.kd_order.specs.Order.{leases_line, program_line, replay_line, show_line, verify_line};
+ghost use Rattle.kd_order.specs.Order.{compiles, evaluates, evaluation_of, flag, given_by, is_flagged};
+ghost use Rattle.kd_order.specs.Order.{listing_of, moment_of, needed, needed_value};
 ghost use Rattle.kd_order.specs.Order.{replays, shows, tests, types, valued, verifies};
 ghost use Rattle.kd_order.specs.Steps.{AnswersKind, GivesIfThere};
 
 use crate::fault::LineFault;
+use crate::moment::moment_in;
 use crate::orders::Order;
 use clap::error::ErrorKind;
 use clap::{Arg, ArgAction, ArgMatches, Command};
 use std::alloc::{AllocError, Global};
 
-// The most digits that a moment has.
-const MOST_DIGITS: usize = 20;
-
 /// The order that the words give, which are those behind the program's name.
 ///
 /// # Errors
 ///
-/// `CommandLine` where the words are no command of the program or `--at` has no moment, and `Memory`.
+/// `CommandLine` where the words are no command of the program, or `--at` has no moment, and `Memory`.
 pub fn order(alloc: Global, words: &[String]) -> Result<Order, LineFault>
     ensures order { IfOk result (AsksFor (map string_bytes words.now)) }
     ensures fault { IfErr result (HasFault (map string_bytes words.now)) }
@@ -332,12 +329,12 @@ struct Files {
 
 // The paths that matches give.
 fn files_of(alloc: Global, matches: &ArgMatches<'_>) -> Result<Files, AllocError>
-    ensures config { IfOk result (λ files.
-        option_map string_bytes files.config ≡ first_value (found_of matches.now) (codes "config")) }
-    ensures token_dir { IfOk result (λ files.
-        option_map string_bytes files.token_dir ≡ first_value (found_of matches.now) (codes "token-dir")) }
-    ensures store { IfOk result (λ files.
-        option_map string_bytes files.store ≡ first_value (found_of matches.now) (codes "store")) }
+    ensures config { IfOk result (λ files. option_map string_bytes files.config
+        ≡ first_value (found_of matches.now) (codes "config")) }
+    ensures token_dir { IfOk result (λ files. option_map string_bytes files.token_dir
+        ≡ first_value (found_of matches.now) (codes "token-dir")) }
+    ensures store { IfOk result (λ files. option_map string_bytes files.store
+        ≡ first_value (found_of matches.now) (codes "store")) }
 {
     let config = text_of(alloc, matches, "config")?;
     let token_dir = text_of(alloc, matches, "token-dir")?;
@@ -398,39 +395,6 @@ fn moment_given(value: Option<&str>) -> Option<u64>
         Some(text) => moment_in(text),
         None => None,
     }
-}
-
-// The moment of a text, where it is one.
-fn moment_in(text: &str) -> Option<u64>
-    ensures { result ≡ moment_of text.now }
-{
-    if are_digits(text) {
-        text.parse::<u64>().ok()
-    } else {
-        None
-    }
-}
-
-// Whether a text is 1 to 20 decimal digits.
-fn are_digits(text: &str) -> bool
-    ensures { result ≡ are_digits text.now }
-{
-    if text.is_empty() || text.len() > MOST_DIGITS {
-        return false;
-    }
-    has_digits_only(text.as_bytes())
-}
-
-// Whether each byte is a decimal digit.
-fn has_digits_only(bytes: &[u8]) -> bool
-    ensures { result ≡ all_ascii_digits bytes.now }
-{
-    for byte in bytes {
-        if !byte.is_ascii_digit() {
-            return false;
-        }
-    }
-    true
 }
 
 // The text of an argument, where the matches have one.

@@ -5,7 +5,7 @@ use Rattle.std.specs.Str.Parse.{ParsesUnsigned, digits_value}
 use Rattle.std.proofs.lemmas.Bool.{lt-ltb, ltb-true}
 use Rattle.std.proofs.lemmas.Str.Parse.{IsNumeralModel, numerals_by_value, parse_digits, tells_all_ascii_digits}
 use Rattle.kd_order.specs.Order.{are_digits, moment_of}
-use Rattle.kd_order.proofs.words.moment_in.Goals as goal
+use Rattle.kd_order.proofs.moment.moment_in.Goals as goal
 
 own : IsNumeralModel (λ ds. all_ascii_digits ds ≡ true) (digits_value 10)
 own = numerals_by_value (λ ds. all_ascii_digits ds ≡ true) tells_all_ascii_digits
@@ -36,10 +36,10 @@ parsed text r o digits parses is =
     let all : all_ascii_digits text ≡ true = last_of (nat_lt 0 (length text)) (nat_le (length text) 20) (all_ascii_digits text) digits in
     is ∙ by_value text r digits (parse_digits own 64 text r parses all)
 
-pub returns-then-are_digits : goal.returns-then-are_digits
-returns-then-are_digits c = parsed c.args.text.now c.parse.result c.ok.result (sym c.are_digits.ensures ∙ c.if-are_digits.true) c.parse.ensures.value.0 c.ok.ensures.value
+pub returns-then-is_numeral : goal.returns-then-is_numeral
+returns-then-is_numeral c = parsed c.args.text.now c.parse.result c.ok.result (sym c.is_numeral.ensures ∙ c.if-is_numeral.true) c.parse.ensures.value.0 c.ok.ensures.value
 
-pub returns-else-are_digits : goal.returns-else-are_digits
-returns-else-are_digits c =
-    let none : are_digits c.args.text.now ≡ false = sym c.are_digits.ensures ∙ c.if-are_digits.false in
+pub returns-else-is_numeral : goal.returns-else-is_numeral
+returns-else-is_numeral c =
+    let none : are_digits c.args.text.now ≡ false = sym c.is_numeral.ensures ∙ c.if-is_numeral.false in
     rw none refl
