@@ -16,13 +16,13 @@ use Rattle.clap.specs.declared.parser.matches.ArgMatches.TheViews.{out-ArgMatche
 use Rattle.clap.specs.declared.parser.matches.SubCommand.{SubCommand}
 use Rattle.clap.proofs.WalkLemmas.{first_value-rows}
 use Rattle.clap.proofs.OnLiterals.{clap_on_literals}
-use Rattle.kd_order.specs.Order.{Asked, Asks, AsksFor, GivesUnlessFull, HasFault, HelpsUnlessFull, asked_by, asked_of, command_line, compiles, evaluates, evaluation_of, given_by, replays, shows, tests, types, verifies}
-use Rattle.kd_order.proofs.Lines.{clap_from_line, one_asked, some_line}
+use Rattle.kd_order.specs.Order.{Asked, Asks, AsksFor, GivesUnlessFull, HasFault, HelpsUnlessFull, asked_by, asked_of, command_line, compiles, evaluates, evaluation_of, given_by, listing_of, lists, replays, shows, tests, types, verifies}
+use Rattle.kd_order.proofs.Lines.{one_asked}
 use Rattle.kd_order.specs.Steps.{AnswersKind, GivesIfThere}
 use Rattle.kd_order.specs.declared.fault.LineFault.{LineFault}
 use Rattle.kd_order.specs.declared.fault.LineFault.TheVariants.{CommandLine, Memory}
 use Rattle.kd_order.specs.declared.orders.Order.{Order}
-use Rattle.kd_order.specs.declared.orders.Order.TheVariants.{Help, Show, Expr, Compile, Verify, Eval, EvalText, Replay}
+use Rattle.kd_order.specs.declared.orders.Order.TheVariants.{Help, Show, Expr, Compile, Verify, Eval, EvalText, Replay, Leases}
 
 -- clap tells the matches of this command line, and the kinds of its faults
 is_told : is_simple command_line ≡ true
@@ -58,17 +58,24 @@ asks_for ws (Eval program datagram) asked gives h =
 asks_for ws (EvalText text datagram) asked gives h =
     let is : tests (string_bytes text) (string_bytes datagram) ≡ asked = cc in
     subst (Asks ws) (sym is) h
-asks_for ws (Replay config token_dir) asked gives h =
-    let is : replays (option_map string_bytes config) (option_map string_bytes token_dir) ≡ asked = cc in
+asks_for ws (Replay config token_dir store) asked gives h =
+    let is : replays (option_map string_bytes config) (option_map string_bytes token_dir) (option_map string_bytes store) ≡ asked = cc in
+    subst (Asks ws) (sym is) h
+asks_for ws (Leases config token_dir store at) asked gives h =
+    let is : lists (option_map string_bytes config) (option_map string_bytes token_dir) (option_map string_bytes store) at ≡ asked = cc in
     subst (Asks ws) (sym is) h
 
 -- where clap finds no fault
 pub at_matches : (ws : List Text) (o : Option Asked) (r : Result Order LineFault) → All IsUtf8 ws → fault_of command_line ws ≡ []
     → asked_of (subcommand_of command_line ws) ≡ o → GivesIfThere o r → Answers ws r
-at_matches ws None r texts none is gives =
-    let line = some_line ws texts none in
-    let bad : Some line.0 ≡ None = sym (clap_from_line ws line.0 line.1).entered ∙ is in
-    cc
+at_matches ws None (Ok order) texts none is gives = absurd gives
+at_matches ws None (Err CommandLine) texts none is gives = record {
+  order = tt;
+  fault = inr (record { whole = none; entered = is });
+  only = λ asked h. let bad : Some asked ≡ None = sym h.entered ∙ is in cc;
+  help = λ h. let bad : DisplayHelp ∷ [] ≡ [] = sym h ∙ none in cc;
+}
+at_matches ws None (Err Memory) texts none is gives = record { order = tt; fault = tt; only = λ other h. tt; help = λ h. tt }
 at_matches ws (Some asked) (Ok order) texts none is gives =
     let here : Asks ws asked = record { whole = none; entered = is } in
     record {
@@ -102,7 +109,7 @@ at_kind ws k (Ok order) h answers = absurd answers
 at_kind ws k (Err CommandLine) (inl full) answers = absurd (answers.1 full)
 at_kind ws k (Err CommandLine) (inr among) answers = record {
   order = tt;
-  fault = (k, among, answers.0);
+  fault = inl (k, among, answers.0);
   only = λ asked h. none_among k (fault_of command_line ws) h.whole among;
   help = λ h. answers.0 (one_among k (fault_of command_line ws) h among);
 }
@@ -174,10 +181,26 @@ at_eval m inner name r named has is gives =
 -- what is made of the options of `replay`
 pub at_replay : (m inner : ArgMatches) (name : Text) (r : Result Order LineFault) → Some name ≡ subcommand_name_of m
     → Some (rows_of (found_of inner)) ≡ option_map (λ p. p.1) (subcommand_rows_of m) → name ≡ codes "replay"
-    → GivesIfThere (Some (replays (first_value (found_of inner) (codes "config")) (first_value (found_of inner) (codes "token-dir")))) r
+    → GivesIfThere (Some (replays (first_value (found_of inner) (codes "config")) (first_value (found_of inner) (codes "token-dir"))
+    (first_value (found_of inner) (codes "store")))) r
     → GivesIfThere (asked_of (subcommand_rows_of m)) r
 at_replay m inner name r named has is gives =
     let config = first_value-rows (found_of inner) (codes "config") in
     let token_dir = first_value-rows (found_of inner) (codes "token-dir") in
+    let store = first_value-rows (found_of inner) (codes "store") in
     let at_name_is = at_name m name (codes "replay") (rows_of (found_of inner)) named has is in
-    subst (λ o. GivesIfThere o r) (sym at_name_is) (rw (config, token_dir) at gives)
+    subst (λ o. GivesIfThere o r) (sym at_name_is) (rw (config, token_dir, store) at gives)
+
+-- what is made of the options of `leases`
+pub at_leases : (m inner : ArgMatches) (name : Text) (r : Result Order LineFault) → Some name ≡ subcommand_name_of m
+    → Some (rows_of (found_of inner)) ≡ option_map (λ p. p.1) (subcommand_rows_of m) → name ≡ codes "leases"
+    → GivesIfThere (listing_of (first_value (found_of inner) (codes "config")) (first_value (found_of inner) (codes "token-dir"))
+    (first_value (found_of inner) (codes "store")) (first_value (found_of inner) (codes "at"))) r
+    → GivesIfThere (asked_of (subcommand_rows_of m)) r
+at_leases m inner name r named has is gives =
+    let config = first_value-rows (found_of inner) (codes "config") in
+    let token_dir = first_value-rows (found_of inner) (codes "token-dir") in
+    let store = first_value-rows (found_of inner) (codes "store") in
+    let at_moment = first_value-rows (found_of inner) (codes "at") in
+    let at_name_is = at_name m name (codes "leases") (rows_of (found_of inner)) named has is in
+    subst (λ o. GivesIfThere o r) (sym at_name_is) (rw (config, token_dir, store, at_moment) at gives)

@@ -1,10 +1,13 @@
+pub mod Apart
 pub mod Commands
 pub mod EvalLine
+pub mod FileLines
 pub mod Flags
 pub mod FromMatches
+pub mod Held
 pub mod Level
 pub mod Lines
+pub mod OptionLine
 pub mod Options
-pub mod ReplayLine
 pub mod TextLine
 pub mod Top

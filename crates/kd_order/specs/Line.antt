@@ -1,10 +1,12 @@
 -- The lines of the program in plain words: a subcommand and the texts that it wants, as `show HEX` or
 -- `eval PROGRAM DATAGRAM`. `--` may stand before any of the texts or behind them, and a text is no flag unless
--- `--` stands before it. The flag of `eval` may stand anywhere but behind `--`. `replay` has two options, which
--- may be left out and stand once at most, each with a value, as `--config F` or `--config=F`.
+-- `--` stands before it. The flag of `eval` may stand anywhere but behind `--`. `replay` and `leases` have
+-- options in any order, which stand once at most, each with a value, as `--config F` or `--config=F`; all may be
+-- left out but the moment of `leases`, `--at M`.
 use Rattle.std.specs.Prelude.{◌≡◌, ◌⊎◌, ◌==◌, Bool, false, List, [], ◌∷◌, ◌++◌, Option, Some, None, codes}
+use Rattle.std.specs.List.Sorted.{IsPermutation}
 use Rattle.clap.specs.Words.{Text}
-use Rattle.kd_order.specs.Order.{Asked, shows, types, compiles, verifies, evaluates, tests, replays}
+use Rattle.kd_order.specs.Order.{Asked, shows, types, compiles, verifies, evaluates, tests, replays, lists, moment_of}
 
 -- a flag is a hyphen with more behind it
 abbrev pub is_flag : Text → Bool
@@ -49,17 +51,19 @@ AreOptions words [] = AreTexts words []
 AreOptions words (option ∷ options) =
     (behind : List Text) × BeginWith option.0 option.1 words behind × AreOptions behind options
 
--- an option with its value, where it has one
-abbrev pub given : Text → Option Text → List (Text × Text)
-given name None = []
-given name (Some value) = (name, value) ∷ []
+-- those of the options that have a value
+abbrev pub given : List (Text × Option Text) → List (Text × Text)
+given [] = []
+given ((name, None) ∷ options) = given options
+given ((name, Some value) ∷ options) = (name, value) ∷ given options
 
--- the words are `replay` with these values of its options, of which either may stand first
-pub record IsReplayLine (words : List Text) (config token_dir : Option Text) : Type 0 where
+-- the words are this subcommand with these options, in any order
+pub record IsOptionLine (name : Text) (words : List Text) (values : List (Text × Option Text)) : Type 0 where
   pub behind : List Text
-  pub named : words ≡ codes "replay" ∷ behind
-  pub options_behind : AreOptions behind (given (codes "config") config ++ given (codes "token-dir") token_dir)
-      ⊎ AreOptions behind (given (codes "token-dir") token_dir ++ given (codes "config") config)
+  pub options : List (Text × Text)
+  pub named : words ≡ name ∷ behind
+  pub options_behind : AreOptions behind options
+  pub in_some_order : IsPermutation options (given values)
 
 -- the words are a line that asks for this
 abbrev pub IsLine : List Text → Asked → Type 0
@@ -69,12 +73,16 @@ IsLine words (compiles text) = IsLineOf (codes "compile") words (text ∷ [])
 IsLine words (verifies hex) = IsLineOf (codes "verify") words (hex ∷ [])
 IsLine words (evaluates program datagram) = IsLineOf (codes "eval") words (program ∷ datagram ∷ [])
 IsLine words (tests text datagram) = IsFlaggedLine (codes "eval") words (text ∷ datagram ∷ [])
-IsLine words (replays config token_dir) = IsReplayLine words config token_dir
+IsLine words (replays config token_dir store) = IsOptionLine (codes "replay") words
+    ((codes "config", config) ∷ (codes "token-dir", token_dir) ∷ (codes "store", store) ∷ [])
+IsLine words (lists config token_dir store moment) = (digits : Text) × (moment_of digits ≡ Some moment)
+    × IsOptionLine (codes "leases") words ((codes "config", config) ∷ (codes "token-dir", token_dir)
+    ∷ (codes "store", store) ∷ (codes "at", Some digits) ∷ [])
 
 -- the names of the subcommands
 abbrev pub subcommands : List Text
 subcommands =
-    codes "show" ∷ codes "expr" ∷ codes "compile" ∷ codes "verify" ∷ codes "eval" ∷ codes "replay" ∷ []
+    codes "show" ∷ codes "expr" ∷ codes "compile" ∷ codes "verify" ∷ codes "eval" ∷ codes "replay" ∷ codes "leases" ∷ []
 
 -- the flag that asks for help
 abbrev pub IsHelpFlag : Text → Type 0

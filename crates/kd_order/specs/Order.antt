@@ -1,9 +1,10 @@
 -- The orders of the command line, over what the crate `clap` makes of a command line and words: the
 -- command line itself, which words give which order, and the numbers of the faults.
-use Rattle.std.specs.Prelude.{◌≡◌, ◌≢◌, ℕ, Bool, true, false, List, [], Option, Some, None, Result}
-use Rattle.std.specs.Prelude.{Ok, Err, codes, option_and_then, option_map, if◌then◌else◌}
+use Rattle.std.specs.Prelude.{◌≡◌, ◌≢◌, ◌⊎◌, ◌&&◌, ◌^◌, ℕ, Bool, true, false, List, [], length, nat_lt, nat_le}
+use Rattle.std.specs.Prelude.{Option, Some, None, Result, Ok, Err, codes, option_and_then, option_map, if◌then◌else◌}
 use Rattle.std.specs.Option.{option_map_or}
-use Rattle.std.specs.Str.{bytes_eq}
+use Rattle.std.specs.Str.{all_ascii_digits, bytes_eq}
+use Rattle.std.specs.Str.Parse.{digits_value}
 use Rattle.std.specs.String.{string_bytes}
 use Rattle.clap.specs.Words.{App, IsAmong, Row, Rule, Text, fault_of, first_of, new_app, new_rule}
 use Rattle.clap.specs.Words.{subcommand_of, with_rule, with_subcommand}
@@ -15,6 +16,7 @@ use Rattle.kd_order.specs.declared.fault.LineFault.{LineFault}
 use Rattle.kd_order.specs.declared.fault.LineFault.TheVariants.{CommandLine, Memory}
 use Rattle.kd_order.specs.declared.orders.Order.{Order}
 use Rattle.kd_order.specs.declared.orders.Order.TheVariants.{Help, Show, Expr, Compile, Verify, Eval, EvalText, Replay}
+use Rattle.kd_order.specs.declared.orders.Order.TheVariants.{Leases}
 
 -- the number that a fault is printed with
 abbrev pub fault_number : LineFault → ℕ
@@ -34,6 +36,10 @@ flag name = record (new_rule name) { long = Some name; action = Some SetTrue }
 -- an option with one value
 abbrev pub valued : Text → Rule
 valued name = record (new_rule name) { long = Some name; action = Some Set; value_names = 1 }
+
+-- an option with one value, which has to be there
+abbrev pub needed_value : Text → Rule
+needed_value name = record (valued name) { required = true }
 
 -- a subcommand with one argument, which has to be there
 abbrev pub text_line : Text → Text → App
@@ -61,9 +67,19 @@ eval_line =
     with_rule (with_rule (with_rule (new_app (codes "eval")) (flag (codes "text"))) (needed (codes "PROGRAM")))
     (needed (codes "DATAGRAM"))
 
--- `replay [--config F] [--token-dir D]`
+-- a subcommand over files: `NAME [--config F] [--token-dir D] [--store F]`
+abbrev pub files_line : Text → App
+files_line name =
+    with_rule (with_rule (with_rule (new_app name) (valued (codes "config"))) (valued (codes "token-dir")))
+    (valued (codes "store"))
+
+-- `replay [--config F] [--token-dir D] [--store F]`
 abbrev pub replay_line : App
-replay_line = with_rule (with_rule (new_app (codes "replay")) (valued (codes "config"))) (valued (codes "token-dir"))
+replay_line = files_line (codes "replay")
+
+-- `leases [--config F] [--token-dir D] [--store F] --at M`
+abbrev pub leases_line : App
+leases_line = with_rule (files_line (codes "leases")) (needed_value (codes "at"))
 
 -- the program, with no word for its name, and a subcommand that has to be there
 abbrev pub program_line : App
@@ -73,9 +89,9 @@ program_line = on_top (λ s. record s { no_binary_name = true; subcommand_requir
 -- the whole command line
 abbrev pub command_line : App
 command_line =
-    with_subcommand (with_subcommand (with_subcommand (with_subcommand (with_subcommand
+    with_subcommand (with_subcommand (with_subcommand (with_subcommand (with_subcommand (with_subcommand
     (with_subcommand program_line show_line.top) expr_line.top) compile_line.top) verify_line.top) eval_line.top)
-    replay_line.top
+    replay_line.top) leases_line.top
 
 -- ---- what the words ask for
 
@@ -93,9 +109,11 @@ pub data Asked : Type 0 where
   evaluates : Text → Text → Asked
   -- the run of the program of the class test in the one text over the datagram in the other
   tests : Text → Text → Asked
-  -- the events of standard input, replayed, with the file of the configuration and the folder of the token
-  -- files, where they are given
-  replays : Option Text → Option Text → Asked
+  -- the events of standard input, replayed, with the file of the configuration, the folder of the token files
+  -- and the file of the leases, where they are given
+  replays : Option Text → Option Text → Option Text → Asked
+  -- the leases of the store at this moment, with the same files
+  lists : Option Text → Option Text → Option Text → ℕ → Asked
 
 -- a flag was given, by its value
 abbrev pub is_flagged : Option Text → Bool
@@ -105,6 +123,20 @@ is_flagged value = option_map_or (λ v. bytes_eq v (codes "true")) value false
 abbrev pub evaluation_of : Option Text → Option Text → Option Text → Option Asked
 evaluation_of value program datagram =
     option_and_then (λ p. option_map (λ d. if is_flagged value then tests p d else evaluates p d) datagram) program
+
+-- 1 to 20 decimal digits
+abbrev pub are_digits : Text → Bool
+are_digits text = nat_lt 0 (length text) && (nat_le (length text) 20 && all_ascii_digits text)
+
+-- the moment of a text, where it is one: 1 to 20 decimal digits, and a number below 2 ^ 64
+abbrev pub moment_of : Text → Option ℕ
+moment_of text =
+    if are_digits text && nat_lt (digits_value 10 text) (2 ^ 64) then Some (digits_value 10 text) else None
+
+-- what these files and a text ask `leases` for, where the text is there and is a moment
+abbrev pub listing_of : Option Text → Option Text → Option Text → Option Text → Option Asked
+listing_of config token_dir store at =
+    option_map (λ moment. lists config token_dir store moment) (option_and_then (λ text. moment_of text) at)
 
 -- what the subcommand of this name asks for, with these matches
 abbrev pub asked_by : Text → List Row → Option Asked
@@ -116,7 +148,11 @@ asked_by name rows =
     else (if bytes_eq name (codes "eval")
     then evaluation_of (first_of (codes "text") rows) (first_of (codes "PROGRAM") rows) (first_of (codes "DATAGRAM") rows)
     else (if bytes_eq name (codes "replay")
-    then Some (replays (first_of (codes "config") rows) (first_of (codes "token-dir") rows)) else None)))))
+    then Some (replays (first_of (codes "config") rows) (first_of (codes "token-dir") rows) (first_of (codes "store") rows))
+    else (if bytes_eq name (codes "leases")
+    then listing_of (first_of (codes "config") rows) (first_of (codes "token-dir") rows) (first_of (codes "store") rows)
+    (first_of (codes "at") rows)
+    else None))))))
 
 -- the same of the subcommand that was entered, if one was
 abbrev pub asked_of : Option (Text × List Row) → Option Asked
@@ -131,10 +167,15 @@ pub record Asks (words : List Text) (asked : Asked) : Type 0 where
 abbrev pub IsHelp : List Text → Type 0
 IsHelp words = IsAmong DisplayHelp (fault_of command_line words)
 
--- the first step at which the words fail may be other than a request for help
+-- the words are no mistake for `clap`, but their subcommand asks for nothing: `--at` has no moment
+pub record AsksNothing (words : List Text) : Type 0 where
+  pub whole : fault_of command_line words ≡ []
+  pub entered : asked_of (subcommand_of command_line words) ≡ None
+
+-- the first step at which the words fail may be other than a request for help, or the words ask for nothing
 abbrev pub IsMistake : List Text → Type 0
 IsMistake words =
-    (kind : ErrorKind) × IsAmong kind (fault_of command_line words) × (kind ≢ DisplayHelp)
+    ((kind : ErrorKind) × IsAmong kind (fault_of command_line words) × (kind ≢ DisplayHelp)) ⊎ AsksNothing words
 
 -- the words ask for this order
 abbrev pub AsksFor : List Text → Order → Type 0
@@ -145,8 +186,10 @@ AsksFor words (Compile text) = Asks words (compiles (string_bytes text))
 AsksFor words (Verify hex) = Asks words (verifies (string_bytes hex))
 AsksFor words (Eval program datagram) = Asks words (evaluates (string_bytes program) (string_bytes datagram))
 AsksFor words (EvalText text datagram) = Asks words (tests (string_bytes text) (string_bytes datagram))
-AsksFor words (Replay config token_dir) =
-    Asks words (replays (option_map string_bytes config) (option_map string_bytes token_dir))
+AsksFor words (Replay config token_dir store) = Asks words
+    (replays (option_map string_bytes config) (option_map string_bytes token_dir) (option_map string_bytes store))
+AsksFor words (Leases config token_dir store at) = Asks words
+    (lists (option_map string_bytes config) (option_map string_bytes token_dir) (option_map string_bytes store) at)
 
 -- the words have this fault; memory may run out at any words
 abbrev pub HasFault : List Text → LineFault → Type 0
@@ -162,7 +205,10 @@ given_by (Compile text) = Some (compiles (string_bytes text))
 given_by (Verify hex) = Some (verifies (string_bytes hex))
 given_by (Eval program datagram) = Some (evaluates (string_bytes program) (string_bytes datagram))
 given_by (EvalText text datagram) = Some (tests (string_bytes text) (string_bytes datagram))
-given_by (Replay config token_dir) = Some (replays (option_map string_bytes config) (option_map string_bytes token_dir))
+given_by (Replay config token_dir store) = Some
+    (replays (option_map string_bytes config) (option_map string_bytes token_dir) (option_map string_bytes store))
+given_by (Leases config token_dir store at) = Some
+    (lists (option_map string_bytes config) (option_map string_bytes token_dir) (option_map string_bytes store) at)
 
 -- the answer gives what was asked, or memory ran out
 abbrev pub GivesUnlessFull : Asked → Result Order LineFault → Type 0

@@ -43,5 +43,18 @@ pub enum Order {
         config: Option<String>,
         /// The path of the token files' folder, where the line gives one.
         token_dir: Option<String>,
+        /// The path of the file of the leases, where the line gives one.
+        store: Option<String>,
+    },
+    /// The leases of a store at a moment.
+    Leases {
+        /// The path of the configuration's file, where the line gives one.
+        config: Option<String>,
+        /// The path of the token files' folder, where the line gives one.
+        token_dir: Option<String>,
+        /// The path of the file of the leases, where the line gives one.
+        store: Option<String>,
+        /// The moment, in whole seconds.
+        at: u64,
     },
 }

@@ -1,17 +1,20 @@
-ghost use Rattle.std.specs.Prelude.{◌≡◌, ◌↔◌, IfErr, IfOk, Some, codes, false, if◌then◌else◌, map, option_map};
+ghost use Rattle.std.specs.Prelude.{◌≡◌, ◌↔◌, IfErr, IfOk, Some, codes, false, if◌then◌else◌, map};
+ghost use Rattle.std.specs.Prelude.{option_and_then, option_map};
 ghost use Rattle.std.specs.String.{string_bytes};
 ghost use Rattle.clap.specs.Words.{app_of, first_value, found_of, kind_of};
 ghost use Rattle.clap.specs.Words.{rule_of, subcommand_rows_of};
 ghost use Rattle.clap.specs.declared.builder.command.Command.TheViews.{out-Command};
 ghost use Rattle.kd_order.specs.Line.{IsHelpLine, IsLine};
-ghost use Rattle.kd_order.specs.Order.{Asked, Asks, AsksFor, GivesUnlessFull, HasFault};
-ghost use Rattle.kd_order.specs.Order.{HelpsUnlessFull, asked_of, command_line, program_line, replay_line};
-ghost use Rattle.kd_order.specs.Order.{compile_line, eval_line, expr_line, show_line, verify_line};
-ghost use Rattle.kd_order.specs.Order.{compiles, evaluates, evaluation_of, flag, given_by, is_flagged, needed};
+ghost use Rattle.kd_order.specs.Order.{Asked, Asks, AsksFor, GivesUnlessFull, HasFault, HelpsUnlessFull};
+ghost use Rattle.kd_order.specs.Order.{asked_of, command_line, compile_line, eval_line, expr_line, files_line};
+ghost use Rattle.kd_order.specs.Order.{leases_line, program_line, replay_line, show_line, verify_line};
+ghost use Rattle.kd_order.specs.Order.{compiles, evaluates, evaluation_of, flag, given_by, is_flagged};
+ghost use Rattle.kd_order.specs.Order.{listing_of, moment_of, needed, needed_value};
 ghost use Rattle.kd_order.specs.Order.{replays, shows, tests, types, valued, verifies};
 ghost use Rattle.kd_order.specs.Steps.{AnswersKind, GivesIfThere};
 
 use crate::fault::LineFault;
+use crate::moment::moment_in;
 use crate::orders::Order;
 use clap::error::ErrorKind;
 use clap::{Arg, ArgAction, ArgMatches, Command};
@@ -21,7 +24,7 @@ use std::alloc::{AllocError, Global};
 ///
 /// # Errors
 ///
-/// `CommandLine` where the words are no command of the program, and `Memory`.
+/// `CommandLine` where the words are no command of the program, or `--at` has no moment, and `Memory`.
 pub fn order(alloc: Global, words: &[String]) -> Result<Order, LineFault>
     ensures order { IfOk result (AsksFor (map string_bytes words.now)) }
     ensures fault { IfErr result (HasFault (map string_bytes words.now)) }
@@ -48,7 +51,8 @@ fn kdhcp<'a>(alloc: Global) -> Result<Command<'a>, AllocError>
         .subcommand(compile(alloc)?)?
         .subcommand(verify(alloc)?)?
         .subcommand(eval(alloc)?)?
-        .subcommand(replay(alloc)?)
+        .subcommand(replay(alloc)?)?
+        .subcommand(leases(alloc)?)
 }
 
 // The command line before its subcommands.
@@ -168,17 +172,49 @@ fn valued<'a>(alloc: Global, name: &'a str, value: &'a str, help: &'a str) -> Ar
         .action(ArgAction::Set)
 }
 
-// `replay [--config F] [--token-dir D]`.
-fn replay<'a>(alloc: Global) -> Result<Command<'a>, AllocError>
-    ensures app { IfOk result (λ c. app_of c ≡ replay_line) }
+// A subcommand over files: `NAME [--config F] [--token-dir D] [--store F]`.
+fn over_files<'a>(alloc: Global, name: &'a str, about: &'a str) -> Result<Command<'a>, AllocError>
+    ensures app { IfOk result (λ c. app_of c ≡ files_line name.entry.now) }
     ensures local { IfOk result (λ c. (out-Command c).has_globals ≡ false) }
 {
     let config = valued(alloc, "config", "F", "The file of the configuration, JSON");
     let token_dir = valued(alloc, "token-dir", "D", "The folder of the token files");
-    Command::new(alloc, "replay")
-        .about("Replay the events of standard input")
+    let store = valued(
+        alloc,
+        "store",
+        "F",
+        "The file of the leases, a database of SQLite; in memory without it",
+    );
+    Command::new(alloc, name)
+        .about(about)
         .arg(config)?
-        .arg(token_dir)
+        .arg(token_dir)?
+        .arg(store)
+}
+
+// `replay [--config F] [--token-dir D] [--store F]`.
+fn replay<'a>(alloc: Global) -> Result<Command<'a>, AllocError>
+    ensures app { IfOk result (λ c. app_of c ≡ replay_line) }
+    ensures local { IfOk result (λ c. (out-Command c).has_globals ≡ false) }
+{
+    over_files(alloc, "replay", "Replay the events of standard input")
+}
+
+// `--at M`, which has to be there.
+fn at_moment<'a>(alloc: Global) -> Arg<'a>
+    ensures rule { rule_of result ≡ needed_value (codes "at") }
+    ensures local { result.global ≡ false }
+{
+    valued(alloc, "at", "M", "The moment, in whole seconds").required(true)
+}
+
+// `leases [--config F] [--token-dir D] [--store F] --at M`.
+fn leases<'a>(alloc: Global) -> Result<Command<'a>, AllocError>
+    ensures app { IfOk result (λ c. app_of c ≡ leases_line) }
+    ensures local { IfOk result (λ c. (out-Command c).has_globals ≡ false) }
+{
+    let command = over_files(alloc, "leases", "Print the leases of a store at a moment")?;
+    command.arg(at_moment(alloc))
 }
 
 // What matches of the command line ask for.
@@ -192,6 +228,7 @@ fn asked_for(alloc: Global, matches: &ArgMatches<'_>) -> Result<Order, LineFault
         Some(("verify", inner)) => verified(alloc, inner),
         Some(("eval", inner)) => evaluated(alloc, inner),
         Some(("replay", inner)) => replayed(alloc, inner),
+        Some(("leases", inner)) => listed(alloc, inner),
         _ => Err(LineFault::CommandLine),
     }
 }
@@ -282,14 +319,82 @@ fn is_flagged(value: Option<&str>) -> bool
     }
 }
 
-// What matches of `replay` ask for.
-fn replayed(alloc: Global, matches: &ArgMatches<'_>) -> Result<Order, LineFault>
-    ensures { GivesIfThere (Some (replays (first_value (found_of matches.now) (codes "config"))
-        (first_value (found_of matches.now) (codes "token-dir")))) result }
+// The paths of the files that a subcommand reads, where the line gives them.
+#[derive(Drop)]
+struct Files {
+    config: Option<String>,
+    token_dir: Option<String>,
+    store: Option<String>,
+}
+
+// The paths that matches give.
+fn files_of(alloc: Global, matches: &ArgMatches<'_>) -> Result<Files, AllocError>
+    ensures config { IfOk result (λ files. option_map string_bytes files.config
+        ≡ first_value (found_of matches.now) (codes "config")) }
+    ensures token_dir { IfOk result (λ files. option_map string_bytes files.token_dir
+        ≡ first_value (found_of matches.now) (codes "token-dir")) }
+    ensures store { IfOk result (λ files. option_map string_bytes files.store
+        ≡ first_value (found_of matches.now) (codes "store")) }
 {
     let config = text_of(alloc, matches, "config")?;
     let token_dir = text_of(alloc, matches, "token-dir")?;
-    Ok(Order::Replay { config, token_dir })
+    let store = text_of(alloc, matches, "store")?;
+    Ok(Files {
+        config,
+        token_dir,
+        store,
+    })
+}
+
+// What matches of `replay` ask for.
+fn replayed(alloc: Global, matches: &ArgMatches<'_>) -> Result<Order, LineFault>
+    ensures { GivesIfThere (Some (replays (first_value (found_of matches.now) (codes "config"))
+        (first_value (found_of matches.now) (codes "token-dir"))
+        (first_value (found_of matches.now) (codes "store")))) result }
+{
+    let Files {
+        config,
+        token_dir,
+        store,
+    } = files_of(alloc, matches)?;
+    Ok(Order::Replay {
+        config,
+        token_dir,
+        store,
+    })
+}
+
+// What matches of `leases` ask for.
+fn listed(alloc: Global, matches: &ArgMatches<'_>) -> Result<Order, LineFault>
+    ensures { GivesIfThere (listing_of (first_value (found_of matches.now) (codes "config"))
+        (first_value (found_of matches.now) (codes "token-dir"))
+        (first_value (found_of matches.now) (codes "store"))
+        (first_value (found_of matches.now) (codes "at"))) result }
+{
+    let Some(at) = moment_given(matches.get_str("at")) else {
+        return Err(LineFault::CommandLine);
+    };
+    let Files {
+        config,
+        token_dir,
+        store,
+    } = files_of(alloc, matches)?;
+    Ok(Order::Leases {
+        config,
+        token_dir,
+        store,
+        at,
+    })
+}
+
+// The moment of an argument, where it is there and is one.
+fn moment_given(value: Option<&str>) -> Option<u64>
+    ensures { result ≡ option_and_then (λ text. moment_of text.now) value.entry }
+{
+    match value {
+        Some(text) => moment_in(text),
+        None => None,
+    }
 }
 
 // The text of an argument, where the matches have one.

@@ -1,6 +1,6 @@
 use Rattle.std.proofs.Common.{refl, codes}
 use Rattle.kd_order.specs.Order.{compiles, shows, types, verifies}
-use Rattle.kd_order.proofs.FromMatches.{at_eval, at_replay, at_text}
+use Rattle.kd_order.proofs.FromMatches.{at_eval, at_leases, at_replay, at_text}
 use Rattle.kd_order.proofs.words.asked_for.Goals as goal
 
 pub returns-in-Some-show-default : goal.returns-in-Some-show-default
@@ -36,3 +36,8 @@ pub returns-in-Some-replay-default : goal.returns-in-Some-replay-default
 returns-in-Some-replay-default c =
     let e = c.in-Some-replay-default.ensures in
     at_replay c.args.matches.now c.in-Some-replay-default.inner.now _ c.replayed.result e.name e.rows c.in-Some-replay-default.is-replay c.replayed.ensures
+
+pub returns-in-Some-leases-default : goal.returns-in-Some-leases-default
+returns-in-Some-leases-default c =
+    let e = c.in-Some-leases-default.ensures in
+    at_leases c.args.matches.now c.in-Some-leases-default.inner.now _ c.listed.result e.name e.rows c.in-Some-leases-default.is-leases c.listed.ensures

@@ -1,4 +1,4 @@
-use Rattle.kd_order.specs.Order.{compile_line, eval_line, expr_line, program_line, replay_line, show_line, verify_line}
+use Rattle.kd_order.specs.Order.{compile_line, eval_line, expr_line, leases_line, program_line, replay_line, show_line, verify_line}
 use Rattle.kd_order.proofs.Commands.{added, added_last}
 use Rattle.kd_order.proofs.words.kdhcp.Goals as goal
 
@@ -9,4 +9,5 @@ returns c =
     let three = added _ _ _ _ compile_line c.in_ok-subcommand-3.ensures two c.in_ok-compile.ensures.app c.in_ok-compile.ensures.local in
     let four = added _ _ _ _ verify_line c.in_ok-subcommand-4.ensures three c.in_ok-verify.ensures.app c.in_ok-verify.ensures.local in
     let five = added _ _ _ _ eval_line c.in_ok-subcommand-5.ensures four c.in_ok-eval.ensures.app c.in_ok-eval.ensures.local in
-    added_last _ _ c.subcommand-6.result _ replay_line c.subcommand-6.ensures five c.in_ok-replay.ensures.app c.in_ok-replay.ensures.local
+    let six = added _ _ _ _ replay_line c.in_ok-subcommand-6.ensures five c.in_ok-replay.ensures.app c.in_ok-replay.ensures.local in
+    added_last _ _ c.subcommand-7.result _ leases_line c.subcommand-7.ensures six c.in_ok-leases.ensures.app c.in_ok-leases.ensures.local
