@@ -53,7 +53,8 @@ def options(chance, often):
         return {}
     sizes = [0, 1, 1, 4, 4, 60, 200, 255, 256, 300, 600]
     codes = chance.sample(CODES, chance.randrange(1, 4))
-    return {"option-data": [{"code": code, "data": chance.randbytes(chance.choice(sizes)).hex(), "csv-format": False} for code in codes]}
+    values = [(code, chance.randbytes(chance.choice(sizes)).hex()) for code in codes]
+    return {"option-data": [{"code": code, "data": data, "csv-format": False} for code, data in values]}
 
 
 def class_definitions(chance):
@@ -135,7 +136,8 @@ class Client:
 
     def __init__(self, chance):
         self.hardware = chance.choice(MACS)
-        self.htype, self.hlen = chance.choices([(1, 6), (6, 6), (1, 0), (1, 5), (1, 16), (1, 255)], [40, 2, 1, 1, 1, 1])[0]
+        kinds = [(1, 6), (6, 6), (1, 0), (1, 5), (1, 16), (1, 255)]
+        self.htype, self.hlen = chance.choices(kinds, [40, 2, 1, 1, 1, 1])[0]
         self.identifier = chance.choices([None, b""] + IDENTIFIERS + [bytes(280)], [12, 1, 2, 2, 2, 0.1])[0]
         self.vendor = chance.choice([None, None] + VENDORS)
         self.relay = None
@@ -155,8 +157,8 @@ def some_address(chance, root, rows, client):
     if place < 0.03:
         return chance.randbytes(4)
     if place < 0.1:
-        likely = [each for subnet in root["subnet4"] for each in judge.prefix(subnet["subnet"])]
-        likely += [each + beside for each in likely for beside in (-1, 1)]
+        ends = [each for subnet in root["subnet4"] for each in judge.prefix(subnet["subnet"])]
+        likely = [each + beside for each in ends for beside in (-1, 0, 1)]
     wanted = chance.choice(own) if own and place > 0.3 else chance.choice(likely or [0])
     return min(2**32 - 1, max(0, wanted)).to_bytes(4, "big")
 
@@ -173,7 +175,7 @@ def some_relay(chance, root):
 
 
 def some_moment(chance, rows, now):
-    """Mostly a little later; often the end of a row, or a second beside it; sometimes earlier, seldom the last of all."""
+    """Mostly a little later; often the end of a row or a second beside it; sometimes earlier; seldom the last one."""
     place = chance.random()
     if place < 0.25 and rows:
         return max(0, min(judge.END_OF_TIME - 1, chance.choice(rows).end + chance.choice([-1, 0, 1])))
@@ -209,7 +211,8 @@ def message_options(chance, root, rows, client, kind):
 def spread(chance, pairs):
     """The three fields that hold options: options, file, sname; mostly the first alone."""
     if chance.random() < 0.9:
-        return b"".join(written(*pair) for pair in pairs) + chance.choice([b"", b"\xff", b"\xff" + bytes(9)]), bytes(128), bytes(64)
+        field = b"".join(written(*pair) for pair in pairs)
+        return field + chance.choice([b"", b"\xff", b"\xff" + bytes(9)]), bytes(128), bytes(64)
     areas = [written(*pairs[0]) + written(52, bytes([chance.randrange(5)])), b"", b""]
     for code, value in pairs[1:]:
         cut = chance.randrange(len(value) + 1)
@@ -240,7 +243,7 @@ def datagram(chance, root, rows, clients):
 
 
 def history(chance):
-    """A configuration, events, and what judge.py says of them: the lines, the rows, and if the last moment is too large."""
+    """A configuration, events, and what judge.py says of them: lines, rows, and if the last moment is too large."""
     root = configuration(chance)
     clients = [Client(chance) for _ in range(chance.choice([2, 3, 4]))]
     rows, events, lines, now = [], [], [], chance.choice([0, 100, 1000])
@@ -272,7 +275,8 @@ def program_lines(program, folder, root, events, with_leases):
     out = done.stdout.splitlines() + done.stderr.splitlines()
     if with_leases:
         last = min(int(events[-1].split(" ")[0]), judge.END_OF_TIME - 1)
-        done = subprocess.run([program, "leases"] + words + ["--at", str(last)], capture_output=True, text=True, check=False)
+        words += ["--at", str(last)]
+        done = subprocess.run([program, "leases"] + words, capture_output=True, text=True, check=False)
         out += done.stdout.splitlines() + done.stderr.splitlines()
     return out
 
