@@ -197,7 +197,8 @@ def message_options(chance, root, rows, client, kind):
     if chance.random() < 0.35:
         pairs.append((55, bytes(chance.choices(CODES + [51, 54, 82], k=chance.randrange(6)))))
     if chance.random() < 0.3:
-        pairs.append((57, chance.choice([b"", b"\x05", b"\x00\x05\xdc", bytes(2), b"\x02\x40", b"\x02\x80", b"\x05\xdc", b"\xff\xff"])))
+        sizes = [b"", b"\x05", b"\x00\x05\xdc", bytes(2), b"\x02\x40", b"\x02\x80", b"\x05\xdc", b"\xff\xff"]
+        pairs.append((57, chance.choice(sizes)))
     if client.vendor is not None:
         pairs.append((60, client.vendor))
     if client.identifier is not None:
