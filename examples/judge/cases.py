@@ -3,8 +3,7 @@
 
     cases.py [FILE ..]     files of cases (crates/kd_cases/README.md); without any, the cases of leases
 
-Prints each case that is not as judge.py says, and how many there are. Cases of other commands, and cases that
-want a fault other than a moment that is too large, are left out.
+Prints each case that is not as judge.py says, and how many there are. Cases of other commands are left out.
 """
 import glob
 import json
@@ -72,8 +71,8 @@ def cases(lines):
 def judged(case):
     """What judge.py prints for a case's events, and its fault."""
     root = json.loads(case["config"])["Dhcp4"] if case["config"] else judge.BUILT_IN
-    out, _, is_too_large = judge.replay(root, case["events"])
-    return out, ["fault 96 Serve MomentTooLarge"] if is_too_large else []
+    out, _, fault = judge.replay(root, case["events"])
+    return out, [fault] if fault else []
 
 
 def main():

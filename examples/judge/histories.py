@@ -243,23 +243,36 @@ def datagram(chance, root, rows, clients):
     return whole[: chance.randrange(len(whole))] if chance.random() < 0.01 else whole
 
 
+def bad_line(chance, event):
+    """A line that is an event but for one sign, mostly."""
+    at = chance.randrange(len(event))
+    return event[:at] + chance.choice(["", " ", "g", "\r", "-", "00000000000000000000"]) + event[at + 1 :]
+
+
 def history(chance):
-    """A configuration, events, and what judge.py says of them: lines, rows, and if the last moment is too large."""
+    """A configuration, events, and what judge.py says of them: lines, rows, and the fault that ends them or None."""
     root = configuration(chance)
     clients = [Client(chance) for _ in range(chance.choice([2, 3, 4]))]
-    rows, events, lines, now = [], [], [], chance.choice([0, 100, 1000])
+    rows, events, now = [], [], chance.choice([0, 100, 1000])
     for _ in range(chance.randrange(1, 50)):
         moment, message = some_moment(chance, rows, now), datagram(chance, root, rows, clients)
         events.append(f"{moment} {message.hex()}")
+        if chance.random() < 0.001:
+            events[-1] = bad_line(chance, events[-1])
         if moment >= judge.END_OF_TIME:
-            return root, events, (lines, rows, True)
-        line, rows = judge.handle(root, rows, moment, message)
-        lines.append(line)
+            break
+        _, rows = judge.handle(root, rows, moment, message)
         now = judge.moment_of(rows, now if chance.random() < 0.5 else moment)
-    return root, events, (lines, rows, False)
+    return root, events, judge.replay(root, events)
 
 
 # ---- the comparison
+
+
+def table_moment(events):
+    """The moment at which the table is looked at: that of the last event, where it is one."""
+    event = judge.event_of(events[-1])
+    return min(event[0], judge.END_OF_TIME - 1) if event else 0
 
 
 def program_lines(program, folder, root, events, with_leases):
@@ -272,21 +285,20 @@ def program_lines(program, folder, root, events, with_leases):
             os.remove(store + suffix)
     words = ["--config", path] + (["--store", store] if with_leases else [])
     text = "".join(f"{event}\n" for event in events)
-    done = subprocess.run([program, "replay"] + words, input=text, capture_output=True, text=True, check=False)
-    out = done.stdout.splitlines() + done.stderr.splitlines()
+    done = subprocess.run([program, "replay"] + words, input=text.encode(), capture_output=True, check=False)
+    out = (done.stdout + done.stderr).decode().splitlines()
     if with_leases:
-        last = min(int(events[-1].split(" ")[0]), judge.END_OF_TIME - 1)
-        words += ["--at", str(last)]
-        done = subprocess.run([program, "leases"] + words, capture_output=True, text=True, check=False)
-        out += done.stdout.splitlines() + done.stderr.splitlines()
+        words += ["--at", str(table_moment(events))]
+        done = subprocess.run([program, "leases"] + words, capture_output=True, check=False)
+        out += (done.stdout + done.stderr).decode().splitlines()
     return out
 
 
 def wanted_lines(events, judged, with_leases):
-    lines, rows, is_too_large = judged
-    wanted = lines + (["fault 96 Serve MomentTooLarge"] if is_too_large else [])
+    lines, rows, fault = judged
+    wanted = lines + ([fault] if fault else [])
     if with_leases:
-        wanted += judge.lease_lines(rows, min(int(events[-1].split(" ")[0]), judge.END_OF_TIME - 1))
+        wanted += judge.lease_lines(rows, table_moment(events))
     return wanted
 
 

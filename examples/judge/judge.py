@@ -14,6 +14,7 @@ negative numbers, member, ==, not, and, or. Classes with token files it does not
 import argparse
 import json
 import os
+import re
 import sys
 from typing import NamedTuple, Optional
 
@@ -30,8 +31,10 @@ BUILT_IN = {
     "subnet4": [{"subnet": "192.0.2.0/24", "pools": [{"pool": "192.0.2.10 - 192.0.2.11"}]}],
 }
 DISCOVER, REQUEST, DECLINE, RELEASE = 1, 3, 4, 7
-# Moments are below this.
+# Moments are below the first of these; what is below the second can stand in a line.
 END_OF_TIME = 2**40
+END_OF_NUMBERS = 2**64
+LONGEST_LINE = 131072
 
 
 class Row(NamedTuple):
@@ -416,16 +419,26 @@ def handle(root, rows, moment, datagram):
     return f"{now} {words}", rows if row is None else with_row(rows, row)
 
 
+def event_of(line):
+    """The moment and the datagram of a line, or None where it is no event."""
+    parts = re.fullmatch("([0-9]{1,20}) ((?:[0-9a-fA-F]{2})*)", line)
+    if parts is None or int(parts.group(1)) >= END_OF_NUMBERS or len(line) > LONGEST_LINE:
+        return None
+    return int(parts.group(1)), bytes.fromhex(parts.group(2))
+
+
 def replay(root, lines):
-    """The lines of all events up to the first moment that is too large, the rows, and whether there was one."""
+    """What is printed for the lines up to the first fault, the rows behind them, and the fault's line or None."""
     rows, out = [], []
-    for line in lines:
-        moment, digits = line.rstrip("\n").split(" ")
-        if int(moment) >= END_OF_TIME:
-            return out, rows, True
-        text, rows = handle(root, rows, int(moment), bytes.fromhex(digits))
+    for count, line in enumerate(lines, 1):
+        event = event_of(line)
+        if event is None:
+            return out, rows, f"fault 97 BadLine {count}"
+        if event[0] >= END_OF_TIME:
+            return out, rows, "fault 96 Serve MomentTooLarge"
+        text, rows = handle(root, rows, *event)
         out.append(text)
-    return out, rows, False
+    return out, rows, None
 
 
 def lease_lines(rows, moment):
@@ -449,12 +462,14 @@ def main():
     words.add_argument("--config")
     words.add_argument("--leases", type=int)
     words = words.parse_args()
-    lines, rows, is_too_large = replay(configuration(words.config), sys.stdin)
-    if words.leases is not None and not is_too_large:
-        lines += lease_lines(rows, words.leases)
-    sys.stdout.writelines(f"{line}\n" for line in lines)
-    if is_too_large:
-        print("fault 96 Serve MomentTooLarge", file=sys.stderr)
+    with open(sys.stdin.fileno(), newline="\n", encoding="latin-1") as events:
+        lines = events.read().split("\n")
+    out, rows, fault = replay(configuration(words.config), lines[:-1] if lines[-1] == "" else lines)
+    if words.leases is not None and fault is None:
+        out += lease_lines(rows, words.leases)
+    sys.stdout.writelines(f"{line}\n" for line in out)
+    if fault is not None:
+        print(fault, file=sys.stderr)
         sys.exit(3)
 
 
