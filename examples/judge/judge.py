@@ -1,0 +1,477 @@
+#!/usr/bin/env python3
+"""What a server must answer to a list of events, by a program that is slow and plain.
+
+    judge.py [--config F] [--leases M]     reads events from standard input (`MOMENT HEX`, a line each)
+
+For each event it prints the line that `kdhcp replay` must print, and with `--leases M` the rows of the table of
+leases at the moment M behind them. The table is a plain list that is gone through for every question. The rules
+are written here once more, from RFC 2131, 2132, 3046, 3396, 6842 and the project's own profile, in another
+language and by another hand than the server's; nothing of the server's code is used.
+
+Of class tests it takes what answers.py takes: strings, hexadecimal, option, relay4, pkt4.mac, substring without
+negative numbers, member, ==, not, and, or. Classes with token files it does not take.
+"""
+import argparse
+import json
+import os
+import re
+import sys
+from typing import NamedTuple, Optional
+
+HERE = os.path.dirname(os.path.abspath(__file__))
+sys.path[:0] = [os.path.join(HERE, ".."), os.path.join(HERE, "..", "replay")]
+from answers import classes, given, hexadecimal, number, pool, prefix  # noqa: E402
+from day import COOKIE, address, dotted, readable, unheard, written  # noqa: E402
+
+BUILT_IN = {
+    "server-address": "192.0.2.1",
+    "valid-lifetime": 3600,
+    "offer-hold": 60,
+    "decline-hold": 600,
+    "subnet4": [{"subnet": "192.0.2.0/24", "pools": [{"pool": "192.0.2.10 - 192.0.2.11"}]}],
+}
+DISCOVER, REQUEST, DECLINE, RELEASE = 1, 3, 4, 7
+# Moments are below the first of these; what is below the second can stand in a line.
+END_OF_TIME = 2**40
+END_OF_NUMBERS = 2**64
+LONGEST_LINE = 131072
+
+
+class Row(NamedTuple):
+    """What the table knows of an address."""
+
+    address: int
+    client: bytes
+    state: str
+    changed: int
+    end: int
+
+
+class Asked(NamedTuple):
+    """A message with all that is needed to judge it."""
+
+    root: dict
+    rows: list
+    now: int
+    datagram: bytes
+    found: dict
+    held: list
+    subnet: Optional[dict]
+    client: bytes
+
+
+class Plan(NamedTuple):
+    """A reply before it is written: OFFER, ACK, NAK or the ACK of an INFORM, and the address given, or 0."""
+
+    kind: str
+    yiaddr: int
+
+
+# ---- what a message says
+
+
+def mac(datagram):
+    """The hardware address: as much of chaddr as hlen says, and at most its 16 bytes."""
+    return datagram[28 : 28 + min(datagram[2], 16)]
+
+
+def identity(datagram, found):
+    """Who the client is: 1 and its identifier, else 0, the kind of hardware and the hardware address."""
+    if found.get(61):
+        return b"\x01" + found[61]
+    return b"\x00" + datagram[1:2] + mac(datagram)
+
+
+def ciaddr(asked):
+    return number(asked.datagram[12:16])
+
+
+def giaddr(asked):
+    return number(asked.datagram[24:28])
+
+
+def requested(asked):
+    """The address of option 50, or None."""
+    return number(asked.found[50]) if 50 in asked.found else None
+
+
+def server_address(root):
+    return number(address(root["server-address"]))
+
+
+def names_another_server(asked):
+    return 54 in asked.found and number(asked.found[54]) != server_address(asked.root)
+
+
+def subnet_of(root, datagram, held):
+    """The first subnet with the message's place in it and with no class or one that is held, or None."""
+    place = number(datagram[24:28]) or number(datagram[12:16]) or server_address(root)
+    for subnet in root.get("subnet4", []):
+        first, last = prefix(subnet["subnet"])
+        if first <= place <= last and ("client-class" not in subnet or subnet["client-class"].encode() in held):
+            return subnet
+    return None
+
+
+# ---- rows
+
+
+def row_of(asked, wanted):
+    """The row of an address, or None."""
+    for row in asked.rows:
+        if row.address == wanted:
+            return row
+    return None
+
+
+def is_live(row, now):
+    return now < row.end
+
+
+def holds(asked, row):
+    """Whether a row is the client's, and Offered or Bound."""
+    return row is not None and row.client == asked.client and row.state in ("Offered", "Bound")
+
+
+def holds_live(asked, row):
+    return holds(asked, row) and is_live(row, asked.now)
+
+
+def newest(rows):
+    """Of rows the one of greatest change, of these the one of least address; None of none."""
+    return min(rows, key=lambda row: (-row.changed, row.address), default=None)
+
+
+def with_row(rows, new):
+    return [row for row in rows if row.address != new.address] + [new]
+
+
+def changed_row(asked, address_of_row, client, state, seconds):
+    return Row(address_of_row, client, state, asked.now, asked.now + seconds)
+
+
+# ---- which addresses a client may have
+
+
+def reserved(asked):
+    """The address of the first reservation of the subnet that is for this client, or None."""
+    for entry in asked.subnet.get("reservations", []):
+        by_hardware = "hw-address" in entry and hexadecimal(entry["hw-address"]) == mac(asked.datagram)
+        by_identifier = "client-id" in entry and hexadecimal(entry["client-id"]) == asked.found.get(61)
+        if by_hardware or by_identifier:
+            return number(address(entry["ip-address"]))
+    return None
+
+
+def all_reserved(root):
+    """The addresses of all reservations of all subnets."""
+    entries = [entry for subnet in root.get("subnet4", []) for entry in subnet.get("reservations", [])]
+    return [number(address(entry["ip-address"])) for entry in entries]
+
+
+def pools(asked):
+    return [pool(entry["pool"]) for entry in asked.subnet.get("pools", [])]
+
+
+def fits(asked, wanted):
+    """Whether an address is the client's reserved one, or in a pool and reserved for nobody."""
+    if wanted == reserved(asked):
+        return True
+    return any(first <= wanted <= last for first, last in pools(asked)) and wanted not in all_reserved(asked.root)
+
+
+def is_free(asked, wanted):
+    row = row_of(asked, wanted)
+    return row is None or not is_live(row, asked.now) or holds(asked, row)
+
+
+def is_usable(asked, wanted):
+    return fits(asked, wanted) and is_free(asked, wanted)
+
+
+def choice(asked):
+    """The address for a DISCOVER, or None: the first of six that there is."""
+    fixed = reserved(asked)
+    if fixed is not None and is_free(asked, fixed):
+        return fixed
+    fitting = [row for row in asked.rows if row.client == asked.client and fits(asked, row.address)]
+    live = newest([row for row in fitting if holds_live(asked, row)])
+    if live is not None:
+        return live.address
+    ended = newest([row for row in fitting if not is_live(row, asked.now)])
+    if ended is not None:
+        return ended.address
+    wanted = requested(asked)
+    if wanted is not None and is_usable(asked, wanted):
+        return wanted
+    in_order = [each for first, last in pools(asked) for each in range(first, last + 1) if fits(asked, each)]
+    for each in in_order:
+        if row_of(asked, each) is None:
+            return each
+    for each in in_order:
+        if not is_live(row_of(asked, each), asked.now):
+            return each
+    return None
+
+
+# ---- what each message does: a plan or why there is no reply, and the row that is set or None
+
+
+def discover(asked):
+    if asked.subnet is None:
+        return "5 NoSubnet", None
+    offered = choice(asked)
+    if offered is None:
+        return "6 NoAddress", None
+    row = row_of(asked, offered)
+    if holds_live(asked, row) and row.state == "Bound":
+        return Plan("OFFER", offered), None
+    hold = asked.root.get("offer-hold", 60)
+    return Plan("OFFER", offered), changed_row(asked, offered, asked.client, "Offered", hold)
+
+
+def acknowledged(asked, wanted):
+    lifetime = asked.root.get("valid-lifetime", 7200)
+    return Plan("ACK", wanted), changed_row(asked, wanted, asked.client, "Bound", lifetime)
+
+
+def request(asked):
+    if names_another_server(asked):
+        return "8 OtherServer", given_back(asked)
+    return selecting(asked) if 54 in asked.found else renewing(asked)
+
+
+def given_back(asked):
+    """The row that a client's choice of another server sets: its newest offer is over."""
+    offers = [row for row in asked.rows if holds_live(asked, row) and row.state == "Offered"]
+    row = newest(offers)
+    return row and changed_row(asked, row.address, asked.client, "Released", 0)
+
+
+def selecting(asked):
+    wanted = requested(asked)
+    if wanted is None:
+        return "7 NoRequested", None
+    if asked.subnet is None:
+        return "5 NoSubnet", None
+    if is_usable(asked, wanted):
+        return acknowledged(asked, wanted)
+    return Plan("NAK", 0), None
+
+
+def renewing(asked):
+    """A REQUEST that names no server: of ciaddr (RENEWING, REBINDING), else of option 50 (INIT-REBOOT)."""
+    wanted = ciaddr(asked) or requested(asked)
+    if wanted is None:
+        return "7 NoRequested", None
+    if asked.subnet is None:
+        return "5 NoSubnet", None
+    first, last = prefix(asked.subnet["subnet"])
+    if not first <= wanted <= last:
+        return Plan("NAK", 0), None
+    if not any(row.client == asked.client and first <= row.address <= last for row in asked.rows):
+        return "9 NoRecord", None
+    row = row_of(asked, wanted)
+    if row is not None and row.client == asked.client and fits(asked, wanted):
+        return acknowledged(asked, wanted)
+    return Plan("NAK", 0), None
+
+
+def decline(asked):
+    if names_another_server(asked):
+        return "8 OtherServer", None
+    wanted = requested(asked)
+    if wanted is None:
+        return "7 NoRequested", None
+    if not holds_live(asked, row_of(asked, wanted)):
+        return "14 NotHeld", None
+    return "13 Declined", changed_row(asked, wanted, b"", "Declined", asked.root.get("decline-hold", 86400))
+
+
+def release(asked):
+    if names_another_server(asked):
+        return "8 OtherServer", None
+    if ciaddr(asked) == 0:
+        return "10 NoCiaddr", None
+    if not holds_live(asked, row_of(asked, ciaddr(asked))):
+        return "14 NotHeld", None
+    return "12 Released", changed_row(asked, ciaddr(asked), asked.client, "Released", 0)
+
+
+def inform(asked):
+    if ciaddr(asked) == 0:
+        return "10 NoCiaddr", None
+    if asked.subnet is None:
+        return "5 NoSubnet", None
+    return Plan("INFORMED", 0), None
+
+
+# ---- replies
+
+
+def room_of(found):
+    """The most bytes that a reply may have."""
+    greatest = number(found[57]) if len(found.get(57, b"")) == 2 else 576
+    return min(1472, max(576, greatest) - 28)
+
+
+def times(root):
+    """Options 51, 58 and 59: the lease time, and when to renew and to rebind."""
+    lifetime = root.get("valid-lifetime", 7200)
+    values = [lifetime, root.get("renew-timer", lifetime // 2), root.get("rebind-timer", lifetime * 7 // 8)]
+    return b"".join(written(code, value.to_bytes(4, "big")) for code, value in zip((51, 58, 59), values))
+
+
+def configured(asked, plan):
+    """The configured options that the client may have, in rising code, each written."""
+    if plan.kind == "NAK":
+        return []
+    at = ciaddr(asked) if plan.kind == "INFORMED" else plan.yiaddr
+    values = given(asked.root, asked.subnet, asked.held, at)
+    return [written(code, values[code]) for code in sorted(values) if 55 not in asked.found or code in asked.found[55]]
+
+
+def options_of(asked, plan):
+    """The options field of a reply up to its end, or None where those that it must have do not fit."""
+    found = asked.found
+    kind = {"OFFER": b"\x02", "ACK": b"\x05", "INFORMED": b"\x05", "NAK": b"\x06"}[plan.kind]
+    front = written(53, kind) + written(54, address(asked.root["server-address"]))
+    if plan.kind in ("OFFER", "ACK"):
+        front += times(asked.root)
+    if 61 in found:
+        front += written(61, found[61])
+    back = written(82, found[82]) if 82 in found else b""
+    left = room_of(found) - 240 - len(front) - len(back) - 1
+    if left < 0:
+        return None
+    for option in configured(asked, plan):
+        if len(option) <= left:
+            front += option
+            left -= len(option)
+    return front + back + b"\xff"
+
+
+def header_of(asked, plan):
+    datagram = asked.datagram
+    flags = number(datagram[10:12])
+    if plan.kind == "NAK" and giaddr(asked) != 0:
+        flags |= 0x8000
+    kept = datagram[12:16] if plan.kind in ("ACK", "INFORMED") else bytes(4)
+    start = b"\x02" + datagram[1:3] + b"\x00" + datagram[4:8] + bytes(2) + flags.to_bytes(2, "big")
+    addresses = kept + plan.yiaddr.to_bytes(4, "big") + bytes(4) + datagram[24:28]
+    return start + addresses + datagram[28:44] + bytes(64) + bytes(128) + COOKIE
+
+
+def destination(asked, plan):
+    """Where a reply goes, by the fields of the message."""
+    if giaddr(asked) != 0:
+        return f"relay {dotted(asked.datagram[24:28])}:67"
+    if plan.kind == "NAK":
+        return "broadcast 255.255.255.255:68"
+    if ciaddr(asked) != 0:
+        return f"unicast {dotted(asked.datagram[12:16])}:68"
+    if asked.datagram[10] >= 0x80:
+        return "broadcast 255.255.255.255:68"
+    return f"hardware {dotted(plan.yiaddr.to_bytes(4, 'big'))}:68"
+
+
+def replied(asked, plan):
+    """The words behind the moment of a reply's line, or None where it does not fit."""
+    options = options_of(asked, plan)
+    if options is None:
+        return None
+    text = (header_of(asked, plan) + options).ljust(300, b"\0")
+    return f"reply {destination(asked, plan)} {text.hex()}"
+
+
+# ---- events
+
+
+def moment_of(rows, moment):
+    """The moment of an event: no earlier than the latest change."""
+    return max([moment] + [row.changed for row in rows])
+
+
+def judge(asked):
+    """The words behind the moment of an event's line, and the row that is set or None."""
+    kind = asked.found[53][0]
+    by_kind = {DISCOVER: discover, REQUEST: request, DECLINE: decline, RELEASE: release}
+    outcome, row = by_kind.get(kind, inform)(asked)
+    if not isinstance(outcome, Plan):
+        return f"quiet {outcome}", row
+    reply = replied(asked, outcome)
+    return ("quiet 11 ReplyTooLong", None) if reply is None else (reply, row)
+
+
+def handle(root, rows, moment, datagram):
+    """The line of an event, and the rows behind it."""
+    now = moment_of(rows, moment)
+    found = readable(datagram)
+    reason = unheard(datagram, found)
+    if reason is not None:
+        return f"{now} {reason}", rows
+    held = classes(root, {}, datagram, found)
+    if b"DROP" in held:
+        return f"{now} quiet 4 DropClass", rows
+    subnet = subnet_of(root, datagram, held)
+    asked = Asked(root, rows, now, datagram, found, held, subnet, identity(datagram, found))
+    words, row = judge(asked)
+    return f"{now} {words}", rows if row is None else with_row(rows, row)
+
+
+def event_of(line):
+    """The moment and the datagram of a line, or None where it is no event."""
+    parts = re.fullmatch("([0-9]{1,20}) ((?:[0-9a-fA-F]{2})*)", line)
+    if parts is None or int(parts.group(1)) >= END_OF_NUMBERS or len(line) > LONGEST_LINE:
+        return None
+    return int(parts.group(1)), bytes.fromhex(parts.group(2))
+
+
+def replay(root, lines):
+    """What is printed for the lines up to the first fault, the rows behind them, and the fault's line or None."""
+    rows, out = [], []
+    for count, line in enumerate(lines, 1):
+        event = event_of(line)
+        if event is None:
+            return out, rows, f"fault 97 BadLine {count}"
+        if event[0] >= END_OF_TIME:
+            return out, rows, "fault 96 Serve MomentTooLarge"
+        text, rows = handle(root, rows, *event)
+        out.append(text)
+    return out, rows, None
+
+
+def lease_lines(rows, moment):
+    now = moment_of(rows, moment)
+    out = []
+    for row in sorted(rows):
+        front = f"{dotted(row.address.to_bytes(4, 'big'))} {row.state} {row.client.hex() or '-'}"
+        out.append(f"{front} changed {row.changed} ends {row.end} {'live' if is_live(row, now) else 'past'}")
+    return out
+
+
+def configuration(path):
+    if path is None:
+        return BUILT_IN
+    with open(path, encoding="utf-8") as file:
+        return json.load(file)["Dhcp4"]
+
+
+def main():
+    words = argparse.ArgumentParser()
+    words.add_argument("--config")
+    words.add_argument("--leases", type=int)
+    words = words.parse_args()
+    with open(sys.stdin.fileno(), newline="\n", encoding="latin-1") as events:
+        lines = events.read().split("\n")
+    out, rows, fault = replay(configuration(words.config), lines[:-1] if lines[-1] == "" else lines)
+    if words.leases is not None and fault is None:
+        out += lease_lines(rows, words.leases)
+    sys.stdout.writelines(f"{line}\n" for line in out)
+    if fault is not None:
+        print(fault, file=sys.stderr)
+        sys.exit(3)
+
+
+if __name__ == "__main__":
+    main()
