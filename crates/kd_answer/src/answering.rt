@@ -31,5 +31,6 @@ pub fn answer(alloc: Global, order: &Order) -> Result<Printed, AllocError>
             answer_eval_text(alloc, text.as_str(), datagram.as_str())
         }
         Order::Replay { .. } => unreachable!(),
+        Order::Leases { .. } => unreachable!(),
     }
 }

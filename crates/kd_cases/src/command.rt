@@ -2,28 +2,54 @@ ghost use Rattle.std.specs.Prelude.{◌≡◌, false};
 
 use crate::case::Written;
 use crate::files::Files;
+use crate::stores::Stores;
 use kd_answer::{Printed, answer, exit_status, replay_status};
 use kd_config::Config;
-use kd_ends::{Input, Output, store_in_memory};
+use kd_ends::{Input, Output};
 use kd_event::Ports;
 use kd_keeps::Keeps;
 use kd_order::{LineFault, Order, order};
-use kd_server::{Server, replay};
+use kd_server::{Server, lease_lines, replay};
 use std::alloc::{AllocError, Global};
 use std::fmt::Display;
 use std::io;
+
+// What a server is opened for.
+enum Work<'a> {
+    // To replay these events.
+    Replay(&'a str),
+    // To list the leases at a moment.
+    Leases(u64),
+}
+
+// What a command is given beside its words: the machine, files and stores in memory.
+struct Room<'a> {
+    rt: &'a HostRuntime,
+    files: &'a Files,
+    stores: &'a mut Stores,
+}
 
 /// What the program writes for these words and this standard input.
 pub fn written(
     rt: &HostRuntime,
     files: &Files,
+    stores: &mut Stores,
     words: &[String],
     input: &str,
 ) -> io::Result<Written> {
+    let room = Room { rt, files, stores };
     match order(rt.alloc(), words) {
-        Ok(Order::Replay { config, token_dir }) => {
-            replayed(rt, files, config.as_deref(), token_dir.as_deref(), input)
-        }
+        Ok(Order::Replay {
+            config,
+            token_dir,
+            store,
+        }) => served(room, &config, &token_dir, &store, &Work::Replay(input)),
+        Ok(Order::Leases {
+            config,
+            token_dir,
+            store,
+            at,
+        }) => served(room, &config, &token_dir, &store, &Work::Leases(at)),
         Ok(order) => match answer(rt.alloc(), &order) {
             Ok(printed) => texts(rt.alloc(), &printed),
             Err(error) => unanswered(rt.alloc(), LineFault::from(error)),
@@ -59,20 +85,6 @@ fn fault_line<F: Display>(alloc: Global, number: u8, fault: &F) -> Result<String
     format!(in alloc; "fault {number} {fault}\n")
 }
 
-// The events of an input, replayed by a server that goes by the configuration of these files.
-fn replayed(
-    rt: &HostRuntime,
-    files: &Files,
-    config: Option<&str>,
-    token_dir: Option<&str>,
-    input: &str,
-) -> io::Result<Written> {
-    match files.configuration(rt, config, token_dir) {
-        Ok(config) => replayed_by(rt.alloc(), config, input),
-        Err(fault) => failed(rt.alloc(), fault.number(), &fault),
-    }
-}
-
 // A fault that comes before anything is written.
 fn failed<F: Display>(alloc: Global, number: u8, fault: &F) -> io::Result<Written> {
     Ok(Written {
@@ -82,35 +94,71 @@ fn failed<F: Display>(alloc: Global, number: u8, fault: &F) -> io::Result<Writte
     })
 }
 
-// The events of an input, replayed by a server of a configuration over a new store in memory.
-fn replayed_by(alloc: Global, config: Config, input: &str) -> io::Result<Written> {
-    match store_in_memory(alloc) {
-        Ok(store) => replayed_over(alloc, config, store, input),
-        Err(fault) => failed(alloc, fault.number(), &fault),
+// What a server does that goes by the configuration of these files, over the store of a name or a new one.
+fn served(
+    room: Room<'_>,
+    config: &Option<String>,
+    token_dir: &Option<String>,
+    store: &Option<String>,
+    work: &Work<'_>,
+) -> io::Result<Written> {
+    let Room { rt, files, stores } = room;
+    let alloc = rt.alloc();
+    let config = match files.configuration(rt, config.as_deref(), token_dir.as_deref()) {
+        Ok(config) => config,
+        Err(fault) => return failed(alloc, fault.number(), &fault),
+    };
+    let name = store.as_deref().unwrap_or("");
+    let store = match stores.take(alloc, name) {
+        Ok(store) => store,
+        Err(fault) => return failed(alloc, fault.number(), &fault),
+    };
+    let (written, store) = served_over(alloc, config, store, work)?;
+    if !name.is_empty() {
+        stores.put(alloc, name, store)?;
     }
+    Ok(written)
 }
 
-// The events of an input, replayed by a server of a configuration over a store, on the standard's ports.
-fn replayed_over<S: Keeps + Drop>(
+// What a server of a configuration over a store does on the standard's ports, and its store.
+fn served_over<S: Keeps + Drop>(
     alloc: Global,
     config: Config,
     store: S,
-    input: &str,
-) -> io::Result<Written>
+    work: &Work<'_>,
+) -> io::Result<(Written, S)>
     requires { S.has_failed store ≡ false }
 {
     let ports = Ports {
         server: 67,
         client: 68,
     };
-    match Server::open(alloc, config, store, ports) {
-        Ok(mut server) => replayed_at(alloc, &mut server, input),
-        Err((fault, _, _)) => failed(alloc, fault.number(), &fault),
+    let mut server = match Server::open(alloc, config, store, ports) {
+        Ok(server) => server,
+        Err((fault, _, store)) => return Ok((failed(alloc, fault.number(), &fault)?, store)),
+    };
+    let written = match work {
+        Work::Replay(input) => replayed(alloc, &mut server, input)?,
+        Work::Leases(at) => listed(alloc, &server, *at)?,
+    };
+    let (_, store) = server.close();
+    Ok((written, store))
+}
+
+// The leases at a moment.
+fn listed<S: Keeps>(alloc: Global, server: &Server<S>, at: u64) -> io::Result<Written> {
+    match server.leases(at) {
+        Ok(leases) => Ok(Written {
+            out: lease_lines(alloc, &leases)?,
+            fault: String::new(alloc),
+            status: 0,
+        }),
+        Err(fault) => failed(alloc, fault.number(), &fault),
     }
 }
 
 // The events of an input, replayed by a server.
-fn replayed_at<S: Keeps + Drop>(
+fn replayed<S: Keeps>(
     alloc: Global,
     server: &mut Server<S>,
     input: &str,

@@ -7,6 +7,7 @@ mod command;
 mod files;
 mod names;
 mod session;
+mod stores;
 mod words;
 
 use session::Session;

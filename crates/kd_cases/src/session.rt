@@ -2,6 +2,7 @@ use crate::case::{Case, put_line};
 use crate::command::written;
 use crate::files::Files;
 use crate::names::Names;
+use crate::stores::Stores;
 use crate::words::{definition, words};
 use std::alloc::{AllocError, Global};
 use std::{fs, io};
@@ -11,6 +12,7 @@ use std::{fs, io};
 pub struct Session {
     names: Names,
     files: Files,
+    stores: Stores,
     case: Option<Case>,
     line: usize,
     /// How many cases came out as written.
@@ -25,6 +27,7 @@ impl Session {
         Session {
             names: Names::new(alloc),
             files: Files::new(alloc),
+            stores: Stores::new(alloc),
             case: None,
             line: 0,
             well: 0,
@@ -92,7 +95,13 @@ impl Session {
 
     // Runs a case.
     fn judge(&mut self, rt: &HostRuntime, case: &Case) -> io::Result<()> {
-        let came = written(rt, &self.files, case.words.as_slice(), case.input.as_str())?;
+        let came = written(
+            rt,
+            &self.files,
+            &mut self.stores,
+            case.words.as_slice(),
+            case.input.as_str(),
+        )?;
         if case.has(&came) {
             self.well = self.well.saturating_add(1);
             return Ok(());

@@ -13,5 +13,5 @@ mod streams;
 
 pub use files::{InputFault, MOST_BYTES, read_file, token_files};
 pub use start::{StartFault, configuration};
-pub use stores::{InFile, store_in_file, store_in_memory};
+pub use stores::{InFile, InMemory, store_in_file, store_in_memory, store_over};
 pub use streams::{Input, Output};

@@ -8,12 +8,15 @@ use std::alloc::Global;
 /// What the leases of a file are kept in.
 pub type InFile = FileStore<File>;
 
+/// What leases in memory are kept in.
+pub type InMemory = MemStore;
+
 /// A new store of leases in memory.
 ///
 /// # Errors
 ///
 /// There is no memory for it.
-pub fn store_in_memory(alloc: Global) -> Result<Store<MemStore>, StoreFault>
+pub fn store_in_memory(alloc: Global) -> Result<Store<InMemory>, StoreFault>
     ensures { IfOk result (λ store. store.failed ≡ false) }
 {
     match Connection::open_in_memory(alloc) {
@@ -37,8 +40,12 @@ pub fn store_in_file(rt: &HostRuntime, path: &str) -> Result<Store<InFile>, Stor
     }
 }
 
-// The store over a connection that was opened just now.
-fn store_over<S: Alter + Drop>(
+/// The store over a connection, in no transaction.
+///
+/// # Errors
+///
+/// As for a file; `Sql` too where the connection is in a transaction.
+pub fn store_over<S: Alter + Drop>(
     alloc: Global,
     conn: Connection<S>,
 ) -> Result<Store<S>, StoreFault>

@@ -1,18 +1,18 @@
 //! The program `kdhcp`: it reads the words behind its name, and does what they ask for.
 //!
 //! `kd_order` reads the words, `kd_answer` gives what an order prints that needs nothing but its words, and
-//! `kd_server` replays the events of a source into a sink. This page ties them to the standard streams and to the
-//! files of a configuration.
+//! `kd_server` replays the events of a source into a sink and lists the leases. This page ties them to the standard
+//! streams, to the files of a configuration and to the file of the leases.
 #![tactic(auto)]
 ghost use Rattle.std.specs.Prelude.{◌≡◌, false};
 
 use kd_answer::{Printed, answer, exit_status, replay_status};
 use kd_config::Config;
-use kd_ends::{Input, Output, configuration, store_in_memory};
+use kd_ends::{Input, Output, configuration, store_in_file, store_in_memory};
 use kd_event::Ports;
 use kd_keeps::Keeps;
 use kd_order::{LineFault, Order, order};
-use kd_server::{Server, replay};
+use kd_server::{Server, lease_lines, replay};
 use std::fmt::Display;
 use std::io;
 use std::io::Write;
@@ -20,9 +20,17 @@ use std::process::ExitCode;
 
 fn main(rt: HostRuntime) -> io::Result<ExitCode> {
     match ordered(&rt) {
-        Ok(Order::Replay { config, token_dir }) => {
-            replayed(&rt, config.as_deref(), token_dir.as_deref())
-        }
+        Ok(Order::Replay {
+            config,
+            token_dir,
+            store,
+        }) => served(&rt, &config, &token_dir, &store, Work::Replay),
+        Ok(Order::Leases {
+            config,
+            token_dir,
+            store,
+            at,
+        }) => served(&rt, &config, &token_dir, &store, Work::Leases(at)),
         Ok(order) => match answer(rt.alloc(), &order) {
             Ok(printed) => print(&rt, &printed),
             Err(error) => unanswered(&rt, LineFault::from(error)),
@@ -60,28 +68,46 @@ fn refuse<F: Display>(rt: &HostRuntime, number: u8, fault: &F, status: u8) -> io
     Ok(ExitCode::from(status))
 }
 
-// Replays the events of standard input to standard output, as a server that goes by the configuration of these files
-// and keeps its leases in memory, on the standard's ports.
-fn replayed(
+// What a server is opened for.
+#[derive(Clone, Copy)]
+enum Work {
+    // To replay the events of standard input to standard output.
+    Replay,
+    // To print the leases at a moment.
+    Leases(u64),
+}
+
+// Does this work as a server that goes by the configuration of these files and keeps its leases in the file at a path,
+// or in memory without one.
+fn served(
     rt: &HostRuntime,
-    config: Option<&str>,
-    token_dir: Option<&str>,
+    config: &Option<String>,
+    token_dir: &Option<String>,
+    store: &Option<String>,
+    work: Work,
 ) -> io::Result<ExitCode> {
-    let config = match configuration(rt, config, token_dir) {
+    let config = match configuration(rt, config.as_deref(), token_dir.as_deref()) {
         Ok(config) => config,
         Err(fault) => return refuse(rt, fault.number(), &fault, exit_status(fault.number())),
     };
-    match store_in_memory(rt.alloc()) {
-        Ok(store) => replayed_over(rt, config, store),
-        Err(fault) => refuse(rt, fault.number(), &fault, exit_status(fault.number())),
+    match store {
+        Some(path) => match store_in_file(rt, path.as_str()) {
+            Ok(store) => served_over(rt, config, store, work),
+            Err(fault) => refuse(rt, fault.number(), &fault, exit_status(fault.number())),
+        },
+        None => match store_in_memory(rt.alloc()) {
+            Ok(store) => served_over(rt, config, store, work),
+            Err(fault) => refuse(rt, fault.number(), &fault, exit_status(fault.number())),
+        },
     }
 }
 
-// Replays the events of standard input as a server of a configuration, over a store.
-fn replayed_over<S: Keeps + Drop>(
+// Does this work as a server of a configuration over a store, on the standard's ports.
+fn served_over<S: Keeps + Drop>(
     rt: &HostRuntime,
     config: Config,
     store: S,
+    work: Work,
 ) -> io::Result<ExitCode>
     requires { S.has_failed store ≡ false }
 {
@@ -95,10 +121,33 @@ fn replayed_over<S: Keeps + Drop>(
             return refuse(rt, fault.number(), &fault, exit_status(fault.number()));
         }
     };
+    match work {
+        Work::Replay => replayed(rt, &mut server),
+        Work::Leases(at) => listed(rt, &server, at),
+    }
+}
+
+// Replays the events of standard input to standard output.
+fn replayed<S: Keeps>(rt: &HostRuntime, server: &mut Server<S>) -> io::Result<ExitCode> {
     let mut source = Input::over(rt.reader());
     let mut sink = Output::over(io::writer(rt));
-    match replay(rt.alloc(), &mut source, &mut sink, &mut server) {
+    match replay(rt.alloc(), &mut source, &mut sink, server) {
         Ok(_) => Ok(ExitCode::SUCCESS),
         Err(fault) => refuse(rt, fault.number(), &fault, replay_status(fault)),
+    }
+}
+
+// Prints the leases at a moment.
+fn listed<S: Keeps>(rt: &HostRuntime, server: &Server<S>, at: u64) -> io::Result<ExitCode> {
+    let leases = match server.leases(at) {
+        Ok(leases) => leases,
+        Err(fault) => return refuse(rt, fault.number(), &fault, exit_status(fault.number())),
+    };
+    match lease_lines(rt.alloc(), &leases) {
+        Ok(lines) => {
+            rt.stdout().write_all(lines.as_bytes())?;
+            Ok(ExitCode::SUCCESS)
+        }
+        Err(error) => unanswered(rt, LineFault::from(error)),
     }
 }
