@@ -15,6 +15,7 @@ use std::fmt::Display;
 use std::io;
 
 // What a server is opened for.
+#[derive(Clone, Copy)]
 enum Work<'a> {
     // To replay these events.
     Replay(&'a str),
@@ -23,6 +24,7 @@ enum Work<'a> {
 }
 
 // What a command is given beside its words: the machine, files and stores in memory.
+#[derive(Drop)]
 struct Room<'a> {
     rt: &'a HostRuntime,
     files: &'a Files,
@@ -43,13 +45,13 @@ pub fn written(
             config,
             token_dir,
             store,
-        }) => served(room, &config, &token_dir, &store, &Work::Replay(input)),
+        }) => served(room, &config, &token_dir, &store, Work::Replay(input)),
         Ok(Order::Leases {
             config,
             token_dir,
             store,
             at,
-        }) => served(room, &config, &token_dir, &store, &Work::Leases(at)),
+        }) => served(room, &config, &token_dir, &store, Work::Leases(at)),
         Ok(order) => match answer(rt.alloc(), &order) {
             Ok(printed) => texts(rt.alloc(), &printed),
             Err(error) => unanswered(rt.alloc(), LineFault::from(error)),
@@ -100,7 +102,7 @@ fn served(
     config: &Option<String>,
     token_dir: &Option<String>,
     store: &Option<String>,
-    work: &Work<'_>,
+    work: Work<'_>,
 ) -> io::Result<Written> {
     let Room { rt, files, stores } = room;
     let alloc = rt.alloc();
@@ -125,7 +127,7 @@ fn served_over<S: Keeps + Drop>(
     alloc: Global,
     config: Config,
     store: S,
-    work: &Work<'_>,
+    work: Work<'_>,
 ) -> io::Result<(Written, S)>
     requires { S.has_failed store ≡ false }
 {
@@ -139,7 +141,7 @@ fn served_over<S: Keeps + Drop>(
     };
     let written = match work {
         Work::Replay(input) => replayed(alloc, &mut server, input)?,
-        Work::Leases(at) => listed(alloc, &server, *at)?,
+        Work::Leases(at) => listed(alloc, &server, at)?,
     };
     let (_, store) = server.close();
     Ok((written, store))
