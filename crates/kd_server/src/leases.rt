@@ -1,9 +1,11 @@
-ghost use Rattle.std.specs.Prelude.{◌≡◌, ◌++◌, nat_lt, IfOk, OnOk, map, codes, string_bytes};
+ghost use Rattle.std.specs.Prelude.{◌≡◌, ◌<◌, ◌^◌, ◌++◌, false, nat_lt, IfErr, IfOk, OnOk, map, codes, string_bytes};
 ghost use Rattle.std.specs.Fmt.{decimal};
 ghost use Rattle.std.specs.List.{flat_map};
 ghost use Rattle.kd_replay.specs.Text.{address_text, bytes_text};
-ghost use Rattle.kd_server.specs.Leases.{lease_at, lease_line, live_word, state_word};
+ghost use Rattle.kd_server.specs.Leases.{IsNoList, lease_at, lease_line, leases_at, live_word, state_word};
 
+use crate::server::MOMENTS;
+use kd_replay::ServeFault;
 use kd_rows::{Row, Rows, State};
 use kd_wire::Bytes;
 use std::alloc::{AllocError, Global};
@@ -18,8 +20,29 @@ pub struct Lease {
     pub live: bool,
 }
 
-// The rows at a moment.
-pub(crate) fn leases_of(alloc: Global, rows: &Rows, now: u64) -> Result<Vec<Lease>, AllocError>
+// The rows at a moment, where the store has not failed.
+pub(crate) fn leases_at(
+    alloc: Global,
+    rows: &Rows,
+    failed: bool,
+    moment: u64,
+) -> Result<Vec<Lease>, ServeFault>
+    ensures leases { IfOk result (λ list. list.items ≡ leases_at moment rows.now.rows) }
+    ensures works { IfOk result (λ list. (failed ≡ false) × (moment < 2 ^ 40)) }
+    ensures fault { IfErr result (IsNoList failed moment) }
+{
+    if failed {
+        return Err(ServeFault::Failed);
+    }
+    if moment >= MOMENTS {
+        return Err(ServeFault::MomentTooLarge);
+    }
+    let now = moment.max(rows.latest());
+    Ok(leases_of(alloc, rows, now)?)
+}
+
+// The rows at a moment that counts.
+fn leases_of(alloc: Global, rows: &Rows, now: u64) -> Result<Vec<Lease>, AllocError>
     ensures { IfOk result (λ list. list.items ≡ map (lease_at now) rows.now.rows) }
 {
     let mut list = Vec::with_capacity(alloc, rows.len())?;

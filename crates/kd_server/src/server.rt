@@ -8,7 +8,7 @@ ghost use Rattle.kd_server.specs.Keeping.{IsUnopened, Opens, Refuses, Steps, Sti
 ghost use Rattle.kd_server.specs.Leases.{IsNoList, leases_at};
 ghost use Rattle.kd_server.specs.Unkept.{IsSettable, IsUnkept};
 
-use crate::leases::{Lease, leases_of};
+use crate::leases::{Lease, leases_at};
 use crate::turning::{Turn, turn_at};
 use kd_config::Config;
 use kd_event::{Event, Handled, Ports};
@@ -37,7 +37,7 @@ impl<S: Keeps> Model for Server<S> {
 }
 
 // Moments are below this, 2^40 seconds.
-const MOMENTS: u64 = 0x100_0000_0000;
+pub(crate) const MOMENTS: u64 = 0x100_0000_0000;
 
 impl<S: Keeps> Server<S> {
     /// A server with these ports that goes by this configuration, and stands at the leases of this store.
@@ -89,14 +89,7 @@ impl<S: Keeps> Server<S> {
         ensures works { IfOk result (λ list. (S.has_failed self.now.store ≡ false) × (moment < 2 ^ 40)) }
         ensures failed { IfErr result (IsNoList (S.has_failed self.now.store) moment) }
     {
-        if self.store.failed() {
-            return Err(ServeFault::Failed);
-        }
-        if moment >= MOMENTS {
-            return Err(ServeFault::MomentTooLarge);
-        }
-        let now = moment.max(self.rows.latest());
-        Ok(leases_of(self.alloc, &self.rows, now)?)
+        leases_at(self.alloc, &self.rows, self.store.failed(), moment)
     }
 
     /// Handles events one after another, up to the first fault. The list for all of them is grown first.
