@@ -5,6 +5,7 @@ ghost use Rattle.kd_rows.specs.Table.{Rise, addresses_of};
 
 use crate::find::client_of;
 use crate::row::Row;
+use crate::sorted::{Sorted, number_of};
 use std::alloc::AllocError;
 use std::cmp::Ordering;
 
@@ -20,10 +21,10 @@ fn is_below(c: &[u8], a: u32, d: &[u8], b: u32) -> bool
 }
 
 // The place of a key: before it stand the addresses whose keys come before.
-fn key_place(rows: &[Row], index: &[u32], client: &[u8], address: u32) -> usize
-    requires rise { Rise rows.now }
-    requires rising { Rises (key_at rows.now) index.now }
-    ensures { IsKeyPlace (key_at rows.now) index.now (client.now, address) result }
+fn key_place(rows: &Sorted, index: &[u32], client: &[u8], address: u32) -> usize
+    requires rise { Rise rows.now.rows }
+    requires rising { Rises (key_at rows.now.rows) index.now }
+    ensures { IsKeyPlace (key_at rows.now.rows) index.now (client.now, address) result }
 {
     let mut low = 0;
     let mut high = index.len();
@@ -40,10 +41,10 @@ fn key_place(rows: &[Row], index: &[u32], client: &[u8], address: u32) -> usize
 }
 
 // The address at a place of the index, where it is this client's.
-pub(crate) fn nth_of(rows: &[Row], index: &[u32], client: &[u8], i: usize) -> Option<u32>
-    requires rise { Rise rows.now }
-    requires indexed { IsIndex rows.now index.now }
-    ensures { result ≡ slice_get (addresses_of client.now rows.now) i }
+pub(crate) fn nth_of(rows: &Sorted, index: &[u32], client: &[u8], i: usize) -> Option<u32>
+    requires rise { Rise rows.now.rows }
+    requires indexed { IsIndex rows.now.rows index.now }
+    ensures { result ≡ slice_get (addresses_of client.now rows.now.rows) i }
 {
     let start = key_place(rows, index, client, 0);
     if i >= index.len() - start {
@@ -58,11 +59,11 @@ pub(crate) fn nth_of(rows: &[Row], index: &[u32], client: &[u8], i: usize) -> Op
 }
 
 // Puts an address at the place of its key. The keys of the others are read from the rows.
-pub(crate) fn give_key(rows: &[Row], index: &mut Vec<u32>, client: &[u8], address: u32)
-    requires rise { Rise rows.now }
-    requires rising { Rises (key_at rows.now) index.old.items }
+pub(crate) fn give_key(rows: &Sorted, index: &mut Vec<u32>, client: &[u8], address: u32)
+    requires rise { Rise rows.now.rows }
+    requires rising { Rises (key_at rows.now.rows) index.old.items }
     requires room { vec_len index.old < vec_capacity index.old }
-    ensures given { Gives (key_at rows.now) index.old.items (client.now, address) index.new.items }
+    ensures given { Gives (key_at rows.now.rows) index.old.items (client.now, address) index.new.items }
     ensures len { vec_len index.new ≡ vec_len index.old + 1 }
     ensures capacity { vec_capacity index.new ≡ vec_capacity index.old }
 {
@@ -74,9 +75,9 @@ pub(crate) fn give_key(rows: &[Row], index: &mut Vec<u32>, client: &[u8], addres
 }
 
 // Takes an address that has a row from its place.
-pub(crate) fn take_key(rows: &[Row], index: &mut Vec<u32>, address: u32)
-    requires rise { Rise rows.now }
-    requires rising { Rises (key_at rows.now) index.old.items }
+pub(crate) fn take_key(rows: &Sorted, index: &mut Vec<u32>, address: u32)
+    requires rise { Rise rows.now.rows }
+    requires rising { Rises (key_at rows.now.rows) index.old.items }
     requires there { lists index.old.items address ≡ true }
     ensures taken { Takes index.old.items address index.new.items }
     ensures len { vec_len index.new + 1 ≡ vec_len index.old }
@@ -84,15 +85,6 @@ pub(crate) fn take_key(rows: &[Row], index: &mut Vec<u32>, address: u32)
 {
     let place = key_place(rows, index, client_of(rows, address), address);
     index.remove(place);
-}
-
-// The number of a row that stands at an address. Addresses rise by 1 at least, so it is no greater.
-fn number_of(place: usize, address: u32) -> u32
-    requires { place ≤ address }
-    ensures number { result ≡ place }
-    ensures bound { address < 2 ^ 32 }
-{
-    place as u32
 }
 
 // The key of a row with its number.

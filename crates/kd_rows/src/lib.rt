@@ -11,6 +11,7 @@ pub mod laws;
 mod put;
 mod row;
 mod rows;
+mod sorted;
 
 pub use row::{Row, State};
 pub use rows::Rows;

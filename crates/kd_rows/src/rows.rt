@@ -4,17 +4,18 @@ ghost use Rattle.std.specs.Option.{option_copied};
 ghost use Rattle.kd_rows.specs.Row.{IsInRange};
 ghost use Rattle.kd_rows.specs.Table.{IsFirstGap, IsNext, Rise, addresses_of, latest_of, least_of, row_at, spare, with_row};
 
-use crate::find::{find, gap_in, place_of};
+use crate::find::{find, gap_in};
 use crate::index::{index_of, nth_of};
 use crate::put::put_row;
 use crate::row::Row;
+use crate::sorted::Sorted;
 use std::alloc::AllocError;
 use std::marker::Model;
 
 /// The table of leases: a row an address, found by address and by client.
 #[derive(Drop)]
 pub struct Rows {
-    rows: Vec<Row>,
+    rows: Sorted,
     // The addresses in the order of client, then of address.
     index: Vec<u32>,
     latest: u64,
@@ -28,9 +29,9 @@ impl Model for Rows {
 
     ghost Value = { Table };
 
-    ghost view = { λ t. record { rows = t.rows.items; least = t.least; room = min (vec_capacity t.rows - vec_len t.rows) (vec_capacity t.index - vec_len t.index) } };
+    ghost view = { λ t. record { rows = t.rows.rows; least = t.least; room = min t.rows.room (vec_capacity t.index - vec_len t.index) } };
 
-    ghost invariant = { λ t. IsKept t.rows.items t.latest t.least t.index.items };
+    ghost invariant = { λ t. IsKept t.rows.rows t.latest t.least t.index.items };
 }
 
 impl Rows {
@@ -53,7 +54,7 @@ impl Rows {
     ///
     /// # Errors
     ///
-    /// There is no memory for the index.
+    /// There is no memory for the indexes.
     pub fn new(rows: Vec<Row>) -> Result<Rows, AllocError>
         requires rise { Rise rows.items }
         requires ranges { All IsInRange rows.items }
@@ -64,7 +65,7 @@ impl Rows {
         let latest = latest_in(&rows);
         let least = least_in(&rows);
         Ok(Rows {
-            rows,
+            rows: Sorted::new(rows)?,
             index,
             latest,
             least,
@@ -92,7 +93,7 @@ impl Rows {
         ensures { option_copied result ≡ row_at self.now.rows address }
     {
         match find(&self.rows, address) {
-            Some(place) => Some(&self.rows[place]),
+            Some(place) => Some(self.rows.row(place)),
             None => None,
         }
     }
@@ -102,7 +103,7 @@ impl Rows {
         ensures { IsTrue result ↔ (with_row row.now self.now.rows ≡ self.now.rows) }
     {
         match find(&self.rows, row.address) {
-            Some(place) => is_same(&self.rows[place], row),
+            Some(place) => is_same(self.rows.row(place), row),
             None => false,
         }
     }
@@ -142,7 +143,7 @@ impl Rows {
     pub fn next_from(&self, address: u32) -> Option<&Row>
         ensures { IsNext self.now.rows address (option_copied result) }
     {
-        self.at(place_of(&self.rows, address))
+        self.at(self.rows.place_of(address))
     }
 
     /// Whether a row can be set without memory: its address has one, or there is room for one more.
@@ -150,7 +151,7 @@ impl Rows {
         ensures { result ≡ spare self.now row.now }
     {
         find(&self.rows, row.address).is_some()
-            || (self.rows.len() < self.rows.capacity() && self.index.len() < self.index.capacity())
+            || (self.rows.has_room() && self.index.len() < self.index.capacity())
     }
 
     /// Makes room, so that a row can be set without memory.
@@ -165,7 +166,7 @@ impl Rows {
         ensures needed { OnErr result (spare self.old row.now ≡ false) }
     {
         if !self.spare(row) {
-            self.rows.reserve(1)?;
+            self.rows.reserve()?;
             self.index.reserve(1)?;
         }
         Ok(())
