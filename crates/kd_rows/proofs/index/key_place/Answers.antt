@@ -6,9 +6,9 @@ use Rattle.kd_rows.proofs.index.key_place.Goals as goal
 pub halves-preserved-then-is_below : goal.halves-preserved-then-is_below
 halves-preserved-then-is_below c =
     let k : List ℕ × ℕ = (c.args.client.now, c.args.address) in
-    let key : ℕ → List ℕ × ℕ = key_at c.args.rows.now in
+    let key : ℕ → List ℕ × ℕ = key_at c.args.rows.now.rows in
     let middle : ℕ = c.halves.low + (c.halves.high - c.halves.low) / 2 in
-    let read = read_key c.args.rows.now c.args.index.now k middle _ c.client_of.result.now c.is_below.result refl c.client_of.ensures c.is_below.ensures in
+    let read = read_key c.args.rows.now.rows c.args.index.now k middle _ c.client_of.result.now c.is_below.result refl c.client_of.ensures c.is_below.ensures in
     record {
       order = omega arith;
       in_range = omega arith;
@@ -19,9 +19,9 @@ halves-preserved-then-is_below c =
 pub halves-preserved : goal.halves-preserved
 halves-preserved c =
     let k : List ℕ × ℕ = (c.args.client.now, c.args.address) in
-    let key : ℕ → List ℕ × ℕ = key_at c.args.rows.now in
+    let key : ℕ → List ℕ × ℕ = key_at c.args.rows.now.rows in
     let middle : ℕ = c.halves.low + (c.halves.high - c.halves.low) / 2 in
-    let read = read_key c.args.rows.now c.args.index.now k middle _ c.client_of.result.now c.is_below.result refl c.client_of.ensures c.is_below.ensures in
+    let read = read_key c.args.rows.now.rows c.args.index.now k middle _ c.client_of.result.now c.is_below.result refl c.client_of.ensures c.is_below.ensures in
     record {
       order = omega arith;
       in_range = omega arith;

@@ -6,8 +6,8 @@ abbrev pub invariant-halves : goal.invariant-halves
 invariant-halves l = record {
   order : l.low ≤ l.high;
   in_range : l.high ≤ length l.index;
-  below : (i : ℕ) → i < l.low → IsBelow (key_at l.rows (get_or l.index i 0)) (l.client, l.address);
-  above : (i : ℕ) → l.high ≤ i → i < length l.index → IsBelow (key_at l.rows (get_or l.index i 0)) (l.client, l.address) → ⊥;
+  below : (i : ℕ) → i < l.low → IsBelow (key_at l.rows.rows (get_or l.index i 0)) (l.client, l.address);
+  above : (i : ℕ) → l.high ≤ i → i < length l.index → IsBelow (key_at l.rows.rows (get_or l.index i 0)) (l.client, l.address) → ⊥;
 }
 
 abbrev pub decreases-halves : goal.decreases-halves
