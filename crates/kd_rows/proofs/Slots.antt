@@ -1,14 +1,17 @@
 -- Rows in slots, read in the order of numbers.
-use Rattle.std.proofs.Common.{◌≡◌, ℕ, ◌+◌, ◌-◌, ◌<◌, ◌≤◌, ◌^◌, List, [], ◌∷◌, ◌++◌, length, get_or, set, take, drop, map, zero, suc, refl, sym, ap, ◌∙◌, subst, ⊎_elim, None, arith}
-use Rattle.std.specs.List.{All, insert}
+use Rattle.std.proofs.Common.{◌≡◌, ℕ, ◌+◌, ◌-◌, ◌<◌, ◌≤◌, ◌^◌, List, [], ◌∷◌, ◌++◌, length, get_or, set, take, drop, map, zero, suc, refl, sym, ap, ◌∙◌, subst, ⊎_elim, None, Some, Bool, ◌||◌, ◌==◌, nat_lt, true, arith}
+use Rattle.std.specs.List.{All, insert, remove}
 use Rattle.std.proofs.lemmas.Bool.{cases_eq, cases_lt}
+use Rattle.std.proofs.lemmas.Bool.Decides.{nat_tests}
 use Rattle.std.proofs.lemmas.List.{drop-map, get_or-map, get_or-set_other, get_or-set_same, get_or_append_left, get_or_at, get_or_default, length-map, length-set, length_push, map-append, same_lists, take-map, take_all, take_more}
 use Rattle.std.proofs.lemmas.List.Edits.{length-insert}
 use Rattle.std.proofs.lemmas.List.Elements.{All-push}
 use Rattle.kd_rows.specs.declared.row.Row.{Row}
-use Rattle.kd_rows.specs.Index.{IsAt, IsByAddress, IsPlace, row_in, rows_in}
+use Rattle.kd_rows.specs.Index.{IsAt, IsByAddress, IsByClient, IsPlace, IsStored, addresses_in, lists, row_in, rows_in}
 use Rattle.kd_rows.specs.Table.{Rise, row_at, with_row}
-use Rattle.kd_rows.proofs.Places.{apart, from_on}
+use Rattle.kd_rows.proofs.Indexes.{lists-append, lists-insert, numbered_within}
+use Rattle.kd_rows.proofs.Keys.{Stands, listed_at}
+use Rattle.kd_rows.proofs.Places.{apart, from_on, is_at, same_at}
 use Rattle.kd_rows.proofs.Sets.{all-with_row, inserted, replaced, rise-with_row}
 
 -- the row of a slot, whatever stands in for one outside
@@ -79,6 +82,7 @@ replaced_sorted slots numbers place row low sorted at =
     let n = length-set slots (get_or numbers place 0) row in
     record {
       count = sorted.count ∙ sym n;
+      same = λ m. sorted.same m ∙ ap (nat_lt m) (sym n);
       within = λ k d inside. let h = sorted.within k d inside in omega (arith, h, n);
       rise = subst Rise is (rise-with_row row (rows_in slots numbers) sorted.rise);
       bounded = subst (All (λ (r : Row). r.address < 2 ^ 32)) is (all-with_row (λ (r : Row). r.address < 2 ^ 32) row (rows_in slots numbers) low sorted.bounded);
@@ -145,6 +149,16 @@ all_insert P [] (suc place) x this others (suc k) d within = absurd (omega arith
 all_insert P (y ∷ xs) (suc place) x this others zero d within = others 0 d (omega arith)
 all_insert P (y ∷ xs) (suc place) x this others (suc k) d within = all_insert P xs place x this (λ j e inside. others (suc j) e (omega arith)) k d (omega arith)
 
+all_remove : (P : ℕ → Type 0) (xs : List ℕ) (place : ℕ) → All P xs → All P (remove xs place)
+all_remove P [] zero others k d within = absurd (omega arith)
+all_remove P [] (suc place) others k d within = absurd (omega arith)
+all_remove P (x ∷ xs) zero others k d within = others (suc k) d (omega arith)
+all_remove P (x ∷ xs) (suc place) others zero d within = others 0 d (omega arith)
+all_remove P (x ∷ xs) (suc place) others (suc k) d within = all_remove P xs place (λ j e inside. others (suc j) e (omega arith)) k d (omega arith)
+
+one_more : (n m : ℕ) → ((n == m) || nat_lt m n) ≡ nat_lt m (n + 1)
+one_more n m = grind (arith, nat_tests)
+
 -- the invariant after a row comes
 pub inserted_sorted : (slots : List Row) (numbers : List ℕ) (place : ℕ) (row : Row) → row.address < 2 ^ 32 → IsByAddress slots numbers → IsPlace (rows_in slots numbers) row.address place → row_at (rows_in slots numbers) row.address ≡ None → IsByAddress (slots ++ row ∷ []) (insert numbers place (length slots))
 inserted_sorted slots numbers place row low sorted p none =
@@ -152,6 +166,7 @@ inserted_sorted slots numbers place row low sorted p none =
     let n = length_push slots row in
     record {
       count = length-insert numbers place (length slots) (omega (arith, p.in_range, length-map numbers (row_in slots))) ∙ ap (λ (m : ℕ). m + 1) sorted.count ∙ sym n;
+      same = λ m. lists-insert numbers place (length slots) m ∙ ap (λ (b : Bool). (length slots == m) || b) (sorted.same m) ∙ one_more (length slots) m ∙ ap (nat_lt m) (sym n);
       within = all_insert (λ m. m < length (slots ++ row ∷ [])) numbers place (length slots) (omega (arith, n)) (λ k d inside. let h = sorted.within k d inside in omega (arith, h, n));
       rise = subst Rise is (rise-with_row row (rows_in slots numbers) sorted.rise);
       bounded = subst (All (λ (r : Row). r.address < 2 ^ 32)) is (all-with_row (λ (r : Row). r.address < 2 ^ 32) row (rows_in slots numbers) low sorted.bounded);
@@ -173,6 +188,7 @@ inserted_now slots rows new_slots numbers new_numbers place number row low sorte
 -- what a loop that numbers rows keeps
 pub record AreFirst (rows : List Row) (count : ℕ) (numbers : List ℕ) : Type 0 where
   pub counted : length numbers ≡ count
+  pub listed : (n : ℕ) → lists numbers n ≡ nat_lt n count
   pub within : All (λ n. n < count) numbers
   pub same : rows_in rows numbers ≡ take count rows
   pub bounded : (k : ℕ) (d : Row) → k < count → (get_or rows k d).address < 2 ^ 32
@@ -181,13 +197,16 @@ pub record AreFirst (rows : List Row) (count : ℕ) (numbers : List ℕ) : Type 
 pub first_more : (rows : List Row) (i : ℕ) (numbers : List ℕ) (row : Row) (number : ℕ) → AreFirst rows i numbers → i < length rows → row ≡ get_or rows i row → number ≡ i → row.address < 2 ^ 32 → AreFirst rows (i + 1) (numbers ++ number ∷ [])
 first_more rows i numbers row number first inside is at low = record {
   counted = length_push numbers number ∙ ap (λ (m : ℕ). m + 1) first.counted;
+  listed = λ n. lists-append numbers (number ∷ []) n ∙ ap (λ (b : Bool). b || lists (number ∷ []) n) (first.listed n) ∙ ap (λ (m : ℕ). nat_lt n i || lists (m ∷ []) n) at ∙ last i n;
   within = All-push (λ m. m < i + 1) numbers number (λ k d l. let h = first.within k d l in omega (arith, h)) (omega (arith, at));
   same = map-append (row_in rows) numbers (number ∷ []) ∙ ap (λ (rs : List Row). rs ++ row_in rows number ∷ []) first.same ∙ ap (λ (m : ℕ). take i rows ++ row_in rows m ∷ []) at ∙ sym (take_more rows i (row_in [] 0) inside);
   bounded = λ k d l. ⊎_elim
       (λ e. subst (λ (j : ℕ). (get_or rows j d).address < 2 ^ 32) (sym e) (subst (λ (r : Row). r.address < 2 ^ 32) (is ∙ get_or_default rows i row d inside) low))
       (λ n. first.bounded k d (omega arith))
       (cases_eq k i);
-}
+} where
+  last : (i n : ℕ) → (nat_lt n i || lists (i ∷ []) n) ≡ nat_lt n (i + 1)
+  last i n = grind (arith, nat_tests)
 
 -- all rows, each in the slot of its place
 pub first_all : (rows : List Row) (i : ℕ) (numbers : List ℕ) → Rise rows → AreFirst rows i numbers → i ≡ length rows → rows_in rows numbers ≡ rows
@@ -198,7 +217,106 @@ first_sorted rows i numbers rise first all =
     let is = sym (first_all rows i numbers rise first all) in
     record {
       count = first.counted ∙ all;
+      same = λ n. first.listed n ∙ ap (nat_lt n) all;
       within = λ k d inside. let h = first.within k d inside in omega (arith, h, all);
       rise = subst Rise is rise;
       bounded = subst (All (λ (r : Row). r.address < 2 ^ 32)) is (λ k d inside. first.bounded k d (omega arith));
     }
+
+-- the row of a slot is that of its address
+pub known : (slots : List Row) (numbers : List ℕ) → IsByAddress slots numbers → (n : ℕ) → n < length slots → row_at (rows_in slots numbers) (row_in slots n).address ≡ Some (row_in slots n)
+known slots numbers sorted n inside = (is_at (rows_in slots numbers) (row_in slots n).address there.place sorted.rise within here).found (row_in [] 0) ∙ ap Some (at (row_in [] 0)) where
+  lt : (a b : ℕ) → a < b → nat_lt a b ≡ true
+  lt a b h = grind (arith, nat_tests)
+
+  there : Stands numbers n
+  there = listed_at numbers n (sorted.same n ∙ lt n (length slots) inside)
+
+  within : there.place < length (rows_in slots numbers)
+  within = omega (arith, there.within, length-map numbers (row_in slots))
+
+  at : (d : Row) → get_or (rows_in slots numbers) there.place d ≡ row_in slots n
+  at d = row_of_place slots numbers there.place d there.within ∙ ap (row_in slots) there.here
+
+  here : (d : Row) → (get_or (rows_in slots numbers) there.place d).address ≡ (row_in slots n).address
+  here d = ap (λ (r : Row). r.address) (at d)
+
+-- what is read at a place of the index
+pub read_indexed : (slots : List Row) (by_address by_client : List ℕ) (i number : ℕ) (row : Row) → IsStored slots by_address by_client → i < length by_client → number ≡ get_or by_client i number → row ≡ get_or slots number row → (row.address ≡ get_or (addresses_in slots by_client) i 0) × (row_at (rows_in slots by_address) row.address ≡ Some row)
+read_indexed slots by_address by_client i number row stored inside is read =
+    (ap (λ (r : Row). r.address) here ∙ sym (get_or-map (λ n. (row_in slots n).address) by_client i 0 0 inside),
+    subst (λ (r : Row). row_at (rows_in slots by_address) r.address ≡ Some r) (sym here) (known slots by_address stored.sorted (get_or by_client i 0) (stored.within i 0 inside))) where
+      at : number ≡ get_or by_client i 0
+      at = is ∙ get_or_default by_client i number 0 inside
+
+      here : row ≡ row_in slots (get_or by_client i 0)
+      here = read ∙ sym (slot_at slots number row (subst (λ (n : ℕ). n < length slots) (sym at) (stored.within i 0 inside))) ∙ ap (row_in slots) at
+
+-- a row that is overwritten by one of its address leaves the addresses
+pub same_addresses : (slots : List Row) (numbers : List ℕ) (n : ℕ) (row : Row) → n < length slots → row.address ≡ (row_in slots n).address → addresses_in (set slots n row) numbers ≡ addresses_in slots numbers
+same_addresses slots [] n row inside same = refl
+same_addresses slots (m ∷ numbers) n row inside same =
+    ap (λ (a : ℕ). a ∷ addresses_in (set slots n row) numbers) this ∙ ap (λ (xs : List ℕ). (row_in slots m).address ∷ xs) (same_addresses slots numbers n row inside same) where
+      this : (row_in (set slots n row) m).address ≡ (row_in slots m).address
+      this = ⊎_elim
+          (λ e. subst (λ (k : ℕ). (row_in (set slots n row) k).address ≡ (row_in slots k).address) (sym e) (ap (λ (r : Row). r.address) (get_or-set_same slots n row (row_in [] 0) inside) ∙ same))
+          (λ other. ap (λ (r : Row). r.address) (overwritten slots n m row other))
+          (cases_eq m n)
+
+-- the addresses of numbers stay where a slot comes behind
+kept_addresses : (slots : List Row) (numbers : List ℕ) (row : Row) → All (λ n. n < length slots) numbers → addresses_in (slots ++ row ∷ []) numbers ≡ addresses_in slots numbers
+kept_addresses slots [] row within = refl
+kept_addresses slots (n ∷ numbers) row within =
+    ap (λ (r : Row). r.address ∷ addresses_in (slots ++ row ∷ []) numbers) (get_or_append_left slots (row ∷ []) (row_in [] 0) n (within 0 0 (omega arith)))
+    ∙ ap (λ (xs : List ℕ). (row_in slots n).address ∷ xs) (kept_addresses slots numbers row (λ k d inside. within (suc k) d (omega arith)))
+
+-- the index after a slot comes
+pub index_more : (slots new_slots : List Row) (numbers new_numbers : List ℕ) (key number : ℕ) (row : Row) → All (λ n. n < length slots) numbers → number ≡ length slots → new_slots ≡ slots ++ row ∷ [] → new_numbers ≡ insert numbers key number → addresses_in new_slots new_numbers ≡ insert (addresses_in slots numbers) key row.address
+index_more slots new_slots numbers new_numbers key number row within is pushed put =
+    ap (addresses_in new_slots) (put ∙ ap (insert numbers key) is) ∙ ap (λ (rs : List Row). addresses_in rs (insert numbers key (length slots))) pushed
+    ∙ map-insert (λ n. (row_in (slots ++ row ∷ []) n).address) numbers key (length slots)
+    ∙ ap (λ (xs : List ℕ). insert xs key (row_in (slots ++ row ∷ []) (length slots)).address) (kept_addresses slots numbers row within)
+    ∙ ap (λ (r : Row). insert (addresses_in slots numbers) key r.address) (get_or_at slots row [] (row_in [] 0) (length slots) refl)
+
+pub within_more : (slots new_slots : List Row) (numbers new_numbers : List ℕ) (key number : ℕ) (row : Row) → All (λ n. n < length slots) numbers → number ≡ length slots → new_slots ≡ slots ++ row ∷ [] → new_numbers ≡ insert numbers key number → All (λ n. n < length new_slots) new_numbers
+within_more slots new_slots numbers new_numbers key number row within is pushed put =
+    let n = ap length pushed ∙ length_push slots row in
+    subst (All (λ m. m < length new_slots)) (sym put) (all_insert (λ m. m < length new_slots) numbers key number (omega (arith, n, is)) (λ k d inside. let h = within k d inside in omega (arith, h, n)))
+
+-- a function over a list with one less
+map-remove : {X Y : Type 0} (f : X → Y) (xs : List X) (place : ℕ) → map f (remove xs place) ≡ remove (map f xs) place
+map-remove f xs place =
+    map-append f (take place xs) (drop (suc place) xs) ∙ ap (λ ys. ys ++ map f (drop (suc place) xs)) (sym (take-map f place xs)) ∙ ap (λ ys. take place (map f xs) ++ ys) (sym (drop-map f (suc place) xs))
+
+-- the index after a number moves
+pub index_moved : (slots : List Row) (numbers between new : List ℕ) (from to number : ℕ) → from < length numbers → number ≡ get_or numbers from number → between ≡ remove numbers from → new ≡ insert between to number → addresses_in slots new ≡ insert (remove (addresses_in slots numbers) from) to (get_or (addresses_in slots numbers) from 0)
+index_moved slots numbers between new from to number inside is taken put =
+    ap (addresses_in slots) (put ∙ ap (λ (xs : List ℕ). insert xs to number) taken) ∙ map-insert address (remove numbers from) to number
+    ∙ ap (λ (xs : List ℕ). insert xs to (address number)) (map-remove address numbers from)
+    ∙ ap (insert (remove (addresses_in slots numbers) from) to) (ap address (is ∙ get_or_default numbers from number 0 inside) ∙ sym (get_or-map address numbers from 0 0 inside)) where
+      address : ℕ → ℕ
+      address n = (row_in slots n).address
+
+pub within_moved : (slots : List Row) (numbers between new : List ℕ) (from to number : ℕ) → All (λ n. n < length slots) numbers → from < length numbers → number ≡ get_or numbers from number → between ≡ remove numbers from → new ≡ insert between to number → All (λ n. n < length slots) new
+within_moved slots numbers between new from to number within inside is taken put = subst (All (λ m. m < length slots)) (sym (put ∙ ap (λ (xs : List ℕ). insert xs to number) taken))
+    (all_insert (λ m. m < length slots) (remove numbers from) to number (subst (λ (m : ℕ). m < length slots) (sym (is ∙ get_or_default numbers from number 0 inside)) (within from 0 inside)) (all_remove (λ m. m < length slots) numbers from within))
+
+-- the numbers in the order of keys name slots
+pub within_by_client : (slots : List Row) (numbers : List ℕ) → IsByClient slots numbers → All (λ n. n < length slots) numbers
+within_by_client slots numbers numbered k d inside = subst (λ (n : ℕ). n < length slots) (get_or_default numbers k 0 d inside) (numbered_within slots numbers numbered k inside)
+
+-- the invariant after a row is overwritten
+pub replaced_stored : (slots rows : List Row) (by_address by_client : List ℕ) (place number : ℕ) (row : Row) → IsStored slots by_address by_client → rows_in slots by_address ≡ rows → number ≡ get_or by_address place number → IsAt rows row.address place → IsStored (set slots number row) by_address by_client
+replaced_stored slots rows by_address by_client place number row stored are is at =
+    let n = length-set slots number row in
+    record { sorted = (replaced_now slots rows by_address place number row stored.sorted are is at).0; within = λ k d inside. let h = stored.within k d inside in omega (arith, h, n) }
+
+-- and its index
+pub replaced_index : (slots rows : List Row) (by_address by_client : List ℕ) (place number : ℕ) (row : Row) → IsStored slots by_address by_client → rows_in slots by_address ≡ rows → number ≡ get_or by_address place number → IsAt rows row.address place → addresses_in (set slots number row) by_client ≡ addresses_in slots by_client
+replaced_index slots rows by_address by_client place number row stored are is at = same_addresses slots by_client number row (subst (λ (n : ℕ). n < length slots) (sym this) (stored.sorted.within place 0 inside))
+    (sym (at.here row) ∙ ap (λ (rs : List Row). (get_or rs place row).address) (sym are) ∙ ap (λ (r : Row). r.address) (row_of_place slots by_address place row inside ∙ ap (row_in slots) (sym this))) where
+      inside : place < length by_address
+      inside = omega (arith, at.in_range, ap length are, length-map by_address (row_in slots))
+
+      this : number ≡ get_or by_address place 0
+      this = is ∙ get_or_default by_address place number 0 inside

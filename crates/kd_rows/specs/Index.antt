@@ -53,16 +53,27 @@ row_in slots n = slice_index_or slots n (record { address = 0; client = []; stat
 abbrev pub rows_in : List Row → List ℕ → List Row
 rows_in slots numbers = map (row_in slots) numbers
 
+-- the addresses of numbers
+abbrev pub addresses_in : List Row → List ℕ → List ℕ
+addresses_in slots numbers = map (λ n. (row_in slots n).address) numbers
+
 -- each slot has a number among them, and the rows of the numbers rise in address
 pub record IsByAddress (slots : List Row) (numbers : List ℕ) : Type 0 where
   pub count : length numbers ≡ length slots
+  pub same : (n : ℕ) → lists numbers n ≡ nat_lt n (length slots)
   pub within : All (λ n. n < length slots) numbers
   pub rise : Rise (rows_in slots numbers)
   pub bounded : All (λ row. row.address < 2 ^ 32) (rows_in slots numbers)
 
--- rows in rising address, and for how many more there is room
+-- what is true of slots and the two lists of their numbers
+pub record IsStored (slots : List Row) (by_address by_client : List ℕ) : Type 0 where
+  pub sorted : IsByAddress slots by_address
+  pub within : All (λ n. n < length slots) by_client
+
+-- rows in rising address, the index of their addresses, and for how many more there is room
 pub record Ordered : Type 0 where
   pub rows : List Row
+  pub index : List ℕ
   pub room : ℕ
 
 -- what a number is ordered by

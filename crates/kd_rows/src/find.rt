@@ -1,5 +1,5 @@
 ghost use Rattle.std.specs.Prelude.{◌≡◌, ◌≤◌};
-ghost use Rattle.kd_rows.specs.Index.{IsFound, client_at};
+ghost use Rattle.kd_rows.specs.Index.{IsFound};
 ghost use Rattle.kd_rows.specs.Table.{IsFirstGap, Rise};
 
 use crate::sorted::Sorted;
@@ -14,17 +14,6 @@ pub(crate) fn find(rows: &Sorted, address: u32) -> Option<usize>
         Some(place)
     } else {
         None
-    }
-}
-
-// The client that has an address, no bytes where it has no row.
-pub(crate) fn client_of(rows: &Sorted, address: u32) -> &[u8]
-    requires { Rise rows.now.rows }
-    ensures { result.now ≡ client_at rows.now.rows address }
-{
-    match find(rows, address) {
-        Some(place) => rows.row(place).client.as_slice(),
-        None => &[],
     }
 }
 

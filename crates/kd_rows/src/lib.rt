@@ -8,6 +8,7 @@
 mod find;
 mod index;
 pub mod laws;
+mod numbers;
 mod put;
 mod row;
 mod rows;

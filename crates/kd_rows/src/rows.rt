@@ -5,7 +5,7 @@ ghost use Rattle.kd_rows.specs.Row.{IsInRange};
 ghost use Rattle.kd_rows.specs.Table.{IsFirstGap, IsNext, Rise, addresses_of, latest_of, least_of, row_at, spare, with_row};
 
 use crate::find::{find, gap_in};
-use crate::index::{index_of, nth_of};
+use crate::index::nth_of;
 use crate::put::put_row;
 use crate::row::Row;
 use crate::sorted::Sorted;
@@ -16,22 +16,19 @@ use std::marker::Model;
 #[derive(Drop)]
 pub struct Rows {
     rows: Sorted,
-    // The addresses in the order of client, then of address.
-    index: Vec<u32>,
     latest: u64,
     least: u64,
 }
 
 impl Model for Rows {
-    ghost use Rattle.std.specs.Prelude.{◌-◌, min, vec_capacity, vec_len};
     ghost use Rattle.kd_rows.specs.Index.{IsKept};
     ghost use Rattle.kd_rows.specs.Table.{Table};
 
     ghost Value = { Table };
 
-    ghost view = { λ t. record { rows = t.rows.rows; least = t.least; room = min t.rows.room (vec_capacity t.index - vec_len t.index) } };
+    ghost view = { λ t. record { rows = t.rows.rows; least = t.least; room = t.rows.room } };
 
-    ghost invariant = { λ t. IsKept t.rows.rows t.latest t.least t.index.items };
+    ghost invariant = { λ t. IsKept t.rows.rows t.latest t.least t.rows.index };
 }
 
 impl Rows {
@@ -54,19 +51,17 @@ impl Rows {
     ///
     /// # Errors
     ///
-    /// There is no memory for the indexes.
+    /// There is no memory for the order of the rows.
     pub fn new(rows: Vec<Row>) -> Result<Rows, AllocError>
         requires rise { Rise rows.items }
         requires ranges { All IsInRange rows.items }
         ensures rows { IfOk result (λ t. t.rows ≡ rows.items) }
         ensures least { IfOk result (λ t. t.least ≡ least_of rows.items) }
     {
-        let index = index_of(&rows)?;
         let latest = latest_in(&rows);
         let least = least_in(&rows);
         Ok(Rows {
             rows: Sorted::new(rows)?,
-            index,
             latest,
             least,
         })
@@ -128,7 +123,7 @@ impl Rows {
     pub fn of_client(&self, client: &[u8], i: usize) -> Option<u32>
         ensures { result ≡ slice_get (addresses_of client.now self.now.rows) i }
     {
-        nth_of(&self.rows, &self.index, client, i)
+        nth_of(&self.rows, client, i)
     }
 
     /// The least address from `first` to `last` that has no row.
@@ -150,8 +145,7 @@ impl Rows {
     pub fn spare(&self, row: &Row) -> bool
         ensures { result ≡ spare self.now row.now }
     {
-        find(&self.rows, row.address).is_some()
-            || (self.rows.has_room() && self.index.len() < self.index.capacity())
+        find(&self.rows, row.address).is_some() || self.rows.has_room()
     }
 
     /// Makes room, so that a row can be set without memory.
@@ -167,7 +161,6 @@ impl Rows {
     {
         if !self.spare(row) {
             self.rows.reserve()?;
-            self.index.reserve(1)?;
         }
         Ok(())
     }
@@ -184,7 +177,7 @@ impl Rows {
     {
         self.latest = row.changed;
         self.least = self.least.min(row.ends);
-        put_row(&mut self.rows, &mut self.index, row);
+        put_row(&mut self.rows, row);
     }
 }
 
