@@ -6,7 +6,7 @@ use Rattle.kd_rows.proofs.sorted.Sorted.place_of.Goals as goal
 
 pub halves-preserved-then-row-address : goal.halves-preserved-then-row-address
 halves-preserved-then-row-address c =
-    let rise = subst (λ (t : Ordered). Rise t.rows) c.self.view_is c.self.invariant.rise in
+    let rise = subst (λ (t : Ordered). Rise t.rows) c.self.view_is c.self.invariant.sorted.rise in
     record {
       order = omega arith;
       in_range = omega arith;
@@ -16,7 +16,7 @@ halves-preserved-then-row-address c =
 
 pub halves-preserved : goal.halves-preserved
 halves-preserved c =
-    let rise = subst (λ (t : Ordered). Rise t.rows) c.self.view_is c.self.invariant.rise in
+    let rise = subst (λ (t : Ordered). Rise t.rows) c.self.view_is c.self.invariant.sorted.rise in
     record {
       order = omega arith;
       in_range = omega arith;
