@@ -1,8 +1,8 @@
 -- The order of keys, and places in the index.
-use Rattle.std.proofs.Common.{◌≡◌, ℕ, ◌+◌, ◌<◌, ◌≤◌, Bool, true, false, ◌||◌, ◌==◌, List, [], ◌∷◌, suc, length, get_or, refl, sym, ap, ◌∙◌, subst, ◌⊎◌, inl, inr, ⊎_elim, if◌then◌else◌, nat_lt, ◌-◌, arith}
+use Rattle.std.proofs.Common.{◌≡◌, ℕ, ◌+◌, ◌<◌, ◌≤◌, Bool, true, false, ◌||◌, ◌==◌, List, [], ◌∷◌, suc, length, get_or, refl, sym, ap, ◌∙◌, subst, ◌⊎◌, inl, inr, ⊎_elim, if◌then◌else◌, nat_lt, ◌-◌, Some, is_some, arith}
 use Rattle.std.specs.Cmp.{IsTotalOrder, nat_cmp_total}
 use Rattle.std.specs.Cmp.Lexicographic.{nat_list_cmp_total}
-use Rattle.std.specs.List.{remove}
+use Rattle.std.specs.List.{insert, remove}
 use Rattle.std.specs.Ordering.{is_lt}
 use Rattle.std.specs.declared.cmp.Ordering.{Ordering}
 use Rattle.std.specs.declared.cmp.Ordering.TheVariants.{Less, Equal, Greater}
@@ -12,7 +12,8 @@ use Rattle.std.proofs.lemmas.List.Edits.{get_or-remove_above, get_or-remove_belo
 use Rattle.std.proofs.lemmas.Cmp.{on_total, then_total, tied_itself}
 use Rattle.std.proofs.lemmas.Map.Lookups.{exact_bytes, exact_pairs, exact_unsigned}
 use Rattle.kd_rows.specs.declared.row.Row.{Row}
-use Rattle.kd_rows.specs.Index.{IsBelow, IsKeyPlace, Rises, client_at, lists, key_at, key_order}
+use Rattle.kd_rows.specs.Index.{IsAt, IsBelow, IsIndex, IsKeyPlace, Moves, Rises, client_at, client_in, lists, key_at, key_order}
+use Rattle.kd_rows.specs.Table.{row_at}
 
 pub keys_total : IsTotalOrder key_order
 keys_total = then_total (on_total (λ (k : List ℕ × ℕ). k.0) nat_list_cmp_total) (on_total (λ (k : List ℕ × ℕ). k.1) nat_cmp_total)
@@ -115,3 +116,21 @@ place_left key index k from place inside p = by (nat_lt from place) refl where
         (λ high. off i (i + 1) (get_or-remove_above index from 0 i high inside) (p.above (i + 1) (omega arith) (omega (arith, n))))
         (cases_lt i from);
   }
+
+-- a place that is left is within those that were
+pub left_within : (n from place : ℕ) → from < n → place ≤ n → (if nat_lt from place then place - 1 else place) < n
+left_within n from place inside le = by (nat_lt from place) refl where
+  by : (b : Bool) → nat_lt from place ≡ b → (if b then place - 1 else place) < n
+  by true e = omega arith
+  by false e = let l : place ≤ from = grind (arith, nat_tests) in omega arith
+
+-- the address of a row stands at the place of its key
+pub row_here : (rows : List Row) (index client : List ℕ) (a place from : ℕ) (row : Row) → IsIndex rows index → IsAt rows a place → row ≡ get_or rows place row → client ≡ row.client → IsKeyPlace (key_at rows) index (client, a) from → (from < length index) × (get_or index from 0 ≡ a)
+row_here rows index client a place from row indexed at is of p = key_here (key_at rows) index a from indexed.rising (subst (λ (c : List ℕ). IsKeyPlace (key_at rows) index (c, a) from) (of ∙ sym (ap client_in there)) p) (indexed.same a ∙ ap is_some there) where
+  there : row_at rows a ≡ Some row
+  there = at.found row ∙ ap Some (sym is)
+
+-- an address that is taken there, and put at the place of another key, moves
+pub moved_to : (key : ℕ → List ℕ × ℕ) (index new client : List ℕ) (a from place to : ℕ) → (from < length index) × (get_or index from 0 ≡ a) → IsKeyPlace key index (client, a) place → to ≡ (if nat_lt from place then place - 1 else place) → new ≡ insert (remove index from) to (get_or index from 0) → Moves key index (client, a) new
+moved_to key index new client a from place to here p is put =
+    (remove index from, (from, here.0, here.1, refl), (to, subst (IsKeyPlace key (remove index from) (client, a)) (sym is) (place_left key index (client, a) from place here.0 p), put ∙ ap (insert (remove index from) to) here.1))
