@@ -1,5 +1,5 @@
 -- Rows in slots, read in the order of numbers.
-use Rattle.std.proofs.Common.{◌≡◌, ℕ, ◌+◌, ◌-◌, ◌<◌, ◌≤◌, ◌^◌, List, [], ◌∷◌, ◌++◌, length, get_or, set, take, drop, map, zero, suc, refl, sym, ap, ◌∙◌, subst, ⊎_elim, None, Some, Bool, ◌||◌, ◌==◌, nat_lt, true, arith}
+use Rattle.std.proofs.Common.{◌≡◌, ℕ, ◌+◌, ◌<◌, ◌≤◌, ◌^◌, List, [], ◌∷◌, ◌++◌, length, get_or, set, take, drop, map, zero, suc, refl, sym, ap, ◌∙◌, subst, ⊎_elim, None, Some, Bool, ◌||◌, ◌==◌, nat_lt, true, arith}
 use Rattle.std.specs.List.{All, insert, remove}
 use Rattle.std.proofs.lemmas.Bool.{cases_eq, cases_lt}
 use Rattle.std.proofs.lemmas.Bool.Decides.{nat_tests}
@@ -11,7 +11,7 @@ use Rattle.kd_rows.specs.Index.{IsAt, IsByAddress, IsByClient, IsPlace, IsStored
 use Rattle.kd_rows.specs.Table.{Rise, row_at, with_row}
 use Rattle.kd_rows.proofs.Indexes.{lists-append, lists-insert, numbered_within}
 use Rattle.kd_rows.proofs.Keys.{Stands, listed_at}
-use Rattle.kd_rows.proofs.Places.{apart, from_on, is_at, same_at}
+use Rattle.kd_rows.proofs.Places.{apart, from_on, is_at}
 use Rattle.kd_rows.proofs.Sets.{all-with_row, inserted, replaced, rise-with_row}
 
 -- the row of a slot, whatever stands in for one outside
@@ -243,14 +243,15 @@ known slots numbers sorted n inside = (is_at (rows_in slots numbers) (row_in slo
 
 -- what is read at a place of the index
 pub read_indexed : (slots : List Row) (by_address by_client : List ℕ) (i number : ℕ) (row : Row) → IsStored slots by_address by_client → i < length by_client → number ≡ get_or by_client i number → row ≡ get_or slots number row → (row.address ≡ get_or (addresses_in slots by_client) i 0) × (row_at (rows_in slots by_address) row.address ≡ Some row)
-read_indexed slots by_address by_client i number row stored inside is read =
-    (ap (λ (r : Row). r.address) here ∙ sym (get_or-map (λ n. (row_in slots n).address) by_client i 0 0 inside),
-    subst (λ (r : Row). row_at (rows_in slots by_address) r.address ≡ Some r) (sym here) (known slots by_address stored.sorted (get_or by_client i 0) (stored.within i 0 inside))) where
-      at : number ≡ get_or by_client i 0
-      at = is ∙ get_or_default by_client i number 0 inside
+read_indexed slots by_address by_client i number row stored inside is read = (
+  ap (λ (r : Row). r.address) here ∙ sym (get_or-map (λ n. (row_in slots n).address) by_client i 0 0 inside),
+  subst (λ (r : Row). row_at (rows_in slots by_address) r.address ≡ Some r) (sym here) (known slots by_address stored.sorted (get_or by_client i 0) (stored.within i 0 inside)),
+) where
+  at : number ≡ get_or by_client i 0
+  at = is ∙ get_or_default by_client i number 0 inside
 
-      here : row ≡ row_in slots (get_or by_client i 0)
-      here = read ∙ sym (slot_at slots number row (subst (λ (n : ℕ). n < length slots) (sym at) (stored.within i 0 inside))) ∙ ap (row_in slots) at
+  here : row ≡ row_in slots (get_or by_client i 0)
+  here = read ∙ sym (slot_at slots number row (subst (λ (n : ℕ). n < length slots) (sym at) (stored.within i 0 inside))) ∙ ap (row_in slots) at
 
 -- a row that is overwritten by one of its address leaves the addresses
 pub same_addresses : (slots : List Row) (numbers : List ℕ) (n : ℕ) (row : Row) → n < length slots → row.address ≡ (row_in slots n).address → addresses_in (set slots n row) numbers ≡ addresses_in slots numbers

@@ -1,5 +1,4 @@
-use Rattle.std.proofs.Common.{ℕ, ◌+◌, ◌-◌, ◌/◌, List, Option, ap, arith, sym, ◌∙◌}
-use Rattle.kd_rows.specs.declared.row.Row.{Row}
+use Rattle.std.proofs.Common.{ℕ, ◌+◌, ◌-◌, ◌/◌, List, ap, arith, sym, ◌∙◌}
 use Rattle.kd_rows.specs.Index.{client_in, key_at}
 use Rattle.kd_rows.proofs.Keys.{below_if, high_less, low_more, not_below_if, read_key}
 use Rattle.kd_rows.proofs.index.key_place.Goals as goal

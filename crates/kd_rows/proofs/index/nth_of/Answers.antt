@@ -1,4 +1,4 @@
-use Rattle.std.proofs.Common.{◌≡◌, ℕ, ◌+◌, List, Some, arith, ap, get_or, nat_eq, sym, ◌∙◌}
+use Rattle.std.proofs.Common.{ℕ, List, Some, arith, ap, nat_eq, sym, ◌∙◌}
 use Rattle.std.specs.Cmp.Lexicographic.{pointwise}
 use Rattle.kd_rows.specs.Index.{client_at, client_in}
 use Rattle.kd_rows.proofs.Owned.{nth_none, nth_some}

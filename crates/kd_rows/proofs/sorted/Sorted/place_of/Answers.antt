@@ -1,4 +1,4 @@
-use Rattle.std.proofs.Common.{ap, arith, subst}
+use Rattle.std.proofs.Common.{arith, subst}
 use Rattle.kd_rows.specs.Index.{Ordered}
 use Rattle.kd_rows.specs.Table.{Rise}
 use Rattle.kd_rows.proofs.Places.{above_less, below_more}
