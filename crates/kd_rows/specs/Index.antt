@@ -1,4 +1,4 @@
--- The index of the table, and places in it and among the rows: words of private contracts and of the invariant alone.
+-- The index of the table, places in it and among the rows, and slots: words of private contracts and invariants alone.
 use Rattle.std.specs.Prelude.{◌≡◌, ℕ, ◌<◌, ◌≤◌, ◌^◌, Bool, false, ◌||◌, List, [], ◌∷◌, length, Option, Some, None, is_some, slice_index, slice_index_or, ◌==◌, map, nat_lt}
 use Rattle.std.specs.List.{All, insert, range_with_len, remove}
 use Rattle.std.specs.Cmp.Lexicographic.{slice_cmp}
@@ -65,12 +65,12 @@ pub record IsByAddress (slots : List Row) (numbers : List ℕ) : Type 0 where
   pub rise : Rise (rows_in slots numbers)
   pub bounded : All (λ row. row.address < 2 ^ 32) (rows_in slots numbers)
 
--- what is true of slots and the two lists of their numbers
+-- what is true of slots and the lists of their numbers in both orders
 pub record IsStored (slots : List Row) (by_address by_client : List ℕ) : Type 0 where
   pub sorted : IsByAddress slots by_address
   pub within : All (λ n. n < length slots) by_client
 
--- rows in rising address, the index of their addresses, and for how many more there is room
+-- rows in rising address, their addresses in the order of client and address, and for how many more there is room
 pub record Ordered : Type 0 where
   pub rows : List Row
   pub index : List ℕ
