@@ -3,10 +3,10 @@ use Rattle.std.proofs.Common.{◌≡◌, ℕ, ◌+◌, ◌-◌, ◌<◌, ◌≤�
 use Rattle.std.specs.List.{insert, remove}
 use Rattle.std.proofs.lemmas.Bool.{cases_Bool, cases_eq, cases_lt, eqb-true, eq-eqb, ne_eqb, false≢true}
 use Rattle.std.proofs.lemmas.Bool.Decides.{nat_tests}
-use Rattle.std.proofs.lemmas.List.{drop_more, get_or-map, get_or_default, length-map, map_more, take-append-drop}
+use Rattle.std.proofs.lemmas.List.{drop_more, get_or-map, length-map, take-append-drop}
 use Rattle.std.proofs.lemmas.List.Edits.{get_or-insert_above, get_or-insert_at, get_or-insert_below, get_or-remove_above, get_or-remove_below, length-insert, length-remove}
 use Rattle.kd_rows.specs.declared.row.Row.{Row}
-use Rattle.kd_rows.specs.Index.{Gives, IsBelow, IsByClient, IsIndex, IsKeyPlace, Moves, Rises, Takes, client_at, client_in, lists, key_at, key_in, row_in}
+use Rattle.kd_rows.specs.Index.{Gives, IsBelow, IsByClient, IsIndex, IsKeyPlace, Moves, Rises, Takes, addresses_in, client_at, client_in, lists, key_at, key_in, row_in}
 use Rattle.kd_rows.specs.Table.{Rise, row_at, with_row}
 use Rattle.kd_rows.proofs.Keys.{Stands, below_from, listed_at, not_below_itself}
 use Rattle.kd_rows.proofs.Places.{is_at, same_at}
@@ -61,7 +61,7 @@ rises_remove f index place rising inside i j order within =
     (cases_lt j place)
 
 -- which addresses there are
-lists-append : (xs ys : List ℕ) (a : ℕ) → lists (xs ++ ys) a ≡ (lists xs a || lists ys a)
+pub lists-append : (xs ys : List ℕ) (a : ℕ) → lists (xs ++ ys) a ≡ (lists xs a || lists ys a)
 lists-append [] ys a = refl
 lists-append (x ∷ xs) ys a = by (x == a) (lists-append xs ys a) where
   by : (b : Bool) → lists (xs ++ ys) a ≡ (lists xs a || lists ys a) → (b || lists (xs ++ ys) a) ≡ ((b || lists xs a) || lists ys a)
@@ -185,10 +185,6 @@ pub record Known (rows slots : List Row) : Type 0 where
   pub known : (n : ℕ) → n < length slots → row_at rows (row_in slots n).address ≡ Some (row_in slots n)
   pub only : (a : ℕ) → is_some (row_at rows a) ≡ true → (n : ℕ) × (n < length slots) × ((row_in slots n).address ≡ a)
 
--- the addresses of numbers
-abbrev pub addresses_in : List Row → List ℕ → List ℕ
-addresses_in slots numbers = map (λ n. (row_in slots n).address) numbers
-
 -- the numbers of slots in the order of their keys give the addresses of the rows in that order
 pub index_from : (rows slots : List Row) (numbers : List ℕ) → Known rows slots → IsByClient slots numbers → IsIndex rows (addresses_in slots numbers)
 index_from rows slots numbers all numbered = record { same = same; rising = rising } where
@@ -239,13 +235,6 @@ pub numbered_within : (slots : List Row) (numbers : List ℕ) → IsByClient slo
 numbered_within slots numbers numbered i within = below _ _ (sym (numbered.same (get_or numbers i 0)) ∙ at_lists numbers i within) where
   below : (a b : ℕ) → nat_lt a b ≡ true → a < b
   below a b h = grind (arith, nat_tests)
-
--- one address more
-pub addresses_more : (slots : List Row) (numbers : List ℕ) (i : ℕ) (row : Row) (old new : List ℕ) → i < length numbers → get_or numbers i 0 < length slots → row ≡ get_or slots (get_or numbers i 0) row → old ≡ addresses_in slots (take i numbers) → new ≡ old ++ row.address ∷ [] → new ≡ addresses_in slots (take (i + 1) numbers)
-addresses_more slots numbers i row old new within there is so_far pushed =
-    pushed ∙ ap (λ (xs : List ℕ). xs ++ row.address ∷ []) so_far
-    ∙ ap (λ (r : Row). addresses_in slots (take i numbers) ++ r.address ∷ []) (is ∙ get_or_default slots (get_or numbers i 0) row (row_in [] 0) there)
-    ∙ sym (map_more (λ n. (row_in slots n).address) numbers i 0 within)
 
 -- rows are their own slots
 pub known_rows : (rows : List Row) → Rise rows → Known rows rows

@@ -1,15 +1,19 @@
 -- The order of keys, and places in the index.
-use Rattle.std.proofs.Common.{◌≡◌, ℕ, ◌+◌, ◌<◌, ◌≤◌, Bool, true, false, ◌||◌, ◌==◌, List, [], ◌∷◌, suc, length, get_or, refl, sym, ap, ◌∙◌, subst, ◌⊎◌, inl, inr, ⊎_elim, arith}
+use Rattle.std.proofs.Common.{◌≡◌, ℕ, ◌+◌, ◌<◌, ◌≤◌, Bool, true, false, ◌||◌, ◌==◌, List, [], ◌∷◌, suc, length, get_or, refl, sym, ap, ◌∙◌, subst, ◌⊎◌, inl, inr, ⊎_elim, if◌then◌else◌, nat_lt, ◌-◌, Some, is_some, arith}
 use Rattle.std.specs.Cmp.{IsTotalOrder, nat_cmp_total}
 use Rattle.std.specs.Cmp.Lexicographic.{nat_list_cmp_total}
+use Rattle.std.specs.List.{insert, remove}
 use Rattle.std.specs.Ordering.{is_lt}
 use Rattle.std.specs.declared.cmp.Ordering.{Ordering}
 use Rattle.std.specs.declared.cmp.Ordering.TheVariants.{Less, Equal, Greater}
 use Rattle.std.proofs.lemmas.Bool.{cases_eq, cases_lt, eqb-true, false≢true}
+use Rattle.std.proofs.lemmas.Bool.Decides.{nat_tests}
+use Rattle.std.proofs.lemmas.List.Edits.{get_or-remove_above, get_or-remove_below, length-remove}
 use Rattle.std.proofs.lemmas.Cmp.{on_total, then_total, tied_itself}
 use Rattle.std.proofs.lemmas.Map.Lookups.{exact_bytes, exact_pairs, exact_unsigned}
 use Rattle.kd_rows.specs.declared.row.Row.{Row}
-use Rattle.kd_rows.specs.Index.{IsBelow, IsKeyPlace, Rises, client_at, lists, key_at, key_order}
+use Rattle.kd_rows.specs.Index.{IsAt, IsBelow, IsIndex, IsKeyPlace, Moves, Rises, client_at, client_in, lists, key_at, key_order}
+use Rattle.kd_rows.specs.Table.{row_at}
 
 pub keys_total : IsTotalOrder key_order
 keys_total = then_total (on_total (λ (k : List ℕ × ℕ). k.0) nat_list_cmp_total) (on_total (λ (k : List ℕ × ℕ). k.1) nat_cmp_total)
@@ -83,8 +87,50 @@ key_here key index a place rising p h = by (listed_at index a h) where
       (cases_eq s.place place))
       (cases_lt s.place place)
 
--- the same of a slice and a client that were read
-pub taken_here : (rows : List Row) (index read : List ℕ) (client : List ℕ) (a place : ℕ) → Rises (key_at rows) index → read ≡ index → client ≡ client_at rows a → IsKeyPlace (key_at rows) read (client, a) place → lists index a ≡ true → (place < length index) × (get_or index place 0 ≡ a)
-taken_here rows index read client a place rising same of p h =
-    key_here (key_at rows) index a place rising
-    (subst (λ (c : List ℕ). IsKeyPlace (key_at rows) index (c, a) place) of (subst (λ (xs : List ℕ). IsKeyPlace (key_at rows) xs (client, a) place) same p)) h
+-- a place among those left where one is taken
+pub place_left : (key : ℕ → List ℕ × ℕ) (index : List ℕ) (k : List ℕ × ℕ) (from place : ℕ) → from < length index → IsKeyPlace key index k place → IsKeyPlace key (remove index from) k (if nat_lt from place then place - 1 else place)
+place_left key index k from place inside p = by (nat_lt from place) refl where
+  n : length (remove index from) + 1 ≡ length index
+  n = length-remove index from inside
+
+  at : (i j : ℕ) → get_or (remove index from) i 0 ≡ get_or index j 0 → IsBelow (key (get_or index j 0)) k → IsBelow (key (get_or (remove index from) i 0)) k
+  at i j e h = subst (λ (x : ℕ). IsBelow (key x) k) (sym e) h
+
+  off : (i j : ℕ) → get_or (remove index from) i 0 ≡ get_or index j 0 → (IsBelow (key (get_or index j 0)) k → ⊥) → IsBelow (key (get_or (remove index from) i 0)) k → ⊥
+  off i j e h g = h (subst (λ (x : ℕ). IsBelow (key x) k) e g)
+
+  by : (b : Bool) → nat_lt from place ≡ b → IsKeyPlace key (remove index from) k (if b then place - 1 else place)
+  by true e = let l : from < place = grind (arith, nat_tests) in record {
+    in_range = omega (arith, n, p.in_range);
+    below = λ i before. ⊎_elim
+        (λ low. at i i (get_or-remove_below index from 0 i low inside) (p.below i (omega arith)))
+        (λ high. at i (i + 1) (get_or-remove_above index from 0 i high inside) (p.below (i + 1) (omega arith)))
+        (cases_lt i from);
+    above = λ i after within. off i (i + 1) (get_or-remove_above index from 0 i (omega arith) inside) (p.above (i + 1) (omega arith) (omega (arith, n)));
+  }
+  by false e = let l : place ≤ from = grind (arith, nat_tests) in record {
+    in_range = omega (arith, n);
+    below = λ i before. at i i (get_or-remove_below index from 0 i (omega arith) inside) (p.below i before);
+    above = λ i after within. ⊎_elim
+        (λ low. off i i (get_or-remove_below index from 0 i low inside) (p.above i after (omega arith)))
+        (λ high. off i (i + 1) (get_or-remove_above index from 0 i high inside) (p.above (i + 1) (omega arith) (omega (arith, n))))
+        (cases_lt i from);
+  }
+
+-- a place that is left is within those that were
+pub left_within : (n from place : ℕ) → from < n → place ≤ n → (if nat_lt from place then place - 1 else place) < n
+left_within n from place inside le = by (nat_lt from place) refl where
+  by : (b : Bool) → nat_lt from place ≡ b → (if b then place - 1 else place) < n
+  by true e = omega arith
+  by false e = let l : place ≤ from = grind (arith, nat_tests) in omega arith
+
+-- the address of a row stands at the place of its key
+pub row_here : (rows : List Row) (index client : List ℕ) (a place from : ℕ) (row : Row) → IsIndex rows index → IsAt rows a place → row ≡ get_or rows place row → client ≡ row.client → IsKeyPlace (key_at rows) index (client, a) from → (from < length index) × (get_or index from 0 ≡ a)
+row_here rows index client a place from row indexed at is of p = key_here (key_at rows) index a from indexed.rising (subst (λ (c : List ℕ). IsKeyPlace (key_at rows) index (c, a) from) (of ∙ sym (ap client_in there)) p) (indexed.same a ∙ ap is_some there) where
+  there : row_at rows a ≡ Some row
+  there = at.found row ∙ ap Some (sym is)
+
+-- an address that is taken there, and put at the place of another key, moves
+pub moved_to : (key : ℕ → List ℕ × ℕ) (index new client : List ℕ) (a from place to : ℕ) → (from < length index) × (get_or index from 0 ≡ a) → IsKeyPlace key index (client, a) place → to ≡ (if nat_lt from place then place - 1 else place) → new ≡ insert (remove index from) to (get_or index from 0) → Moves key index (client, a) new
+moved_to key index new client a from place to here p is put =
+    (remove index from, (from, here.0, here.1, refl), (to, subst (IsKeyPlace key (remove index from) (client, a)) (sym is) (place_left key index (client, a) from place here.0 p), put ∙ ap (insert (remove index from) to) here.1))

@@ -5,4 +5,5 @@ pub mod Maps
 pub mod Owned
 pub mod Places
 pub mod Sets
+pub mod Slots
 pub mod Sorting

@@ -39,6 +39,14 @@ apart_from n (r ∷ rows) rise (suc i) (suc j) d order within =
 pub apart : (rows : List Row) → Rise rows → (i j : ℕ) (d : Row) → i ≤ j → j < length rows → (get_or rows i d).address + (j - i) ≤ (get_or rows j d).address
 apart rows rise i j d order within = apart_from 0 rows rise i j d order within
 
+-- what is read at a place, whatever stands in for a place outside
+pub same_at : (rows : List Row) (place : ℕ) (d e : Row) → place < length rows → (get_or rows place d).address ≡ (get_or rows place e).address
+same_at rows place d e within = ap (λ (r : Row). r.address) (get_or_default rows place d e within)
+
+-- and of a row that was read there
+pub read_at : (rows : List Row) (place : ℕ) (row d : Row) → place < length rows → row ≡ get_or rows place row → (get_or rows place d).address ≡ row.address
+read_at rows place row d within is = same_at rows place d row within ∙ sym (ap (λ (r : Row). r.address) is)
+
 -- the row of an address is where it stands, if none before stands there
 pub found_at : (rows : List Row) (place a : ℕ) (d : Row) → place < length rows → ((i : ℕ) → i < place → (get_or rows i d).address < a) → (get_or rows place d).address ≡ a → row_at rows a ≡ Some (get_or rows place d)
 found_at [] place a d within below here = absurd (omega arith)
@@ -82,6 +90,20 @@ place_between rows a place within parts = record {
   greater : (x y : ℕ) → nat_cmp x y ≡ Greater → y ≤ x
   greater x y h = grind (arith, nat_tests)
 
+-- the search for a place: where the row in the middle stands below an address, so do those before it
+pub below_more : (rows : List Row) (a middle : ℕ) (row : Row) → Rise rows → middle < length rows → row ≡ get_or rows middle row → row.address < a → (i : ℕ) (d : Row) → i < middle + 1 → (get_or rows i d).address < a
+below_more rows a middle row rise within is low i d before =
+    let at = read_at rows middle row d within is in
+    let h = apart rows rise i middle d (omega arith) within in
+    omega arith
+
+-- and where it does not, no row from there on does
+pub above_less : (rows : List Row) (a middle : ℕ) (row : Row) → Rise rows → middle < length rows → row ≡ get_or rows middle row → a ≤ row.address → (i : ℕ) (d : Row) → middle ≤ i → i < length rows → a ≤ (get_or rows i d).address
+above_less rows a middle row rise within is high i d after inside =
+    let at = read_at rows middle row d within is in
+    let h = apart rows rise middle i d after inside in
+    omega arith
+
 -- an address has no row if none stands there at its place
 pub absent_at : (rows : List Row) (a place : ℕ) → Rise rows → IsPlace rows a place → ((d : Row) → place < length rows → (get_or rows place d).address ≢ a) → row_at rows a ≡ None
 absent_at rows a place rise p other = none_at rows a by where
@@ -103,22 +125,18 @@ is_at rows a place rise within here = record {
   below = λ i d before. (place_at rows a place rise within here).below i d before;
 }
 
--- what is read at a place, whatever stands in for a place outside
-pub same_at : (rows : List Row) (place : ℕ) (d e : Row) → place < length rows → (get_or rows place d).address ≡ (get_or rows place e).address
-same_at rows place d e within = ap (λ (r : Row). r.address) (get_or_default rows place d e within)
-
 -- the search for a gap: where the row in the middle stands as far from `first` as its place, so do those before it
-pub run_more : (rows : List Row) (first start middle : ℕ) (e : Row) → Rise rows → IsPlace rows first start → start ≤ middle → middle < length rows → (get_or rows middle e).address - first ≡ middle - start → (i : ℕ) (d : Row) → start ≤ i → i < middle + 1 → (get_or rows i d).address ≡ first + (i - start)
-run_more rows first start middle e rise p order within run i d after before =
-    let at = same_at rows middle d e within in
+pub run_more : (rows : List Row) (first start middle : ℕ) (e : Row) → Rise rows → IsPlace rows first start → start ≤ middle → middle < length rows → e ≡ get_or rows middle e → e.address - first ≡ middle - start → (i : ℕ) (d : Row) → start ≤ i → i < middle + 1 → (get_or rows i d).address ≡ first + (i - start)
+run_more rows first start middle e rise p order within is run i d after before =
+    let at = read_at rows middle e d within is in
     let low = p.above start d (omega arith) (omega arith) in
     let left = apart rows rise start i d after (omega arith) in
     let right = apart rows rise i middle d (omega arith) within in
     omega arith
 
-pub run_less : (rows : List Row) (first start middle : ℕ) (e : Row) → Rise rows → IsPlace rows first start → start ≤ middle → middle < length rows → ((get_or rows middle e).address - first ≡ middle - start → ⊥) → (i : ℕ) (d : Row) → middle ≤ i → i < length rows → first + (i - start) < (get_or rows i d).address
-run_less rows first start middle e rise p order within run i d after before =
-    let at = same_at rows middle d e within in
+pub run_less : (rows : List Row) (first start middle : ℕ) (e : Row) → Rise rows → IsPlace rows first start → start ≤ middle → middle < length rows → e ≡ get_or rows middle e → (e.address - first ≡ middle - start → ⊥) → (i : ℕ) (d : Row) → middle ≤ i → i < length rows → first + (i - start) < (get_or rows i d).address
+run_less rows first start middle e rise p order within is run i d after before =
+    let at = read_at rows middle e d within is in
     let low = p.above start d (omega arith) (omega arith) in
     let left = apart rows rise start middle d order within in
     let right = apart rows rise middle i d after before in

@@ -1,5 +1,5 @@
--- The index of the table, and places in it and among the rows: words of private contracts and of the invariant alone.
-use Rattle.std.specs.Prelude.{◌≡◌, ℕ, ◌<◌, ◌≤◌, Bool, false, ◌||◌, List, [], ◌∷◌, length, Option, Some, None, is_some, slice_index, slice_index_or, ◌==◌, map, nat_lt}
+-- The index of the table, places in it and among the rows, and slots: words of private contracts and invariants alone.
+use Rattle.std.specs.Prelude.{◌≡◌, ℕ, ◌<◌, ◌≤◌, ◌^◌, Bool, false, ◌||◌, List, [], ◌∷◌, length, Option, Some, None, is_some, slice_index, slice_index_or, ◌==◌, map, nat_lt}
 use Rattle.std.specs.List.{All, insert, range_with_len, remove}
 use Rattle.std.specs.Cmp.Lexicographic.{slice_cmp}
 use Rattle.std.specs.Ordering.{nat_cmp, ordering_then}
@@ -48,6 +48,33 @@ pub record IsIndex (rows : List Row) (index : List ℕ) : Type 0 where
 -- the row of a number, and one that is none past the last
 abbrev pub row_in : List Row → ℕ → Row
 row_in slots n = slice_index_or slots n (record { address = 0; client = []; state = Offered; changed = 0; ends = 0 })
+
+-- the rows of numbers
+abbrev pub rows_in : List Row → List ℕ → List Row
+rows_in slots numbers = map (row_in slots) numbers
+
+-- the addresses of numbers
+abbrev pub addresses_in : List Row → List ℕ → List ℕ
+addresses_in slots numbers = map (λ n. (row_in slots n).address) numbers
+
+-- each slot has a number among them, and the rows of the numbers rise in address
+pub record IsByAddress (slots : List Row) (numbers : List ℕ) : Type 0 where
+  pub count : length numbers ≡ length slots
+  pub same : (n : ℕ) → lists numbers n ≡ nat_lt n (length slots)
+  pub within : All (λ n. n < length slots) numbers
+  pub rise : Rise (rows_in slots numbers)
+  pub bounded : All (λ row. row.address < 2 ^ 32) (rows_in slots numbers)
+
+-- what is true of slots and the lists of their numbers in both orders
+pub record IsStored (slots : List Row) (by_address by_client : List ℕ) : Type 0 where
+  pub sorted : IsByAddress slots by_address
+  pub within : All (λ n. n < length slots) by_client
+
+-- rows in rising address, their addresses in the order of client and address, and for how many more there is room
+pub record Ordered : Type 0 where
+  pub rows : List Row
+  pub index : List ℕ
+  pub room : ℕ
 
 -- what a number is ordered by
 abbrev pub key_in : List Row → ℕ → List ℕ × ℕ

@@ -1,9 +1,9 @@
 -- What is true of each list of rows.
-use Rattle.std.specs.Prelude.{◌≡◌, ℕ, List, map, Some, if◌then◌else◌, ◌==◌}
+use Rattle.std.specs.Prelude.{◌≡◌, ℕ, ◌≤◌, List, map, Some, if◌then◌else◌, ◌==◌}
 use Rattle.std.specs.FinMap.{FinMap, from_entries, get, insert}
 use Rattle.std.specs.Ordering.{nat_cmp}
 use Rattle.kd_rows.specs.declared.row.Row.{Row}
-use Rattle.kd_rows.specs.Table.{row_at, with_row}
+use Rattle.kd_rows.specs.Table.{RiseFrom, latest_of, row_at, with_row}
 
 -- the map from addresses that rows spell; of two at one address it has the first
 abbrev pub map_of : List Row → FinMap nat_cmp Row
@@ -18,3 +18,11 @@ RowsAreAMap =
 -- after a row is set its address has it, and each other what it had
 abbrev pub GetOfSet : Type 0
 GetOfSet = (row : Row) (rows : List Row) (a : ℕ) → row_at (with_row row rows) a ≡ (if row.address == a then Some row else row_at rows a)
+
+-- rows that rise from an address on still do after one is set there or above
+abbrev pub RiseOfSet : Type 0
+RiseOfSet = (row : Row) (n : ℕ) (rows : List Row) → n ≤ row.address → RiseFrom n rows → RiseFrom n (with_row row rows)
+
+-- a row that is set no earlier than the others were is the latest
+abbrev pub LatestOfSet : Type 0
+LatestOfSet = (row : Row) (rows : List Row) → latest_of rows ≤ row.changed → latest_of (with_row row rows) ≡ row.changed

@@ -8,9 +8,11 @@
 mod find;
 mod index;
 pub mod laws;
+mod numbers;
 mod put;
 mod row;
 mod rows;
+mod sorted;
 
 pub use row::{Row, State};
 pub use rows::Rows;

@@ -4,33 +4,31 @@ ghost use Rattle.std.specs.Option.{option_copied};
 ghost use Rattle.kd_rows.specs.Row.{IsInRange};
 ghost use Rattle.kd_rows.specs.Table.{IsFirstGap, IsNext, Rise, addresses_of, latest_of, least_of, row_at, spare, with_row};
 
-use crate::find::{find, gap_in, place_of};
-use crate::index::{index_of, nth_of};
+use crate::find::{find, gap_in};
+use crate::index::nth_of;
 use crate::put::put_row;
 use crate::row::Row;
+use crate::sorted::Sorted;
 use std::alloc::AllocError;
 use std::marker::Model;
 
 /// The table of leases: a row an address, found by address and by client.
 #[derive(Drop)]
 pub struct Rows {
-    rows: Vec<Row>,
-    // The addresses in the order of client, then of address.
-    index: Vec<u32>,
+    rows: Sorted,
     latest: u64,
     least: u64,
 }
 
 impl Model for Rows {
-    ghost use Rattle.std.specs.Prelude.{◌-◌, min, vec_capacity, vec_len};
     ghost use Rattle.kd_rows.specs.Index.{IsKept};
     ghost use Rattle.kd_rows.specs.Table.{Table};
 
     ghost Value = { Table };
 
-    ghost view = { λ t. record { rows = t.rows.items; least = t.least; room = min (vec_capacity t.rows - vec_len t.rows) (vec_capacity t.index - vec_len t.index) } };
+    ghost view = { λ t. record { rows = t.rows.rows; least = t.least; room = t.rows.room } };
 
-    ghost invariant = { λ t. IsKept t.rows.items t.latest t.least t.index.items };
+    ghost invariant = { λ t. IsKept t.rows.rows t.latest t.least t.rows.index };
 }
 
 impl Rows {
@@ -53,19 +51,17 @@ impl Rows {
     ///
     /// # Errors
     ///
-    /// There is no memory for the index.
+    /// There is no memory for the order of the rows.
     pub fn new(rows: Vec<Row>) -> Result<Rows, AllocError>
         requires rise { Rise rows.items }
         requires ranges { All IsInRange rows.items }
         ensures rows { IfOk result (λ t. t.rows ≡ rows.items) }
         ensures least { IfOk result (λ t. t.least ≡ least_of rows.items) }
     {
-        let index = index_of(&rows)?;
         let latest = latest_in(&rows);
         let least = least_in(&rows);
         Ok(Rows {
-            rows,
-            index,
+            rows: Sorted::new(rows)?,
             latest,
             least,
         })
@@ -92,7 +88,7 @@ impl Rows {
         ensures { option_copied result ≡ row_at self.now.rows address }
     {
         match find(&self.rows, address) {
-            Some(place) => Some(&self.rows[place]),
+            Some(place) => Some(self.rows.row(place)),
             None => None,
         }
     }
@@ -102,7 +98,7 @@ impl Rows {
         ensures { IsTrue result ↔ (with_row row.now self.now.rows ≡ self.now.rows) }
     {
         match find(&self.rows, row.address) {
-            Some(place) => is_same(&self.rows[place], row),
+            Some(place) => is_same(self.rows.row(place), row),
             None => false,
         }
     }
@@ -127,7 +123,7 @@ impl Rows {
     pub fn of_client(&self, client: &[u8], i: usize) -> Option<u32>
         ensures { result ≡ slice_get (addresses_of client.now self.now.rows) i }
     {
-        nth_of(&self.rows, &self.index, client, i)
+        nth_of(&self.rows, client, i)
     }
 
     /// The least address from `first` to `last` that has no row.
@@ -142,15 +138,14 @@ impl Rows {
     pub fn next_from(&self, address: u32) -> Option<&Row>
         ensures { IsNext self.now.rows address (option_copied result) }
     {
-        self.at(place_of(&self.rows, address))
+        self.at(self.rows.place_of(address))
     }
 
     /// Whether a row can be set without memory: its address has one, or there is room for one more.
     pub fn spare(&self, row: &Row) -> bool
         ensures { result ≡ spare self.now row.now }
     {
-        find(&self.rows, row.address).is_some()
-            || (self.rows.len() < self.rows.capacity() && self.index.len() < self.index.capacity())
+        find(&self.rows, row.address).is_some() || self.rows.has_room()
     }
 
     /// Makes room, so that a row can be set without memory.
@@ -165,8 +160,7 @@ impl Rows {
         ensures needed { OnErr result (spare self.old row.now ≡ false) }
     {
         if !self.spare(row) {
-            self.rows.reserve(1)?;
-            self.index.reserve(1)?;
+            self.rows.reserve()?;
         }
         Ok(())
     }
@@ -183,7 +177,7 @@ impl Rows {
     {
         self.latest = row.changed;
         self.least = self.least.min(row.ends);
-        put_row(&mut self.rows, &mut self.index, row);
+        put_row(&mut self.rows, row);
     }
 }
 

@@ -1,12 +1,12 @@
-use Rattle.std.proofs.Common.{arith, ◌∙◌}
-use Rattle.kd_rows.proofs.Places.{absent_at, is_at, same_at}
+use Rattle.std.proofs.Common.{arith, sym, ◌∙◌}
+use Rattle.kd_rows.proofs.Places.{absent_at, is_at, read_at}
 use Rattle.kd_rows.proofs.find.find.Goals as goal
-use Rattle.kd_rows.proofs.find.find.Goals.{else-place-rows-via-then-place-rows+else-rows-place, else-place-rows-via-else-place-rows}
+use Rattle.kd_rows.proofs.find.find.Goals.{else-place-len-via-then-place-len+else-row-address, else-place-len-via-else-place-len}
 
-pub returns-then-rows-place : goal.returns-then-rows-place
-returns-then-rows-place c =
-    is_at _ _ _ c.requires c.if-place-rows.true (λ d. same_at _ _ d _ c.if-place-rows.true ∙ c.if-rows-place.true)
+pub returns-then-row-address : goal.returns-then-row-address
+returns-then-row-address c =
+    is_at _ _ _ c.requires (omega arith) (λ d. read_at c.args.rows.now.rows c.place_of-place.result c.row.result.now d (omega arith) c.row.ensures ∙ c.if-row-address.true)
 
-pub returns-else-place-rows : goal.returns-else-place-rows
-returns-else-place-rows c = absent_at _ _ _ c.requires c.place_of-place.ensures
-    (λ d within e. elim c.else-place-rows.branch [ else-place-rows-via-then-place-rows+else-rows-place w ↦ w.if-rows-place.false (same_at _ _ w.index-rows-place.result d within ∙ e) | else-place-rows-via-else-place-rows w ↦ absurd (omega arith) ])
+pub returns-else-place-len : goal.returns-else-place-len
+returns-else-place-len c = absent_at _ _ _ c.requires c.place_of-place.ensures
+    (λ d within e. elim c.else-place-len.branch [ else-place-len-via-then-place-len+else-row-address w ↦ w.if-row-address.false (sym (read_at c.args.rows.now.rows c.place_of-place.result w.row.result.now d within w.row.ensures) ∙ e) | else-place-len-via-else-place-len w ↦ absurd (omega arith) ])

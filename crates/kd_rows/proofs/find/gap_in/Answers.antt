@@ -2,12 +2,12 @@ use Rattle.std.proofs.Common.{arith}
 use Rattle.kd_rows.proofs.Places.{run_ends, run_has, run_less, run_more}
 use Rattle.kd_rows.proofs.find.gap_in.Goals as goal
 
-pub halves-preserved-then-rows-middle : goal.halves-preserved-then-rows-middle
-halves-preserved-then-rows-middle c = record {
+pub halves-preserved-then-row-first : goal.halves-preserved-then-row-first
+halves-preserved-then-row-first c = record {
   from_start = omega arith;
   order = omega arith;
   in_range = omega arith;
-  below = run_more _ _ _ _ c.index-rows-middle.result c.requires.rise c.place_of-start.ensures (omega arith) (omega arith) c.if-rows-middle.true;
+  below = run_more _ _ _ _ c.row.result.now c.requires.rise c.place_of-start.ensures (omega arith) (omega arith) c.row.ensures c.if-row-first.true;
   above = c.halves.invariant.above;
 }
 
@@ -17,7 +17,7 @@ halves-preserved c = record {
   order = omega arith;
   in_range = omega arith;
   below = c.halves.invariant.below;
-  above = run_less _ _ _ _ c.index-rows-middle.result c.requires.rise c.place_of-start.ensures (omega arith) (omega arith) c.if-rows-middle.false;
+  above = run_less _ _ _ _ c.row.result.now c.requires.rise c.place_of-start.ensures (omega arith) (omega arith) c.row.ensures c.if-row-first.false;
 }
 
 pub returns-then-run-last : goal.returns-then-run-last

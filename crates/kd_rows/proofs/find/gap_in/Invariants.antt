@@ -6,9 +6,9 @@ abbrev pub invariant-halves : goal.invariant-halves
 invariant-halves l = record {
   from_start : l.start ≤ l.low;
   order : l.low ≤ l.high;
-  in_range : l.high ≤ length l.rows;
-  below : (i : ℕ) (d : Row) → l.start ≤ i → i < l.low → (get_or l.rows i d).address ≡ l.first + (i - l.start);
-  above : (i : ℕ) (d : Row) → l.high ≤ i → i < length l.rows → l.first + (i - l.start) < (get_or l.rows i d).address;
+  in_range : l.high ≤ length l.rows.rows;
+  below : (i : ℕ) (d : Row) → l.start ≤ i → i < l.low → (get_or l.rows.rows i d).address ≡ l.first + (i - l.start);
+  above : (i : ℕ) (d : Row) → l.high ≤ i → i < length l.rows.rows → l.first + (i - l.start) < (get_or l.rows.rows i d).address;
 }
 
 abbrev pub decreases-halves : goal.decreases-halves

@@ -10,7 +10,7 @@ pub invariant_of-self : goal.invariant_of-self
 invariant_of-self c =
     let e = sym c.put_row.ensures.rows in
     let late = subst (λ (t : Table). latest_of t.rows ≤ c.args.row.changed) (sym c.self.view_is) c.requires.changed in
-    let old = c.self.inside.rows.items in
+    let old = c.self.inside.rows.rows in
     record {
       rise = subst Rise e (rise-with_row c.args.row old c.self.invariant.rise);
       ranged = subst (All IsInRange) e (all-with_row IsInRange c.args.row old c.requires.range c.self.invariant.ranged);

@@ -3,7 +3,7 @@ use Rattle.kd_rows.specs.declared.row.Row.{Row}
 use Rattle.kd_rows.specs.Index.{AreKeys}
 use Rattle.kd_rows.proofs.Places.{from_on}
 use Rattle.kd_rows.proofs.Sorting.{keys_more, one_key}
-use Rattle.kd_rows.proofs.index.keys_of.Goals as goal
+use Rattle.kd_rows.proofs.numbers.keys_of.Goals as goal
 
 pub key_of-requires : goal.key_of-requires
 key_of-requires c =

@@ -2,7 +2,7 @@ use Rattle.std.proofs.Common.{subst, sym, ap, map, ◌∙◌, arith}
 use Rattle.std.proofs.lemmas.List.{take_all}
 use Rattle.kd_rows.specs.Index.{IsByClient}
 use Rattle.kd_rows.proofs.Sorting.{sorted_numbers}
-use Rattle.kd_rows.proofs.index.numbers_by_client.Goals as goal
+use Rattle.kd_rows.proofs.numbers.numbers_by_client.Goals as goal
 
 pub returns : goal.returns
 returns c = subst (IsByClient c.args.rows.now.items) (sym (c.loop-key.invariant ∙ ap (map (λ x. x.2)) (take_all c.loop-key.key-index c.deref-key-items.result.now (omega arith) ∙ c.deref-key-items.ensures.value)))

@@ -1,5 +1,5 @@
 use Rattle.std.proofs.Common.{◌≡◌, map, take}
-use Rattle.kd_rows.proofs.index.numbers_by_client.Given as goal
+use Rattle.kd_rows.proofs.numbers.numbers_by_client.Given as goal
 
 abbrev pub invariant-loop-key : goal.invariant-loop-key
 invariant-loop-key l = l.numbers.items ≡ map (λ x. x.2) (take l.key-index l.key-items)

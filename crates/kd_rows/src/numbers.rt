@@ -1,0 +1,72 @@
+ghost use Rattle.std.specs.Prelude.{◌≡◌, ◌<◌, ◌≤◌, ◌^◌, IfOk, length};
+ghost use Rattle.kd_rows.specs.Index.{AreKeys, IsByAddress, IsByClient, rows_in};
+ghost use Rattle.kd_rows.specs.Table.{Rise};
+
+use crate::row::Row;
+use std::alloc::AllocError;
+
+// The number of a row at an address. There is a row for each address at most, so it has 32 bits as
+// the address has.
+pub(crate) fn number_of(slot: usize, address: u32) -> u32
+    requires { address < 2 ^ 32 → slot < 2 ^ 32 }
+    ensures number { result ≡ slot }
+    ensures bound { address < 2 ^ 32 }
+{
+    slot as u32
+}
+
+// The numbers of rows that rise in address, in their order.
+pub(crate) fn numbers_by_address(rows: &Vec<Row>) -> Result<Vec<u32>, AllocError>
+    requires { Rise rows.now.items }
+    ensures by_address { IfOk result (λ numbers. IsByAddress rows.now.items numbers.items) }
+    ensures same { IfOk result (λ numbers. rows_in rows.now.items numbers.items ≡ rows.now.items) }
+{
+    let mut numbers = Vec::new(*rows.allocator());
+    numbers.reserve_exact(rows.len())?;
+    for i in 0..rows.len() {
+        numbers.push(number_of(i, rows[i].address))?;
+    }
+    Ok(numbers)
+}
+
+// The key of a row with its number.
+fn key_of(row: &Row, number: usize) -> (&[u8], u32, u32)
+    requires { number ≤ row.now.address }
+    ensures client { result.0.now ≡ row.now.client }
+    ensures address { result.1 ≡ row.now.address }
+    ensures number { result.2 ≡ number }
+{
+    (
+        row.client.as_slice(),
+        row.address,
+        number_of(number, row.address),
+    )
+}
+
+// The keys of rows, each with the number of its row.
+fn keys_of(rows: &Vec<Row>) -> Result<Vec<(&[u8], u32, u32)>, AllocError>
+    requires { Rise rows.now.items }
+    ensures { IfOk result (λ keys. AreKeys (λ x. (x.0.now, x.1)) (λ x. x.2) rows.now.items (length rows.now.items) keys.items) }
+{
+    let mut keys = Vec::new(*rows.allocator());
+    keys.reserve_exact(rows.len())?;
+    for i in 0..rows.len() {
+        keys.push(key_of(&rows[i], i))?;
+    }
+    Ok(keys)
+}
+
+// The numbers of rows in the order of their keys.
+pub(crate) fn numbers_by_client(rows: &Vec<Row>) -> Result<Vec<u32>, AllocError>
+    requires { Rise rows.now.items }
+    ensures { IfOk result (λ numbers. IsByClient rows.now.items numbers.items) }
+{
+    let mut keys = keys_of(rows)?;
+    keys.sort_unstable();
+    let mut numbers = Vec::new(*rows.allocator());
+    numbers.reserve_exact(keys.len())?;
+    for key in &keys {
+        numbers.push(key.2)?;
+    }
+    Ok(numbers)
+}
