@@ -6,6 +6,7 @@
 #![tactic(auto)]
 
 mod ahead;
+mod bytes;
 mod ends;
 mod fault;
 mod line;
@@ -17,6 +18,7 @@ mod serves;
 mod text;
 mod writing;
 
+pub use bytes::replay_bytes;
 pub use ends::{EndFailed, Sink, Source};
 pub use fault::{ReplayFault, ServeFault};
 pub use replaying::replay_with;

@@ -1,0 +1,80 @@
+ghost use Rattle.std.specs.Prelude.{◌≡◌, [], true};
+ghost use Rattle.kd_replay.specs.Lines.{lines_of};
+ghost use Rattle.kd_replay.specs.Replay.{Replays};
+
+use crate::ends::{EndFailed, Sink, Source};
+use crate::fault::ReplayFault;
+use crate::replaying::replay_with;
+use crate::serves::Serves;
+use std::alloc::Global;
+
+// Bytes in memory, as the source of a replay.
+#[derive(Drop)]
+struct Held<'a> {
+    rest: &'a [u8],
+}
+
+impl Source for Held<'_> {
+    ghost use Rattle.std.specs.Prelude.{Some, false};
+
+    ghost remaining = { λ s. Some s.rest.now };
+
+    ghost has_failed = { λ s. false };
+
+    fn read(&mut self, buf: &mut [u8]) -> Result<usize, EndFailed> {
+        let count = buf.len().min(self.rest.len());
+        let (front, behind) = self.rest.split_at(count);
+        buf[..count].copy_from_slice(front);
+        self.rest = behind;
+        Ok(count)
+    }
+}
+
+// Bytes in memory, as the sink of a replay.
+#[derive(Drop)]
+struct Kept {
+    bytes: Vec<u8>,
+    failed: bool,
+}
+
+impl Sink for Kept {
+    ghost use Rattle.std.specs.Prelude.{Some};
+
+    ghost contents = { λ s. Some s.bytes.items };
+
+    ghost has_failed = { λ s. s.failed };
+
+    fn write(&mut self, bytes: &[u8]) -> Result<usize, EndFailed> {
+        match self.bytes.extend_from_slice(bytes) {
+            Ok(()) => Ok(bytes.len()),
+            Err(_) => {
+                self.failed = true;
+                Err(EndFailed)
+            }
+        }
+    }
+}
+
+/// Replays the events of an input in memory, and gives what is written beside how the replay ends. What it says has no
+/// premise on its ends.
+///
+/// # Errors
+///
+/// Those of `replay_with`: `Read` where the input has more than 1,000,000 lines, and `Write` where there is no memory
+/// for what is written.
+pub fn replay_bytes<H: Serves>(
+    alloc: Global,
+    input: &[u8],
+    server: &mut H,
+) -> (Vec<u8>, Result<u64, ReplayFault>)
+    ensures { Replays H.gives H.fails ⊥ result.1 (lines_of input.now) server.old server.new [] result.0.items }
+{
+    let mut source = Held { rest: input };
+    let mut sink = Kept {
+        bytes: Vec::new(alloc),
+        failed: false,
+    };
+    let done = replay_with(alloc, &mut source, &mut sink, server);
+    let Kept { bytes, failed: _ } = sink;
+    (bytes, done)
+}
