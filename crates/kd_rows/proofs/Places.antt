@@ -1,15 +1,10 @@
 -- The rows by their places: what is read at an address, and where one belongs.
 use Rattle.std.proofs.Common.{◌≡◌, ℕ, ◌+◌, ◌-◌, ◌<◌, ◌≤◌, ◌≢◌, List, [], ◌∷◌, length, get_or, zero, suc, refl, sym, ap, ◌∙◌, Some, None, IsSome, is_some, arith, slice_get, ◌⊎◌, inl, inr, ⊎_elim, subst}
-use Rattle.std.specs.Cmp.{nat_cmp_total}
 use Rattle.std.specs.List.{All}
-use Rattle.std.specs.List.Sorted.{IsNonDecreasingBy, IsPartitionPoint}
-use Rattle.std.specs.Ordering.{nat_cmp, ordering_index}
-use Rattle.std.specs.declared.cmp.Ordering.TheVariants.{Less, Greater}
 use Rattle.std.proofs.lemmas.Bool.{cases_eq, cases_lt}
 use Rattle.std.proofs.lemmas.Bool.Decides.{nat_tests}
 use Rattle.std.proofs.lemmas.List.{get_or_default}
 use Rattle.std.proofs.lemmas.Option.{slice_get_cases}
-use Rattle.std.proofs.lemmas.List.Sorted.{searchable_from_sorted}
 use Rattle.kd_rows.specs.declared.row.Row.{Row}
 use Rattle.kd_rows.specs.Row.{IsInRange}
 use Rattle.kd_rows.specs.Table.{IsNext, Rise, RiseFrom, row_at}
@@ -71,24 +66,6 @@ place_at rows a place rise within here = record {
   below = λ i d before. omega (arith, apart rows rise i place d (omega arith) within, here d);
   above = λ i d after inside. omega (arith, apart rows rise place i d after inside, here d);
 }
-
--- rows by their addresses against one: those below come first
-pub searchable : (rows : List Row) (a : ℕ) → Rise rows → IsNonDecreasingBy (λ (row : Row). ordering_index (nat_cmp row.address a)) rows
-searchable rows a rise =
-    searchable_from_sorted nat_cmp_total (λ (row : Row). row.address) rows a
-    (λ k d low high. let h = apart rows rise k (k + 1) d (omega arith) high in grind (arith, nat_tests))
-
-pub place_between : (rows : List Row) (a place : ℕ) → place ≤ length rows → IsPartitionPoint (λ (row : Row). nat_cmp row.address a ≡ Less) (λ (row : Row). nat_cmp row.address a ≡ Greater) rows place → IsPlace rows a place
-place_between rows a place within parts = record {
-  in_range = within;
-  below = λ i d before. let h = parts.0 i d (omega arith) before in less _ a h;
-  above = λ i d after inside. let h = parts.1 i d after inside in greater _ a h;
-} where
-  less : (x y : ℕ) → nat_cmp x y ≡ Less → x < y
-  less x y h = grind (arith, nat_tests)
-
-  greater : (x y : ℕ) → nat_cmp x y ≡ Greater → y ≤ x
-  greater x y h = grind (arith, nat_tests)
 
 -- the search for a place: where the row in the middle stands below an address, so do those before it
 pub below_more : (rows : List Row) (a middle : ℕ) (row : Row) → Rise rows → middle < length rows → row ≡ get_or rows middle row → row.address < a → (i : ℕ) (d : Row) → i < middle + 1 → (get_or rows i d).address < a

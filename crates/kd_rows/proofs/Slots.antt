@@ -22,11 +22,6 @@ slot_at slots n d within = get_or_default slots n (row_in [] 0) d within
 pub row_of_place : (slots : List Row) (numbers : List ℕ) (place : ℕ) (d : Row) → place < length numbers → get_or (rows_in slots numbers) place d ≡ row_in slots (get_or numbers place 0)
 row_of_place slots numbers place d within = get_or-map (row_in slots) numbers place 0 d within
 
--- a row that is read by its number
-pub read_slot : (slots : List Row) (numbers : List ℕ) (place number : ℕ) (row : Row) → IsByAddress slots numbers → place < length numbers → number ≡ get_or numbers place 0 → row ≡ get_or slots number row → row ≡ get_or (rows_in slots numbers) place row
-read_slot slots numbers place number row sorted within is read =
-    read ∙ sym (slot_at slots number row (subst (λ (n : ℕ). n < length slots) (sym is) (sorted.within place 0 within))) ∙ ap (row_in slots) is ∙ sym (row_of_place slots numbers place row within)
-
 -- another slot is read where a row is overwritten elsewhere
 overwritten : (slots : List Row) (n m : ℕ) (row : Row) → (m ≡ n → ⊥) → row_in (set slots n row) m ≡ row_in slots m
 overwritten slots n m row other = get_or-set_other slots n m row (row_in [] 0) other
