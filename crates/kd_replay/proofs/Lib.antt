@@ -4,3 +4,4 @@ pub mod Histories
 pub mod Looking
 pub mod Spelling
 pub mod Texts
+pub mod Unfailed
