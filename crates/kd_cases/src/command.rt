@@ -41,17 +41,21 @@ pub fn written(
 ) -> io::Result<Written> {
     let room = Room { rt, files, stores };
     match order(rt.alloc(), words) {
-        Ok(Order::Replay {
-            config,
-            token_dir,
-            store,
-        }) => served(room, &config, &token_dir, &store, Work::Replay(input)),
-        Ok(Order::Leases {
-            config,
-            token_dir,
-            store,
-            at,
-        }) => served(room, &config, &token_dir, &store, Work::Leases(at)),
+        Ok(
+            Order::Replay {
+                config,
+                token_dir,
+                store,
+            },
+        ) => served(room, &config, &token_dir, &store, Work::Replay(input)),
+        Ok(
+            Order::Leases {
+                config,
+                token_dir,
+                store,
+                at,
+            },
+        ) => served(room, &config, &token_dir, &store, Work::Leases(at)),
         Ok(order) => match answer(rt.alloc(), &order) {
             Ok(printed) => texts(rt.alloc(), &printed),
             Err(error) => unanswered(rt.alloc(), LineFault::from(error)),
@@ -160,11 +164,7 @@ fn listed<S: Keeps>(alloc: Global, server: &Server<S>, at: u64) -> io::Result<Wr
 }
 
 // The events of an input, replayed by a server.
-fn replayed<S: Keeps>(
-    alloc: Global,
-    server: &mut Server<S>,
-    input: &str,
-) -> io::Result<Written> {
+fn replayed<S: Keeps>(alloc: Global, server: &mut Server<S>, input: &str) -> io::Result<Written> {
     let mut out = Vec::new(alloc);
     let mut source = Input::over(input.as_bytes());
     let mut sink = Output::over(&mut out);

@@ -30,7 +30,11 @@ fn inform(alloc: Global, relay: &[u8; 4]) -> Result<Vec<u8>, AllocError> {
 }
 
 // Where the reply to an INFORM through a relay goes, with the moment at which it was handled.
-fn sent(alloc: Global, server: &mut Server<Fused>, relay: &[u8; 4]) -> Result<(u64, Destination), Fail> {
+fn sent(
+    alloc: Global,
+    server: &mut Server<Fused>,
+    relay: &[u8; 4],
+) -> Result<(u64, Destination), Fail> {
     let bytes = inform(alloc, relay)?;
     let handled = server.handle(1000, bytes.as_slice())?;
     match handled.response {

@@ -4,6 +4,7 @@
 //! `kd_server` replays the events of a source into a sink and lists the leases. This page ties them to the standard
 //! streams, to the files of a configuration and to the file of the leases.
 #![tactic(auto)]
+
 ghost use Rattle.std.specs.Prelude.{◌≡◌, false};
 
 use kd_answer::{Printed, answer, exit_status, replay_status};
@@ -20,17 +21,21 @@ use std::process::ExitCode;
 
 fn main(rt: HostRuntime) -> io::Result<ExitCode> {
     match ordered(&rt) {
-        Ok(Order::Replay {
-            config,
-            token_dir,
-            store,
-        }) => served(&rt, &config, &token_dir, &store, Work::Replay),
-        Ok(Order::Leases {
-            config,
-            token_dir,
-            store,
-            at,
-        }) => served(&rt, &config, &token_dir, &store, Work::Leases(at)),
+        Ok(
+            Order::Replay {
+                config,
+                token_dir,
+                store,
+            },
+        ) => served(&rt, &config, &token_dir, &store, Work::Replay),
+        Ok(
+            Order::Leases {
+                config,
+                token_dir,
+                store,
+                at,
+            },
+        ) => served(&rt, &config, &token_dir, &store, Work::Leases(at)),
         Ok(order) => match answer(rt.alloc(), &order) {
             Ok(printed) => print(&rt, &printed),
             Err(error) => unanswered(&rt, LineFault::from(error)),
