@@ -1,5 +1,5 @@
 #!/usr/bin/env python3
-"""Judges cases of `kdhcp replay` by judge.py: does each have the lines that judge.py prints?
+"""Judges cases of `kdhcp replay` and `kdhcp leases` by judge.py: does each have the lines that judge.py prints?
 
     cases.py [FILE ..]     files of cases (crates/kd_cases/README.md); without any, the cases of leases
 
@@ -68,10 +68,23 @@ def cases(lines):
         yield case
 
 
-def judged(case):
-    """What judge.py prints for a case's events, and its fault."""
+def word_behind(words, flag):
+    return words[words.index(flag) + 1] if flag in words else None
+
+
+def judged(case, stores):
+    """What judge.py prints for a case, and its fault; the rows of a store stay for the next case with its name."""
+    store = word_behind(case["words"], "--store")
+    rows = stores.get(store, [])
+    if case["words"][0] == "leases":
+        moment = int(word_behind(case["words"], "--at"))
+        if moment >= judge.END_OF_TIME:
+            return [], ["fault 90 MomentTooLarge"]
+        return judge.lease_lines(rows, moment), []
     root = json.loads(case["config"])["Dhcp4"] if case["config"] else judge.BUILT_IN
-    out, _, fault = judge.replay(root, case["events"])
+    out, rows, fault = judge.replay(root, case["events"], rows)
+    if store is not None:
+        stores[store] = rows
     return out, [fault] if fault else []
 
 
@@ -79,11 +92,12 @@ def main():
     paths = sys.argv[1:] or sorted(glob.glob(f"{DATA}/leases_*.cases"))
     well, badly = 0, 0
     for path in paths:
+        stores = {}
         with open(path, encoding="utf-8") as file:
             for case in cases(list(file)):
-                if case["words"][:1] != ["replay"]:
+                if case["words"][:1] not in (["replay"], ["leases"]):
                     continue
-                out, fault = judged(case)
+                out, fault = judged(case, stores)
                 if out == case["wanted"] and fault == case["fault"]:
                     well += 1
                     continue

@@ -427,9 +427,9 @@ def event_of(line):
     return int(parts.group(1)), bytes.fromhex(parts.group(2))
 
 
-def replay(root, lines):
+def replay(root, lines, rows=()):
     """What is printed for the lines up to the first fault, the rows behind them, and the fault's line or None."""
-    rows, out = [], []
+    rows, out = list(rows), []
     for count, line in enumerate(lines, 1):
         event = event_of(line)
         if event is None:
