@@ -3,7 +3,8 @@
 
     cases.py [FILE ..]     files of cases (crates/kd_cases/README.md); without any, the cases of leases
 
-Prints each case that is not as judge.py says, and how many there are. Cases of other commands are left out.
+Prints each case that is not as judge.py says, and how many there are. Cases of other commands are left out, and those
+that want a fault of words, files or a configuration.
 """
 import glob
 import json
@@ -42,7 +43,7 @@ def cases(lines):
             yield case
             case = None
         if text.startswith("$ kdhcp"):
-            words = text.split(" ")[2:]
+            words = text.replace("=", " ").split(" ")[2:]
             config = files.get(words[words.index("--config") + 1]) if "--config" in words else None
             case = {"line": count, "words": words, "config": config, "events": [], "wanted": [], "fault": []}
             case["remark"] = remark
@@ -72,6 +73,12 @@ def word_behind(words, flag):
     return words[words.index(flag) + 1] if flag in words else None
 
 
+def is_judged(case):
+    """Whether a case is of events or of leases, with no fault but those of moments and lines."""
+    numbers = [fault.split(" ")[1] for fault in case["fault"]]
+    return case["words"][:1] in (["replay"], ["leases"]) and all(number in ("90", "96", "97") for number in numbers)
+
+
 def judged(case, stores):
     """What judge.py prints for a case, and its fault; the rows of a store stay for the next case with its name."""
     store = word_behind(case["words"], "--store")
@@ -95,7 +102,7 @@ def main():
         stores = {}
         with open(path, encoding="utf-8") as file:
             for case in cases(list(file)):
-                if case["words"][:1] not in (["replay"], ["leases"]):
+                if not is_judged(case):
                     continue
                 out, fault = judged(case, stores)
                 if out == case["wanted"] and fault == case["fault"]:
