@@ -99,7 +99,8 @@ fn put_lease(alloc: Global, out: &mut String, lease: &Lease) -> Result<(), Alloc
     put_bytes(alloc, out, row.client.as_slice())?;
     put_moments(out, row.changed, row.ends)?;
     out.push_str(live_word(*live))?;
-    out.push_str("\n")
+    out.push_str("\n")?;
+    Ok(())
 }
 
 // The address, in decimal.
