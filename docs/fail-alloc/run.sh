@@ -1,6 +1,6 @@
 #!/usr/bin/env bash
 # Refuses each request for memory in turn: of the built program over many command lines, where the answer
-# must be `fault 91 Memory` or the one that it gives with ample memory; and of the tests that expect such
+# must be `fault 91 Memory`, the store's `Sql`, or the one that it gives with ample memory; and of the tests that expect such
 # a refusal, once more in the call that they repeat. Run it at the top, after `rt ci`; it needs cc.
 set -euo pipefail
 cd "$(dirname "${BASH_SOURCE[0]}")/../.."
@@ -10,6 +10,14 @@ cc -shared -fPIC -O1 -o "$room/fail.so" docs/fail-alloc/fail.c
 
 asked_by() { FAIL_TELL=1 LD_PRELOAD=$room/fail.so "$@" 2>&1 >/dev/null </dev/null | sed -n 's/^asked=//p'; }
 
+# Want of memory: 91, or within the store of leases that of its calls, Sql 81, alone or in what came of it.
+is_memory() {
+    case $1 in
+        "1 fault 91 Memory" | "4 fault 81 Sql" | "4 fault 92 Store Sql" | "4 fault 96 Serve Store Sql") true ;;
+        *) false ;;
+    esac
+}
+
 all=0 memory=0 same=0 other=0
 each_refusal() {
     local words=("$@") want status n
@@ -18,7 +26,7 @@ each_refusal() {
         local got now=0
         got=$(FAIL_AT=$n LD_PRELOAD=$room/fail.so "${words[@]}" 2>&1 </dev/null) || now=$?
         all=$((all + 1))
-        if [ "$now $got" = "1 fault 91 Memory" ]; then memory=$((memory + 1))
+        if is_memory "$now $got"; then memory=$((memory + 1))
         elif [ "$now $got" = "$status $want" ]; then same=$((same + 1))
         else
             other=$((other + 1))
@@ -59,7 +67,7 @@ for text in "{" '{"Dhcp4":{}}' "{\"Dhcp4\":{$builtin,$(subnet "$pool")}}" "{\"Dh
 done
 echo "configurations: runs=$all memory=$memory same=$same other=$other"
 
-# A replay writes whole lines of the events before the one that met the refusal, and answers 91.
+# A replay writes whole lines of the events before the one that met the refusal, and answers 91, or the store's Sql.
 all=0 memory=0 same=0 other=0
 each_refusal_of_replay() {
     local lines=$1 replies=$2 asked n status
@@ -70,7 +78,7 @@ each_refusal_of_replay() {
         FAIL_AT=$n LD_PRELOAD=$room/fail.so "${run[@]}" <"$lines" >"$room/out" 2>"$room/err" || status=$?
         all=$((all + 1))
         if [ $status = 0 ] && cmp -s "$room/out" "$replies"; then same=$((same + 1))
-        elif [ $status = 1 ] && [ "$(cat "$room/err")" = "fault 91 Memory" ] &&
+        elif is_memory "$status $(cat "$room/err")" &&
             head -n "$(wc -l <"$room/out")" "$replies" | cmp -s - "$room/out"; then memory=$((memory + 1))
         else
             other=$((other + 1))
@@ -79,6 +87,7 @@ each_refusal_of_replay() {
     done
 }
 each_refusal_of_replay examples/replay/informs.lines examples/replay/informs.replies
+each_refusal_of_replay examples/replay/leases.lines examples/replay/leases.replies
 for folder in crates/kd_cases/data/examples/*/; do
     each_refusal_of_replay "$folder/events.lines" "$folder/replies.lines" \
         --config "$folder/config.json" --token-dir "$folder"
