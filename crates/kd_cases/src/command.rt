@@ -114,7 +114,10 @@ fn served(
         Ok(config) => config,
         Err(fault) => return failed(alloc, fault.number(), &fault),
     };
-    let name = store.as_deref().unwrap_or("");
+    let name = match store {
+        Some(name) => name.as_str(),
+        None => "",
+    };
     let store = match stores.take(alloc, name) {
         Ok(store) => store,
         Err(fault) => return failed(alloc, fault.number(), &fault),
