@@ -82,7 +82,7 @@ def is_judged(case):
 def judged(case, stores):
     """What judge.py prints for a case, and its fault; the rows of a store stay for the next case with its name."""
     store = word_behind(case["words"], "--store")
-    rows = stores.get(store, [])
+    rows = stores.get(store, judge.Rows())
     if case["words"][0] == "leases":
         moment = int(word_behind(case["words"], "--at"))
         if moment >= judge.END_OF_TIME:

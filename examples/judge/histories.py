@@ -253,7 +253,7 @@ def history(chance):
     """A configuration, events, and what judge.py says of them: lines, rows, and the fault that ends them or None."""
     root = configuration(chance)
     clients = [Client(chance) for _ in range(chance.choice([2, 3, 4]))]
-    rows, events, now = [], [], chance.choice([0, 100, 1000])
+    rows, events, now = judge.Rows(), [], chance.choice([0, 100, 1000])
     for _ in range(chance.randrange(1, 50)):
         moment, message = some_moment(chance, rows, now), datagram(chance, root, rows, clients)
         events.append(f"{moment} {message.hex()}")

@@ -47,11 +47,38 @@ class Row(NamedTuple):
     end: int
 
 
+class Rows(list):
+    """The table: a plain list of rows that is gone through for every question."""
+
+    def at(self, wanted):
+        """The row of an address, or None."""
+        for row in self:
+            if row.address == wanted:
+                return row
+        return None
+
+    def of(self, client):
+        """The rows of a client."""
+        return [row for row in self if row.client == client]
+
+    def latest(self):
+        """The greatest change, and 0 of no rows."""
+        return max([0] + [row.changed for row in self])
+
+    def with_row(self, new):
+        """The table with this row in place of that of its address."""
+        return Rows([row for row in self if row.address != new.address] + [new])
+
+    def in_order(self, asked):
+        """The addresses of the pools of the client's subnet that it may have."""
+        return [each for first, last in pools(asked) for each in range(first, last + 1) if fits(asked, each)]
+
+
 class Asked(NamedTuple):
     """A message with all that is needed to judge it."""
 
     root: dict
-    rows: list
+    rows: Rows
     now: int
     datagram: bytes
     found: dict
@@ -118,10 +145,7 @@ def subnet_of(root, datagram, held):
 
 def row_of(asked, wanted):
     """The row of an address, or None."""
-    for row in asked.rows:
-        if row.address == wanted:
-            return row
-    return None
+    return asked.rows.at(wanted)
 
 
 def is_live(row, now):
@@ -140,10 +164,6 @@ def holds_live(asked, row):
 def newest(rows):
     """Of rows the one of greatest change, of these the one of least address; None of none."""
     return min(rows, key=lambda row: (-row.changed, row.address), default=None)
-
-
-def with_row(rows, new):
-    return [row for row in rows if row.address != new.address] + [new]
 
 
 def changed_row(asked, address_of_row, client, state, seconds):
@@ -194,7 +214,7 @@ def choice(asked):
     fixed = reserved(asked)
     if fixed is not None and is_free(asked, fixed):
         return fixed
-    fitting = [row for row in asked.rows if row.client == asked.client and fits(asked, row.address)]
+    fitting = [row for row in asked.rows.of(asked.client) if fits(asked, row.address)]
     live = newest([row for row in fitting if holds_live(asked, row)])
     if live is not None:
         return live.address
@@ -204,7 +224,7 @@ def choice(asked):
     wanted = requested(asked)
     if wanted is not None and is_usable(asked, wanted):
         return wanted
-    in_order = [each for first, last in pools(asked) for each in range(first, last + 1) if fits(asked, each)]
+    in_order = asked.rows.in_order(asked)
     for each in in_order:
         if row_of(asked, each) is None:
             return each
@@ -243,7 +263,7 @@ def request(asked):
 
 def given_back(asked):
     """The row that a client's choice of another server sets: its newest offer is over."""
-    offers = [row for row in asked.rows if holds_live(asked, row) and row.state == "Offered"]
+    offers = [row for row in asked.rows.of(asked.client) if holds_live(asked, row) and row.state == "Offered"]
     row = newest(offers)
     return row and changed_row(asked, row.address, asked.client, "Released", 0)
 
@@ -269,7 +289,7 @@ def renewing(asked):
     first, last = prefix(asked.subnet["subnet"])
     if not first <= wanted <= last:
         return Plan("NAK", 0), None
-    if not any(row.client == asked.client and first <= row.address <= last for row in asked.rows):
+    if not any(first <= row.address <= last for row in asked.rows.of(asked.client)):
         return "9 NoRecord", None
     row = row_of(asked, wanted)
     if row is not None and row.client == asked.client and fits(asked, wanted):
@@ -389,7 +409,7 @@ def replied(asked, plan):
 
 def moment_of(rows, moment):
     """The moment of an event: no earlier than the latest change."""
-    return max([moment] + [row.changed for row in rows])
+    return max(moment, rows.latest())
 
 
 def judge(asked):
@@ -416,7 +436,7 @@ def handle(root, rows, moment, datagram):
     subnet = subnet_of(root, datagram, held)
     asked = Asked(root, rows, now, datagram, found, held, subnet, identity(datagram, found))
     words, row = judge(asked)
-    return f"{now} {words}", rows if row is None else with_row(rows, row)
+    return f"{now} {words}", rows if row is None else rows.with_row(row)
 
 
 def event_of(line):
@@ -429,7 +449,7 @@ def event_of(line):
 
 def replay(root, lines, rows=()):
     """What is printed for the lines up to the first fault, the rows behind them, and the fault's line or None."""
-    rows, out = list(rows), []
+    rows, out = Rows(rows), []
     for count, line in enumerate(lines, 1):
         event = event_of(line)
         if event is None:

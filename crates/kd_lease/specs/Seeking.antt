@@ -1,9 +1,14 @@
 -- Words of private contracts alone: what the rules are asked over as the code holds it, what is sought among
 -- a client's addresses and in pools, and the first of one rank.
-use Rattle.std.specs.Prelude.{◌≡◌, ℕ, ◌<◌, ◌≤◌, Bool, true, false, not, ◌&&◌, is_none, Option, Some, None, if◌then◌else◌}
+use Rattle.std.specs.Prelude.{◌≡◌, ℕ, ◌<◌, ◌≤◌, Bool, true, false, not, ◌&&◌, is_none, List, Option, Some, None, if◌then◌else◌}
+use Rattle.std.specs.Str.{bytes_eq}
+use Rattle.kd_config.specs.Address.{contains}
+use Rattle.kd_config.specs.declared.reservation.Identity.{Identity}
+use Rattle.kd_config.specs.declared.reservation.Identity.TheVariants.{Hardware, ClientId}
 use Rattle.kd_config.specs.declared.subnet.Subnet.{Subnet}
 use Rattle.kd_rows.specs.Table.{row_at}
-use Rattle.kd_lease.specs.Choice.{Asking, IsFirst, Rank, fits, has_rank, has_such, is_live, is_newer, is_past}
+use Rattle.kd_rows.specs.declared.row.Row.{Row}
+use Rattle.kd_lease.specs.Choice.{Asking, IsFirst, Rank, fits, has_rank, has_such, is_live, is_newer, is_past, is_reserved_in, is_value}
 use Rattle.kd_lease.specs.Choice.Rank.{own, past, fresh, expired}
 use Rattle.kd_lease.specs.Rules.{is_offer, is_record}
 use Rattle.kd_lease.specs.declared.seeking.Sought.{Sought}
@@ -34,6 +39,19 @@ IsRanked q s rank (Some a) = IsFirst q s rank a
 abbrev pub pool_rank : Bool → Rank
 pool_rank true = fresh
 pool_rank false = expired
+
+-- a client is this one, by its hardware address or by its identifier
+abbrev pub is_by : List ℕ → Option (List ℕ) → Identity → Bool
+is_by mac id (Hardware bytes) = bytes_eq mac bytes
+is_by mac id (ClientId bytes) = is_value bytes id
+
+-- a subnet has an address in its prefix and a reservation of it
+abbrev pub keeps : ℕ → Subnet → Bool
+keeps a s = contains s.prefix a && is_reserved_in a s
+
+-- a row has ended, and its address fits
+abbrev pub is_expired : Asking → Subnet → Row → Bool
+is_expired q s row = not (is_live q.now row) && fits q s row.address
 
 -- an address, where it is in a pool, has that rank
 abbrev pub is_open : Asking → Subnet → Bool → ℕ → Bool

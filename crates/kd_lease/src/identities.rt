@@ -34,7 +34,8 @@ fn hardware_identity(alloc: Global, htype: u8, mac: &[u8]) -> Result<Option<Byte
 fn joined(alloc: Global, front: &[u8], back: &[u8]) -> Result<Bytes, AllocError>
     ensures { IfOk result (λ bytes. bytes ≡ front.now ++ back.now) }
 {
-    let mut bytes = Vec::from_slice(alloc, front)?;
+    let mut bytes = Vec::with_capacity(alloc, front.len().saturating_add(back.len()))?;
+    bytes.extend_from_slice(front)?;
     bytes.extend_from_slice(back)?;
     Ok(Bytes::own(bytes))
 }

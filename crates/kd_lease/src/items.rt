@@ -12,6 +12,9 @@ use kd_config::Times;
 use kd_options::{Item, Items};
 use std::alloc::{AllocError, Global};
 
+// How many options a reply has, or more: no memory is taken twice for as many.
+const USUAL: usize = 12;
+
 // The options of a reply of a kind, which gives an address or none, in their order.
 #[tactic(auto, unfolding(crate::specs::ReplyOptions::reply_options))]
 pub(crate) fn reply_items(
@@ -24,7 +27,7 @@ pub(crate) fn reply_items(
 {
     let message = question.message;
     let server = question.config.server().to_be_bytes();
-    let mut list = Vec::new(alloc);
+    let mut list = Vec::with_capacity(alloc, USUAL)?;
     put_obligatory(alloc, &mut list, 53, &[reply_type(kind)])?;
     put_obligatory(alloc, &mut list, 54, &server)?;
     put_times(alloc, &mut list, kind, question.config.times())?;

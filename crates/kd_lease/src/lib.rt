@@ -17,6 +17,7 @@ mod given;
 mod identities;
 mod items;
 pub mod laws;
+mod places;
 mod plan;
 mod planned;
 mod pooling;

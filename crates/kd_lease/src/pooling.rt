@@ -1,10 +1,12 @@
 ghost use Rattle.std.specs.Prelude.{◌≡◌, true, false};
 ghost use Rattle.kd_lease.specs.Rules.{asking};
-ghost use Rattle.kd_lease.specs.Seeking.{IsLeastOpen, IsRanked, pool_rank};
+ghost use Rattle.kd_lease.specs.Seeking.{IsLeastOpen, IsRanked, is_expired, pool_rank};
 
 use crate::fitting::{fits, is_live};
+use crate::places::{place_of, row_in};
 use crate::question::Question;
 use kd_config::{Range, Subnet};
+use kd_rows::Row;
 
 // The first address in pool order that fits, where it has no row (`new`), or where its row has ended.
 pub(crate) fn pooled(question: &Question<'_>, subnet: &Subnet, new: bool) -> Option<u32>
@@ -59,24 +61,22 @@ fn least_expired(question: &Question<'_>, subnet: &Subnet, range: Range) -> Opti
     if question.moment < question.rows.least_end() {
         return None;
     }
-    let mut from = range.first;
-    while from <= range.last {
-        match question.rows.next_from(from) {
-            None => return None,
-            Some(row) => {
-                let address = row.address;
-                if address > range.last {
-                    return None;
-                }
-                if !is_live(question.moment, row) && fits(question, subnet, address) {
-                    return Some(address);
-                }
-                if address == range.last {
-                    return None;
-                }
-                from = address + 1;
-            }
+    let rows = question.rows;
+    for place in place_of(rows, range.first)..rows.len() {
+        let row = row_in(rows, place);
+        if row.address > range.last {
+            return None;
+        }
+        if is_expired(question, subnet, row) {
+            return Some(row.address);
         }
     }
     None
+}
+
+// A row has ended, and its address fits.
+fn is_expired(question: &Question<'_>, subnet: &Subnet, row: &Row) -> bool
+    ensures { result ≡ is_expired (asking question.now) subnet.now row.now }
+{
+    !is_live(question.moment, row) && fits(question, subnet, row.address)
 }

@@ -1,6 +1,8 @@
 ghost use Rattle.std.specs.Prelude.{◌≡◌};
+ghost use Rattle.std.specs.List.{list_any};
 ghost use Rattle.std.specs.Option.{option_copied};
-ghost use Rattle.kd_lease.specs.Choice.{is_from, is_reserved, is_reserved_in, is_value, reservation_of, reserved_address};
+ghost use Rattle.kd_lease.specs.Choice.{is_reserved, is_reserved_in, is_value, reservation_of, reserved_address};
+ghost use Rattle.kd_lease.specs.Seeking.{is_by, keeps};
 
 use kd_config::{Config, Identity, Reservation, Subnet};
 use kd_options::Message;
@@ -16,23 +18,26 @@ pub(crate) fn reserved_address(message: &Message<'_>, subnet: &Subnet) -> Option
 }
 
 // The first reservation of a subnet that is for the client of a message.
+#[tactic(auto, using(crate::proofs::Reserved::reservation_by))]
 fn reservation_of<'a>(message: &Message<'_>, subnet: &'a Subnet) -> Option<&'a Reservation>
     ensures { option_copied result ≡ reservation_of message.now subnet.now }
 {
+    let mac = message.mac();
+    let id = message.option(61);
     subnet
         .reservations
         .as_slice()
         .iter()
-        .find(|reservation| is_from(message, &reservation.identity))
+        .find(|reservation| is_by(mac, id, &reservation.identity))
 }
 
-// A message comes from this client.
-fn is_from(message: &Message<'_>, identity: &Identity) -> bool
-    ensures { result ≡ is_from message.now identity.now }
+// A client is this one, by its hardware address or by its identifier.
+fn is_by(mac: &[u8], id: Option<&[u8]>, identity: &Identity) -> bool
+    ensures { result ≡ is_by mac.now (option_copied id.entry) identity.now }
 {
     match identity {
-        Identity::Hardware(bytes) => message.mac() == bytes.as_slice(),
-        Identity::ClientId(bytes) => is_value(bytes.as_slice(), message.option(61)),
+        Identity::Hardware(bytes) => mac == bytes.as_slice(),
+        Identity::ClientId(bytes) => is_value(bytes.as_slice(), id),
     }
 }
 
@@ -50,10 +55,21 @@ fn is_value(bytes: &[u8], value: Option<&[u8]>) -> bool
 pub(crate) fn is_reserved(config: &Config, address: u32) -> bool
     ensures { result ≡ is_reserved config.now address }
 {
-    config
-        .subnets()
-        .iter()
-        .any(|subnet| is_reserved_in(address, subnet))
+    are_keeping(address, config.subnets())
+}
+
+// One of these subnets has an address in its prefix and a reservation of it.
+fn are_keeping(address: u32, subnets: &[Subnet]) -> bool
+    ensures { result ≡ list_any (keeps address) subnets.now }
+{
+    subnets.iter().any(|subnet| keeps(address, subnet))
+}
+
+// A subnet has an address in its prefix and a reservation of it.
+fn keeps(address: u32, subnet: &Subnet) -> bool
+    ensures { result ≡ keeps address subnet.now }
+{
+    subnet.prefix.contains(address) && is_reserved_in(address, subnet)
 }
 
 // A subnet has a reservation of this address.

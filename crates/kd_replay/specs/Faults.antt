@@ -1,5 +1,7 @@
--- The numbers of the faults of handling an event and of a replay.
+-- The numbers of the faults of handling an event, of a replay and of serving.
 use Rattle.std.specs.Prelude.{ℕ}
+use Rattle.kd_replay.specs.declared.fault.LoopFault.{LoopFault}
+use Rattle.kd_replay.specs.declared.fault.LoopFault.TheVariants as looping
 use Rattle.kd_replay.specs.declared.fault.ReplayFault.{ReplayFault}
 use Rattle.kd_replay.specs.declared.fault.ReplayFault.TheVariants as replaying
 use Rattle.kd_replay.specs.declared.fault.ServeFault.{ServeFault}
@@ -19,3 +21,10 @@ replay_fault_number replaying.Read = 94
 replay_fault_number replaying.Write = 95
 replay_fault_number (replaying.Serve fault) = 96
 replay_fault_number (replaying.BadLine number) = 97
+
+-- the number of each fault of serving
+abbrev pub loop_fault_number : LoopFault → ℕ
+loop_fault_number looping.Memory = 91
+loop_fault_number looping.Read = 94
+loop_fault_number looping.Write = 95
+loop_fault_number (looping.Serve fault) = 96

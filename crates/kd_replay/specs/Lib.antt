@@ -4,4 +4,5 @@ pub mod History
 pub mod Lines
 pub mod Parts
 pub mod Replay
+pub mod Serving
 pub mod Text

@@ -1,5 +1,5 @@
 ghost use Rattle.std.specs.Prelude.{◌≡◌};
-ghost use Rattle.kd_replay.specs.Faults.{replay_fault_number, serve_fault_number};
+ghost use Rattle.kd_replay.specs.Faults.{loop_fault_number, replay_fault_number, serve_fault_number};
 
 use kd_keeps::StoreFault;
 use std::alloc::AllocError;
@@ -102,5 +102,52 @@ impl From<AllocError> for ReplayFault {
 
     fn from(_error: AllocError) -> ReplayFault {
         ReplayFault::Memory
+    }
+}
+
+/// Why serving ends before its count.
+#[derive(Clone, Copy, PartialEq, Eq, Error)]
+pub enum LoopFault {
+    /// There is no memory to serve in, or for an event.
+    #[error("Memory")]
+    Memory,
+    /// Nothing can be received.
+    #[error("Read")]
+    Read,
+    /// The output can not be written.
+    #[error("Write")]
+    Write,
+    /// An event is not handled, for a fault that is not want of memory.
+    #[error("Serve {0}")]
+    Serve(ServeFault),
+}
+
+impl fmt::Debug for LoopFault {
+    fn fmt<W: fmt::Write>(&self, f: &mut fmt::Formatter<W>) -> fmt::Result {
+        fmt::Display::fmt(self, f)
+    }
+}
+
+impl LoopFault {
+    /// The fault's number: 91, or 94 to 96.
+    pub fn number(self) -> u8
+        ensures { result ≡ loop_fault_number self }
+    {
+        match self {
+            LoopFault::Memory => 91,
+            LoopFault::Read => 94,
+            LoopFault::Write => 95,
+            LoopFault::Serve(_) => 96,
+        }
+    }
+}
+
+impl From<AllocError> for LoopFault {
+    ghost use Rattle.kd_replay.specs.declared.fault.LoopFault.TheVariants.{Memory};
+
+    ghost from_gives = { λ _ e. e ≡ Memory };
+
+    fn from(_error: AllocError) -> LoopFault {
+        LoopFault::Memory
     }
 }

@@ -14,15 +14,12 @@ use crate::fault::{ReplayFault, ServeFault};
 use crate::line::event_in;
 use crate::lines::{Found, LINE_LIMIT, next_line};
 use crate::serves::Serves;
-use crate::text::put_line;
+use crate::text::{LINE_ROOM, put_line};
 use crate::writing::write_all;
 use kd_event::{Event, Handled};
 use std::alloc::{AllocError, Global};
 
 const MOST_LINES: u64 = 1_000_000;
-
-// The most bytes of an output line, with its line feed.
-const LINE_ROOM: usize = 4_096;
 
 // The memory that a replay works in, all of it taken at the start.
 #[derive(Drop)]

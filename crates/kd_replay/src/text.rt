@@ -1,11 +1,32 @@
-ghost use Rattle.std.specs.Prelude.{◌≡◌, ◌+◌, ◌≤◌, ◌++◌, length, codes, decimal, vec_capacity};
+ghost use Rattle.std.specs.Prelude.{◌≡◌, ◌+◌, ◌≤◌, ◌++◌, IfOk, length, codes, decimal, vec_capacity};
 ghost use Rattle.hex.specs.Hex.{encode_lower};
 ghost use Rattle.kd_event.specs.Reason.{reason_name, reason_number};
-ghost use Rattle.kd_replay.specs.Text.{address_text, bytes_text, destination_text, line_of, mode_word, quiet_line, reply_line, response_text};
+ghost use Rattle.kd_replay.specs.Text.{IsSmall, address_text, bytes_text, destination_text, line_of, mode_word, quiet_line, reply_line, response_text};
 
 use crate::room::put;
 use itoa::Buffer;
 use kd_event::{Destination, Handled, Mode, Reason, Response};
+use std::alloc::{AllocError, Global};
+
+// The most bytes of an output line, with its line feed.
+pub(crate) const LINE_ROOM: usize = 4_096;
+
+/// The line that a replay writes for a handled event, with its line feed.
+///
+/// # Errors
+///
+/// There is no memory for it.
+#[tactic(auto, using(crate::proofs::Fitting::handled_fits))]
+pub fn event_line(alloc: Global, handled: &Handled) -> Result<Vec<u8>, AllocError>
+    requires { IsSmall handled.now.response }
+    ensures { IfOk result (λ line. line.items ≡ line_of handled.entry.now) }
+{
+    // It is below 2^64, so that it has at most 20 digits.
+    let _moment = handled.now;
+    let mut line = Vec::with_capacity(alloc, LINE_ROOM)?;
+    put_line(&mut line, handled);
+    Ok(line)
+}
 
 // The line of a handled event, with its line feed; no memory is taken.
 #[tactic(auto, unfolding(crate::specs::Text::line_of))]

@@ -1,4 +1,5 @@
 pub mod LiveLeases
+pub mod Lives
 pub mod Overlap
 pub mod Ruled
 pub mod Stopping

@@ -1,5 +1,6 @@
 pub mod Keeping
 pub mod Leases
+pub mod Lives
 pub mod NoOverlap
 pub mod Step
 pub mod Turn

@@ -11,8 +11,10 @@ pub mod laws;
 mod leases;
 mod replaying;
 mod server;
+mod serving;
 mod turning;
 
 pub use leases::{Lease, lease_lines};
 pub use replaying::replay;
 pub use server::Server;
+pub use serving::serve;

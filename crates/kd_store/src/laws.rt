@@ -1,9 +1,10 @@
 //! What holds over several calls, and over a crash.
 ghost use Rattle.std.specs.Prelude.{◌≡◌, false, List, [], IfOk, OnOk, is_err};
+ghost use Rattle.sqlite.specs.Files.{file_state};
 ghost use Rattle.sqlite.specs.Held.{state};
 ghost use Rattle.sqlite.specs.View.{IsClean};
 ghost use Rattle.kd_rows.specs.declared.row.Row.{Row as LeaseRow};
-ghost use Rattle.kd_store.specs.Laws.{LetGo, Reopens};
+ghost use Rattle.kd_store.specs.Laws.{LetGo, Reopens, StandsAgain, StandsOnce};
 ghost use Rattle.kd_rows.specs.Row.{IsInRange};
 ghost use Rattle.kd_rows.specs.Table.{with_row};
 ghost use Rattle.sqlite.specs.State.{HasCleanDisk};
@@ -15,6 +16,7 @@ use kd_keeps::{Keeps, StoreFault};
 use kd_rows::Row;
 use sqlite::{Alter, Connection};
 use sqlite_disk::Disk;
+use sqlite_store::FileStore;
 use std::alloc::Global;
 
 /// Two rows, set one after the other. That the disk is clean after both is premise enough for each.
@@ -68,3 +70,24 @@ pub fn let_go<S: Alter + Drop>(conn: Connection<S>) -> S
 pub fn reopens<D: Disk, E: Disk>()
     ensures { Reopens D.Disk E.Disk }
 {}
+
+/// A connection stands at one table only.
+pub fn stands_once<E: Disk>()
+    ensures { StandsOnce E.Disk }
+{}
+
+/// The store over a connection. Where that was opened on what a crash left of such a file, the store stands at
+/// the table from before the last call or at the one after it.
+///
+/// # Errors
+///
+/// Those of `open`.
+pub fn open_again<D: Disk, E: Disk>(
+    alloc: Global,
+    conn: Connection<FileStore<E>>,
+) -> Result<Store<FileStore<E>>, (StoreFault, Connection<FileStore<E>>)>
+    requires ready { (file_state conn).in_transaction ≡ false }
+    ensures { IfOk result (λ store. StandsAgain D.Disk E.Disk conn store.conn) }
+{
+    Store::open(alloc, conn)
+}

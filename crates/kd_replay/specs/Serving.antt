@@ -1,0 +1,112 @@
+-- Datagrams that are served one after another as they are received: what is handled, sent and written.
+use Rattle.std.specs.Prelude.{◌≡◌, ◌≢◌, ℕ, ◌≤◌, Bool, true, false, List, [], ◌∷◌, ◌++◌, ◌⊎◌, Option, None, Some, codes, length, map}
+use Rattle.std.specs.List.{flat_map}
+use Rattle.std.specs.Io.KnownBytes.{Appends}
+use Rattle.kd_replay.specs.History.{History}
+use Rattle.kd_replay.specs.Parts.{WritesPart}
+use Rattle.kd_replay.specs.Text.{line_of}
+use Rattle.kd_event.specs.declared.destination.Destination.{Destination}
+use Rattle.kd_event.specs.declared.event.Event.{Event}
+use Rattle.kd_event.specs.declared.event.Handled.{Handled}
+use Rattle.kd_event.specs.declared.event.Response.{Response}
+use Rattle.kd_event.specs.declared.event.Response.TheVariants as responses
+use Rattle.kd_replay.specs.declared.fault.LoopFault.{LoopFault}
+use Rattle.kd_replay.specs.declared.fault.LoopFault.TheVariants as faults
+use Rattle.kd_replay.specs.declared.fault.ServeFault.{ServeFault}
+use Rattle.kd_replay.specs.declared.fault.ServeFault.TheVariants as serving
+
+-- a datagram that was handed over to be sent, and where it goes
+pub record Packet : Type 0 where
+  pub destination : Destination
+  pub bytes : List ℕ
+
+-- what is sent for a response
+abbrev pub packets_of : Response → List Packet
+packets_of (responses.Reply destination bytes) = record { destination = destination; bytes = bytes } ∷ []
+packets_of (responses.Quiet reason) = []
+
+-- a list that is known has grown by some entries
+abbrev pub Grows : {X : Type 0} → Option (List X) → Option (List X) → List X → Type 0
+Grows None new more = Unit {0}
+Grows (Some old) new more = new ≡ Some (old ++ more)
+
+-- the line that says that a reply could not be sent
+abbrev pub send_fault : List ℕ
+send_fault = codes "fault 99 Send\n"
+
+-- what is written behind the line of a datagram, by whether its reply was lost
+abbrev pub lost_text : Bool → List ℕ
+lost_text true = send_fault
+lost_text false = []
+
+-- what is written for a handled datagram: its line, and where its reply could not be sent the line that says so
+abbrev pub IsTextOf : Response → List ℕ → List ℕ → Type 0
+IsTextOf (responses.Reply destination bytes) line text = (text ≡ line) ⊎ (text ≡ line ++ send_fault)
+IsTextOf (responses.Quiet reason) line text = text ≡ line
+
+-- texts of handled datagrams, one behind another
+abbrev pub AreTextsOf : List Handled → List ℕ → Type 0
+AreTextsOf [] text = text ≡ []
+AreTextsOf (handled ∷ list) text =
+    (first : List ℕ) × (rest : List ℕ) × (text ≡ first ++ rest) × IsTextOf handled.response (line_of handled) first × AreTextsOf list rest
+
+-- what has come and gone so far, where it is known: the datagrams received, those handed over to be sent, and the bytes
+-- written
+pub record Traffic : Type 0 where
+  pub received : Option (List (List ℕ))
+  pub sent : Option (List Packet)
+  pub written : Option (List ℕ)
+
+-- the relation that says what one event gives
+module _ {H : Type 0} (gives : H → Event → Handled → H → Type 0) where
+  -- so many datagrams were served: they are events that have a history, their replies were handed over to be sent, and
+  -- what was written is the texts of them, in that order
+  pub record HasServed (count : ℕ) (server new : H) (old out : Traffic) : Type 0 where
+    pub events : List Event
+    pub list : List Handled
+    pub counted : length events ≡ count
+    pub history : History gives server events list new
+    pub received : Grows old.received out.received (map (λ e. e.bytes) events)
+    pub sent : Grows old.sent out.sent (flat_map (λ h. packets_of h.response) list)
+    pub text : List ℕ
+    pub texts : AreTextsOf list text
+    pub written : Appends old.written out.written text
+
+  -- one datagram was handled and its reply handed over to be sent; of its text a front was written
+  pub record HasCut (server new : H) (old out : Traffic) : Type 0 where
+    pub event : Event
+    pub handled : Handled
+    pub given : gives server event handled new
+    pub received : Grows old.received out.received (event.bytes ∷ [])
+    pub sent : Grows old.sent out.sent (packets_of handled.response)
+    pub text : List ℕ
+    pub is : IsTextOf handled.response (line_of handled) text
+    pub cut : WritesPart old.written out.written text
+
+module _ {H : Type 0} (fails : H → Event → ServeFault → H → Type 0) where
+  -- one datagram was received and has a fault, which is not want of memory; nothing was sent or written for it
+  pub record HasFailed (fault : ServeFault) (server new : H) (old out : Traffic) : Type 0 where
+    pub event : Event
+    pub failed : fails server event fault new
+    pub other : fault ≢ serving.Memory
+    pub received : Grows old.received out.received (event.bytes ∷ [])
+    pub sent : out.sent ≡ old.sent
+    pub written : out.written ≡ old.written
+
+module _ {H : Type 0} (gives : H → Event → Handled → H → Type 0) (fails : H → Event → ServeFault → H → Type 0) where
+  -- how serving ends before its count: nothing could be received; for want of memory, with nothing sent or written for
+  -- the last datagram; at a fault of the server; or where a text could not be written
+  abbrev pub EndsServing : Type 0 → Type 0 → LoopFault → H → H → Traffic → Traffic → Type 0
+  EndsServing not_received not_written faults.Read server new old out = not_received × (new ≡ server) × (out ≡ old)
+  EndsServing not_received not_written faults.Memory server new old out = (new ≡ server) × (out.sent ≡ old.sent) × (out.written ≡ old.written)
+  EndsServing not_received not_written (faults.Serve fault) server new old out = HasFailed fails fault server new old out
+  EndsServing not_received not_written faults.Write server new old out = not_written × HasCut gives server new old out
+
+  -- serving stops before its count: some datagrams were served, and it ends at the next
+  pub record StopsServing (not_received not_written : Type 0) (fault : LoopFault) (count : ℕ) (server new : H) (old out : Traffic) : Type 0 where
+    pub done : ℕ
+    pub mid : H
+    pub between : Traffic
+    pub few : done ≤ count
+    pub served : HasServed gives done server mid old between
+    pub ends : EndsServing not_received not_written fault mid new between out

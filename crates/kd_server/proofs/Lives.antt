@@ -1,0 +1,254 @@
+-- A life of a server is a history with stops: each call is a step, or nothing happens in it.
+use Rattle.std.proofs.Common.{◌≡◌, ◌⊎◌, inl, inr, ⊎_elim, Bool, List, [], ◌∷◌, ◌++◌, Option, Some, None, Result, Ok, Err, true, false, refl, sym, ap, ◌∙◌, subst}
+use Rattle.std.proofs.lemmas.Bool.{false≢true}
+use Rattle.kd_config.specs.Configuration.{Configuration}
+use Rattle.kd_event.specs.declared.event.Event.{Event}
+use Rattle.kd_event.specs.declared.event.Handled.{Handled}
+use Rattle.kd_event.specs.declared.ports.Ports.{Ports}
+use Rattle.kd_keeps.specs.declared.keeps.Keeps.{Ghosts}
+use Rattle.kd_lease.specs.Change.{Changes}
+use Rattle.kd_replay.specs.History as past
+use Rattle.kd_replay.specs.declared.fault.ServeFault.{ServeFault}
+use Rattle.kd_replay.specs.declared.fault.ServeFault.TheVariants as faults
+use Rattle.kd_options.specs.Message.{Reads}
+use Rattle.kd_rows.specs.Table.{latest_of}
+use Rattle.kd_rows.specs.declared.row.Row.{Row}
+use Rattle.kd_server.specs.Keeping.{Holds, IsStopped, Keeping, Refuses, Steps}
+use Rattle.kd_server.specs.Lives.{Answers, AreSteps, AreStepsOfAll, Call, Called, IsAnswerOf, IsIdle, IsLeft, IsNoRun, IsOpening, IsRun, Life, LivesAreHistories, Opening, RunsAreCalls, calls_of, first_rows}
+use Rattle.kd_server.specs.NoOverlap.{Happens, History, Step, now_of}
+use Rattle.kd_server.specs.Step.{IsAnswered, IsUnreadable}
+
+-- steps from these rows to those
+abbrev HistoryTo : Configuration → List Row → List Step → List Row → Type 0
+HistoryTo config rows [] last = last ≡ rows
+HistoryTo config rows (e ∷ es) last = (e.before ≡ rows) × Happens config e e.outcome × HistoryTo config e.after es last
+
+-- calls are steps from these rows to those
+record Told (config : Configuration) (ports : Ports) (rows : List Row) (calls : List Call) (last : List Row) : Type 0 where
+  steps : List Step
+  history : HistoryTo config rows steps last
+  are : AreSteps ports calls steps
+
+-- steps after steps
+followed : (config : Configuration) (rows : List Row) (es : List Step) (last : List Row) (fs : List Step)
+    → HistoryTo config rows es last → History config last fs → History config rows (es ++ fs)
+followed config rows [] last fs h k = subst (λ (r : List Row). History config r fs) h k
+followed config rows (e ∷ es) last fs h k = (h.0, h.1, followed config e.after es last fs h.2 k)
+
+-- a call in which nothing happens, before other calls
+idle_first : (ports : Ports) (call : Call) (calls : List Call) (es : List Step) → IsIdle call.event call.answer
+    → AreSteps ports calls es → AreSteps ports (call ∷ calls) es
+idle_first ports call calls [] idle are = (idle, are)
+idle_first ports call calls (e ∷ es) idle are = inl (idle, are)
+
+module _ {S : Type 0} (g : Ghosts S) where
+  -- where the disk is clean after a call, it was before
+  clean_before : (old new : Keeping S) (event : Event) (answer : Result Handled ServeFault) → Answers g old event answer new
+      → g.has_clean_disk new.store → g.has_clean_disk old.store
+  clean_before old new event (Ok handled) a clean = a.store.clean clean
+  clean_before old new event (Err faults.MomentTooLarge) a clean = subst (λ (s : Keeping S). g.has_clean_disk s.store) a.2 clean
+  clean_before old new event (Err faults.Memory) a clean = subst (λ (s : Keeping S). g.has_clean_disk s.store) a.2 clean
+  clean_before old new event (Err (faults.Store fault)) a clean = a.store.clean clean
+  clean_before old new event (Err faults.Failed) a clean = subst (λ (s : Keeping S). g.has_clean_disk s.store) a.1 clean
+
+  -- where the disk is clean after calls, it was before
+  clean_first : (calls : List Call) (old new : Keeping S) → Called g old calls new → g.has_clean_disk new.store → g.has_clean_disk old.store
+  clean_first [] old new same clean = subst (λ (s : Keeping S). g.has_clean_disk s.store) same clean
+  clean_first (call ∷ calls) old new c clean = clean_before old c.0 call.event call.answer c.1 (clean_first calls c.0 new c.2 clean)
+
+  -- a server whose store has failed answers Failed, and nothing happens
+  stuck : (old new : Keeping S) (event : Event) (answer : Result Handled ServeFault) → g.has_failed old.store ≡ true
+      → Answers g old event answer new → (new ≡ old) × IsIdle event answer
+  stuck old new event (Ok handled) failed a = absurd (false≢true (sym a.worked ∙ failed))
+  stuck old new event (Err faults.MomentTooLarge) failed a = absurd (false≢true (sym a.0 ∙ failed))
+  stuck old new event (Err faults.Memory) failed a = absurd (false≢true (sym a.0 ∙ failed))
+  stuck old new event (Err (faults.Store fault)) failed a = absurd (false≢true (sym a.worked ∙ failed))
+  stuck old new event (Err faults.Failed) failed a = (a.1, tt)
+
+  -- so of all later calls
+  stuck_all : (ports : Ports) (calls : List Call) (old new : Keeping S) → g.has_failed old.store ≡ true → Called g old calls new
+      → (new ≡ old) × AreSteps ports calls []
+  stuck_all ports [] old new failed same = (same, refl)
+  stuck_all ports (call ∷ calls) old new failed c =
+      let first = stuck old c.0 call.event call.answer failed c.1 in
+      let later = stuck_all ports calls c.0 new (ap (λ (s : Keeping S). g.has_failed s.store) first.0 ∙ failed) c.2 in
+      (later.0 ∙ first.0, (first.1, later.1))
+
+  -- the rows that are found after calls: those of the server, or rows that a crash leaves
+  abbrev IsFound : Keeping S → List Row → Type 0
+  IsFound new last = (last ≡ new.rows) ⊎ IsLeft g new.store last
+
+  -- what is told of calls on a server, whatever is found after them
+  abbrev Tells : Keeping S → List Call → Keeping S → Type 0
+  Tells old calls new = (last : List Row) → IsFound new last → Told old.config old.ports old.rows calls last
+
+  -- the step of an answer comes before those of later calls
+  answered : (old mid new : Keeping S) (event : Event) (handled : Handled) (calls : List Call) → Steps g old event handled mid
+      → Tells mid calls new → Tells old (record { event = event; answer = Ok handled } ∷ calls) new
+  answered old mid new event handled calls a tells last found = ⊎_elim unread read a.step.done where
+    call : Call
+    call = record { event = event; answer = Ok handled }
+
+    later : Told old.config old.ports mid.rows calls last
+    later = subst (λ (c : Configuration). Told c old.ports mid.rows calls last) a.config
+        (subst (λ (p : Ports). Told mid.config p mid.rows calls last) a.ports (tells last found))
+
+    unread : IsUnreadable latest_of (Changes old.config) old.ports old.rows event handled.response mid.rows → Told old.config old.ports old.rows (call ∷ calls) last
+    unread u = record {
+      steps = later.steps;
+      history = subst (λ (r : List Row). HistoryTo old.config r later.steps last) u.table later.history;
+      are = idle_first old.ports call calls later.steps u.unreadable later.are;
+    }
+
+    read : IsAnswered latest_of (Changes old.config) old.ports old.rows event handled.now handled.response mid.rows → Told old.config old.ports old.rows (call ∷ calls) last
+    read w =
+        let e : Step = record { moment = event.moment; message = w.message; before = old.rows; after = mid.rows; outcome = Some w.outcome } in
+        record {
+          steps = e ∷ later.steps;
+          history = (refl, subst (λ now. Changes old.config old.rows w.message now mid.rows w.outcome) a.step.now w.changes, later.history);
+          are = inr (record { moment = refl; reads = w.reads; answer = (a.step.now, (w.outcome, refl, w.responds)) }, later.are);
+        }
+
+  -- a step that was stopped is the last in which something happens: it leaves the rows from before it, or those after
+  stopped : (old mid new : Keeping S) (event : Event) (stop : IsStopped g old event mid) (calls : List Call) → new ≡ mid
+      → AreSteps old.ports calls [] → g.has_clean_disk mid.store → Holds g old.store old.rows → (last : List Row) → IsFound new last
+      → (call : Call) → call.event ≡ event → ((e : Step) → e.outcome ≡ None → IsAnswerOf old.ports e call.answer)
+      → Told old.config old.ports old.rows (call ∷ calls) last
+  stopped old mid new event stop calls same none clean holds last found call its is = ⊎_elim unread read stop.step.done where
+    unread : IsUnreadable latest_of (Changes old.config) old.ports old.rows event stop.handled.response stop.after → Told old.config old.ports old.rows (call ∷ calls) last
+    unread u = absurd (stop.store.changed u.table)
+
+    either : (last ≡ old.rows) ⊎ (last ≡ stop.after)
+    either = ⊎_elim
+        (λ rows. inl (rows ∙ ap (λ (s : Keeping S). s.rows) same ∙ stop.same.rows))
+        (λ left. left old.rows stop.after (subst (λ (s : Keeping S). g.leaves s.store old.rows stop.after) (sym same) (stop.store.left clean holds)))
+        found
+
+    read : IsAnswered latest_of (Changes old.config) old.ports old.rows event stop.handled.now stop.handled.response stop.after → Told old.config old.ports old.rows (call ∷ calls) last
+    read w =
+        let e : Step = record { moment = event.moment; message = w.message; before = old.rows; after = last; outcome = None } in
+        let changes = subst (λ now. Changes old.config old.rows w.message now stop.after w.outcome) stop.step.now w.changes in
+        record {
+          steps = e ∷ [];
+          history = (refl, ⊎_elim inl (λ after. inr (w.outcome, subst (λ (r : List Row). Changes old.config old.rows w.message (now_of e) r w.outcome) (sym after) changes)) either, refl);
+          are = inr (record { moment = ap (λ (v : Event). v.moment) (sym its); reads = subst (λ (v : Event). Reads v.bytes w.message) (sym its) w.reads; answer = is e refl }, none);
+        }
+
+  -- what is told of calls behind one that changed nothing
+  unchanged : (old mid new : Keeping S) (call : Call) (calls : List Call) → IsIdle call.event call.answer → mid ≡ old → Tells mid calls new
+      → Tells old (call ∷ calls) new
+  unchanged old mid new call calls idle same tells last found =
+      let later : Told old.config old.ports old.rows calls last = subst (λ (s : Keeping S). Told s.config s.ports s.rows calls last) same (tells last found) in
+      record { steps = later.steps; history = later.history; are = idle_first old.ports call calls later.steps idle later.are }
+
+  -- what is told of a call and those behind it
+  one : (old mid new : Keeping S) (event : Event) (answer : Result Handled ServeFault) (calls : List Call) → Answers g old event answer mid
+      → Called g mid calls new → g.has_clean_disk mid.store → Holds g old.store old.rows → (Holds g mid.store mid.rows → Tells mid calls new)
+      → Tells old (record { event = event; answer = answer } ∷ calls) new
+  one old mid new event (Ok handled) calls a later clean holds tells = answered old mid new event handled calls a (tells (a.store.holds clean holds))
+  one old mid new event (Err faults.MomentTooLarge) calls a later clean holds tells =
+      unchanged old mid new (record { event = event; answer = Err faults.MomentTooLarge }) calls tt a.2
+      (tells (subst (λ (s : Keeping S). Holds g s.store s.rows) (sym a.2) holds))
+  one old mid new event (Err faults.Memory) calls a later clean holds tells =
+      unchanged old mid new (record { event = event; answer = Err faults.Memory }) calls tt a.2
+      (tells (subst (λ (s : Keeping S). Holds g s.store s.rows) (sym a.2) holds))
+  one old mid new event (Err (faults.Store fault)) calls a later clean holds tells = λ last found.
+      let rest = stuck_all old.ports calls mid new a.store.failed later in
+      stopped old mid new event a calls rest.0 rest.1 clean holds last found (record { event = event; answer = Err (faults.Store fault) }) refl (λ e none. none)
+  one old mid new event (Err faults.Failed) calls a later clean holds tells =
+      unchanged old mid new (record { event = event; answer = Err faults.Failed }) calls tt a.1
+      (tells (subst (λ (s : Keeping S). Holds g s.store s.rows) (sym a.1) holds))
+
+  -- what is told of all calls
+  all : (calls : List Call) (old new : Keeping S) → Called g old calls new → g.has_clean_disk new.store → Holds g old.store old.rows → Tells old calls new
+  all [] old new same clean holds = λ last found. record {
+    steps = [];
+    history = ⊎_elim
+        (λ rows. rows ∙ ap (λ (s : Keeping S). s.rows) same)
+        (λ left. ⊎_elim (λ e. e) (λ e. e) (left old.rows old.rows (subst (λ (s : Keeping S). g.leaves s.store old.rows old.rows) (sym same) holds.leaves)))
+        found;
+    are = refl;
+  }
+  all (call ∷ calls) old new c clean holds =
+      let mid_clean = clean_first calls c.0 new c.2 clean in
+      one old c.0 new call.event call.answer calls c.1 c.2 mid_clean holds (all calls c.0 new c.2 clean)
+
+  -- what is told of an opening whose server was run
+  ran : (config : Configuration) (o : Opening S) → g.stands o.store o.rows → g.has_clean_disk o.left → (r : IsRun g config o) → (last : List Row)
+      → (last ≡ r.last.rows) ⊎ IsLeft g o.left last → Told config o.ports o.rows o.calls last
+  ran config o stands clean r last found =
+      let last_clean : g.has_clean_disk r.last.store = subst g.has_clean_disk r.store clean in
+      let opened = r.opens.holds (clean_first o.calls r.first r.last r.called last_clean) o.rows stands in
+      let holds : Holds g r.first.store r.first.rows = subst (Holds g r.first.store) (sym opened.0) opened.1 in
+      let told = all o.calls r.first r.last r.called last_clean holds last (subst (λ (s : S). (last ≡ r.last.rows) ⊎ IsLeft g s last) r.store found) in
+      subst (λ (c : Configuration). Told c o.ports o.rows o.calls last) r.opens.config_is
+      (subst (λ (p : Ports). Told r.first.config p o.rows o.calls last) r.opens.ports_are
+      (subst (λ (rows : List Row). Told r.first.config r.first.ports rows o.calls last) opened.0 told))
+
+  -- what is told of one in which no server was opened
+  not_run : (config : Configuration) (o : Opening S) → IsNoRun g config o → (last : List Row) → last ≡ o.rows → Told config o.ports o.rows o.calls last
+  not_run config o n last same = subst (λ (calls : List Call). Told config o.ports o.rows calls last) (sym n.none) (record { steps = []; history = same; are = refl })
+
+  -- what is told of an opening, where a crash leaves these rows
+  left : (config : Configuration) (o : Opening S) → IsOpening g config o → (last : List Row) → IsLeft g o.left last → Told config o.ports o.rows o.calls last
+  left config o is last found = ⊎_elim
+      (λ r. ran config o is.stands is.clean r last (inr found))
+      (λ n. not_run config o n last (⊎_elim (λ e. e) (λ e. e) (found o.rows o.rows (n.unopened.left is.clean o.rows is.stands))))
+      is.done
+
+  -- what is told of the last opening
+  ended : (config : Configuration) (o : Opening S) → IsOpening g config o → (last : List Row) × Told config o.ports o.rows o.calls last
+  ended config o is = ⊎_elim
+      (λ r. (r.last.rows, ran config o is.stands is.clean r r.last.rows (inl refl)))
+      (λ n. (o.rows, not_run config o n o.rows refl))
+      is.done
+
+  -- a life is a history with stops
+  pub histories : LivesAreHistories g
+  histories config [] life = ([], tt, refl)
+  histories config (o ∷ []) life =
+      let e = ended config o life in
+      (e.1.steps ++ [], followed config o.rows e.1.steps e.0 [] e.1.history tt, (e.1.steps, [], refl, e.1.are, refl))
+  histories config (o ∷ p ∷ os) life =
+      let first = left config o life.0 p.rows life.1 in
+      let later = histories config (p ∷ os) life.2 in
+      (first.steps ++ later.0, followed config o.rows first.steps p.rows later.0 first.history later.1, (first.steps, later.0, refl, first.are, later.2))
+
+  -- events with their history are calls, before those of the events after them
+  called_before : (done after : List Event) (list : List Handled) (fault : Option ServeFault) (old mid new : Keeping S)
+      → past.History (Steps g) old done list mid → Called g mid (calls_of after [] fault) new → Called g old (calls_of (done ++ after) list fault) new
+  called_before [] after [] fault old mid new same c = subst (λ (s : Keeping S). Called g s (calls_of after [] fault) new) same c
+  called_before (event ∷ done) after (handled ∷ list) fault old mid new h c = (h.0, h.1, called_before done after list fault h.0 mid new h.2 c)
+  called_before [] after (handled ∷ list) fault old mid new h c = absurd h
+  called_before (event ∷ done) after [] fault old mid new h c = absurd h
+
+  is_none : List Handled → Bool
+  is_none [] = true
+  is_none (handled ∷ list) = false
+
+  -- a history in which nothing was done
+  none_done : (done : List Event) (list : List Handled) (old mid : Keeping S) → list ≡ [] → past.History (Steps g) old done list mid → mid ≡ old
+  unfolding is_none
+  none_done [] [] old mid none h = h
+  none_done (event ∷ done) (handled ∷ list) old mid none h = absurd (false≢true (ap is_none none))
+  none_done [] (handled ∷ list) old mid none h = absurd h
+  none_done (event ∷ done) [] old mid none h = absurd h
+
+  -- how a run ends, as calls behind its history
+  halted : (done after : List Event) (list : List Handled) (fault : Option ServeFault) (old mid new : Keeping S)
+      → past.History (Steps g) old done list mid → past.Halts (Refuses g) fault after list mid new
+      → Called g old (calls_of (done ++ after) list fault) new ⊎ past.NoMemory faults.Memory list old new
+  halted done [] list None old mid new h halts = inl (called_before done [] list None old mid new h halts)
+  halted done (event ∷ after) list None old mid new h halts = absurd halts
+  halted done [] list (Some fault) old mid new h halts =
+      inr (record { want = refl; none = halts.none; same = halts.same ∙ none_done done list old mid halts.none h })
+  halted done (event ∷ after) list (Some fault) old mid new h (inl fails) =
+      inl (called_before done (event ∷ after) list (Some fault) old mid new h (new, fails, refl))
+  halted done (event ∷ after) list (Some fault) old mid new h (inr no_memory) =
+      inr (record { want = refl; none = no_memory.none; same = no_memory.same ∙ none_done done list old mid no_memory.none h })
+
+  -- a run is calls
+  pub runs : RunsAreCalls g
+  runs events list fault old new r =
+      subst (λ (all : List Event). Called g old (calls_of all list fault) new ⊎ past.NoMemory faults.Memory list old new) (sym r.all)
+      (halted r.done r.after list fault old r.mid new r.history r.halts)

@@ -1,0 +1,162 @@
+use crate::days::{Got, Lease, Sent};
+use crate::device::Device;
+use kd_config::Config;
+use kd_event::{Ports, Response};
+use kd_keeps::Keeps;
+use kd_replay::ServeFault;
+use kd_rows::Row;
+use kd_server::Server;
+use kd_store::Store;
+use sqlite::{Connection, FileStore, Files, Options};
+use std::alloc::{AllocError, Global};
+
+/// A server whose store is over files that may stop.
+pub(crate) type Serving = Server<Store<FileStore<Device>>>;
+
+const PORTS: Ports = Ports {
+    server: 67,
+    client: 68,
+};
+
+// How the database is kept: with few pages in memory, and a log that goes into the database file after each few
+// commits, so that this one is written too.
+fn options() -> Options {
+    Options {
+        cache_pages: 8,
+        spill_pages: 8,
+        checkpoint_frames: 2,
+        seed: 1,
+    }
+}
+
+// What a connection leaves of its files when it is dropped without a word.
+fn let_go(conn: Connection<FileStore<Device>>) -> Files<Device> {
+    conn.into_store().close()
+}
+
+// The connection to the files, or the files.
+fn connected(
+    alloc: Global,
+    files: Files<Device>,
+) -> Result<Connection<FileStore<Device>>, Files<Device>> {
+    if !files.may_be_used() {
+        return Err(files);
+    }
+    match Connection::open_files(alloc, files, options()) {
+        Ok(conn) => Ok(conn),
+        Err((_, left)) => Err(left.into_files()),
+    }
+}
+
+// The store over a connection, or the files.
+fn stored(
+    alloc: Global,
+    conn: Connection<FileStore<Device>>,
+) -> Result<Store<FileStore<Device>>, Files<Device>> {
+    if !conn.is_autocommit() {
+        return Err(let_go(conn));
+    }
+    match Store::open(alloc, conn) {
+        Ok(store) => Ok(store),
+        Err((_, conn)) => Err(let_go(conn)),
+    }
+}
+
+// The server over a store, or the files.
+fn served(
+    alloc: Global,
+    config: Config,
+    store: Store<FileStore<Device>>,
+) -> Result<Serving, Files<Device>> {
+    if store.failed() {
+        return Err(let_go(store.close()));
+    }
+    match Server::open(alloc, config, store, PORTS) {
+        Ok(server) => Ok(server),
+        Err((_, _, store)) => Err(let_go(store.close())),
+    }
+}
+
+/// The server over the files, or the files.
+pub(crate) fn opened(
+    alloc: Global,
+    config: Config,
+    files: Files<Device>,
+) -> Result<Serving, Files<Device>> {
+    served(alloc, config, stored(alloc, connected(alloc, files)?)?)
+}
+
+/// The files of a server.
+pub(crate) fn files_of(server: Serving) -> Files<Device> {
+    let (_, store) = server.close();
+    let_go(store.close())
+}
+
+// The datagram of a message.
+fn datagram(alloc: Global, message: Sent) -> Result<Vec<u8>, AllocError> {
+    let (_, client, options, ciaddr) = message;
+    let mut bytes = Vec::from_slice(alloc, &[1, 1, 6, 0, 0, 0, 0, 1, 0, 0, 0, 0])?;
+    bytes.extend_from_slice(&ciaddr.to_be_bytes())?;
+    bytes.resize(28, 0)?;
+    bytes.extend_from_slice(&[10, 0, 0, 0, 0, client])?;
+    bytes.resize(236, 0)?;
+    bytes.extend_from_slice(&[99, 130, 83, 99])?;
+    bytes.extend_from_slice(options)?;
+    Ok(bytes)
+}
+
+// The byte at a place, and 0 behind the end.
+fn byte_at(bytes: &[u8], at: usize) -> u8 {
+    match bytes.get(at) {
+        Some(byte) => *byte,
+        None => 0,
+    }
+}
+
+// What a response is: of a reply its type, the byte behind the cookie and two more, and yiaddr, its bytes 16 to 19.
+fn received(response: &Response) -> Got {
+    match response {
+        Response::Quiet(reason) => Got::Quiet(*reason),
+        Response::Reply(_, reply) => {
+            let bytes = reply.as_slice();
+            let yiaddr = u32::from_be_bytes([
+                byte_at(bytes, 16),
+                byte_at(bytes, 17),
+                byte_at(bytes, 18),
+                byte_at(bytes, 19),
+            ]);
+            Got::Reply(byte_at(bytes, 242), yiaddr)
+        }
+    }
+}
+
+/// What comes back for a message, or the fault.
+pub(crate) fn sent(alloc: Global, server: &mut Serving, message: Sent) -> Result<Got, ServeFault> {
+    let bytes = datagram(alloc, message)?;
+    let handled = server.handle(message.0, bytes.as_slice())?;
+    Ok(received(&handled.response))
+}
+
+// The row has all that the lease says.
+fn is_row_of(row: &Row, lease: Lease) -> bool {
+    let (address, client, state, changed, ends) = lease;
+    row.address == address
+        && row.client.as_slice() == [0, 1, 10, 0, 0, 0, 0, client].as_slice()
+        && row.state == state
+        && row.changed == changed
+        && row.ends == ends
+}
+
+/// The server's table is this one.
+pub(crate) fn stands_at(server: &Serving, leases: &[Lease]) -> Result<bool, ServeFault> {
+    let rows = server.leases(0)?;
+    if rows.len() != leases.len() {
+        return Ok(false);
+    }
+    for i in 0..rows.len() {
+        if !is_row_of(&rows[i].row, leases[i]) {
+            return Ok(false);
+        }
+    }
+    Ok(true)
+}

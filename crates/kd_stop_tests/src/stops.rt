@@ -1,0 +1,225 @@
+use crate::days::{Day, FIRST, Got, INFORMED, INFORMS, Lease, NEXT, RENEWED, SHARED, Step};
+use crate::device::{Device, LOSSES, Left, Loss, files, files_left, left_of};
+use crate::serving::{Serving, files_of, opened, sent, stands_at};
+use kd_config::Config;
+use kd_event::Reason;
+use kd_replay::ServeFault;
+use sqlite::Files;
+use std::alloc::Global;
+use std::test::Fail;
+
+// Where a day ended.
+#[derive(Clone, Copy, PartialEq, Eq)]
+enum End {
+    // Before its first step, at the opening.
+    Unopened,
+    // At the step with this number, which was not answered.
+    At(usize),
+    // Behind its last step.
+    Whole,
+}
+
+// The file whose device stops.
+#[derive(Clone, Copy)]
+enum Stopped {
+    Log,
+    Database,
+}
+
+// How many calls log and database answer.
+fn answered(stopped: Stopped, calls: u64) -> (u64, u64) {
+    match stopped {
+        Stopped::Log => (calls, u64::MAX),
+        Stopped::Database => (u64::MAX, calls),
+    }
+}
+
+// What comes back is what was worked out. A RELEASE that is sent again may have done its work before.
+fn is_right(got: Got, want: Got, again: bool) -> bool {
+    got == want
+        || (again && want == Got::Quiet(Reason::Released) && got == Got::Quiet(Reason::NotHeld))
+}
+
+// It is a fault of the store, and Failed is all that comes behind it.
+fn is_stop(alloc: Global, server: &mut Serving, fault: ServeFault) -> bool {
+    matches!(fault, ServeFault::Store(_))
+        && matches!(sent(alloc, server, INFORMED), Err(ServeFault::Failed))
+        && matches!(server.leases(0), Err(ServeFault::Failed))
+}
+
+// Sends a step: whether it is answered, or stops.
+fn is_answered(alloc: Global, server: &mut Serving, step: Step, again: bool) -> Result<bool, Fail> {
+    let (message, want, leases) = step;
+    match sent(alloc, server, message) {
+        Ok(got) => {
+            if !is_right(got, want, again) || !stands_at(server, leases)? {
+                return Err("an answer is not the one that was worked out".into());
+            }
+            Ok(true)
+        }
+        Err(fault) => {
+            if !is_stop(alloc, server, fault) {
+                return Err("a stop is not a fault of the store, and then Failed".into());
+            }
+            Ok(false)
+        }
+    }
+}
+
+// Sends the steps of a day from one on, which may have been sent before, up to the first that stops.
+fn sent_from(
+    alloc: Global,
+    server: &mut Serving,
+    steps: &[Step],
+    from: usize,
+) -> Result<End, Fail> {
+    for at in from..steps.len() {
+        if !is_answered(alloc, server, steps[at], at == from)? {
+            return Ok(End::At(at));
+        }
+    }
+    Ok(End::Whole)
+}
+
+// The steps of a day from one on, over files, up to the first that stops: where that is, and the files.
+fn day_over(
+    alloc: Global,
+    day: Day,
+    files: Files<Device>,
+    from: usize,
+) -> Result<(End, Files<Device>), Fail> {
+    let (config, steps) = day;
+    match opened(alloc, Config::read(alloc, config, &[])?, files) {
+        Ok(mut server) => {
+            let end = sent_from(alloc, &mut server, steps, from)?;
+            Ok((end, files_of(server)))
+        }
+        Err(files) => Ok((End::Unopened, files)),
+    }
+}
+
+// The number of the step that is sent next: the one that stopped.
+fn next_of(end: End, steps: &[Step]) -> usize {
+    match end {
+        End::Unopened => 0,
+        End::At(at) => at,
+        End::Whole => steps.len(),
+    }
+}
+
+// The table in front of a step.
+fn table_before(steps: &[Step], at: usize) -> &'static [Lease] {
+    if at == 0 || at > steps.len() {
+        return &[];
+    }
+    steps[at - 1].2
+}
+
+// The server stands at the table from before the step that stopped, or at the one behind it. In the table from before
+// stands the row of each reply that was handed out.
+fn is_beside(server: &Serving, steps: &[Step], end: End) -> Result<bool, Fail> {
+    let next = next_of(end, steps);
+    if stands_at(server, table_before(steps, next))? {
+        return Ok(true);
+    }
+    Ok(end == End::At(next) && next < steps.len() && stands_at(server, steps[next].2)?)
+}
+
+// With what a loss leaves of the files, the day goes on from the step that stopped, and ends as it was worked out.
+fn goes_on(alloc: Global, day: Day, left: &Left, loss: Loss, end: End) -> Result<(), Fail> {
+    let (config, steps) = day;
+    let files = files_left(alloc, left, loss, (u64::MAX, u64::MAX))?;
+    let Ok(mut server) = opened(alloc, Config::read(alloc, config, &[])?, files) else {
+        return Err("what a stop left is not opened".into());
+    };
+    if !is_beside(&server, steps, end)? {
+        return Err("a stop left neither the table before nor the one behind".into());
+    }
+    if sent_from(alloc, &mut server, steps, next_of(end, steps))? != End::Whole {
+        return Err("the day stops with no stop of its device".into());
+    }
+    Ok(())
+}
+
+// Stops a file at each call, upwards until the day is whole: how many stops there were, and at how many places.
+fn stops(alloc: Global, day: Day, stopped: Stopped) -> Result<(u64, usize), Fail> {
+    let (mut last, mut places) = (End::Whole, 0usize);
+    for calls in 0..1000u64 {
+        let (end, files) = day_over(alloc, day, files(alloc, answered(stopped, calls)), 0)?;
+        let left = left_of(alloc, files)?;
+        for loss in LOSSES {
+            goes_on(alloc, day, &left, loss, end)?;
+        }
+        if end == End::Whole {
+            return Ok((calls, places));
+        }
+        if end != last {
+            places = places.saturating_add(1);
+        }
+        last = end;
+    }
+    Err("the day is never whole".into())
+}
+
+// Days, and how many places to stop each has: its opening, and the steps that change a row.
+const DAYS: [(Day, usize); 5] = [
+    (FIRST, 3),
+    (RENEWED, 5),
+    (SHARED, 6),
+    (NEXT, 4),
+    (INFORMS, 2),
+];
+
+#[test]
+fn a_stop_of_the_log_leaves_the_table_before_or_behind(rt: HostRuntime) -> Result<(), Fail> {
+    for (day, places) in DAYS {
+        let (calls, stopped) = stops(rt.alloc(), day, Stopped::Log)?;
+        assert!(rt;
+            calls > 20 && stopped == places,
+            "{calls} stops at {stopped} places"
+        );
+    }
+    Ok(())
+}
+
+#[test]
+fn a_stop_of_the_database_leaves_the_table_before_or_behind(rt: HostRuntime) -> Result<(), Fail> {
+    for (day, _) in DAYS {
+        let (calls, stopped) = stops(rt.alloc(), day, Stopped::Database)?;
+        assert!(rt;
+            calls > 5 && stopped > 1,
+            "{calls} stops at {stopped} places"
+        );
+    }
+    Ok(())
+}
+
+// What is left of a day that stopped is opened on a device that stops again, at each call, and the day goes on.
+fn stops_again(alloc: Global, day: Day, left: &Left, end: End) -> Result<u64, Fail> {
+    let from = next_of(end, day.1);
+    for calls in 0..1000u64 {
+        let files = files_left(alloc, left, Loss::All, answered(Stopped::Log, calls))?;
+        let (again, files) = day_over(alloc, day, files, from)?;
+        let place = if again == End::Unopened { end } else { again };
+        goes_on(alloc, day, &left_of(alloc, files)?, Loss::All, place)?;
+        if again == End::Whole {
+            return Ok(calls);
+        }
+    }
+    Err("the day is never whole".into())
+}
+
+// The first stop is at each seventh call, so that the test is short.
+#[test]
+fn a_stop_after_a_stop_leaves_the_table_before_or_behind(rt: HostRuntime) -> Result<(), Fail> {
+    for calls in (0..1000u64).step_by(7) {
+        let files = files(rt.alloc(), answered(Stopped::Log, calls));
+        let (end, files) = day_over(rt.alloc(), FIRST, files, 0)?;
+        let again = stops_again(rt.alloc(), FIRST, &left_of(rt.alloc(), files)?, end)?;
+        assert!(rt; again > 3, "{again} stops after {calls} calls");
+        if end == End::Whole {
+            return Ok(());
+        }
+    }
+    Err("the day is never whole".into())
+}
