@@ -1,16 +1,14 @@
 -- Datagrams that were served, and then more.
-use Rattle.std.proofs.Common.{◌≡◌, ℕ, ◌+◌, ◌≤◌, List, [], ◌∷◌, ◌++◌, Option, None, Some, Result, Ok, Err, MatchResult, OnOk, length, map, refl, sym, ap, ◌∙◌, subst, append_assoc, arith}
+use Rattle.std.proofs.Common.{◌≡◌, ℕ, ◌+◌, List, [], ◌∷◌, ◌++◌, Option, None, Some, Result, Ok, Err, MatchResult, IfErr, OnErr, OnOk, length, map, refl, sym, ap, ◌∙◌, subst, append_assoc, arith}
 use Rattle.std.proofs.KnownBytes.{Appends-nil, Appends-trans}
 use Rattle.std.proofs.lemmas.Grind.{flat_map-append}
 use Rattle.std.proofs.lemmas.List.{append-nil, length-append, map-append}
 use Rattle.std.specs.Io.KnownBytes.{Appends}
-use Rattle.std.specs.List.{flat_map}
 use Rattle.kd_event.specs.declared.event.Event.{Event}
 use Rattle.kd_event.specs.declared.event.Handled.{Handled}
 use Rattle.kd_replay.specs.History.{History}
-use Rattle.kd_replay.specs.Parts.{WritesPart}
-use Rattle.kd_replay.specs.Serving.{AreTextsOf, Grows, HasServed, IsTextOf, Packet, StopsServing, Traffic, packets_of}
-use Rattle.kd_replay.specs.Text.{line_of}
+use Rattle.kd_replay.specs.Answering.{IsAnswered, IsCut}
+use Rattle.kd_replay.specs.Serving.{Answered, EndsServing, Grows, HasCut, HasServed, Packet, StopsServing, Traffic, packets_of, text_of}
 use Rattle.kd_replay.specs.declared.fault.LoopFault.{LoopFault}
 use Rattle.kd_replay.specs.declared.fault.LoopFault.TheVariants as faults
 use Rattle.kd_replay.specs.declared.fault.ServeFault.{ServeFault}
@@ -25,12 +23,6 @@ grows_trans : {X : Type 0} → (old mid new : Option (List X)) (a b : List X) �
 grows_trans None mid new a b first then = tt
 grows_trans {X} (Some old) mid new a b first then =
     subst (λ (m : Option (List X)). Grows m new b → new ≡ Some (old ++ (a ++ b))) (sym first) (λ t. t ∙ ap Some (append_assoc old a b)) then
-
--- texts, and texts behind them
-texts_then : (list more : List Handled) (s t : List ℕ) → AreTextsOf list s → AreTextsOf more t → AreTextsOf (list ++ more) (s ++ t)
-texts_then [] more s t none are = subst (λ (x : List ℕ). AreTextsOf more (x ++ t)) (sym none) are
-texts_then (handled ∷ list) more s t h are =
-    (h.0, h.1 ++ t, ap (λ x. x ++ t) h.2 ∙ append_assoc h.0 h.1 t, h.3, texts_then list more h.1 t h.4 are)
 
 module _ {H : Type 0} (gives : H → Event → Handled → H → Type 0) where
   -- a history, and one behind it
@@ -50,8 +42,6 @@ module _ {H : Type 0} (gives : H → Event → Handled → H → Type 0) where
     history = refl;
     received = grows_none traffic.received;
     sent = grows_none traffic.sent;
-    text = [];
-    texts = refl;
     written = Appends-nil traffic.written;
   }
 
@@ -62,36 +52,63 @@ module _ {H : Type 0} (gives : H → Event → Handled → H → Type 0) where
     events = a.events ++ b.events;
     list = a.list ++ b.list;
     counted = length-append a.events b.events ∙ (ap (λ x. x + length b.events) a.counted ∙ ap (λ x. n + x) b.counted);
-    history = history_then a.events b.events a.list b.list old mid new a.history b.history;
+    history = subst (λ (list : List Handled). History gives old (a.events ++ b.events) list new) (sym (map-append (λ (x : Answered). x.handled) a.list b.list))
+        (history_then a.events b.events (map (λ x. x.handled) a.list) (map (λ x. x.handled) b.list) old mid new a.history b.history);
     received = subst (Grows before.received after.received) (sym (map-append (λ (e : Event). e.bytes) a.events b.events))
         (grows_trans before.received between.received after.received _ _ a.received b.received);
-    sent = subst (Grows before.sent after.sent) (sym (flat_map-append (λ (h : Handled). packets_of h.response) a.list b.list))
+    sent = subst (Grows before.sent after.sent) (sym (flat_map-append packets_of a.list b.list))
         (grows_trans before.sent between.sent after.sent _ _ a.sent b.sent);
-    text = a.text ++ b.text;
-    texts = texts_then a.list b.list a.text b.text a.texts b.texts;
-    written = Appends-trans before.written between.written after.written a.text b.text a.written b.written;
+    written = subst (Appends before.written after.written) (sym (flat_map-append text_of a.list b.list))
+        (Appends-trans before.written between.written after.written _ _ a.written b.written);
   }
 
-  -- a datagram that was received, handled and answered was served, where its text was written
-  pub served_if : (result : Result Unit LoopFault) (server new : H) (event_bytes taken : List ℕ) (moment : ℕ) (handled : Handled)
+  -- what came, what was handed over and what was written, each before and after one datagram
+  module _ (server new : H) (event_bytes taken : List ℕ) (moment : ℕ) (handled : Handled)
       (received between after : Option (List (List ℕ))) (sent mid gone : Option (List Packet)) (old written : Option (List ℕ))
-      → gives server (record { moment = moment; bytes = event_bytes }) handled new → event_bytes ≡ taken
-      → Grows received between (taken ∷ []) → after ≡ between → mid ≡ sent → Grows mid gone (packets_of handled.response)
-      → MatchResult result (λ _. (text : List ℕ) × IsTextOf handled.response (line_of handled) text × Appends old written text)
-      (λ fault. (fault ≡ faults.Write) × ((text : List ℕ) × IsTextOf handled.response (line_of handled) text × WritesPart old written text))
-      → OnOk result (HasServed gives 1 server new (record { received = received; sent = sent; written = old }) (record { received = after; sent = gone; written = written }))
-  served_if (Err fault) server new event_bytes taken moment handled received between after sent mid gone old written given same came then kept went text = tt
-  served_if (Ok done) server new event_bytes taken moment handled received between after sent mid gone old written given same came then kept went text = record {
-    events = record { moment = moment; bytes = event_bytes } ∷ [];
-    list = handled ∷ [];
-    counted = refl;
-    history = (new, given, refl);
-    received = subst (λ (bytes : List ℕ). Grows received after (bytes ∷ [])) (sym same) (subst (λ (r : Option (List (List ℕ))). Grows received r (taken ∷ [])) (sym then) came);
-    sent = subst (Grows sent gone) (sym (append-nil (packets_of handled.response))) (subst (λ (s : Option (List Packet)). Grows s gone (packets_of handled.response)) kept went);
-    text = text.0;
-    texts = (text.0, [], sym (append-nil text.0), text.1, refl);
-    written = text.2;
-  }
+      (given : gives server (record { moment = moment; bytes = event_bytes }) handled new) (same : event_bytes ≡ taken)
+      (came : Grows received between (taken ∷ [])) (then : after ≡ between) (kept : mid ≡ sent) where
+    received_one : Grows received after (event_bytes ∷ [])
+    received_one = subst (λ (bytes : List ℕ). Grows received after (bytes ∷ [])) (sym same)
+        (subst (λ (r : Option (List (List ℕ))). Grows received r (taken ∷ [])) (sym then) came)
+
+    -- it was served, where its text was written
+    pub served_if : (result : Result Unit LoopFault)
+        → MatchResult result (λ _. IsAnswered handled mid gone old written) (λ fault. (fault ≡ faults.Write) × IsCut handled mid gone old written)
+        → OnOk result (HasServed gives 1 server new (record { received = received; sent = sent; written = old }) (record { received = after; sent = gone; written = written }))
+    served_if (Err fault) h = tt
+    served_if (Ok done) h = record {
+      events = record { moment = moment; bytes = event_bytes } ∷ [];
+      list = record { handled = handled; sent = h.sent } ∷ [];
+      counted = refl;
+      history = (new, given, refl);
+      received = received_one;
+      sent = subst (Grows sent gone) (sym (append-nil (packets_of (record { handled = handled; sent = h.sent }))))
+          (subst (λ (s : Option (List Packet)). Grows s gone (packets_of (record { handled = handled; sent = h.sent }))) kept h.grows);
+      written = subst (Appends old written) (sym (append-nil (text_of (record { handled = handled; sent = h.sent })))) h.appended;
+    }
+
+    -- a front of its text was written
+    cut_one : IsCut handled mid gone old written
+        → HasCut gives server new (record { received = received; sent = sent; written = old }) (record { received = after; sent = gone; written = written })
+    cut_one h = record {
+      event = record { moment = moment; bytes = event_bytes };
+      answered = record { handled = handled; sent = h.sent };
+      given = given;
+      received = received_one;
+      sent = subst (λ (s : Option (List Packet)). Grows s gone (packets_of (record { handled = handled; sent = h.sent }))) kept h.grows;
+      cut = h.cut;
+    }
+
+    -- serving ended at it, where its text was not written
+    pub ended_if : (fails : H → Event → ServeFault → H → Type 0) (not_received not_written : Type 0) (result : Result Unit LoopFault)
+        → MatchResult result (λ _. IsAnswered handled mid gone old written) (λ fault. (fault ≡ faults.Write) × IsCut handled mid gone old written)
+        → OnErr result not_written
+        → IfErr result (λ fault. EndsServing gives fails not_received not_written fault server new
+            (record { received = received; sent = sent; written = old }) (record { received = after; sent = gone; written = written }))
+    ended_if fails not_received not_written (Ok done) h failed = tt
+    ended_if fails not_received not_written (Err fault) h failed =
+        subst (λ (f : LoopFault). EndsServing gives fails not_received not_written f server new
+            (record { received = received; sent = sent; written = old }) (record { received = after; sent = gone; written = written })) (sym h.0) (failed, cut_one h.1)
 
 module _ {H : Type 0} (gives : H → Event → Handled → H → Type 0) (fails : H → Event → ServeFault → H → Type 0) where
   -- there is no memory to serve in

@@ -1,5 +1,5 @@
 -- A replay whose source can not fail.
-use Rattle.std.proofs.Common.{◌≡◌, ℕ, ◌⊎◌, inl, inr, List}
+use Rattle.std.proofs.Common.{ℕ, ◌⊎◌, inl, inr, List}
 use Rattle.std.specs.Prelude.{Result, Ok, Err}
 use Rattle.kd_replay.specs.Replay.{Ends, Replays}
 use Rattle.kd_event.specs.declared.event.Event.{Event}

@@ -1,3 +1,4 @@
+pub mod Answering
 pub mod Faults
 pub mod Handling
 pub mod History

@@ -1,5 +1,5 @@
 -- Datagrams that are served one after another as they are received: what is handled, sent and written.
-use Rattle.std.specs.Prelude.{◌≡◌, ◌≢◌, ℕ, ◌≤◌, Bool, true, false, List, [], ◌∷◌, ◌++◌, ◌⊎◌, Option, None, Some, codes, length, map}
+use Rattle.std.specs.Prelude.{◌≡◌, ◌≢◌, ℕ, ◌≤◌, Bool, true, false, List, [], ◌∷◌, ◌++◌, Option, None, Some, codes, length, map}
 use Rattle.std.specs.List.{flat_map}
 use Rattle.std.specs.Io.KnownBytes.{Appends}
 use Rattle.kd_replay.specs.History.{History}
@@ -15,40 +15,44 @@ use Rattle.kd_replay.specs.declared.fault.LoopFault.TheVariants as faults
 use Rattle.kd_replay.specs.declared.fault.ServeFault.{ServeFault}
 use Rattle.kd_replay.specs.declared.fault.ServeFault.TheVariants as serving
 
--- a datagram that was handed over to be sent, and where it goes
+-- a datagram that was handed over to be sent, where it goes, and whether it was sent
 pub record Packet : Type 0 where
   pub destination : Destination
   pub bytes : List ℕ
-
--- what is sent for a response
-abbrev pub packets_of : Response → List Packet
-packets_of (responses.Reply destination bytes) = record { destination = destination; bytes = bytes } ∷ []
-packets_of (responses.Quiet reason) = []
+  pub sent : Bool
 
 -- a list that is known has grown by some entries
 abbrev pub Grows : {X : Type 0} → Option (List X) → Option (List X) → List X → Type 0
 Grows None new more = Unit {0}
 Grows (Some old) new more = new ≡ Some (old ++ more)
 
+-- what is handed over for a response, by whether it was sent
+abbrev pub packets_in : Bool → Response → List Packet
+packets_in sent (responses.Reply destination bytes) = record { destination = destination; bytes = bytes; sent = sent } ∷ []
+packets_in sent (responses.Quiet reason) = []
+
 -- the line that says that a reply could not be sent
 abbrev pub send_fault : List ℕ
 send_fault = codes "fault 99 Send\n"
 
--- what is written behind the line of a datagram, by whether its reply was lost
-abbrev pub lost_text : Bool → List ℕ
-lost_text true = send_fault
-lost_text false = []
+-- what is written behind the line of a datagram: where its reply was not sent, the line that says so
+abbrev pub behind_line : Bool → Response → List ℕ
+behind_line false (responses.Reply destination bytes) = send_fault
+behind_line false (responses.Quiet reason) = []
+behind_line true response = []
 
--- what is written for a handled datagram: its line, and where its reply could not be sent the line that says so
-abbrev pub IsTextOf : Response → List ℕ → List ℕ → Type 0
-IsTextOf (responses.Reply destination bytes) line text = (text ≡ line) ⊎ (text ≡ line ++ send_fault)
-IsTextOf (responses.Quiet reason) line text = text ≡ line
+-- a handled datagram, and whether its reply was sent, where it has one
+pub record Answered : Type 0 where
+  pub handled : Handled
+  pub sent : Bool
 
--- texts of handled datagrams, one behind another
-abbrev pub AreTextsOf : List Handled → List ℕ → Type 0
-AreTextsOf [] text = text ≡ []
-AreTextsOf (handled ∷ list) text =
-    (first : List ℕ) × (rest : List ℕ) × (text ≡ first ++ rest) × IsTextOf handled.response (line_of handled) first × AreTextsOf list rest
+-- what is handed over for an answered datagram
+abbrev pub packets_of : Answered → List Packet
+packets_of answered = packets_in answered.sent answered.handled.response
+
+-- what is written for an answered datagram
+abbrev pub text_of : Answered → List ℕ
+text_of answered = line_of answered.handled ++ behind_line answered.sent answered.handled.response
 
 -- what has come and gone so far, where it is known: the datagrams received, those handed over to be sent, and the bytes
 -- written
@@ -60,28 +64,24 @@ pub record Traffic : Type 0 where
 -- the relation that says what one event gives
 module _ {H : Type 0} (gives : H → Event → Handled → H → Type 0) where
   -- so many datagrams were served: they are events that have a history, their replies were handed over to be sent, and
-  -- what was written is the texts of them, in that order
+  -- what was written is their texts, in that order
   pub record HasServed (count : ℕ) (server new : H) (old out : Traffic) : Type 0 where
     pub events : List Event
-    pub list : List Handled
+    pub list : List Answered
     pub counted : length events ≡ count
-    pub history : History gives server events list new
+    pub history : History gives server events (map (λ a. a.handled) list) new
     pub received : Grows old.received out.received (map (λ e. e.bytes) events)
-    pub sent : Grows old.sent out.sent (flat_map (λ h. packets_of h.response) list)
-    pub text : List ℕ
-    pub texts : AreTextsOf list text
-    pub written : Appends old.written out.written text
+    pub sent : Grows old.sent out.sent (flat_map packets_of list)
+    pub written : Appends old.written out.written (flat_map text_of list)
 
   -- one datagram was handled and its reply handed over to be sent; of its text a front was written
   pub record HasCut (server new : H) (old out : Traffic) : Type 0 where
     pub event : Event
-    pub handled : Handled
-    pub given : gives server event handled new
+    pub answered : Answered
+    pub given : gives server event answered.handled new
     pub received : Grows old.received out.received (event.bytes ∷ [])
-    pub sent : Grows old.sent out.sent (packets_of handled.response)
-    pub text : List ℕ
-    pub is : IsTextOf handled.response (line_of handled) text
-    pub cut : WritesPart old.written out.written text
+    pub sent : Grows old.sent out.sent (packets_of answered)
+    pub cut : WritesPart old.written out.written (text_of answered)
 
 module _ {H : Type 0} (fails : H → Event → ServeFault → H → Type 0) where
   -- one datagram was received and has a fault, which is not want of memory; nothing was sent or written for it

@@ -3,13 +3,13 @@ use kd_event::Destination;
 
 /// Where datagrams come from, and where replies are handed over to be sent.
 pub trait Link {
-    ghost use Rattle.std.specs.Prelude.{Bool, List, Option, ◌≡◌, ◌≤◌, ◌||◌, ◌∷◌, [], ℕ, length, take, IfOk, OnErr, is_err};
+    ghost use Rattle.std.specs.Prelude.{Bool, List, Option, ◌≡◌, ◌≤◌, ◌||◌, ◌∷◌, [], ℕ, length, take, IfOk, OnErr, is_err, is_ok};
     ghost use Rattle.kd_replay.specs.Serving.{Grows, Packet};
 
     /// The datagrams that were received, where that is known.
     ghost received: { Self → Option (List (List ℕ)) };
 
-    /// What was handed over to be sent, where that is known.
+    /// What was handed over to be sent, and whether each was sent, where that is known.
     ghost sent: { Self → Option (List Packet) };
 
     /// Whether nothing could be received at a call.
@@ -33,7 +33,7 @@ pub trait Link {
     ///
     /// It was not sent.
     fn send(&mut self, bytes: &[u8], to: Destination) -> Result<(), EndFailed>
-        ensures sent { Grows (sent self.old) (sent self.new) (record { destination = to; bytes = bytes.now } ∷ []) }
+        ensures sent { Grows (sent self.old) (sent self.new) (record { destination = to; bytes = bytes.now; sent = is_ok result } ∷ []) }
         ensures received { received self.new ≡ received self.old }
         ensures failed { has_failed self.new ≡ has_failed self.old };
 }

@@ -1,7 +1,6 @@
-ghost use Rattle.std.specs.Prelude.{◌≡◌, ◌+◌, ◌≤◌, ◌++◌, IfErr, IfOk, List, MatchResult, OnErr, OnOk, false, length, true, vec_capacity, ℕ};
-ghost use Rattle.std.specs.Io.KnownBytes.{Appends};
-ghost use Rattle.kd_replay.specs.Parts.{WritesPart};
-ghost use Rattle.kd_replay.specs.Serving.{EndsServing, Grows, HasServed, IsTextOf, StopsServing, lost_text, packets_of};
+ghost use Rattle.std.specs.Prelude.{◌≡◌, ◌+◌, ◌≤◌, ◌++◌, IfErr, IfOk, MatchResult, OnErr, OnOk, false, length, true, vec_capacity};
+ghost use Rattle.kd_replay.specs.Answering.{IsAnswered, IsCut};
+ghost use Rattle.kd_replay.specs.Serving.{EndsServing, Grows, HasServed, StopsServing, behind_line, packets_in, text_of};
 ghost use Rattle.kd_replay.specs.Text.{line_of, line_room};
 ghost use Rattle.kd_replay.specs.declared.fault.LoopFault.TheVariants as faults;
 
@@ -116,44 +115,52 @@ fn answer<L: Link, W: Sink>(
 ) -> Result<(), LoopFault>
     requires line { length (line_of handled.now) ≤ line_room }
     requires room { line_room + 14 ≤ vec_capacity room.old }
-    ensures sent { Grows (L.sent link.old) (L.sent link.new) (packets_of handled.entry.now.response) }
+    ensures answered { MatchResult result
+        (λ _. IsAnswered handled.entry.now (L.sent link.old) (L.sent link.new) (W.contents sink.old) (W.contents sink.new))
+        (λ fault. (fault ≡ faults.Write) × IsCut handled.entry.now (L.sent link.old) (L.sent link.new) (W.contents sink.old) (W.contents sink.new)) }
     ensures received { L.received link.new ≡ L.received link.old }
-    ensures written { MatchResult result
-        (λ _. (text : List ℕ) × IsTextOf handled.entry.now.response (line_of handled.entry.now) text × Appends (W.contents sink.old) (W.contents sink.new) text)
-        (λ fault. (fault ≡ faults.Write) × ((text : List ℕ) × IsTextOf handled.entry.now.response (line_of handled.entry.now) text × WritesPart (W.contents sink.old) (W.contents sink.new) text)) }
     ensures failed { OnErr result (W.has_failed sink.new ≡ true) }
     ensures room { vec_capacity room.old ≤ vec_capacity room.new }
 {
-    let lost = send(link, &handled.response);
-    put_text(room, handled, lost);
+    let sent = send(link, &handled.response);
+    put_text(room, handled, sent);
     match write_all(sink, room.as_slice()) {
         Ok(()) => Ok(()),
         Err(_) => Err(LoopFault::Write),
     }
 }
 
-// Puts the text of a handled datagram in place of what is there, by whether its reply was lost; no memory is taken.
-fn put_text(room: &mut Vec<u8>, handled: &Handled, lost: bool)
+// Puts the text of a handled datagram in place of what is there, by whether its reply was sent; no memory is taken.
+fn put_text(room: &mut Vec<u8>, handled: &Handled, sent: bool)
     requires line { length (line_of handled.now) ≤ line_room }
     requires room { line_room + 14 ≤ vec_capacity room.old }
-    ensures items { room.new.items ≡ line_of handled.entry.now ++ lost_text lost }
+    ensures items { room.new.items ≡ text_of (record { handled = handled.entry.now; sent = sent }) }
     ensures capacity { vec_capacity room.old ≤ vec_capacity room.new }
 {
     room.clear();
     put_line(room, handled);
-    if lost {
-        put(room, SEND_FAULT);
+    put_behind(room, &handled.response, sent);
+}
+
+// Appends the line that says that a reply was not sent, where there is one and it was not; no memory is taken.
+fn put_behind(room: &mut Vec<u8>, response: &Response, sent: bool)
+    requires { length room.old.items + 14 ≤ vec_capacity room.old }
+    ensures items { room.new.items ≡ room.old.items ++ behind_line sent response.now }
+    ensures capacity { vec_capacity room.old ≤ vec_capacity room.new }
+{
+    match response {
+        Response::Reply(..) if !sent => put(room, SEND_FAULT),
+        _ => {}
     }
 }
 
-// Hands a reply over to be sent, where there is one, and says whether it was lost.
+// Hands a reply over to be sent, where there is one, and says whether it was sent.
 fn send<L: Link>(link: &mut L, response: &Response) -> bool
-    ensures sent { Grows (L.sent link.old) (L.sent link.new) (packets_of response.now) }
+    ensures sent { Grows (L.sent link.old) (L.sent link.new) (packets_in result response.now) }
     ensures received { L.received link.new ≡ L.received link.old }
-    ensures text { (line : List ℕ) → IsTextOf response.now line (line ++ lost_text result) }
 {
     match response {
-        Response::Reply(destination, bytes) => link.send(bytes.as_slice(), *destination).is_err(),
+        Response::Reply(destination, bytes) => link.send(bytes.as_slice(), *destination).is_ok(),
         Response::Quiet(_) => false,
     }
 }

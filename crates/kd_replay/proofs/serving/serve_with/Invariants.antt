@@ -1,4 +1,4 @@
-use Rattle.std.proofs.Common.{◌≡◌, ◌+◌, ◌≤◌, false, vec_capacity}
+use Rattle.std.proofs.Common.{◌+◌, ◌≤◌, vec_capacity}
 use Rattle.kd_replay.specs.Serving.{HasServed}
 use Rattle.kd_replay.specs.Text.{line_room}
 use Rattle.kd_replay.proofs.serving.serve_with.Given as goal
