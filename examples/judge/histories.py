@@ -7,7 +7,7 @@ Each history is a small configuration (one to three subnets, small pools, reserv
 and some dozens of datagrams of a few clients: of all kinds, with fields that fit the table of leases and fields that
 do not, at moments that mostly rise, often to the end of a row or a second beside it, and sometimes go back. The
 first difference is printed with the configuration and as few events as still show it. With --leases the table at
-the end is compared too, by way of a store. P is the program, `crates/kdhcp/out/kdhcp` where nothing is said.
+the end is compared too, by way of a store: as `kdhcp leases` prints it, and as `sqlite3` reads it. P is the program, `crates/kdhcp/out/kdhcp` where nothing is said.
 """
 import argparse
 import json
@@ -42,6 +42,12 @@ TESTS = [
     "member('VENDOR_CLASS_b') or relay4[1].hex == 'x'",
     "pkt4.mac == 0x0a0000000002 and option[55].exists",
 ]
+
+
+# What sqlite3 reads of a store, in the words of `kdhcp leases` without the last.
+QUERY = """SELECT address, CASE state WHEN 1 THEN 'Offered' WHEN 2 THEN 'Bound' WHEN 3 THEN 'Released' WHEN 4 THEN 'Declined' END,
+    CASE length(client) WHEN 0 THEN '-' ELSE lower(hex(client)) END, 'changed', changed, 'ends', ends
+    FROM lease ORDER BY address"""
 
 
 # ---- configurations
@@ -291,14 +297,24 @@ def program_lines(program, folder, root, events, with_leases):
         words += ["--at", str(table_moment(events))]
         done = subprocess.run([program, "leases"] + words, capture_output=True, check=False)
         out += (done.stdout + done.stderr).decode().splitlines()
+        out += sqlite_lines(store)
     return out
+
+
+def sqlite_lines(store):
+    """The rows that another program reads in the store."""
+    words = ["sqlite3", "-separator", " ", store, QUERY]
+    done = subprocess.run(words, capture_output=True, check=False)
+    rows = (line.split(" ", 1) for line in done.stdout.decode().splitlines())
+    return [f"{dotted_number(int(first))} {rest}" for first, rest in rows] + done.stderr.decode().splitlines()
 
 
 def wanted_lines(events, judged, with_leases):
     lines, rows, fault = judged
     wanted = lines + ([fault] if fault else [])
     if with_leases:
-        wanted += judge.lease_lines(rows, table_moment(events))
+        lines = judge.lease_lines(rows, table_moment(events))
+        wanted += lines + [line.rsplit(" ", 1)[0] for line in lines]
     return wanted
 
 

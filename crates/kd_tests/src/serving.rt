@@ -11,6 +11,7 @@ use kd_table_tests::Fused;
 use std::alloc::{AllocError, Global};
 use std::net::{SocketAddr, UdpSocket};
 use std::test::Fail;
+use std::time::Duration;
 
 // It is always this moment.
 #[derive(Drop)]
@@ -55,9 +56,10 @@ fn offer_line(alloc: Global, reply: &[u8]) -> Result<String, Fail> {
     Ok(format!(in alloc; "100 reply hardware 192.0.2.10:68 {text}\n")?)
 }
 
-// A socket on a free port of loopback.
+// A socket on a free port of loopback, which waits ten seconds for a datagram.
 fn bound(rt: &HostRuntime) -> Result<(UdpSocket, SocketAddr), Fail> {
     let socket = UdpSocket::bind(rt, ("127.0.0.1", 0))?;
+    socket.set_read_timeout(Some(Duration::from_secs(10)))?;
     let address = socket.local_addr()?;
     Ok((socket, address))
 }
