@@ -75,7 +75,7 @@ fn two_datagrams_are_served_over_a_socket(rt: HostRuntime) -> Result<(), Fail> {
         mirror: true,
         broadcast_as: None,
     };
-    let mut link = Socket::over(&socket, sending);
+    let mut link = Socket::over(socket, sending);
     let mut sink = Keeping::new(alloc, 7, usize::MAX);
     let served = serve(alloc, &mut link, &mut Still, &mut sink, &mut server(alloc)?, 2);
     assert!(rt; served == Ok(()));
