@@ -179,6 +179,7 @@ fn serving_ends_where_a_line_is_not_written(rt: HostRuntime) -> Result<(), Fail>
     assert!(rt; result == Err(LoopFault::Write));
     let line = offer_line(alloc, reply.as_slice())?;
     let wanted = format!(in alloc; "{line}{line}")?;
-    assert!(rt; sink.as_slice() == &wanted.as_bytes()[..700]);
+    let written = sink.as_slice();
+    assert!(rt; written.len() == 700 && wanted.as_bytes().starts_with(written));
     Ok(())
 }
