@@ -31,7 +31,7 @@ use Rattle.kd_answer.specs.Show.{show_text, line_feed}
 use Rattle.kd_answer.specs.Status.{status_of}
 use Rattle.kd_answer.specs.declared.printed.Printed.{Printed}
 use Rattle.kd_order.specs.declared.orders.Order.{Order}
-use Rattle.kd_order.specs.declared.orders.Order.TheVariants.{Help, Show, Expr, Compile, Verify, Eval, EvalText, Replay, Leases}
+use Rattle.kd_order.specs.declared.orders.Order.TheVariants.{Help, Show, Expr, Compile, Verify, Eval, EvalText, Replay, Leases, Serve}
 
 -- this text and nothing else
 pub record IsSuccess (text : List ℕ) (p : Printed) : Type 0 where
@@ -221,6 +221,7 @@ IsPrinted (Eval program datagram) = Unit {0}
 IsPrinted (EvalText text datagram) = Unit {0}
 IsPrinted (Replay config token_dir store) = ⊥
 IsPrinted (Leases config token_dir store moment) = ⊥
+IsPrinted (Serve config token_dir store listening count) = ⊥
 
 -- what each such order prints
 abbrev pub Answers : Order → Printed → Type 0
@@ -233,3 +234,4 @@ Answers (Eval program datagram) p = RunsDecoded (decode_of (string_bytes program
 Answers (EvalText text datagram) p = TestsDecoded (string_bytes text) (decode_of (string_bytes datagram)) p
 Answers (Replay config token_dir store) p = ⊥
 Answers (Leases config token_dir store moment) p = ⊥
+Answers (Serve config token_dir store listening count) p = ⊥

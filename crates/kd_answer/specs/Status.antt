@@ -1,6 +1,8 @@
 -- The exit statuses of the program.
 use Rattle.std.specs.Prelude.{ℕ, ◌==◌, ◌||◌, if◌then◌else◌}
-use Rattle.kd_replay.specs.Faults.{replay_fault_number, serve_fault_number}
+use Rattle.kd_replay.specs.Faults.{loop_fault_number, replay_fault_number, serve_fault_number}
+use Rattle.kd_replay.specs.declared.fault.LoopFault.{LoopFault}
+use Rattle.kd_replay.specs.declared.fault.LoopFault.TheVariants as serving
 use Rattle.kd_replay.specs.declared.fault.ReplayFault.{ReplayFault}
 use Rattle.kd_replay.specs.declared.fault.ReplayFault.TheVariants.{Serve}
 
@@ -16,3 +18,8 @@ status_of number =
 abbrev pub replay_status_of : ReplayFault → ℕ
 replay_status_of (Serve fault) = status_of (serve_fault_number fault)
 replay_status_of other = status_of (replay_fault_number other)
+
+-- the same of a fault of serving
+abbrev pub serve_status_of : LoopFault → ℕ
+serve_status_of (serving.Serve fault) = status_of (serve_fault_number fault)
+serve_status_of other = status_of (loop_fault_number other)

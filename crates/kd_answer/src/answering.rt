@@ -32,5 +32,6 @@ pub fn answer(alloc: Global, order: &Order) -> Result<Printed, AllocError>
         }
         Order::Replay { .. } => unreachable!(),
         Order::Leases { .. } => unreachable!(),
+        Order::Serve { .. } => unreachable!(),
     }
 }

@@ -16,4 +16,4 @@ mod token_file;
 
 pub use answering::answer;
 pub use printed::Printed;
-pub use status::{exit_status, replay_status};
+pub use status::{exit_status, replay_status, serve_status};

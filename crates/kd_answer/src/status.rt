@@ -1,7 +1,7 @@
 ghost use Rattle.std.specs.Prelude.{◌≡◌};
-ghost use Rattle.kd_answer.specs.Status.{replay_status_of, status_of};
+ghost use Rattle.kd_answer.specs.Status.{replay_status_of, serve_status_of, status_of};
 
-use kd_replay::ReplayFault;
+use kd_replay::{LoopFault, ReplayFault};
 
 /// The exit status of the fault with this number: 1 for want of memory and for a failed end, 2 for a
 /// mistake on the command line, 4 for the store, 3 for every other.
@@ -22,6 +22,16 @@ pub fn replay_status(fault: ReplayFault) -> u8
 {
     match fault {
         ReplayFault::Serve(inner) => exit_status(inner.number()),
+        other => exit_status(other.number()),
+    }
+}
+
+/// The exit status of a fault of serving: a fault of the server has its own.
+pub fn serve_status(fault: LoopFault) -> u8
+    ensures { result ≡ serve_status_of fault }
+{
+    match fault {
+        LoopFault::Serve(inner) => exit_status(inner.number()),
         other => exit_status(other.number()),
     }
 }

@@ -4,7 +4,9 @@
 
 mod case;
 mod command;
+mod datagrams;
 mod files;
+mod host;
 mod names;
 mod session;
 mod stores;

@@ -16,13 +16,13 @@ use Rattle.clap.specs.declared.parser.matches.ArgMatches.TheViews.{out-ArgMatche
 use Rattle.clap.specs.declared.parser.matches.SubCommand.{SubCommand}
 use Rattle.clap.proofs.WalkLemmas.{first_value-rows}
 use Rattle.clap.proofs.OnLiterals.{clap_on_literals}
-use Rattle.kd_order.specs.Order.{Asked, Asks, AsksFor, GivesUnlessFull, HasFault, HelpsUnlessFull, asked_by, asked_of, command_line, compiles, evaluates, evaluation_of, given_by, listing_of, lists, replays, shows, tests, types, verifies}
+use Rattle.kd_order.specs.Order.{Asked, Asks, AsksFor, GivesUnlessFull, HasFault, HelpsUnlessFull, asked_by, asked_of, command_line, compiles, evaluates, evaluation_of, given_by, listing_of, lists, replays, serves, serving_of, shows, tests, types, verifies}
 use Rattle.kd_order.proofs.Lines.{one_asked}
 use Rattle.kd_order.specs.Steps.{AnswersKind, GivesIfThere}
 use Rattle.kd_order.specs.declared.fault.LineFault.{LineFault}
 use Rattle.kd_order.specs.declared.fault.LineFault.TheVariants.{CommandLine, Memory}
 use Rattle.kd_order.specs.declared.orders.Order.{Order}
-use Rattle.kd_order.specs.declared.orders.Order.TheVariants.{Help, Show, Expr, Compile, Verify, Eval, EvalText, Replay, Leases}
+use Rattle.kd_order.specs.declared.orders.Order.TheVariants.{Help, Show, Expr, Compile, Verify, Eval, EvalText, Replay, Leases, Serve}
 
 -- clap tells the matches of this command line, and the kinds of its faults
 is_told : is_simple command_line ≡ true
@@ -63,6 +63,9 @@ asks_for ws (Replay config token_dir store) asked gives h =
     subst (Asks ws) (sym is) h
 asks_for ws (Leases config token_dir store at) asked gives h =
     let is : lists (option_map string_bytes config) (option_map string_bytes token_dir) (option_map string_bytes store) at ≡ asked = cc in
+    subst (Asks ws) (sym is) h
+asks_for ws (Serve config token_dir store listening count) asked gives h =
+    let is : serves (option_map string_bytes config) (option_map string_bytes token_dir) (option_map string_bytes store) listening count ≡ asked = cc in
     subst (Asks ws) (sym is) h
 
 -- where clap finds no fault
@@ -204,3 +207,23 @@ at_leases m inner name r named has is gives =
     let at_moment = first_value-rows (found_of inner) (codes "at") in
     let at_name_is = at_name m name (codes "leases") (rows_of (found_of inner)) named has is in
     subst (λ o. GivesIfThere o r) (sym at_name_is) (rw (config, token_dir, store, at_moment) at gives)
+
+-- what is made of the options of `serve`
+same_serving : (f g : Text → Option Text) → f (codes "config") ≡ g (codes "config") → f (codes "token-dir") ≡ g (codes "token-dir")
+    → f (codes "store") ≡ g (codes "store") → f (codes "bind") ≡ g (codes "bind") → f (codes "port") ≡ g (codes "port")
+    → f (codes "client-port") ≡ g (codes "client-port") → f (codes "count") ≡ g (codes "count") → f (codes "broadcast-as") ≡ g (codes "broadcast-as")
+    → f (codes "mirror") ≡ g (codes "mirror") → serving_of f ≡ serving_of g
+same_serving f g config token_dir store bind port client_port count broadcast_as mirror =
+    rw (config, token_dir, store, bind, port, client_port, count, broadcast_as, mirror) refl
+
+pub at_serve : (m inner : ArgMatches) (name : Text) (r : Result Order LineFault) → Some name ≡ subcommand_name_of m
+    → Some (rows_of (found_of inner)) ≡ option_map (λ p. p.1) (subcommand_rows_of m) → name ≡ codes "serve"
+    → GivesIfThere (serving_of (λ option. first_value (found_of inner) option)) r
+    → GivesIfThere (asked_of (subcommand_rows_of m)) r
+at_serve m inner name r named has is gives =
+    let value : (option : Text) → first_value (found_of inner) option ≡ first_of option (rows_of (found_of inner)) = λ option. first_value-rows (found_of inner) option in
+    let same : serving_of (λ option. first_value (found_of inner) option) ≡ serving_of (λ option. first_of option (rows_of (found_of inner))) =
+    same_serving (λ option. first_value (found_of inner) option) (λ option. first_of option (rows_of (found_of inner))) (value (codes "config")) (value (codes "token-dir")) (value (codes "store")) (value (codes "bind")) (value (codes "port"))
+    (value (codes "client-port")) (value (codes "count")) (value (codes "broadcast-as")) (value (codes "mirror")) in
+    let at_name_is = at_name m name (codes "serve") (rows_of (found_of inner)) named has is in
+    subst (λ o. GivesIfThere o r) (same ∙ sym at_name_is) gives

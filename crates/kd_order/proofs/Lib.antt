@@ -1,5 +1,7 @@
+pub mod Addresses
 pub mod Apart
 pub mod Commands
+pub mod Entries
 pub mod EvalLine
 pub mod FileLines
 pub mod Flags
@@ -9,5 +11,6 @@ pub mod Level
 pub mod Lines
 pub mod OptionLine
 pub mod Options
+pub mod ServeLine
 pub mod TextLine
 pub mod Top

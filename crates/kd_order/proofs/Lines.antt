@@ -7,9 +7,10 @@ use Rattle.std.proofs.lemmas.List.Elements.{All-tail}
 use Rattle.clap.specs.Words.{Text, fault_of, subcommand_of}
 use Rattle.clap.specs.declared.error.kind.ErrorKind.TheVariants.{DisplayHelp}
 use Rattle.kd_order.specs.Line.{IsHelpFlag, IsHelpLine, IsLine, IsOneOf, subcommands}
-use Rattle.kd_order.specs.Order.{Asked, Asks, asked_of, command_line, compiles, evaluates, lists, replays, shows, tests, types, verifies}
+use Rattle.kd_order.specs.Order.{Asked, Asks, asked_of, command_line, compiles, evaluates, lists, replays, serves, shows, tests, types, verifies}
 use Rattle.kd_order.proofs.EvalLine.{flagged_passes, eval_built, eval_helps, eval_in, eval_passes}
 use Rattle.kd_order.proofs.FileLines.{leases_built, leases_helps, leases_in, leases_passes, replay_built, replay_helps, replay_in, replay_passes}
+use Rattle.kd_order.proofs.ServeLine.{serve_built, serve_helps, serve_in, serve_passes}
 use Rattle.kd_order.proofs.TextLine.{one, text_helps, text_in, text_passes}
 use Rattle.kd_order.proofs.Top.{IsSub, begins, helps_first}
 
@@ -36,6 +37,9 @@ replay = record { met = refl; ours = refl; found = refl }
 leases : IsSub (codes "leases") leases_built
 leases = record { met = refl; ours = refl; found = refl }
 
+serve : IsSub (codes "serve") serve_built
+serve = record { met = refl; ours = refl; found = refl }
+
 -- the words are a line that asks for something, or their subcommand asks for nothing
 abbrev pub IsLineOrNothing : List Text → Type 0
 IsLineOrNothing ws = ((asked : Asked) × IsLine ws asked) ⊎ (asked_of (subcommand_of command_line ws) ≡ None)
@@ -58,7 +62,8 @@ asked_in name rest (inr (inr (inr (inl is)))) texts none = rw is (
 asked_in name rest (inr (inr (inr (inr (inl is))))) texts none = rw is (inl (eval_in rest eval texts (rw is at none)))
 asked_in name rest (inr (inr (inr (inr (inr (inl is)))))) texts none = rw is (inl (replay_in rest replay texts (rw is at none)))
 asked_in name rest (inr (inr (inr (inr (inr (inr (inl is))))))) texts none = rw is (leases_in rest leases texts (rw is at none))
-asked_in name rest (inr (inr (inr (inr (inr (inr (inr never))))))) texts none = absurd never
+asked_in name rest (inr (inr (inr (inr (inr (inr (inr (inl is)))))))) texts none = rw is (serve_in rest serve texts (rw is at none))
+asked_in name rest (inr (inr (inr (inr (inr (inr (inr (inr never)))))))) texts none = absurd never
 
 -- a line asks by clap for what it asks for in plain words
 pub clap_from_line : (ws : List Text) (asked : Asked) → IsLine ws asked → Asks ws asked
@@ -86,6 +91,9 @@ clap_from_line ws (replays config token_dir store) h =
 clap_from_line ws (lists config token_dir store moment) h =
     let got = leases_passes ws config token_dir store moment leases h in
     record { whole = got.0; entered = got.1 }
+clap_from_line ws (serves config token_dir store listening count) h =
+    let got = serve_passes ws config token_dir store listening count serve h in
+    record { whole = got.0; entered = got.1 }
 
 -- a line that goes on with a flag for help fails by that alone
 helps_second : (name next : Text) (rest : List Text) → IsOneOf name subcommands → IsHelpFlag next
@@ -97,7 +105,8 @@ helps_second name next rest (inr (inr (inr (inl is)))) h = rw is (text_helps (co
 helps_second name next rest (inr (inr (inr (inr (inl is))))) h = rw is (eval_helps next rest eval h)
 helps_second name next rest (inr (inr (inr (inr (inr (inl is)))))) h = rw is (replay_helps next rest replay h)
 helps_second name next rest (inr (inr (inr (inr (inr (inr (inl is))))))) h = rw is (leases_helps next rest leases h)
-helps_second name next rest (inr (inr (inr (inr (inr (inr (inr never))))))) h = absurd never
+helps_second name next rest (inr (inr (inr (inr (inr (inr (inr (inl is)))))))) h = rw is (serve_helps next rest serve h)
+helps_second name next rest (inr (inr (inr (inr (inr (inr (inr (inr never)))))))) h = absurd never
 
 -- ---- whatever the subcommands
 

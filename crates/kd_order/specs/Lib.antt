@@ -1,3 +1,4 @@
 pub mod Line
 pub mod Order
 pub mod Steps
+pub mod Values

@@ -1,10 +1,9 @@
 -- The orders of the command line, over what the crate `clap` makes of a command line and words: the
 -- command line itself, which words give which order, and the numbers of the faults.
-use Rattle.std.specs.Prelude.{◌≡◌, ◌≢◌, ◌⊎◌, ◌&&◌, ◌^◌, ℕ, Bool, true, false, List, [], length, nat_lt, nat_le}
+use Rattle.std.specs.Prelude.{◌≡◌, ◌≢◌, ◌⊎◌, ◌+◌, ◌*◌, ◌^◌, ℕ, Bool, true, false, List, []}
 use Rattle.std.specs.Prelude.{Option, Some, None, Result, Ok, Err, codes, option_and_then, option_map, if◌then◌else◌}
 use Rattle.std.specs.Option.{option_map_or}
-use Rattle.std.specs.Str.{all_ascii_digits, bytes_eq}
-use Rattle.std.specs.Str.Parse.{digits_value}
+use Rattle.std.specs.Str.{bytes_eq}
 use Rattle.std.specs.String.{string_bytes}
 use Rattle.clap.specs.Words.{App, IsAmong, Row, Rule, Text, fault_of, first_of, new_app, new_rule}
 use Rattle.clap.specs.Words.{subcommand_of, with_rule, with_subcommand}
@@ -14,9 +13,11 @@ use Rattle.clap.specs.declared.error.kind.ErrorKind.{ErrorKind}
 use Rattle.clap.specs.declared.error.kind.ErrorKind.TheVariants.{DisplayHelp}
 use Rattle.kd_order.specs.declared.fault.LineFault.{LineFault}
 use Rattle.kd_order.specs.declared.fault.LineFault.TheVariants.{CommandLine, Memory}
+use Rattle.kd_order.specs.Values.{◌>>=◌, address_of, number_of, port_of, read_or}
+use Rattle.kd_order.specs.declared.orders.Listening.{Listening}
 use Rattle.kd_order.specs.declared.orders.Order.{Order}
 use Rattle.kd_order.specs.declared.orders.Order.TheVariants.{Help, Show, Expr, Compile, Verify, Eval, EvalText, Replay}
-use Rattle.kd_order.specs.declared.orders.Order.TheVariants.{Leases}
+use Rattle.kd_order.specs.declared.orders.Order.TheVariants.{Leases, Serve}
 
 -- the number that a fault is printed with
 abbrev pub fault_number : LineFault → ℕ
@@ -81,6 +82,14 @@ replay_line = files_line (codes "replay")
 abbrev pub leases_line : App
 leases_line = with_rule (files_line (codes "leases")) (needed_value (codes "at"))
 
+-- `serve [--config F] [--token-dir D] [--store F] [--bind A] [--port P] [--client-port Q] --count N [--broadcast-as A]
+-- [--mirror]`
+abbrev pub serve_line : App
+serve_line =
+    with_rule (with_rule (with_rule (with_rule (with_rule (with_rule (files_line (codes "serve")) (valued (codes "bind")))
+    (valued (codes "port"))) (valued (codes "client-port"))) (needed_value (codes "count")))
+    (valued (codes "broadcast-as"))) (flag (codes "mirror"))
+
 -- the program, with no word for its name, and a subcommand that has to be there
 abbrev pub program_line : App
 program_line = on_top (λ s. record s { no_binary_name = true; subcommand_required = true })
@@ -90,8 +99,8 @@ program_line = on_top (λ s. record s { no_binary_name = true; subcommand_requir
 abbrev pub command_line : App
 command_line =
     with_subcommand (with_subcommand (with_subcommand (with_subcommand (with_subcommand (with_subcommand
-    (with_subcommand program_line show_line.top) expr_line.top) compile_line.top) verify_line.top) eval_line.top)
-    replay_line.top) leases_line.top
+    (with_subcommand (with_subcommand program_line show_line.top) expr_line.top) compile_line.top) verify_line.top)
+    eval_line.top) replay_line.top) leases_line.top) serve_line.top
 
 -- ---- what the words ask for
 
@@ -114,6 +123,8 @@ pub data Asked : Type 0 where
   replays : Option Text → Option Text → Option Text → Asked
   -- the leases of the store at this moment, with the same files
   lists : Option Text → Option Text → Option Text → ℕ → Asked
+  -- so many datagrams of a socket, served, with the same files, and where the socket is
+  serves : Option Text → Option Text → Option Text → Listening → ℕ → Asked
 
 -- a flag was given, by its value
 abbrev pub is_flagged : Option Text → Bool
@@ -124,19 +135,34 @@ abbrev pub evaluation_of : Option Text → Option Text → Option Text → Optio
 evaluation_of value program datagram =
     option_and_then (λ p. option_map (λ d. if is_flagged value then tests p d else evaluates p d) datagram) program
 
--- 1 to 20 decimal digits
-abbrev pub are_digits : Text → Bool
-are_digits text = nat_lt 0 (length text) && (nat_le (length text) 20 && all_ascii_digits text)
-
--- the moment of a text, where it is one: 1 to 20 decimal digits, and a number below 2 ^ 64
-abbrev pub moment_of : Text → Option ℕ
-moment_of text =
-    if are_digits text && nat_lt (digits_value 10 text) (2 ^ 64) then Some (digits_value 10 text) else None
-
--- what these files and a text ask `leases` for, where the text is there and is a moment
+-- what these files and a text ask `leases` for, where the text is there and is a number
 abbrev pub listing_of : Option Text → Option Text → Option Text → Option Text → Option Asked
 listing_of config token_dir store at =
-    option_map (λ moment. lists config token_dir store moment) (option_and_then (λ text. moment_of text) at)
+    option_map (λ moment. lists config token_dir store moment) (option_and_then (λ text. number_of text) at)
+
+-- 127.0.0.1
+abbrev pub loopback : ℕ
+loopback = 127 * 2 ^ 24 + 1
+
+-- where the socket is and where replies go, by the texts of the options and with the flag, where each text that is given
+-- is in range; without texts the address is 127.0.0.1, the port 67, that of the clients 68, and nothing stands in for
+-- 255.255.255.255
+abbrev pub listening_of : Option Text → Option Text → Option Text → Option Text → Bool → Option Listening
+listening_of bind port client_port broadcast_as mirror = do
+  address ← read_or address_of loopback bind
+  own ← read_or port_of 67 port
+  clients ← read_or port_of 68 client_port
+  everyone ← read_or (λ text. option_map (λ a. Some a) (address_of text)) None broadcast_as
+  Some (record { bind = address; port = own; client_port = clients; broadcast_as = everyone; mirror = mirror })
+
+-- what these texts of the options ask `serve` for, where each that is given is in range and the count is there
+abbrev pub serving_of : (Text → Option Text) → Option Asked
+serving_of text = do
+  listening ← listening_of (text (codes "bind")) (text (codes "port")) (text (codes "client-port"))
+      (text (codes "broadcast-as")) (is_flagged (text (codes "mirror")))
+  digits ← text (codes "count")
+  count ← number_of digits
+  Some (serves (text (codes "config")) (text (codes "token-dir")) (text (codes "store")) listening count)
 
 -- what the subcommand of this name asks for, with these matches
 abbrev pub asked_by : Text → List Row → Option Asked
@@ -153,7 +179,8 @@ asked_by name rows =
     else (if bytes_eq name (codes "leases")
     then listing_of (first_of (codes "config") rows) (first_of (codes "token-dir") rows) (first_of (codes "store") rows)
     (first_of (codes "at") rows)
-    else None))))))
+    else (if bytes_eq name (codes "serve") then serving_of (λ option. first_of option rows)
+    else None)))))))
 
 -- the same of the subcommand that was entered, if one was
 abbrev pub asked_of : Option (Text × List Row) → Option Asked
@@ -168,7 +195,7 @@ pub record Asks (words : List Text) (asked : Asked) : Type 0 where
 abbrev pub IsHelp : List Text → Type 0
 IsHelp words = IsAmong DisplayHelp (fault_of command_line words)
 
--- the words are no mistake for `clap`, but their subcommand asks for nothing: `--at` has no moment
+-- the words are no mistake for `clap`, but their subcommand asks for nothing: a text is out of range
 pub record AsksNothing (words : List Text) : Type 0 where
   pub whole : fault_of command_line words ≡ []
   pub entered : asked_of (subcommand_of command_line words) ≡ None
@@ -191,6 +218,9 @@ AsksFor words (Replay config token_dir store) = Asks words
     (replays (option_map string_bytes config) (option_map string_bytes token_dir) (option_map string_bytes store))
 AsksFor words (Leases config token_dir store at) = Asks words
     (lists (option_map string_bytes config) (option_map string_bytes token_dir) (option_map string_bytes store) at)
+AsksFor words (Serve config token_dir store listening count) = Asks words
+    (serves (option_map string_bytes config) (option_map string_bytes token_dir) (option_map string_bytes store) listening
+    count)
 
 -- the words have this fault; memory may run out at any words
 abbrev pub HasFault : List Text → LineFault → Type 0
@@ -210,6 +240,9 @@ given_by (Replay config token_dir store) = Some
     (replays (option_map string_bytes config) (option_map string_bytes token_dir) (option_map string_bytes store))
 given_by (Leases config token_dir store at) = Some
     (lists (option_map string_bytes config) (option_map string_bytes token_dir) (option_map string_bytes store) at)
+given_by (Serve config token_dir store listening count) = Some
+    (serves (option_map string_bytes config) (option_map string_bytes token_dir) (option_map string_bytes store) listening
+    count)
 
 -- the answer gives what was asked, or memory ran out
 abbrev pub GivesUnlessFull : Asked → Result Order LineFault → Type 0

@@ -6,11 +6,12 @@
 //! memory runs out.
 #![tactic(auto)]
 
+mod address;
 mod fault;
-mod moment;
+mod number;
 mod orders;
 mod words;
 
 pub use fault::LineFault;
-pub use orders::Order;
+pub use orders::{Listening, Order};
 pub use words::order;

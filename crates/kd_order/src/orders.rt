@@ -57,4 +57,32 @@ pub enum Order {
         /// The moment, in whole seconds.
         at: u64,
     },
+    /// Datagrams of a UDP socket, served.
+    Serve {
+        /// The path of the configuration's file, where the line gives one.
+        config: Option<String>,
+        /// The path of the token files' folder, where the line gives one.
+        token_dir: Option<String>,
+        /// The path of the file of the leases, where the line gives one.
+        store: Option<String>,
+        /// Where the socket is, and where replies go.
+        listening: Listening,
+        /// How many datagrams are served, 0 to 2^64 - 1.
+        count: u64,
+    },
+}
+
+/// Where datagrams are received, and where replies go.
+#[derive(Clone, Copy)]
+pub struct Listening {
+    /// The address of the socket, an IPv4 address in host order.
+    pub bind: u32,
+    /// The UDP port of the socket, 1 to 65,535.
+    pub port: u16,
+    /// The UDP port of the clients, 1 to 65,535.
+    pub client_port: u16,
+    /// The address that stands in for 255.255.255.255, in host order, where the line gives one.
+    pub broadcast_as: Option<u32>,
+    /// Whether each reply goes to the sender of its datagram, whatever its fields say.
+    pub mirror: bool,
 }

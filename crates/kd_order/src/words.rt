@@ -1,4 +1,4 @@
-ghost use Rattle.std.specs.Prelude.{◌≡◌, ◌↔◌, IfErr, IfOk, Some, codes, false, if◌then◌else◌, map};
+ghost use Rattle.std.specs.Prelude.{◌≡◌, ◌↔◌, IfErr, IfOk, None, Some, codes, false, if◌then◌else◌, map};
 ghost use Rattle.std.specs.Prelude.{option_and_then, option_map};
 ghost use Rattle.std.specs.String.{string_bytes};
 ghost use Rattle.clap.specs.Words.{app_of, first_value, found_of, kind_of};
@@ -9,22 +9,33 @@ ghost use Rattle.kd_order.specs.Order.{Asked, Asks, AsksFor, GivesUnlessFull, Ha
 ghost use Rattle.kd_order.specs.Order.{asked_of, command_line, compile_line, eval_line, expr_line, files_line};
 ghost use Rattle.kd_order.specs.Order.{leases_line, program_line, replay_line, show_line, verify_line};
 ghost use Rattle.kd_order.specs.Order.{compiles, evaluates, evaluation_of, flag, given_by, is_flagged};
-ghost use Rattle.kd_order.specs.Order.{listing_of, moment_of, needed, needed_value};
-ghost use Rattle.kd_order.specs.Order.{replays, shows, tests, types, valued, verifies};
+ghost use Rattle.kd_order.specs.Order.{listening_of, listing_of, needed, needed_value};
+ghost use Rattle.kd_order.specs.Order.{replays, serve_line, serving_of, shows, tests, types, valued, verifies};
+ghost use Rattle.kd_order.specs.Values.{address_of, number_of, port_of, read_or};
 ghost use Rattle.kd_order.specs.Steps.{AnswersKind, GivesIfThere};
 
+use crate::address::address_in;
 use crate::fault::LineFault;
-use crate::moment::moment_in;
-use crate::orders::Order;
+use crate::number::{number_in, port_in};
+use crate::orders::{Listening, Order};
 use clap::error::ErrorKind;
 use clap::{Arg, ArgAction, ArgMatches, Command};
 use std::alloc::{AllocError, Global};
+
+// 127.0.0.1, where `serve` has its socket if the line says nothing.
+const LOOPBACK: u32 = 0x7f00_0001;
+
+// The port of servers (RFC 2131 section 4.1).
+const SERVER_PORT: u16 = 67;
+
+// The port of clients.
+const CLIENT_PORT: u16 = 68;
 
 /// The order that the words give, which are those behind the program's name.
 ///
 /// # Errors
 ///
-/// `CommandLine` where the words are no command of the program, or `--at` has no moment, and `Memory`.
+/// `CommandLine` where the words are no command of the program, or the text of an option is out of range, and `Memory`.
 pub fn order(alloc: Global, words: &[String]) -> Result<Order, LineFault>
     ensures order { IfOk result (AsksFor (map string_bytes words.now)) }
     ensures fault { IfErr result (HasFault (map string_bytes words.now)) }
@@ -52,7 +63,8 @@ fn kdhcp<'a>(alloc: Global) -> Result<Command<'a>, AllocError>
         .subcommand(verify(alloc)?)?
         .subcommand(eval(alloc)?)?
         .subcommand(replay(alloc)?)?
-        .subcommand(leases(alloc)?)
+        .subcommand(leases(alloc)?)?
+        .subcommand(serve(alloc)?)
 }
 
 // The command line before its subcommands.
@@ -60,7 +72,7 @@ fn program<'a>(alloc: Global) -> Result<Command<'a>, AllocError>
     ensures { IfOk result (λ c. app_of c ≡ program_line) }
 {
     let named = Command::new(alloc, "kdhcp")
-        .about("A DHCPv4 server that replays what it is sent")
+        .about("A DHCPv4 server")
         .bin_name("kdhcp")?;
     Ok(named.no_binary_name(true).subcommand_required(true))
 }
@@ -75,6 +87,7 @@ fn show<'a>(alloc: Global) -> Result<Command<'a>, AllocError>
         .required(true);
     Command::new(alloc, "show")
         .about("Print the lines of one datagram")
+        .after_help("Example: kdhcp show \"$(cat discover.hex)\"")
         .arg(hex)
 }
 
@@ -88,6 +101,7 @@ fn expr<'a>(alloc: Global) -> Result<Command<'a>, AllocError>
         .required(true);
     Command::new(alloc, "expr")
         .about("Read and type one class test, and print how many nodes it has")
+        .after_help("Example: kdhcp expr \"option[60].hex == 'a'\"")
         .arg(class_test)
 }
 
@@ -101,6 +115,7 @@ fn compile<'a>(alloc: Global) -> Result<Command<'a>, AllocError>
         .required(true);
     Command::new(alloc, "compile")
         .about("Compile one class test, and print the token file of its program")
+        .after_help("Example: kdhcp compile \"option[60].hex == 'a'\"")
         .arg(test)
 }
 
@@ -114,6 +129,7 @@ fn verify<'a>(alloc: Global) -> Result<Command<'a>, AllocError>
         .required(true);
     Command::new(alloc, "verify")
         .about("Verify the program of one token file, and print what it declares")
+        .after_help("Example: kdhcp verify 4b34544b010003021000000003033c0100016109")
         .arg(file)
 }
 
@@ -126,14 +142,14 @@ fn needed<'a>(alloc: Global, id: &'a str, help: &'a str) -> Arg<'a>
     Arg::new(alloc, id).help(help).required(true)
 }
 
-// `--text`.
-fn text_flag<'a>(alloc: Global) -> Arg<'a>
-    ensures rule { rule_of result ≡ flag (codes "text") }
+// `--NAME`: the flag's name, and what help says of it.
+fn flag<'a>(alloc: Global, name: &'a str, help: &'a str) -> Arg<'a>
+    ensures rule { rule_of result ≡ flag name.entry.now }
     ensures local { result.global ≡ false }
 {
-    Arg::new(alloc, "text")
-        .long("text")
-        .help("Take PROGRAM as a class test in Kea's expression language")
+    Arg::new(alloc, name)
+        .long(name)
+        .help(help)
         .action(ArgAction::SetTrue)
 }
 
@@ -142,7 +158,11 @@ fn eval<'a>(alloc: Global) -> Result<Command<'a>, AllocError>
     ensures app { IfOk result (λ c. app_of c ≡ eval_line) }
     ensures local { IfOk result (λ c. (out-Command c).has_globals ≡ false) }
 {
-    let text = text_flag(alloc);
+    let text = flag(
+        alloc,
+        "text",
+        "Take PROGRAM as a class test in Kea's expression language",
+    );
     let program = needed(
         alloc,
         "PROGRAM",
@@ -155,6 +175,7 @@ fn eval<'a>(alloc: Global) -> Result<Command<'a>, AllocError>
     );
     Command::new(alloc, "eval")
         .about("Run one program over one datagram, and print its truth value")
+        .after_help("Example: kdhcp eval --text \"pkt4.msgtype == 1\" \"$(cat discover.hex)\"")
         .arg(text)?
         .arg(program)?
         .arg(datagram)
@@ -173,7 +194,12 @@ fn valued<'a>(alloc: Global, name: &'a str, value: &'a str, help: &'a str) -> Ar
 }
 
 // A subcommand over files: `NAME [--config F] [--token-dir D] [--store F]`.
-fn over_files<'a>(alloc: Global, name: &'a str, about: &'a str) -> Result<Command<'a>, AllocError>
+fn over_files<'a>(
+    alloc: Global,
+    name: &'a str,
+    about: &'a str,
+    example: &'a str,
+) -> Result<Command<'a>, AllocError>
     ensures app { IfOk result (λ c. app_of c ≡ files_line name.entry.now) }
     ensures local { IfOk result (λ c. (out-Command c).has_globals ≡ false) }
 {
@@ -187,6 +213,7 @@ fn over_files<'a>(alloc: Global, name: &'a str, about: &'a str) -> Result<Comman
     );
     Command::new(alloc, name)
         .about(about)
+        .after_help(example)
         .arg(config)?
         .arg(token_dir)?
         .arg(store)
@@ -197,7 +224,12 @@ fn replay<'a>(alloc: Global) -> Result<Command<'a>, AllocError>
     ensures app { IfOk result (λ c. app_of c ≡ replay_line) }
     ensures local { IfOk result (λ c. (out-Command c).has_globals ≡ false) }
 {
-    over_files(alloc, "replay", "Replay the events of standard input")
+    over_files(
+        alloc,
+        "replay",
+        "Replay the events of standard input",
+        "Example, the test of a configuration: kdhcp replay --config config.json < /dev/null",
+    )
 }
 
 // `--at M`, which has to be there.
@@ -213,8 +245,50 @@ fn leases<'a>(alloc: Global) -> Result<Command<'a>, AllocError>
     ensures app { IfOk result (λ c. app_of c ≡ leases_line) }
     ensures local { IfOk result (λ c. (out-Command c).has_globals ≡ false) }
 {
-    let command = over_files(alloc, "leases", "Print the leases of a store at a moment")?;
+    let command = over_files(
+        alloc,
+        "leases",
+        "Print the leases of a store at a moment",
+        "Example: kdhcp leases --store leases.db --at \"$(date +%s)\"",
+    )?;
     command.arg(at_moment(alloc))
+}
+
+// `--count N`, which has to be there.
+fn count<'a>(alloc: Global) -> Arg<'a>
+    ensures rule { rule_of result ≡ needed_value (codes "count") }
+    ensures local { result.global ≡ false }
+{
+    valued(alloc, "count", "N", "How many datagrams are served").required(true)
+}
+
+// One that serves a link without end.
+const SERVE_EXAMPLE: &str =
+    "Example: kdhcp serve --config config.json --store leases.db --bind 0.0.0.0 --count 18446744073709551615";
+
+// `serve [--config F] [--token-dir D] [--store F] [--bind A] [--port P] [--client-port Q] --count N [--broadcast-as A]
+// [--mirror]`.
+fn serve<'a>(alloc: Global) -> Result<Command<'a>, AllocError>
+    ensures app { IfOk result (λ c. app_of c ≡ serve_line) }
+    ensures local { IfOk result (λ c. (out-Command c).has_globals ≡ false) }
+{
+    let bind = valued(alloc, "bind", "A", "The socket's address, or 127.0.0.1");
+    let port = valued(alloc, "port", "P", "The socket's UDP port, or 67");
+    let client_port = valued(alloc, "client-port", "Q", "The clients' UDP port, or 68");
+    let everyone = valued(alloc, "broadcast-as", "A", "Stands in for 255.255.255.255");
+    let mirror = flag(alloc, "mirror", "Reply to the sender of a datagram");
+    over_files(
+        alloc,
+        "serve",
+        "Serve datagrams on a UDP socket",
+        SERVE_EXAMPLE,
+    )?
+    .arg(bind)?
+    .arg(port)?
+    .arg(client_port)?
+    .arg(count(alloc))?
+    .arg(everyone)?
+    .arg(mirror)
 }
 
 // What matches of the command line ask for.
@@ -229,6 +303,7 @@ fn asked_for(alloc: Global, matches: &ArgMatches<'_>) -> Result<Order, LineFault
         Some(("eval", inner)) => evaluated(alloc, inner),
         Some(("replay", inner)) => replayed(alloc, inner),
         Some(("leases", inner)) => listed(alloc, inner),
+        Some(("serve", inner)) => served(alloc, inner),
         _ => Err(LineFault::CommandLine),
     }
 }
@@ -371,7 +446,7 @@ fn listed(alloc: Global, matches: &ArgMatches<'_>) -> Result<Order, LineFault>
         (first_value (found_of matches.now) (codes "store"))
         (first_value (found_of matches.now) (codes "at"))) result }
 {
-    let Some(at) = moment_given(matches.get_str("at")) else {
+    let Some(at) = number_given(matches.get_str("at")) else {
         return Err(LineFault::CommandLine);
     };
     let Files {
@@ -387,12 +462,89 @@ fn listed(alloc: Global, matches: &ArgMatches<'_>) -> Result<Order, LineFault>
     })
 }
 
-// The moment of an argument, where it is there and is one.
-fn moment_given(value: Option<&str>) -> Option<u64>
-    ensures { result ≡ option_and_then (λ text. moment_of text.now) value.entry }
+// What matches of `serve` ask for.
+fn served(alloc: Global, matches: &ArgMatches<'_>) -> Result<Order, LineFault>
+    ensures { GivesIfThere (serving_of (λ name. first_value (found_of matches.now) name)) result }
+{
+    let Some(listening) = listening_in(matches) else {
+        return Err(LineFault::CommandLine);
+    };
+    let Some(count) = number_given(matches.get_str("count")) else {
+        return Err(LineFault::CommandLine);
+    };
+    let Files {
+        config,
+        token_dir,
+        store,
+    } = files_of(alloc, matches)?;
+    Ok(Order::Serve {
+        config,
+        token_dir,
+        store,
+        listening,
+        count,
+    })
+}
+
+// Where matches of `serve` say that the socket is and that replies go.
+fn listening_in(matches: &ArgMatches<'_>) -> Option<Listening>
+    ensures { result ≡ listening_of (first_value (found_of matches.now) (codes "bind"))
+        (first_value (found_of matches.now) (codes "port"))
+        (first_value (found_of matches.now) (codes "client-port"))
+        (first_value (found_of matches.now) (codes "broadcast-as"))
+        (is_flagged (first_value (found_of matches.now) (codes "mirror"))) }
+{
+    let bind = address_or(matches.get_str("bind"), LOOPBACK)?;
+    let port = port_or(matches.get_str("port"), SERVER_PORT)?;
+    let client_port = port_or(matches.get_str("client-port"), CLIENT_PORT)?;
+    let broadcast_as = address_if_given(matches.get_str("broadcast-as"))?;
+    let mirror = is_flagged(matches.get_str("mirror"));
+    Some(Listening {
+        bind,
+        port,
+        client_port,
+        broadcast_as,
+        mirror,
+    })
+}
+
+// The address of an argument, or this one where it is not there.
+fn address_or(value: Option<&str>, standard: u32) -> Option<u32>
+    ensures { result ≡ read_or address_of standard (option_map (λ s. s.now) value.entry) }
 {
     match value {
-        Some(text) => moment_in(text),
+        Some(text) => address_in(text),
+        None => Some(standard),
+    }
+}
+
+// The address of an argument, if it is there.
+fn address_if_given(value: Option<&str>) -> Option<Option<u32>>
+    ensures { result ≡ read_or (λ text. option_map (λ a. Some a) (address_of text)) None
+        (option_map (λ s. s.now) value.entry) }
+{
+    match value {
+        Some(text) => Some(Some(address_in(text)?)),
+        None => Some(None),
+    }
+}
+
+// The port of an argument, or this one where it is not there.
+fn port_or(value: Option<&str>, standard: u16) -> Option<u16>
+    ensures { result ≡ read_or port_of standard (option_map (λ s. s.now) value.entry) }
+{
+    match value {
+        Some(text) => port_in(text),
+        None => Some(standard),
+    }
+}
+
+// The number of an argument, where it is there and is one.
+fn number_given(value: Option<&str>) -> Option<u64>
+    ensures { result ≡ option_and_then (λ text. number_of text.now) value.entry }
+{
+    match value {
+        Some(text) => number_in(text),
         None => None,
     }
 }

@@ -104,11 +104,11 @@ module _ {H : Type 0} (gives : H → Event → Handled → H → Type 0) where
         → MatchResult result (λ _. IsAnswered handled mid gone old written) (λ fault. (fault ≡ faults.Write) × IsCut handled mid gone old written)
         → OnErr result not_written
         → IfErr result (λ fault. EndsServing gives fails not_received not_written fault server new
-            (record { received = received; sent = sent; written = old }) (record { received = after; sent = gone; written = written }))
+        (record { received = received; sent = sent; written = old }) (record { received = after; sent = gone; written = written }))
     ended_if fails not_received not_written (Ok done) h failed = tt
     ended_if fails not_received not_written (Err fault) h failed =
         subst (λ (f : LoopFault). EndsServing gives fails not_received not_written f server new
-            (record { received = received; sent = sent; written = old }) (record { received = after; sent = gone; written = written })) (sym h.0) (failed, cut_one h.1)
+        (record { received = received; sent = sent; written = old }) (record { received = after; sent = gone; written = written })) (sym h.0) (failed, cut_one h.1)
 
 module _ {H : Type 0} (gives : H → Event → Handled → H → Type 0) (fails : H → Event → ServeFault → H → Type 0) where
   -- there is no memory to serve in

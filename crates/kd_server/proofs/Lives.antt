@@ -14,7 +14,7 @@ use Rattle.kd_options.specs.Message.{Reads}
 use Rattle.kd_rows.specs.Table.{latest_of}
 use Rattle.kd_rows.specs.declared.row.Row.{Row}
 use Rattle.kd_server.specs.Keeping.{Holds, IsStopped, Keeping, Refuses, Steps}
-use Rattle.kd_server.specs.Lives.{Answers, AreSteps, AreStepsOfAll, Call, Called, IsAnswerOf, IsIdle, IsLeft, IsNoRun, IsOpening, IsRun, Life, LivesAreHistories, Opening, RunsAreCalls, calls_of, first_rows}
+use Rattle.kd_server.specs.Lives.{Answers, AreSteps, Call, Called, IsAnswerOf, IsIdle, IsLeft, IsNoRun, IsOpening, IsRun, LivesAreHistories, Opening, RunsAreCalls, calls_of}
 use Rattle.kd_server.specs.NoOverlap.{Happens, History, Step, now_of}
 use Rattle.kd_server.specs.Step.{IsAnswered, IsUnreadable}
 

@@ -1,5 +1,5 @@
 -- Lists that are gone through from the front, and texts put one after another.
-use Rattle.std.proofs.Common.{◌≡◌, ℕ, zero, suc, ◌+◌, List, [], ◌∷◌, ◌++◌, length, map, take, Some, None, refl, sym, ap, ◌∙◌, arith, append_assoc, true≢false, is_some}
+use Rattle.std.proofs.Common.{◌≡◌, ℕ, zero, suc, ◌+◌, List, [], ◌∷◌, ◌++◌, map, take, Some, None, refl, sym, ap, arith, append_assoc, true≢false, is_some}
 use Rattle.std.specs.Prelude.{slice_get}
 
 module _ {X Y : Type 0} (f : X → Y) where

@@ -1,6 +1,5 @@
 -- The leases of a server at a moment, and the lines that are printed of them.
 use Rattle.std.specs.Prelude.{◌≡◌, ℕ, ◌^◌, ◌<◌, ◌≤◌, max, Bool, true, false, nat_lt, List, ◌++◌, map, codes, decimal}
-use Rattle.std.specs.List.{flat_map}
 use Rattle.kd_replay.specs.Text.{address_text, bytes_text}
 use Rattle.kd_replay.specs.declared.fault.ServeFault.{ServeFault}
 use Rattle.kd_replay.specs.declared.fault.ServeFault.TheVariants as faults

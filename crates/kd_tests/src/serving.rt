@@ -77,12 +77,22 @@ fn two_datagrams_are_served_over_a_socket(rt: HostRuntime) -> Result<(), Fail> {
     };
     let mut link = Socket::over(socket, sending);
     let mut sink = Keeping::new(alloc, 7, usize::MAX);
-    let served = serve(alloc, &mut link, &mut Still, &mut sink, &mut server(alloc)?, 2);
+    let served = serve(
+        alloc,
+        &mut link,
+        &mut Still,
+        &mut sink,
+        &mut server(alloc)?,
+        2,
+    );
     assert!(rt; served == Ok(()));
     let mut reply = [0; 1_500];
     let (len, sender) = client.recv_from(&mut reply)?;
     assert!(rt; sender == address);
-    let wanted = format!(in alloc; "{offer}100 quiet 1 Unreadable\n", offer = offer_line(alloc, &reply[..len])?)?;
+    let wanted = format!(in alloc;
+        "{offer}100 quiet 1 Unreadable\n",
+        offer = offer_line(alloc, &reply[..len])?
+    )?;
     assert!(rt; sink.as_slice() == wanted.as_bytes());
     Ok(())
 }
@@ -148,7 +158,14 @@ fn served(
 ) -> Result<(Result<(), LoopFault>, Keeping, Vec<u8>), AllocError> {
     let mut link = Wired::new(alloc, 2, loses)?;
     let mut sink = Keeping::new(alloc, usize::MAX, until);
-    let result = serve(alloc, &mut link, &mut Still, &mut sink, &mut server(alloc)?, 3);
+    let result = serve(
+        alloc,
+        &mut link,
+        &mut Still,
+        &mut sink,
+        &mut server(alloc)?,
+        3,
+    );
     let Wired { reply, .. } = link;
     Ok((result, sink, reply))
 }

@@ -1,6 +1,6 @@
 use Rattle.std.proofs.Common.{refl, codes}
 use Rattle.kd_order.specs.Order.{compiles, shows, types, verifies}
-use Rattle.kd_order.proofs.FromMatches.{at_eval, at_leases, at_replay, at_text}
+use Rattle.kd_order.proofs.FromMatches.{at_eval, at_leases, at_replay, at_serve, at_text}
 use Rattle.kd_order.proofs.words.asked_for.Goals as goal
 
 pub returns-in-Some-show-default : goal.returns-in-Some-show-default
@@ -41,3 +41,8 @@ pub returns-in-Some-leases-default : goal.returns-in-Some-leases-default
 returns-in-Some-leases-default c =
     let e = c.in-Some-leases-default.ensures in
     at_leases c.args.matches.now c.in-Some-leases-default.inner.now _ c.listed.result e.name e.rows c.in-Some-leases-default.is-leases c.listed.ensures
+
+pub returns-in-Some-serve-default : goal.returns-in-Some-serve-default
+returns-in-Some-serve-default c =
+    let e = c.in-Some-serve-default.ensures in
+    at_serve c.args.matches.now c.in-Some-serve-default.inner.now _ c.served.result e.name e.rows c.in-Some-serve-default.is-serve c.served.ensures

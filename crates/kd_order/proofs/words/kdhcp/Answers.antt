@@ -1,4 +1,4 @@
-use Rattle.kd_order.specs.Order.{compile_line, eval_line, expr_line, leases_line, program_line, replay_line, show_line, verify_line}
+use Rattle.kd_order.specs.Order.{compile_line, eval_line, expr_line, leases_line, program_line, replay_line, serve_line, show_line, verify_line}
 use Rattle.kd_order.proofs.Commands.{added, added_last}
 use Rattle.kd_order.proofs.words.kdhcp.Goals as goal
 
@@ -10,4 +10,5 @@ returns c =
     let four = added _ _ _ _ verify_line c.in_ok-subcommand-4.ensures three c.in_ok-verify.ensures.app c.in_ok-verify.ensures.local in
     let five = added _ _ _ _ eval_line c.in_ok-subcommand-5.ensures four c.in_ok-eval.ensures.app c.in_ok-eval.ensures.local in
     let six = added _ _ _ _ replay_line c.in_ok-subcommand-6.ensures five c.in_ok-replay.ensures.app c.in_ok-replay.ensures.local in
-    added_last _ _ c.subcommand-7.result _ leases_line c.subcommand-7.ensures six c.in_ok-leases.ensures.app c.in_ok-leases.ensures.local
+    let seven = added _ _ _ _ leases_line c.in_ok-subcommand-7.ensures six c.in_ok-leases.ensures.app c.in_ok-leases.ensures.local in
+    added_last _ _ c.subcommand-8.result _ serve_line c.subcommand-8.ensures seven c.in_ok-serve.ensures.app c.in_ok-serve.ensures.local

@@ -1,5 +1,4 @@
-use Rattle.std.proofs.Common.{◌≡◌, ◌++◌, ◌∷◌, [], ap, map, sym, take, ◌∙◌}
-use Rattle.kd_rows.specs.declared.row.Row.{Row}
+use Rattle.std.proofs.Common.{◌++◌, ◌∷◌, [], ap, map, sym, take, ◌∙◌}
 use Rattle.kd_server.specs.Leases.{lease_at}
 use Rattle.kd_server.specs.declared.leases.Lease.{Lease}
 use Rattle.kd_server.proofs.Taken.{all_taken, map_taken}

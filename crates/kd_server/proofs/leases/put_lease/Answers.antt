@@ -1,4 +1,4 @@
-use Rattle.std.proofs.Common.{◌≡◌, ◌++◌, ap, ◌∙◌}
+use Rattle.std.proofs.Common.{◌++◌, ap, ◌∙◌}
 use Rattle.std.specs.Prelude.{codes, string_bytes}
 use Rattle.std.specs.Fmt.{decimal}
 use Rattle.kd_replay.specs.Text.{address_text, bytes_text}

@@ -1,18 +1,28 @@
 ghost use Rattle.std.specs.Prelude.{◌≡◌};
 ghost use Rattle.std.specs.Str.{all_ascii_digits};
-ghost use Rattle.kd_order.specs.Order.{are_digits, moment_of};
+ghost use Rattle.kd_order.specs.Values.{are_digits, number_of, port_of};
 
-// The most digits that a moment has.
+// The most digits that a number has.
 const MOST_DIGITS: usize = 20;
 
-// The moment of a text, where it is one.
-pub(crate) fn moment_in(text: &str) -> Option<u64>
-    ensures { result ≡ moment_of text.now }
+// The number of a text, where it is one.
+pub(crate) fn number_in(text: &str) -> Option<u64>
+    ensures { result ≡ number_of text.now }
 {
     if is_numeral(text) {
         text.parse::<u64>().ok()
     } else {
         None
+    }
+}
+
+// The port of a text, where it is one.
+pub(crate) fn port_in(text: &str) -> Option<u16>
+    ensures { result ≡ port_of text.now }
+{
+    match number_in(text) {
+        Some(number) if number > 0 && number < 65_536 => Some(number as u16),
+        _ => None,
     }
 }
 

@@ -4,8 +4,8 @@ use Rattle.std.specs.Str.{all_ascii_digits}
 use Rattle.std.specs.Str.Parse.{ParsesUnsigned, digits_value}
 use Rattle.std.proofs.lemmas.Bool.{lt-ltb, ltb-true}
 use Rattle.std.proofs.lemmas.Str.Parse.{IsNumeralModel, numerals_by_value, parse_digits, tells_all_ascii_digits}
-use Rattle.kd_order.specs.Order.{are_digits, moment_of}
-use Rattle.kd_order.proofs.moment.moment_in.Goals as goal
+use Rattle.kd_order.specs.Values.{are_digits, number_of}
+use Rattle.kd_order.proofs.number.number_in.Goals as goal
 
 own : IsNumeralModel (λ ds. all_ascii_digits ds ≡ true) (digits_value 10)
 own = numerals_by_value (λ ds. all_ascii_digits ds ≡ true) tells_all_ascii_digits
@@ -19,19 +19,19 @@ some_digits : (text : List ℕ) → are_digits text ≡ true → 0 < length text
 some_digits [] h = cc
 some_digits (c ∷ cs) h = omega arith
 
--- what a parse of digits gives is their moment
+-- what a parse of digits gives is their number
 by_value : {E : Type 0} (text : List ℕ) (r : Result ℕ E) → are_digits text ≡ true
-    → OkIff r ((0 < length text) × (digits_value 10 text < 2 ^ 64)) (digits_value 10 text) → result_ok r ≡ moment_of text
+    → OkIff r ((0 < length text) × (digits_value 10 text < 2 ^ 64)) (digits_value 10 text) → result_ok r ≡ number_of text
 by_value text (Ok n) digits (fits, is) =
     let below : nat_lt (digits_value 10 text) (2 ^ 64) ≡ true = lt-ltb (digits_value 10 text) (2 ^ 64) fits.1 in
     rw (digits, below) (ap (λ x. Some x) is)
 by_value text (Err error) digits not_that = go (nat_lt (digits_value 10 text) (2 ^ 64)) refl
   where
-    go : (t : Bool) → nat_lt (digits_value 10 text) (2 ^ 64) ≡ t → None ≡ moment_of text
+    go : (t : Bool) → nat_lt (digits_value 10 text) (2 ^ 64) ≡ t → None ≡ number_of text
     go true e = absurd (not_that (some_digits text digits, ltb-true (digits_value 10 text) (2 ^ 64) e))
     go false e = rw (digits, e) refl
 
-parsed : {E : Type 0} (text : List ℕ) (r : Result ℕ E) (o : Option ℕ) → are_digits text ≡ true → ParsesUnsigned 64 10 text r → o ≡ result_ok r → o ≡ moment_of text
+parsed : {E : Type 0} (text : List ℕ) (r : Result ℕ E) (o : Option ℕ) → are_digits text ≡ true → ParsesUnsigned 64 10 text r → o ≡ result_ok r → o ≡ number_of text
 parsed text r o digits parses is =
     let all : all_ascii_digits text ≡ true = last_of (nat_lt 0 (length text)) (nat_le (length text) 20) (all_ascii_digits text) digits in
     is ∙ by_value text r digits (parse_digits own 64 text r parses all)

@@ -1,0 +1,58 @@
+use crate::datagrams::{Datagrams, Moments};
+use crate::files::Files;
+use crate::stores::Stores;
+use kd_config::Config;
+use kd_ends::{InMemory, StartFault};
+use kd_keeps::StoreFault;
+use kd_order::Listening;
+use kd_program::Host;
+use kd_replay::EndFailed;
+use kd_store::Store;
+
+/// A host in memory: its files and stores, and for a socket the lines of standard input.
+#[derive(Drop)]
+pub struct Room<'a> {
+    pub rt: &'a HostRuntime,
+    pub files: &'a Files,
+    pub stores: &'a mut Stores,
+    pub input: &'a str,
+}
+
+impl<'a> Host for Room<'a> {
+    type Named = Store<InMemory>;
+
+    type Unnamed = Store<InMemory>;
+
+    type Socket = Datagrams<'a>;
+
+    type Clock = Moments<'a>;
+
+    fn configuration(
+        &mut self,
+        file: Option<&str>,
+        folder: Option<&str>,
+    ) -> Result<Config, StartFault> {
+        self.files.configuration(self.rt, file, folder)
+    }
+
+    fn named_store(&mut self, path: &str) -> Result<Store<InMemory>, StoreFault> {
+        self.stores.take(self.rt.alloc(), path)
+    }
+
+    fn unnamed_store(&mut self) -> Result<Store<InMemory>, StoreFault> {
+        self.stores.take(self.rt.alloc(), "")
+    }
+
+    // A store for which there is no memory is lost, and the next case that names it finds a new one.
+    fn close(&mut self, path: &str, store: Store<InMemory>) {
+        let _kept = self.stores.put(self.rt.alloc(), path, store);
+    }
+
+    fn socket(&mut self, listening: Listening) -> Result<Datagrams<'a>, EndFailed> {
+        Datagrams::bind(self.rt, listening, self.input)
+    }
+
+    fn clock(&mut self) -> Moments<'a> {
+        Moments::of(self.input)
+    }
+}

@@ -1,0 +1,14 @@
+use Rattle.std.proofs.Common.{Ok, Err, refl}
+use Rattle.kd_program.specs.Streams.{written_to}
+use Rattle.kd_program.proofs.Told.{told_as}
+use Rattle.kd_program.proofs.serving.received.Goals as goal
+
+pub returns-in-Ok : goal.returns-in-Ok
+returns-in-Ok g c = record { result = Ok tt; served = c.in-Ok.ensures.served; ends = (refl, refl) }
+
+pub returns-in-Err : goal.returns-in-Err
+returns-in-Err g c = record {
+  result = Err c.in-Err.fault;
+  served = c.in-Err.ensures.stopped;
+  ends = told_as _ _ _ _ _ (written_to g.E.Sink c.args.ends.now.faults) _ c.number.ensures c.serve_status.ensures c.refuse_as.ensures;
+}

@@ -1,0 +1,16 @@
+use Rattle.std.proofs.Common.{refl, subst, inl, inr}
+use Rattle.kd_server.specs.Keeping.{Opens}
+use Rattle.kd_program.specs.Streams.{written_to}
+use Rattle.kd_program.proofs.Told.{told_own}
+use Rattle.kd_program.proofs.serving.served_over.Goals as goal
+
+pub returns-in-Err : goal.returns-in-Err
+returns-in-Err g c =
+    inr (c.in-Err.fault, c.in-Err.field-0-1, c.in-Err.store, c.in-Err.ensures.refused, (refl, told_own _ _ _ (written_to g.E.Sink c.args.ends.now.faults) _ c.number.ensures c.refuse-status.ensures))
+
+pub returns : goal.returns
+returns g c = inl (
+  c.in-Ok.server,
+  subst (λ ports. Opens g.S.Keeps ports c.args.config c.args.store c.in-Ok.server) c.ports_of.ensures c.in-Ok.ensures.opened,
+  c.worked-status.ensures,
+)

@@ -1,0 +1,91 @@
+use kd_config::Subnet;
+use kd_order::Listening;
+use std::alloc::{AllocError, Global};
+use std::fmt::Write;
+
+/// What a server says of itself before it serves.
+#[derive(Clone, Copy)]
+pub struct Banner<'a> {
+    /// The socket.
+    pub listening: Listening,
+    /// What its configuration has.
+    pub sizes: Sizes,
+    /// How many rows of leases it has at its start.
+    pub leases: usize,
+    /// The path of its store, or `memory`.
+    pub store: &'a str,
+}
+
+/// How much a configuration has.
+#[derive(Clone, Copy)]
+pub struct Sizes {
+    /// Its subnets.
+    pub subnets: usize,
+    /// The addresses of their pools.
+    pub addresses: u64,
+}
+
+/// How many addresses the pools of these subnets have.
+pub fn pool_addresses(subnets: &[Subnet]) -> u64 {
+    let mut sum: u64 = 0;
+    for subnet in subnets {
+        for pool in subnet.pools.as_slice() {
+            let last = u64::from(pool.range.last);
+            let before = last.saturating_sub(u64::from(pool.range.first));
+            sum = sum.saturating_add(before.saturating_add(1));
+        }
+    }
+    sum
+}
+
+/// `serving ADDRESS:PORT, subnets N, addresses N, leases N, store PATH`, with its line feed.
+pub fn banner_line(alloc: Global, banner: &Banner<'_>) -> Result<String, AllocError> {
+    let mut line = String::new(alloc);
+    line.push_str("serving ")?;
+    put_place(&mut line, banner.listening.bind, banner.listening.port)?;
+    line.push_str(", subnets ")?;
+    put_grouped(&mut line, banner.sizes.subnets as u64)?;
+    line.push_str(", addresses ")?;
+    put_grouped(&mut line, banner.sizes.addresses)?;
+    line.push_str(", leases ")?;
+    put_grouped(&mut line, banner.leases as u64)?;
+    line.push_str(", store ")?;
+    line.push_str(banner.store)?;
+    line.push_str("\n")?;
+    Ok(line)
+}
+
+// An address, a number in host order, and a port.
+fn put_place(line: &mut String, address: u32, port: u16) -> Result<(), AllocError> {
+    let a = address / 0x100_0000;
+    let b = address / 0x1_0000 % 256;
+    let c = address / 0x100 % 256;
+    let d = address % 256;
+    write!(line, "{a}.{b}.{c}.{d}:{port}")
+}
+
+// The weights of a number's groups of three digits.
+const GROUPS: [u64; 7] = [
+    1_000_000_000_000_000_000,
+    1_000_000_000_000_000,
+    1_000_000_000_000,
+    1_000_000_000,
+    1_000_000,
+    1_000,
+    1,
+];
+
+// A number with commas between its groups of three digits.
+fn put_grouped(line: &mut String, number: u64) -> Result<(), AllocError> {
+    let mut begun = false;
+    for weight in GROUPS {
+        let group = number / weight % 1_000;
+        if begun {
+            write!(line, ",{group:03}")?;
+        } else if group > 0 || weight == 1 {
+            write!(line, "{group}")?;
+            begun = true;
+        }
+    }
+    Ok(())
+}

@@ -1,0 +1,12 @@
+use kd_replay::{Sink, Source};
+
+/// The standard streams of a command.
+#[derive(Drop)]
+pub struct Ends<R: Source, O: Sink, E: Sink> {
+    /// Standard input.
+    pub input: R,
+    /// Standard output.
+    pub output: O,
+    /// Standard error.
+    pub faults: E,
+}

@@ -1,0 +1,17 @@
+//! The program: what each command prints, where, and its exit status, whatever its host is.
+//!
+//! What this layer promises to the one above: `run` carries out the words of a command line over a host (`Host`), which
+//! has files, stores of leases, a socket and a clock, and over the three standard streams.
+#![tactic(auto)]
+
+mod banner;
+mod ends;
+mod host;
+mod printing;
+mod running;
+mod serving;
+
+pub use ends::Ends;
+pub use host::Host;
+pub use printing::refuse_words;
+pub use running::run;

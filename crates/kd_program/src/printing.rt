@@ -1,0 +1,110 @@
+ghost use Rattle.std.specs.Prelude.{◌≡◌, ◌++◌, ℕ, IfOk, List, codes, string_bytes};
+ghost use Rattle.std.specs.Fmt.{decimal};
+ghost use Rattle.kd_answer.specs.Show.{line_feed};
+ghost use Rattle.kd_program.specs.Streams.{Prints, Puts, ShowsOrBreaks, TellsWith, fault_line, memory_line, streams, written_to};
+ghost use Rattle.kd_order.specs.Order.{fault_number};
+ghost use Rattle.kd_answer.specs.Status.{status_of};
+
+use crate::ends::Ends;
+use kd_answer::{Printed, exit_status};
+use kd_order::LineFault;
+use kd_replay::{Sink, Source, write_all};
+use std::alloc::{AllocError, Global};
+use std::fmt::Display;
+
+const MEMORY_FAULT: &[u8] = b"fault 91 Memory\n";
+
+const WRITE_FAULT: &[u8] = b"fault 95 Write\n";
+
+/// Writes to standard error. That it fails changes nothing: there is nobody to tell.
+pub fn tell<E: Sink>(faults: &mut E, text: &[u8])
+    ensures { Puts text.now (written_to E.Sink faults.old) (written_to E.Sink faults.new) }
+{
+    match write_all(faults, text) {
+        Ok(()) => {}
+        Err(_) => {}
+    }
+}
+
+/// Writes to standard output, and says the exit status: where that fails, `fault 95 Write` and its status.
+pub fn show<O: Sink, E: Sink>(output: &mut O, faults: &mut E, text: &[u8], status: u8) -> u8
+    ensures { ShowsOrBreaks text.now status result (written_to O.Sink output.old) (written_to O.Sink output.new)
+        (written_to E.Sink faults.old) (written_to E.Sink faults.new) }
+{
+    match write_all(output, text) {
+        Ok(()) => status,
+        Err(_) => {
+            tell(faults, WRITE_FAULT);
+            exit_status(95)
+        }
+    }
+}
+
+/// Writes what an order prints, its text or the line of its fault, and says the exit status.
+pub fn print<R: Source, O: Sink, E: Sink>(ends: &mut Ends<R, O, E>, printed: &Printed) -> u8
+    ensures { Prints printed.now result (streams R.Source O.Sink E.Sink ends.old) (streams R.Source O.Sink E.Sink ends.new) }
+{
+    let fault = printed.fault.as_slice();
+    if fault.is_empty() {
+        let text = printed.out.as_slice();
+        return show(&mut ends.output, &mut ends.faults, text, printed.status);
+    }
+    tell(&mut ends.faults, fault);
+    printed.status
+}
+
+/// Writes the line of a fault with a number, and says its exit status; want of memory for the line is a fault too.
+pub fn refuse<E: Sink, F: Display>(alloc: Global, faults: &mut E, number: u8, fault: &F) -> u8
+    ensures { TellsWith number (status_of number) result (written_to E.Sink faults.old) (written_to E.Sink faults.new) }
+{
+    refuse_as(alloc, faults, number, fault, exit_status(number))
+}
+
+/// The same with another exit status.
+pub fn refuse_as<E: Sink, F: Display>(
+    alloc: Global,
+    faults: &mut E,
+    number: u8,
+    fault: &F,
+    status: u8,
+) -> u8
+    ensures { TellsWith number status result (written_to E.Sink faults.old) (written_to E.Sink faults.new) }
+{
+    match line_of_fault(alloc, number, fault) {
+        Ok(line) => {
+            tell(faults, line.as_bytes());
+            status
+        }
+        Err(_) => refuse_memory(faults),
+    }
+}
+
+/// Writes the line of want of memory, and says its exit status.
+pub fn refuse_memory<E: Sink>(faults: &mut E) -> u8
+    ensures { (result ≡ 1) × Puts memory_line (written_to E.Sink faults.old) (written_to E.Sink faults.new) }
+{
+    tell(faults, MEMORY_FAULT);
+    exit_status(91)
+}
+
+/// Writes why there are no words to carry out, and says the exit status.
+pub fn refuse_words<E: Sink>(alloc: Global, faults: &mut E, fault: LineFault) -> u8
+    ensures { TellsWith (fault_number fault) (status_of (fault_number fault)) result (written_to E.Sink faults.old) (written_to E.Sink faults.new) }
+{
+    refuse(alloc, faults, fault.number(), &fault)
+}
+
+// `fault NUMBER NAME`, and the operands behind the name.
+fn line_of_fault<F: Display>(alloc: Global, number: u8, fault: &F) -> Result<String, AllocError>
+    ensures { IfOk result (λ line. (name : List ℕ) × (string_bytes line ≡ fault_line number name)) }
+{
+    let name = format!(in alloc; "{fault}")?;
+    named_line(alloc, number, name.as_str())
+}
+
+// The line of a fault with a number and a name.
+fn named_line(alloc: Global, number: u8, name: &str) -> Result<String, AllocError>
+    ensures { IfOk result (λ line. string_bytes line ≡ codes "fault " ++ decimal number ++ codes " " ++ name.now ++ line_feed) }
+{
+    format!(in alloc; "fault {number} {name}\n")
+}

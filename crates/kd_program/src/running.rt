@@ -1,0 +1,94 @@
+ghost use Rattle.std.specs.Prelude.{◌≡◌, false, map, string_bytes};
+ghost use Rattle.kd_program.specs.Streams.{streams};
+ghost use Rattle.kd_program.specs.Running.{Carries, Does};
+
+use crate::ends::Ends;
+use crate::host::Host;
+use crate::printing::{print, refuse_memory, refuse_words};
+use crate::serving::{Files, Work, served};
+use kd_answer::answer;
+use kd_order::{Order, order};
+use kd_replay::{Sink, Source};
+use std::alloc::Global;
+
+/// Carries out the words behind the program's name, and says the exit status. What is refused has one line on standard
+/// error, `fault NUMBER NAME` with its operands; where standard output fails that is `fault 95 Write`.
+pub fn run<H: Host, R: Source, O: Sink, E: Sink>(
+    alloc: Global,
+    words: &[String],
+    host: &mut H,
+    ends: &mut Ends<R, O, E>,
+) -> u8
+    requires input { R.has_failed ends.old.input ≡ false }
+    requires output { O.has_failed ends.old.output ≡ false }
+    ensures { Carries H.Named.Keeps H.Unnamed.Keeps H.Socket.Link (map string_bytes words.now) result (streams R.Source O.Sink E.Sink ends.old) (streams R.Source O.Sink E.Sink ends.new) }
+{
+    match order(alloc, words) {
+        Ok(order) => carried_out(alloc, order, host, ends),
+        Err(fault) => refuse_words(alloc, &mut ends.faults, fault),
+    }
+}
+
+// Carries out an order.
+fn carried_out<H: Host, R: Source, O: Sink, E: Sink>(
+    alloc: Global,
+    order: Order,
+    host: &mut H,
+    ends: &mut Ends<R, O, E>,
+) -> u8
+    requires input { R.has_failed ends.old.input ≡ false }
+    requires output { O.has_failed ends.old.output ≡ false }
+    ensures { Does H.Named.Keeps H.Unnamed.Keeps H.Socket.Link order result (streams R.Source O.Sink E.Sink ends.old) (streams R.Source O.Sink E.Sink ends.new) }
+{
+    match order {
+        Order::Replay {
+            config,
+            token_dir,
+            store,
+        } => served(
+            alloc,
+            host,
+            ends,
+            &Files {
+                config,
+                token_dir,
+                store,
+            },
+            Work::Replay,
+        ),
+        Order::Leases {
+            config,
+            token_dir,
+            store,
+            at,
+        } => served(
+            alloc,
+            host,
+            ends,
+            &Files {
+                config,
+                token_dir,
+                store,
+            },
+            Work::Leases(at),
+        ),
+        Order::Serve {
+            config,
+            token_dir,
+            store,
+            listening,
+            count,
+        } => {
+            let files = Files {
+                config,
+                token_dir,
+                store,
+            };
+            served(alloc, host, ends, &files, Work::Serve(listening, count))
+        }
+        other => match answer(alloc, &other) {
+            Ok(printed) => print(ends, &printed),
+            Err(_) => refuse_memory(&mut ends.faults),
+        },
+    }
+}

@@ -1,0 +1,245 @@
+ghost use Rattle.std.specs.Prelude.{◌≡◌, false, option_map, string_bytes};
+ghost use Rattle.kd_program.specs.Streams.{streams};
+ghost use Rattle.kd_program.specs.Running.{Listens, Lists, Receives, Replays, Serves, Starts, Works, ports_of};
+
+use crate::banner::{Banner, Sizes, banner_line, pool_addresses};
+use crate::ends::Ends;
+use crate::host::Host;
+use crate::printing::{refuse, refuse_as, refuse_memory, show, tell};
+use kd_answer::{replay_status, serve_status};
+use kd_config::Config;
+use kd_event::Ports;
+use kd_keeps::Keeps;
+use kd_order::Listening;
+use kd_replay::{Clock, Link, LoopFault, Sink, Source};
+use kd_server::{Server, lease_lines, replay, serve};
+use std::alloc::Global;
+
+/// The paths of the files that a server goes by, where they are given.
+#[derive(Drop)]
+pub struct Files {
+    /// The configuration's file.
+    pub config: Option<String>,
+    /// The folder of the token files.
+    pub token_dir: Option<String>,
+    /// The file of the leases.
+    pub store: Option<String>,
+}
+
+/// What a server is opened for.
+#[derive(Clone, Copy)]
+pub enum Work {
+    /// To replay the events of standard input to standard output.
+    Replay,
+    /// To print the leases at a moment, in whole seconds.
+    Leases(u64),
+    /// To serve so many datagrams of a socket.
+    Serve(Listening, u64),
+}
+
+/// Does this work as a server that goes by the configuration of these files and keeps its leases in the store of a path,
+/// or in memory without one; and says the exit status.
+pub fn served<H: Host, R: Source, O: Sink, E: Sink>(
+    alloc: Global,
+    host: &mut H,
+    ends: &mut Ends<R, O, E>,
+    files: &Files,
+    work: Work,
+) -> u8
+    requires input { R.has_failed ends.old.input ≡ false }
+    requires output { O.has_failed ends.old.output ≡ false }
+    ensures { Starts H.Named.Keeps H.Unnamed.Keeps H.Socket.Link (option_map string_bytes files.now.store) work result (streams R.Source O.Sink E.Sink ends.old) (streams R.Source O.Sink E.Sink ends.new) }
+{
+    let config = match host.configuration(files.config.as_deref(), files.token_dir.as_deref()) {
+        Ok(config) => config,
+        Err(fault) => return refuse(alloc, &mut ends.faults, fault.number(), &fault),
+    };
+    match &files.store {
+        Some(path) => match host.named_store(path.as_str()) {
+            Ok(store) => {
+                let (status, store) = served_over(
+                    alloc,
+                    host,
+                    ends,
+                    config,
+                    store,
+                    path.as_str(),
+                    work,
+                );
+                host.close(path.as_str(), store);
+                status
+            }
+            Err(fault) => refuse(alloc, &mut ends.faults, fault.number(), &fault),
+        },
+        None => match host.unnamed_store() {
+            Ok(store) => served_over(alloc, host, ends, config, store, "memory", work).0,
+            Err(fault) => refuse(alloc, &mut ends.faults, fault.number(), &fault),
+        },
+    }
+}
+
+// Does this work as a server of a configuration over a store with a name; the store comes back.
+fn served_over<H: Host, R: Source, O: Sink, E: Sink, S: Keeps + Drop>(
+    alloc: Global,
+    host: &mut H,
+    ends: &mut Ends<R, O, E>,
+    config: Config,
+    store: S,
+    name: &str,
+    work: Work,
+) -> (u8, S)
+    requires store { S.has_failed store ≡ false }
+    requires input { R.has_failed ends.old.input ≡ false }
+    requires output { O.has_failed ends.old.output ≡ false }
+    ensures { Serves H.Socket.Link S.Keeps work config store result.0 (streams R.Source O.Sink E.Sink ends.old) (streams R.Source O.Sink E.Sink ends.new) }
+{
+    let sizes = Sizes {
+        subnets: config.subnets().len(),
+        addresses: pool_addresses(config.subnets()),
+    };
+    let mut server = match Server::open(alloc, config, store, ports_of(work)) {
+        Ok(server) => server,
+        Err((fault, _, store)) => {
+            let status = refuse(alloc, &mut ends.faults, fault.number(), &fault);
+            return (status, store);
+        }
+    };
+    let status = worked(alloc, host, ends, &mut server, work, sizes, name);
+    let (_, store) = server.close();
+    (status, store)
+}
+
+// Does this work as a server over a store with a name.
+fn worked<H: Host, R: Source, O: Sink, E: Sink, S: Keeps>(
+    alloc: Global,
+    host: &mut H,
+    ends: &mut Ends<R, O, E>,
+    server: &mut Server<S>,
+    work: Work,
+    sizes: Sizes,
+    name: &str,
+) -> u8
+    requires input { R.has_failed ends.old.input ≡ false }
+    requires output { O.has_failed ends.old.output ≡ false }
+    ensures { Works H.Socket.Link S.Keeps work server.old result (streams R.Source O.Sink E.Sink ends.old) (streams R.Source O.Sink E.Sink ends.new) }
+{
+    match work {
+        Work::Replay => replayed(alloc, ends, server),
+        Work::Leases(at) => listed(alloc, ends, server, at),
+        Work::Serve(listening, count) => {
+            let banner = Banner {
+                listening,
+                sizes,
+                leases: server.row_count(),
+                store: name,
+            };
+            listened(alloc, host, ends, server, &banner, count)
+        }
+    }
+}
+
+// The ports of a server: those of the words, and else the standard's.
+fn ports_of(work: Work) -> Ports
+    ensures { result ≡ ports_of work }
+{
+    match work {
+        Work::Serve(listening, _) => Ports {
+            server: listening.port,
+            client: listening.client_port,
+        },
+        _ => Ports {
+            server: 67,
+            client: 68,
+        },
+    }
+}
+
+// Replays the events of standard input to standard output.
+fn replayed<R: Source, O: Sink, E: Sink, S: Keeps>(
+    alloc: Global,
+    ends: &mut Ends<R, O, E>,
+    server: &mut Server<S>,
+) -> u8
+    requires input { R.has_failed ends.old.input ≡ false }
+    requires output { O.has_failed ends.old.output ≡ false }
+    ensures { Replays S.Keeps server.old result (streams R.Source O.Sink E.Sink ends.old) (streams R.Source O.Sink E.Sink ends.new) }
+{
+    match replay(alloc, &mut ends.input, &mut ends.output, server) {
+        Ok(_) => 0,
+        Err(fault) => refuse_as(
+            alloc,
+            &mut ends.faults,
+            fault.number(),
+            &fault,
+            replay_status(fault),
+        ),
+    }
+}
+
+// Prints the leases at a moment.
+fn listed<R: Source, O: Sink, E: Sink, S: Keeps>(
+    alloc: Global,
+    ends: &mut Ends<R, O, E>,
+    server: &Server<S>,
+    at: u64,
+) -> u8
+    ensures { Lists S.Keeps at server.now result (streams R.Source O.Sink E.Sink ends.old) (streams R.Source O.Sink E.Sink ends.new) }
+{
+    let leases = match server.leases(at) {
+        Ok(leases) => leases,
+        Err(fault) => return refuse(alloc, &mut ends.faults, fault.number(), &fault),
+    };
+    match lease_lines(alloc, &leases) {
+        Ok(lines) => show(&mut ends.output, &mut ends.faults, lines.as_bytes(), 0),
+        Err(_) => refuse_memory(&mut ends.faults),
+    }
+}
+
+// Serves so many datagrams of a socket, and says on standard error what it does before it begins.
+fn listened<H: Host, R: Source, O: Sink, E: Sink, S: Keeps>(
+    alloc: Global,
+    host: &mut H,
+    ends: &mut Ends<R, O, E>,
+    server: &mut Server<S>,
+    banner: &Banner<'_>,
+    count: u64,
+) -> u8
+    requires { O.has_failed ends.old.output ≡ false }
+    ensures { Listens H.Socket.Link S.Keeps count server.old result (streams R.Source O.Sink E.Sink ends.old) (streams R.Source O.Sink E.Sink ends.new) }
+{
+    let Ok(mut link) = host.socket(banner.listening) else {
+        let fault = LoopFault::Read;
+        return refuse(alloc, &mut ends.faults, fault.number(), &fault);
+    };
+    let Ok(line) = banner_line(alloc, banner) else {
+        return refuse_memory(&mut ends.faults);
+    };
+    tell(&mut ends.faults, line.as_bytes());
+    let mut clock = host.clock();
+    received(alloc, &mut link, &mut clock, ends, server, count)
+}
+
+// Serves so many datagrams of a link.
+fn received<L: Link, C: Clock, R: Source, O: Sink, E: Sink, S: Keeps>(
+    alloc: Global,
+    link: &mut L,
+    clock: &mut C,
+    ends: &mut Ends<R, O, E>,
+    server: &mut Server<S>,
+    count: u64,
+) -> u8
+    requires link { L.has_failed link.old ≡ false }
+    requires output { O.has_failed ends.old.output ≡ false }
+    ensures { Receives L.Link S.Keeps count link.old link.new server.old server.new result (streams R.Source O.Sink E.Sink ends.old) (streams R.Source O.Sink E.Sink ends.new) }
+{
+    match serve(alloc, link, clock, &mut ends.output, server, count) {
+        Ok(()) => 0,
+        Err(fault) => refuse_as(
+            alloc,
+            &mut ends.faults,
+            fault.number(),
+            &fault,
+            serve_status(fault),
+        ),
+    }
+}

@@ -1,0 +1,63 @@
+use kd_config::Config;
+use kd_ends::{
+    HostClock, InFile, InMemory, Sending, Socket, StartFault, configuration, store_in_file,
+    store_in_memory,
+};
+use kd_keeps::StoreFault;
+use kd_order::Listening;
+use kd_program::Host;
+use kd_replay::EndFailed;
+use kd_store::Store;
+
+/// This machine, as the host of the program.
+#[derive(Drop)]
+pub struct Machine<'a> {
+    rt: &'a HostRuntime,
+}
+
+impl<'a> Machine<'a> {
+    /// The machine of the runtime.
+    pub fn of(rt: &'a HostRuntime) -> Machine<'a> {
+        Machine { rt }
+    }
+}
+
+impl<'a> Host for Machine<'a> {
+    type Named = Store<InFile>;
+
+    type Unnamed = Store<InMemory>;
+
+    type Socket = Socket;
+
+    type Clock = HostClock<'a>;
+
+    fn configuration(
+        &mut self,
+        file: Option<&str>,
+        folder: Option<&str>,
+    ) -> Result<Config, StartFault> {
+        configuration(self.rt, file, folder)
+    }
+
+    fn named_store(&mut self, path: &str) -> Result<Store<InFile>, StoreFault> {
+        store_in_file(self.rt, path)
+    }
+
+    fn unnamed_store(&mut self) -> Result<Store<InMemory>, StoreFault> {
+        store_in_memory(self.rt.alloc())
+    }
+
+    fn close(&mut self, _path: &str, _store: Store<InFile>) {}
+
+    fn socket(&mut self, listening: Listening) -> Result<Socket, EndFailed> {
+        let sending = Sending {
+            mirror: listening.mirror,
+            broadcast_as: listening.broadcast_as,
+        };
+        Socket::bind(self.rt, listening.bind, listening.port, sending)
+    }
+
+    fn clock(&mut self) -> HostClock<'a> {
+        HostClock::of(self.rt)
+    }
+}
