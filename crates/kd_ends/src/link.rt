@@ -1,4 +1,4 @@
-ghost use Rattle.std.specs.Prelude.{◌≡◌, false};
+ghost use Rattle.std.specs.Prelude.{◌≡◌, IfOk, false};
 ghost use Rattle.kd_ends.specs.Sending.{address_for};
 
 use kd_event::{Destination, Mode};
@@ -40,16 +40,40 @@ impl Sending {
 
 /// A UDP socket, as the link of a server. What it receives and sends no proof knows.
 #[derive(Drop)]
-pub struct Socket<'a> {
-    socket: &'a UdpSocket,
+pub struct Socket {
+    socket: UdpSocket,
     sending: Sending,
     sender: Option<SocketAddr>,
     failed: bool,
 }
 
-impl<'a> Socket<'a> {
+impl Socket {
+    /// A link over a new socket at an address, a number in host order, and a port, which has not failed. It may send to all
+    /// hosts of its link.
+    ///
+    /// # Errors
+    ///
+    /// There is no such socket.
+    pub fn bind(
+        rt: &HostRuntime,
+        address: u32,
+        port: u16,
+        sending: Sending,
+    ) -> Result<Socket, EndFailed>
+        ensures { IfOk result (λ link. link.failed ≡ false) }
+    {
+        let place = SocketAddr::new(IpAddr::V4(Ipv4Addr::from(address)), port);
+        match UdpSocket::bind(rt, place) {
+            Ok(socket) => match socket.set_broadcast(true) {
+                Ok(()) => Ok(Socket::over(socket, sending)),
+                Err(_) => Err(EndFailed),
+            },
+            Err(_) => Err(EndFailed),
+        }
+    }
+
     /// A link over a socket, which has not failed.
-    pub fn over(socket: &'a UdpSocket, sending: Sending) -> Socket<'a>
+    pub fn over(socket: UdpSocket, sending: Sending) -> Socket
         ensures { result.failed ≡ false }
     {
         Socket {
@@ -72,7 +96,7 @@ impl<'a> Socket<'a> {
     }
 }
 
-impl Link for Socket<'_> {
+impl Link for Socket {
     ghost use Rattle.std.specs.Prelude.{None};
 
     ghost received = { λ s. None };

@@ -30,3 +30,4 @@ pub use running::run_with;
 pub use serves::Serves;
 pub use serving::serve_with;
 pub use text::event_line;
+pub use writing::write_all;

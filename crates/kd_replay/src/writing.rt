@@ -4,8 +4,12 @@ ghost use Rattle.kd_replay.specs.Parts.{WritesPart};
 
 use crate::ends::{EndFailed, Sink};
 
-// Writes all bytes, or some from the front where the sink fails.
-pub(crate) fn write_all<W: Sink>(sink: &mut W, bytes: &[u8]) -> Result<(), EndFailed>
+/// Writes all bytes, or some from the front where the sink fails.
+///
+/// # Errors
+///
+/// The sink has failed.
+pub fn write_all<W: Sink>(sink: &mut W, bytes: &[u8]) -> Result<(), EndFailed>
     ensures written { MatchResult result (λ _. Appends (W.contents sink.old) (W.contents sink.new) bytes.now)
         (λ _. WritesPart (W.contents sink.old) (W.contents sink.new) bytes.now) }
     ensures failed { OnErr result (W.has_failed sink.new ≡ true) }

@@ -1,4 +1,4 @@
-ghost use Rattle.std.specs.Prelude.{◌≡◌, ◌≤◌, ◌<◌, ◌^◌, IfErr, IfOk, IfSome, OnOk, false};
+ghost use Rattle.std.specs.Prelude.{◌≡◌, ◌≤◌, ◌<◌, ◌^◌, IfErr, IfOk, IfSome, OnOk, false, length};
 ghost use Rattle.kd_lease.specs.Change.{after};
 ghost use Rattle.kd_lease.specs.Rules.{IsSetAt};
 ghost use Rattle.kd_replay.specs.History.{Runs};
@@ -77,6 +77,13 @@ impl<S: Keeps> Server<S> {
     {
         let Server { config, store, .. } = self;
         (config, store)
+    }
+
+    /// How many rows of leases there are, ended ones among them.
+    pub fn row_count(&self) -> usize
+        ensures { result ≡ length self.now.rows }
+    {
+        self.rows.len()
     }
 
     /// The leases at a moment, in whole seconds: the rows in rising address, and which of them have not ended.

@@ -75,7 +75,7 @@ fn two_datagrams_are_served_over_a_socket(rt: HostRuntime) -> Result<(), Fail> {
         mirror: true,
         broadcast_as: None,
     };
-    let mut link = Socket::over(&socket, sending);
+    let mut link = Socket::over(socket, sending);
     let mut sink = Keeping::new(alloc, 7, usize::MAX);
     let served = serve(alloc, &mut link, &mut Still, &mut sink, &mut server(alloc)?, 2);
     assert!(rt; served == Ok(()));
@@ -179,6 +179,7 @@ fn serving_ends_where_a_line_is_not_written(rt: HostRuntime) -> Result<(), Fail>
     assert!(rt; result == Err(LoopFault::Write));
     let line = offer_line(alloc, reply.as_slice())?;
     let wanted = format!(in alloc; "{line}{line}")?;
-    assert!(rt; sink.as_slice() == &wanted.as_bytes()[..700]);
+    let written = sink.as_slice();
+    assert!(rt; written.len() == 700 && wanted.as_bytes().starts_with(written));
     Ok(())
 }
