@@ -57,9 +57,8 @@ class Reader(Notes):
         return self.listed(holder, "option-data", path, 64, lambda entry, at: self.option(entry, at, seen))
 
     def option(self, entry: dict, path: str, seen: set) -> list:
-        kinds = {kind.code: kind for kind in self.named.values()}
-        kind = kinds.get(entry["code"]) if "code" in entry else self.named.get(entry.get("name", ""))
-        code = entry.get("code", kind and kind.code)
+        code = entry.get("code", self.code_of(entry))
+        kind = {kind.code: kind for kind in self.named.values()}.get(code)
         has_text = entry.get("csv-format", kind is not None)
         try:
             if entry.get("space", "dhcp4") != "dhcp4":
@@ -127,9 +126,8 @@ class Reader(Notes):
                 self.drop(f"{path}/client-class", "nobody is in this class, so the subnet serves nobody")
         found.update(self.listed(entry, "pools", path, 64, lambda each, at: self.pool(each, at, network)))
         clients: set = set()
-        found.update(
-            self.listed(entry, "reservations", path, 4096, lambda each, at: self.reservation(each, at, network, clients))
-        )
+        reserve = lambda each, at: self.reservation(each, at, network, clients)  # noqa: E731
+        found.update(self.listed(entry, "reservations", path, 4096, reserve))
         found.update(self.options(entry, path))
         if entry.get("interface") and self.server in network:
             self.set_aside(f"{path}/interface", "the server's own address is in this subnet")
@@ -189,15 +187,20 @@ class Reader(Notes):
         if 0 <= timers.get("renew-timer", lifetime // 2) <= timers.get("rebind-timer", lifetime * 7 // 8) <= lifetime:
             found.update(timers)
         else:
-            self.drop("/Dhcp4/rebind-timer", "not renew-timer <= rebind-timer <= valid-lifetime; half and 7/8 are taken")
+            self.drop("/Dhcp4/rebind-timer", "not renew-timer <= rebind-timer <= valid-lifetime: half and 7/8")
         hold = self.number(root, "decline-probation-period", "/Dhcp4", 31536000)
         return found if hold is None else {**found, "decline-hold": hold}
+
+    def code_of(self, entry: dict) -> Optional[int]:
+        """The code of an option by its name, where that is known."""
+        kind = self.named.get(entry.get("name", ""))
+        return kind and kind.code
 
     def server_of(self, root: dict, given: Optional[str]) -> IPv4Address:
         """The server's address: as given, else the global option 54, else that of an interface."""
         options = root.get("option-data", [])
         found = [given] if given else []
-        found += [entry["data"] for entry in options if entry.get("code") == 54 or entry.get("name") == "dhcp-server-identifier"]
+        found += [each["data"] for each in options if 54 == each.get("code", self.code_of(each))]
         interfaces = root.get("interfaces-config", {}).get("interfaces", [])
         found += [each.split("/")[1] for each in interfaces if "/" in each]
         if not found:

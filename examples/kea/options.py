@@ -21,7 +21,8 @@ STANDARD = {
     "fqdn": "v4-lost 137 v4-access-domain 213",
     "fqdn*": "bcms-controller-names 88 domain-search 119 sip-ua-cs-domains 141",
     "boolean": "ip-forwarding 19 non-local-source-routing 20 all-subnets-local 27 perform-mask-discovery 29"
-    " mask-supplier 30 router-discovery 31 trailer-encapsulation 34 ieee802-3-encapsulation 36 tcp-keepalive-garbage 39",
+    " mask-supplier 30 router-discovery 31 trailer-encapsulation 34 ieee802-3-encapsulation 36"
+    " tcp-keepalive-garbage 39",
     "uint8": "default-ip-ttl 23 default-tcp-ttl 37 netbios-node-type 46 dhcp-option-overload 52 dhcp-message-type 53"
     " auto-config 116",
     "uint8*": "dhcp-parameter-request-list 55",

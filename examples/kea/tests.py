@@ -2,7 +2,9 @@
 import re
 
 TOKEN = re.compile(r"\s*('[^'\n]*'|0[xX][0-9a-fA-F]+|\d+(?:\.\d+){3}|-?\d+|[A-Za-z_][\w-]*|==|[][(),.+])")
-WORDS = "not and or substring all concat ifelse hexstring lcase ucase uint32totext option relay4 pkt4 pkt member".split()
+WORDS = (
+    "not and or substring all concat ifelse hexstring lcase ucase uint32totext option relay4 pkt4 pkt member".split()
+)
 BEHIND_DOT = {
     "]": ["hex", "exists"],
     "pkt4": "mac hlen htype ciaddr giaddr yiaddr siaddr msgtype transid".split(),
