@@ -3,6 +3,7 @@
 
     answers.py FOLDER      reads FOLDER/config.json, FOLDER/*.k4tk and FOLDER/events.lines, prints the answers
     answers.py             writes replies.lines into each folder of crates/kd_cases/data/examples
+                           that has no leases.lines; those are of judge/examples.py
 
 The answers are worked out here once more, from RFC 2131, 2132, 3046 and Kea's manual, in another language and
 by another hand than the server's. Nothing of the server's code is used.
@@ -241,6 +242,8 @@ def main():
         return
     for path in sorted(glob.glob(f"{HERE}/../crates/kd_cases/data/examples/*/config.json")):
         folder = os.path.dirname(path)
+        if os.path.exists(f"{folder}/leases.lines"):
+            continue
         with open(f"{folder}/replies.lines", "w", encoding="ascii") as file:
             file.writelines(answers(folder))
 

@@ -1,0 +1,62 @@
+# Completion of kdhcp's words in bash: copy it to /usr/share/bash-completion/completions/kdhcp, or source it.
+
+# The words of a list that begin with what is typed.
+_kdhcp_words() {
+    mapfile -t COMPREPLY < <(compgen -W "$1" -- "$2")
+}
+
+# The paths that begin with what is typed: `-f` files and folders, `-d` folders alone.
+_kdhcp_paths() {
+    mapfile -t COMPREPLY < <(compgen "$1" -- "$2")
+    compopt -o filenames 2> /dev/null
+}
+
+_kdhcp() {
+    local current=${COMP_WORDS[COMP_CWORD]} option=${COMP_WORDS[COMP_CWORD - 1]} command="" word
+    local files="--config --token-dir --store"
+    COMPREPLY=()
+    # `--config=F` comes as three words
+    if [[ $current == = ]]; then
+        current=""
+    elif [[ $option == = ]]; then
+        option=${COMP_WORDS[COMP_CWORD - 2]}
+    fi
+    for word in "${COMP_WORDS[@]:1:COMP_CWORD - 1}"; do
+        case $word in
+            show | expr | compile | verify | eval | replay | serve | leases | help) command=$word && break ;;
+            --) return ;;
+        esac
+    done
+    if [[ -z $command ]]; then
+        _kdhcp_words "show expr compile verify eval replay serve leases help -h --help" "$current"
+        return
+    fi
+    case $command:$option in
+        replay:--config | replay:--store | serve:--config | serve:--store | leases:--config | leases:--store)
+            _kdhcp_paths -f "$current"
+            return
+            ;;
+        replay:--token-dir | serve:--token-dir | leases:--token-dir)
+            _kdhcp_paths -d "$current"
+            return
+            ;;
+        serve:--bind) _kdhcp_words "0.0.0.0 127.0.0.1" "$current" && return ;;
+        serve:--port) _kdhcp_words "67" "$current" && return ;;
+        serve:--client-port) _kdhcp_words "68" "$current" && return ;;
+        serve:--count) _kdhcp_words "18446744073709551615" "$current" && return ;;
+        serve:--broadcast-as) return ;;
+        leases:--at) _kdhcp_words "$(date +%s)" "$current" && return ;;
+    esac
+    case $command in
+        help) _kdhcp_words "show expr compile verify eval replay serve leases" "$current" ;;
+        eval) _kdhcp_words "--text -h --help" "$current" ;;
+        replay) _kdhcp_words "$files -h --help" "$current" ;;
+        leases) _kdhcp_words "$files --at -h --help" "$current" ;;
+        serve)
+            _kdhcp_words "$files --bind --port --client-port --count --broadcast-as --mirror -h --help" "$current"
+            ;;
+        *) _kdhcp_words "-h --help" "$current" ;;
+    esac
+}
+
+complete -F _kdhcp kdhcp ./kdhcp

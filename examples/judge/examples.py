@@ -1,0 +1,31 @@
+#!/usr/bin/env python3
+"""Writes what the server must answer to the examples with leases: replies.lines, and the table at the end, leases.lines.
+
+    examples.py     in each folder of crates/kd_cases/data/examples that has leases.lines
+
+The moment of the table is that of the last event. Examples without leases are those of ../answers.py.
+"""
+import glob
+import os
+
+import judge
+
+
+def written(path, lines):
+    with open(path, "w", encoding="ascii") as file:
+        file.writelines(f"{line}\n" for line in lines)
+
+
+def main():
+    for path in sorted(glob.glob(f"{judge.HERE}/../../crates/kd_cases/data/examples/*/leases.lines")):
+        folder = os.path.dirname(path)
+        with open(f"{folder}/events.lines", encoding="ascii") as file:
+            events = file.read().splitlines()
+        out, rows, fault = judge.replay(judge.configuration(f"{folder}/config.json"), events)
+        assert fault is None, fault
+        written(f"{folder}/replies.lines", out)
+        written(path, judge.lease_lines(rows, judge.event_of(events[-1])[0]))
+
+
+if __name__ == "__main__":
+    main()

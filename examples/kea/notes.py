@@ -1,0 +1,70 @@
+"""What of a Kea configuration is not taken: lines on standard error, each with its path (for ../from_kea.py)."""
+import sys
+from typing import Callable, Optional
+
+# Keys that no client notices.
+ASIDE = set(
+    "comment user-context interfaces-config lease-database loggers control-socket multi-threading sanity-checks"
+    " config-control server-tag dhcp-queue-control expired-leases-processing parked-packet-limit cache-threshold"
+    " cache-max-age statistic-default-sample-count statistic-default-sample-age store-extended-info"
+    " host-reservation-identifiers hostname-char-set hostname-char-replacement".split()
+)
+# Values that ask for what is done here anyway.
+SAME: dict = {
+    "match-client-id": True,
+    "echo-client-id": True,
+    "reservations-global": False,
+    "reservations-in-subnet": True,
+    "reservation-mode": "all",
+    "ip-reservations-unique": True,
+    "only-if-required": False,
+    "always-send": False,
+    "never-send": False,
+    "next-server": "0.0.0.0",
+    "relay": {"ip-address": "0.0.0.0"},
+    "dhcp4o6-port": 0,
+}
+
+
+class Notes:
+    """Says what is not taken, and remembers whether a client may notice."""
+
+    has_dropped = False
+
+    def drop(self, path: str, why: str) -> None:
+        self.has_dropped = True
+        print(f"dropped {path}: {why}", file=sys.stderr)
+
+    def set_aside(self, path: str, why: str) -> None:
+        print(f"aside {path}: {why}", file=sys.stderr)
+
+    def rest(self, holder: dict, path: str, taken: str, above: Optional[dict] = None) -> None:
+        """Names the keys of an object that are not taken; one of the same value as above changes nothing."""
+        for key, value in holder.items():
+            where = f"{path}/{key}"
+            if key in taken.split():
+                continue
+            if key in ASIDE:
+                self.set_aside(where, "no client notices it")
+            elif key.startswith("ddns-") or key == "dhcp-ddns" and not value.get("enable-updates"):
+                self.set_aside(where, "no names are updated")
+            elif value in ("", [], {}) or SAME.get(key) == value or above is not None and above.get(key) == value:
+                self.set_aside(where, "so it is here anyway")
+            else:
+                self.drop(where, "not taken")
+
+    def listed(self, holder: dict, key: str, path: str, most: int, read: Callable) -> dict:
+        """What is made of the entries of a list, under its key; a list has so many at most."""
+        found = [read(entry, f"{path}/{key}/{at}") for at, entry in enumerate(holder.get(key, []))]
+        kept = [each for part in found for each in part]
+        if len(kept) > most:
+            self.drop(f"{path}/{key}", f"all behind the first {most}")
+        return {key: kept[:most]} if kept else {}
+
+    def number(self, holder: dict, key: str, path: str, most: int) -> Optional[int]:
+        """A whole number from 1; a greater one counts as the greatest."""
+        value = holder.get(key)
+        if value is None or 1 <= value <= most:
+            return value
+        self.drop(f"{path}/{key}", f"not from 1 to {most}")
+        return most if value > most else None
