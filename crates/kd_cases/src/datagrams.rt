@@ -44,7 +44,9 @@ impl<'a> Datagrams<'a> {
     }
 
     // The bytes of the next line.
-    fn next(&mut self) -> Option<Vec<u8>> {
+    fn next(&mut self) -> Option<Vec<u8>>
+        ensures { self.new.failed ≡ self.old.failed }
+    {
         let (_, digits) = self.lines.next()?.split_once(' ')?;
         hex::decode(self.alloc, digits).ok()
     }
