@@ -13,7 +13,7 @@ asked_by() { FAIL_TELL=1 LD_PRELOAD=$room/fail.so "$@" 2>&1 >/dev/null </dev/nul
 # Want of memory: 91, or within the store of leases that of its calls, Sql 81, alone or in what came of it.
 is_memory() {
     case $1 in
-        "1 fault 91 Memory" | "4 fault 81 Sql" | "4 fault 92 Store Sql" | "4 fault 96 Serve Store Sql") true ;;
+        "1 fault 91 Memory" | "1 serving "*$'\n'"fault 91 Memory" | "4 fault 81 Sql" | "4 fault 92 Store Sql" | "4 fault 96 Serve Store Sql") true ;;
         *) false ;;
     esac
 }
@@ -45,6 +45,7 @@ each_refusal crates/kdhcp/out/kdhcp compile "hexstring(option[43].hex, option[60
 datagram=$(cat examples/samples/relayed-dhclient-discover.hex)
 each_refusal crates/kdhcp/out/kdhcp eval 4b34544b010003021000000003033c0100016109 "$datagram"
 each_refusal crates/kdhcp/out/kdhcp eval --text "lcase(option[12].hex) + hexstring(pkt4.mac, ':') == ''" "$datagram"
+each_refusal crates/kdhcp/out/kdhcp serve --port 16767 --count 0
 for words in "show abcd" "show 0g" "show -- -a" "--help" "help show" "show" "show a b" "nope" ""; do
     # shellcheck disable=SC2086
     each_refusal crates/kdhcp/out/kdhcp $words
