@@ -21,10 +21,11 @@ pub record Streams : Type 0 where
   pub output : Stream
   pub faults : Stream
 
--- a source and a sink as streams
+-- a source as a stream
 abbrev pub read_from : {R : Type 0} → Sources R → R → Stream
 read_from g source = record { bytes = g.remaining source; failed = g.has_failed source }
 
+-- a sink as a stream
 abbrev pub written_to : {W : Type 0} → Sinks W → W → Stream
 written_to g sink = record { bytes = g.contents sink; failed = g.has_failed sink }
 
@@ -36,10 +37,11 @@ streams r o e ends = record { input = read_from r ends.input; output = written_t
 abbrev pub fault_line : ℕ → List ℕ → List ℕ
 fault_line number name = codes "fault " ++ decimal number ++ codes " " ++ name ++ line_feed
 
--- the line of want of memory, and of a standard output that fails
+-- the line of want of memory
 abbrev pub memory_line : List ℕ
 memory_line = codes "fault 91 Memory\n"
 
+-- the line of a standard output that fails
 abbrev pub write_line : List ℕ
 write_line = codes "fault 95 Write\n"
 

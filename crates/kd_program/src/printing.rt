@@ -28,7 +28,8 @@ pub fn tell<E: Sink>(faults: &mut E, text: &[u8])
 
 /// Writes to standard output, and says the exit status: where that fails, `fault 95 Write` and its status.
 pub fn show<O: Sink, E: Sink>(output: &mut O, faults: &mut E, text: &[u8], status: u8) -> u8
-    ensures { ShowsOrBreaks text.now status result (written_to O.Sink output.old) (written_to O.Sink output.new)
+    ensures { ShowsOrBreaks text.now status result
+        (written_to O.Sink output.old) (written_to O.Sink output.new)
         (written_to E.Sink faults.old) (written_to E.Sink faults.new) }
 {
     match write_all(output, text) {
@@ -42,7 +43,8 @@ pub fn show<O: Sink, E: Sink>(output: &mut O, faults: &mut E, text: &[u8], statu
 
 /// Writes what an order prints, its text or the line of its fault, and says the exit status.
 pub fn print<R: Source, O: Sink, E: Sink>(ends: &mut Ends<R, O, E>, printed: &Printed) -> u8
-    ensures { Prints printed.now result (streams R.Source O.Sink E.Sink ends.old) (streams R.Source O.Sink E.Sink ends.new) }
+    ensures { Prints printed.now result
+        (streams R.Source O.Sink E.Sink ends.old) (streams R.Source O.Sink E.Sink ends.new) }
 {
     let fault = printed.fault.as_slice();
     if fault.is_empty() {
@@ -55,7 +57,8 @@ pub fn print<R: Source, O: Sink, E: Sink>(ends: &mut Ends<R, O, E>, printed: &Pr
 
 /// Writes the line of a fault with a number, and says its exit status; want of memory for the line is a fault too.
 pub fn refuse<E: Sink, F: Display>(alloc: Global, faults: &mut E, number: u8, fault: &F) -> u8
-    ensures { TellsWith number (status_of number) result (written_to E.Sink faults.old) (written_to E.Sink faults.new) }
+    ensures { TellsWith number (status_of number) result
+        (written_to E.Sink faults.old) (written_to E.Sink faults.new) }
 {
     refuse_as(alloc, faults, number, fault, exit_status(number))
 }
@@ -68,7 +71,8 @@ pub fn refuse_as<E: Sink, F: Display>(
     fault: &F,
     status: u8,
 ) -> u8
-    ensures { TellsWith number status result (written_to E.Sink faults.old) (written_to E.Sink faults.new) }
+    ensures { TellsWith number status result
+        (written_to E.Sink faults.old) (written_to E.Sink faults.new) }
 {
     match line_of_fault(alloc, number, fault) {
         Ok(line) => {
@@ -81,7 +85,8 @@ pub fn refuse_as<E: Sink, F: Display>(
 
 /// Writes the line of want of memory, and says its exit status.
 pub fn refuse_memory<E: Sink>(faults: &mut E) -> u8
-    ensures { (result ≡ 1) × Puts memory_line (written_to E.Sink faults.old) (written_to E.Sink faults.new) }
+    ensures { (result ≡ 1) × Puts memory_line
+        (written_to E.Sink faults.old) (written_to E.Sink faults.new) }
 {
     tell(faults, MEMORY_FAULT);
     exit_status(91)
@@ -89,7 +94,8 @@ pub fn refuse_memory<E: Sink>(faults: &mut E) -> u8
 
 /// Writes why there are no words to carry out, and says the exit status.
 pub fn refuse_words<E: Sink>(alloc: Global, faults: &mut E, fault: LineFault) -> u8
-    ensures { TellsWith (fault_number fault) (status_of (fault_number fault)) result (written_to E.Sink faults.old) (written_to E.Sink faults.new) }
+    ensures { TellsWith (fault_number fault) (status_of (fault_number fault)) result
+        (written_to E.Sink faults.old) (written_to E.Sink faults.new) }
 {
     refuse(alloc, faults, fault.number(), &fault)
 }
@@ -104,7 +110,8 @@ fn line_of_fault<F: Display>(alloc: Global, number: u8, fault: &F) -> Result<Str
 
 // The line of a fault with a number and a name.
 fn named_line(alloc: Global, number: u8, name: &str) -> Result<String, AllocError>
-    ensures { IfOk result (λ line. string_bytes line ≡ codes "fault " ++ decimal number ++ codes " " ++ name.now ++ line_feed) }
+    ensures { IfOk result (λ line. string_bytes line
+        ≡ codes "fault " ++ decimal number ++ codes " " ++ name.now ++ line_feed) }
 {
     format!(in alloc; "fault {number} {name}\n")
 }

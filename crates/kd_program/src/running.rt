@@ -21,7 +21,9 @@ pub fn run<H: Host, R: Source, O: Sink, E: Sink>(
 ) -> u8
     requires input { R.has_failed ends.old.input ≡ false }
     requires output { O.has_failed ends.old.output ≡ false }
-    ensures { Carries H.Named.Keeps H.Unnamed.Keeps H.Socket.Link (map string_bytes words.now) result (streams R.Source O.Sink E.Sink ends.old) (streams R.Source O.Sink E.Sink ends.new) }
+    ensures { Carries H.Named.Keeps H.Unnamed.Keeps H.Socket.Link
+        (map string_bytes words.now) result
+        (streams R.Source O.Sink E.Sink ends.old) (streams R.Source O.Sink E.Sink ends.new) }
 {
     match order(alloc, words) {
         Ok(order) => carried_out(alloc, order, host, ends),
@@ -38,7 +40,8 @@ fn carried_out<H: Host, R: Source, O: Sink, E: Sink>(
 ) -> u8
     requires input { R.has_failed ends.old.input ≡ false }
     requires output { O.has_failed ends.old.output ≡ false }
-    ensures { Does H.Named.Keeps H.Unnamed.Keeps H.Socket.Link order result (streams R.Source O.Sink E.Sink ends.old) (streams R.Source O.Sink E.Sink ends.new) }
+    ensures { Does H.Named.Keeps H.Unnamed.Keeps H.Socket.Link order result
+        (streams R.Source O.Sink E.Sink ends.old) (streams R.Source O.Sink E.Sink ends.new) }
 {
     match order {
         Order::Replay {

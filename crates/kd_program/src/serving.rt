@@ -48,7 +48,9 @@ pub fn served<H: Host, R: Source, O: Sink, E: Sink>(
 ) -> u8
     requires input { R.has_failed ends.old.input ≡ false }
     requires output { O.has_failed ends.old.output ≡ false }
-    ensures { Starts H.Named.Keeps H.Unnamed.Keeps H.Socket.Link (option_map string_bytes files.now.store) work result (streams R.Source O.Sink E.Sink ends.old) (streams R.Source O.Sink E.Sink ends.new) }
+    ensures { Starts H.Named.Keeps H.Unnamed.Keeps H.Socket.Link
+        (option_map string_bytes files.now.store) work result
+        (streams R.Source O.Sink E.Sink ends.old) (streams R.Source O.Sink E.Sink ends.new) }
 {
     let config = match host.configuration(files.config.as_deref(), files.token_dir.as_deref()) {
         Ok(config) => config,
@@ -91,7 +93,8 @@ fn served_over<H: Host, R: Source, O: Sink, E: Sink, S: Keeps + Drop>(
     requires store { S.has_failed store ≡ false }
     requires input { R.has_failed ends.old.input ≡ false }
     requires output { O.has_failed ends.old.output ≡ false }
-    ensures { Serves H.Socket.Link S.Keeps work config store result.0 (streams R.Source O.Sink E.Sink ends.old) (streams R.Source O.Sink E.Sink ends.new) }
+    ensures { Serves H.Socket.Link S.Keeps work config store result.0
+        (streams R.Source O.Sink E.Sink ends.old) (streams R.Source O.Sink E.Sink ends.new) }
 {
     let sizes = Sizes {
         subnets: config.subnets().len(),
@@ -121,7 +124,8 @@ fn worked<H: Host, R: Source, O: Sink, E: Sink, S: Keeps>(
 ) -> u8
     requires input { R.has_failed ends.old.input ≡ false }
     requires output { O.has_failed ends.old.output ≡ false }
-    ensures { Works H.Socket.Link S.Keeps work server.old result (streams R.Source O.Sink E.Sink ends.old) (streams R.Source O.Sink E.Sink ends.new) }
+    ensures { Works H.Socket.Link S.Keeps work server.old result
+        (streams R.Source O.Sink E.Sink ends.old) (streams R.Source O.Sink E.Sink ends.new) }
 {
     match work {
         Work::Replay => replayed(alloc, ends, server),
@@ -162,7 +166,8 @@ fn replayed<R: Source, O: Sink, E: Sink, S: Keeps>(
 ) -> u8
     requires input { R.has_failed ends.old.input ≡ false }
     requires output { O.has_failed ends.old.output ≡ false }
-    ensures { Replays S.Keeps server.old result (streams R.Source O.Sink E.Sink ends.old) (streams R.Source O.Sink E.Sink ends.new) }
+    ensures { Replays S.Keeps server.old result
+        (streams R.Source O.Sink E.Sink ends.old) (streams R.Source O.Sink E.Sink ends.new) }
 {
     match replay(alloc, &mut ends.input, &mut ends.output, server) {
         Ok(_) => 0,
@@ -183,7 +188,8 @@ fn listed<R: Source, O: Sink, E: Sink, S: Keeps>(
     server: &Server<S>,
     at: u64,
 ) -> u8
-    ensures { Lists S.Keeps at server.now result (streams R.Source O.Sink E.Sink ends.old) (streams R.Source O.Sink E.Sink ends.new) }
+    ensures { Lists S.Keeps at server.now result
+        (streams R.Source O.Sink E.Sink ends.old) (streams R.Source O.Sink E.Sink ends.new) }
 {
     let leases = match server.leases(at) {
         Ok(leases) => leases,
@@ -205,7 +211,8 @@ fn listened<H: Host, R: Source, O: Sink, E: Sink, S: Keeps>(
     count: u64,
 ) -> u8
     requires { O.has_failed ends.old.output ≡ false }
-    ensures { Listens H.Socket.Link S.Keeps count server.old result (streams R.Source O.Sink E.Sink ends.old) (streams R.Source O.Sink E.Sink ends.new) }
+    ensures { Listens H.Socket.Link S.Keeps count server.old result
+        (streams R.Source O.Sink E.Sink ends.old) (streams R.Source O.Sink E.Sink ends.new) }
 {
     let Ok(mut link) = host.socket(banner.listening) else {
         let fault = LoopFault::Read;
@@ -230,7 +237,8 @@ fn received<L: Link, C: Clock, R: Source, O: Sink, E: Sink, S: Keeps>(
 ) -> u8
     requires link { L.has_failed link.old ≡ false }
     requires output { O.has_failed ends.old.output ≡ false }
-    ensures { Receives L.Link S.Keeps count link.old link.new server.old server.new result (streams R.Source O.Sink E.Sink ends.old) (streams R.Source O.Sink E.Sink ends.new) }
+    ensures { Receives L.Link S.Keeps count link.old link.new server.old server.new result
+        (streams R.Source O.Sink E.Sink ends.old) (streams R.Source O.Sink E.Sink ends.new) }
 {
     match serve(alloc, link, clock, &mut ends.output, server, count) {
         Ok(()) => 0,
