@@ -4,7 +4,7 @@ use crate::case::Written;
 use crate::files::Files;
 use crate::host::Room;
 use crate::stores::Stores;
-use kd_ends::{Input, Output};
+use kd_io::{Input, Output};
 use kd_program::{Ends, run};
 use std::alloc::{AllocError, Global};
 use std::io;

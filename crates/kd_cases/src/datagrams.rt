@@ -1,7 +1,7 @@
 ghost use Rattle.std.specs.Prelude.{◌≡◌, IfOk, false};
 
+use kd_commands::Listening;
 use kd_event::{Destination, Mode};
-use kd_order::Listening;
 use kd_replay::{Clock, EndFailed, Link};
 use std::alloc::Global;
 use std::str::Lines;

@@ -1,5 +1,5 @@
 use kd_config::{Config, TokenFile};
-use kd_ends::{StartFault, configuration};
+use kd_io::{StartFault, configuration};
 use kd_wire::Bytes;
 use std::alloc::{AllocError, Global};
 

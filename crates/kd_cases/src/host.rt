@@ -1,10 +1,10 @@
 use crate::datagrams::{Datagrams, Moments};
 use crate::files::Files;
 use crate::stores::Stores;
+use kd_commands::Listening;
 use kd_config::Config;
-use kd_ends::{InMemory, StartFault};
+use kd_io::{InMemory, StartFault};
 use kd_keeps::StoreFault;
-use kd_order::Listening;
 use kd_program::Host;
 use kd_replay::EndFailed;
 use kd_store::Store;
@@ -26,6 +26,18 @@ impl<'a> Host for Room<'a> {
     type Socket = Datagrams<'a>;
 
     type Clock = Moments<'a>;
+
+    ghost configures = { λ old file folder result new. Unit {0} };
+
+    ghost opens = { λ old path result new. Unit {0} };
+
+    ghost makes = { λ old result new. Unit {0} };
+
+    ghost closes = { λ old path store new. Unit {0} };
+
+    ghost binds = { λ old listening result new. Unit {0} };
+
+    ghost tells_time = { λ old clock new. Unit {0} };
 
     fn configuration(
         &mut self,

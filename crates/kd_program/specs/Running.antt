@@ -1,23 +1,25 @@
 -- What the words of a command line do: what is written, and the exit status.
 use Rattle.std.specs.Prelude.{◌≡◌, ◌⊎◌, ℕ, false, true, List, Option, Some, None, Result, Ok, Err, MatchResult, option_map, string_bytes}
 use Rattle.std.specs.List.{flat_map}
-use Rattle.kd_answer.specs.Printed.{Answers}
-use Rattle.kd_answer.specs.Status.{replay_status_of, serve_status_of}
-use Rattle.kd_answer.specs.declared.printed.Printed.{Printed}
+use Rattle.kd_tools.specs.Printed.{Answers}
+use Rattle.kd_tools.specs.Status.{replay_status_of, serve_status_of}
+use Rattle.kd_tools.specs.declared.printed.Printed.{Printed}
 use Rattle.kd_config.specs.Configuration.{Configuration}
-use Rattle.kd_ends.specs.Faults.{start_fault_number}
-use Rattle.kd_ends.specs.declared.start.StartFault.{StartFault}
+use Rattle.kd_io.specs.Faults.{start_fault_number}
+use Rattle.kd_io.specs.declared.start.StartFault.{StartFault}
 use Rattle.kd_event.specs.declared.ports.Ports.{Ports}
 use Rattle.kd_keeps.specs.Fault.{store_fault_number}
 use Rattle.kd_keeps.specs.declared.fault.StoreFault.{StoreFault}
 use Rattle.kd_keeps.specs.declared.keeps.Keeps.{Ghosts}
-use Rattle.kd_order.specs.Order.{AsksFor, HasFault, fault_number}
-use Rattle.kd_order.specs.declared.fault.LineFault.{LineFault}
-use Rattle.kd_order.specs.declared.orders.Order.{Order}
-use Rattle.kd_order.specs.declared.orders.Order.TheVariants as orders
+use Rattle.kd_commands.specs.Order.{AsksFor, HasFault, fault_number}
+use Rattle.kd_commands.specs.declared.fault.LineFault.{LineFault}
+use Rattle.kd_commands.specs.declared.orders.Listening.{Listening}
+use Rattle.kd_commands.specs.declared.orders.Order.{Order}
+use Rattle.kd_commands.specs.declared.orders.Order.TheVariants as orders
 use Rattle.kd_replay.specs.Faults.{loop_fault_number, replay_fault_number, serve_fault_number}
 use Rattle.kd_replay.specs.Replay.{Leaves}
 use Rattle.kd_replay.specs.Serving.{HasServed, StopsServing, Traffic}
+use Rattle.kd_replay.specs.declared.ends.EndFailed.{EndFailed}
 use Rattle.kd_replay.specs.declared.fault.LoopFault.{LoopFault}
 use Rattle.kd_replay.specs.declared.fault.ReplayFault.{ReplayFault}
 use Rattle.kd_replay.specs.declared.link.Link.{Ghosts as Links}
@@ -25,6 +27,8 @@ use Rattle.kd_replay.specs.declared.fault.ServeFault.{ServeFault}
 use Rattle.kd_server.specs.Keeping.{IsUnopened, Keeping, Opens, Refuses, Steps}
 use Rattle.kd_server.specs.Leases.{IsNoList, lease_line, leases_at}
 use Rattle.kd_program.specs.Streams.{Prints, Puts, ShowsOrBreaks, Starves, Stream, Streams, Tells, TellsWith}
+use Rattle.kd_program.specs.declared.host.Host.{Ghosts as Hosts}
+use Rattle.kd_program.specs.declared.serving.Files.{Files}
 use Rattle.kd_program.specs.declared.serving.Work.{Work}
 use Rattle.kd_program.specs.declared.serving.Work.TheVariants as works
 
@@ -58,27 +62,11 @@ module _ {L S : Type 0} (l : Links L) (g : Ghosts S) where
         (traffic l link old.output) (traffic l left new.output))
     pub ends : EndsServe result status old.faults new.faults
 
-  -- a line is told of what the server does, and then it serves datagrams of a socket that has not failed
-  pub record Begins (count : ℕ) (server : Keeping S) (status : ℕ) (old new : Streams) : Type 0 where
-    pub line : List ℕ
-    pub between : Stream
-    pub told : Puts line old.faults between
-    pub link : L
-    pub works : l.has_failed link ≡ false
-    pub left : L
-    pub after : Keeping S
-    pub receives : Receives count link left server after status (record { input = old.input; output = old.output; faults = between }) new
-
-  -- the host gives a socket, and it is served; or it is told that there is none, or no memory for the line
-  abbrev pub Listens : ℕ → Keeping S → ℕ → Streams → Streams → Type 0
-  Listens count server status old new = Begins count server status old new ⊎ (Tells 94 status old new ⊎ Starves status old new)
-
 -- over a store of leases
 module _ {S : Type 0} (g : Ghosts S) where
   -- a server replays what is left of standard input, to standard output
-  pub record Replays (server : Keeping S) (status : ℕ) (old new : Streams) : Type 0 where
+  pub record Replays (server after : Keeping S) (status : ℕ) (old new : Streams) : Type 0 where
     pub result : Result ℕ ReplayFault
-    pub after : Keeping S
     pub leaves : (input output : List ℕ) → old.input.bytes ≡ Some input → old.output.bytes ≡ Some output
         → Leaves (Steps g) (Refuses g) (new.input.failed ≡ true) result input server after output new.output.bytes
     pub ends : EndsReplay result status old.faults new.faults
@@ -90,47 +78,145 @@ module _ {S : Type 0} (g : Ghosts S) where
       ⊎ (((fault : ServeFault) × IsNoList (g.has_failed server.store) at fault × Tells (serve_fault_number fault) status old new)
       ⊎ Starves status old new)
 
--- over a link and a store of leases
-module _ {L S : Type 0} (l : Links L) (g : Ghosts S) where
+-- over a host, its sockets, and a store of leases; a host stands somewhere before and after each answer
+module _ {H N U L C S : Type 0} (h : Hosts H N U L C) (l : Links L) (g : Ghosts S) where
+  -- the host gives a socket, which has not failed, and its clock; a line is told of what the server does, and it serves
+  -- datagrams of that socket
+  pub record Begins (listening : Listening) (count : ℕ) (before after : H) (server left : Keeping S) (status : ℕ) (old new : Streams) : Type 0 where
+    pub link : L
+    pub bound : H
+    pub given : h.binds before listening (Ok link) bound
+    pub works : l.has_failed link ≡ false
+    pub clock : C
+    pub timed : h.tells_time bound clock after
+    pub line : List ℕ
+    pub between : Stream
+    pub told : Puts line old.faults between
+    pub rest : L
+    pub receives : Receives l g count link rest server left status (record { input = old.input; output = old.output; faults = between }) new
+
+  -- the host gives no socket, which is told
+  pub record HasNoSocket (listening : Listening) (before after : H) (status : ℕ) (old new : Streams) : Type 0 where
+    pub failed : EndFailed
+    pub given : h.binds before listening (Err failed) after
+    pub told : Tells 94 status old new
+
+  -- the host gives a socket, and memory runs out for the line
+  pub record HasNoLine (listening : Listening) (before after : H) (status : ℕ) (old new : Streams) : Type 0 where
+    pub link : L
+    pub given : h.binds before listening (Ok link) after
+    pub told : Starves status old new
+
+  -- a server serves datagrams of the host's socket, or stays as it is
+  abbrev pub Listens : Listening → ℕ → H → H → Keeping S → Keeping S → ℕ → Streams → Streams → Type 0
+  Listens listening count before after server left status old new =
+      Begins listening count before after server left status old new
+      ⊎ ((left ≡ server) × (HasNoSocket listening before after status old new ⊎ HasNoLine listening before after status old new))
+
   -- what a server is opened for
-  abbrev pub Works : Work → Keeping S → ℕ → Streams → Streams → Type 0
-  Works works.Replay server status old new = Replays g server status old new
-  Works (works.Leases at) server status old new = Lists g at server status old new
-  Works (works.Serve listening count) server status old new = Listens l g count server status old new
+  abbrev pub Works : Work → H → H → Keeping S → Keeping S → ℕ → Streams → Streams → Type 0
+  Works works.Replay before after server left status old new = (after ≡ before) × Replays g server left status old new
+  Works (works.Leases at) before after server left status old new =
+      (after ≡ before) × ((left ≡ server) × Lists g at server status old new)
+  Works (works.Serve listening count) before after server left status old new =
+      Listens listening count before after server left status old new
 
-  -- a server that goes by a configuration is opened over a store, and does its work; or its fault is told
-  abbrev pub Serves : Work → Configuration → S → ℕ → Streams → Streams → Type 0
-  Serves work config store status old new =
-      ((server : Keeping S) × Opens g (ports_of work) config store server × Works work server status old new)
-      ⊎ ((fault : ServeFault) × (same : Configuration) × (back : S) × IsUnopened g config store fault same back × Tells (serve_fault_number fault) status old new)
+  -- a server that goes by a configuration is opened over a store, does its work, and gives back its store
+  pub record IsServed (work : Work) (config : Configuration) (store back : S) (before after : H) (status : ℕ) (old new : Streams) : Type 0 where
+    pub server : Keeping S
+    pub opened : Opens g (ports_of work) config store server
+    pub left : Keeping S
+    pub worked : Works work before after server left status old new
+    pub closed : back ≡ left.store
 
--- over the two sorts of stores that a host has
-module _ {N U L : Type 0} (named : Ghosts N) (unnamed : Ghosts U) (l : Links L) where
-  -- a server works over a store that has not failed, with a path or without one
-  abbrev pub ServesOver : Option (List ℕ) → Work → Configuration → ℕ → Streams → Streams → Type 0
-  ServesOver (Some path) work config status old new = (store : N) × (named.has_failed store ≡ false) × Serves l named work config store status old new
-  ServesOver None work config status old new = (store : U) × (unnamed.has_failed store ≡ false) × Serves l unnamed work config store status old new
+  -- no server is opened over a store, which is told
+  pub record IsNotServed (config : Configuration) (store back : S) (before after : H) (status : ℕ) (old new : Streams) : Type 0 where
+    pub fault : ServeFault
+    pub same : Configuration
+    pub refused : IsUnopened g config store fault same back
+    pub stays : after ≡ before
+    pub told : Tells (serve_fault_number fault) status old new
 
-  -- the host gives a configuration and a store, or the fault of one of them is told
-  abbrev pub Starts : Option (List ℕ) → Work → ℕ → Streams → Streams → Type 0
-  Starts path work status old new =
-      ((config : Configuration) × ServesOver path work config status old new)
-      ⊎ (((fault : StartFault) × Tells (start_fault_number fault) status old new)
-      ⊎ ((fault : StoreFault) × Tells (store_fault_number fault) status old new))
+  -- one of the two
+  abbrev pub Serves : Work → Configuration → S → S → H → H → ℕ → Streams → Streams → Type 0
+  Serves work config store back before after status old new =
+      IsServed work config store back before after status old new ⊎ IsNotServed config store back before after status old new
+
+-- over a host with its two sorts of stores and its sockets
+module _ {H N U L C : Type 0} (h : Hosts H N U L C) (named : Ghosts N) (unnamed : Ghosts U) (l : Links L) where
+  -- a server works over the store that the host opens at a path, which has not failed, and the host gets it back
+  pub record WorksAt (path : List ℕ) (work : Work) (config : Configuration) (before after : H) (status : ℕ) (old new : Streams) : Type 0 where
+    pub store : N
+    pub opened : H
+    pub given : h.opens before path (Ok store) opened
+    pub works : named.has_failed store ≡ false
+    pub back : N
+    pub left : H
+    pub serves : Serves h l named work config store back opened left status old new
+    pub closed : h.closes left path back after
+
+  -- a server works over the store in memory that the host makes, which has not failed
+  pub record WorksInMemory (work : Work) (config : Configuration) (before after : H) (status : ℕ) (old new : Streams) : Type 0 where
+    pub store : U
+    pub made : H
+    pub given : h.makes before (Ok store) made
+    pub works : unnamed.has_failed store ≡ false
+    pub back : U
+    pub serves : Serves h l unnamed work config store back made after status old new
+
+  -- the host opens no store at a path, which is told
+  pub record HasNoStoreAt (path : List ℕ) (before after : H) (status : ℕ) (old new : Streams) : Type 0 where
+    pub fault : StoreFault
+    pub given : h.opens before path (Err fault) after
+    pub told : Tells (store_fault_number fault) status old new
+
+  -- the host makes no store in memory, which is told
+  pub record HasNoStoreInMemory (before after : H) (status : ℕ) (old new : Streams) : Type 0 where
+    pub fault : StoreFault
+    pub given : h.makes before (Err fault) after
+    pub told : Tells (store_fault_number fault) status old new
+
+  -- a server works over the host's store, with a path or without one, or it is told that there is none
+  abbrev pub WorksOver : Option (List ℕ) → Work → Configuration → H → H → ℕ → Streams → Streams → Type 0
+  WorksOver (Some path) work config before after status old new =
+      WorksAt path work config before after status old new ⊎ HasNoStoreAt path before after status old new
+  WorksOver None work config before after status old new =
+      WorksInMemory work config before after status old new ⊎ HasNoStoreInMemory before after status old new
+
+  -- the host gives the configuration of these files, and a server goes by it
+  pub record HasConfiguration (files : Files) (work : Work) (before after : H) (status : ℕ) (old new : Streams) : Type 0 where
+    pub config : Configuration
+    pub asked : H
+    pub given : h.configures before (option_map string_bytes files.config) (option_map string_bytes files.token_dir) (Ok config) asked
+    pub works : WorksOver (option_map string_bytes files.store) work config asked after status old new
+
+  -- the host gives no configuration of these files, which is told
+  pub record HasNoConfiguration (files : Files) (before after : H) (status : ℕ) (old new : Streams) : Type 0 where
+    pub fault : StartFault
+    pub given : h.configures before (option_map string_bytes files.config) (option_map string_bytes files.token_dir) (Err fault) after
+    pub told : Tells (start_fault_number fault) status old new
+
+  -- one of the two
+  abbrev pub Starts : Files → Work → H → H → ℕ → Streams → Streams → Type 0
+  Starts files work before after status old new =
+      HasConfiguration files work before after status old new ⊎ HasNoConfiguration files before after status old new
 
   -- what an order prints that needs nothing but its words; memory may run out for it
   abbrev pub Says : Order → ℕ → Streams → Streams → Type 0
   Says order status old new = ((printed : Printed) × Answers order printed × Prints printed status old new) ⊎ Starves status old new
 
   -- what an order does
-  abbrev pub Does : Order → ℕ → Streams → Streams → Type 0
-  Does (orders.Replay config token_dir store) status old new = Starts (option_map string_bytes store) works.Replay status old new
-  Does (orders.Leases config token_dir store at) status old new = Starts (option_map string_bytes store) (works.Leases at) status old new
-  Does (orders.Serve config token_dir store listening count) status old new = Starts (option_map string_bytes store) (works.Serve listening count) status old new
-  Does other status old new = Says other status old new
+  abbrev pub Does : Order → H → H → ℕ → Streams → Streams → Type 0
+  Does (orders.Replay config token_dir store) before after status old new =
+      Starts (record { config = config; token_dir = token_dir; store = store }) works.Replay before after status old new
+  Does (orders.Leases config token_dir store at) before after status old new =
+      Starts (record { config = config; token_dir = token_dir; store = store }) (works.Leases at) before after status old new
+  Does (orders.Serve config token_dir store listening count) before after status old new =
+      Starts (record { config = config; token_dir = token_dir; store = store }) (works.Serve listening count) before after status old new
+  Does other before after status old new = (after ≡ before) × Says other status old new
 
   -- what words do: the fault that they have is told, or what they ask for is done
-  abbrev pub Carries : List (List ℕ) → ℕ → Streams → Streams → Type 0
-  Carries words status old new =
-      ((fault : LineFault) × HasFault words fault × Tells (fault_number fault) status old new)
-      ⊎ ((order : Order) × AsksFor words order × Does order status old new)
+  abbrev pub Carries : List (List ℕ) → H → H → ℕ → Streams → Streams → Type 0
+  Carries words before after status old new =
+      ((fault : LineFault) × HasFault words fault × (after ≡ before) × Tells (fault_number fault) status old new)
+      ⊎ ((order : Order) × AsksFor words order × Does order before after status old new)

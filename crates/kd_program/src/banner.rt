@@ -1,5 +1,5 @@
+use kd_commands::Listening;
 use kd_config::Subnet;
-use kd_order::Listening;
 use std::alloc::{AllocError, Global};
 use std::fmt::Write;
 

@@ -1,12 +1,18 @@
+use kd_commands::Listening;
 use kd_config::Config;
-use kd_ends::StartFault;
+use kd_io::StartFault;
 use kd_keeps::{Keeps, StoreFault};
-use kd_order::Listening;
 use kd_replay::{Clock, EndFailed, Link};
 
 /// What a command finds outside of its words and of the standard streams.
 pub trait Host {
-    ghost use Rattle.std.specs.Prelude.{◌≡◌, IfOk, false};
+    ghost use Rattle.std.specs.Prelude.{◌≡◌, ℕ, IfOk, List, Option, Result, false};
+    ghost use Rattle.std.specs.Option.{option_copied};
+    ghost use Rattle.kd_commands.specs.declared.orders.Listening.{Listening};
+    ghost use Rattle.kd_config.specs.Configuration.{Configuration};
+    ghost use Rattle.kd_io.specs.declared.start.StartFault.{StartFault};
+    ghost use Rattle.kd_keeps.specs.declared.fault.StoreFault.{StoreFault};
+    ghost use Rattle.kd_replay.specs.declared.ends.EndFailed.{EndFailed};
 
     /// A store of leases that has a path.
     type Named: Keeps + Drop;
@@ -20,6 +26,25 @@ pub trait Host {
     /// What says the moment.
     type Clock: Clock + Drop;
 
+    /// The answer to a question for the configuration of a file, with a folder of token files, and where the host stands
+    /// then. So are the others: from where the host stood, to what it answers, to where it stands then.
+    ghost configures: { Self → Option (List ℕ) → Option (List ℕ) → Result Configuration StartFault → Self → Type 0 };
+
+    /// The store at a path.
+    ghost opens: { Self → List ℕ → Result Self.Named StoreFault → Self → Type 0 };
+
+    /// A store in memory.
+    ghost makes: { Self → Result Self.Unnamed StoreFault → Self → Type 0 };
+
+    /// A store of a path is taken back.
+    ghost closes: { Self → List ℕ → Self.Named → Self → Type 0 };
+
+    /// A socket.
+    ghost binds: { Self → Listening → Result Self.Socket EndFailed → Self → Type 0 };
+
+    /// The clock.
+    ghost tells_time: { Self → Self.Clock → Self → Type 0 };
+
     /// The configuration of the file at a path, with the token files of a folder; the built-in one without a file. The
     /// folder is read first.
     ///
@@ -30,7 +55,9 @@ pub trait Host {
         &mut self,
         file: Option<&str>,
         folder: Option<&str>,
-    ) -> Result<Config, StartFault>;
+    ) -> Result<Config, StartFault>
+        ensures { configures self.old (option_copied file.entry) (option_copied folder.entry)
+            result self.new };
 
     /// The store of the leases at a path, which has not failed; a new one where there is none.
     ///
@@ -38,7 +65,8 @@ pub trait Host {
     ///
     /// It can't be opened.
     fn named_store(&mut self, path: &str) -> Result<Self::Named, StoreFault>
-        ensures { IfOk result (λ store. Self.Named.has_failed store ≡ false) };
+        ensures given { opens self.old path.now result self.new }
+        ensures works { IfOk result (λ store. Self.Named.has_failed store ≡ false) };
 
     /// A new store of leases in memory, which has not failed.
     ///
@@ -46,10 +74,12 @@ pub trait Host {
     ///
     /// There is no memory for it.
     fn unnamed_store(&mut self) -> Result<Self::Unnamed, StoreFault>
-        ensures { IfOk result (λ store. Self.Unnamed.has_failed store ≡ false) };
+        ensures given { makes self.old result self.new }
+        ensures works { IfOk result (λ store. Self.Unnamed.has_failed store ≡ false) };
 
     /// Takes back the store of a path from a command that has ended.
-    fn close(&mut self, path: &str, store: Self::Named);
+    fn close(&mut self, path: &str, store: Self::Named)
+        ensures { closes self.old path.now store self.new };
 
     /// A socket at an address and a port, which has not failed.
     ///
@@ -57,8 +87,10 @@ pub trait Host {
     ///
     /// There is none.
     fn socket(&mut self, listening: Listening) -> Result<Self::Socket, EndFailed>
-        ensures { IfOk result (λ link. Self.Socket.has_failed link ≡ false) };
+        ensures given { binds self.old listening result self.new }
+        ensures works { IfOk result (λ link. Self.Socket.has_failed link ≡ false) };
 
     /// The clock.
-    fn clock(&mut self) -> Self::Clock;
+    fn clock(&mut self) -> Self::Clock
+        ensures { tells_time self.old result self.new };
 }

@@ -6,9 +6,9 @@ use crate::ends::Ends;
 use crate::host::Host;
 use crate::printing::{print, refuse_memory, refuse_words};
 use crate::serving::{Files, Work, served};
-use kd_answer::answer;
-use kd_order::{Order, order};
+use kd_commands::{Order, order};
 use kd_replay::{Sink, Source};
+use kd_tools::answer;
 use std::alloc::Global;
 
 /// Carries out the words behind the program's name, and says the exit status. What is refused has one line on standard
@@ -21,8 +21,8 @@ pub fn run<H: Host, R: Source, O: Sink, E: Sink>(
 ) -> u8
     requires input { R.has_failed ends.old.input ≡ false }
     requires output { O.has_failed ends.old.output ≡ false }
-    ensures { Carries H.Named.Keeps H.Unnamed.Keeps H.Socket.Link
-        (map string_bytes words.now) result
+    ensures { Carries H.Host H.Named.Keeps H.Unnamed.Keeps H.Socket.Link
+        (map string_bytes words.now) host.old host.new result
         (streams R.Source O.Sink E.Sink ends.old) (streams R.Source O.Sink E.Sink ends.new) }
 {
     match order(alloc, words) {
@@ -40,7 +40,8 @@ fn carried_out<H: Host, R: Source, O: Sink, E: Sink>(
 ) -> u8
     requires input { R.has_failed ends.old.input ≡ false }
     requires output { O.has_failed ends.old.output ≡ false }
-    ensures { Does H.Named.Keeps H.Unnamed.Keeps H.Socket.Link order result
+    ensures { Does H.Host H.Named.Keeps H.Unnamed.Keeps H.Socket.Link
+        order host.old host.new result
         (streams R.Source O.Sink E.Sink ends.old) (streams R.Source O.Sink E.Sink ends.new) }
 {
     match order {

@@ -1,18 +1,23 @@
 ghost use Rattle.std.specs.Prelude.{◌≡◌, false, option_map, string_bytes};
-ghost use Rattle.kd_program.specs.Streams.{streams};
+ghost use Rattle.std.specs.Option.{option_copied};
+ghost use Rattle.kd_tools.specs.Status.{status_of};
+ghost use Rattle.kd_io.specs.Faults.{start_fault_number};
+ghost use Rattle.kd_keeps.specs.Fault.{store_fault_number};
+ghost use Rattle.kd_program.specs.Streams.{TellsWith, streams, written_to};
 ghost use Rattle.kd_program.specs.Running.{Listens, Lists, Receives, Replays, Serves, Starts, Works, ports_of};
 
 use crate::banner::{Banner, Sizes, banner_line, pool_addresses};
 use crate::ends::Ends;
 use crate::host::Host;
 use crate::printing::{refuse, refuse_as, refuse_memory, show, tell};
-use kd_answer::{replay_status, serve_status};
+use kd_commands::Listening;
 use kd_config::Config;
 use kd_event::Ports;
-use kd_keeps::Keeps;
-use kd_order::Listening;
+use kd_io::StartFault;
+use kd_keeps::{Keeps, StoreFault};
 use kd_replay::{Clock, Link, LoopFault, Sink, Source};
 use kd_server::{Server, lease_lines, replay, serve};
+use kd_tools::{replay_status, serve_status};
 use std::alloc::Global;
 
 /// The paths of the files that a server goes by, where they are given.
@@ -48,13 +53,13 @@ pub fn served<H: Host, R: Source, O: Sink, E: Sink>(
 ) -> u8
     requires input { R.has_failed ends.old.input ≡ false }
     requires output { O.has_failed ends.old.output ≡ false }
-    ensures { Starts H.Named.Keeps H.Unnamed.Keeps H.Socket.Link
-        (option_map string_bytes files.now.store) work result
+    ensures { Starts H.Host H.Named.Keeps H.Unnamed.Keeps H.Socket.Link
+        files.now work host.old host.new result
         (streams R.Source O.Sink E.Sink ends.old) (streams R.Source O.Sink E.Sink ends.new) }
 {
-    let config = match host.configuration(files.config.as_deref(), files.token_dir.as_deref()) {
+    let config = match configured(host, files) {
         Ok(config) => config,
-        Err(fault) => return refuse(alloc, &mut ends.faults, fault.number(), &fault),
+        Err(fault) => return refuse_start(alloc, &mut ends.faults, &fault),
     };
     match &files.store {
         Some(path) => match host.named_store(path.as_str()) {
@@ -71,13 +76,49 @@ pub fn served<H: Host, R: Source, O: Sink, E: Sink>(
                 host.close(path.as_str(), store);
                 status
             }
-            Err(fault) => refuse(alloc, &mut ends.faults, fault.number(), &fault),
+            Err(fault) => refuse_store(alloc, &mut ends.faults, &fault),
         },
         None => match host.unnamed_store() {
             Ok(store) => served_over(alloc, host, ends, config, store, "memory", work).0,
-            Err(fault) => refuse(alloc, &mut ends.faults, fault.number(), &fault),
+            Err(fault) => refuse_store(alloc, &mut ends.faults, &fault),
         },
     }
+}
+
+// The configuration that the host gives for these files.
+fn configured<H: Host>(host: &mut H, files: &Files) -> Result<Config, StartFault>
+    ensures { H.Host.configures host.old (option_map string_bytes files.now.config)
+        (option_map string_bytes files.now.token_dir) result host.new }
+{
+    let file = text_of(&files.config);
+    let folder = text_of(&files.token_dir);
+    host.configuration(file, folder)
+}
+
+// A path, where one is given.
+fn text_of(path: &Option<String>) -> Option<&str>
+    ensures { option_copied result ≡ option_map string_bytes path.now }
+{
+    match path {
+        Some(path) => Some(path.as_str()),
+        None => None,
+    }
+}
+
+// Says why there is no configuration, and the exit status.
+fn refuse_start<E: Sink>(alloc: Global, faults: &mut E, fault: &StartFault) -> u8
+    ensures { TellsWith (start_fault_number fault.now) (status_of (start_fault_number fault.now))
+        result (written_to E.Sink faults.old) (written_to E.Sink faults.new) }
+{
+    refuse(alloc, faults, fault.number(), fault)
+}
+
+// Says why there is no store, and the exit status.
+fn refuse_store<E: Sink>(alloc: Global, faults: &mut E, fault: &StoreFault) -> u8
+    ensures { TellsWith (store_fault_number fault.now) (status_of (store_fault_number fault.now))
+        result (written_to E.Sink faults.old) (written_to E.Sink faults.new) }
+{
+    refuse(alloc, faults, fault.number(), fault)
 }
 
 // Does this work as a server of a configuration over a store with a name; the store comes back.
@@ -93,7 +134,8 @@ fn served_over<H: Host, R: Source, O: Sink, E: Sink, S: Keeps + Drop>(
     requires store { S.has_failed store ≡ false }
     requires input { R.has_failed ends.old.input ≡ false }
     requires output { O.has_failed ends.old.output ≡ false }
-    ensures { Serves H.Socket.Link S.Keeps work config store result.0
+    ensures { Serves H.Host H.Socket.Link S.Keeps
+        work config store result.1 host.old host.new result.0
         (streams R.Source O.Sink E.Sink ends.old) (streams R.Source O.Sink E.Sink ends.new) }
 {
     let sizes = Sizes {
@@ -124,7 +166,8 @@ fn worked<H: Host, R: Source, O: Sink, E: Sink, S: Keeps>(
 ) -> u8
     requires input { R.has_failed ends.old.input ≡ false }
     requires output { O.has_failed ends.old.output ≡ false }
-    ensures { Works H.Socket.Link S.Keeps work server.old result
+    ensures { Works H.Host H.Socket.Link S.Keeps
+        work host.old host.new server.old server.new result
         (streams R.Source O.Sink E.Sink ends.old) (streams R.Source O.Sink E.Sink ends.new) }
 {
     match work {
@@ -166,7 +209,7 @@ fn replayed<R: Source, O: Sink, E: Sink, S: Keeps>(
 ) -> u8
     requires input { R.has_failed ends.old.input ≡ false }
     requires output { O.has_failed ends.old.output ≡ false }
-    ensures { Replays S.Keeps server.old result
+    ensures { Replays S.Keeps server.old server.new result
         (streams R.Source O.Sink E.Sink ends.old) (streams R.Source O.Sink E.Sink ends.new) }
 {
     match replay(alloc, &mut ends.input, &mut ends.output, server) {
@@ -211,7 +254,8 @@ fn listened<H: Host, R: Source, O: Sink, E: Sink, S: Keeps>(
     count: u64,
 ) -> u8
     requires { O.has_failed ends.old.output ≡ false }
-    ensures { Listens H.Socket.Link S.Keeps count server.old result
+    ensures { Listens H.Host H.Socket.Link S.Keeps
+        banner.now.listening count host.old host.new server.old server.new result
         (streams R.Source O.Sink E.Sink ends.old) (streams R.Source O.Sink E.Sink ends.new) }
 {
     let Ok(mut link) = host.socket(banner.listening) else {

@@ -1,6 +1,6 @@
 use crate::support::{DISCOVER, datagram};
-use kd_answer::{Printed, answer, exit_status};
-use kd_order::{LineFault, Order, order};
+use kd_commands::{LineFault, Order, order};
+use kd_tools::{Printed, answer, exit_status};
 use std::alloc::{AllocError, Global};
 use std::test::Fail;
 

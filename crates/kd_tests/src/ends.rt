@@ -1,5 +1,5 @@
 use kd_config::TokenFile;
-use kd_ends::{InputFault, MOST_BYTES, read_file, token_files};
+use kd_io::{InputFault, MOST_BYTES, read_file, token_files};
 use std::alloc::Global;
 use std::os::unix::fs::symlink;
 use std::test::Fail;

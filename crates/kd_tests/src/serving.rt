@@ -3,8 +3,8 @@ ghost use Rattle.std.specs.Prelude.{◌≡◌, IfOk, false};
 
 use crate::doubles::Keeping;
 use crate::support::{COOKIE, server_on};
-use kd_ends::{Sending, Socket};
 use kd_event::{Destination, Ports};
+use kd_io::{Sending, Socket};
 use kd_replay::{Clock, EndFailed, Link, LoopFault};
 use kd_server::{Server, serve};
 use kd_table_tests::Fused;

@@ -1,10 +1,10 @@
+use kd_commands::Listening;
 use kd_config::Config;
-use kd_ends::{
+use kd_io::{
     HostClock, InFile, InMemory, Sending, Socket, StartFault, configuration, store_in_file,
     store_in_memory,
 };
 use kd_keeps::StoreFault;
-use kd_order::Listening;
 use kd_program::Host;
 use kd_replay::EndFailed;
 use kd_store::Store;
@@ -30,6 +30,18 @@ impl<'a> Host for Machine<'a> {
     type Socket = Socket;
 
     type Clock = HostClock<'a>;
+
+    ghost configures = { λ old file folder result new. Unit {0} };
+
+    ghost opens = { λ old path result new. Unit {0} };
+
+    ghost makes = { λ old result new. Unit {0} };
+
+    ghost closes = { λ old path store new. Unit {0} };
+
+    ghost binds = { λ old listening result new. Unit {0} };
+
+    ghost tells_time = { λ old clock new. Unit {0} };
 
     fn configuration(
         &mut self,

@@ -3,8 +3,8 @@
 
 mod machine;
 
-use kd_ends::{Input, Output};
-use kd_order::LineFault;
+use kd_commands::LineFault;
+use kd_io::{Input, Output};
 use kd_program::{Ends, refuse_words, run};
 use machine::Machine;
 use std::io;

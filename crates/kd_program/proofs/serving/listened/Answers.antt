@@ -1,15 +1,32 @@
-use Rattle.std.proofs.Common.{inl}
+use Rattle.std.proofs.Common.{refl, inl, inr}
 use Rattle.kd_program.specs.Streams.{written_to}
+use Rattle.kd_program.proofs.Told.{told_own}
 use Rattle.kd_program.proofs.serving.listened.Goals as goal
 
 pub returns : goal.returns
 returns g c = inl (record {
+  link = c.in-Ok.link;
+  bound = c.socket.new.self;
+  given = c.in-Ok.ensures.given;
+  works = c.in-Ok.ensures.works;
+  clock = c.clock-clock.result;
+  timed = c.clock-clock.ensures;
   line = c.as_bytes.result.now;
   between = written_to g.E.Sink c.tell.new.faults;
   told = c.tell.ensures;
-  link = c.in-Ok.link;
-  works = c.in-Ok.ensures;
-  left = c.received.new.link;
-  after = c.received.new.server;
+  rest = c.received.new.link;
   receives = c.received.ensures;
 })
+
+pub returns-in_default : goal.returns-in_default
+returns-in_default g c = inr (
+  refl,
+  inl (record {
+    failed = c.in_default.field-0;
+    given = c.in_default.ensures.given;
+    told = (
+      refl,
+      told_own _ _ _ (written_to g.E.Sink c.args.ends.now.faults) _ c.number.ensures c.refuse.ensures,
+    );
+  }),
+)

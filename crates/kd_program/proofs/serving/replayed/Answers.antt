@@ -6,7 +6,6 @@ use Rattle.kd_program.proofs.serving.replayed.Goals as goal
 pub returns-in-Ok : goal.returns-in-Ok
 returns-in-Ok g c = record {
   result = Ok c.in-Ok.field-0;
-  after = c.replay.new.server;
   leaves = c.in-Ok.ensures.replayed;
   ends = (refl, refl);
 }
@@ -14,7 +13,6 @@ returns-in-Ok g c = record {
 pub returns-in-Err : goal.returns-in-Err
 returns-in-Err g c = record {
   result = Err c.in-Err.fault;
-  after = c.replay.new.server;
   leaves = c.in-Err.ensures.replayed;
   ends = told_as _ _ _ _ _ (written_to g.E.Sink c.args.ends.now.faults) _ c.number.ensures c.replay_status.ensures c.refuse_as.ensures;
 }

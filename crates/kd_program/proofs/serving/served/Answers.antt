@@ -1,30 +1,50 @@
-use Rattle.std.proofs.Common.{refl, inl, inr}
-use Rattle.kd_program.specs.Streams.{written_to}
-use Rattle.kd_program.proofs.Told.{told_own}
+use Rattle.std.proofs.Common.{rules, refl, subst, sym, inl, inr, option_map, string_bytes}
+use Rattle.kd_program.specs.Streams.{streams}
+use Rattle.kd_program.specs.Running.{WorksOver}
 use Rattle.kd_program.proofs.serving.served.Goals as goal
 
-pub returns-in-Err : goal.returns-in-Err
-returns-in-Err g c =
-    inr (inl (c.in-Err.fault, (refl, told_own _ _ _ (written_to g.E.Sink c.args.ends.now.faults) _ c.number.ensures c.refuse.ensures)))
-
 pub returns-in-Err-named_store : goal.returns-in-Err-named_store
-returns-in-Err-named_store g c =
-    inr (inr (
-      c.in-Err-named_store.fault,
-      (
-        refl,
-        told_own _ _ _ (written_to g.E.Sink c.args.ends.now.faults) _
-            c.number-in-Err-named_store.ensures c.refuse-in-Err-named_store.ensures,
-      ),
-    ))
+returns-in-Err-named_store g c = inl (record {
+  config = c.in-Ok.config;
+  asked = c.configured.new.host;
+  given = c.in-Ok.ensures;
+  works = subst
+      (λ path. WorksOver g.H.Host g.H.Named.Keeps g.H.Unnamed.Keeps g.H.Socket.Link
+      (option_map string_bytes path) c.args.work c.in-Ok.config c.configured.new.host
+      c.named_store.new.self c.refuse_store.result
+      (streams g.R.Source g.O.Sink g.E.Sink c.args.ends.now)
+      (streams g.R.Source g.O.Sink g.E.Sink record {
+        input = c.args.ends.now.input;
+        output = c.args.ends.now.output;
+        faults = c.refuse_store.new.faults;
+      }))
+      (sym c.in-Some.is)
+      (inr (record {
+        fault = c.in-Err-named_store.fault;
+        given = search rules;
+        told = (refl, c.refuse_store.ensures);
+      }));
+})
 
 pub returns-in-Err-unnamed_store : goal.returns-in-Err-unnamed_store
-returns-in-Err-unnamed_store g c =
-    inr (inr (
-      c.in-Err-unnamed_store.fault,
-      (
-        refl,
-        told_own _ _ _ (written_to g.E.Sink c.args.ends.now.faults) _
-            c.number-in-Err-unnamed_store.ensures c.refuse-in-Err-unnamed_store.ensures,
-      ),
-    ))
+returns-in-Err-unnamed_store g c = inl (record {
+  config = c.in-Ok.config;
+  asked = c.configured.new.host;
+  given = c.in-Ok.ensures;
+  works = subst
+      (λ path. WorksOver g.H.Host g.H.Named.Keeps g.H.Unnamed.Keeps g.H.Socket.Link
+      (option_map string_bytes path) c.args.work c.in-Ok.config c.configured.new.host
+      c.unnamed_store.new.self c.refuse_store-in-Err-unnamed_store.result
+      (streams g.R.Source g.O.Sink g.E.Sink c.args.ends.now)
+      (streams g.R.Source g.O.Sink g.E.Sink record {
+        input = c.args.ends.now.input;
+        output = c.args.ends.now.output;
+        faults = c.refuse_store-in-Err-unnamed_store.new.faults;
+      }))
+      (sym c.in-None.is)
+      (inr (record {
+        fault = c.in-Err-unnamed_store.fault;
+        given = c.in-Err-unnamed_store.ensures.given;
+        told = (refl, c.refuse_store-in-Err-unnamed_store.ensures);
+      }));
+})

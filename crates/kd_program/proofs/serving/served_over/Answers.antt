@@ -5,12 +5,23 @@ use Rattle.kd_program.proofs.Told.{told_own}
 use Rattle.kd_program.proofs.serving.served_over.Goals as goal
 
 pub returns-in-Err : goal.returns-in-Err
-returns-in-Err g c =
-    inr (c.in-Err.fault, c.in-Err.field-0-1, c.in-Err.store, c.in-Err.ensures.refused, (refl, told_own _ _ _ (written_to g.E.Sink c.args.ends.now.faults) _ c.number.ensures c.refuse-status.ensures))
+returns-in-Err g c = inr (record {
+  fault = c.in-Err.fault;
+  same = c.in-Err.field-0-1;
+  refused = c.in-Err.ensures.refused;
+  stays = refl;
+  told = (
+    refl,
+    told_own _ _ _ (written_to g.E.Sink c.args.ends.now.faults) _ c.number.ensures
+        c.refuse-status.ensures,
+  );
+})
 
 pub returns : goal.returns
-returns g c = inl (
-  c.in-Ok.server,
-  subst (λ ports. Opens g.S.Keeps ports c.args.config c.args.store c.in-Ok.server) c.ports_of.ensures c.in-Ok.ensures.opened,
-  c.worked-status.ensures,
-)
+returns g c = inl (record {
+  server = c.in-Ok.server;
+  opened = subst (λ ports. Opens g.S.Keeps ports c.args.config c.args.store c.in-Ok.server) c.ports_of.ensures c.in-Ok.ensures.opened;
+  left = c.worked-status.new.server;
+  worked = c.worked-status.ensures;
+  closed = c.close-store.ensures.store;
+})

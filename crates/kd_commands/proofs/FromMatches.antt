@@ -1,0 +1,229 @@
+-- From what clap says of a parse to the order that the words give.
+use Rattle.std.proofs.Common.{◌≡◌, ◌⊎◌, ◌∙◌, sym, ap, ap₂, codes, refl, subst, inl, inr, true, List, [], ◌∷◌, map, Option, Some, None, Result, Ok, Err}
+use Rattle.std.specs.Result.{IfErr, IfOk}
+use Rattle.std.specs.Prelude.{Box, String, option_map}
+use Rattle.std.specs.List.{All}
+use Rattle.std.specs.Str.{IsUtf8}
+use Rattle.std.proofs.lemmas.List.Elements.{All-cons, All-nil}
+use Rattle.std.proofs.lemmas.Str.{IsUtf8-string_bytes}
+use Rattle.std.specs.Box.{box_value}
+use Rattle.std.specs.String.{string_bytes}
+use Rattle.clap.specs.Words.{found_of, first_value, rows_of, App, HasMatchesOf, IsAmong, Kinds, Row, Text, fault_of, first_of, is_simple, is_simple_and_free, subcommand_name_of, subcommand_of, subcommand_rows, subcommand_rows_of}
+use Rattle.clap.specs.declared.error.kind.ErrorKind.{ErrorKind}
+use Rattle.clap.specs.declared.error.kind.ErrorKind.TheVariants.{DisplayHelp, OutOfMemory}
+use Rattle.clap.specs.declared.parser.matches.ArgMatches.{ArgMatches}
+use Rattle.clap.specs.declared.parser.matches.ArgMatches.TheViews.{out-ArgMatches, out-SubCommand}
+use Rattle.clap.specs.declared.parser.matches.SubCommand.{SubCommand}
+use Rattle.clap.proofs.WalkLemmas.{first_value-rows}
+use Rattle.clap.proofs.OnLiterals.{clap_on_literals}
+use Rattle.kd_commands.specs.Order.{Asked, Asks, AsksFor, GivesUnlessFull, HasFault, HelpsUnlessFull, asked_by, asked_of, command_line, compiles, evaluates, evaluation_of, given_by, listing_of, lists, replays, serves, serving_of, shows, tests, types, verifies}
+use Rattle.kd_commands.proofs.Lines.{one_asked}
+use Rattle.kd_commands.specs.Steps.{AnswersKind, GivesIfThere}
+use Rattle.kd_commands.specs.declared.fault.LineFault.{LineFault}
+use Rattle.kd_commands.specs.declared.fault.LineFault.TheVariants.{CommandLine, Memory}
+use Rattle.kd_commands.specs.declared.orders.Order.{Order}
+use Rattle.kd_commands.specs.declared.orders.Order.TheVariants.{Help, Show, Expr, Compile, Verify, Eval, EvalText, Replay, Leases, Serve}
+
+-- clap tells the matches of this command line, and the kinds of its faults
+is_told : is_simple command_line ≡ true
+unfolding clap_on_literals
+is_told = refl
+
+is_free : is_simple_and_free command_line ≡ true
+unfolding clap_on_literals
+is_free = refl
+
+-- what an answer has to say of the words
+pub record Answers (ws : List Text) (r : Result Order LineFault) : Type 0 where
+  pub order : IfOk r (AsksFor ws)
+  pub fault : IfErr r (HasFault ws)
+  pub only : (asked : Asked) → Asks ws asked → GivesUnlessFull asked r
+  pub help : fault_of command_line ws ≡ DisplayHelp ∷ [] → HelpsUnlessFull r
+
+-- a text is UTF-8
+pub are_texts : {Z : Type 0} (ws : List (String Z)) → All IsUtf8 (map string_bytes ws)
+are_texts [] = All-nil IsUtf8
+are_texts (w ∷ ws) = All-cons IsUtf8 (string_bytes w) (map string_bytes ws) (IsUtf8-string_bytes w) (are_texts ws)
+
+-- an order gives what the words ask for
+asks_for : (ws : List Text) (order : Order) (asked : Asked) → given_by order ≡ Some asked → Asks ws asked → AsksFor ws order
+asks_for ws (Help text) asked gives h = cc
+asks_for ws (Show hex) asked gives h = let is : shows (string_bytes hex) ≡ asked = cc in subst (Asks ws) (sym is) h
+asks_for ws (Expr text) asked gives h = let is : types (string_bytes text) ≡ asked = cc in subst (Asks ws) (sym is) h
+asks_for ws (Compile text) asked gives h = let is : compiles (string_bytes text) ≡ asked = cc in subst (Asks ws) (sym is) h
+asks_for ws (Verify hex) asked gives h = let is : verifies (string_bytes hex) ≡ asked = cc in subst (Asks ws) (sym is) h
+asks_for ws (Eval program datagram) asked gives h =
+    let is : evaluates (string_bytes program) (string_bytes datagram) ≡ asked = cc in
+    subst (Asks ws) (sym is) h
+asks_for ws (EvalText text datagram) asked gives h =
+    let is : tests (string_bytes text) (string_bytes datagram) ≡ asked = cc in
+    subst (Asks ws) (sym is) h
+asks_for ws (Replay config token_dir store) asked gives h =
+    let is : replays (option_map string_bytes config) (option_map string_bytes token_dir) (option_map string_bytes store) ≡ asked = cc in
+    subst (Asks ws) (sym is) h
+asks_for ws (Leases config token_dir store at) asked gives h =
+    let is : lists (option_map string_bytes config) (option_map string_bytes token_dir) (option_map string_bytes store) at ≡ asked = cc in
+    subst (Asks ws) (sym is) h
+asks_for ws (Serve config token_dir store listening count) asked gives h =
+    let is : serves (option_map string_bytes config) (option_map string_bytes token_dir) (option_map string_bytes store) listening count ≡ asked = cc in
+    subst (Asks ws) (sym is) h
+
+-- where clap finds no fault
+pub at_matches : (ws : List Text) (o : Option Asked) (r : Result Order LineFault) → All IsUtf8 ws → fault_of command_line ws ≡ []
+    → asked_of (subcommand_of command_line ws) ≡ o → GivesIfThere o r → Answers ws r
+at_matches ws None (Ok order) texts none is gives = absurd gives
+at_matches ws None (Err CommandLine) texts none is gives = record {
+  order = tt;
+  fault = inr (record { whole = none; entered = is });
+  only = λ asked h. let bad : Some asked ≡ None = sym h.entered ∙ is in cc;
+  help = λ h. let bad : DisplayHelp ∷ [] ≡ [] = sym h ∙ none in cc;
+}
+at_matches ws None (Err Memory) texts none is gives = record { order = tt; fault = tt; only = λ other h. tt; help = λ h. tt }
+at_matches ws (Some asked) (Ok order) texts none is gives =
+    let here : Asks ws asked = record { whole = none; entered = is } in
+    record {
+      order = asks_for ws order asked gives here;
+      fault = tt;
+      only = λ other h. gives ∙ ap (λ x. Some x) (one_asked ws asked other here h);
+      help = λ h. let bad : DisplayHelp ∷ [] ≡ [] = sym h ∙ none in cc;
+    }
+at_matches ws (Some asked) (Err CommandLine) texts none is gives = absurd gives
+at_matches ws (Some asked) (Err Memory) texts none is gives = record { order = tt; fault = tt; only = λ other h. tt; help = λ h. tt }
+
+-- no kind stands in an empty list
+none_among : (k : ErrorKind) (ks : Kinds) → ks ≡ [] → IsAmong k ks → ⊥
+none_among k ks is h = rw is at h
+
+-- a lone kind is the only one
+one_among : (k : ErrorKind) (ks : Kinds) → ks ≡ DisplayHelp ∷ [] → IsAmong k ks → k ≡ DisplayHelp
+one_among k ks is h = elim (subst (IsAmong k) is h) [ inl same ↦ same | inr never ↦ absurd never ]
+
+-- where clap's fault has this kind
+pub at_kind : (ws : List Text) (k : ErrorKind) (r : Result Order LineFault)
+    → ((k ≡ OutOfMemory) ⊎ IsAmong k (fault_of command_line ws)) → AnswersKind k r → Answers ws r
+at_kind ws k (Ok (Help text)) (inl full) answers = let bad : DisplayHelp ≡ OutOfMemory = sym answers ∙ full in cc
+at_kind ws k (Ok (Help text)) (inr among) answers = record {
+  order = subst (λ x. IsAmong x (fault_of command_line ws)) answers among;
+  fault = tt;
+  only = λ asked h. absurd (none_among k (fault_of command_line ws) h.whole among);
+  help = λ h. tt;
+}
+at_kind ws k (Ok order) h answers = absurd answers
+at_kind ws k (Err CommandLine) (inl full) answers = absurd (answers.1 full)
+at_kind ws k (Err CommandLine) (inr among) answers = record {
+  order = tt;
+  fault = inl (k, among, answers.0);
+  only = λ asked h. none_among k (fault_of command_line ws) h.whole among;
+  help = λ h. answers.0 (one_among k (fault_of command_line ws) h among);
+}
+at_kind ws k (Err Memory) h answers = record { order = tt; fault = tt; only = λ asked g. tt; help = λ g. tt }
+
+-- ---- the same, from a parse of a command line that is ours
+
+pub from_matches : (a : App) (ws : List Text) (m : ArgMatches) (r : Result Order LineFault) → All IsUtf8 ws → a ≡ command_line
+    → HasMatchesOf a ws m → (is_simple_and_free a ≡ true → fault_of a ws ≡ [])
+    → GivesIfThere (asked_of (subcommand_rows_of m)) r → Answers ws r
+from_matches a ws m r texts is matches none gives =
+    let ours : HasMatchesOf command_line ws m = subst (λ x. HasMatchesOf x ws m) is matches in
+    let whole : fault_of command_line ws ≡ [] = subst (λ x. is_simple_and_free x ≡ true → fault_of x ws ≡ []) is none is_free in
+    at_matches ws (asked_of (subcommand_rows_of m)) r texts whole (sym (ap asked_of (ours is_told).1)) gives
+
+pub from_error : (a : App) (ws : List Text) (k : ErrorKind) (r : Result Order LineFault) → a ≡ command_line
+    → (is_simple_and_free a ≡ true → (k ≡ OutOfMemory) ⊎ IsAmong k (fault_of a ws))
+    → AnswersKind k r → Answers ws r
+from_error a ws k r is fails answers =
+    at_kind ws k r (subst (λ x. is_simple_and_free x ≡ true → (k ≡ OutOfMemory) ⊎ IsAmong k (fault_of x ws)) is fails is_free) answers
+
+-- ---- the subcommand
+
+-- a parse names its subcommand as its rows do
+names_in : {Z : Type 0} (o : Option (Box SubCommand Z))
+    → option_map (λ p. p.0) (subcommand_rows o) ≡ option_map (λ b. (out-SubCommand (box_value b)).name.now) o
+names_in None = refl
+names_in (Some b) = refl
+
+names : (m : ArgMatches) → option_map (λ p. p.0) (subcommand_rows_of m) ≡ subcommand_name_of m
+names m = names_in (out-ArgMatches m).subcommand
+
+-- what the subcommand of this name asks for
+at_name : (m : ArgMatches) (name wanted : Text) (rows : List Row) → Some name ≡ subcommand_name_of m
+    → Some rows ≡ option_map (λ p. p.1) (subcommand_rows_of m) → name ≡ wanted
+    → asked_of (subcommand_rows_of m) ≡ asked_by wanted rows
+at_name m name wanted rows named has is = go (subcommand_rows_of m) (named ∙ sym (names m)) has
+  where
+    go : (o : Option (Text × List Row)) → Some name ≡ option_map (λ p. p.0) o → Some rows ≡ option_map (λ p. p.1) o
+        → asked_of o ≡ asked_by wanted rows
+    go None n h = cc
+    go (Some p) n h =
+        let is_name : p.0 ≡ wanted = let same : Some name ≡ Some p.0 = n in cc in
+        let is_rows : p.1 ≡ rows = let same : Some rows ≡ Some p.1 = h in cc in
+        ap₂ asked_by is_name is_rows
+
+-- what is made of the text of this subcommand
+pub at_text : (m inner : ArgMatches) (name wanted id : Text) (f : Text → Asked) (r : Result Order LineFault) → Some name ≡ subcommand_name_of m
+    → Some (rows_of (found_of inner)) ≡ option_map (λ p. p.1) (subcommand_rows_of m) → name ≡ wanted
+    → asked_by wanted (rows_of (found_of inner)) ≡ option_map f (first_of id (rows_of (found_of inner)))
+    → GivesIfThere (option_map f (first_value (found_of inner) id)) r → GivesIfThere (asked_of (subcommand_rows_of m)) r
+at_text m inner name wanted id f r named has is asks gives =
+    let same : option_map f (first_value (found_of inner) id) ≡ asked_of (subcommand_rows_of m) =
+    ap (option_map f) (first_value-rows (found_of inner) id) ∙ sym (at_name m name wanted (rows_of (found_of inner)) named has is ∙ asks) in
+    subst (λ o. GivesIfThere o r) same gives
+
+-- what is made of the flag and the two texts of `eval`
+pub at_eval : (m inner : ArgMatches) (name : Text) (r : Result Order LineFault) → Some name ≡ subcommand_name_of m
+    → Some (rows_of (found_of inner)) ≡ option_map (λ p. p.1) (subcommand_rows_of m) → name ≡ codes "eval"
+    → GivesIfThere (evaluation_of (first_value (found_of inner) (codes "text")) (first_value (found_of inner) (codes "PROGRAM")) (first_value (found_of inner) (codes "DATAGRAM"))) r
+    → GivesIfThere (asked_of (subcommand_rows_of m)) r
+at_eval m inner name r named has is gives =
+    let value = first_value-rows (found_of inner) (codes "text") in
+    let program = first_value-rows (found_of inner) (codes "PROGRAM") in
+    let datagram = first_value-rows (found_of inner) (codes "DATAGRAM") in
+    let at_name_is = at_name m name (codes "eval") (rows_of (found_of inner)) named has is in
+    subst (λ o. GivesIfThere o r) (sym at_name_is) (rw (value, program, datagram) at gives)
+
+-- what is made of the options of `replay`
+pub at_replay : (m inner : ArgMatches) (name : Text) (r : Result Order LineFault) → Some name ≡ subcommand_name_of m
+    → Some (rows_of (found_of inner)) ≡ option_map (λ p. p.1) (subcommand_rows_of m) → name ≡ codes "replay"
+    → GivesIfThere (Some (replays (first_value (found_of inner) (codes "config")) (first_value (found_of inner) (codes "token-dir"))
+    (first_value (found_of inner) (codes "store")))) r
+    → GivesIfThere (asked_of (subcommand_rows_of m)) r
+at_replay m inner name r named has is gives =
+    let config = first_value-rows (found_of inner) (codes "config") in
+    let token_dir = first_value-rows (found_of inner) (codes "token-dir") in
+    let store = first_value-rows (found_of inner) (codes "store") in
+    let at_name_is = at_name m name (codes "replay") (rows_of (found_of inner)) named has is in
+    subst (λ o. GivesIfThere o r) (sym at_name_is) (rw (config, token_dir, store) at gives)
+
+-- what is made of the options of `leases`
+pub at_leases : (m inner : ArgMatches) (name : Text) (r : Result Order LineFault) → Some name ≡ subcommand_name_of m
+    → Some (rows_of (found_of inner)) ≡ option_map (λ p. p.1) (subcommand_rows_of m) → name ≡ codes "leases"
+    → GivesIfThere (listing_of (first_value (found_of inner) (codes "config")) (first_value (found_of inner) (codes "token-dir"))
+    (first_value (found_of inner) (codes "store")) (first_value (found_of inner) (codes "at"))) r
+    → GivesIfThere (asked_of (subcommand_rows_of m)) r
+at_leases m inner name r named has is gives =
+    let config = first_value-rows (found_of inner) (codes "config") in
+    let token_dir = first_value-rows (found_of inner) (codes "token-dir") in
+    let store = first_value-rows (found_of inner) (codes "store") in
+    let at_moment = first_value-rows (found_of inner) (codes "at") in
+    let at_name_is = at_name m name (codes "leases") (rows_of (found_of inner)) named has is in
+    subst (λ o. GivesIfThere o r) (sym at_name_is) (rw (config, token_dir, store, at_moment) at gives)
+
+-- what is made of the options of `serve`
+same_serving : (f g : Text → Option Text) → f (codes "config") ≡ g (codes "config") → f (codes "token-dir") ≡ g (codes "token-dir")
+    → f (codes "store") ≡ g (codes "store") → f (codes "bind") ≡ g (codes "bind") → f (codes "port") ≡ g (codes "port")
+    → f (codes "client-port") ≡ g (codes "client-port") → f (codes "count") ≡ g (codes "count") → f (codes "broadcast-as") ≡ g (codes "broadcast-as")
+    → f (codes "mirror") ≡ g (codes "mirror") → serving_of f ≡ serving_of g
+same_serving f g config token_dir store bind port client_port count broadcast_as mirror =
+    rw (config, token_dir, store, bind, port, client_port, count, broadcast_as, mirror) refl
+
+pub at_serve : (m inner : ArgMatches) (name : Text) (r : Result Order LineFault) → Some name ≡ subcommand_name_of m
+    → Some (rows_of (found_of inner)) ≡ option_map (λ p. p.1) (subcommand_rows_of m) → name ≡ codes "serve"
+    → GivesIfThere (serving_of (λ option. first_value (found_of inner) option)) r
+    → GivesIfThere (asked_of (subcommand_rows_of m)) r
+at_serve m inner name r named has is gives =
+    let value : (option : Text) → first_value (found_of inner) option ≡ first_of option (rows_of (found_of inner)) = λ option. first_value-rows (found_of inner) option in
+    let same : serving_of (λ option. first_value (found_of inner) option) ≡ serving_of (λ option. first_of option (rows_of (found_of inner))) =
+    same_serving (λ option. first_value (found_of inner) option) (λ option. first_of option (rows_of (found_of inner))) (value (codes "config")) (value (codes "token-dir")) (value (codes "store")) (value (codes "bind")) (value (codes "port"))
+    (value (codes "client-port")) (value (codes "count")) (value (codes "broadcast-as")) (value (codes "mirror")) in
+    let at_name_is = at_name m name (codes "serve") (rows_of (found_of inner)) named has is in
+    subst (λ o. GivesIfThere o r) (same ∙ sym at_name_is) gives

@@ -1,0 +1,168 @@
+-- The walk of clap over the words from the first on: which subcommand the first word names, and that a
+-- line fails as the words behind the subcommand.
+use Rattle.std.proofs.Common.{◌≡◌, ◌⊎◌, ◌∙◌, ◌++◌, sym, ap, ap₂, refl, subst, inl, inr, true, false, Bool, List, [], ◌∷◌, codes, Option, Some, None, append_assoc, is_some, map}
+use Rattle.std.specs.Prelude.{find, fold, option_map}
+use Rattle.std.specs.List.{All}
+use Rattle.std.specs.Str.{bytes_eq, IsUtf8}
+use Rattle.std.proofs.lemmas.List.{append-nil}
+use Rattle.std.proofs.lemmas.List.Elements.{All-head}
+use Rattle.std.proofs.lemmas.Slice.Eq.{bytes_eq-Decides}
+use Rattle.clap.specs.Words.{Kinds, Shape, Text, built, fault_of, subcommand_of}
+use Rattle.clap.specs.Kinds.{or_else}
+use Rattle.clap.specs.Walk.{Names, Walk, answers_to, finished, idle, nothing_held, settled, subcommand_met, subcommand_or_other, walked}
+use Rattle.clap.specs.Simple.{entered, label_of, names_of}
+use Rattle.clap.specs.Faults.{check_fault, defaults_fault, entered_fault, other_fault, settle_fault, step_fault, turn_fault, walk_fault}
+use Rattle.clap.specs.declared.error.kind.ErrorKind.TheVariants.{DisplayHelp, InvalidSubcommand, MissingSubcommand, UnknownArgument}
+use Rattle.clap.proofs.FaultLemmas.{stopped_fault}
+use Rattle.clap.proofs.OnLiterals.{clap_on_literals}
+use Rattle.kd_commands.specs.Line.{IsHelpFlag, IsOneOf, is_flag, subcommands}
+use Rattle.kd_commands.specs.Order.{command_line}
+use Rattle.kd_commands.proofs.Flags.{FlagsFail, flags_fail, neither, no_dashes, no_flag, no_long, no_short, then_none}
+use Rattle.kd_commands.proofs.Level.{dashed, found, level, start}
+
+abbrev top : Shape
+top = (built command_line).top
+
+abbrev names : Names
+names = names_of (built command_line)
+
+top_flags : FlagsFail top.rules
+top_flags = flags_fail top.rules (λ name. refl) (λ x. refl)
+
+-- the faults of the command line, from those of the walk and from where it ends
+abbrev in_all : Kinds → Walk → Kinds
+in_all ks w = or_else ks (or_else (entered_fault (built command_line) w.stopped)
+    (or_else (settle_fault top.rules false w.held)
+    (or_else (defaults_fault (settled top.rules w.held).rows top.rules)
+    (check_fault top (finished top.rules w.held) (is_some (entered (built command_line) w.stopped))))))
+
+-- ---- a line of a subcommand
+
+-- the subcommand of this name, as clap builds it
+pub record IsSub (name : Text) (s : Shape) : Type 0 where
+  pub met : subcommand_met names idle name ≡ Some name
+  pub ours : bytes_eq name (codes "help") ≡ false
+  pub found : find (λ x. answers_to name (label_of x)) (built command_line).subs ≡ Some s
+
+abbrev stop : Text → List Text → Walk
+stop name rest = record start { stopped = Some (name, rest) }
+
+-- the walk over the words behind a subcommand only keeps them
+stopped_walk : (rest : List Text) (p : Text × List Text)
+    → fold (walked top.rules names) (stop p.0 p.1) rest ≡ stop p.0 (p.1 ++ rest)
+unfolding walked
+stopped_walk [] p = ap (λ xs. stop p.0 xs) (sym (append-nil p.1))
+stopped_walk (x ∷ rest) p = stopped_walk rest (p.0, p.1 ++ x ∷ []) ∙ ap (λ xs. stop p.0 xs) (append_assoc p.1 (x ∷ []) rest)
+
+-- the walk stops at the name
+to_stop : (name : Text) (s : Shape) → IsSub name s → walked top.rules names start name ≡ stop name []
+unfolding walked
+to_stop name s sub = rw sub.met refl
+
+at_stop : (name : Text) (s : Shape) → IsSub name s → turn_fault top names start name ≡ []
+at_stop name s sub = rw (sub.met, sub.ours) refl
+
+to_end : (name : Text) (s : Shape) (rest : List Text) → IsSub name s
+    → fold (walked top.rules names) start (name ∷ rest) ≡ stop name rest
+to_end name s rest sub = ap (λ w. fold (walked top.rules names) w rest) (to_stop name s sub) ∙ stopped_walk rest (name, [])
+
+passes_by : (name : Text) (s : Shape) (rest : List Text) → IsSub name s → walk_fault top names start (name ∷ rest) ≡ []
+unfolding walk_fault
+passes_by name s rest sub =
+    ap₂ or_else (at_stop name s sub) (ap (λ w. walk_fault top names w rest) (to_stop name s sub) ∙ stopped_fault top names start (name, []) rest)
+
+-- a line of the subcommand fails as the words behind the name
+pub line_fault : (name : Text) (s : Shape) (rest : List Text) → IsSub name s → fault_of command_line (name ∷ rest) ≡ level s start rest
+unfolding defaults_fault
+line_fault name s rest sub =
+    let at_end : in_all [] (stop name rest) ≡ or_else (level s start rest) [] = rw sub.found refl in
+    ap₂ in_all (passes_by name s rest sub) (to_end name s rest sub) ∙ at_end ∙ then_none (level s start rest)
+
+-- and has what is found there
+pub line_found : (name : Text) (s : Shape) (rest : List Text) → IsSub name s
+    → subcommand_of command_line (name ∷ rest) ≡ Some (s.name, found s start rest)
+line_found name s rest sub =
+    let at_end : entered (built command_line) (Some (name, rest)) ≡ Some (s.name, found s start rest) = rw sub.found refl in
+    ap (λ w. entered (built command_line) w.stopped) (to_end name s rest sub) ∙ at_end
+
+-- ---- the first word
+
+-- which of these names a word is
+abbrev met_of : List Text → Text → Option Text
+met_of ns w = option_map (λ s. s.0) (find (answers_to w) (map (λ n. (n, [])) ns))
+
+met : (ns : List Text) (w : Text) → (met_of ns w ≡ None) ⊎ ((met_of ns w ≡ Some w) × IsOneOf w ns)
+met [] w = inl refl
+met (n ∷ ns) w = go (bytes_eq n w) refl (met ns w)
+  where
+    go : (t : Bool) → bytes_eq n w ≡ t → (met_of ns w ≡ None) ⊎ ((met_of ns w ≡ Some w) × IsOneOf w ns)
+        → (met_of (n ∷ ns) w ≡ None) ⊎ ((met_of (n ∷ ns) w ≡ Some w) × IsOneOf w (n ∷ ns))
+    go true e more =
+        let is : n ≡ w = (bytes_eq-Decides n w).0 e in
+        inr (rw e (ap (λ x. Some x) is), inl (sym is))
+    go false e (inl none) = inl (rw e none)
+    go false e (inr one) = inr (rw e one.0, inr one.1)
+
+-- the last of some names, or one before it
+but_last : (ns : List Text) (last w : Text) → IsOneOf w (ns ++ last ∷ []) → IsOneOf w ns ⊎ (w ≡ last)
+but_last [] last w (inl is) = inr is
+but_last [] last w (inr never) = absurd never
+but_last (n ∷ ns) last w (inl is) = inl (inl is)
+but_last (n ∷ ns) last w (inr more) = elim (but_last ns last w more) [
+  | inl before ↦ inl (inr before)
+  | inr is ↦ inr is
+]
+
+-- the faults of a first word that names this subcommand
+abbrev turn_by : Text → Option Text → Kinds
+turn_by w m = or_else (other_fault top m w nothing_held)
+    (step_fault top 1 (subcommand_or_other top.rules m idle 1 w nothing_held).0 (subcommand_or_other top.rules m idle 1 w nothing_held).1)
+
+stray_first : (w : Text) → is_flag w ≡ false → turn_by w None ≡ UnknownArgument ∷ InvalidSubcommand ∷ []
+stray_first w h = rw (no_dashes w h, no_long w h, no_short w h) refl
+
+-- `--` first, and no word behind it passes
+dashes_fail : (rest : List Text) → in_all (walk_fault top names dashed rest) (fold (walked top.rules names) dashed rest) ≡ [] → ⊥
+unfolding walk_fault defaults_fault
+dashes_fail [] none = let bad : MissingSubcommand ∷ [] ≡ [] = none in cc
+dashes_fail (x ∷ rest) none =
+    let bad : UnknownArgument ∷ InvalidSubcommand ∷ [] ≡ [] = none in
+    cc
+
+first_dashes : (rest : List Text) → fault_of command_line (codes "--" ∷ rest) ≡ [] → ⊥
+unfolding walk_fault defaults_fault walked
+first_dashes rest none = dashes_fail rest none
+
+-- words that do not fail begin with the name of a subcommand
+pub begins : (ws : List Text) → All IsUtf8 ws → fault_of command_line ws ≡ [] → (w : Text) × (rest : List Text) × IsOneOf w subcommands × (ws ≡ w ∷ rest)
+unfolding walk_fault defaults_fault
+begins [] text none = let bad : MissingSubcommand ∷ [] ≡ [] = none in cc
+begins (w ∷ rest) text none =
+    let parts = neither (or_else (turn_fault top names start w) (walk_fault top names (walked top.rules names start w) rest)) _ none in
+    let turns : turn_by w (subcommand_met names idle w) ≡ [] =
+    (neither (turn_fault top names start w) (walk_fault top names (walked top.rules names start w) rest) parts.0).0 in
+    elim (met (subcommands ++ codes "help" ∷ []) w) [
+      | inl other ↦
+          let turn : turn_by w None ≡ [] = sym (ap (turn_by w) other) ∙ turns in
+          elim (no_flag top.rules top_flags w nothing_held refl (All-head IsUtf8 w rest text) (neither _ _ turn).0) [
+            | inl dashes ↦ absurd (first_dashes rest (subst (λ x. fault_of command_line (x ∷ rest) ≡ []) dashes none))
+            | inr plain ↦
+                let bad : UnknownArgument ∷ InvalidSubcommand ∷ [] ≡ [] = sym (stray_first w plain) ∙ turn in
+                cc
+          ]
+      | inr named ↦ elim (but_last subcommands (codes "help") w named.1) [
+        | inl ours ↦ (w, rest, ours, refl)
+        | inr help ↦
+            let here : turn_by w (Some (codes "help")) ≡ [] = sym (ap (turn_by w) (named.0 ∙ ap (λ x. Some x) help)) ∙ turns in
+            let bad : DisplayHelp ∷ InvalidSubcommand ∷ [] ≡ [] = here in
+            cc
+      ]
+    ]
+
+-- ---- help
+
+-- a first word that asks for help
+pub helps_first : (w : Text) (rest : List Text) → IsHelpFlag w → fault_of command_line (w ∷ rest) ≡ DisplayHelp ∷ []
+unfolding clap_on_literals
+helps_first w rest (inl is) = ap (λ x. fault_of command_line (x ∷ rest)) is
+helps_first w rest (inr is) = ap (λ x. fault_of command_line (x ∷ rest)) is

@@ -1,0 +1,120 @@
+-- The lines of the program in plain words: a subcommand and the texts that it wants, as `show HEX` or
+-- `eval PROGRAM DATAGRAM`. `--` may stand before any of the texts or behind them, and a text is no flag unless
+-- `--` stands before it. The flag of `eval` may stand anywhere but behind `--`. `replay`, `leases` and `serve` have
+-- options in any order, which stand once at most, each with a value, as `--config F` or `--config=F`; all may be
+-- left out but the moment of `leases`, `--at M`, and the count of `serve`, `--count N`. The flag of `serve`, `--mirror`,
+-- stands among its options, once at most and with no value.
+use Rattle.std.specs.Prelude.{◌≡◌, ◌⊎◌, ◌==◌, ℕ, Bool, true, false, List, [], ◌∷◌, ◌++◌, Option, Some, None, codes}
+use Rattle.std.specs.List.Sorted.{IsPermutation}
+use Rattle.clap.specs.Words.{Text}
+use Rattle.kd_commands.specs.Order.{Asked, shows, types, compiles, verifies, evaluates, tests, replays, lists, serves, listening_of}
+use Rattle.kd_commands.specs.Values.{number_of}
+use Rattle.kd_commands.specs.declared.orders.Listening.{Listening}
+
+-- a flag is a hyphen with more behind it
+abbrev pub is_flag : Text → Bool
+is_flag [] = false
+is_flag (b ∷ []) = false
+is_flag (b ∷ c ∷ rest) = b == 45
+
+-- the words are these texts, but for `--`
+abbrev pub AreTexts : List Text → List Text → Type 0
+AreTexts words [] = (words ≡ []) ⊎ (words ≡ codes "--" ∷ [])
+AreTexts words (text ∷ texts) = (words ≡ codes "--" ∷ text ∷ texts)
+    ⊎ ((rest : List Text) × (words ≡ text ∷ rest) × (is_flag text ≡ false) × AreTexts rest texts)
+
+-- the words are this subcommand with these texts
+pub record IsLineOf (name : Text) (words texts : List Text) : Type 0 where
+  pub behind : List Text
+  pub named : words ≡ name ∷ behind
+  pub texts_behind : AreTexts behind texts
+
+-- the word is one of these
+abbrev pub IsOneOf : Text → List Text → Type 0
+IsOneOf word [] = ⊥
+IsOneOf word (name ∷ names) = (word ≡ name) ⊎ IsOneOf word names
+
+-- the words are this subcommand with these texts and, not behind `--`, the flag `--text`
+pub record IsFlaggedLine (name : Text) (words texts : List Text) : Type 0 where
+  pub before : List Text
+  pub after : List Text
+  pub named : words ≡ name ∷ (before ++ codes "--text" ∷ after)
+  pub no_dashes : IsOneOf (codes "--") before → ⊥
+  pub texts_behind : AreTexts (before ++ after) texts
+
+-- the words begin with this name: with a value in one word or in two, where a value that is a word is no flag, or alone
+abbrev pub BeginWith : Text → Option Text → List Text → List Text → Type 0
+BeginWith name None words behind = words ≡ (codes "--" ++ name) ∷ behind
+BeginWith name (Some value) words behind =
+    (words ≡ (codes "--" ++ name ++ codes "=" ++ value) ∷ behind)
+    ⊎ ((words ≡ (codes "--" ++ name) ∷ value ∷ behind) × (is_flag value ≡ false))
+
+-- the words are these options with their values, and flags with none, in this order, but for `--` behind them
+abbrev pub AreOptions : List Text → List (Text × Option Text) → Type 0
+AreOptions words [] = AreTexts words []
+AreOptions words (option ∷ options) =
+    (behind : List Text) × BeginWith option.0 option.1 words behind × AreOptions behind options
+
+-- those of the options that have a value
+abbrev pub given : List (Text × Option Text) → List (Text × Option Text)
+given [] = []
+given ((name, None) ∷ options) = given options
+given ((name, Some value) ∷ options) = (name, Some value) ∷ given options
+
+-- the words are this subcommand with these options and flags, in any order
+pub record IsOptionLine (name : Text) (words : List Text) (options : List (Text × Option Text)) : Type 0 where
+  pub behind : List Text
+  pub in_order : List (Text × Option Text)
+  pub named : words ≡ name ∷ behind
+  pub options_behind : AreOptions behind in_order
+  pub in_some_order : IsPermutation in_order options
+
+-- the flag of this name, where it stands
+abbrev pub flag_given : Text → Bool → List (Text × Option Text)
+flag_given name true = (name, None) ∷ []
+flag_given name false = []
+
+-- the words are `serve` with texts in its options that say this, and with the flag where replies are mirrored
+pub record IsServeLine (words : List Text) (config token_dir store : Option Text) (listening : Listening) (count : ℕ) : Type 0 where
+  pub bind : Option Text
+  pub port : Option Text
+  pub client_port : Option Text
+  pub digits : Text
+  pub broadcast_as : Option Text
+  pub listens : listening_of bind port client_port broadcast_as listening.mirror ≡ Some listening
+  pub counts : number_of digits ≡ Some count
+  pub line : IsOptionLine (codes "serve") words (given ((codes "config", config) ∷ (codes "token-dir", token_dir)
+      ∷ (codes "store", store) ∷ (codes "bind", bind) ∷ (codes "port", port) ∷ (codes "client-port", client_port)
+      ∷ (codes "count", Some digits) ∷ (codes "broadcast-as", broadcast_as) ∷ [])
+      ++ flag_given (codes "mirror") listening.mirror)
+
+-- the words are a line that asks for this
+abbrev pub IsLine : List Text → Asked → Type 0
+IsLine words (shows hex) = IsLineOf (codes "show") words (hex ∷ [])
+IsLine words (types text) = IsLineOf (codes "expr") words (text ∷ [])
+IsLine words (compiles text) = IsLineOf (codes "compile") words (text ∷ [])
+IsLine words (verifies hex) = IsLineOf (codes "verify") words (hex ∷ [])
+IsLine words (evaluates program datagram) = IsLineOf (codes "eval") words (program ∷ datagram ∷ [])
+IsLine words (tests text datagram) = IsFlaggedLine (codes "eval") words (text ∷ datagram ∷ [])
+IsLine words (replays config token_dir store) = IsOptionLine (codes "replay") words
+    (given ((codes "config", config) ∷ (codes "token-dir", token_dir) ∷ (codes "store", store) ∷ []))
+IsLine words (lists config token_dir store moment) = (digits : Text) × (number_of digits ≡ Some moment)
+    × IsOptionLine (codes "leases") words (given ((codes "config", config) ∷ (codes "token-dir", token_dir)
+    ∷ (codes "store", store) ∷ (codes "at", Some digits) ∷ []))
+IsLine words (serves config token_dir store listening count) = IsServeLine words config token_dir store listening count
+
+-- the names of the subcommands
+abbrev pub subcommands : List Text
+subcommands =
+    codes "show" ∷ codes "expr" ∷ codes "compile" ∷ codes "verify" ∷ codes "eval" ∷ codes "replay" ∷ codes "leases"
+    ∷ codes "serve" ∷ []
+
+-- the flag that asks for help
+abbrev pub IsHelpFlag : Text → Type 0
+IsHelpFlag word = (word ≡ codes "--help") ⊎ (word ≡ codes "-h")
+
+-- the words ask for help at once, for the whole program or for a subcommand, whatever follows
+abbrev pub IsHelpLine : List Text → Type 0
+IsHelpLine [] = ⊥
+IsHelpLine (word ∷ []) = IsHelpFlag word
+IsHelpLine (word ∷ next ∷ behind) = IsHelpFlag word ⊎ (IsOneOf word subcommands × IsHelpFlag next)

@@ -1,0 +1,258 @@
+-- The orders of the command line, over what the crate `clap` makes of a command line and words: the
+-- command line itself, which words give which order, and the numbers of the faults.
+use Rattle.std.specs.Prelude.{◌≡◌, ◌≢◌, ◌⊎◌, ◌+◌, ◌*◌, ◌^◌, ℕ, Bool, true, false, List, []}
+use Rattle.std.specs.Prelude.{Option, Some, None, Result, Ok, Err, codes, option_and_then, option_map, if◌then◌else◌}
+use Rattle.std.specs.Option.{option_map_or}
+use Rattle.std.specs.Str.{bytes_eq}
+use Rattle.std.specs.String.{string_bytes}
+use Rattle.clap.specs.Words.{App, IsAmong, Row, Rule, Text, fault_of, first_of, new_app, new_rule}
+use Rattle.clap.specs.Words.{subcommand_of, with_rule, with_subcommand}
+use Rattle.clap.specs.Simple.{on_top}
+use Rattle.clap.specs.declared.builder.action.ArgAction.TheVariants.{Set, SetTrue}
+use Rattle.clap.specs.declared.error.kind.ErrorKind.{ErrorKind}
+use Rattle.clap.specs.declared.error.kind.ErrorKind.TheVariants.{DisplayHelp}
+use Rattle.kd_commands.specs.declared.fault.LineFault.{LineFault}
+use Rattle.kd_commands.specs.declared.fault.LineFault.TheVariants.{CommandLine, Memory}
+use Rattle.kd_commands.specs.Values.{◌>>=◌, address_of, number_of, port_of, read_or}
+use Rattle.kd_commands.specs.declared.orders.Listening.{Listening}
+use Rattle.kd_commands.specs.declared.orders.Order.{Order}
+use Rattle.kd_commands.specs.declared.orders.Order.TheVariants.{Help, Show, Expr, Compile, Verify, Eval, EvalText, Replay}
+use Rattle.kd_commands.specs.declared.orders.Order.TheVariants.{Leases, Serve}
+
+-- the number that a fault is printed with
+abbrev pub fault_number : LineFault → ℕ
+fault_number CommandLine = 98
+fault_number Memory = 91
+
+-- ---- the command line
+
+-- an argument that has to be there
+abbrev pub needed : Text → Rule
+needed id = record (new_rule id) { required = true }
+
+-- a flag
+abbrev pub flag : Text → Rule
+flag name = record (new_rule name) { long = Some name; action = Some SetTrue }
+
+-- an option with one value
+abbrev pub valued : Text → Rule
+valued name = record (new_rule name) { long = Some name; action = Some Set; value_names = 1 }
+
+-- an option with one value, which has to be there
+abbrev pub needed_value : Text → Rule
+needed_value name = record (valued name) { required = true }
+
+-- a subcommand with one argument, which has to be there
+abbrev pub text_line : Text → Text → App
+text_line name id = with_rule (new_app name) (needed id)
+
+-- `show HEX`
+abbrev pub show_line : App
+show_line = text_line (codes "show") (codes "HEX")
+
+-- `expr TEXT`
+abbrev pub expr_line : App
+expr_line = text_line (codes "expr") (codes "TEXT")
+
+-- `compile TEXT`
+abbrev pub compile_line : App
+compile_line = text_line (codes "compile") (codes "TEXT")
+
+-- `verify HEX`
+abbrev pub verify_line : App
+verify_line = text_line (codes "verify") (codes "HEX")
+
+-- `eval [--text] PROGRAM DATAGRAM`
+abbrev pub eval_line : App
+eval_line =
+    with_rule (with_rule (with_rule (new_app (codes "eval")) (flag (codes "text"))) (needed (codes "PROGRAM")))
+    (needed (codes "DATAGRAM"))
+
+-- a subcommand over files: `NAME [--config F] [--token-dir D] [--store F]`
+abbrev pub files_line : Text → App
+files_line name =
+    with_rule (with_rule (with_rule (new_app name) (valued (codes "config"))) (valued (codes "token-dir")))
+    (valued (codes "store"))
+
+-- `replay [--config F] [--token-dir D] [--store F]`
+abbrev pub replay_line : App
+replay_line = files_line (codes "replay")
+
+-- `leases [--config F] [--token-dir D] [--store F] --at M`
+abbrev pub leases_line : App
+leases_line = with_rule (files_line (codes "leases")) (needed_value (codes "at"))
+
+-- `serve [--config F] [--token-dir D] [--store F] [--bind A] [--port P] [--client-port Q] --count N [--broadcast-as A]
+-- [--mirror]`
+abbrev pub serve_line : App
+serve_line =
+    with_rule (with_rule (with_rule (with_rule (with_rule (with_rule (files_line (codes "serve")) (valued (codes "bind")))
+    (valued (codes "port"))) (valued (codes "client-port"))) (needed_value (codes "count")))
+    (valued (codes "broadcast-as"))) (flag (codes "mirror"))
+
+-- the program, with no word for its name, and a subcommand that has to be there
+abbrev pub program_line : App
+program_line = on_top (λ s. record s { no_binary_name = true; subcommand_required = true })
+    (new_app (codes "kdhcp"))
+
+-- the whole command line
+abbrev pub command_line : App
+command_line =
+    with_subcommand (with_subcommand (with_subcommand (with_subcommand (with_subcommand (with_subcommand
+    (with_subcommand (with_subcommand program_line show_line.top) expr_line.top) compile_line.top) verify_line.top)
+    eval_line.top) replay_line.top) leases_line.top) serve_line.top
+
+-- ---- what the words ask for
+
+-- what a subcommand asks for
+pub data Asked : Type 0 where
+  -- the lines of the datagram in this text
+  shows : Text → Asked
+  -- the number of nodes of the class test in this text
+  types : Text → Asked
+  -- the token file of the program of the class test in this text
+  compiles : Text → Asked
+  -- whether the program of the token file in this text is accepted
+  verifies : Text → Asked
+  -- the run of the program of the token file in the one text over the datagram in the other
+  evaluates : Text → Text → Asked
+  -- the run of the program of the class test in the one text over the datagram in the other
+  tests : Text → Text → Asked
+  -- the events of standard input, replayed, with the file of the configuration, the folder of the token files
+  -- and the file of the leases, where they are given
+  replays : Option Text → Option Text → Option Text → Asked
+  -- the leases of the store at this moment, with the same files
+  lists : Option Text → Option Text → Option Text → ℕ → Asked
+  -- so many datagrams of a socket, served, with the same files, and where the socket is
+  serves : Option Text → Option Text → Option Text → Listening → ℕ → Asked
+
+-- a flag was given, by its value
+abbrev pub is_flagged : Option Text → Bool
+is_flagged value = option_map_or (λ v. bytes_eq v (codes "true")) value false
+
+-- what two texts ask `eval` for, where both are there, with the flag's value
+abbrev pub evaluation_of : Option Text → Option Text → Option Text → Option Asked
+evaluation_of value program datagram =
+    option_and_then (λ p. option_map (λ d. if is_flagged value then tests p d else evaluates p d) datagram) program
+
+-- what these files and a text ask `leases` for, where the text is there and is a number
+abbrev pub listing_of : Option Text → Option Text → Option Text → Option Text → Option Asked
+listing_of config token_dir store at =
+    option_map (λ moment. lists config token_dir store moment) (option_and_then (λ text. number_of text) at)
+
+-- 127.0.0.1
+abbrev pub loopback : ℕ
+loopback = 127 * 2 ^ 24 + 1
+
+-- where the socket is and where replies go, by the texts of the options and with the flag, where each text that is given
+-- is in range; without texts the address is 127.0.0.1, the port 67, that of the clients 68, and nothing stands in for
+-- 255.255.255.255
+abbrev pub listening_of : Option Text → Option Text → Option Text → Option Text → Bool → Option Listening
+listening_of bind port client_port broadcast_as mirror = do
+  address ← read_or address_of loopback bind
+  own ← read_or port_of 67 port
+  clients ← read_or port_of 68 client_port
+  everyone ← read_or (λ text. option_map (λ a. Some a) (address_of text)) None broadcast_as
+  Some (record { bind = address; port = own; client_port = clients; broadcast_as = everyone; mirror = mirror })
+
+-- what these texts of the options ask `serve` for, where each that is given is in range and the count is there
+abbrev pub serving_of : (Text → Option Text) → Option Asked
+serving_of text = do
+  listening ← listening_of (text (codes "bind")) (text (codes "port")) (text (codes "client-port"))
+      (text (codes "broadcast-as")) (is_flagged (text (codes "mirror")))
+  digits ← text (codes "count")
+  count ← number_of digits
+  Some (serves (text (codes "config")) (text (codes "token-dir")) (text (codes "store")) listening count)
+
+-- what the subcommand of this name asks for, with these matches
+abbrev pub asked_by : Text → List Row → Option Asked
+asked_by name rows =
+    if bytes_eq name (codes "show") then option_map (λ hex. shows hex) (first_of (codes "HEX") rows)
+    else (if bytes_eq name (codes "expr") then option_map (λ text. types text) (first_of (codes "TEXT") rows)
+    else (if bytes_eq name (codes "compile") then option_map (λ text. compiles text) (first_of (codes "TEXT") rows)
+    else (if bytes_eq name (codes "verify") then option_map (λ hex. verifies hex) (first_of (codes "HEX") rows)
+    else (if bytes_eq name (codes "eval")
+    then evaluation_of (first_of (codes "text") rows) (first_of (codes "PROGRAM") rows) (first_of (codes "DATAGRAM") rows)
+    else (if bytes_eq name (codes "replay")
+    then Some (replays (first_of (codes "config") rows) (first_of (codes "token-dir") rows)
+    (first_of (codes "store") rows))
+    else (if bytes_eq name (codes "leases")
+    then listing_of (first_of (codes "config") rows) (first_of (codes "token-dir") rows) (first_of (codes "store") rows)
+    (first_of (codes "at") rows)
+    else (if bytes_eq name (codes "serve") then serving_of (λ option. first_of option rows)
+    else None)))))))
+
+-- the same of the subcommand that was entered, if one was
+abbrev pub asked_of : Option (Text × List Row) → Option Asked
+asked_of = option_and_then (λ p. asked_by p.0 p.1)
+
+-- the words are no mistake, and their subcommand asks for this
+pub record Asks (words : List Text) (asked : Asked) : Type 0 where
+  pub whole : fault_of command_line words ≡ []
+  pub entered : asked_of (subcommand_of command_line words) ≡ Some asked
+
+-- the first step at which the words fail may be a request for help
+abbrev pub IsHelp : List Text → Type 0
+IsHelp words = IsAmong DisplayHelp (fault_of command_line words)
+
+-- the words are no mistake for `clap`, but their subcommand asks for nothing: a text is out of range
+pub record AsksNothing (words : List Text) : Type 0 where
+  pub whole : fault_of command_line words ≡ []
+  pub entered : asked_of (subcommand_of command_line words) ≡ None
+
+-- the first step at which the words fail may be other than a request for help, or the words ask for nothing
+abbrev pub IsMistake : List Text → Type 0
+IsMistake words =
+    ((kind : ErrorKind) × IsAmong kind (fault_of command_line words) × (kind ≢ DisplayHelp)) ⊎ AsksNothing words
+
+-- the words ask for this order
+abbrev pub AsksFor : List Text → Order → Type 0
+AsksFor words (Help text) = IsHelp words
+AsksFor words (Show hex) = Asks words (shows (string_bytes hex))
+AsksFor words (Expr text) = Asks words (types (string_bytes text))
+AsksFor words (Compile text) = Asks words (compiles (string_bytes text))
+AsksFor words (Verify hex) = Asks words (verifies (string_bytes hex))
+AsksFor words (Eval program datagram) = Asks words (evaluates (string_bytes program) (string_bytes datagram))
+AsksFor words (EvalText text datagram) = Asks words (tests (string_bytes text) (string_bytes datagram))
+AsksFor words (Replay config token_dir store) = Asks words
+    (replays (option_map string_bytes config) (option_map string_bytes token_dir) (option_map string_bytes store))
+AsksFor words (Leases config token_dir store at) = Asks words
+    (lists (option_map string_bytes config) (option_map string_bytes token_dir) (option_map string_bytes store) at)
+AsksFor words (Serve config token_dir store listening count) = Asks words
+    (serves (option_map string_bytes config) (option_map string_bytes token_dir) (option_map string_bytes store) listening
+    count)
+
+-- the words have this fault; memory may run out at any words
+abbrev pub HasFault : List Text → LineFault → Type 0
+HasFault words CommandLine = IsMistake words
+HasFault words Memory = Unit {0}
+
+-- what the order gives that a subcommand can ask for
+abbrev pub given_by : Order → Option Asked
+given_by (Help text) = None
+given_by (Show hex) = Some (shows (string_bytes hex))
+given_by (Expr text) = Some (types (string_bytes text))
+given_by (Compile text) = Some (compiles (string_bytes text))
+given_by (Verify hex) = Some (verifies (string_bytes hex))
+given_by (Eval program datagram) = Some (evaluates (string_bytes program) (string_bytes datagram))
+given_by (EvalText text datagram) = Some (tests (string_bytes text) (string_bytes datagram))
+given_by (Replay config token_dir store) = Some
+    (replays (option_map string_bytes config) (option_map string_bytes token_dir) (option_map string_bytes store))
+given_by (Leases config token_dir store at) = Some
+    (lists (option_map string_bytes config) (option_map string_bytes token_dir) (option_map string_bytes store) at)
+given_by (Serve config token_dir store listening count) = Some
+    (serves (option_map string_bytes config) (option_map string_bytes token_dir) (option_map string_bytes store) listening
+    count)
+
+-- the answer gives what was asked, or memory ran out
+abbrev pub GivesUnlessFull : Asked → Result Order LineFault → Type 0
+GivesUnlessFull asked (Ok order) = given_by order ≡ Some asked
+GivesUnlessFull asked (Err CommandLine) = ⊥
+GivesUnlessFull asked (Err Memory) = Unit {0}
+
+-- the answer is help, or memory ran out
+abbrev pub HelpsUnlessFull : Result Order LineFault → Type 0
+HelpsUnlessFull (Ok (Help text)) = Unit {0}
+HelpsUnlessFull (Ok order) = ⊥
+HelpsUnlessFull (Err CommandLine) = ⊥
+HelpsUnlessFull (Err Memory) = Unit {0}

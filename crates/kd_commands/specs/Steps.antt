@@ -1,0 +1,26 @@
+-- What the steps of reading an order answer.
+use Rattle.std.specs.Prelude.{◌≡◌, ◌≢◌, Option, Some, None, Result, Ok, Err}
+use Rattle.clap.specs.declared.error.kind.ErrorKind.{ErrorKind}
+use Rattle.clap.specs.declared.error.kind.ErrorKind.TheVariants.{DisplayHelp, OutOfMemory}
+use Rattle.kd_commands.specs.Order.{Asked, GivesUnlessFull}
+use Rattle.kd_commands.specs.declared.fault.LineFault.{LineFault}
+use Rattle.kd_commands.specs.declared.fault.LineFault.TheVariants.{CommandLine, Memory}
+use Rattle.kd_commands.specs.declared.orders.Order.{Order}
+use Rattle.kd_commands.specs.declared.orders.Order.TheVariants.{Help}
+
+-- a mistake, or memory ran out
+abbrev pub IsMistakeUnlessFull : Result Order LineFault → Type 0
+IsMistakeUnlessFull (Ok order) = ⊥
+IsMistakeUnlessFull (Err fault) = Unit {0}
+
+-- what is asked is given where something is, and it is a mistake where nothing is
+abbrev pub GivesIfThere : Option Asked → Result Order LineFault → Type 0
+GivesIfThere (Some asked) r = GivesUnlessFull asked r
+GivesIfThere None r = IsMistakeUnlessFull r
+
+-- an error of this kind is help, a mistake, or memory that ran out
+abbrev pub AnswersKind : ErrorKind → Result Order LineFault → Type 0
+AnswersKind kind (Ok (Help text)) = kind ≡ DisplayHelp
+AnswersKind kind (Ok order) = ⊥
+AnswersKind kind (Err CommandLine) = (kind ≢ DisplayHelp) × (kind ≢ OutOfMemory)
+AnswersKind kind (Err Memory) = Unit {0}

@@ -1,0 +1,131 @@
+ghost use Rattle.std.specs.Prelude.{◌≡◌, ◌≤◌, IfOk, length};
+ghost use Rattle.kd_io.specs.Faults.{input_fault_number};
+
+use kd_config::TokenFile;
+use kd_wire::Bytes;
+use std::alloc::{AllocError, AllocFailed};
+use std::fs::File;
+use std::io::{ErrorKind, Read};
+use std::rt::Files;
+use std::{fmt, fs, io};
+use thiserror::Error;
+
+/// Why a file or a folder is not read.
+#[derive(Clone, Copy, PartialEq, Eq, Error)]
+pub enum InputFault {
+    /// It cannot be opened or read, or a file is too long.
+    #[error("Read")]
+    Read,
+    /// Memory ran out.
+    #[error("Memory")]
+    Memory,
+}
+
+impl fmt::Debug for InputFault {
+    fn fmt<W: fmt::Write>(&self, f: &mut fmt::Formatter<W>) -> fmt::Result {
+        fmt::Display::fmt(self, f)
+    }
+}
+
+impl InputFault {
+    /// The fault's number: 94, or 91 for want of memory.
+    pub fn number(self) -> u8
+        ensures { result ≡ input_fault_number self }
+    {
+        match self {
+            InputFault::Read => 94,
+            InputFault::Memory => 91,
+        }
+    }
+}
+
+impl From<io::Error> for InputFault {
+    fn from(error: io::Error) -> InputFault {
+        match error.kind() {
+            ErrorKind::OutOfMemory => InputFault::Memory,
+            _ => InputFault::Read,
+        }
+    }
+}
+
+impl From<AllocError> for InputFault {
+    fn from(_error: AllocError) -> InputFault {
+        InputFault::Memory
+    }
+}
+
+impl<T: Drop> From<AllocFailed<T>> for InputFault {
+    fn from(_error: AllocFailed<T>) -> InputFault {
+        InputFault::Memory
+    }
+}
+
+/// The most bytes of a file that an operator gives: 16 MiB.
+pub const MOST_BYTES: u64 = 16_777_216;
+
+/// The bytes of the file at a path, at most this many.
+///
+/// # Errors
+///
+/// `Read` where it cannot be opened or read or is longer, and `Memory`.
+pub fn read_file<R: Files + AllocGlobal>(
+    rt: &R,
+    path: &str,
+    most: u64,
+) -> Result<Vec<u8>, InputFault>
+    ensures { IfOk result (λ bytes. length bytes.items ≤ most) }
+{
+    let mut file = File::open(rt, path)?.take(most.saturating_add(1));
+    let mut bytes = Vec::new(rt.alloc());
+    file.read_to_end(&mut bytes)?;
+    if bytes.len() as u64 > most {
+        return Err(InputFault::Read);
+    }
+    Ok(bytes)
+}
+
+/// The token files of a folder: its plain files, and links to such, whose names are UTF-8 and end in `.k4tk`,
+/// each by its whole name.
+///
+/// # Errors
+///
+/// `Read` where the folder or one of these files cannot be read or a file is longer than 16 MiB, and `Memory`.
+pub fn token_files<R: Files + AllocGlobal + Clone + Drop>(
+    rt: &R,
+    folder: &str,
+) -> Result<Vec<TokenFile>, InputFault> {
+    let mut files = Vec::new(rt.alloc());
+    for entry in fs::read_dir(rt, folder)? {
+        match entry {
+            Ok(entry) if entry.file_name().ends_with(".k4tk") => {
+                if is_plain(rt, entry.path().as_str())? {
+                    files.push(token_file(rt, entry.file_name(), entry.path().as_str())?)?;
+                }
+            }
+            Ok(_) => {}
+            Err(error) if error.kind() == ErrorKind::InvalidFilename => {}
+            Err(error) => return Err(InputFault::from(error)),
+        }
+    }
+    Ok(files)
+}
+
+// Whether a path is that of a plain file, or of a link to one.
+fn is_plain<R: Files>(rt: &R, path: &str) -> Result<bool, InputFault> {
+    match fs::metadata(rt, path) {
+        Ok(metadata) => Ok(metadata.is_file()),
+        Err(error) if error.kind() == ErrorKind::NotFound => Ok(false),
+        Err(error) => Err(InputFault::from(error)),
+    }
+}
+
+// The token file of a name at a path.
+fn token_file<R: Files + AllocGlobal>(
+    rt: &R,
+    name: &str,
+    path: &str,
+) -> Result<TokenFile, InputFault> {
+    let name = Bytes::own(Vec::from_slice(rt.alloc(), name.as_bytes())?);
+    let bytes = Bytes::own(read_file(rt, path, MOST_BYTES)?);
+    Ok(TokenFile { name, bytes })
+}

@@ -1,0 +1,89 @@
+ghost use Rattle.std.specs.Prelude.{◌≡◌};
+ghost use Rattle.kd_io.specs.Faults.{start_fault_number};
+
+use crate::files::{InputFault, MOST_BYTES, read_file, token_files};
+use kd_config::{Config, ConfigFault, TokenFile};
+use std::alloc::AllocError;
+use std::fmt;
+use std::rt::Files;
+use thiserror::Error;
+
+/// Why there is no configuration to start with.
+#[derive(Drop, Error)]
+pub enum StartFault {
+    /// The folder of the token files or the configuration's file is not read.
+    #[error("{0}")]
+    Input(InputFault),
+    /// The file's text is no configuration.
+    #[error("{0}")]
+    Config(ConfigFault),
+}
+
+impl fmt::Debug for StartFault {
+    fn fmt<W: fmt::Write>(&self, f: &mut fmt::Formatter<W>) -> fmt::Result {
+        fmt::Display::fmt(self, f)
+    }
+}
+
+impl StartFault {
+    /// The fault's number: 91 and 94, or that of the configuration's fault.
+    pub fn number(&self) -> u8
+        ensures { result ≡ start_fault_number self.now }
+    {
+        match self {
+            StartFault::Input(fault) => fault.number(),
+            StartFault::Config(fault) => fault.number(),
+        }
+    }
+}
+
+impl From<InputFault> for StartFault {
+    fn from(fault: InputFault) -> StartFault {
+        StartFault::Input(fault)
+    }
+}
+
+impl From<ConfigFault> for StartFault {
+    fn from(fault: ConfigFault) -> StartFault {
+        StartFault::Config(fault)
+    }
+}
+
+impl From<AllocError> for StartFault {
+    fn from(_error: AllocError) -> StartFault {
+        StartFault::Input(InputFault::Memory)
+    }
+}
+
+/// The configuration of the file at a path, with the token files of a folder; the built-in one without a file.
+/// The folder is read first.
+///
+/// # Errors
+///
+/// The first fault of reading the folder and the file, then that of the text; `Memory`.
+pub fn configuration<R: Files + AllocGlobal + Clone + Drop>(
+    rt: &R,
+    file: Option<&str>,
+    folder: Option<&str>,
+) -> Result<Config, StartFault> {
+    let tokens = tokens_in(rt, folder)?;
+    match file {
+        Some(path) => Ok(Config::read(
+            rt.alloc(),
+            read_file(rt, path, MOST_BYTES)?.as_slice(),
+            &tokens,
+        )?),
+        None => Ok(Config::builtin(rt.alloc())?),
+    }
+}
+
+// The token files of a folder, if there is one.
+fn tokens_in<R: Files + AllocGlobal + Clone + Drop>(
+    rt: &R,
+    folder: Option<&str>,
+) -> Result<Vec<TokenFile>, InputFault> {
+    match folder {
+        Some(folder) => token_files(rt, folder),
+        None => Ok(Vec::new(rt.alloc())),
+    }
+}

@@ -1,0 +1,60 @@
+-- From what the compiler says of a class test to what is printed of it.
+use Rattle.std.proofs.Common.{◌≡◌, ℕ, subst, Bool, List, ◌++◌, None, Result, Ok, Err}
+use Rattle.std.specs.Result.{IfOk}
+use Rattle.hex.specs.Hex.{encode_lower}
+use Rattle.kd_compile.specs.Compiled.{IsCompiled, first_over}
+use Rattle.kd_compile.specs.Value.{truth}
+use Rattle.kd_expr.specs.Tree.{Tree}
+use Rattle.kd_machine.specs.Held.{base_names}
+use Rattle.kd_machine.specs.Run.{Run}
+use Rattle.kd_options.specs.Joined.{value_of}
+use Rattle.kd_options.specs.Message.{AreBytes, IsMessage, Seen}
+use Rattle.kd_token.specs.File.{Code, IsFileOf}
+use Rattle.kd_tools.specs.Printed.{IsSuccess, OfCompiled, OfDatagram, PrintsFile, RunsOver, TestsDatagram, TestsOver, run_line}
+use Rattle.kd_tools.specs.Show.{line_feed}
+use Rattle.kd_tools.specs.declared.printed.Printed.{Printed}
+
+-- a class test over no limit
+within : (says : Tree → Printed → Type 0) (tree : Tree) (p : Printed) → first_over tree ≡ None → says tree p → OfCompiled says tree p
+within says tree p none said = rw none said
+
+-- its program's file
+pub prints : (tree : Tree) (program : Code) (text : List ℕ) (p : Printed) → first_over tree ≡ None → IsCompiled tree program
+    → (file : List ℕ) × IsFileOf file program × (text ≡ encode_lower file ++ line_feed) → IsSuccess text p → OfCompiled PrintsFile tree p
+prints tree program text p none compiled written line = within PrintsFile tree p none (record {
+  program = program;
+  compiled = compiled;
+  file = written.0;
+  file_of = written.1;
+  line = subst (λ t. IsSuccess t p) written.2 line;
+})
+
+-- a program has one run over a message
+abbrev OneEnd : Type 0
+OneEnd = (p : Code) (message : Seen) (held : List (List ℕ)) (v x : Bool) (n m d e l h : ℕ) → Run p message held v n d l → Run p message held x m e h
+    → (v ≡ x) × (n ≡ m) × (d ≡ e) × (l ≡ h)
+
+-- the run of its program over a message
+over : (tree : Tree) (program : Code) (m : Seen) (p : Printed) → OneEnd → IsCompiled tree program → IsMessage m → RunsOver program m p → TestsOver tree m p
+over tree program m p one compiled is h =
+    let held = base_names (value_of 60 m.options) in
+    let kept = compiled.keeps m held is in
+    let value : h.value ≡ truth m held tree = (one program m held h.value (truth m held tree) h.steps kept.0 h.depth kept.1 h.longest kept.2 h.run kept.3.0).0 in
+    record {
+      program = program;
+      compiled = compiled;
+      steps = h.steps;
+      depth = h.depth;
+      longest = h.longest;
+      run = subst (λ v. Run program m held v h.steps h.depth h.longest) value h.run;
+      line = subst (λ v. IsSuccess (run_line v h.steps h.depth h.longest) p) value h.line;
+    }
+
+-- the same over a datagram
+pub runs : {E : Type 0} (tree : Tree) (program : Code) (bytes : List ℕ) (r : Result Printed E) → OneEnd → first_over tree ≡ None → IsCompiled tree program → AreBytes bytes
+    → IfOk r (OfDatagram (RunsOver program) bytes) → IfOk r (OfCompiled (TestsDatagram bytes) tree)
+runs tree program bytes (Ok p) one none compiled are said = within (TestsDatagram bytes) tree p none (record {
+  readable = λ m h. over tree program m p one compiled (record { datagram = bytes; bytes_are = are; reads = h }) (said.readable m h);
+  refused = said.refused;
+})
+runs tree program bytes (Err error) one none compiled are said = tt

@@ -1,0 +1,237 @@
+-- What an order prints on standard output and standard error, and its exit status.
+use Rattle.std.specs.Prelude.{◌≡◌, ◌≢◌, ◌↔◌, ◌<◌, ℕ, Bool, if◌then◌else◌, List, [], ◌++◌, length, Result, Ok, Err, MatchOption, MatchResult, codes}
+use Rattle.std.specs.String.{string_bytes}
+use Rattle.std.specs.Fmt.{decimal}
+use Rattle.hex.specs.Hex.{decode_of, encode_lower}
+use Rattle.hex.specs.declared.FromHexError.{FromHexError}
+use Rattle.kd_compile.specs.Compiled.{IsCompiled, compile_fault_number, first_over}
+use Rattle.kd_compile.specs.Value.{truth}
+use Rattle.kd_expr.specs.Faults.{expr_fault_number, type_fault_number}
+use Rattle.kd_expr.specs.Grammar.{Parses}
+use Rattle.kd_expr.specs.Size.{nodes}
+use Rattle.kd_expr.specs.Tree.{Tree}
+use Rattle.kd_expr.specs.Typing.{test_type}
+use Rattle.kd_expr.specs.declared.fault.ExprFault.{ExprFault}
+use Rattle.kd_expr.specs.declared.fault.ExprFault.TheVariants as reading
+use Rattle.kd_machine.specs.Held.{base_names}
+use Rattle.kd_machine.specs.Run.{Run}
+use Rattle.kd_options.specs.Faults.{read_fault_number}
+use Rattle.kd_options.specs.Joined.{value_of}
+use Rattle.kd_options.specs.Message.{Seen, Reads, IsFirstFault}
+use Rattle.kd_options.specs.declared.fault.ReadFault.{ReadFault}
+use Rattle.kd_options.specs.declared.fault.ReadFault.TheVariants.{Memory}
+use Rattle.kd_token.specs.Accepts.{Accepts, IsVerifyFault}
+use Rattle.kd_token.specs.Faults.{file_fault_number, verify_fault_number}
+use Rattle.kd_token.specs.File.{Code, IsFileOf}
+use Rattle.kd_token.specs.declared.fault.FileFault.{FileFault}
+use Rattle.kd_token.specs.declared.fault.FileFault.TheVariants as file
+use Rattle.kd_token.specs.declared.fault.VerifyFault.{VerifyFault}
+use Rattle.kd_token.specs.declared.fault.VerifyFault.TheVariants as verifying
+use Rattle.kd_tools.specs.Show.{show_text, line_feed}
+use Rattle.kd_tools.specs.Status.{status_of}
+use Rattle.kd_tools.specs.declared.printed.Printed.{Printed}
+use Rattle.kd_commands.specs.declared.orders.Order.{Order}
+use Rattle.kd_commands.specs.declared.orders.Order.TheVariants.{Help, Show, Expr, Compile, Verify, Eval, EvalText, Replay, Leases, Serve}
+
+-- this text and nothing else
+pub record IsSuccess (text : List ℕ) (p : Printed) : Type 0 where
+  pub out : p.out ≡ text
+  pub fault : p.fault ≡ []
+  pub status : p.status ≡ 0
+
+-- one fault line that begins with this number, and its exit status
+pub record IsRefusal (number : ℕ) (p : Printed) : Type 0 where
+  pub name : List ℕ
+  pub out : p.out ≡ []
+  pub fault : p.fault ≡ codes "fault " ++ decimal number ++ codes " " ++ name ++ line_feed
+  pub status : p.status ≡ status_of number
+
+-- a datagram is refused for its first fault, which is not want of memory
+pub record IsRefused (bytes : List ℕ) (p : Printed) : Type 0 where
+  pub fault : ReadFault
+  pub first : IsFirstFault fault bytes
+  pub ours : fault ≢ Memory
+  pub line : IsRefusal (read_fault_number fault) p
+
+-- what is said of the message that a datagram reads as, and else the datagram's first fault
+pub record OfDatagram (says : Seen → Printed → Type 0) (bytes : List ℕ) (p : Printed) : Type 0 where
+  pub readable : (m : Seen) → Reads bytes m → says m p
+  pub refused : ((m : Seen) → Reads bytes m → ⊥) → IsRefused bytes p
+
+-- what is said of a word's bytes; a word that is not hexadecimal is a mistake on the command line
+abbrev pub OfDecoded : (List ℕ → Printed → Type 0) → Result (List ℕ) FromHexError → Printed → Type 0
+OfDecoded says (Ok bytes) p = says bytes p
+OfDecoded says (Err error) p = IsRefusal 98 p
+
+-- the lines of a datagram
+abbrev pub ShowsDatagram : List ℕ → Printed → Type 0
+ShowsDatagram = OfDatagram (λ m p. IsSuccess (show_text m) p)
+
+-- the same of a word
+abbrev pub ShowsDecoded : Result (List ℕ) FromHexError → Printed → Type 0
+ShowsDecoded = OfDecoded ShowsDatagram
+
+-- a class test's line, with the number of its nodes
+abbrev pub nodes_line : ℕ → List ℕ
+nodes_line number = codes "bool " ++ decimal number ++ line_feed
+
+-- what is said of a tree that is a class test, and else the first fault of its type
+abbrev pub OfTest : (Tree → Printed → Type 0) → Tree → Printed → Type 0
+OfTest says tree p = MatchResult (test_type tree) (λ done. says tree p) (λ fault. IsRefusal (type_fault_number fault) p)
+
+-- a text is refused for a fault of its reading, which is not want of memory
+pub record IsUnread (text : List ℕ) (p : Printed) : Type 0 where
+  pub fault : ExprFault
+  pub long : (fault ≡ reading.TooLong) ↔ (4096 < length text)
+  pub ours : fault ≢ reading.Memory
+  pub line : IsRefusal (expr_fault_number fault) p
+
+-- what is said of the tree that a text spells, where it spells one, and else the fault of its reading
+pub record OfText (says : Tree → Printed → Type 0) (text : List ℕ) (p : Printed) : Type 0 where
+  pub readable : (tree : Tree) → Parses text tree → says tree p
+  pub refused : ((tree : Tree) → Parses text tree → ⊥) → IsUnread text p
+
+-- the nodes of a class test
+abbrev pub TypesTree : Tree → Printed → Type 0
+TypesTree = OfTest (λ tree p. IsSuccess (nodes_line (nodes tree)) p)
+
+-- the same of a text
+abbrev pub TypesText : List ℕ → Printed → Type 0
+TypesText = OfText TypesTree
+
+-- what is said of a class test that is over no limit of programs, and else the first that it is over
+abbrev pub OfCompiled : (Tree → Printed → Type 0) → Tree → Printed → Type 0
+OfCompiled says tree p = MatchOption (first_over tree) (says tree p) (λ fault. IsRefusal (compile_fault_number fault) p)
+
+-- the token file of a program that a class test compiles to, in hexadecimal digits
+pub record PrintsFile (tree : Tree) (p : Printed) : Type 0 where
+  pub program : Code
+  pub compiled : IsCompiled tree program
+  pub file : List ℕ
+  pub file_of : IsFileOf file program
+  pub line : IsSuccess (encode_lower file ++ line_feed) p
+
+-- the same of a tree
+abbrev pub CompilesTree : Tree → Printed → Type 0
+CompilesTree = OfTest (λ tree p. OfCompiled PrintsFile tree p)
+
+-- the same of a text
+abbrev pub CompilesText : List ℕ → Printed → Type 0
+CompilesText = OfText CompilesTree
+
+-- an accepted program's line: what it declares, and the number of its tokens
+abbrev pub accepted_line : Code → List ℕ
+accepted_line c =
+    codes "accepted steps " ++ decimal c.steps ++ codes " depth " ++ decimal c.depth ++ codes " length " ++ decimal c.bound
+    ++ codes " tokens " ++ decimal (length c.tokens) ++ line_feed
+
+-- a program is refused for a fault that it has, which is not want of memory
+pub record IsUnaccepted (c : Code) (p : Printed) : Type 0 where
+  pub fault : VerifyFault
+  pub first : IsVerifyFault c fault
+  pub ours : fault ≢ verifying.Memory
+  pub line : IsRefusal (verify_fault_number fault) p
+
+-- what is said of a program that is accepted, and else a fault that it has
+pub record OfAccepted (says : Code → Printed → Type 0) (c : Code) (p : Printed) : Type 0 where
+  pub accepted : Accepts c → says c p
+  pub refused : (Accepts c → ⊥) → IsUnaccepted c p
+
+-- bytes are refused for a fault of their reading, which is not want of memory
+pub record IsNoFile (p : Printed) : Type 0 where
+  pub fault : FileFault
+  pub ours : fault ≢ file.Memory
+  pub line : IsRefusal (file_fault_number fault) p
+
+-- what is said of the program of a token file, where the bytes are one, and else the fault of their reading
+pub record OfFile (says : Code → Printed → Type 0) (bytes : List ℕ) (p : Printed) : Type 0 where
+  pub readable : (c : Code) → IsFileOf bytes c → says c p
+  pub refused : ((c : Code) → IsFileOf bytes c → ⊥) → IsNoFile p
+
+-- what a program declares
+abbrev pub VerifiesProgram : Code → Printed → Type 0
+VerifiesProgram = OfAccepted (λ c p. IsSuccess (accepted_line c) p)
+
+-- the same of the program of a token file
+abbrev pub VerifiesFile : List ℕ → Printed → Type 0
+VerifiesFile = OfFile VerifiesProgram
+
+-- the same of a word
+abbrev pub VerifiesDecoded : Result (List ℕ) FromHexError → Printed → Type 0
+VerifiesDecoded = OfDecoded VerifiesFile
+
+-- a truth value's word
+abbrev pub truth_text : Bool → List ℕ
+truth_text value = if value then codes "true" else codes "false"
+
+-- a run's line: its truth value, its steps, its greatest depth and the length of its longest value
+abbrev pub run_line : Bool → ℕ → ℕ → ℕ → List ℕ
+run_line value steps depth longest =
+    truth_text value ++ codes " steps " ++ decimal steps ++ codes " depth " ++ decimal depth ++ codes " length "
+    ++ decimal longest ++ line_feed
+
+-- the line of a program's run over a message with the names that it has before any definition
+pub record RunsOver (c : Code) (m : Seen) (p : Printed) : Type 0 where
+  pub value : Bool
+  pub steps : ℕ
+  pub depth : ℕ
+  pub longest : ℕ
+  pub run : Run c m (base_names (value_of 60 m.options)) value steps depth longest
+  pub line : IsSuccess (run_line value steps depth longest) p
+
+-- the same over the message of a datagram, of a program that is accepted
+abbrev pub RunsProgram : List ℕ → Code → Printed → Type 0
+RunsProgram datagram = OfAccepted (λ c p. OfDatagram (RunsOver c) datagram p)
+
+-- the same of two words, for a token file and a datagram
+abbrev pub RunsDecoded : Result (List ℕ) FromHexError → Result (List ℕ) FromHexError → Printed → Type 0
+RunsDecoded program datagram = OfDecoded (λ file p. OfDecoded (λ bytes q. OfFile (RunsProgram bytes) file q) datagram p) program
+
+-- the line of the run of a program that a class test compiles to, whose truth value is the test's, over a
+-- message with the names that it has before any definition
+pub record TestsOver (tree : Tree) (m : Seen) (p : Printed) : Type 0 where
+  pub program : Code
+  pub compiled : IsCompiled tree program
+  pub steps : ℕ
+  pub depth : ℕ
+  pub longest : ℕ
+  pub run : Run program m (base_names (value_of 60 m.options)) (truth m (base_names (value_of 60 m.options)) tree) steps depth longest
+  pub line : IsSuccess (run_line (truth m (base_names (value_of 60 m.options)) tree) steps depth longest) p
+
+-- the same over the message of a datagram
+abbrev pub TestsDatagram : List ℕ → Tree → Printed → Type 0
+TestsDatagram datagram tree = OfDatagram (TestsOver tree) datagram
+
+-- the same of a tree
+abbrev pub TestsTree : List ℕ → Tree → Printed → Type 0
+TestsTree datagram = OfTest (λ tree p. OfCompiled (TestsDatagram datagram) tree p)
+
+-- the same of two words, for a class test and a datagram
+abbrev pub TestsDecoded : List ℕ → Result (List ℕ) FromHexError → Printed → Type 0
+TestsDecoded text datagram = OfDecoded (λ bytes p. OfText (TestsTree bytes) text p) datagram
+
+-- the order prints something that its words alone tell
+abbrev pub IsPrinted : Order → Type 0
+IsPrinted (Help text) = Unit {0}
+IsPrinted (Show hex) = Unit {0}
+IsPrinted (Expr text) = Unit {0}
+IsPrinted (Compile text) = Unit {0}
+IsPrinted (Verify hex) = Unit {0}
+IsPrinted (Eval program datagram) = Unit {0}
+IsPrinted (EvalText text datagram) = Unit {0}
+IsPrinted (Replay config token_dir store) = ⊥
+IsPrinted (Leases config token_dir store moment) = ⊥
+IsPrinted (Serve config token_dir store listening count) = ⊥
+
+-- what each such order prints
+abbrev pub Answers : Order → Printed → Type 0
+Answers (Help text) p = IsSuccess (string_bytes text) p
+Answers (Show hex) p = ShowsDecoded (decode_of (string_bytes hex)) p
+Answers (Expr text) p = TypesText (string_bytes text) p
+Answers (Compile text) p = CompilesText (string_bytes text) p
+Answers (Verify hex) p = VerifiesDecoded (decode_of (string_bytes hex)) p
+Answers (Eval program datagram) p = RunsDecoded (decode_of (string_bytes program)) (decode_of (string_bytes datagram)) p
+Answers (EvalText text datagram) p = TestsDecoded (string_bytes text) (decode_of (string_bytes datagram)) p
+Answers (Replay config token_dir store) p = ⊥
+Answers (Leases config token_dir store moment) p = ⊥
+Answers (Serve config token_dir store listening count) p = ⊥

@@ -1,0 +1,31 @@
+ghost use Rattle.std.specs.Prelude.{IfOk};
+ghost use Rattle.hex.specs.Hex.{decode_of};
+ghost use Rattle.kd_tools.specs.Printed.{ShowsDatagram, ShowsDecoded};
+
+use crate::printed::{Printed, success};
+use crate::refusal::{mistake, refused_datagram};
+use crate::show::show;
+use hex::FromHexError;
+use kd_options::Message;
+use std::alloc::{AllocError, Global};
+
+/// The lines of the datagram in a word.
+pub fn answer_show(alloc: Global, word: &str) -> Result<Printed, AllocError>
+    ensures { IfOk result (ShowsDecoded (decode_of word.now)) }
+{
+    match hex::decode(alloc, word) {
+        Ok(bytes) => show_datagram(alloc, bytes.as_slice()),
+        Err(FromHexError::OutOfMemory) => Err(AllocError),
+        Err(_) => mistake(alloc),
+    }
+}
+
+// The lines of a datagram, or its first fault.
+fn show_datagram(alloc: Global, bytes: &[u8]) -> Result<Printed, AllocError>
+    ensures { IfOk result (ShowsDatagram bytes.now) }
+{
+    match Message::read(alloc, bytes) {
+        Ok(message) => Ok(success(alloc, show(alloc, &message)?)),
+        Err(fault) => refused_datagram(alloc, fault),
+    }
+}

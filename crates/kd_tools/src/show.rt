@@ -1,0 +1,148 @@
+ghost use Rattle.std.specs.Prelude.{◌≡◌, ◌++◌, OnOk, IfOk, string_bytes, codes};
+ghost use Rattle.std.specs.Fmt.{decimal};
+ghost use Rattle.std.specs.List.{flat_map};
+ghost use Rattle.kd_options.specs.Relay.{firsts};
+ghost use Rattle.kd_options.specs.RelayWalk.{relay_list};
+ghost use Rattle.kd_tools.specs.Show.{shown, address_text, len_line, numbers_line, addresses_line, mac_line, type_line, option_line, relay_line, entry_line, header_lines, show_text};
+
+use kd_options::Message;
+use kd_wire::Header;
+use std::alloc::{AllocError, Global};
+use std::fmt::Write;
+
+/// The lines of a message: its header, its options in order of first appearance, and the sub-options of
+/// its relay information.
+pub fn show(alloc: Global, message: &Message<'_>) -> Result<String, AllocError>
+    ensures { IfOk result (λ text. string_bytes text ≡ show_text message.now) }
+{
+    let mut out = String::new(alloc);
+    put_header(alloc, &mut out, message)?;
+    put_options(alloc, &mut out, message)?;
+    put_relays(alloc, &mut out, message)?;
+    Ok(out)
+}
+
+// The lines of the header and the message type.
+fn put_header(alloc: Global, out: &mut String, message: &Message<'_>) -> Result<(), AllocError>
+    ensures { OnOk result (string_bytes out.new ≡ string_bytes out.old ++ header_lines message.now) }
+{
+    let header = message.header();
+    put_len(out, message.len())?;
+    put_numbers(alloc, out, &header)?;
+    put_addresses(out, &header)?;
+    put_mac(alloc, out, message)?;
+    put_type(out, message)?;
+    Ok(())
+}
+
+fn put_len(out: &mut String, len: usize) -> Result<(), AllocError>
+    ensures { OnOk result (string_bytes out.new ≡ string_bytes out.old ++ len_line len) }
+{
+    writeln!(out, "len {len}")
+}
+
+fn put_numbers(alloc: Global, out: &mut String, header: &Header) -> Result<(), AllocError>
+    ensures { OnOk result (string_bytes out.new ≡ string_bytes out.old ++ numbers_line header.now) }
+{
+    put_number(out, "op ", u16::from(header.op))?;
+    put_number(out, " htype ", u16::from(header.htype))?;
+    put_number(out, " hlen ", u16::from(header.hlen))?;
+    put_number(out, " hops ", u16::from(header.hops))?;
+    put_bytes(alloc, out, " xid ", &header.xid.to_be_bytes())?;
+    put_number(out, " secs ", header.secs)?;
+    put_bytes(alloc, out, " flags ", &header.flags.to_be_bytes())?;
+    out.push_str("\n")?;
+    Ok(())
+}
+
+fn put_addresses(out: &mut String, header: &Header) -> Result<(), AllocError>
+    ensures { OnOk result (string_bytes out.new ≡ string_bytes out.old ++ addresses_line header.now) }
+{
+    put_address(out, "ciaddr ", header.ciaddr)?;
+    put_address(out, " yiaddr ", header.yiaddr)?;
+    put_address(out, " siaddr ", header.siaddr)?;
+    put_address(out, " giaddr ", header.giaddr)?;
+    out.push_str("\n")?;
+    Ok(())
+}
+
+fn put_mac(alloc: Global, out: &mut String, message: &Message<'_>) -> Result<(), AllocError>
+    ensures { OnOk result (string_bytes out.new ≡ string_bytes out.old ++ mac_line message.now.header) }
+{
+    put_bytes(alloc, out, "mac ", message.mac())?;
+    out.push_str("\n")?;
+    Ok(())
+}
+
+fn put_type(out: &mut String, message: &Message<'_>) -> Result<(), AllocError>
+    ensures { OnOk result (string_bytes out.new ≡ string_bytes out.old ++ type_line message.now.options) }
+{
+    let number = message.kind().number();
+    writeln!(out, "type {number}")
+}
+
+fn put_options(alloc: Global, out: &mut String, message: &Message<'_>) -> Result<(), AllocError>
+    ensures { OnOk result (string_bytes out.new ≡ string_bytes out.old ++ flat_map option_line message.now.options) }
+{
+    let mut index = 0;
+    while let Some((code, value)) = message.option_at(index) {
+        put_entry(alloc, out, "option ", code, value)?;
+        index += 1;
+    }
+    Ok(())
+}
+
+fn put_relays(alloc: Global, out: &mut String, message: &Message<'_>) -> Result<(), AllocError>
+    ensures { OnOk result (string_bytes out.new
+        ≡ string_bytes out.old ++ flat_map relay_line (firsts (relay_list message.now.options))) }
+{
+    let mut index = 0;
+    while let Some((code, value)) = message.relay_at(index) {
+        put_entry(alloc, out, "relay ", code, value)?;
+        index += 1;
+    }
+    Ok(())
+}
+
+// The line of an option or a sub-option.
+fn put_entry(
+    alloc: Global,
+    out: &mut String,
+    word: &str,
+    code: u8,
+    value: &[u8],
+) -> Result<(), AllocError>
+    ensures { OnOk result (string_bytes out.new ≡ string_bytes out.old ++ entry_line word.now (code, value.now)) }
+{
+    put_number(out, word, u16::from(code))?;
+    put_bytes(alloc, out, " ", value)?;
+    out.push_str("\n")?;
+    Ok(())
+}
+
+// A word and a number in decimal.
+fn put_number(out: &mut String, word: &str, number: u16) -> Result<(), AllocError>
+    ensures { OnOk result (string_bytes out.new ≡ string_bytes out.old ++ (word.now ++ decimal number)) }
+{
+    write!(out, "{word}{number}")
+}
+
+// A word and bytes in hexadecimal, or a dash where there are none.
+fn put_bytes(alloc: Global, out: &mut String, word: &str, bytes: &[u8]) -> Result<(), AllocError>
+    ensures { OnOk result (string_bytes out.new ≡ string_bytes out.old ++ (word.now ++ shown bytes.now)) }
+{
+    out.push_str(word)?;
+    if bytes.is_empty() {
+        return out.push_str("-");
+    }
+    let text = hex::encode(alloc, bytes)?;
+    out.push_str(text.as_str())
+}
+
+// A word and an address in decimal.
+fn put_address(out: &mut String, word: &str, address: u32) -> Result<(), AllocError>
+    ensures { OnOk result (string_bytes out.new ≡ string_bytes out.old ++ (word.now ++ address_text address)) }
+{
+    let [a, b, c, d] = address.to_be_bytes();
+    write!(out, "{word}{a}.{b}.{c}.{d}")
+}
