@@ -1,5 +1,5 @@
 -- The rows that the query shows.
-use Rattle.std.proofs.Common.{◌≡◌, inl, inr, List, [], ◌∷◌, map, Ok, Err, Result, IfOk, OnErr, IsTrue, refl, sym, ap, subst, ◌∙◌}
+use Rattle.std.proofs.Common.{◌≡◌, ◌⊎◌, inl, inr, List, [], ◌∷◌, map, Ok, Err, Result, IfOk, IfErr, OnOk, OnErr, IsTrue, refl, sym, ap, subst, ◌∙◌}
 use Rattle.std.specs.Prelude.{IsPermutation, flat_map}
 use Rattle.std.proofs.lemmas.List.Sorted.{IsPermutation-sym, IsPermutation-map}
 use Rattle.sqlite_value.specs.declared.value.Value.TheVariants.{Null}
@@ -9,17 +9,20 @@ use Rattle.sqlite.specs.Query.{IsAnswer, Output, output}
 use Rattle.sqlite.specs.Program.{overlay}
 use Rattle.sqlite.specs.Term.{Env}
 use Rattle.sqlite.specs.Command.TheVariants.{Select}
-use Rattle.sqlite.specs.State.{State, HasCleanDisk, Survives, Shown, CommitsShowing}
+use Rattle.sqlite.specs.State.{State, IsUnchanged, FailsToQuery, HasCleanDisk, Survives}
 use Rattle.sqlite.specs.Listing.{understood}
-use Rattle.sqlite.proofs.Callers.{IsPlain, reads_as, never_commits}
+use Rattle.sqlite.proofs.Callers.{IsPlain, reads_as}
 use Rattle.kd_rows.specs.declared.row.Row.{Row}
 use Rattle.kd_rows.specs.Table.{Rise}
 use Rattle.kd_store.specs.Lease.{lease_schema, rows_text, columns_of}
 use Rattle.kd_store.specs.Stands.{columns_in, Lists, Stands, Leaves}
-use Rattle.kd_store.specs.Statement.{first_five, IsReady}
+use Rattle.sqlite.specs.declared.error.Error.{Error}
+use Rattle.kd_keeps.specs.declared.fault.StoreFault.{StoreFault}
+use Rattle.kd_store.specs.Fault.{fault_of}
+use Rattle.kd_store.specs.Statement.{first_five, AreShown, AreUnread, IsReady, IsUnreadable}
 use Rattle.kd_store.proofs.Texts.{select, selects, names, rows_is, rows_plain, rows_unlisted}
 use Rattle.kd_store.proofs.Tables.{one_table}
-use Rattle.kd_store.proofs.States.{Settles, left_of, after_query, stands_same}
+use Rattle.kd_store.proofs.States.{Rests, Settles, left_of, after_query, after_query_error, stands_rests, stands_same}
 
 -- each row is shown once
 all_shown : (rows : List Columns) → map (λ (o : Output). o.1) (map (output select) (flat_map (λ (r : Columns). let env : Env = [] ∷ r ∷ [] in env ∷ []) rows)) ≡ map columns_in rows
@@ -50,29 +53,42 @@ pub plain : (s : State) (table : List Row) → Stands s table → IsPlain (under
 plain s table h = subst (λ k. IsPlain (understood k rows_text)) (sym h.schema) rows_plain
 
 -- what is read where the connection stands at a table is that table
-pub reads_table : {V E : Type 0} (items : V → List Row) (r : Result V E) (old new : State) (found : List Columns) (table : List Row) → Stands old table → Shown rows_text [] old new found
-    → IfOk r (λ v. map columns_of (items v) ≡ map first_five found) → IfOk r (λ v. Rise (items v)) → IfOk r (λ v. (items v ≡ table) × Stands new table)
-reads_table items (Err e) old new found table h is are rise = tt
-reads_table items (Ok v) old new found table h is are rise =
-    let reads = reads_as rows_text [] old new lease_schema h.schema _ rows_is rows_plain rows_unlisted found is in
-    (one_table old.now.trees (items v) table (lists_read old.now found (items v) reads are rise) h.holds.1, stands_same old new table h (after_query old new rows_text [] found (plain old table h) is))
+pub reads_table : {V E : Type 0} (items : V → List Row) (r : Result V E) (old new : State) (table : List Row) → Stands old table → IfOk r (λ v. AreShown old new (items v)) → IfOk r (λ v. Rise (items v))
+    → IfOk r (λ v. (items v ≡ table) × Stands new table)
+reads_table items (Err e) old new table h is rise = tt
+reads_table items (Ok v) old new table h is rise =
+    let reads = reads_as rows_text [] old new lease_schema h.schema _ rows_is rows_plain rows_unlisted is.0 is.1 in
+    (one_table old.now.trees (items v) table (lists_read old.now is.0 (items v) reads is.2 rise) h.holds.1, stands_same old new table h (after_query old new rows_text [] is.0 (plain old table h) is.1))
 
--- where the connection is ready, what is read is the table at which it stands
-pub finds_table : {V E : Type 0} (items : V → List Row) (r : Result V E) (old new : State) (found : List Columns) → IsReady old → Shown rows_text [] old new found
-    → IfOk r (λ v. map columns_of (items v) ≡ map first_five found) → IfOk r (λ v. Rise (items v)) → IfOk r (λ v. Stands old (items v) × Stands new (items v))
-finds_table items (Err e) old new found h is are rise = tt
-finds_table items (Ok v) old new found h is are rise =
-    let reads = reads_as rows_text [] old new lease_schema h.schema _ rows_is rows_plain rows_unlisted found is in
-    let stands : Stands old (items v) = record { is_open = h.is_open; ready = h.ready; schema = h.schema; holds = (h.sound, lists_read old.now found (items v) reads are rise); settled = h.settled } in
-    (stands, stands_same old new (items v) stands (after_query old new rows_text [] found (plain old (items v) stands) is))
+-- where the connection is ready, what is read is the table at which it stands, and nothing changes
+pub finds_table : {V E : Type 0} (items : V → List Row) (r : Result V E) (old new : State) → IsReady old → IfOk r (λ v. AreShown old new (items v)) → IfOk r (λ v. Rise (items v))
+    → IfOk r (λ v. Stands old (items v) × IsUnchanged old new)
+finds_table items (Err e) old new h is rise = tt
+finds_table items (Ok v) old new h is rise =
+    let reads = reads_as rows_text [] old new lease_schema h.schema _ rows_is rows_plain rows_unlisted is.0 is.1 in
+    let stands : Stands old (items v) = record { is_open = h.is_open; ready = h.ready; schema = h.schema; holds = (h.sound, lists_read old.now is.0 (items v) reads is.2 rise); settled = h.settled } in
+    (stands, after_query old new rows_text [] is.0 (plain old (items v) stands) is.1)
 
-pub stands_on_err : {V E : Type 0} (r : Result V E) (old new : State) (found : List Columns) (table : List Row) → Stands old table → Shown rows_text [] old new found → OnErr r (IsTrue new.is_open → Stands new table)
-stands_on_err (Ok v) old new found table h is = tt
-stands_on_err (Err e) old new found table h is = λ _. stands_same old new table h (after_query old new rows_text [] found (plain old table h) is)
+pub stands_on : {V E : Type 0} (items : V → List Row) (r : Result V E) (old new : State) → IfOk r (λ v. Stands old (items v)) → OnOk r (IsUnchanged old new) → IfOk r (λ v. Stands old (items v) × Stands new (items v))
+stands_on items (Err e) old new h same = tt
+stands_on items (Ok v) old new h same = (h, stands_same old new (items v) h same)
+
+-- where rows are not read the connection stands as before, or has gone back to its last commit
+unread_rests : (old new : State) (fault : StoreFault) → AreUnread old new fault → Rests old new
+unread_rests old new fault (inl h) = inl h.1
+unread_rests old new fault (inr h) = after_query_error old new rows_text [] h.0 h.2
+
+pub stands_on_err : {V : Type 0} (r : Result V StoreFault) (old new : State) (table : List Row) → Stands old table → IfErr r (AreUnread old new) → OnErr r (IsTrue new.is_open → Stands new table)
+stands_on_err (Ok v) old new table h is = tt
+stands_on_err (Err e) old new table h is = stands_rests old new table h (unread_rests old new e is)
+
+-- why rows are not read, without what that leaves
+pub told_on_err : {V : Type 0} (r : Result V StoreFault) (old new : State) → IfErr r (AreUnread old new)
+    → IfErr r (λ fault. IsUnreadable fault ⊎ ((error : Error) × (fault ≡ fault_of error) × FailsToQuery rows_text [] old new error))
+told_on_err (Ok v) old new is = tt
+told_on_err (Err e) old new (inl h) = inl h.0
+told_on_err (Err e) old new (inr h) = inr h
 
 -- a query commits nothing
-pub read_leaves : (old new : State) (table : List Row) → Settles old → HasCleanDisk new → Stands old table → Survives old new (CommitsShowing rows_text [] old) → Leaves new table table
-read_leaves old new table law clean h survives db may = elim (survives.crash clean db may) [
-  | inl before ↦ inl (left_of old table law h db before)
-  | inr commits ↦ absurd (never_commits rows_text [] old db (plain old table h) commits)
-]
+pub read_leaves : (old new : State) (table : List Row) → Settles old → HasCleanDisk new → Stands old table → Survives old new (λ _. ⊥) → Leaves new table table
+read_leaves old new table law clean h survives db may = elim (survives.crash clean db may) [ inl before ↦ inl (left_of old table law h db before) | inr none ↦ absurd none ]

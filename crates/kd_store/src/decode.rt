@@ -1,17 +1,14 @@
-ghost use Rattle.std.specs.Prelude.{◌≡◌, IfOk, IfErr, map};
-ghost use Rattle.std.specs.List.{All};
+ghost use Rattle.std.specs.Prelude.{◌≡◌, IfOk, IfErr};
 ghost use Rattle.kd_rows.specs.Row.{IsInRange, state_number};
-ghost use Rattle.kd_rows.specs.Table.{Rise};
 ghost use Rattle.kd_store.specs.Lease.{columns_of};
 ghost use Rattle.kd_store.specs.Statement.{IsUnreadable, first_five};
 ghost use Rattle.sqlite.specs.Order.{column};
 
-use crate::fault::{NO_MEMORY, fault_of};
+use crate::fault::fault_of;
 use kd_keeps::StoreFault;
 use kd_rows::{Row, State};
 use kd_wire::Bytes;
 use sqlite::types::FromSql;
-use std::alloc::Global;
 
 // The value of a column.
 fn column<T: FromSql>(columns: &sqlite::Row, at: usize) -> Result<T, StoreFault>
@@ -40,7 +37,7 @@ fn state_of(number: u32) -> Result<State, StoreFault>
 }
 
 // The row that the columns spell, where it is in range.
-fn decode(columns: &sqlite::Row) -> Result<Row, StoreFault>
+pub(crate) fn decode(columns: &sqlite::Row) -> Result<Row, StoreFault>
     ensures columns { IfOk result (λ row. columns_of row ≡ first_five columns.now) }
     ensures range { IfOk result IsInRange }
     ensures fault { IfErr result IsUnreadable }
@@ -62,29 +59,4 @@ fn decode(columns: &sqlite::Row) -> Result<Row, StoreFault>
     } else {
         Err(StoreFault::Schema)
     }
-}
-
-// The rows that the columns spell, where they rise in address and are in range.
-pub(crate) fn decode_all(alloc: Global, shown: &[sqlite::Row]) -> Result<Vec<Row>, StoreFault>
-    ensures columns { IfOk result (λ rows. map columns_of rows.items ≡ map first_five shown.now) }
-    ensures rise { IfOk result (λ rows. Rise rows.items) }
-    ensures ranges { IfOk result (λ rows. All IsInRange rows.items) }
-    ensures fault { IfErr result IsUnreadable }
-{
-    let Ok(mut rows) = Vec::with_capacity(alloc, shown.len()) else {
-        return Err(NO_MEMORY);
-    };
-    let mut least: u64 = 0;
-    for columns in shown {
-        let row = decode(columns)?;
-        let address = u64::from(row.address);
-        if address < least {
-            return Err(StoreFault::Schema);
-        }
-        least = address + 1;
-        if rows.push(row).is_err() {
-            return Err(NO_MEMORY);
-        }
-    }
-    Ok(rows)
 }

@@ -1,23 +1,25 @@
-ghost use Rattle.std.specs.Prelude.{◌≡◌, ◌⊎◌, ◌≤◌, ◌<◌, ◌^◌, pos, false, List, [], IsTrue, IfOk, IfErr, OnOk, OnErr, Err};
+ghost use Rattle.std.specs.Prelude.{◌≡◌, ◌⊎◌, ◌≤◌, ◌<◌, ◌^◌, pos, false, List, [], IsTrue, IfOk, IfErr, IfSome, OnOk, OnErr, Err};
 ghost use Rattle.std.specs.List.{All};
 ghost use Rattle.sqlite.specs.Held.{state};
 ghost use Rattle.sqlite.specs.State.{CommitsBy, Executes, FailsToQuery, HasCleanDisk, IsUnchanged, Survives};
 ghost use Rattle.sqlite.specs.View.{doubt};
+ghost use Rattle.sqlite.specs.Given.{HasGiven};
+ghost use Rattle.sqlite.specs.Order.{Row as Columns};
 ghost use Rattle.kd_rows.specs.Row.{IsInRange};
 ghost use Rattle.kd_rows.specs.Table.{Rise, with_row};
 ghost use Rattle.kd_rows.specs.declared.row.Row.{Row as LeaseRow};
 ghost use Rattle.kd_store.specs.Lease.{columns_of, lease_schema, make_text, no_schema, put_text, rows_text};
 ghost use Rattle.kd_store.specs.Stands.{Finds, Holds, Leaves, Stands};
-ghost use Rattle.kd_store.specs.Statement.{IsReady, IsUnreadable};
+ghost use Rattle.kd_store.specs.Statement.{AreShown, AreUnread, GoesOn, IsReady, IsUnreadable};
 ghost use Rattle.kd_store.specs.Fault.{fault_of};
 ghost use Rattle.sqlite.specs.declared.error.Error.{Error};
 ghost use Rattle.sqlite.specs.Tree.{Trees};
 
-use crate::decode::decode_all;
-use crate::fault::fault_of;
+use crate::decode::decode;
+use crate::fault::{NO_MEMORY, fault_of};
 use kd_keeps::StoreFault;
 use kd_rows::Row;
-use sqlite::{Alter, Connection, Error, params};
+use sqlite::{Alter, Connection, Error, Rows, params};
 use std::alloc::Global;
 
 const MAKE: &str =
@@ -86,6 +88,59 @@ pub(crate) fn put<S: Alter>(conn: &mut Connection<S>, row: &Row) -> Result<(), S
     }
 }
 
+// The next row that the query shows, or none at its end.
+fn next<S: Alter>(shown: &mut Rows<'_, S>) -> Result<Option<Row>, StoreFault>
+    ensures same_reference { shown.new.conn.ghost_name ≡ shown.old.conn.ghost_name }
+    ensures survives { Survives (state S.Store shown.old.conn.now) (state S.Store shown.new.conn.now) (λ _. ⊥) }
+    ensures row { HasCleanDisk (state S.Store shown.new.conn.now) → (given : List Columns) → HasGiven S.Store rows_text [] shown.old.conn.now given
+        → IfOk result (GoesOn S.Store shown.old.conn.now shown.new.conn.now given) }
+    ensures fault { HasCleanDisk (state S.Store shown.new.conn.now) → (given : List Columns) → HasGiven S.Store rows_text [] shown.old.conn.now given
+        → IfErr result (AreUnread (state S.Store shown.old.conn.now) (state S.Store shown.new.conn.now)) }
+    ensures range { IfOk result (λ row. IfSome row IsInRange) }
+{
+    if let Err(error) = shown.advance() {
+        return Err(fault_of(error));
+    }
+    match shown.get() {
+        Some(columns) => match decode(columns) {
+            Ok(row) => Ok(Some(row)),
+            Err(fault) => Err(fault),
+        },
+        None => Ok(None),
+    }
+}
+
+// The rows that the query shows, where they rise in address and are in range.
+fn gather<S: Alter>(alloc: Global, shown: &mut Rows<'_, S>) -> Result<Vec<Row>, StoreFault>
+    ensures same_reference { shown.new.conn.ghost_name ≡ shown.old.conn.ghost_name }
+    ensures survives { Survives (state S.Store shown.old.conn.now) (state S.Store shown.new.conn.now) (λ _. ⊥) }
+    ensures shown { HasCleanDisk (state S.Store shown.new.conn.now) → HasGiven S.Store rows_text [] shown.old.conn.now [] → IsTrue (state S.Store shown.old.conn.now).is_open
+        → IfOk result (λ rows. AreShown (state S.Store shown.old.conn.now) (state S.Store shown.new.conn.now) rows.items) }
+    ensures fault { HasCleanDisk (state S.Store shown.new.conn.now) → HasGiven S.Store rows_text [] shown.old.conn.now [] → IsTrue (state S.Store shown.old.conn.now).is_open
+        → IfErr result (AreUnread (state S.Store shown.old.conn.now) (state S.Store shown.new.conn.now)) }
+    ensures rise { IfOk result (λ rows. Rise rows.items) }
+    ensures ranges { IfOk result (λ rows. All IsInRange rows.items) }
+{
+    let mut rows = Vec::new(alloc);
+    let mut least: u64 = 0;
+    'rows: for _ in 0..u64::MAX {
+        let row = match next(shown) {
+            Ok(Some(row)) => row,
+            Ok(None) => return Ok(rows),
+            Err(fault) => return Err(fault),
+        };
+        let address = u64::from(row.address);
+        if address < least {
+            return Err(StoreFault::Schema);
+        }
+        least = address + 1;
+        if rows.push(row).is_err() {
+            return Err(NO_MEMORY);
+        }
+    }
+    Err(StoreFault::Schema)
+}
+
 // All rows, in rising address.
 pub(crate) fn read<S: Alter>(
     alloc: Global,
@@ -100,8 +155,8 @@ pub(crate) fn read<S: Alter>(
     ensures told { HasCleanDisk (state S.Store conn.new) → IfErr result (λ fault. IsUnreadable fault ⊎ ((error : Error) × (fault ≡ fault_of error) × FailsToQuery rows_text [] (state S.Store conn.old) (state S.Store conn.new) error)) }
     ensures crash { HasCleanDisk (state S.Store conn.new) → (table : List LeaseRow) → Stands (state S.Store conn.old) table → Leaves (state S.Store conn.new) table table }
 {
-    match conn.query_all(ROWS, &[]) {
-        Ok(shown) => decode_all(alloc, shown.as_slice()),
+    match conn.query(ROWS, &[]) {
+        Ok(mut shown) => gather(alloc, &mut shown),
         Err(error) => Err(fault_of(error)),
     }
 }
