@@ -1,3 +1,4 @@
+pub mod Bounds
 pub mod Ends
 pub mod Indexes
 pub mod Keys
@@ -7,3 +8,4 @@ pub mod Places
 pub mod Sets
 pub mod Slots
 pub mod Sorting
+pub mod Walks

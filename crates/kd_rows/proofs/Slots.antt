@@ -98,7 +98,7 @@ replaced_now slots rows numbers place number row sorted are is at_place = subst
       low = subst (λ (a : ℕ). a < 2 ^ 32) (at.here row) (sorted.bounded place row at.in_range)
 
 -- a function over a list with one more
-map-insert : {X Y : Type 0} (f : X → Y) (xs : List X) (place : ℕ) (x : X) → map f (insert xs place x) ≡ insert (map f xs) place (f x)
+pub map-insert : {X Y : Type 0} (f : X → Y) (xs : List X) (place : ℕ) (x : X) → map f (insert xs place x) ≡ insert (map f xs) place (f x)
 map-insert f xs place x =
     map-append f (take place xs) (x ∷ drop place xs) ∙ ap (λ ys. ys ++ f x ∷ map f (drop place xs)) (sym (take-map f place xs))
     ∙ ap (λ ys. take place (map f xs) ++ f x ∷ ys) (sym (drop-map f place xs))

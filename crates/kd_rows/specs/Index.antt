@@ -1,10 +1,11 @@
 -- The index of the table, places in it and among the rows, and slots: words of private contracts and invariants alone.
-use Rattle.std.specs.Prelude.{◌≡◌, ℕ, ◌<◌, ◌≤◌, ◌^◌, Bool, false, ◌||◌, List, [], ◌∷◌, length, Option, Some, None, is_some, slice_index, slice_index_or, ◌==◌, map, nat_lt}
+use Rattle.std.specs.Prelude.{◌≡◌, ℕ, ◌<◌, ◌≤◌, ◌^◌, Bool, false, ◌||◌, List, [], ◌∷◌, length, Option, Some, None, is_some, slice_index, slice_index_or, ◌==◌, map, nat_lt, ◌/◌, IsSome, option_map}
 use Rattle.std.specs.List.{All, insert, range_with_len, remove}
 use Rattle.std.specs.Cmp.Lexicographic.{slice_cmp}
 use Rattle.std.specs.Ordering.{nat_cmp, ordering_then}
 use Rattle.std.specs.declared.cmp.Ordering.{Ordering}
 use Rattle.std.specs.declared.cmp.Ordering.TheVariants.{Less}
+use Rattle.kd_rows.specs.declared.blocks.Bound.{Bound}
 use Rattle.kd_rows.specs.declared.row.Row.{Row}
 use Rattle.kd_rows.specs.declared.row.State.TheVariants.{Offered}
 use Rattle.kd_rows.specs.Row.{IsInRange}
@@ -90,13 +91,53 @@ pub record AreKeys {X : Type 0} (key : X → List ℕ × ℕ) (number : X → �
   pub numbers : map number keys ≡ range_with_len 0 count
   pub keyed : All (λ x. key x ≡ key_in slots (number x)) keys
 
+-- the block of an address, of 64 addresses
+abbrev pub block_of : ℕ → ℕ
+block_of a = a / 64
+
+-- a bound as a row: its block for an address, and the bound for an end
+abbrev pub bound_row : Bound → Row
+bound_row bound = record { address = bound.block; client = []; state = Offered; changed = 0; ends = bound.least }
+
+-- bounds as rows, and for how many more there is room
+pub record Bounds : Type 0 where
+  pub rows : List Row
+  pub room : ℕ
+
+-- the end of the row of an address
+abbrev pub end_at : List Row → ℕ → Option ℕ
+end_at rows a = option_map (λ row. row.ends) (row_at rows a)
+
+-- no row of a block ends before a moment
+abbrev pub IsBound : List Row → ℕ → ℕ → Type 0
+IsBound rows block least = All (λ row. block_of row.address ≡ block → least ≤ row.ends) rows
+
+-- the block of each row has a bound, and each bound is one of its block
+pub record IsBounded (rows bounds : List Row) : Type 0 where
+  pub rise : Rise bounds
+  pub has : All (λ row. IsSome (row_at bounds (block_of row.address))) rows
+  pub least : (block : ℕ) (bound : Row) → row_at bounds block ≡ Some bound → IsBound rows block bound.ends
+
+-- what is left of a bound is at most that bound, and at most the end of the row that is set
+abbrev pub IsLower : Option ℕ → ℕ → Option ℕ → Type 0
+IsLower held ends None = Unit {0}
+IsLower None ends (Some kept) = ⊥
+IsLower (Some bound) ends (Some kept) = (kept ≤ bound) × (kept ≤ ends)
+
+-- a bound is what is left of the one before, or any that is one of the block
+abbrev pub IsNow : List Row → ℕ → Option ℕ → ℕ → Type 0
+IsNow rows block None least = IsBound rows block least
+IsNow rows block (Some kept) least = least ≡ kept
+
 -- what is true of the fields of a table
-pub record IsKept (rows : List Row) (latest least : ℕ) (index : List ℕ) : Type 0 where
+pub record IsKept (rows : List Row) (latest least : ℕ) (index : List ℕ) (bounds : List Row) (room most : ℕ) : Type 0 where
   pub rise : Rise rows
   pub ranged : All IsInRange rows
   pub newest : latest ≡ latest_of rows
   pub ends : All (λ row. least ≤ row.ends) rows
   pub indexed : IsIndex rows index
+  pub bounded : IsBounded rows bounds
+  pub enough : room ≤ most
 
 -- the rows before a place have lesser addresses, and those from it on do not
 pub record IsPlace (rows : List Row) (a place : ℕ) : Type 0 where

@@ -63,3 +63,10 @@ abbrev pub IsNext : List Row → ℕ → Option Row → Type 0
 IsNext rows a None = (b : ℕ) → a ≤ b → row_at rows b ≡ None
 IsNext rows a (Some row) =
     (row_at rows row.address ≡ Some row) × (a ≤ row.address) × ((b : ℕ) → a ≤ b → b < row.address → row_at rows b ≡ None)
+
+-- the row of the least address from first to last that has ended by a moment, or that there is none
+abbrev pub IsNextEnded : List Row → ℕ → ℕ → ℕ → Option Row → Type 0
+IsNextEnded rows first last moment None = (a : ℕ) (row : Row) → first ≤ a → a ≤ last → row_at rows a ≡ Some row → moment < row.ends
+IsNextEnded rows first last moment (Some row) =
+    (row_at rows row.address ≡ Some row) × (first ≤ row.address) × (row.address ≤ last) × (row.ends ≤ moment)
+    × ((a : ℕ) (other : Row) → first ≤ a → a < row.address → row_at rows a ≡ Some other → moment < other.ends)

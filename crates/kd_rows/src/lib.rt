@@ -5,6 +5,8 @@
 //! memory, which is asked for before. Times are in seconds, in the ranges of `specs/Row.antt`.
 #![tactic(auto)]
 
+mod blocks;
+mod ended;
 mod find;
 mod index;
 pub mod laws;

@@ -2,8 +2,11 @@ ghost use Rattle.std.specs.Prelude.{◌≡◌, ◌+◌, ◌-◌, ◌≤◌, ◌<
 ghost use Rattle.std.specs.List.{All};
 ghost use Rattle.std.specs.Option.{option_copied};
 ghost use Rattle.kd_rows.specs.Row.{IsInRange};
-ghost use Rattle.kd_rows.specs.Table.{IsFirstGap, IsNext, Rise, addresses_of, latest_of, least_of, row_at, spare, with_row};
+ghost use Rattle.kd_rows.specs.Index.{end_at};
+ghost use Rattle.kd_rows.specs.Table.{IsFirstGap, IsNext, IsNextEnded, Rise, addresses_of, latest_of, least_of, row_at, spare, with_row};
 
+use crate::blocks::{Blocks, Bound, block_of, bound_all, bound_now, kept_bound};
+use crate::ended::next_ended;
 use crate::find::{find, gap_in};
 use crate::index::nth_of;
 use crate::put::put_row;
@@ -16,19 +19,24 @@ use std::marker::Model;
 #[derive(Drop)]
 pub struct Rows {
     rows: Sorted,
+    // The bound of each block that has rows.
+    blocks: Blocks,
     latest: u64,
     least: u64,
+    // For how many new addresses both have room.
+    room: usize,
 }
 
 impl Model for Rows {
+    ghost use Rattle.std.specs.Prelude.{min};
     ghost use Rattle.kd_rows.specs.Index.{IsKept};
     ghost use Rattle.kd_rows.specs.Table.{Table};
 
     ghost Value = { Table };
 
-    ghost view = { λ t. record { rows = t.rows.rows; least = t.least; room = t.rows.room } };
+    ghost view = { λ t. record { rows = t.rows.rows; least = t.least; room = t.room } };
 
-    ghost invariant = { λ t. IsKept t.rows.rows t.latest t.least t.rows.index };
+    ghost invariant = { λ t. IsKept t.rows.rows t.latest t.least t.rows.index t.blocks.rows t.room (min t.rows.room t.blocks.room) };
 }
 
 impl Rows {
@@ -60,8 +68,13 @@ impl Rows {
     {
         let latest = latest_in(&rows);
         let least = least_in(&rows);
+        let mut blocks = Blocks::new(*rows.allocator());
+        let sorted = Sorted::new(rows)?;
+        bound_all(&mut blocks, &sorted)?;
         Ok(Rows {
-            rows: Sorted::new(rows)?,
+            room: sorted.room().min(blocks.room()),
+            rows: sorted,
+            blocks,
             latest,
             least,
         })
@@ -141,11 +154,18 @@ impl Rows {
         self.at(self.rows.place_of(address))
     }
 
+    /// The row of the least address from `first` to `last` that has ended by a moment.
+    pub fn next_ended(&self, first: u32, last: u32, moment: u64) -> Option<&Row>
+        ensures { IsNextEnded self.now.rows first last moment (option_copied result) }
+    {
+        next_ended(&self.rows, &self.blocks, first, last, moment)
+    }
+
     /// Whether a row can be set without memory: its address has one, or there is room for one more.
     pub fn spare(&self, row: &Row) -> bool
         ensures { result ≡ spare self.now row.now }
     {
-        find(&self.rows, row.address).is_some() || self.rows.has_room()
+        find(&self.rows, row.address).is_some() || self.room > 0
     }
 
     /// Makes room, so that a row can be set without memory.
@@ -161,6 +181,8 @@ impl Rows {
     {
         if !self.spare(row) {
             self.rows.reserve()?;
+            self.blocks.reserve()?;
+            self.room = self.rows.room().min(self.blocks.room());
         }
         Ok(())
     }
@@ -175,9 +197,37 @@ impl Rows {
         ensures least { self.new.least ≡ min self.old.least row.ends }
         ensures room { self.new.room ≡ self.old.room - (if is_some (row_at self.old.rows row.address) then 0 else 1) }
     {
+        let address = row.address;
+        let block = block_of(address);
+        let replaced = ends_at(&self.rows, address);
+        let kept = kept_bound(self.blocks.find(block), replaced, row.ends);
+        self.room = room_after(self.room, replaced);
         self.latest = row.changed;
         self.least = self.least.min(row.ends);
         put_row(&mut self.rows, row);
+        let least = bound_now(&self.rows, address, kept);
+        self.blocks.set(Bound { block, least });
+    }
+}
+
+// The end of the row of an address.
+fn ends_at(rows: &Sorted, address: u32) -> Option<u64>
+    requires { Rise rows.now.rows }
+    ensures { result ≡ end_at rows.now.rows address }
+{
+    match find(rows, address) {
+        Some(place) => Some(rows.row(place).ends),
+        None => None,
+    }
+}
+
+// For how many new addresses there is room after a row was set: a new address takes one place.
+fn room_after(room: usize, replaced: Option<u64>) -> usize
+    ensures { result ≡ room - (if is_some replaced then 0 else 1) }
+{
+    match replaced {
+        Some(_) => room,
+        None => room.saturating_sub(1),
     }
 }
 

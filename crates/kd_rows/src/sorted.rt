@@ -1,4 +1,4 @@
-ghost use Rattle.std.specs.Prelude.{◌≡◌, ◌+◌, ◌<◌, ◌≤◌, length, IfOk, None, OnOk, Some, nat_lt, slice_get, slice_index, slice_index_or, vec_capacity, vec_len};
+ghost use Rattle.std.specs.Prelude.{◌≡◌, ◌+◌, ◌<◌, ◌≤◌, length, IfOk, None, OnOk, Some, slice_get, slice_index, slice_index_or, vec_capacity, vec_len};
 ghost use Rattle.std.specs.List.{insert, remove};
 ghost use Rattle.std.specs.Option.{option_copied};
 ghost use Rattle.kd_rows.specs.Index.{IsAt, IsIndex, IsPlace};
@@ -106,13 +106,14 @@ impl Sorted {
         low
     }
 
-    // Whether there is room for a row more.
-    pub(crate) fn has_room(&self) -> bool
-        ensures { result ≡ nat_lt 0 self.now.room }
+    // For how many more rows there is room.
+    pub(crate) fn room(&self) -> usize
+        ensures { result ≡ self.now.room }
     {
-        self.slots.len() < self.slots.capacity()
-            && self.by_address.len() < self.by_address.capacity()
-            && self.by_client.len() < self.by_client.capacity()
+        let slots = self.slots.capacity() - self.slots.len();
+        let by_address = self.by_address.capacity() - self.by_address.len();
+        let by_client = self.by_client.capacity() - self.by_client.len();
+        slots.min(by_address.min(by_client))
     }
 
     // Makes room for a row more.

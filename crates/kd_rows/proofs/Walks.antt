@@ -1,0 +1,141 @@
+-- The first row that has ended: the rows of a block are looked at one after another, and blocks passed over.
+use Rattle.std.proofs.Common.{◌≡◌, ◌≢◌, ℕ, ◌+◌, ◌-◌, ◌*◌, ◌/◌, ◌<◌, ◌≤◌, max, min, List, length, get_or, Some, None, IsSome, Option, refl, sym, ap, ◌∙◌, subst, arith, ⊎_elim, ◌⊎◌, inl, inr}
+use Rattle.std.proofs.lemmas.Bool.{cases_eq, cases_lt}
+use Rattle.kd_rows.specs.declared.row.Row.{Row}
+use Rattle.kd_rows.specs.Index.{IsBounded, IsPlace, block_of}
+use Rattle.kd_rows.specs.Table.{IsNextEnded, Rise, row_at}
+use Rattle.kd_rows.proofs.Bounds.{row_all}
+use Rattle.kd_rows.proofs.Places.{apart, is_at, none_at, read_at}
+
+-- an address stands below the rows from a place on
+abbrev pub IsBelowFrom : List Row → ℕ → ℕ → Type 0
+IsBelowFrom rows a place = (i : ℕ) (d : Row) → place ≤ i → i < length rows → a < (get_or rows i d).address
+
+-- none of the rows from an address on and before a place has ended
+abbrev pub NoneEnded : List Row → ℕ → ℕ → ℕ → Type 0
+NoneEnded rows first moment place = (a : ℕ) (row : Row) → first ≤ a → IsBelowFrom rows a place → row_at rows a ≡ Some row → moment < row.ends
+
+-- the row at a place stands where its address is
+pub found_here : (rows : List Row) (place : ℕ) (row : Row) → Rise rows → place < length rows → row ≡ get_or rows place row → row_at rows row.address ≡ Some row
+found_here rows place row rise within is = (is_at rows row.address place rise within (λ d. read_at rows place row d within is)).found row ∙ ap Some (sym is)
+
+-- an address that stands neither before a place nor from it on has no row
+pub nowhere : (rows : List Row) (a place : ℕ) → ((i : ℕ) (d : Row) → i < place → i < length rows → (get_or rows i d).address < a) → IsBelowFrom rows a place → row_at rows a ≡ None
+nowhere rows a place below above = none_at rows a (λ i d within e. ⊎_elim (λ l. let h = below i d l within in omega arith) (λ l. let h = above i d l within in omega arith) (cases_lt i place))
+
+pub none_first : (rows : List Row) (first moment place : ℕ) → IsPlace rows first place → NoneEnded rows first moment place
+none_first rows first moment place p a row from above found = let none = nowhere rows a place (λ i d before within. let h = p.below i d before in omega arith) above in cc
+
+-- an address below that of the row at a place stands below the rows from there on
+pub below_here : (rows : List Row) (place a : ℕ) (row : Row) → Rise rows → place < length rows → row ≡ get_or rows place row → a < row.address → IsBelowFrom rows a place
+below_here rows place a row rise within is less i d after inside =
+    let h = apart rows rise place i d after inside in
+    let g = read_at rows place row d within is in
+    omega arith
+
+-- an address that stands below the rows behind a place stands below that place, there, or at no row
+pub around : (rows : List Row) (place a : ℕ) (row : Row) → Rise rows → place < length rows → row ≡ get_or rows place row → IsBelowFrom rows a (place + 1) → IsBelowFrom rows a place ⊎ ((a ≡ row.address) ⊎ (row_at rows a ≡ None))
+around rows place a row rise within is above = ⊎_elim
+    (λ l. inl (below_here rows place a row rise within is l))
+    (λ l. inr (⊎_elim (λ e. inl e) (λ n. inr (nowhere rows a (place + 1) (before (omega arith)) above)) (cases_eq a row.address)))
+    (cases_lt a row.address) where
+      before : row.address < a → (i : ℕ) (d : Row) → i < place + 1 → i < length rows → (get_or rows i d).address < a
+      before more i d less inside =
+          let h = apart rows rise i place d (omega arith) within in
+          let g = read_at rows place row d within is in
+          omega arith
+
+-- one row more that has not ended
+pub none_step : (rows : List Row) (first moment place : ℕ) (row : Row) → Rise rows → place < length rows → row ≡ get_or rows place row → moment < row.ends → NoneEnded rows first moment place → NoneEnded rows first moment (place + 1)
+none_step rows first moment place row rise within is live h a other from above found = by (around rows place a row rise within is above) where
+  by : IsBelowFrom rows a place ⊎ ((a ≡ row.address) ⊎ (row_at rows a ≡ None)) → moment < other.ends
+  by (inl below) = h a other from below found
+  by (inr (inl e)) = let this : row_at rows a ≡ Some row = subst (λ (n : ℕ). row_at rows n ≡ Some row) (sym e) (found_here rows place row rise within is) in let same : row ≡ other = cc in subst (λ (r : Row). moment < r.ends) same live
+  by (inr (inr none)) = cc
+
+pub ended_here : (rows : List Row) (first last moment place : ℕ) (row : Row) → Rise rows → place < length rows → row ≡ get_or rows place row → first ≤ row.address → row.address ≤ last → row.ends ≤ moment → NoneEnded rows first moment place → IsNextEnded rows first last moment (Some row)
+ended_here rows first last moment place row rise within is from to ended h = (
+  found_here rows place row rise within is,
+  from,
+  to,
+  ended,
+  λ a other low less found. h a other low (below_here rows place a row rise within is less) found,
+)
+
+pub none_past : (rows : List Row) (first last moment place : ℕ) (row : Row) → Rise rows → place < length rows → row ≡ get_or rows place row → last < row.address → NoneEnded rows first moment place → IsNextEnded rows first last moment None
+none_past rows first last moment place row rise within is past h a other low high found = h a other low (below_here rows place a row rise within is (omega arith)) found
+
+pub none_over : (rows : List Row) (first last moment place : ℕ) → length rows ≤ place → NoneEnded rows first moment place → IsNextEnded rows first last moment None
+none_over rows first last moment place all h a other low high found = h a other low (λ i d after inside. absurd (omega arith)) found
+
+-- none of the rows from an address to another whose blocks stand before a place has ended
+abbrev pub NoneOf : List Row → List Row → ℕ → ℕ → ℕ → ℕ → Type 0
+NoneOf rows bounds first last moment place = (a : ℕ) (row : Row) → first ≤ a → a ≤ last → IsBelowFrom bounds (block_of a) place → row_at rows a ≡ Some row → moment < row.ends
+
+-- the block of an address that has a row has a bound, at most the row's end
+has_bound : (rows bounds : List Row) (a : ℕ) (row : Row) → IsBounded rows bounds → row_at rows a ≡ Some row → (bound : Row) × (row_at bounds (block_of a) ≡ Some bound) × (bound.ends ≤ row.ends)
+has_bound rows bounds a row b found = by (row_at bounds (block_of a)) refl (subst (λ (n : ℕ). IsSome (row_at bounds (block_of n))) has.1 has.0) where
+  has : IsSome (row_at bounds (block_of row.address)) × (row.address ≡ a)
+  has = row_all (λ (r : Row). IsSome (row_at bounds (block_of r.address))) rows a row b.has found
+
+  by : (o : Option Row) → row_at bounds (block_of a) ≡ o → IsSome o → (bound : Row) × (row_at bounds (block_of a) ≡ Some bound) × (bound.ends ≤ row.ends)
+  by None e some = cc
+  by (Some bound) e some = (bound, e, (row_all (λ (r : Row). block_of r.address ≡ block_of a → bound.ends ≤ r.ends) rows a row (b.least (block_of a) bound e) found).0 (ap block_of has.1))
+
+pub blocks_first : (rows bounds : List Row) (first last moment place : ℕ) → IsBounded rows bounds → IsPlace bounds (block_of first) place → NoneOf rows bounds first last moment place
+blocks_first rows bounds first last moment place b p a row from to above found =
+    let has = has_bound rows bounds a row b found in
+    let none : row_at bounds (block_of a) ≡ None = nowhere bounds (block_of a) place (λ i d before within. let h = p.below i d before in omega arith) above in
+    absurd (nothing (sym none ∙ has.1)) where
+      nothing : None ≡ Some (has_bound rows bounds a row b found).0 → ⊥
+      nothing e = cc
+
+-- what is left of the search where a block's rows have not ended, from the first address to the last
+pub blocks_step : (rows bounds : List Row) (first last moment place : ℕ) (bound : Row) → IsBounded rows bounds → place < length bounds → bound ≡ get_or bounds place bound
+    → ((a : ℕ) (row : Row) → first ≤ a → a ≤ last → block_of a ≡ bound.address → row_at rows a ≡ Some row → moment < row.ends) → NoneOf rows bounds first last moment place → NoneOf rows bounds first last moment (place + 1)
+blocks_step rows bounds first last moment place bound b within is here h a row from to above found = by (around bounds place (block_of a) bound b.rise within is above) where
+  has : (bound : Row) × (row_at bounds (block_of a) ≡ Some bound) × (bound.ends ≤ row.ends)
+  has = has_bound rows bounds a row b found
+
+  nothing : (x : Row) → row_at bounds (block_of a) ≡ None → row_at bounds (block_of a) ≡ Some x → ⊥
+  nothing x e f = cc
+
+  by : IsBelowFrom bounds (block_of a) place ⊎ ((block_of a ≡ bound.address) ⊎ (row_at bounds (block_of a) ≡ None)) → moment < row.ends
+  by (inl below) = h a row from to below found
+  by (inr (inl e)) = here a row from to e found
+  by (inr (inr none)) = absurd (nothing has.0 none has.1)
+
+-- a block whose bound is behind a moment: none of its rows has ended
+pub block_live : (rows bounds : List Row) (first last moment place : ℕ) (bound : Row) → IsBounded rows bounds → place < length bounds → bound ≡ get_or bounds place bound → moment < bound.ends
+    → (a : ℕ) (row : Row) → first ≤ a → a ≤ last → block_of a ≡ bound.address → row_at rows a ≡ Some row → moment < row.ends
+block_live rows bounds first last moment place bound b within is live a row from to at found =
+    let e : row_at bounds (block_of a) ≡ Some bound = subst (λ (n : ℕ). row_at bounds n ≡ Some bound) (sym at) (found_here bounds place bound b.rise within is) in
+    let h = row_all (λ (r : Row). block_of r.address ≡ block_of a → bound.ends ≤ r.ends) rows a row (b.least (block_of a) bound e) found in
+    let low : bound.ends ≤ row.ends = h.0 (ap block_of h.1) in
+    omega arith
+
+-- a block whose rows were looked at, where none has ended
+pub block_none : (rows : List Row) (first last from to moment block : ℕ) → from ≤ max first (block * 64) → min last (block * 64 + 63) ≤ to → IsNextEnded rows from to moment None
+    → (a : ℕ) (row : Row) → first ≤ a → a ≤ last → block_of a ≡ block → row_at rows a ≡ Some row → moment < row.ends
+block_none rows first last from to moment block low high none a row f t at found = none a row (omega (arith, at)) (omega (arith, at)) found
+
+-- a row of a block that has ended, where none of the blocks before has one
+pub block_found : (rows bounds : List Row) (first last from to moment place : ℕ) (bound row : Row) → IsBounded rows bounds → place < length bounds → bound ≡ get_or bounds place bound → from ≡ max first (bound.address * 64) → to ≡ min last (bound.address * 64 + 63)
+    → IsNextEnded rows from to moment (Some row) → NoneOf rows bounds first last moment place → IsNextEnded rows first last moment (Some row)
+block_found rows bounds first last from to moment place bound row b within is low high found h = (
+  found.0,
+  omega (arith, found.1),
+  omega (arith, found.2),
+  found.3,
+  λ a other f less there. ⊎_elim
+      (λ l. h a other f (omega (arith, found.2)) (below_here bounds place (block_of a) bound b.rise within is l) there)
+      (λ l. found.4 a other (omega (arith, l)) less there)
+      (cases_lt (block_of a) bound.address),
+)
+
+-- the search ends where a block is above that of the last address, or there are no more
+pub blocks_past : (rows bounds : List Row) (first last moment place : ℕ) (bound : Row) → IsBounded rows bounds → place < length bounds → bound ≡ get_or bounds place bound → block_of last < bound.address → NoneOf rows bounds first last moment place → IsNextEnded rows first last moment None
+blocks_past rows bounds first last moment place bound b within is past h a row from to found = h a row from to (below_here bounds place (block_of a) bound b.rise within is (omega (arith, past))) found
+
+pub blocks_over : (rows bounds : List Row) (first last moment place : ℕ) → length bounds ≤ place → NoneOf rows bounds first last moment place → IsNextEnded rows first last moment None
+blocks_over rows bounds first last moment place all h a row from to found = h a row from to (λ i d after inside. absurd (omega arith)) found
