@@ -1,5 +1,6 @@
 -- The first row that has ended: the rows of a block are looked at one after another, and blocks passed over.
 use Rattle.std.proofs.Common.{◌≡◌, ◌≢◌, ℕ, ◌+◌, ◌-◌, ◌*◌, ◌/◌, ◌<◌, ◌≤◌, max, min, List, length, get_or, Some, None, IsSome, Option, refl, sym, ap, ◌∙◌, subst, arith, ⊎_elim, ◌⊎◌, inl, inr}
+use Rattle.std.specs.List.{All}
 use Rattle.std.proofs.lemmas.Bool.{cases_eq, cases_lt}
 use Rattle.kd_rows.specs.declared.row.Row.{Row}
 use Rattle.kd_rows.specs.Index.{IsBounded, IsPlace, block_of}
@@ -67,6 +68,12 @@ none_past rows first last moment place row rise within is past h a other low hig
 
 pub none_over : (rows : List Row) (first last moment place : ℕ) → length rows ≤ place → NoneEnded rows first moment place → IsNextEnded rows first last moment None
 none_over rows first last moment place all h a other low high found = h a other low (λ i d after inside. absurd (omega arith)) found
+
+-- none ends before the moment that all of them end at or after
+pub none_early : (rows : List Row) (first last moment least : ℕ) → All (λ row. least ≤ row.ends) rows → moment < least → IsNextEnded rows first last moment None
+none_early rows first last moment least all early a row from to found =
+    let h : least ≤ row.ends = (row_all (λ (r : Row). least ≤ r.ends) rows a row all found).0 in
+    omega arith
 
 -- none of the rows from an address to another whose blocks stand before a place has ended
 abbrev pub NoneOf : List Row → List Row → ℕ → ℕ → ℕ → ℕ → Type 0

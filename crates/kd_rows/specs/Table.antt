@@ -4,7 +4,7 @@ use Rattle.std.specs.List.{filter}
 use Rattle.std.specs.Cmp.Lexicographic.{pointwise}
 use Rattle.kd_rows.specs.declared.row.Row.{Row}
 
--- the rows, a moment before which none of them ends, and for how many new addresses there is memory
+-- the rows, a moment before which none of them ends, and for how many new addresses, at least, there is memory
 pub record Table : Type 0 where
   pub rows : List Row
   pub least : ℕ

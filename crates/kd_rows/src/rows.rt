@@ -158,6 +158,9 @@ impl Rows {
     pub fn next_ended(&self, first: u32, last: u32, moment: u64) -> Option<&Row>
         ensures { IsNextEnded self.now.rows first last moment (option_copied result) }
     {
+        if moment < self.least {
+            return None;
+        }
         next_ended(&self.rows, &self.blocks, first, last, moment)
     }
 
