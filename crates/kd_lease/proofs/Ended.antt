@@ -1,74 +1,48 @@
--- The least address of a range whose row has ended: the rows are looked at one after another.
-use Rattle.std.proofs.Common.{◌≡◌, ◌≢◌, ℕ, ◌+◌, ◌<◌, ◌≤◌, true, false, length, get_or, Some, None, refl, sym, ap, ◌∙◌, subst, arith, ⊎_elim, ◌⊎◌, inl, inr}
+-- The least address of a range whose row has ended: from one row that has to the next.
+use Rattle.std.proofs.Common.{◌≡◌, ℕ, ◌+◌, ◌<◌, ◌≤◌, true, false, not, ◌&&◌, nat_lt, Option, Some, None, refl, sym, ◌∙◌, subst, arith, ⊎_elim}
 use Rattle.std.proofs.lemmas.Bool.{cases_eq, cases_lt}
+use Rattle.std.proofs.lemmas.Bool.Decides.{nat_tests}
 use Rattle.kd_config.specs.declared.subnet.Subnet.{Subnet}
-use Rattle.kd_rows.specs.Index.{IsPlace}
-use Rattle.kd_rows.specs.Table.{Rise, row_at}
+use Rattle.kd_rows.specs.Table.{IsNextEnded, row_at}
 use Rattle.kd_rows.specs.declared.row.Row.{Row}
-use Rattle.kd_rows.proofs.Places.{apart, found_at, none_at, read_at}
-use Rattle.kd_lease.specs.Choice.{Asking}
-use Rattle.kd_lease.specs.Seeking.{IsLeastOpen, is_expired, is_open}
+use Rattle.kd_lease.specs.Choice.{Asking, fits, has_such, is_live}
+use Rattle.kd_lease.specs.Seeking.{IsLeastOpen, is_open}
+use Rattle.kd_lease.proofs.Pools.{NoneUpTo}
 
--- an address stands below the rows from a place on
-abbrev pub IsBelowRows : Asking → ℕ → ℕ → Type 0
-IsBelowRows q a place = (i : ℕ) (d : Row) → place ≤ i → i < length q.rows → a < (get_or q.rows i d).address
+live : (q : Asking) (row : Row) → q.now < row.ends → not (is_live q.now row) ≡ false
+live q row h = grind (arith, nat_tests)
 
--- no address from the first on that stands below the rows from a place on is open
-abbrev pub NoneBelow : Asking → Subnet → ℕ → ℕ → Type 0
-NoneBelow q s first place = (a : ℕ) → first ≤ a → IsBelowRows q a place → is_open q s false a ≡ false
+ended : (q : Asking) (row : Row) → row.ends ≤ q.now → not (is_live q.now row) ≡ true
+ended q row h = grind (arith, nat_tests)
 
-without_row : (q : Asking) (s : Subnet) (a : ℕ) → row_at q.rows a ≡ None → is_open q s false a ≡ false
-without_row q s a e = rw e refl
+-- an address without a row, or whose row has not ended, is not open
+closed : (q : Asking) (s : Subnet) (a : ℕ) → ((row : Row) → row_at q.rows a ≡ Some row → q.now < row.ends) → is_open q s false a ≡ false
+closed q s a h = by (row_at q.rows a) h where
+  by : (o : Option Row) → ((row : Row) → o ≡ Some row → q.now < row.ends) → (has_such (λ row. not (is_live q.now row)) o && fits q s a) ≡ false
+  by None h = refl
+  by (Some row) h = rw (live q row (h row refl)) refl
 
-with_its_row : (q : Asking) (s : Subnet) (row : Row) → row_at q.rows row.address ≡ Some row → is_open q s false row.address ≡ is_expired q s row
-with_its_row q s row e = rw e refl
+-- one whose row has is open where it fits
+opened : (q : Asking) (s : Subnet) (row : Row) → row_at q.rows row.address ≡ Some row → row.ends ≤ q.now → is_open q s false row.address ≡ fits q s row.address
+opened q s row there h = rw (there, ended q row h) refl
 
-pub none_before : (q : Asking) (s : Subnet) (first place : ℕ) → IsPlace q.rows first place → NoneBelow q s first place
-none_before q s first place p a from above = without_row q s a (none_at q.rows a by) where
-  by : (i : ℕ) (d : Row) → i < length q.rows → (get_or q.rows i d).address ≢ a
-  by i d within = ⊎_elim (λ before. let h = p.below i d before in omega arith) (λ after. let h = above i d after within in omega arith) (cases_lt i place)
+pub none_from : (q : Asking) (s : Subnet) (first last from : ℕ) → NoneUpTo q s false first from → IsNextEnded q.rows from last q.now None → IsLeastOpen q s false first last None
+none_from q s first last from before none a low high = ⊎_elim (λ l. before a low l) (λ l. closed q s a (λ row there. none a row l high there)) (cases_lt a from)
 
--- the row at a place stands where its address is
-found_here : (q : Asking) (place : ℕ) (row : Row) → Rise q.rows → place < length q.rows → row ≡ get_or q.rows place row → row_at q.rows row.address ≡ Some row
-found_here q place row rise within is =
-    found_at q.rows place row.address row within (λ i before. let h = apart q.rows rise i place row (omega arith) within in let g = read_at q.rows place row row within is in omega arith) (read_at q.rows place row row within is)
-    ∙ ap Some (sym is)
+-- none is open before the next that has ended
+before_next : (q : Asking) (s : Subnet) (first last from : ℕ) (row : Row) → NoneUpTo q s false first from → IsNextEnded q.rows from last q.now (Some row) → NoneUpTo q s false first row.address
+before_next q s first last from row before next a low less = ⊎_elim (λ l. before a low l) (λ l. closed q s a (λ other there. next.4 a other l less there)) (cases_lt a from)
 
--- an address up to that of the row at a place stands below the rows behind it
-below_from : (q : Asking) (place a : ℕ) (row : Row) → Rise q.rows → place < length q.rows → row ≡ get_or q.rows place row → a < row.address → IsBelowRows q a place
-below_from q place a row rise within is less i d after inside =
-    let h = apart q.rows rise place i d after inside in
-    let g = read_at q.rows place row d within is in
-    omega arith
+pub found_next : (q : Asking) (s : Subnet) (first last from : ℕ) (row : Row) → first ≤ from → NoneUpTo q s false first from → IsNextEnded q.rows from last q.now (Some row) → fits q s row.address ≡ true → IsLeastOpen q s false first last (Some row.address)
+found_next q s first last from row above before next fitting =
+    let low : first ≤ row.address = omega (arith, next.1) in
+    (low, next.2, opened q s row next.0 next.3 ∙ fitting, before_next q s first last from row before next)
 
-pub none_more : (q : Asking) (s : Subnet) (first place : ℕ) (row : Row) → Rise q.rows → place < length q.rows → row ≡ get_or q.rows place row
-    → is_expired q s row ≡ false → NoneBelow q s first place → NoneBelow q s first (place + 1)
-none_more q s first place row rise within is closed h a from above = ⊎_elim
-    (λ less. h a from (below_from q place a row rise within is less))
-    (λ more. by (cases_eq a row.address) more)
-    (cases_lt a row.address) where
-      apart_from_all : row.address < a → (i : ℕ) (d : Row) → i < length q.rows → (get_or q.rows i d).address ≢ a
-      apart_from_all more i d inside = ⊎_elim
-          (λ before. let k = apart q.rows rise i place d (omega arith) within in let g = read_at q.rows place row d within is in omega arith)
-          (λ after. let k = above i d after inside in omega arith)
-          (cases_lt i (place + 1))
+pub none_next : (q : Asking) (s : Subnet) (first last from : ℕ) (row : Row) → NoneUpTo q s false first from → IsNextEnded q.rows from last q.now (Some row) → fits q s row.address ≡ false → NoneUpTo q s false first (row.address + 1)
+none_next q s first last from row before next fitting a low less = ⊎_elim
+    (λ e. subst (λ (n : ℕ). is_open q s false n ≡ false) (sym e) (opened q s row next.0 next.3 ∙ fitting))
+    (λ n. before_next q s first last from row before next a low (omega arith))
+    (cases_eq a row.address)
 
-      by : (a ≡ row.address) ⊎ (a ≡ row.address → ⊥) → row.address ≤ a → is_open q s false a ≡ false
-      by (inl e) more = subst (λ (b : ℕ). is_open q s false b ≡ false) (sym e) (with_its_row q s row (found_here q place row rise within is) ∙ closed)
-      by (inr n) more = without_row q s a (none_at q.rows a (apart_from_all (omega arith)))
-
-pub none_to : (q : Asking) (s : Subnet) (first last place : ℕ) (row : Row) → Rise q.rows → place < length q.rows → row ≡ get_or q.rows place row
-    → last < row.address → NoneBelow q s first place → IsLeastOpen q s false first last None
-none_to q s first last place row rise within is past h a from to = h a from (below_from q place a row rise within is (omega arith))
-
-pub none_left : (q : Asking) (s : Subnet) (first last place : ℕ) → length q.rows ≤ place → NoneBelow q s first place → IsLeastOpen q s false first last None
-none_left q s first last place all h a from to = h a from (λ i d after inside. absurd (omega arith))
-
-pub found_least : (q : Asking) (s : Subnet) (first last place : ℕ) (row : Row) → Rise q.rows → place < length q.rows → row ≡ get_or q.rows place row
-    → first ≤ row.address → row.address ≤ last → is_expired q s row ≡ true → NoneBelow q s first place → IsLeastOpen q s false first last (Some row.address)
-found_least q s first last place row rise within is from to opened h = (
-  from,
-  to,
-  with_its_row q s row (found_here q place row rise within is) ∙ opened,
-  λ a low less. h a low (below_from q place a row rise within is less),
-)
+pub none_at_last : (q : Asking) (s : Subnet) (first last end : ℕ) → last < end → NoneUpTo q s false first end → IsLeastOpen q s false first last None
+none_at_last q s first last end past before a low high = before a low (omega arith)

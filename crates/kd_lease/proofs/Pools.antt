@@ -16,23 +16,6 @@ use Rattle.kd_lease.specs.Seeking.{IsLeastOpen, IsRanked, is_open, pool_rank}
 abbrev pub NoneUpTo : Asking → Subnet → Bool → ℕ → ℕ → Type 0
 NoneUpTo q s new first end = (a : ℕ) → first ≤ a → a < end → is_open q s new a ≡ false
 
--- where no row has ended, none is open
-all_at : (least : ℕ) (rows : List Row) (a : ℕ) (row : Row) → All (λ r. least ≤ r.ends) rows → row_at rows a ≡ Some row → least ≤ row.ends
-all_at least [] a row all h = cc
-all_at least (r ∷ rows) a row all h = by (r.address == a) h (all_at least rows a row (λ k d less. all (suc k) d (omega arith))) where
-  by : (b : Bool) → (if b then Some r else row_at rows a) ≡ Some row → (row_at rows a ≡ Some row → least ≤ row.ends) → least ≤ row.ends
-  by true h rest = let first : least ≤ r.ends = all 0 r (omega arith) in let same : r.ends ≡ row.ends = cc in omega arith
-  by false h rest = rest h
-
-pub none_ended : (q : Asking) (s : Subnet) (least first last : ℕ) → All (λ row. least ≤ row.ends) q.rows → q.now < least → IsLeastOpen q s false first last None
-none_ended q s least first last all early a from to = by (row_at q.rows a) refl where
-  live : (row : Row) → least ≤ row.ends → not (is_live q.now row) ≡ false
-  live row h = grind (arith, nat_tests)
-
-  by : (o : Option Row) → row_at q.rows a ≡ o → (has_such (λ row. not (is_live q.now row)) o && fits q s a) ≡ false
-  by None e = refl
-  by (Some row) e = rw (live row (all_at least q.rows a row all e)) refl
-
 -- the first pool that has an address
 pool_at : (pools : List Pool) (a : ℕ) (d : Pool) → pool_of pools a < length pools → has (get_or pools (pool_of pools a) d).range a ≡ true
 pool_at [] a d less = absurd (omega arith)

@@ -49,10 +49,6 @@ is_by mac id (ClientId bytes) = is_value bytes id
 abbrev pub keeps : ℕ → Subnet → Bool
 keeps a s = contains s.prefix a && is_reserved_in a s
 
--- a row has ended, and its address fits
-abbrev pub is_expired : Asking → Subnet → Row → Bool
-is_expired q s row = not (is_live q.now row) && fits q s row.address
-
 -- an address, where it is in a pool, has that rank
 abbrev pub is_open : Asking → Subnet → Bool → ℕ → Bool
 is_open q s true a = is_none (row_at q.rows a) && fits q s a

@@ -17,7 +17,6 @@ mod given;
 mod identities;
 mod items;
 pub mod laws;
-mod places;
 mod plan;
 mod planned;
 mod pooling;

@@ -1,12 +1,10 @@
 ghost use Rattle.std.specs.Prelude.{◌≡◌, true, false};
 ghost use Rattle.kd_lease.specs.Rules.{asking};
-ghost use Rattle.kd_lease.specs.Seeking.{IsLeastOpen, IsRanked, is_expired, pool_rank};
+ghost use Rattle.kd_lease.specs.Seeking.{IsLeastOpen, IsRanked, pool_rank};
 
-use crate::fitting::{fits, is_live};
-use crate::places::{place_of, row_in};
+use crate::fitting::fits;
 use crate::question::Question;
 use kd_config::{Range, Subnet};
-use kd_rows::Row;
 
 // The first address in pool order that fits, where it has no row (`new`), or where its row has ended.
 pub(crate) fn pooled(question: &Question<'_>, subnet: &Subnet, new: bool) -> Option<u32>
@@ -54,29 +52,25 @@ fn least_fresh(question: &Question<'_>, subnet: &Subnet, range: Range) -> Option
     None
 }
 
-// The least address of a range that fits and whose row has ended; no search where no row has.
+// The least address of a range that fits and whose row has ended.
 fn least_expired(question: &Question<'_>, subnet: &Subnet, range: Range) -> Option<u32>
     ensures { IsLeastOpen (asking question.now) subnet.now false range.first range.last result }
 {
-    if question.moment < question.rows.least_end() {
-        return None;
-    }
     let rows = question.rows;
-    for place in place_of(rows, range.first)..rows.len() {
-        let row = row_in(rows, place);
-        if row.address > range.last {
-            return None;
-        }
-        if is_expired(question, subnet, row) {
-            return Some(row.address);
+    let mut from = range.first;
+    while from <= range.last {
+        match rows.next_ended(from, range.last, question.moment) {
+            None => return None,
+            Some(row) => {
+                if fits(question, subnet, row.address) {
+                    return Some(row.address);
+                }
+                if row.address == range.last {
+                    return None;
+                }
+                from = row.address + 1;
+            }
         }
     }
     None
-}
-
-// A row has ended, and its address fits.
-fn is_expired(question: &Question<'_>, subnet: &Subnet, row: &Row) -> bool
-    ensures { result ≡ is_expired (asking question.now) subnet.now row.now }
-{
-    !is_live(question.moment, row) && fits(question, subnet, row.address)
 }

@@ -235,6 +235,60 @@ fn rows_set_in_mixed_order_stand_in_order(rt: HostRuntime) -> Result<(), Fail> {
     Ok(())
 }
 
+// The ends of a range, a moment, and the least address in the range whose row has ended by then.
+const ENDED: [(u32, u32, u64, Option<u32>); 10] = [
+    (0, 0xffff_ffff, 3, None),
+    (0, 0xffff_ffff, 4, Some(13)),
+    (0, 0xffff_ffff, 5, Some(0)),
+    (1, 20, 49, Some(13)),
+    (10, 12, 49, None),
+    (10, 12, 50, Some(11)),
+    (10, 12, 100, Some(10)),
+    (14, 0xffff_ffff, 60, Some(0xffff_ffff)),
+    (14, 0xffff_fffe, 60, None),
+    (13, 10, 100, None),
+];
+
+#[test]
+fn a_row_that_has_ended_is_found(rt: HostRuntime) -> Result<(), Fail> {
+    let mut rows = table(rt.alloc(), &LEASES)?;
+    for (first, last, moment, address) in ENDED {
+        assert!(rt; address_of(rows.next_ended(first, last, moment)) == address);
+    }
+    set(rt.alloc(), &mut rows, (13, b"", 9, 70))?;
+    assert!(rt; address_of(rows.next_ended(1, 20, 49)) == None);
+    assert!(rt; address_of(rows.next_ended(1, 20, 50)) == Some(11));
+    Ok(())
+}
+
+// The same, where each row is looked at.
+fn first_ended(rows: &Rows, first: u32, last: u32, moment: u64) -> Option<u32> {
+    for i in 0..rows.len() {
+        if let Some(row) = rows.at(i) {
+            if first <= row.address && row.address <= last && row.ends <= moment {
+                return Some(row.address);
+            }
+        }
+    }
+    None
+}
+
+#[test]
+fn a_row_that_has_ended_is_found_among_those_renewed(rt: HostRuntime) -> Result<(), Fail> {
+    let mut rows = thousand(rt.alloc())?;
+    for i in 0..300u32 {
+        let address = i * 347 % 1000;
+        let ends = u64::from(1000 + i * 59 % 1500);
+        set(rt.alloc(), &mut rows, (address, b"0", 6, ends))?;
+        let first = i * 211 % 1000;
+        let last = first + i % 400;
+        let moment = u64::from(1000 + i * 31 % 900);
+        let found = address_of(rows.next_ended(first, last, moment));
+        assert!(rt; found == first_ended(&rows, first, last, moment));
+    }
+    Ok(())
+}
+
 // Numbers, and the states that they stand for.
 const STATES: [(u8, Option<State>); 6] = [
     (0, None),
