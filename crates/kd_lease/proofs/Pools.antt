@@ -1,15 +1,13 @@
 -- The first open address in pool order: ranges are searched one after another.
-use Rattle.std.proofs.Common.{◌≡◌, ℕ, zero, suc, ◌+◌, ◌<◌, ◌≤◌, Bool, true, false, not, ◌&&◌, ◌||◌, ◌==◌, nat_lt, List, [], ◌∷◌, length, get_or, Option, Some, None, refl, sym, ◌∙◌, subst, arith, ⊎_elim, if◌then◌else◌}
-use Rattle.std.specs.List.{All, list_any}
+use Rattle.std.proofs.Common.{◌≡◌, ℕ, zero, suc, ◌+◌, ◌<◌, ◌≤◌, Bool, true, false, ◌&&◌, ◌||◌, ◌==◌, nat_lt, List, [], ◌∷◌, length, get_or, Some, None, refl, sym, ◌∙◌, subst, arith, ⊎_elim, if◌then◌else◌}
+use Rattle.std.specs.List.{list_any}
 use Rattle.std.proofs.lemmas.Bool.{cases_lt, false≢true}
 use Rattle.std.proofs.lemmas.Bool.Decides.{nat_tests}
 use Rattle.kd_config.specs.Apart.{has}
 use Rattle.kd_config.specs.declared.pool.Pool.{Pool}
 use Rattle.kd_config.specs.declared.range.Range.{Range}
 use Rattle.kd_config.specs.declared.subnet.Subnet.{Subnet}
-use Rattle.kd_rows.specs.Table.{row_at}
-use Rattle.kd_rows.specs.declared.row.Row.{Row}
-use Rattle.kd_lease.specs.Choice.{Asking, IsFirst, fits, has_rank, has_such, in_pools, is_before, is_earlier, is_live, pool_of}
+use Rattle.kd_lease.specs.Choice.{Asking, IsFirst, has_rank, in_pools, is_before, is_earlier, pool_of}
 use Rattle.kd_lease.specs.Seeking.{IsLeastOpen, IsRanked, is_open, pool_rank}
 
 -- no address is open from the first up to an end

@@ -7,7 +7,6 @@ use Rattle.kd_config.specs.declared.reservation.Identity.{Identity}
 use Rattle.kd_config.specs.declared.reservation.Identity.TheVariants.{Hardware, ClientId}
 use Rattle.kd_config.specs.declared.subnet.Subnet.{Subnet}
 use Rattle.kd_rows.specs.Table.{row_at}
-use Rattle.kd_rows.specs.declared.row.Row.{Row}
 use Rattle.kd_lease.specs.Choice.{Asking, IsFirst, Rank, fits, has_rank, has_such, is_live, is_newer, is_past, is_reserved_in, is_value}
 use Rattle.kd_lease.specs.Choice.Rank.{own, past, fresh, expired}
 use Rattle.kd_lease.specs.Rules.{is_offer, is_record}

@@ -1,5 +1,5 @@
 -- The bounds of blocks: what is true of them after one is set, and after a row is.
-use Rattle.std.proofs.Common.{◌≡◌, ℕ, ◌+◌, ◌-◌, ◌*◌, ◌/◌, ◌<◌, ◌≤◌, Bool, true, false, List, [], ◌∷◌, length, get_or, zero, suc, refl, sym, ap, ◌∙◌, subst, Option, Some, None, IsSome, is_some, option_map, arith, ⊎_elim, ◌⊎◌, inl, inr, if◌then◌else◌, ◌==◌, ◌||◌, nat_lt, min}
+use Rattle.std.proofs.Common.{◌≡◌, ℕ, ◌+◌, ◌-◌, ◌*◌, ◌<◌, ◌≤◌, Bool, true, false, List, [], ◌∷◌, length, get_or, suc, refl, sym, ap, ◌∙◌, subst, Option, Some, None, IsSome, is_some, option_map, arith, ⊎_elim, ◌⊎◌, inl, inr, if◌then◌else◌, ◌==◌, ◌||◌, nat_lt, min}
 use Rattle.std.specs.List.{All}
 use Rattle.std.proofs.lemmas.Bool.{cases_eq, cases_lt, eq-eqb, eqb-true, ne_eqb}
 use Rattle.std.proofs.lemmas.Bool.Decides.{nat_tests}
@@ -8,7 +8,7 @@ use Rattle.std.proofs.lemmas.Option.{same_Some}
 use Rattle.kd_rows.specs.declared.row.Row.{Row}
 use Rattle.kd_rows.specs.Index.{IsBound, IsBounded, IsLower, IsNow, IsPlace, block_of, end_at}
 use Rattle.kd_rows.specs.Table.{Rise, row_at, with_row}
-use Rattle.kd_rows.proofs.Places.{apart, none_at, read_at, same_at}
+use Rattle.kd_rows.proofs.Places.{apart, read_at}
 use Rattle.kd_rows.proofs.Sets.{all-with_row, rise-with_row, row_at-with_row}
 
 -- what is true of each row is true of that of an address, which stands there

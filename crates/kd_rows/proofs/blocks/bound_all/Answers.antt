@@ -1,6 +1,6 @@
-use Rattle.std.proofs.Common.{◌≡◌, ◌+◌, ap, arith, sym, subst, ◌∙◌}
+use Rattle.std.proofs.Common.{◌+◌, ap, arith, sym, subst, ◌∙◌}
 use Rattle.kd_rows.specs.declared.row.Row.{Row}
-use Rattle.kd_rows.specs.Index.{Bounds, IsBound, block_of, bound_row}
+use Rattle.kd_rows.specs.Index.{Bounds, IsBound, bound_row}
 use Rattle.kd_rows.specs.Table.{with_row}
 use Rattle.kd_rows.proofs.Bounds.{BoundedTo, bounded_all, bounded_first, bounded_more, bounded_same}
 use Rattle.kd_rows.proofs.blocks.bound_all.Goals as goal
@@ -14,13 +14,13 @@ loop-place-preserved c =
     let rows = c.args.rows.now.rows in
     let place = c.loop-place.place in
     elim c.if-place-eq0.branch [
-      then-place-eq0+in_ok-reserve w ↦
-        (let bound : Row = bound_row (record { block = w.block_of-then-place-eq0.result; least = w.least_beside.result }) in
-        let this = subst (λ block. IsBound rows block w.least_beside.result) (sym w.block_of-then-place-eq0.ensures) w.least_beside.ensures in
-        let more = bounded_more rows c.loop-place.blocks.rows place c.row.result.now bound (omega arith) c.row.ensures w.block_of-then-place-eq0.ensures this c.loop-place.invariant in
-        subst (λ (blocks : Bounds). BoundedTo rows blocks.rows (place + 1)) (sym w.blocks-is) (subst (λ bounds. BoundedTo rows bounds (place + 1)) (sym (w.set.ensures.rows ∙ ap (with_row bound) w.reserve.ensures.rows)) more))
+      | then-place-eq0+in_ok-reserve w ↦
+          (let bound : Row = bound_row (record { block = w.block_of-then-place-eq0.result; least = w.least_beside.result }) in
+          let this = subst (λ block. IsBound rows block w.least_beside.result) (sym w.block_of-then-place-eq0.ensures) w.least_beside.ensures in
+          let more = bounded_more rows c.loop-place.blocks.rows place c.row.result.now bound (omega arith) c.row.ensures w.block_of-then-place-eq0.ensures this c.loop-place.invariant in
+          subst (λ (blocks : Bounds). BoundedTo rows blocks.rows (place + 1)) (sym w.blocks-is) (subst (λ bounds. BoundedTo rows bounds (place + 1)) (sym (w.set.ensures.rows ∙ ap (with_row bound) w.reserve.ensures.rows)) more))
       | else-place-eq0+else-block_of w ↦ subst (λ (blocks : Bounds). BoundedTo rows blocks.rows (place + 1)) (sym w.blocks-is)
-        (bounded_same rows c.loop-place.blocks.rows place c.row.result.now w.row-else-place-eq0.result.now (omega (arith, w.if-place-eq0.false)) (omega arith) c.row.ensures w.row-else-place-eq0.ensures (sym w.block_of.ensures ∙ w.if-block_of.false ∙ w.block_of-else-place-eq0.ensures) c.loop-place.invariant)
+          (bounded_same rows c.loop-place.blocks.rows place c.row.result.now w.row-else-place-eq0.result.now (omega (arith, w.if-place-eq0.false)) (omega arith) c.row.ensures w.row-else-place-eq0.ensures (sym w.block_of.ensures ∙ w.if-block_of.false ∙ w.block_of-else-place-eq0.ensures) c.loop-place.invariant)
     ]
 
 pub returns : goal.returns

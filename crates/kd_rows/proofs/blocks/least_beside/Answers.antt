@@ -1,4 +1,4 @@
-use Rattle.std.proofs.Common.{◌≡◌, ◌*◌, ◌<◌, arith, subst}
+use Rattle.std.proofs.Common.{◌*◌, arith, subst}
 use Rattle.kd_rows.specs.Index.{IsPlace, block_of}
 use Rattle.kd_rows.proofs.Bounds.{least_all, least_first, least_step, least_to}
 use Rattle.kd_rows.proofs.blocks.least_beside.Goals as goal

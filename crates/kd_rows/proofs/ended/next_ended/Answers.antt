@@ -1,5 +1,5 @@
-use Rattle.std.proofs.Common.{◌≡◌, ◌<◌, length, arith, subst}
-use Rattle.kd_rows.specs.Index.{IsPlace, block_of, bound_row}
+use Rattle.std.proofs.Common.{◌<◌, length, arith, subst}
+use Rattle.kd_rows.specs.Index.{IsPlace, bound_row}
 use Rattle.kd_rows.proofs.Walks.{block_found, block_live, block_none, blocks_first, blocks_over, blocks_past, blocks_step}
 use Rattle.kd_rows.proofs.ended.next_ended.Goals as goal
 use Rattle.kd_rows.proofs.ended.next_ended.Goals.{then-bound-moment+in-None, else-bound-moment}
@@ -22,7 +22,7 @@ loop-place-preserved c =
     let within : c.loop-place.place < length bounds = omega arith in
     blocks_step rows bounds c.args.first c.args.last c.args.moment c.loop-place.place bound c.requires.bounded within c.at-bound.ensures
     (elim c.if-bound-moment.branch [
-      then-bound-moment+in-None w ↦ block_none rows c.args.first c.args.last w.max-from.result w.min-to.result c.args.moment bound.address (omega (arith, w.max-from.ensures)) (omega (arith, w.min-to.ensures)) w.in-None.ensures
+      | then-bound-moment+in-None w ↦ block_none rows c.args.first c.args.last w.max-from.result w.min-to.result c.args.moment bound.address (omega (arith, w.max-from.ensures)) (omega (arith, w.min-to.ensures)) w.in-None.ensures
       | else-bound-moment w ↦ block_live rows bounds c.args.first c.args.last c.args.moment c.loop-place.place bound c.requires.bounded within c.at-bound.ensures (omega (arith, w.if-bound-moment.false))
     ])
     c.loop-place.invariant

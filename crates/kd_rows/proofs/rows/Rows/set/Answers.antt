@@ -36,6 +36,6 @@ invariant_of-self c =
       indexed = c.put_row.ensures.indexed;
       bounded = subst (λ (rows : List Row). IsBounded rows c.set.new.self.rows) e (subst (IsBounded (with_row c.args.row old)) (sym c.set.ensures.rows) (bounded_set old bounds c.args.row bound c.self.invariant.bounded block is));
       enough = enough_after old bounds c.args.row c.self.inside.room c.self.inside.rows.room c.self.inside.blocks.room c.room_after-self-inside.result c.put_row.new.rows.room c.set.new.self.room c.self.invariant.bounded c.self.invariant.enough
-      (c.room_after-self-inside.ensures ∙ ap (λ (b : Bool). c.self.inside.room - (if b then 0 else 1)) (ap is_some c.ends_at-replaced.ensures ∙ some_end old c.args.row.address)) c.put_row.ensures.room
-      (subst (λ (n : ℕ). c.set.new.self.room + (if is_some (row_at bounds n) then 0 else 1) ≡ c.self.inside.blocks.room) block c.set.ensures.room);
+          (c.room_after-self-inside.ensures ∙ ap (λ (b : Bool). c.self.inside.room - (if b then 0 else 1)) (ap is_some c.ends_at-replaced.ensures ∙ some_end old c.args.row.address)) c.put_row.ensures.room
+          (subst (λ (n : ℕ). c.set.new.self.room + (if is_some (row_at bounds n) then 0 else 1) ≡ c.self.inside.blocks.room) block c.set.ensures.room);
     }
