@@ -1,7 +1,7 @@
 -- The tokens of a class test, by recursion on its tree: operands from left to right, then the node's own
 -- token; the four bytes behind a number where a byte string is wanted; `and`, `or` and `ifelse` by branches
--- over what they may skip. Proofs tie them to the expression's value and measures; no public contract cites
--- them.
+-- over what they may skip. A compiled program is this one; proofs tie it to the expression's value and
+-- measures.
 use Rattle.std.specs.Prelude.{ℕ, suc, ◌+◌, if◌then◌else◌, List, [], ◌∷◌, ◌++◌}
 use Rattle.kd_expr.specs.Tree.{Tree, Literal, Int, OptionValue, RelayValue, FieldValue, OptionExists, RelayExists, Member, Equal, Not, And, Or, Group, Concat, IfElse, Substring, HexString, Lower, Upper, IntToText}
 use Rattle.kd_expr.specs.declared.node.Field.{Field}

@@ -30,6 +30,7 @@ pub fn compile(alloc: Global, typed: &Typed) -> Result<Verified, CompileFault>
     ensures measured { IfOk result (λ v. HasMeasures (tree_of typed.now) v) }
     ensures accepted { IfOk result (λ v. Accepts v) }
     ensures keeps { IfOk result (λ v. Keeps (tree_of typed.now) v) }
+    ensures exact { IfOk result (λ v. v ≡ program_for (tree_of typed.now)) }
     ensures refused { MatchResult result (λ _. first_over (tree_of typed.now) ≡ None) (λ fault. (fault ≡ Memory) ⊎ (first_over (tree_of typed.now) ≡ Some fault)) }
 {
     let tree = typed.tree();

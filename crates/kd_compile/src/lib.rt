@@ -2,11 +2,12 @@
 //! Reference Manual, chapter Client Classification, and our own token format).
 //!
 //! What this layer promises to the one above: `compile` answers a program that the verifier has accepted,
-//! with the measures of the expression (`specs/Measures.antt`), whose run over every message and every list
-//! of held names ends with the expression's value (`specs/Value.antt`); or the first limit that these
-//! measures are over (`specs/Compiled.antt`).
+//! token for token that of the expression's tree (`specs/Tokens.antt`), with its measures
+//! (`specs/Measures.antt`), whose run over every message and every list of held names ends with the
+//! expression's value (`specs/Value.antt`); or the first limit that these measures are over
+//! (`specs/Compiled.antt`).
 //!
-//! `specs/Tokens.antt` has the tokens of a tree, and `proofs/` ties them to its value and its measures.
+//! `proofs/` ties the tokens of a tree to its value and its measures.
 #![tactic(auto)]
 
 mod compiler;

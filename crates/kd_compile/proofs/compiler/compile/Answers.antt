@@ -37,6 +37,11 @@ returns-in-Ok-clause-keeps c =
     let kept = keeps_in_limits (tree_of c.args.typed.now) c.tree-tree.ensures.text c.tree-tree.ensures.typed within in
     subst (Keeps (tree_of c.args.typed.now)) (sym is) kept
 
+pub returns-in-Ok-clause-exact : goal.returns-in-Ok-clause-exact
+returns-in-Ok-clause-exact c =
+    let is = c.in-Ok.ensures.accepted ∙ c.in_ok-program.ensures.program in
+    is ∙ ap (λ n. program_for (tree_of n)) c.tree-tree.ensures.same
+
 pub unreachable-requires : goal.unreachable-requires
 unreachable-requires c =
     let same = ap tree_of c.tree-tree.ensures.same in
