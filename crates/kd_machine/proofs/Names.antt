@@ -1,7 +1,7 @@
 -- Names of a set of vectors, as byte strings.
 use Rattle.std.proofs.Common.{◌≡◌, Bool, false, List, [], ◌∷◌, ◌++◌, map, refl, sym, ap, ◌∙◌}
 use Rattle.std.specs.Prelude.{if◌then◌else◌, ◌||◌}
-use Rattle.std.specs.List.{list_any}
+use Rattle.std.specs.List.{AllByRecursion, IsDistinct, list_any}
 use Rattle.indexmap.specs.IndexSet.{insert_key}
 
 -- what passes among images passes among what they are of
@@ -23,3 +23,13 @@ inserted {A = A} f eq test keys more k name agree is insert none =
       each : (xs : List A) → list_any (eq k) xs ≡ list_any (λ x. test (f x)) xs
       each [] = refl
       each (x ∷ xs) = ap (λ b. b || list_any (eq k) xs) (agree x) ∙ ap (λ b. test (f x) || b) (each xs)
+
+apart_map : {A B : Type 0} (f : A → B) (eq : B → B → Bool) (x : A) (xs : List A) → AllByRecursion (λ y. eq (f x) (f y) ≡ false) xs → AllByRecursion (λ y. eq (f x) y ≡ false) (map f xs)
+apart_map f eq x [] apart = tt
+apart_map f eq x (y ∷ xs) apart = (apart.0, apart_map f eq x xs apart.1)
+
+-- the images of elements that differ by them differ
+pub distinct_images : {A B : Type 0} (f : A → B) (eq : B → B → Bool) (xs : List A) → IsDistinct (λ x y. eq (f x) (f y)) xs → IsDistinct eq (map f xs)
+unfolding IsDistinct
+distinct_images f eq [] apart = tt
+distinct_images f eq (x ∷ xs) apart = (apart_map f eq x xs apart.0, distinct_images f eq xs apart.1)

@@ -1,6 +1,7 @@
 ghost use Rattle.std.specs.Prelude.{◌≡◌, IfOk, OnErr, OnOk, option_copied, slice_get};
+ghost use Rattle.std.specs.List.{IsDistinct};
 ghost use Rattle.kd_machine.specs.Held.{base_names, with_name};
-ghost use Rattle.kd_machine.specs.World.{is_held};
+ghost use Rattle.kd_machine.specs.World.{is_held, same};
 ghost use Rattle.kd_options.specs.Joined.{value_of};
 
 use indexmap::IndexSet;
@@ -17,10 +18,14 @@ pub struct Held {
 
 impl Model for Held {
     ghost use Rattle.std.specs.Prelude.{ℕ, List, map};
+    ghost use Rattle.std.specs.List.{IsDistinct};
+    ghost use Rattle.kd_machine.specs.World.{same};
 
     ghost Value = { List (List ℕ) };
 
     ghost view = { λ h. map (λ v. v.items) h.names.keys };
+
+    ghost invariant = { λ h. IsDistinct same (map (λ v. v.items) h.names.keys) };
 }
 
 impl Held {
@@ -71,7 +76,8 @@ impl Held {
 
     /// The name at an index, in the order in which they joined.
     pub fn name_at(&self, index: usize) -> Option<&[u8]>
-        ensures { option_copied result ≡ slice_get self.now index }
+        ensures at { option_copied result ≡ slice_get self.now index }
+        ensures distinct { IsDistinct same self.now }
     {
         match self.names.get_index(index) {
             Some(name) => Some(name.as_slice()),

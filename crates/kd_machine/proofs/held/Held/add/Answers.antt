@@ -1,8 +1,11 @@
 use Rattle.std.proofs.Common.{sym, ap, ◌∙◌}
 use Rattle.std.specs.List.{list_any}
 use Rattle.kd_machine.specs.World.{same}
-use Rattle.kd_machine.proofs.Names.{inserted}
+use Rattle.kd_machine.proofs.Names.{distinct_images, inserted}
 use Rattle.kd_machine.proofs.held.Held.add.Goals as goal
+
+pub invariant_of-self : goal.invariant_of-self
+invariant_of-self c = distinct_images (λ v. v.items) same c.insert.new.self.keys c.insert.ensures.unique
 
 pub returns-in_ok-insert-clause-added : goal.returns-in_ok-insert-clause-added
 returns-in_ok-insert-clause-added c =
