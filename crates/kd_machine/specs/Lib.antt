@@ -4,3 +4,4 @@ pub mod World
 pub mod Run
 pub mod Held
 pub mod Fits
+pub mod Faults

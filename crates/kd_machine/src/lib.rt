@@ -13,6 +13,7 @@
 
 mod bounds;
 mod cells;
+mod fault;
 mod held;
 pub mod laws;
 mod run;
@@ -22,5 +23,6 @@ mod text;
 mod texts;
 mod value;
 
+pub use fault::EvalFault;
 pub use held::Held;
 pub use run::{Outcome, eval};

@@ -3,6 +3,7 @@ ghost use Rattle.std.specs.List.{AllByRecursion};
 ghost use Rattle.kd_machine.specs.Run.{EndsAs, IsFree, Run, agrees, moves};
 ghost use Rattle.kd_machine.specs.World.{world};
 
+use crate::fault::EvalFault;
 use crate::held::Held;
 use crate::stack::Stack;
 use crate::step::step;
@@ -29,13 +30,13 @@ pub struct Outcome {
 ///
 /// # Errors
 ///
-/// There is no memory for such a value.
+/// `Memory`: there is none for such a value.
 pub fn eval<'a>(
     alloc: Global,
     verified: &'a Verified,
     message: &'a Message<'_>,
     held: &Held,
-) -> Result<Outcome, AllocError>
+) -> Result<Outcome, EvalFault>
     ensures run { IfOk result (λ o. Run verified.now message.now held.now o.value o.steps o.peak_depth o.peak_length) }
     ensures steps { IfOk result (λ o. o.steps ≤ verified.now.steps) }
     ensures depth { IfOk result (λ o. o.peak_depth ≤ verified.now.depth) }
@@ -60,7 +61,7 @@ fn shallow<'a>(
     verified: &'a Verified,
     message: &'a Message<'_>,
     held: &Held,
-) -> Result<Outcome, AllocError>
+) -> Result<Outcome, EvalFault>
     requires { verified.now.depth ≤ 4 }
     ensures run { IfOk result (λ o. EndsAs verified.now message.now held.now o.value o.steps o.peak_depth o.peak_length) }
     ensures free { AllByRecursion IsFree verified.now.tokens → IsOk result }
@@ -76,7 +77,7 @@ fn deep<'a>(
     verified: &'a Verified,
     message: &'a Message<'_>,
     held: &Held,
-) -> Result<Outcome, AllocError>
+) -> Result<Outcome, EvalFault>
     requires { verified.now.depth ≤ 16 }
     ensures run { IfOk result (λ o. EndsAs verified.now message.now held.now o.value o.steps o.peak_depth o.peak_length) }
     ensures free { AllByRecursion IsFree verified.now.tokens → IsOk result }
@@ -92,7 +93,7 @@ fn deepest<'a>(
     verified: &'a Verified,
     message: &'a Message<'_>,
     held: &Held,
-) -> Result<Outcome, AllocError>
+) -> Result<Outcome, EvalFault>
     requires { verified.now.depth ≤ 64 }
     ensures run { IfOk result (λ o. EndsAs verified.now message.now held.now o.value o.steps o.peak_depth o.peak_length) }
     ensures free { AllByRecursion IsFree verified.now.tokens → IsOk result }
@@ -108,7 +109,7 @@ fn within<'a, const ROOM: usize>(
     verified: &'a Verified,
     message: &'a Message<'_>,
     held: &Held,
-) -> Result<Outcome, AllocError>
+) -> Result<Outcome, EvalFault>
     requires empty { stack.old ≡ [] }
     requires room { verified.now.depth ≤ ROOM }
     ensures run { IfOk result (λ o. EndsAs verified.now message.now held.now o.value o.steps o.peak_depth o.peak_length) }

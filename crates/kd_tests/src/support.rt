@@ -3,6 +3,7 @@ use kd_compile::CompileFault;
 use kd_config::Config;
 use kd_event::Ports;
 use kd_expr::ExprFault;
+use kd_machine::EvalFault;
 use kd_options::ReadFault;
 use kd_server::Server;
 use kd_table_tests::Fused;
@@ -47,6 +48,14 @@ impl From<VerifyFault> for Fault {
         match fault {
             VerifyFault::Memory => Fault::Memory,
             _ => Fault::Other,
+        }
+    }
+}
+
+impl From<EvalFault> for Fault {
+    fn from(fault: EvalFault) -> Fault {
+        match fault {
+            EvalFault::Memory => Fault::Memory,
         }
     }
 }
