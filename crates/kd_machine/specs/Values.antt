@@ -1,5 +1,5 @@
 -- The values on a machine's stack, the top first, and what is taken from them.
-use Rattle.std.specs.Prelude.{ℕ, max, Bool, false, List, [], ◌∷◌, length, Option, Some, None}
+use Rattle.std.specs.Prelude.{ℕ, max, Bool, List, [], ◌∷◌, length, Option, Some, None}
 use Rattle.kd_machine.specs.declared.value.Value.{Value}
 use Rattle.kd_machine.specs.declared.value.Value.TheVariants as values
 
@@ -17,7 +17,6 @@ IsText (Text bytes) = Unit {0}
 
 -- what a value of the code stands for
 abbrev pub value_of : Value → Val
-value_of values.Nothing = Truth false
 value_of (values.Bool b) = Truth b
 value_of (values.Int n) = Number n
 value_of (values.Slice bytes) = Text bytes.now

@@ -12,7 +12,6 @@
 #![tactic(auto)]
 
 mod bounds;
-mod cells;
 mod fault;
 mod held;
 pub mod laws;

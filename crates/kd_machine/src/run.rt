@@ -47,59 +47,10 @@ pub fn eval<'a>(
     // what the bounds of a program are comes with its tokens
     let _tokens = program.tokens();
     match program.depth() {
-        0..=4 => shallow(alloc, verified, message, held),
-        5..=16 => deep(alloc, verified, message, held),
-        _ => deepest(alloc, verified, message, held),
+        0..=4 => within(alloc, &mut Stack::<4>::new(), verified, message, held),
+        5..=16 => within(alloc, &mut Stack::<16>::new(), verified, message, held),
+        _ => within(alloc, &mut Stack::<64>::new(), verified, message, held),
     }
-}
-
-// The run of a program of at most 4 values. Each stack has a function of its own, so that a run fills no
-// larger one.
-#[inline(never)]
-fn shallow<'a>(
-    alloc: Global,
-    verified: &'a Verified,
-    message: &'a Message<'_>,
-    held: &Held,
-) -> Result<Outcome, EvalFault>
-    requires { verified.now.depth ≤ 4 }
-    ensures run { IfOk result (λ o. EndsAs verified.now message.now held.now o.value o.steps o.peak_depth o.peak_length) }
-    ensures free { AllByRecursion IsFree verified.now.tokens → IsOk result }
-{
-    let mut stack = Stack::<4>::new();
-    within(alloc, &mut stack, verified, message, held)
-}
-
-// The run of a program of at most 16 values.
-#[inline(never)]
-fn deep<'a>(
-    alloc: Global,
-    verified: &'a Verified,
-    message: &'a Message<'_>,
-    held: &Held,
-) -> Result<Outcome, EvalFault>
-    requires { verified.now.depth ≤ 16 }
-    ensures run { IfOk result (λ o. EndsAs verified.now message.now held.now o.value o.steps o.peak_depth o.peak_length) }
-    ensures free { AllByRecursion IsFree verified.now.tokens → IsOk result }
-{
-    let mut stack = Stack::<16>::new();
-    within(alloc, &mut stack, verified, message, held)
-}
-
-// The run of a program of at most 64 values, which every program is.
-#[inline(never)]
-fn deepest<'a>(
-    alloc: Global,
-    verified: &'a Verified,
-    message: &'a Message<'_>,
-    held: &Held,
-) -> Result<Outcome, EvalFault>
-    requires { verified.now.depth ≤ 64 }
-    ensures run { IfOk result (λ o. EndsAs verified.now message.now held.now o.value o.steps o.peak_depth o.peak_length) }
-    ensures free { AllByRecursion IsFree verified.now.tokens → IsOk result }
-{
-    let mut stack = Stack::<64>::new();
-    within(alloc, &mut stack, verified, message, held)
 }
 
 // The run of a program on an empty stack with room for its declared depth.

@@ -1,14 +1,14 @@
 ghost use Rattle.std.specs.Prelude.{◌≡◌, ◌<◌, ◌∷◌, [], IsSome, IsSomeAnd, MatchOption, Some, length, map, reverse};
 ghost use Rattle.kd_machine.specs.Values.{Text, take_number, take_text, take_truth, top_size, value_of};
 
-use crate::cells::Cells;
 use crate::value::Value;
+use arrayvec::ArrayVec;
 use std::marker::Model;
 
 // The values of a run, the top last.
 #[derive(Drop)]
 pub(crate) struct Stack<'a, const ROOM: usize> {
-    values: Cells<Value<'a>, ROOM>,
+    values: ArrayVec<Value<'a>, ROOM>,
 }
 
 impl<'a, const ROOM: usize> Model for Stack<'a, ROOM> {
@@ -17,7 +17,7 @@ impl<'a, const ROOM: usize> Model for Stack<'a, ROOM> {
 
     ghost Value = { List Val };
 
-    ghost view = { λ s. map value_of (reverse s.values) };
+    ghost view = { λ s. map value_of (reverse s.values.items) };
 }
 
 impl<'a, const ROOM: usize> Stack<'a, ROOM> {
@@ -26,7 +26,7 @@ impl<'a, const ROOM: usize> Stack<'a, ROOM> {
         ensures { result ≡ [] }
     {
         Stack {
-            values: Cells::new(),
+            values: ArrayVec::new(),
         }
     }
 
@@ -86,7 +86,7 @@ impl<'a, const ROOM: usize> Stack<'a, ROOM> {
         requires { IsSome (take_text self.old) }
         ensures { MatchOption (take_text self.old) ⊥ (λ r. self.new ≡ r.1) }
     {
-        self.values.drop_last();
+        self.values.pop();
     }
 
     // The byte string on top is taken.
@@ -95,7 +95,10 @@ impl<'a, const ROOM: usize> Stack<'a, ROOM> {
         requires { IsSome (take_text self.old) }
         ensures { MatchOption (take_text self.old) ⊥ (λ r. (value_of result ≡ Text r.0) × (self.new ≡ r.1)) }
     {
-        self.values.pop()
+        match self.values.pop() {
+            Some(value) => value,
+            None => unreachable!(),
+        }
     }
 
     // The truth value on top is taken.
@@ -104,13 +107,10 @@ impl<'a, const ROOM: usize> Stack<'a, ROOM> {
         requires { IsSome (take_truth self.old) }
         ensures { take_truth self.old ≡ Some (result, self.new) }
     {
-        let truth = match self.values.as_slice().last() {
-            Some(Value::Bool(b)) => *b,
-            Some(Value::Nothing) => false,
+        match self.values.pop() {
+            Some(Value::Bool(truth)) => truth,
             _ => unreachable!(),
-        };
-        self.values.drop_last();
-        truth
+        }
     }
 
     // The number on top is taken.
@@ -119,11 +119,9 @@ impl<'a, const ROOM: usize> Stack<'a, ROOM> {
         requires { IsSome (take_number self.old) }
         ensures { take_number self.old ≡ Some (result, self.new) }
     {
-        let number = match self.values.as_slice().last() {
-            Some(Value::Int(n)) => *n,
+        match self.values.pop() {
+            Some(Value::Int(number)) => number,
             _ => unreachable!(),
-        };
-        self.values.drop_last();
-        number
+        }
     }
 }

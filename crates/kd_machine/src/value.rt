@@ -6,15 +6,20 @@ use std::marker::Model;
 
 // A value on the stack, of three words. A byte string is a part of the message or of the program, four bytes
 // held in place, or bytes of its own behind a pointer.
-#[derive(Drop, Default)]
+#[derive(Drop)]
 pub(crate) enum Value<'a> {
-    #[default]
-    Nothing,
     Bool(bool),
     Int(u32),
     Slice(&'a [u8]),
     Small(Small),
     Owned(Box<Owned>),
+}
+
+// What the unused places of a stack hold.
+impl<'a> Default for Value<'a> {
+    fn default() -> Value<'a> {
+        Value::Bool(false)
+    }
 }
 
 impl<'a> Value<'a> {
