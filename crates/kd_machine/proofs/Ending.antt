@@ -1,5 +1,6 @@
 -- A run goes on from place to place and ends, within what the program declares.
 use Rattle.std.proofs.Common.{◌≡◌, ℕ, zero, suc, ◌+◌, ◌<◌, ◌≤◌, max, Bool, true, false, List, [], ◌∷◌, drop, length, get_or, Option, Some, None, refl, sym, subst, arith, inl, inr}
+use Rattle.std.specs.Bool.{beq}
 use Rattle.std.specs.Prelude.{◌⊎◌, if◌then◌else◌, slice_get, MatchOption}
 use Rattle.std.proofs.lemmas.Option.{slice_get_cases}
 use Rattle.kd_options.specs.Message.{Seen, IsMessage}
@@ -11,7 +12,7 @@ use Rattle.kd_token.specs.declared.way.Way.{Way}
 use Rattle.kd_token.specs.declared.way.Way.TheVariants as routes
 use Rattle.kd_machine.specs.Values.{Val, Truth, take_truth, longest, top_size}
 use Rattle.kd_machine.specs.World.{World, world}
-use Rattle.kd_machine.specs.Run.{rule, agrees, moves_by, moves, Segment, Run, EndsWithin}
+use Rattle.kd_machine.specs.Run.{rule, moves_by, moves, Segment, Run, EndsWithin}
 use Rattle.kd_machine.specs.Fits.{Stands, IsRunning}
 use Rattle.kd_machine.proofs.Rests.{moves_rest}
 use Rattle.kd_machine.proofs.Standing.{stands_first, stands_moves, stands_end}
@@ -32,9 +33,9 @@ forward_by (routes.Fork skip) w token i s = two (take_truth s) where
   two (Some (true, t)) = omega arith
   two (Some (false, t)) = omega arith
 forward_by (routes.Keep stays skip) w token i s = two (take_truth s) where
-  two : (o : Option (Bool × List Val)) → IsForward i (o >>= λ b. Some (if agrees stays b.0 then (i + 1 + skip, Truth b.0 ∷ b.1) else (i + 1, b.1)))
+  two : (o : Option (Bool × List Val)) → IsForward i (o >>= λ b. Some (if beq stays b.0 then (i + 1 + skip, Truth b.0 ∷ b.1) else (i + 1, b.1)))
   two None = tt
-  two (Some (b, t)) = by (agrees stays b) where
+  two (Some (b, t)) = by (beq stays b) where
     by : (same : Bool) → IsForward i (Some (if same then (i + 1 + skip, Truth b ∷ t) else (i + 1, t)))
     by true = omega arith
     by false = omega arith

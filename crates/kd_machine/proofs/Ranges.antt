@@ -2,7 +2,7 @@
 use Rattle.std.proofs.Common.{◌≡◌, ℕ, zero, suc, ◌+◌, ◌-◌, ◌≤◌, List, [], ◌∷◌, length, take, drop, slice_range, refl, sym, ap, ◌∙◌, arith}
 use Rattle.std.proofs.lemmas.List.{length-take}
 
-pub take_less : {A : Type 0} (xs : List A) (n k : ℕ) → k ≤ n → take k (take n xs) ≡ take k xs
+take_less : {A : Type 0} (xs : List A) (n k : ℕ) → k ≤ n → take k (take n xs) ≡ take k xs
 take_less xs n zero le = refl
 take_less [] zero (suc k) le = refl
 take_less [] (suc n) (suc k) le = refl

@@ -1,5 +1,6 @@
 -- Below the top a step leaves no value that is longer than before.
 use Rattle.std.proofs.Common.{ℕ, ◌+◌, ◌≤◌, Bool, true, false, List, [], ◌∷◌, drop, Option, Some, None, arith}
+use Rattle.std.specs.Bool.{beq}
 use Rattle.std.specs.Prelude.{if◌then◌else◌, slice_get, MatchOption}
 use Rattle.kd_token.specs.Accepts.{way_of}
 use Rattle.kd_token.specs.Reading.{◌>>=◌}
@@ -10,7 +11,7 @@ use Rattle.kd_token.specs.declared.way.Way.{Way}
 use Rattle.kd_token.specs.declared.way.Way.TheVariants as routes
 use Rattle.kd_machine.specs.Values.{Val, Truth, Number, Text, take_text, take_truth, take_number, longest}
 use Rattle.kd_machine.specs.World.{World, is_held}
-use Rattle.kd_machine.specs.Run.{rule, agrees, moves_by, moves}
+use Rattle.kd_machine.specs.Run.{rule, moves_by, moves}
 
 -- what is below a value that is taken
 abbrev Rest : {A : Type 0} → ℕ → A × List Val → Type 0
@@ -41,10 +42,6 @@ Below most t = longest (drop 1 t) ≤ most
 below_rest : (most : ℕ) (s : List Val) → longest s ≤ most → Below most s
 below_rest most [] le = omega arith
 below_rest most (v ∷ s) le = omega (arith, le)
-
-truth_below : (most : ℕ) (o : Option (Bool × List Val)) → Keeps (Rest most) o → Keeps (Below most) (o >>= λ b. Some b.1)
-truth_below most None k = tt
-truth_below most (Some b) k = below_rest most b.1 k
 
 rule_rest : (most : ℕ) (w : World) (token : Token) (s : List Val) → longest s ≤ most → Keeps (Below most) (rule w token s)
 unfolding rule
@@ -78,10 +75,10 @@ rule_rest most w tokens.Lower s le = bind_keeps (Rest most) (Below most) _ _ (te
 rule_rest most w tokens.Upper s le = bind_keeps (Rest most) (Below most) _ _ (text_rest most s le) (λ x k. k)
 rule_rest most w tokens.IntToText s le = bind_keeps (Rest most) (Below most) _ _ (number_rest most s le) (λ x k. k)
 rule_rest most w tokens.IntBytes s le = bind_keeps (Rest most) (Below most) _ _ (number_rest most s le) (λ x k. k)
-rule_rest most w (tokens.Branch skip) s le = below_rest most s le
-rule_rest most w (tokens.PopBranchFalse skip) s le = truth_below most (take_truth s) (truth_rest most s le)
-rule_rest most w (tokens.BranchFalseElsePop skip) s le = truth_below most (take_truth s) (truth_rest most s le)
-rule_rest most w (tokens.BranchTrueElsePop skip) s le = truth_below most (take_truth s) (truth_rest most s le)
+rule_rest most w (tokens.Branch skip) s le = tt
+rule_rest most w (tokens.PopBranchFalse skip) s le = tt
+rule_rest most w (tokens.BranchFalseElsePop skip) s le = tt
+rule_rest most w (tokens.BranchTrueElsePop skip) s le = tt
 
 -- what a step leaves below the top
 abbrev MovedBelow : ℕ → Option (ℕ × List Val) → Type 0
@@ -98,9 +95,9 @@ rest_by (routes.Fork skip) most w token i s le = two (take_truth s) (truth_rest 
   two None k = tt
   two (Some b) k = below_rest most b.1 k
 rest_by (routes.Keep stays skip) most w token i s le = two (take_truth s) (truth_rest most s le) where
-  two : (o : Option (Bool × List Val)) → Keeps (Rest most) o → MovedBelow most (o >>= λ b. Some (if agrees stays b.0 then (i + 1 + skip, Truth b.0 ∷ b.1) else (i + 1, b.1)))
+  two : (o : Option (Bool × List Val)) → Keeps (Rest most) o → MovedBelow most (o >>= λ b. Some (if beq stays b.0 then (i + 1 + skip, Truth b.0 ∷ b.1) else (i + 1, b.1)))
   two None k = tt
-  two (Some (b, t)) k = by (agrees stays b) where
+  two (Some (b, t)) k = by (beq stays b) where
     by : (same : Bool) → MovedBelow most (Some (if same then (i + 1 + skip, Truth b ∷ t) else (i + 1, t)))
     by true = k
     by false = below_rest most t k

@@ -147,13 +147,6 @@ choice_short true x y n m le less = omega (arith, le)
 choice_short false x y n m le less = omega (arith, less)
 
 -- a truth value that is taken leaves what the shape has below it
-last : (r : List Kind) (s : List Val) → Fits r s → Down Fits (take_bool r) (take_truth s >>= λ b. Some b.1)
-last r s f = by (take_bool r) (take_truth s) (truth_fits r s f) where
-  by : (o : Option (List Kind)) (u : Option (Bool × List Val)) → Down TruthFits o u → Down Fits o (u >>= λ b. Some b.1)
-  by None u d = tt
-  by (Some x) None d = d
-  by (Some x) (Some y) d = d
-
 -- what a token gives to values fits what it gives to a shape that they fit
 pub rule_fits : (w : World) (version : Version) (behind : ℕ) (token : Token) (r : List Kind) (s : List Val) → IsMessage w.message → IsToken version behind token → Fits r s → Down Fits (gives (length w.names) token r) (rule w token s)
 unfolding gives rule
@@ -188,7 +181,7 @@ rule_fits w version behind tokens.Upper r s is token f =
 rule_fits w version behind tokens.IntToText r s is token f =
     bind_down NumberFits Fits _ _ _ _ (number_fits r s f) (λ x y d. (length-decimal-le 10 y.0 (omega arith) (omega (arith, d.0)) (omega (arith, d.0)), d.1))
 rule_fits w version behind tokens.IntBytes r s is token f = bind_down NumberFits Fits _ _ _ _ (number_fits r s f) (λ x y d. (omega arith, d.1))
-rule_fits w version behind (tokens.Branch skip) r s is token f = f
-rule_fits w version behind (tokens.PopBranchFalse skip) r s is token f = last r s f
-rule_fits w version behind (tokens.BranchFalseElsePop skip) r s is token f = last r s f
-rule_fits w version behind (tokens.BranchTrueElsePop skip) r s is token f = last r s f
+rule_fits w version behind (tokens.Branch skip) r s is token f = tt
+rule_fits w version behind (tokens.PopBranchFalse skip) r s is token f = tt
+rule_fits w version behind (tokens.BranchFalseElsePop skip) r s is token f = tt
+rule_fits w version behind (tokens.BranchTrueElsePop skip) r s is token f = tt

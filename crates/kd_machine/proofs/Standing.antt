@@ -1,6 +1,7 @@
 -- What stands at a place of an accepted program stands at the next one after a step, and at the end is one
 -- truth value.
 use Rattle.std.proofs.Common.{◌≡◌, ℕ, suc, ◌+◌, ◌<◌, ◌≤◌, Bool, true, false, List, [], ◌∷◌, length, Option, Some, None, refl, ap, subst, ◌∙◌, arith}
+use Rattle.std.specs.Bool.{beq}
 use Rattle.std.specs.Prelude.{if◌then◌else◌, slice_get, MatchOption}
 use Rattle.std.specs.List.{AllByRecursion}
 use Rattle.std.proofs.lemmas.Option.{slice_get_within}
@@ -19,7 +20,7 @@ use Rattle.kd_token.proofs.Down.{Down}
 use Rattle.kd_token.proofs.Tidy.{is_token, reach_within}
 use Rattle.kd_machine.specs.Values.{Val, Truth, Number, Text, size, take_truth, longest}
 use Rattle.kd_machine.specs.World.{World, world}
-use Rattle.kd_machine.specs.Run.{rule, agrees, moves_by, moves}
+use Rattle.kd_machine.specs.Run.{rule, moves_by, moves}
 use Rattle.kd_machine.specs.Fits.{FitsKind, Fits, Stands}
 use Rattle.kd_machine.proofs.Rules.{TruthFits, truth_fits, rule_fits}
 
@@ -125,10 +126,10 @@ module _ (p : Code) (w : World) (a : Accepts p) (i n : ℕ) (token : Token) (x :
       flow_stands p a n (flow_to (i + 1 + skip) x r) u place (omega (arith, counted)) ((e (i + 1 + skip) place).0 refl) l.0 d
 
   moved_keep : (stays : Bool) (skip : ℕ) (g : Option (List Kind)) (t : Option (Bool × List Val)) → i + 1 + skip ≤ length p.tokens → Down TruthFits g t → Leaves (g >>= λ r. Some (flow_to (i + 1 + skip) x (kinds.Bool ∷ r) ∷ flow_to (i + 1) x r ∷ [])) → Enters (g >>= λ r. Some (flow_to (i + 1 + skip) x (kinds.Bool ∷ r) ∷ flow_to (i + 1) x r ∷ []))
-      → Moved (t >>= λ b. Some (if agrees stays b.0 then (i + 1 + skip, Truth b.0 ∷ b.1) else (i + 1, b.1)))
+      → Moved (t >>= λ b. Some (if beq stays b.0 then (i + 1 + skip, Truth b.0 ∷ b.1) else (i + 1, b.1)))
   moved_keep stays skip None t place d l e = absurd l
   moved_keep stays skip (Some r) None place d l e = absurd d
-  moved_keep stays skip (Some r) (Some (b, u)) place d l e = by (agrees stays b) where
+  moved_keep stays skip (Some r) (Some (b, u)) place d l e = by (beq stays b) where
     near : i + 1 ≤ length p.tokens
     near = omega (arith, place)
 

@@ -1,6 +1,7 @@
 -- A step of a program and a run (our own format): one rule for each token, on lists of values without a
 -- greatest depth or length.
-use Rattle.std.specs.Prelude.{◌≡◌, ℕ, zero, suc, ◌+◌, ◌≤◌, max, Bool, true, false, not, ◌&&◌, ◌||◌, if◌then◌else◌, is_some, List, [], ◌∷◌, ◌++◌, map, length, slice_get, Option, Some}
+use Rattle.std.specs.Prelude.{◌≡◌, ℕ, zero, suc, ◌+◌, ◌≤◌, max, Bool, not, ◌&&◌, ◌||◌, if◌then◌else◌, is_some, List, [], ◌∷◌, ◌++◌, map, length, slice_get, Option, Some, None}
+use Rattle.std.specs.Bool.{beq}
 use Rattle.std.specs.Char.{to_ascii_lowercase, to_ascii_uppercase}
 use Rattle.std.specs.Fmt.{decimal}
 use Rattle.byteorder.specs.Endian.{big_bytes}
@@ -16,7 +17,8 @@ use Rattle.kd_machine.specs.Values.{Val, Truth, Number, Text, take_text, take_tr
 use Rattle.kd_machine.specs.Strings.{substring, hex_text}
 use Rattle.kd_machine.specs.World.{World, world, same, is_held, or_empty, option_in, relay_in, field_value}
 
--- what a token that goes on makes of the values; none where it cannot take what it wants
+-- what a token that goes on makes of the values; none where it cannot take what it wants. A branch does not
+-- go on: it moves by its way (`moves_by`)
 unfoldable pub rule : World → Token → List Val → Option (List Val)
 rule w (tokens.PushBytes bytes) s = Some (Text bytes ∷ s)
 rule w (tokens.PushInt number) s = Some (Number number ∷ s)
@@ -38,22 +40,17 @@ rule w tokens.Lower s = take_text s >>= λ a. Some (Text (map to_ascii_lowercase
 rule w tokens.Upper s = take_text s >>= λ a. Some (Text (map to_ascii_uppercase a.0) ∷ a.1)
 rule w tokens.IntToText s = take_number s >>= λ a. Some (Text (decimal a.0) ∷ a.1)
 rule w tokens.IntBytes s = take_number s >>= λ a. Some (Text (big_bytes 4 a.0) ∷ a.1)
-rule w (tokens.Branch skip) s = Some s
-rule w (tokens.PopBranchFalse skip) s = take_truth s >>= λ b. Some b.1
-rule w (tokens.BranchFalseElsePop skip) s = take_truth s >>= λ b. Some b.1
-rule w (tokens.BranchTrueElsePop skip) s = take_truth s >>= λ b. Some b.1
-
--- whether two truth values are the same
-abbrev pub agrees : Bool → Bool → Bool
-agrees true b = b
-agrees false b = not b
+rule w (tokens.Branch skip) s = None
+rule w (tokens.PopBranchFalse skip) s = None
+rule w (tokens.BranchFalseElsePop skip) s = None
+rule w (tokens.BranchTrueElsePop skip) s = None
 
 -- where a token leads from place i, and with which values
 abbrev pub moves_by : Way → World → Token → ℕ → List Val → Option (ℕ × List Val)
 moves_by routes.On w token i s = rule w token s >>= λ t. Some (i + 1, t)
 moves_by (routes.Skip skip) w token i s = Some (i + 1 + skip, s)
 moves_by (routes.Fork skip) w token i s = take_truth s >>= λ b. Some (if b.0 then i + 1 else i + 1 + skip, b.1)
-moves_by (routes.Keep stays skip) w token i s = take_truth s >>= λ b. Some (if agrees stays b.0 then (i + 1 + skip, Truth b.0 ∷ b.1) else (i + 1, b.1))
+moves_by (routes.Keep stays skip) w token i s = take_truth s >>= λ b. Some (if beq stays b.0 then (i + 1 + skip, Truth b.0 ∷ b.1) else (i + 1, b.1))
 
 -- where the token at place i leads, and with which values
 abbrev pub moves : World → Token → ℕ → List Val → Option (ℕ × List Val)

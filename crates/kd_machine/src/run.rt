@@ -1,6 +1,6 @@
 ghost use Rattle.std.specs.Prelude.{◌≡◌, ◌<◌, ◌≤◌, [], IfOk, IsOk, MatchOption, Some, length};
 ghost use Rattle.std.specs.List.{AllByRecursion};
-ghost use Rattle.kd_machine.specs.Run.{EndsAs, IsFree, Run, agrees, moves};
+ghost use Rattle.kd_machine.specs.Run.{EndsAs, IsFree, Run, moves};
 ghost use Rattle.kd_machine.specs.World.{world};
 
 use crate::fault::EvalFault;
@@ -88,13 +88,6 @@ fn within<'a, const ROOM: usize>(
     })
 }
 
-// Whether two truth values are the same.
-fn agrees(stays: bool, truth: bool) -> bool
-    ensures { result ≡ agrees stays truth }
-{
-    if stays { truth } else { !truth }
-}
-
 // The token at place `at` is run; where it leads.
 fn advance<'a, const ROOM: usize>(
     alloc: Global,
@@ -126,7 +119,7 @@ fn advance<'a, const ROOM: usize>(
         }
         Way::Keep(stays, skip) => {
             let truth = stack.pop_truth();
-            if agrees(stays, truth) {
+            if stays == truth {
                 stack.push(Value::Bool(truth));
                 Ok(next + usize::from(skip))
             } else {

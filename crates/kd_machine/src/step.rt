@@ -56,7 +56,7 @@ fn push_relay<'a, const ROOM: usize>(
     stack.push(Value::Slice(message.relay(code).unwrap_or(&[])));
 }
 
-// One token of a program is run; a branch leaves the values to its caller.
+// One token of a program that goes on is run; no branch comes here.
 #[tactic(auto, unfolding(crate::specs::Run::rule))]
 pub(crate) fn step<'a, const ROOM: usize>(
     alloc: Global,
@@ -110,10 +110,10 @@ pub(crate) fn step<'a, const ROOM: usize>(
             let number = stack.pop_number();
             stack.push(Value::Small(Small::new(number.to_be_bytes())));
         }
-        Token::Branch(_) => {}
-        Token::PopBranchFalse(_) | Token::BranchFalseElsePop(_) | Token::BranchTrueElsePop(_) => {
-            stack.pop_truth();
-        }
+        Token::Branch(_)
+        | Token::PopBranchFalse(_)
+        | Token::BranchFalseElsePop(_)
+        | Token::BranchTrueElsePop(_) => unreachable!(),
     }
     Ok(())
 }

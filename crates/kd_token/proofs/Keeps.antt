@@ -44,10 +44,6 @@ int_keeps most (kinds.Int ∷ s) a = a.1
 abbrev RestOf : ℕ → List Kind → Type 0
 RestOf most s = AreShort most (drop 1 s)
 
-rest_of : (most : ℕ) (s : List Kind) → AreShort most s → AreShort most (drop 1 s)
-rest_of most [] a = tt
-rest_of most (k ∷ s) a = a.1
-
 -- below the top of what a token gives nothing is longer than before
 pub gives_keeps : (most names : ℕ) (token : Token) (s : List Kind) → AreShort most s → Keeps (RestOf most) (gives names token s)
 unfolding gives
@@ -81,19 +77,10 @@ gives_keeps most names tokens.Lower s a = bind_keeps (RestIsShort most) (RestOf 
 gives_keeps most names tokens.Upper s a = bind_keeps (RestIsShort most) (RestOf most) _ _ (bytes_keep most s a) (λ x k. k)
 gives_keeps most names tokens.IntToText s a = bind_keeps (AreShort most) (RestOf most) _ _ (int_keeps most s a) (λ x k. k)
 gives_keeps most names tokens.IntBytes s a = bind_keeps (AreShort most) (RestOf most) _ _ (int_keeps most s a) (λ x k. k)
-gives_keeps most names (tokens.Branch skip) s a = rest_of most s a
-gives_keeps most names (tokens.PopBranchFalse skip) s a = bind_rest (take_bool s) (bool_keeps most s a) where
-  bind_rest : (o : Option (List Kind)) → Keeps (AreShort most) o → Keeps (RestOf most) o
-  bind_rest None k = tt
-  bind_rest (Some t) k = rest_of most t k
-gives_keeps most names (tokens.BranchFalseElsePop skip) s a = bind_rest (take_bool s) (bool_keeps most s a) where
-  bind_rest : (o : Option (List Kind)) → Keeps (AreShort most) o → Keeps (RestOf most) o
-  bind_rest None k = tt
-  bind_rest (Some t) k = rest_of most t k
-gives_keeps most names (tokens.BranchTrueElsePop skip) s a = bind_rest (take_bool s) (bool_keeps most s a) where
-  bind_rest : (o : Option (List Kind)) → Keeps (AreShort most) o → Keeps (RestOf most) o
-  bind_rest None k = tt
-  bind_rest (Some t) k = rest_of most t k
+gives_keeps most names (tokens.Branch skip) s a = tt
+gives_keeps most names (tokens.PopBranchFalse skip) s a = tt
+gives_keeps most names (tokens.BranchFalseElsePop skip) s a = tt
+gives_keeps most names (tokens.BranchTrueElsePop skip) s a = tt
 
 short_kind_up : (n m : ℕ) (k : Kind) → n ≤ m → IsShortKind n k → IsShortKind m k
 short_kind_up n m kinds.Bool le a = tt

@@ -1,5 +1,6 @@
 -- Token files read from left to right, computed: what each field is and what follows it, or none where a
--- fault comes. Proofs tie these functions to the definition of a file; public contracts do not cite them.
+-- fault comes. Proofs tie these functions to the definition of a file; no public contract cites those that
+-- read. `◌>>=◌` is also how the shapes, the flows and a run's rules are written.
 use Rattle.std.specs.Prelude.{◌≡◌, ℕ, ℤ, zero, suc, nat_lt, List, [], ◌∷◌, length, take, drop, Option, Some, None, Result, Ok, Err, if◌then◌else◌, ◌==◌}
 use Rattle.std.specs.Int.{w32, cast_signed}
 use Rattle.byteorder.specs.Endian.{big_number}

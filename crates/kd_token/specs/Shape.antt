@@ -84,7 +84,7 @@ abbrev pub hex_bound : ℕ → ℕ → ℕ
 hex_bound n m = if n == 0 then 0 else 2 * n + (n - 1) * m
 
 -- what a token that goes on makes of a shape, where it can take what it wants; `names` is how many
--- names the program has
+-- names the program has. A branch does not go on: what it leaves is its flows' (`flows_by`)
 unfoldable pub gives : ℕ → Token → List Kind → Option (List Kind)
 gives names (tokens.PushBytes bytes) s = Some (kinds.Bytes (length bytes) ∷ s)
 gives names (tokens.PushInt number) s = Some (kinds.Int ∷ s)
@@ -106,7 +106,7 @@ gives names tokens.Lower s = take_bytes s >>= λ a. Some (kinds.Bytes a.0 ∷ a.
 gives names tokens.Upper s = take_bytes s >>= λ a. Some (kinds.Bytes a.0 ∷ a.1)
 gives names tokens.IntToText s = take_int s >>= λ r. Some (kinds.Bytes 10 ∷ r)
 gives names tokens.IntBytes s = take_int s >>= λ r. Some (kinds.Bytes 4 ∷ r)
-gives names (tokens.Branch skip) s = Some s
-gives names (tokens.PopBranchFalse skip) s = take_bool s
-gives names (tokens.BranchFalseElsePop skip) s = take_bool s
-gives names (tokens.BranchTrueElsePop skip) s = take_bool s
+gives names (tokens.Branch skip) s = None
+gives names (tokens.PopBranchFalse skip) s = None
+gives names (tokens.BranchFalseElsePop skip) s = None
+gives names (tokens.BranchTrueElsePop skip) s = None

@@ -199,9 +199,10 @@ impl Shape {
                 self.take_int()?;
                 Kind::Bytes(4)
             }
-            Token::Branch(_) => return Some(()),
-            Token::PopBranchFalse(_) | Token::BranchFalseElsePop(_) | Token::BranchTrueElsePop(_) =>
-                return self.take_bool(),
+            Token::Branch(_)
+            | Token::PopBranchFalse(_)
+            | Token::BranchFalseElsePop(_)
+            | Token::BranchTrueElsePop(_) => return None,
         };
         self.push(kind);
         Some(())
