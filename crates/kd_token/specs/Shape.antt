@@ -110,3 +110,22 @@ gives names (tokens.Branch skip) s = None
 gives names (tokens.PopBranchFalse skip) s = None
 gives names (tokens.BranchFalseElsePop skip) s = None
 gives names (tokens.BranchTrueElsePop skip) s = None
+
+-- how many values a token takes from the stack
+abbrev pub takes : Token → ℕ
+takes tokens.IfElse = 3
+takes tokens.Equal = 2
+takes tokens.And = 2
+takes tokens.Or = 2
+takes tokens.Concat = 2
+takes tokens.HexString = 2
+takes tokens.Not = 1
+takes (tokens.Substring start count) = 1
+takes tokens.Lower = 1
+takes tokens.Upper = 1
+takes tokens.IntToText = 1
+takes tokens.IntBytes = 1
+takes (tokens.PopBranchFalse skip) = 1
+takes (tokens.BranchFalseElsePop skip) = 1
+takes (tokens.BranchTrueElsePop skip) = 1
+takes token = 0

@@ -83,10 +83,10 @@ impl Shape {
         ensures { result ≡ self.now }
     {
         let mut kinds = ArrayVec::new();
-        for kind in self.kinds.as_slice() {
-            kinds.push(*kind);
+        match kinds.try_extend_from_slice(self.kinds.as_slice()) {
+            Ok(()) => Shape { kinds },
+            Err(_) => unreachable!(),
         }
-        Shape { kinds }
     }
 
     // Meets another shape: becomes the least one that covers both, where there is one.

@@ -1,7 +1,7 @@
-ghost use Rattle.std.specs.Prelude.{◌≡◌, ℕ, ◌+◌, ◌<◌, ◌≤◌, [], ◌∷◌, length, slice_get, None, Some, IfErr, IfOk, MatchOption, MatchResult};
+ghost use Rattle.std.specs.Prelude.{◌≡◌, ℕ, ◌+◌, ◌<◌, ◌≤◌, [], ◌∷◌, length, slice_get, None, Some, IfErr, IfOk, MatchOption, MatchResult, vec_capacity};
 ghost use Rattle.std.specs.List.{AllByRecursion};
 ghost use Rattle.kd_token.specs.File.{HasFile, IsShort};
-ghost use Rattle.kd_token.specs.Shape.{AreShort, gives, take_bool};
+ghost use Rattle.kd_token.specs.Shape.{AreShort, gives, take_bool, takes};
 ghost use Rattle.kd_token.specs.declared.fault.VerifyFault.TheVariants.{Finish, Memory, Steps};
 ghost use Rattle.kd_token.specs.declared.shape.Kind.TheVariants.{Bool};
 ghost use Rattle.kd_token.specs.declared.table.Entry.TheVariants.{Joined, Unreached};
@@ -78,6 +78,15 @@ fn check(alloc: Global, program: &Program) -> Result<(), VerifyFault>
     finish(&table, program)
 }
 
+// Room for the entries of so many tokens and of the end, and for no more.
+fn room_for(alloc: Global, tokens: usize) -> Result<Vec<Entry>, AllocError>
+    requires few { tokens ≤ 1024 }
+    ensures empty { IfOk result (λ t. t.items ≡ []) }
+    ensures exact { IfOk result (λ t. vec_capacity t ≡ tokens + 1) }
+{
+    Vec::with_capacity(alloc, tokens + 1)
+}
+
 // The table before the first of so many tokens: the empty stack is there, and nothing has arrived beyond.
 fn begin(alloc: Global, tokens: usize) -> Result<Vec<Entry>, AllocError>
     requires few { tokens ≤ 1024 }
@@ -85,7 +94,7 @@ fn begin(alloc: Global, tokens: usize) -> Result<Vec<Entry>, AllocError>
     ensures origin { IfOk result (λ t. entry_at t.items 0 ≡ Joined [] 0) }
     ensures beyond { IfOk result (λ t. (j : ℕ) → 0 < j → entry_at t.items j ≡ Unreached) }
 {
-    let mut table = Vec::with_capacity(alloc, tokens + 1)?;
+    let mut table = room_for(alloc, tokens)?;
     table.push(Entry::Joined(Shape::new(), 0))?;
     'places: for _ in 0..tokens {
         table.push(Entry::Unreached)?;
@@ -146,7 +155,9 @@ fn finish(table: &[Entry], program: &Program) -> Result<(), VerifyFault>
 }
 
 // How many values a token takes.
-fn takes(token: &Token) -> usize {
+fn takes(token: &Token) -> usize
+    ensures { result ≡ takes token.now }
+{
     match token {
         Token::IfElse => 3,
         Token::Equal | Token::And | Token::Or | Token::Concat | Token::HexString => 2,
@@ -159,7 +170,15 @@ fn takes(token: &Token) -> usize {
         | Token::PopBranchFalse(_)
         | Token::BranchFalseElsePop(_)
         | Token::BranchTrueElsePop(_) => 1,
-        _ => 0,
+        Token::PushBytes(_)
+        | Token::PushInt(_)
+        | Token::PushOption(_)
+        | Token::PushRelay(_)
+        | Token::PushField(_)
+        | Token::OptionExists(_)
+        | Token::RelayExists(_)
+        | Token::Member(_)
+        | Token::Branch(_) => 0,
     }
 }
 
