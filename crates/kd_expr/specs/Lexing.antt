@@ -1,5 +1,5 @@
 -- The lexer, computed: which word stands at the front of bytes, and which tokens a text has. Proofs tie
--- it to the definition of words. No public contract of this crate cites it; kd_config and kd_order say by
+-- it to the definition of words. No public contract of this crate cites it; kd_config and kd_commands say by
 -- its `address_of` which text spells an address, and kd_config by its `behind_of` what follows blanks.
 use Rattle.std.specs.Prelude.{ℕ, zero, suc, ◌+◌, ◌-◌, Bool, true, false, ◌&&◌, ◌==◌, nat_le, List, [], ◌∷◌, length, Option, Some, None, if◌then◌else◌}
 use Rattle.kd_expr.specs.Address.{is_digit, decimal}

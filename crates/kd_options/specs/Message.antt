@@ -66,11 +66,11 @@ pub record HasOptionFault (bytes : List ℕ) (fault : ReadFault) : Type 0 where
   pub options_are : HasOptions bytes options
   pub first : option_fault options ≡ Some fault
 
--- the first fault of a datagram, in the order header, areas, options; want of memory may come at any
+-- the first fault of a datagram, in the order header, areas, options; want of memory may come once the header is read
 abbrev pub IsFirstFault : ReadFault → List ℕ → Type 0
 IsFirstFault (faults.Header fault) bytes = header_read bytes ≡ Err fault
 IsFirstFault (faults.Cut at) bytes = ((header : Header) × (header_read bytes ≡ Ok header)) × IsFirstCut bytes at
-IsFirstFault faults.Memory bytes = Unit {0}
+IsFirstFault faults.Memory bytes = (header : Header) × (header_read bytes ≡ Ok header)
 IsFirstFault fault bytes = HasOptionFault bytes fault
 
 -- the hardware address: the first hlen bytes of chaddr, at most 16

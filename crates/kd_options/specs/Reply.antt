@@ -84,7 +84,7 @@ unpadded header room items = header_bytes header ++ (items_text (kept room items
 abbrev pub reply_text : Header → ℕ → List Item → List ℕ
 reply_text header room items = padded (unpadded header room items)
 
--- what a fault of writing means: the obligatory items do not fit; want of memory may come at any reply
+-- what a fault of writing means: the obligatory items do not fit; want of memory comes only where they do
 abbrev pub IsWriteFault : ℕ → List Item → WriteFault → Type 0
 IsWriteFault room items TooLong = room < base_cost items + 1
-IsWriteFault room items Memory = Unit {0}
+IsWriteFault room items Memory = Fits room items
