@@ -1,1 +1,2 @@
 mod Opening
+mod Wholes

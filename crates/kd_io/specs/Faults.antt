@@ -4,12 +4,19 @@ use Rattle.kd_io.specs.declared.files.InputFault.{InputFault}
 use Rattle.kd_config.specs.Faults.{config_fault_number}
 use Rattle.kd_io.specs.declared.files.InputFault.TheVariants as faults
 use Rattle.kd_io.specs.declared.start.StartFault.{StartFault}
+use Rattle.std.specs.declared.io.ErrorKind.{ErrorKind}
+use Rattle.std.specs.declared.io.ErrorKind.TheVariants as kinds
 use Rattle.kd_io.specs.declared.start.StartFault.TheVariants as starts
 
 -- the number of each fault
 abbrev pub input_fault_number : InputFault → ℕ
 input_fault_number faults.Read = 94
 input_fault_number faults.Memory = 91
+
+-- the fault that an error of the host is: want of memory, or else that something is not read
+abbrev pub input_fault_of : ErrorKind → InputFault
+input_fault_of kinds.OutOfMemory = faults.Memory
+input_fault_of kind = faults.Read
 
 -- the number of each fault of starting: that of the fault inside
 abbrev pub start_fault_number : StartFault → ℕ

@@ -1,9 +1,10 @@
-ghost use Rattle.std.specs.Prelude.{◌≡◌, ◌≤◌, IfOk, length};
+ghost use Rattle.std.specs.Prelude.{◌≡◌, ◌≤◌, IfOk, IfSome, length};
 ghost use Rattle.kd_io.specs.Faults.{input_fault_number};
+ghost use Rattle.kd_io.specs.declared.files.InputFault.TheVariants.{Memory};
 
 use kd_config::TokenFile;
 use kd_wire::Bytes;
-use std::alloc::{AllocError, AllocFailed};
+use std::alloc::{AllocError, AllocFailed, Global};
 use std::fs::File;
 use std::io::{ErrorKind, Read};
 use std::rt::Files;
@@ -40,6 +41,12 @@ impl InputFault {
 }
 
 impl From<io::Error> for InputFault {
+    ghost use Rattle.std.specs.Prelude.{◌≡◌};
+    ghost use Rattle.std.specs.IoError.{error_kind};
+    ghost use Rattle.kd_io.specs.Faults.{input_fault_of};
+
+    ghost from_gives = { λ error e. e ≡ input_fault_of (error_kind error) };
+
     fn from(error: io::Error) -> InputFault {
         match error.kind() {
             ErrorKind::OutOfMemory => InputFault::Memory,
@@ -49,19 +56,49 @@ impl From<io::Error> for InputFault {
 }
 
 impl From<AllocError> for InputFault {
+    ghost use Rattle.std.specs.Prelude.{◌≡◌};
+
+    ghost from_gives = { λ _ e. e ≡ Memory };
+
     fn from(_error: AllocError) -> InputFault {
         InputFault::Memory
     }
 }
 
 impl<T: Drop> From<AllocFailed<T>> for InputFault {
+    ghost use Rattle.std.specs.Prelude.{◌≡◌};
+
+    ghost from_gives = { λ _ e. e ≡ Memory };
+
     fn from(_error: AllocFailed<T>) -> InputFault {
         InputFault::Memory
     }
 }
 
 /// The most bytes of a file that an operator gives: 16 MiB.
-pub const MOST_BYTES: u64 = 16_777_216;
+pub const MOST_BYTES: u32 = 16_777_216;
+
+/// The bytes that are left of a reader, at most this many.
+///
+/// # Errors
+///
+/// `Read` where it cannot be read or has more, and `Memory`.
+pub fn read_whole<R: Read + Drop>(
+    alloc: Global,
+    reader: R,
+    most: u32,
+) -> Result<Vec<u8>, InputFault>
+    ensures most { IfOk result (λ bytes. length bytes.items ≤ most) }
+    ensures whole { IfOk result (λ bytes. IfSome (R.remaining reader) (λ input. bytes.items ≡ input)) }
+{
+    let mut front = reader.take(u64::from(most) + 1);
+    let mut bytes = Vec::new(alloc);
+    front.read_to_end(&mut bytes)?;
+    if bytes.len() as u64 > u64::from(most) {
+        return Err(InputFault::Read);
+    }
+    Ok(bytes)
+}
 
 /// The bytes of the file at a path, at most this many.
 ///
@@ -71,17 +108,12 @@ pub const MOST_BYTES: u64 = 16_777_216;
 pub fn read_file<R: Files + AllocGlobal>(
     rt: &R,
     path: &str,
-    most: u64,
+    most: u32,
 ) -> Result<Vec<u8>, InputFault>
     ensures { IfOk result (λ bytes. length bytes.items ≤ most) }
 {
-    let mut file = File::open(rt, path)?.take(most.saturating_add(1));
-    let mut bytes = Vec::new(rt.alloc());
-    file.read_to_end(&mut bytes)?;
-    if bytes.len() as u64 > most {
-        return Err(InputFault::Read);
-    }
-    Ok(bytes)
+    let file = File::open(rt, path)?;
+    read_whole(rt.alloc(), file, most)
 }
 
 /// The token files of a folder: its plain files, and links to such, whose names are UTF-8 and end in `.k4tk`,

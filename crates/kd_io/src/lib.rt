@@ -14,9 +14,9 @@ mod start;
 mod stores;
 mod streams;
 
-pub use files::{InputFault, MOST_BYTES, read_file, token_files};
+pub use files::{InputFault, MOST_BYTES, read_file, read_whole, token_files};
 pub use link::{HostClock, Sending, Socket};
-pub use start::{StartFault, configuration};
+pub use start::{StartFault, configuration, configured};
 pub use stores::{
     InFile, InMemory, restarts, store_from, store_in_file, store_in_memory, store_over,
 };

@@ -1,9 +1,11 @@
-ghost use Rattle.std.specs.Prelude.{◌≡◌};
+ghost use Rattle.std.specs.Prelude.{◌≡◌, IfErr, IfOk, is_some};
+ghost use Rattle.std.specs.Option.{option_copied};
 ghost use Rattle.kd_io.specs.Faults.{start_fault_number};
+ghost use Rattle.kd_io.specs.Start.{AreOfFolder, IsNoStart, IsOfFiles, IsStart};
 
 use crate::files::{InputFault, MOST_BYTES, read_file, token_files};
 use kd_config::{Config, ConfigFault, TokenFile};
-use std::alloc::AllocError;
+use std::alloc::{AllocError, Global};
 use std::fmt;
 use std::rt::Files;
 use thiserror::Error;
@@ -38,20 +40,55 @@ impl StartFault {
 }
 
 impl From<InputFault> for StartFault {
+    ghost use Rattle.std.specs.Prelude.{◌≡◌};
+    ghost use Rattle.kd_io.specs.declared.start.StartFault.TheVariants.{Input};
+
+    ghost from_gives = { λ fault e. e ≡ Input fault };
+
     fn from(fault: InputFault) -> StartFault {
         StartFault::Input(fault)
     }
 }
 
 impl From<ConfigFault> for StartFault {
+    ghost use Rattle.std.specs.Prelude.{◌≡◌};
+    ghost use Rattle.kd_io.specs.declared.start.StartFault.TheVariants.{Config};
+
+    ghost from_gives = { λ fault e. e ≡ Config fault };
+
     fn from(fault: ConfigFault) -> StartFault {
         StartFault::Config(fault)
     }
 }
 
 impl From<AllocError> for StartFault {
+    ghost use Rattle.std.specs.Prelude.{◌≡◌};
+    ghost use Rattle.kd_io.specs.declared.files.InputFault.TheVariants.{Memory};
+    ghost use Rattle.kd_io.specs.declared.start.StartFault.TheVariants.{Input};
+
+    ghost from_gives = { λ _ e. e ≡ Input Memory };
+
     fn from(_error: AllocError) -> StartFault {
         StartFault::Input(InputFault::Memory)
+    }
+}
+
+/// The configuration of a text, with these token files; the built-in one without a text.
+///
+/// # Errors
+///
+/// The first fault of the text, or want of memory.
+pub fn configured(
+    alloc: Global,
+    text: Option<&[u8]>,
+    tokens: &[TokenFile],
+) -> Result<Config, StartFault>
+    ensures found { IfOk result (IsStart (option_copied text.entry) tokens.now) }
+    ensures refused { IfErr result (IsNoStart (option_copied text.entry) tokens.now) }
+{
+    match text {
+        Some(text) => Ok(Config::read(alloc, text, tokens)?),
+        None => Ok(Config::builtin(alloc)?),
     }
 }
 
@@ -65,15 +102,16 @@ pub fn configuration<R: Files + AllocGlobal + Clone + Drop>(
     rt: &R,
     file: Option<&str>,
     folder: Option<&str>,
-) -> Result<Config, StartFault> {
+) -> Result<Config, StartFault>
+    ensures { IfOk result (IsOfFiles (is_some file.entry) (is_some folder.entry)) }
+{
     let tokens = tokens_in(rt, folder)?;
     match file {
-        Some(path) => Ok(Config::read(
-            rt.alloc(),
-            read_file(rt, path, MOST_BYTES)?.as_slice(),
-            &tokens,
-        )?),
-        None => Ok(Config::builtin(rt.alloc())?),
+        Some(path) => {
+            let text = read_file(rt, path, MOST_BYTES)?;
+            configured(rt.alloc(), Some(text.as_slice()), &tokens)
+        }
+        None => configured(rt.alloc(), None, &tokens),
     }
 }
 
@@ -81,7 +119,9 @@ pub fn configuration<R: Files + AllocGlobal + Clone + Drop>(
 fn tokens_in<R: Files + AllocGlobal + Clone + Drop>(
     rt: &R,
     folder: Option<&str>,
-) -> Result<Vec<TokenFile>, InputFault> {
+) -> Result<Vec<TokenFile>, InputFault>
+    ensures { IfOk result (λ tokens. AreOfFolder (is_some folder.entry) tokens.items) }
+{
     match folder {
         Some(folder) => token_files(rt, folder),
         None => Ok(Vec::new(rt.alloc())),

@@ -25,7 +25,7 @@ fn within(rt: &HostRuntime, folder: &str, name: &str) -> Result<String, Fail> {
 }
 
 // Lengths of files, limits, and whether the file is read.
-const LIMITS: [(usize, u64, bool); 7] = [
+const LIMITS: [(usize, u32, bool); 7] = [
     (0, 0, true),
     (1, 0, false),
     (5, 5, true),
@@ -36,7 +36,7 @@ const LIMITS: [(usize, u64, bool); 7] = [
 ];
 
 // Whether a file of so many bytes is read, whole; it may not be where it is longer than the limit.
-fn is_read(rt: &HostRuntime, path: &str, length: usize, most: u64) -> Result<bool, Fail> {
+fn is_read(rt: &HostRuntime, path: &str, length: usize, most: u32) -> Result<bool, Fail> {
     let mut bytes: Vec<u8> = Vec::new(rt.alloc());
     bytes.resize(length, 7)?;
     fs::write(rt, path, bytes.as_slice())?;
@@ -158,9 +158,9 @@ fn token_files_are_those_of_the_name(rt: HostRuntime) -> Result<(), Fail> {
 }
 
 // How many token files a folder has where there is one of so many bytes, or none where one is too long.
-fn files_of(rt: &HostRuntime, folder: &str, length: u64) -> Result<Option<usize>, Fail> {
+fn files_of(rt: &HostRuntime, folder: &str, length: u32) -> Result<Option<usize>, Fail> {
     let path = within(rt, folder, "large.k4tk")?;
-    fs::create(rt, path.as_str())?.set_len(length)?;
+    fs::create(rt, path.as_str())?.set_len(u64::from(length))?;
     match token_files(rt, folder) {
         Ok(files) => Ok(Some(files.len())),
         Err(InputFault::Read) => Ok(None),

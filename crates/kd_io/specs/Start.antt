@@ -1,0 +1,34 @@
+-- What a server starts with: the configuration of a text that was read, or the built-in one.
+use Rattle.std.specs.Prelude.{◌≡◌, ◌≢◌, ◌≤◌, ℕ, Bool, false, List, [], length, Option, Some, None, is_some, IfSome}
+use Rattle.kd_config.specs.Configuration.{Configuration, builtin}
+use Rattle.kd_config.specs.Configured.{IsConfigured}
+use Rattle.kd_config.specs.declared.fault.ConfigFault.TheVariants as configs
+use Rattle.kd_config.specs.declared.token_file.TokenFile.{TokenFile}
+use Rattle.kd_io.specs.declared.files.InputFault.TheVariants as inputs
+use Rattle.kd_io.specs.declared.start.StartFault.{StartFault}
+use Rattle.kd_io.specs.declared.start.StartFault.TheVariants as starts
+
+-- the configuration that a text means with these token files; without a text the built-in one
+abbrev pub IsStart : Option (List ℕ) → List TokenFile → Configuration → Type 0
+IsStart None files c = c ≡ builtin
+IsStart (Some text) files c = IsConfigured text files c
+
+-- a fault of a text that means no configuration, or want of memory
+abbrev pub IsNoStart : Option (List ℕ) → List TokenFile → StartFault → Type 0
+IsNoStart text files (starts.Input fault) = fault ≡ inputs.Memory
+IsNoStart None files (starts.Config fault) = ⊥
+IsNoStart (Some text) files (starts.Config fault) =
+    fault ≢ configs.Memory → (c : Configuration) → IsConfigured text files c → ⊥
+
+-- the token files of a folder; none without a folder
+abbrev pub AreOfFolder : Bool → List TokenFile → Type 0
+AreOfFolder has_folder files = has_folder ≡ false → files ≡ []
+
+-- a configuration of a text where a file is named, and with token files where a folder is
+pub record IsOfFiles (has_file has_folder : Bool) (c : Configuration) : Type 0 where
+  pub text : Option (List ℕ)
+  pub named : is_some text ≡ has_file
+  pub short : IfSome text (λ bytes. length bytes ≤ 16777216)
+  pub files : List TokenFile
+  pub of_folder : AreOfFolder has_folder files
+  pub start : IsStart text files c
