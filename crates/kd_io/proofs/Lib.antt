@@ -1,2 +1,3 @@
 mod Opening
+mod Starting
 mod Wholes

@@ -1,0 +1,12 @@
+use Rattle.std.proofs.Common.{rules, ◌≡◌, ◌≤◌, length, Some, IfSome, is_some}
+use Rattle.kd_io.specs.Start.{AreOfFolder}
+use Rattle.kd_io.proofs.Starting.{of_files}
+use Rattle.kd_io.proofs.start.configuration.Goals as goal
+
+pub returns-in-Some : goal.returns-in-Some
+returns-in-Some g c =
+    let named : is_some (Some c.as_slice.result.now) ≡ is_some c.args.file = search rules in
+    let short : IfSome (Some c.as_slice.result.now) (λ bytes. length bytes ≤ 16777216) = search rules in
+    let of_folder : AreOfFolder (is_some c.args.folder) c.deref.result.now = search rules in
+    of_files (is_some c.args.file) (is_some c.args.folder) (Some c.as_slice.result.now)
+    c.deref.result.now c.configured.result named short of_folder c.configured.ensures.found
