@@ -3,7 +3,7 @@ use crate::files::Files;
 use crate::stores::Stores;
 use kd_commands::Listening;
 use kd_config::Config;
-use kd_io::{InMemory, StartFault};
+use kd_io::{InMemory, StartFault, Volatile};
 use kd_keeps::StoreFault;
 use kd_program::Host;
 use kd_replay::EndFailed;
@@ -21,7 +21,7 @@ pub struct Room<'a> {
 impl<'a> Host for Room<'a> {
     type Named = Store<InMemory>;
 
-    type Unnamed = Store<InMemory>;
+    type Unnamed = Volatile;
 
     type Socket = Datagrams<'a>;
 
@@ -51,8 +51,8 @@ impl<'a> Host for Room<'a> {
         self.stores.take(self.rt.alloc(), path)
     }
 
-    fn unnamed_store(&mut self) -> Result<Store<InMemory>, StoreFault> {
-        self.stores.take(self.rt.alloc(), "")
+    fn unnamed_store(&mut self) -> Result<Volatile, StoreFault> {
+        Ok(Volatile::new(self.rt.alloc()))
     }
 
     // A store for which there is no memory is lost, and the next case that names it finds a new one.

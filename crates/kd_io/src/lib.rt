@@ -13,6 +13,7 @@ mod link;
 mod start;
 mod stores;
 mod streams;
+mod volatile;
 
 pub use files::{InputFault, MOST_BYTES, read_file, read_whole, token_files};
 pub use link::{HostClock, Sending, Socket};
@@ -21,3 +22,4 @@ pub use stores::{
     InFile, InMemory, restarts, store_from, store_in_file, store_in_memory, store_over,
 };
 pub use streams::{Input, Output};
+pub use volatile::Volatile;

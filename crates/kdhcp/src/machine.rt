@@ -1,8 +1,7 @@
 use kd_commands::Listening;
 use kd_config::Config;
 use kd_io::{
-    HostClock, InFile, InMemory, Sending, Socket, StartFault, configuration, store_in_file,
-    store_in_memory,
+    HostClock, InFile, Sending, Socket, StartFault, Volatile, configuration, store_in_file,
 };
 use kd_keeps::StoreFault;
 use kd_program::Host;
@@ -25,7 +24,7 @@ impl<'a> Machine<'a> {
 impl<'a> Host for Machine<'a> {
     type Named = Store<InFile>;
 
-    type Unnamed = Store<InMemory>;
+    type Unnamed = Volatile;
 
     type Socket = Socket;
 
@@ -55,8 +54,8 @@ impl<'a> Host for Machine<'a> {
         store_in_file(self.rt, path)
     }
 
-    fn unnamed_store(&mut self) -> Result<Store<InMemory>, StoreFault> {
-        store_in_memory(self.rt.alloc())
+    fn unnamed_store(&mut self) -> Result<Volatile, StoreFault> {
+        Ok(Volatile::new(self.rt.alloc()))
     }
 
     fn close(&mut self, _path: &str, _store: Store<InFile>) {}

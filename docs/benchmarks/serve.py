@@ -1,0 +1,166 @@
+#!/usr/bin/env python3
+"""Measures servers in turn on loopback; serve.sh calls it: serve.py ROOM KDHCP PICTURE, in a network namespace."""
+import json
+import os
+import statistics
+import subprocess
+import sys
+import time
+
+SERVER, RELAY, POOL = "10.0.0.1", "10.0.0.2", "10.1.0.0-10.8.255.255"
+LEVELS = [0, 1_000, 60_000, 250_000]
+TESTS = [0, 50, 250]
+ROUNDS, MEASURED = 3, 5_000
+NAMES = {"kea": "Kea, one thread", "kea3": "Kea, three threads", "memory": "kdhcp, memory", "file": "kdhcp, file"}
+
+
+def tests_of(count):
+    """Class tests of which a client of `MEASURED` passes the last alone."""
+    return [{"name": f"c{i}", "test": f"option[60].hex == 'class-{i}'"} for i in range(count)]
+
+
+def pools():
+    return [{"pool": POOL.replace("-", " - ")}]
+
+
+def kea_words(room, threads, tests):
+    config = {
+        "interfaces-config": {"interfaces": [f"lo/{SERVER}"], "dhcp-socket-type": "udp"},
+        "multi-threading": {"enable-multi-threading": threads > 1, "thread-pool-size": threads, "packet-queue-size": 64},
+        "lease-database": {"type": "memfile", "persist": True, "name": f"{room}/kea.csv", "lfc-interval": 0},
+        "valid-lifetime": 3600,
+        "client-classes": tests_of(tests),
+        "subnet4": [{"id": 1, "subnet": "10.0.0.0/8", "pools": pools()}],
+        "loggers": [{"name": "kea-dhcp4", "severity": "ERROR", "output_options": [{"output": "stderr"}]}],
+    }
+    with open(f"{room}/kea.json", "w", encoding="utf-8") as it:
+        json.dump({"Dhcp4": config}, it)
+    return ["kea-dhcp4", "-c", f"{room}/kea.json"]
+
+
+def kdhcp_words(room, kdhcp, tests, store):
+    config = {"server-address": SERVER, "valid-lifetime": 3600, "client-classes": tests_of(tests)}
+    config["subnet4"] = [{"subnet": "10.0.0.0/8", "pools": pools()}]
+    with open(f"{room}/kdhcp.json", "w", encoding="utf-8") as it:
+        json.dump({"Dhcp4": config}, it)
+    words = [kdhcp, "serve", "--config", f"{room}/kdhcp.json", "--bind", SERVER, "--count", str(2**64 - 1)]
+    return words + (["--store", f"{room}/leases.db"] if store else [])
+
+
+def started(room, kdhcp, which, tests):
+    """A server that has begun to answer, on the first processor, or on three where it has three threads."""
+    for name in os.listdir(room):
+        if name.startswith(("kea.csv", "leases.db")):
+            os.remove(f"{room}/{name}")
+    if which.startswith("kea"):
+        words = kea_words(room, 3 if which == "kea3" else 1, tests)
+    else:
+        words = kdhcp_words(room, kdhcp, tests, which == "file")
+    cpus = "0,2,3" if which == "kea3" else "0"
+    environment = dict(os.environ, KEA_PIDFILE_DIR=room, KEA_LOCKFILE_DIR="none")
+    with open(f"{room}/said", "w", encoding="utf-8") as said:
+        server = subprocess.Popen(["taskset", "-c", cpus, *words], stdout=subprocess.DEVNULL, stderr=said, env=environment)
+    time.sleep(1.5)
+    if server.poll() is not None:
+        sys.exit(f"{which} ended: {open(f'{room}/said', encoding='utf-8').read()}")
+    return server
+
+
+def loaded(room, server, base, clients, vendor):
+    """What kdload counts of so many clients, from this number on."""
+    words = [f"{room}/kdload", "--netns", "--server", SERVER, "--giaddr", RELAY, "--clients", str(clients)]
+    words += ["--base", str(base), "--window", "32", "--pid", str(server.pid), "--pool", POOL, "--max-seconds", "600"]
+    words += ["--opt", f"60:{vendor.encode().hex()}"] if vendor else []
+    it = subprocess.run(["taskset", "-c", "1", *words], capture_output=True, text=True, check=False)
+    if it.returncode:
+        sys.exit(f"kdload: {it.returncode} {it.stdout} {it.stderr}")
+    return json.loads(it.stdout)
+
+
+def climbed(room, kdhcp, which):
+    """A server's measures at each number of leases that stand before."""
+    server, base, found = started(room, kdhcp, which, 0), 0, []
+    for level in LEVELS:
+        if level > base:
+            loaded(room, server, base, level - base, "")
+            base = level
+        found.append(loaded(room, server, base, MEASURED, ""))
+        base += MEASURED
+    server.terminate()
+    server.wait()
+    return found
+
+
+def tested(room, kdhcp, which):
+    """A server's measures with each number of class tests."""
+    found = []
+    for count in TESTS:
+        server = started(room, kdhcp, which, count)
+        loaded(room, server, 0, 1_000, f"class-{count - 1}")
+        found.append(loaded(room, server, 1_000, MEASURED, f"class-{count - 1}"))
+        server.terminate()
+        server.wait()
+    return found
+
+
+def middle(rounds, index, read):
+    return statistics.median(read(one[index]) for one in rounds)
+
+
+def table(title, heads, rounds, read, form):
+    print(f"\n| {title} | {' | '.join(f'{head:,}' for head in heads)} |")
+    print("|---" * (len(heads) + 1) + "|")
+    for which, all_rounds in rounds.items():
+        cells = [form(middle(all_rounds, i, read)) for i in range(len(heads))]
+        print(f"| {NAMES[which]} | {' | '.join(cells)} |")
+
+
+def picture(path, rounds):
+    """DORA a second over the number of leases, a line a server."""
+    colours = dict(zip(NAMES, ["#888888", "#444444", "#1f77b4", "#d62728"]))
+    lines = {which: [middle(all_rounds, i, lambda it: it["per_s"]) for i in range(len(LEVELS))] for which, all_rounds in rounds.items()}
+    most = max(max(line) for line in lines.values()) * 1.1
+    out = ['<svg xmlns="http://www.w3.org/2000/svg" width="640" height="360" font-family="sans-serif" font-size="12">']
+    out.append('<rect width="640" height="360" fill="white"/><text x="60" y="20">DORA a second over the number of leases</text>')
+    out.append('<path d="M60 30V320H480" stroke="black" fill="none"/>')
+    places = [60 + 420 * i / (len(LEVELS) - 1) for i in range(len(LEVELS))]
+    out += [f'<text x="{x:.0f}" y="336" text-anchor="middle">{level:,}</text>' for x, level in zip(places, LEVELS)]
+    for part in range(5):
+        value = most * part / 4
+        out.append(f'<text x="54" y="{320 - 290 * part / 4 + 4:.0f}" text-anchor="end">{value:,.0f}</text>')
+    for row, (which, line) in enumerate(lines.items()):
+        spots = " ".join(f"{x:.0f},{320 - 290 * y / most:.0f}" for x, y in zip(places, line))
+        out.append(f'<polyline points="{spots}" fill="none" stroke="{colours[which]}" stroke-width="2"/>')
+        out.append(f'<text x="495" y="{60 + 20 * row}" fill="{colours[which]}">{NAMES[which]}</text>')
+    with open(path, "w", encoding="utf-8") as it:
+        it.write("\n".join(out + ["</svg>", ""]))
+
+
+def main(room, kdhcp, path):
+    subprocess.run(["ip", "link", "set", "lo", "up"], check=True)
+    for address in (SERVER, RELAY):
+        subprocess.run(["ip", "address", "add", f"{address}/8", "dev", "lo"], check=True)
+    levels, tests = {which: [] for which in NAMES}, {which: [] for which in NAMES}
+    commits = []
+    for _ in range(ROUNDS):
+        for which in NAMES:
+            levels[which].append(climbed(room, kdhcp, which))
+            tests[which].append(tested(room, kdhcp, which))
+        begun = time.time()
+        subprocess.run([f"{room}/store", f"{room}/c.db", "4000"], check=True, stdout=subprocess.DEVNULL)
+        commits.append((time.time() - begun) / 4000)
+        for name in os.listdir(room):
+            if name.startswith("c.db"):
+                os.remove(f"{room}/{name}")
+    whole = lambda n: f"{n:,.0f}"
+    table("DORA a second, leases before", LEVELS, levels, lambda it: it["per_s"], whole)
+    table("Processor us a DORA, leases before", LEVELS, levels, lambda it: it["server"]["cpu_us_per_done"], lambda n: f"{n:.1f}")
+    table("Resident memory in MB, leases before", LEVELS, levels, lambda it: it["server"]["rss_kb"] / 1000, lambda n: f"{n:.0f}")
+    table("DORA a second, class tests", TESTS, tests, lambda it: it["per_s"], whole)
+    table("Processor us a DORA, class tests", TESTS, tests, lambda it: it["server"]["cpu_us_per_done"], lambda n: f"{n:.1f}")
+    print(f"\nA commit of the C library of SQLite, as durable, takes {statistics.median(commits) * 1e6:,.0f} us.")
+    picture(path, levels)
+
+
+if __name__ == "__main__":
+    main(*sys.argv[1:])
