@@ -20,7 +20,8 @@ def tests_of(count):
 
 
 def pools():
-    return [{"pool": POOL.replace("-", " - ")}]
+    """The addresses of `POOL`, 65,536 in each."""
+    return [{"pool": f"10.{i}.0.0 - 10.{i}.255.255"} for i in range(1, 9)]
 
 
 def kea_words(room, threads, tests):
