@@ -30,10 +30,11 @@ def kea_words(room, threads, tests):
         "multi-threading": {"enable-multi-threading": threads > 1, "thread-pool-size": threads, "packet-queue-size": 64},
         "lease-database": {"type": "memfile", "persist": True, "name": f"{room}/kea.csv", "lfc-interval": 0},
         "valid-lifetime": 3600,
-        "client-classes": tests_of(tests),
         "subnet4": [{"id": 1, "subnet": "10.0.0.0/8", "pools": pools()}],
         "loggers": [{"name": "kea-dhcp4", "severity": "ERROR", "output_options": [{"output": "stderr"}]}],
     }
+    if tests:
+        config["client-classes"] = tests_of(tests)
     with open(f"{room}/kea.json", "w", encoding="utf-8") as it:
         json.dump({"Dhcp4": config}, it)
     return ["kea-dhcp4", "-c", f"{room}/kea.json"]
@@ -97,8 +98,9 @@ def tested(room, kdhcp, which):
     found = []
     for count in TESTS:
         server = started(room, kdhcp, which, count)
-        loaded(room, server, 0, 1_000, f"class-{count - 1}")
-        found.append(loaded(room, server, 1_000, MEASURED, f"class-{count - 1}"))
+        vendor = f"class-{count - 1}" if count else ""
+        loaded(room, server, 0, 1_000, vendor)
+        found.append(loaded(room, server, 1_000, MEASURED, vendor))
         server.terminate()
         server.wait()
     return found
