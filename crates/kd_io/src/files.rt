@@ -89,7 +89,8 @@ pub fn read_whole<R: Read + Drop>(
     most: u32,
 ) -> Result<Vec<u8>, InputFault>
     ensures most { IfOk result (λ bytes. length bytes.items ≤ most) }
-    ensures whole { IfOk result (λ bytes. IfSome (R.remaining reader) (λ input. bytes.items ≡ input)) }
+    ensures whole { IfOk result (λ bytes.
+        IfSome (R.remaining reader) (λ input. bytes.items ≡ input)) }
 {
     let mut front = reader.take(u64::from(most) + 1);
     let mut bytes = Vec::new(alloc);
