@@ -1,7 +1,7 @@
 -- Definitions give a message one list of names.
 use Rattle.std.proofs.Common.{◌≡◌, ℕ, Bool, List, [], ◌∷◌, Some, None, sym, ap, subst, ◌∙◌}
 use Rattle.std.specs.Prelude.{Option, if◌then◌else◌}
-use Rattle.kd_classes.specs.HeldSet.{Gives, HeldSet, JoinInOrder, JoinsBy}
+use Rattle.kd_classes.specs.HeldSet.{RunGives, HeldSet, JoinInOrder, JoinsBy}
 use Rattle.kd_classes.specs.declared.definition.ClassDef.{ClassDef}
 use Rattle.kd_machine.proofs.OneEnd.{one_end}
 use Rattle.kd_machine.specs.Held.{base_names, with_name}
@@ -9,7 +9,7 @@ use Rattle.kd_options.specs.Joined.{value_of}
 use Rattle.kd_options.specs.Message.{Seen}
 use Rattle.kd_token.specs.File.{Code}
 
-one_value : (p : Code) (message : Seen) (held : List (List ℕ)) (v x : Bool) → Gives p message held v → Gives p message held x → v ≡ x
+one_value : (p : Code) (message : Seen) (held : List (List ℕ)) (v x : Bool) → RunGives p message held v → RunGives p message held x → v ≡ x
 one_value p message held v x a b = (one_end p message held v x a.0 b.0 a.1 b.1 a.2 b.2 a.3 b.3).0
 
 one_more : (test : Option Code) (message : Seen) (name : List ℕ) (held more others : List (List ℕ)) → JoinsBy test message name held more → JoinsBy test message name held others → more ≡ others

@@ -10,13 +10,13 @@ use Rattle.kd_token.specs.Accepts.{Accepts}
 use Rattle.kd_token.specs.File.{Code, HasFile}
 
 -- a run of a program over a message with names held gives this truth value
-abbrev pub Gives : Code → Seen → List (List ℕ) → Bool → Type 0
-Gives program message held v = (n : ℕ) × (d : ℕ) × (l : ℕ) × Run program message held v n d l
+abbrev pub RunGives : Code → Seen → List (List ℕ) → Bool → Type 0
+RunGives program message held v = (n : ℕ) × (d : ℕ) × (l : ℕ) × Run program message held v n d l
 
 -- a name joins those held where its test's run gives true; without a test it does not
 abbrev pub JoinsBy : Option Code → Seen → List ℕ → List (List ℕ) → List (List ℕ) → Type 0
 JoinsBy None message name held more = more ≡ held
-JoinsBy (Some program) message name held more = (v : Bool) × Gives program message held v × (more ≡ (if v then with_name name held else held))
+JoinsBy (Some program) message name held more = (v : Bool) × RunGives program message held v × (more ≡ (if v then with_name name held else held))
 
 -- the names held before and after a definition
 abbrev pub Joins : Seen → ClassDef → List (List ℕ) → List (List ℕ) → Type 0

@@ -5,7 +5,7 @@ use Rattle.std.specs.List.{list_all, list_any, starts_with}
 use Rattle.kd_classes.specs.declared.definition.ClassDef.{ClassDef}
 use Rattle.kd_classes.specs.declared.fault.ClassFault.{ClassFault}
 use Rattle.kd_classes.specs.declared.fault.ClassFault.TheVariants as faults
-use Rattle.kd_machine.specs.World.{same}
+use Rattle.kd_machine.specs.Parts.{same}
 use Rattle.kd_token.specs.File.{Code}
 
 -- the number of each fault
@@ -15,16 +15,16 @@ class_fault_number (faults.UnknownMember i) = 61
 class_fault_number faults.TooMany = 62
 
 -- one of these definitions has the name
-abbrev pub is_named : List ℕ → List ClassDef → Bool
-is_named name defs = list_any (λ def. same name def.name) defs
+abbrev pub named_among : List ℕ → List ClassDef → Bool
+named_among name defs = list_any (λ def. same name def.name) defs
 
 -- a built-in name: ALL, or one that begins with VENDOR_CLASS_
-abbrev pub is_built_in : List ℕ → Bool
-is_built_in name = same name (codes "ALL") || starts_with nat_eq name (codes "VENDOR_CLASS_")
+abbrev pub built_in : List ℕ → Bool
+built_in name = same name (codes "ALL") || starts_with nat_eq name (codes "VENDOR_CLASS_")
 
 -- a name is known behind these definitions
-abbrev pub is_known : List ClassDef → List ℕ → Bool
-is_known earlier name = is_built_in name || is_named name earlier
+abbrev pub known_after : List ClassDef → List ℕ → Bool
+known_after earlier name = built_in name || named_among name earlier
 
 -- the names of a test's program, used or not
 abbrev pub names_of : Option Code → List (List ℕ)
@@ -37,8 +37,8 @@ asked def = names_of def.test
 
 -- a definition behind these has a name of its own and asks for known names alone
 pub record IsInOrder (earlier : List ClassDef) (def : ClassDef) : Type 0 where
-  pub own : is_named def.name earlier ≡ false
-  pub known : list_all (is_known earlier) (asked def) ≡ true
+  pub own : named_among def.name earlier ≡ false
+  pub known : list_all (known_after earlier) (asked def) ≡ true
 
 -- the first so many definitions are in order
 abbrev pub AreInOrderTo : List ClassDef → ℕ → Type 0
@@ -51,18 +51,18 @@ pub record AreInOrder (defs : List ClassDef) : Type 0 where
 
 -- what is wrong with definition i, behind these
 abbrev pub IsFaultOf : ℕ → List ClassDef → ClassDef → ClassFault → Type 0
-IsFaultOf i earlier def (faults.Duplicate at) = (at ≡ i) × (is_named def.name earlier ≡ true)
-IsFaultOf i earlier def (faults.UnknownMember at) = (at ≡ i) × (is_named def.name earlier ≡ false) × (list_all (is_known earlier) (asked def) ≡ false)
+IsFaultOf i earlier def (faults.Duplicate at) = (at ≡ i) × (named_among def.name earlier ≡ true)
+IsFaultOf i earlier def (faults.UnknownMember at) = (at ≡ i) × (named_among def.name earlier ≡ false) × (list_all (known_after earlier) (asked def) ≡ false)
 IsFaultOf i earlier def faults.TooMany = ⊥
 
 -- a fault of definition i, where those before it are in order
-pub record IsFaultAt (defs : List ClassDef) (i : ℕ) (fault : ClassFault) : Type 0 where
+pub record IsClassFault (defs : List ClassDef) (i : ℕ) (fault : ClassFault) : Type 0 where
   pub def : ClassDef
   pub at : slice_get defs i ≡ Some def
   pub before : AreInOrderTo defs i
   pub wrong : IsFaultOf i (take i defs) def fault
 
 -- the first fault of definitions: they are over 256, or the first that is not in order is at fault
-abbrev pub IsFirstFault : List ClassDef → ClassFault → Type 0
-IsFirstFault defs faults.TooMany = 256 < length defs
-IsFirstFault defs fault = (length defs ≤ 256) × (i : ℕ) × IsFaultAt defs i fault
+abbrev pub IsFirstClassFault : List ClassDef → ClassFault → Type 0
+IsFirstClassFault defs faults.TooMany = 256 < length defs
+IsFirstClassFault defs fault = (length defs ≤ 256) × (i : ℕ) × IsClassFault defs i fault

@@ -1,6 +1,6 @@
 ghost use Rattle.std.specs.Prelude.{◌≡◌, IfErr, IfOk, IsOk, length, option_copied, slice_get};
 ghost use Rattle.kd_classes.specs.HeldSet.{HeldSet, Joins};
-ghost use Rattle.kd_classes.specs.Order.{AreInOrder, IsFirstFault};
+ghost use Rattle.kd_classes.specs.Order.{AreInOrder, IsFirstClassFault};
 
 use crate::definition::ClassDef;
 use crate::fault::ClassFault;
@@ -40,7 +40,7 @@ impl Classes {
     pub fn new(definitions: Vec<ClassDef>) -> Result<Classes, ClassFault>
         ensures kept { IfOk result (λ c. c ≡ definitions.items) }
         ensures ordered { IfOk result (λ _. AreInOrder definitions.items) }
-        ensures refused { IfErr result (λ fault. IsFirstFault definitions.items fault) }
+        ensures refused { IfErr result (λ fault. IsFirstClassFault definitions.items fault) }
         ensures only { AreInOrder definitions.items → IsOk result }
     {
         check(&definitions)?;

@@ -1,19 +1,19 @@
 ghost use Rattle.std.specs.Prelude.{◌≡◌, ℕ, List};
 ghost use Rattle.std.specs.List.{AllByRecursion};
 ghost use Rattle.kd_classes.specs.HeldSet.{HeldSet, IsAccepted};
-ghost use Rattle.kd_classes.specs.Order.{AreInOrder, IsFirstFault};
+ghost use Rattle.kd_classes.specs.Order.{AreInOrder, IsFirstClassFault};
 ghost use Rattle.kd_classes.specs.declared.definition.ClassDef.{ClassDef};
 ghost use Rattle.kd_classes.specs.declared.fault.ClassFault.{ClassFault};
 ghost use Rattle.kd_options.specs.Message.{IsMessage, Seen};
 
 /// Definitions in order have no fault.
 pub fn no_fault()
-    ensures { (defs : List ClassDef) (fault : ClassFault) → AreInOrder defs → IsFirstFault defs fault → ⊥ }
+    ensures { (defs : List ClassDef) (fault : ClassFault) → AreInOrder defs → IsFirstClassFault defs fault → ⊥ }
 {}
 
 /// Definitions have one first fault.
 pub fn one_fault()
-    ensures { (defs : List ClassDef) (fault other : ClassFault) → IsFirstFault defs fault → IsFirstFault defs other → fault ≡ other }
+    ensures { (defs : List ClassDef) (fault other : ClassFault) → IsFirstClassFault defs fault → IsFirstClassFault defs other → fault ≡ other }
 {}
 
 /// Definitions whose tests are accepted programs give every message the names of its classes.

@@ -1,6 +1,6 @@
 ghost use Rattle.std.specs.Prelude.{◌≡◌, not, take, MatchResult, Some, slice_get};
 ghost use Rattle.std.specs.List.{list_all};
-ghost use Rattle.kd_classes.specs.Order.{AreInOrder, IsFaultOf, IsFirstFault, IsInOrder, asked, is_built_in, is_known, is_named};
+ghost use Rattle.kd_classes.specs.Order.{AreInOrder, IsFaultOf, IsFirstClassFault, IsInOrder, asked, built_in, known_after, named_among};
 
 use crate::definition::ClassDef;
 use crate::fault::ClassFault;
@@ -8,21 +8,21 @@ use kd_token::Program;
 
 // Whether one of these definitions has a name.
 fn is_named(name: &[u8], definitions: &[ClassDef]) -> bool
-    ensures { result ≡ is_named name.now definitions.now }
+    ensures { result ≡ named_among name.now definitions.now }
 {
     definitions.iter().any(|def| name == def.name.as_slice())
 }
 
 // Whether a name is built in: a message can have it before any definition.
 fn is_built_in(name: &[u8]) -> bool
-    ensures { result ≡ is_built_in name.now }
+    ensures { result ≡ built_in name.now }
 {
     name == b"ALL".as_slice() || name.starts_with(b"VENDOR_CLASS_")
 }
 
 // Whether a name is known behind these definitions.
 fn is_known(name: &[u8], earlier: &[ClassDef]) -> bool
-    ensures { result ≡ is_known earlier.now name.now }
+    ensures { result ≡ known_after earlier.now name.now }
 {
     is_built_in(name) || is_named(name, earlier)
 }
@@ -30,7 +30,7 @@ fn is_known(name: &[u8], earlier: &[ClassDef]) -> bool
 // Whether each name of a program is known behind these definitions.
 #[tactic(auto, using(crate::proofs::Left::passes_at, crate::proofs::Left::fails_at, crate::proofs::Left::ends_at))]
 fn are_known(program: &Program, earlier: &[ClassDef]) -> bool
-    ensures { result ≡ list_all (is_known earlier.now) program.now.names }
+    ensures { result ≡ list_all (known_after earlier.now) program.now.names }
 {
     // a program has at most 64 names
     let _limits = program.tokens();
@@ -47,7 +47,7 @@ fn are_known(program: &Program, earlier: &[ClassDef]) -> bool
 
 // Whether each name that a definition asks for is known behind these definitions.
 fn asks_known(definition: &ClassDef, earlier: &[ClassDef]) -> bool
-    ensures { result ≡ list_all (is_known earlier.now) (asked definition.now) }
+    ensures { result ≡ list_all (known_after earlier.now) (asked definition.now) }
 {
     match &definition.test {
         Some(test) => are_known(test.program(), earlier),
@@ -72,7 +72,7 @@ fn check_at(index: usize, definition: &ClassDef, definitions: &[ClassDef]) -> Re
 
 // Whether definitions are in order.
 pub(crate) fn check(definitions: &[ClassDef]) -> Result<(), ClassFault>
-    ensures { MatchResult result (λ _. AreInOrder definitions.now) (λ fault. IsFirstFault definitions.now fault) }
+    ensures { MatchResult result (λ _. AreInOrder definitions.now) (λ fault. IsFirstClassFault definitions.now fault) }
 {
     if definitions.len() > 256 {
         return Err(ClassFault::TooMany);

@@ -10,8 +10,8 @@ use Rattle.std.proofs.lemmas.List.Elements.{All-cons, All-head, All-nil, All-tai
 use Rattle.std.proofs.lemmas.Slice.Eq.{bytes_eq-Decides}
 use Rattle.clap.specs.Words.{Text, first_of}
 use Rattle.clap.specs.Walk.{has_row, with_default}
-use Rattle.kd_commands.specs.Line.{IsOneOf, flag_given, given}
-use Rattle.kd_commands.specs.Order.{is_flagged}
+use Rattle.kd_commands.specs.Line.{IsOneOf, flag_given, given_values}
+use Rattle.kd_commands.specs.Order.{flag_is_given}
 use Rattle.kd_commands.proofs.Apart.{Have, apart_given, first_is, given_to, have_given, have_in_order, kept, value_of}
 use Rattle.kd_commands.proofs.Held.{Value, default_apart, default_found, default_left, rows_of, text_of}
 use Rattle.kd_commands.proofs.Options.{flag_of}
@@ -64,14 +64,14 @@ found_text n os text is = first_is n os ∙ ap (option_map text_of) is ∙ back 
 abbrev pub wrapped : Text × Option Text → Text × Option Value
 wrapped option = (option.0, option_map (λ v. Some v) option.1)
 
-pub given_kept : (values : List (Text × Option Text)) → given values ≡ kept (map wrapped values)
+pub given_kept : (values : List (Text × Option Text)) → given_values values ≡ kept (map wrapped values)
 given_kept [] = refl
 given_kept ((n, None) ∷ values) = given_kept values
 given_kept ((n, Some v) ∷ values) = ap (λ l. (n, Some v) ∷ l) (given_kept values)
 
 -- what options give to names that are no flags
 pub given_texts : (names flags ns : List Text) (os : List (Text × Value)) → AllByRecursion (λ n. IsOneOf n flags → ⊥) ns → All (IsEntry names flags) os
-    → given_to ns os ≡ given (map (λ n. (n, text_at n os)) ns)
+    → given_to ns os ≡ given_values (map (λ n. (n, text_at n os)) ns)
 given_texts names flags ns os no_flags ones = ap kept (go ns no_flags) ∙ sym (given_kept (map (λ n. (n, text_at n os)) ns))
   where
     go : (ms : List Text) → AllByRecursion (λ n. IsOneOf n flags → ⊥) ms → map (λ n. (n, value_of n os)) ms ≡ map wrapped (map (λ n. (n, text_at n os)) ms)
@@ -80,10 +80,10 @@ given_texts names flags ns os no_flags ones = ap kept (go ns no_flags) ∙ sym (
 
 -- the names of what is given are those of options
 pub ones_given : (names flags : List Text) (values : List (Text × Option Text)) → AllByRecursion (λ n. IsOneOf n names) (keys_of values)
-    → All (IsEntry names flags) (given values)
+    → All (IsEntry names flags) (given_values values)
 ones_given names flags [] h = All-nil (IsEntry names flags)
 ones_given names flags ((n, None) ∷ values) h = ones_given names flags values h.1
-ones_given names flags ((n, Some v) ∷ values) h = All-cons (IsEntry names flags) (n, Some v) (given values) h.0 (ones_given names flags values h.1)
+ones_given names flags ((n, Some v) ∷ values) h = All-cons (IsEntry names flags) (n, Some v) (given_values values) h.0 (ones_given names flags values h.1)
 
 -- options have what is given, in whichever order they stand
 pub have_of : (os options : List (Text × Value)) (l : List (Text × Option Value)) → IsPermutation os options → options ≡ kept l
@@ -125,13 +125,13 @@ flag_kept f true = refl
 flag_kept f false = refl
 
 pub both_kept : (values : List (Text × Option Text)) (f : Text) (b : Bool)
-    → given values ++ flag_given f b ≡ kept (map wrapped values ++ (f, standing b) ∷ [])
+    → given_values values ++ flag_given f b ≡ kept (map wrapped values ++ (f, standing b) ∷ [])
 both_kept values f b = ap₂ (λ l k. l ++ k) (given_kept values) (flag_kept f b) ∙ sym (kept_append (map wrapped values) ((f, standing b) ∷ []))
 
 -- what options and a flag give to their names
 pub both_given : (names flags : List Text) (f : Text) (ns : List Text) (os : List (Text × Value)) → AllByRecursion (λ n. IsOneOf n flags → ⊥) ns
     → (IsOneOf f names → ⊥) → All (IsEntry names flags) os
-    → given_to (ns ++ f ∷ []) os ≡ given (map (λ n. (n, text_at n os)) ns) ++ flag_given f (is_some (value_of f os))
+    → given_to (ns ++ f ∷ []) os ≡ given_values (map (λ n. (n, text_at n os)) ns) ++ flag_given f (is_some (value_of f os))
 both_given names flags f ns os no_flags no_option ones =
     ap kept (map-append (λ n. (n, value_of n os)) ns (f ∷ []))
     ∙ kept_append (map (λ n. (n, value_of n os)) ns) ((f, value_of f os) ∷ [])
@@ -161,12 +161,12 @@ found_beside f n os text other is =
 
 -- and whether the flag stands
 pub found_flag : (f : Text) (os : List (Text × Value)) (b : Bool) → value_of f os ≡ standing b
-    → is_flagged (first_of f (with_default (rows_of os) (flag_of f))) ≡ b
+    → flag_is_given (first_of f (with_default (rows_of os) (flag_of f))) ≡ b
 found_flag f os true is =
     let there : has_row f (rows_of os) ≡ true = has_is f os ∙ ap is_some is in
     let found : first_of f (with_default (rows_of os) (flag_of f)) ≡ Some (codes "true") =
     default_left f (rows_of os) there ∙ first_is f os ∙ ap (option_map text_of) is in
-    ap is_flagged found
+    ap flag_is_given found
 found_flag f os false is =
     let none : has_row f (rows_of os) ≡ false = has_is f os ∙ ap is_some is in
-    ap is_flagged (default_found f (rows_of os) none)
+    ap flag_is_given (default_found f (rows_of os) none)

@@ -12,7 +12,7 @@ use Rattle.clap.specs.Simple.{filled, with_index}
 use Rattle.clap.specs.declared.error.kind.ErrorKind.TheVariants.{ArgumentConflict, DisplayHelp, MissingRequiredArgument, UnknownArgument}
 use Rattle.clap.proofs.OnLiterals.{clap_on_literals}
 use Rattle.kd_commands.specs.Line.{AreTexts, IsFlaggedLine, IsHelpFlag, IsLine, IsLineOf, IsOneOf, is_flag}
-use Rattle.kd_commands.specs.Order.{Asked, command_line, eval_line, evaluates, evaluation_of, flag, is_flagged, tests}
+use Rattle.kd_commands.specs.Order.{Asked, command_line, eval_line, evaluates, evaluation_of, flag_rule, flag_is_given, tests}
 use Rattle.kd_commands.proofs.Flags.{FlagsFailBut, flags_fail_but, neither, no_dashes, no_long, no_other_flag, no_short}
 use Rattle.kd_commands.proofs.Level.{found, leaf, level, start, step_down, step_up}
 use Rattle.kd_commands.proofs.Top.{IsSub, line_fault, line_found}
@@ -22,7 +22,7 @@ abbrev pub eval_built : Shape
 eval_built = leaf eval_line
 
 abbrev flag_built : Rule
-flag_built = with_index 1 (filled (flag (codes "text")))
+flag_built = with_index 1 (filled (flag_rule (codes "text")))
 
 flags : FlagsFailBut (codes "text") flag_built eval_built.rules
 flags = flags_fail_but (codes "text") flag_built eval_built.rules (λ n. refl) (λ x. refl) refl
@@ -326,7 +326,7 @@ incomplete (two_flagged a b) n t h = never n h
 -- from this walk on the words do not fail, and the flag and the texts are found
 record Passes (w : Walk) (rest : List Text) (f : Bool) (ps : List Text) : Type 0 where
   whole : level eval_built w rest ≡ []
-  has_flag : is_flagged (first_of (codes "text") (found eval_built w rest)) ≡ f
+  has_flag : flag_is_given (first_of (codes "text") (found eval_built w rest)) ≡ f
   program : first_of (codes "PROGRAM") (found eval_built w rest) ≡ slice_get ps 0
   datagram : first_of (codes "DATAGRAM") (found eval_built w rest) ≡ slice_get ps 1
 
@@ -347,7 +347,7 @@ before : (w v : Walk) (x : Text) (rest : List Text) (f : Bool) (ps : List Text) 
     → Passes v rest f ps → Passes w (x ∷ rest) f ps
 before w v x rest f ps turn to h = record {
   whole = step_up eval_built w v x rest turn to h.whole;
-  has_flag = ap (λ y. is_flagged (first_of (codes "text") (found eval_built y rest))) to ∙ h.has_flag;
+  has_flag = ap (λ y. flag_is_given (first_of (codes "text") (found eval_built y rest))) to ∙ h.has_flag;
   program = ap (λ y. first_of (codes "PROGRAM") (found eval_built y rest)) to ∙ h.program;
   datagram = ap (λ y. first_of (codes "DATAGRAM") (found eval_built y rest)) to ∙ h.datagram;
 }
@@ -565,7 +565,7 @@ eval_in rest sub utf8 none = go (reads nothing rest utf8 (sym (line_fault (codes
 abbrev asked : Bool → Text → Text → Asked
 asked f a b = if f then tests a b else evaluates a b
 
-gives : (rows : List Row) (f : Bool) (a b : Text) → is_flagged (first_of (codes "text") rows) ≡ f → first_of (codes "PROGRAM") rows ≡ Some a
+gives : (rows : List Row) (f : Bool) (a b : Text) → flag_is_given (first_of (codes "text") rows) ≡ f → first_of (codes "PROGRAM") rows ≡ Some a
     → first_of (codes "DATAGRAM") rows ≡ Some b
     → evaluation_of (first_of (codes "text") rows) (first_of (codes "PROGRAM") rows) (first_of (codes "DATAGRAM") rows) ≡ Some (asked f a b)
 gives rows f a b flag_is program datagram = rw (program, datagram, flag_is) refl

@@ -10,7 +10,7 @@ use Rattle.clap.specs.Takes.{is_given}
 use Rattle.clap.specs.Walk.{arg_by_long, arg_by_short, has_short}
 use Rattle.clap.specs.declared.error.kind.ErrorKind.TheVariants.{DisplayHelp}
 use Rattle.clap.proofs.OnLiterals.{clap_on_literals}
-use Rattle.kd_commands.specs.Line.{IsHelpFlag, IsLine, IsOneOf, given}
+use Rattle.kd_commands.specs.Line.{IsHelpFlag, IsLine, IsOneOf, given_values}
 use Rattle.kd_commands.specs.Order.{Asked, asked_of, command_line, leases_line, listing_of, lists, replay_line, replays}
 use Rattle.kd_commands.specs.Values.{number_of}
 use Rattle.kd_commands.proofs.Apart.{apart_given, apart_in_order, given_is, in_some_order, kept, value_of}
@@ -171,8 +171,8 @@ replay_passes ws c d s sub h =
     let order = subst (IsPermutation h.in_order) is h.in_some_order in
     let apart = apart_in_order h.in_order (kept (map wrapped values)) order (apart_given (map wrapped values) file_names_apart) in
     let given_ones = ones_given file_names [] values (inl refl, (inr (inl refl), (inr (inr (inl refl)), tt))) in
-    let ones = All-permutation (IsEntry file_names []) (given values) h.in_order (IsPermutation-sym h.in_order (given values) h.in_some_order) given_ones in
-    let have = have_of h.in_order (given values) (map wrapped values) h.in_some_order is file_names_apart in
+    let ones = All-permutation (IsEntry file_names []) (given_values values) h.in_order (IsPermutation-sym h.in_order (given_values values) h.in_some_order) given_ones in
+    let have = have_of h.in_order (given_values values) (map wrapped values) h.in_some_order is file_names_apart in
     let read : AreRead file_names [] [] h.behind = record { options = h.in_order; are = h.options_behind; apart = apart; ones = ones; enough = refl } in
     let passes = line_passes (codes "replay") file_names [] [] replay_built.rules replay_rules ws h.behind read sub h.named in
     let found = passes.1 ∙ ap (λ l. Some (codes "replay", l)) (no_defaults replay_built.rules (rows_of h.in_order) replay_plain) in (
@@ -220,7 +220,7 @@ lists_for rest read digits moment is spells =
           in_order = read.options;
           named = refl;
           options_behind = read.are;
-          in_some_order = subst (λ at. IsPermutation read.options (given (values at))) is (subst (IsPermutation read.options) texts order);
+          in_some_order = subst (λ at. IsPermutation read.options (given_values (values at))) is (subst (IsPermutation read.options) texts order);
         },
       ),
     )
@@ -258,8 +258,8 @@ leases_passes ws c d s moment sub (digits, spells, h) =
     let order = subst (IsPermutation h.in_order) is h.in_some_order in
     let apart = apart_in_order h.in_order (kept (map wrapped values)) order (apart_given (map wrapped values) listing_names_apart) in
     let given_ones = ones_given listing_names [] values (inl refl, (inr (inl refl), (inr (inr (inl refl)), (inr (inr (inr (inl refl))), tt)))) in
-    let ones = All-permutation (IsEntry listing_names []) (given values) h.in_order (IsPermutation-sym h.in_order (given values) h.in_some_order) given_ones in
-    let have = have_of h.in_order (given values) (map wrapped values) h.in_some_order is listing_names_apart in
+    let ones = All-permutation (IsEntry listing_names []) (given_values values) h.in_order (IsPermutation-sym h.in_order (given_values values) h.in_some_order) given_ones in
+    let have = have_of h.in_order (given_values values) (map wrapped values) h.in_some_order is listing_names_apart in
     let there : is_given (codes "at") (rows_of h.in_order) ≡ true = given_is (codes "at") h.in_order ∙ ap is_some have.1.1.1.0 in
     let enough : lacks_of needed_names h.in_order ≡ false = ap (λ b. not b || false) there in
     let read : AreRead listing_names [] needed_names h.behind = record { options = h.in_order; are = h.options_behind; apart = apart; ones = ones; enough = enough } in

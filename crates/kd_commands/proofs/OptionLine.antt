@@ -15,7 +15,7 @@ use Rattle.clap.specs.Faults.{option_fault, react_fault, settle_fault, turn_faul
 use Rattle.clap.specs.declared.error.kind.ErrorKind.{ErrorKind}
 use Rattle.clap.specs.declared.error.kind.ErrorKind.TheVariants.{ArgumentConflict, DisplayHelp, InvalidValue, MissingRequiredArgument, UnknownArgument}
 use Rattle.clap.proofs.OnLiterals.{clap_on_literals}
-use Rattle.kd_commands.specs.Line.{AreOptions, AreTexts, BeginWith, IsHelpFlag, IsOneOf, is_flag}
+use Rattle.kd_commands.specs.Line.{AreOptionWords, AreTexts, BeginWith, IsHelpFlag, IsOneOf, is_flag}
 use Rattle.kd_commands.specs.Order.{command_line}
 use Rattle.kd_commands.proofs.Apart.{apart_from, apart_more}
 use Rattle.kd_commands.proofs.Flags.{neither, no_dashes, no_long, no_short, then_none}
@@ -46,7 +46,7 @@ IsEntry names flags o = Belongs names flags o.0 o.1
 -- the words are options and flags of these names, each once, with those that are wanted among them
 pub record AreRead (names flags wanted words : List Text) : Type 0 where
   pub options : List (Text × Value)
-  pub are : AreOptions words options
+  pub are : AreOptionWords words options
   pub apart : IsDistinct bytes_eq (keys_of options)
   pub ones : All (IsEntry names flags) options
   pub enough : lacks_of wanted options ≡ false
@@ -200,7 +200,7 @@ module _ (name : Text) (names flags wanted : List Text) (c : List Rule) (ours : 
 
   -- with these options before, each name once
   options_pass : (h : Held) (gs os : List (Text × Value)) (words : List Text) → IsHeld c h gs → All (IsEntry names flags) os
-      → IsDistinct bytes_eq (keys_of (gs ++ os)) → lacks (gs ++ os) ≡ false → AreOptions words os → Passes (walk_with h idle false) words (gs ++ os)
+      → IsDistinct bytes_eq (keys_of (gs ++ os)) → lacks (gs ++ os) ≡ false → AreOptionWords words os → Passes (walk_with h idle false) words (gs ++ os)
   options_pass h gs [] words held ones apart enough are =
       let all : gs ++ [] ≡ gs = append-nil gs in
       subst (λ l. Passes (walk_with h idle false) words l) (sym all) (end_passes h gs words held (ap lacks (sym all) ∙ enough) are)
@@ -318,7 +318,7 @@ module _ (name : Text) (names flags wanted : List Text) (c : List Rule) (ours : 
     ones : All (IsEntry names flags) options
     apart : IsDistinct bytes_eq (keys_of (gs ++ options))
     enough : lacks (gs ++ options) ≡ false
-    are : AreOptions rest options
+    are : AreOptionWords rest options
 
   with_option : (gs : List (Text × Value)) (n : Text) (v : Value) (words rest : List Text) → Belongs names flags n v → BeginWith n v words rest
       → Reads (gs ++ (n, v) ∷ []) rest → Reads gs words

@@ -13,16 +13,16 @@ use Rattle.clap.specs.Takes.{is_given}
 use Rattle.clap.specs.Faults.{defaults_fault, flag_word_fault, long_fault, option_fault, react_fault}
 use Rattle.clap.specs.declared.error.kind.ErrorKind.TheVariants.{TooManyValues}
 use Rattle.kd_commands.specs.Line.{IsOneOf, is_flag}
-use Rattle.kd_commands.specs.Order.{flag, valued}
+use Rattle.kd_commands.specs.Order.{flag_rule, value_rule}
 use Rattle.kd_commands.proofs.Flags.{ShortsFail, bundle_fails, help_built, long_fails, whole_before}
 
 -- an option, as clap builds it, and whether it has to be there
 abbrev pub built_of : Bool → Text → Rule
-built_of needed name = record (with_index 1 (filled (valued name))) { required = needed }
+built_of needed name = record (with_index 1 (filled (value_rule name))) { required = needed }
 
 -- a flag, as clap builds it
 abbrev pub flag_of : Text → Rule
-flag_of name = with_index 1 (filled (flag name))
+flag_of name = with_index 1 (filled (flag_rule name))
 
 -- the option's word, alone and with a value
 abbrev pub alone : Text → Text

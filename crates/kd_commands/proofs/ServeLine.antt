@@ -14,8 +14,8 @@ use Rattle.clap.specs.Takes.{is_given}
 use Rattle.clap.specs.Walk.{arg_by_long, arg_by_short, has_short, with_default}
 use Rattle.clap.specs.declared.error.kind.ErrorKind.TheVariants.{DisplayHelp}
 use Rattle.clap.proofs.OnLiterals.{clap_on_literals}
-use Rattle.kd_commands.specs.Line.{IsHelpFlag, IsLine, IsOneOf, IsServeLine, flag_given, given}
-use Rattle.kd_commands.specs.Order.{Asked, asked_of, command_line, is_flagged, listening_of, loopback, serve_line, serves, serving_of}
+use Rattle.kd_commands.specs.Line.{IsHelpFlag, IsLine, IsOneOf, IsServeLine, flag_given, given_values}
+use Rattle.kd_commands.specs.Order.{Asked, asked_of, command_line, flag_is_given, listening_of, loopback, serve_line, serves, serving_of}
 use Rattle.kd_commands.specs.Values.{address_of, number_of, port_of, read_or}
 use Rattle.kd_commands.specs.declared.orders.Listening.{Listening}
 use Rattle.kd_commands.proofs.Apart.{Have, apart_given, apart_in_order, given_is, in_some_order, kept, value_of}
@@ -141,7 +141,7 @@ serve_helps word rest sub h = option_helps (codes "serve") option_names flag_nam
 asked_by_texts : (rows : List Row) (c d s a p q b : Option Text) (digits : Text) (m : Bool) (o : Option Listening) (n : Option ℕ)
     → first_of (codes "config") rows ≡ c → first_of (codes "token-dir") rows ≡ d → first_of (codes "store") rows ≡ s
     → first_of (codes "bind") rows ≡ a → first_of (codes "port") rows ≡ p → first_of (codes "client-port") rows ≡ q
-    → first_of (codes "count") rows ≡ Some digits → first_of (codes "broadcast-as") rows ≡ b → is_flagged (first_of (codes "mirror") rows) ≡ m
+    → first_of (codes "count") rows ≡ Some digits → first_of (codes "broadcast-as") rows ≡ b → flag_is_given (first_of (codes "mirror") rows) ≡ m
     → listening_of a p q b m ≡ o → number_of digits ≡ n
     → serving_of (λ option. first_of option rows) ≡ option_and_then (λ listening. option_and_then (λ count. Some (serves c d s listening count)) n) o
 asked_by_texts rows c d s a p q b digits m o n e1 e2 e3 e4 e5 e6 e7 e8 e9 is counts =
@@ -172,12 +172,12 @@ serve_passes ws c d s listening count sub h =
     let line = h.line in
     let values : List (Text × Option Text) = (codes "config", c) ∷ (codes "token-dir", d) ∷ (codes "store", s) ∷ (codes "bind", h.bind)
     ∷ (codes "port", h.port) ∷ (codes "client-port", h.client_port) ∷ (codes "count", Some h.digits) ∷ (codes "broadcast-as", h.broadcast_as) ∷ [] in
-    let options = given values ++ flag_given (codes "mirror") listening.mirror in
+    let options = given_values values ++ flag_given (codes "mirror") listening.mirror in
     let all : List (Text × Option Value) = map wrapped values ++ (codes "mirror", standing listening.mirror) ∷ [] in
     let is : options ≡ kept all = both_kept values (codes "mirror") listening.mirror in
     let order = subst (IsPermutation line.in_order) is line.in_some_order in
     let apart = apart_in_order line.in_order (kept all) order (apart_given all all_names_apart) in
-    let given_ones = All-append (IsEntry option_names flag_names) (given values) (flag_given (codes "mirror") listening.mirror)
+    let given_ones = All-append (IsEntry option_names flag_names) (given_values values) (flag_given (codes "mirror") listening.mirror)
     (ones_given option_names flag_names values (inl refl, (inr (inl refl), (inr (inr (inl refl)), (inr (inr (inr (inl refl))), (inr (inr (inr (inr (inl refl)))), (inr (inr (inr (inr (inr (inl refl))))), (inr (inr (inr (inr (inr (inr (inl refl)))))), (inr (inr (inr (inr (inr (inr (inr (inl refl))))))), tt)))))))))
     (flag_is_entry option_names flag_names (codes "mirror") listening.mirror (inl refl)) in
     let ones = All-permutation (IsEntry option_names flag_names) options line.in_order (IsPermutation-sym line.in_order options line.in_some_order) given_ones in
@@ -239,8 +239,8 @@ serves_for rest read digits listening count is listens mirrors counts =
     let values : Option Text → List (Text × Option Text) = λ count. (codes "config", text_at (codes "config") os) ∷ (codes "token-dir", text_at (codes "token-dir") os)
     ∷ (codes "store", text_at (codes "store") os) ∷ (codes "bind", text_at (codes "bind") os) ∷ (codes "port", text_at (codes "port") os)
     ∷ (codes "client-port", text_at (codes "client-port") os) ∷ (codes "count", count) ∷ (codes "broadcast-as", text_at (codes "broadcast-as") os) ∷ [] in
-    let at_digits : IsPermutation os (given (values (Some digits)) ++ flag_given (codes "mirror") (is_some (value_of (codes "mirror") os))) =
-    subst (λ t. IsPermutation os (given (values t) ++ flag_given (codes "mirror") (is_some (value_of (codes "mirror") os)))) is (subst (IsPermutation os) texts order) in (
+    let at_digits : IsPermutation os (given_values (values (Some digits)) ++ flag_given (codes "mirror") (is_some (value_of (codes "mirror") os))) =
+    subst (λ t. IsPermutation os (given_values (values t) ++ flag_given (codes "mirror") (is_some (value_of (codes "mirror") os)))) is (subst (IsPermutation os) texts order) in (
       serves (text_at (codes "config") os) (text_at (codes "token-dir") os) (text_at (codes "store") os) listening count,
       record {
         bind = text_at (codes "bind") os;
@@ -256,7 +256,7 @@ serves_for rest read digits listening count is listens mirrors counts =
           in_order = os;
           named = refl;
           options_behind = read.are;
-          in_some_order = subst (λ m. IsPermutation os (given (values (Some digits)) ++ flag_given (codes "mirror") m)) (sym mirrors) at_digits;
+          in_some_order = subst (λ m. IsPermutation os (given_values (values (Some digits)) ++ flag_given (codes "mirror") m)) (sym mirrors) at_digits;
         };
       },
     )

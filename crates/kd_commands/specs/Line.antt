@@ -50,23 +50,23 @@ BeginWith name (Some value) words behind =
     ⊎ ((words ≡ (codes "--" ++ name) ∷ value ∷ behind) × (is_flag value ≡ false))
 
 -- the words are these options with their values, and flags with none, in this order, but for `--` behind them
-abbrev pub AreOptions : List Text → List (Text × Option Text) → Type 0
-AreOptions words [] = AreTexts words []
-AreOptions words (option ∷ options) =
-    (behind : List Text) × BeginWith option.0 option.1 words behind × AreOptions behind options
+abbrev pub AreOptionWords : List Text → List (Text × Option Text) → Type 0
+AreOptionWords words [] = AreTexts words []
+AreOptionWords words (option ∷ options) =
+    (behind : List Text) × BeginWith option.0 option.1 words behind × AreOptionWords behind options
 
 -- those of the options that have a value
-abbrev pub given : List (Text × Option Text) → List (Text × Option Text)
-given [] = []
-given ((name, None) ∷ options) = given options
-given ((name, Some value) ∷ options) = (name, Some value) ∷ given options
+abbrev pub given_values : List (Text × Option Text) → List (Text × Option Text)
+given_values [] = []
+given_values ((name, None) ∷ options) = given_values options
+given_values ((name, Some value) ∷ options) = (name, Some value) ∷ given_values options
 
 -- the words are this subcommand with these options and flags, in any order
 pub record IsOptionLine (name : Text) (words : List Text) (options : List (Text × Option Text)) : Type 0 where
   pub behind : List Text
   pub in_order : List (Text × Option Text)
   pub named : words ≡ name ∷ behind
-  pub options_behind : AreOptions behind in_order
+  pub options_behind : AreOptionWords behind in_order
   pub in_some_order : IsPermutation in_order options
 
 -- the flag of this name, where it stands
@@ -83,7 +83,7 @@ pub record IsServeLine (words : List Text) (config token_dir store : Option Text
   pub broadcast_as : Option Text
   pub listens : listening_of bind port client_port broadcast_as listening.mirror ≡ Some listening
   pub counts : number_of digits ≡ Some count
-  pub line : IsOptionLine (codes "serve") words (given ((codes "config", config) ∷ (codes "token-dir", token_dir)
+  pub line : IsOptionLine (codes "serve") words (given_values ((codes "config", config) ∷ (codes "token-dir", token_dir)
       ∷ (codes "store", store) ∷ (codes "bind", bind) ∷ (codes "port", port) ∷ (codes "client-port", client_port)
       ∷ (codes "count", Some digits) ∷ (codes "broadcast-as", broadcast_as) ∷ [])
       ++ flag_given (codes "mirror") listening.mirror)
@@ -97,9 +97,9 @@ IsLine words (verifies hex) = IsLineOf (codes "verify") words (hex ∷ [])
 IsLine words (evaluates program datagram) = IsLineOf (codes "eval") words (program ∷ datagram ∷ [])
 IsLine words (tests text datagram) = IsFlaggedLine (codes "eval") words (text ∷ datagram ∷ [])
 IsLine words (replays config token_dir store) = IsOptionLine (codes "replay") words
-    (given ((codes "config", config) ∷ (codes "token-dir", token_dir) ∷ (codes "store", store) ∷ []))
+    (given_values ((codes "config", config) ∷ (codes "token-dir", token_dir) ∷ (codes "store", store) ∷ []))
 IsLine words (lists config token_dir store moment) = (digits : Text) × (number_of digits ≡ Some moment)
-    × IsOptionLine (codes "leases") words (given ((codes "config", config) ∷ (codes "token-dir", token_dir)
+    × IsOptionLine (codes "leases") words (given_values ((codes "config", config) ∷ (codes "token-dir", token_dir)
     ∷ (codes "store", store) ∷ (codes "at", Some digits) ∷ []))
 IsLine words (serves config token_dir store listening count) = IsServeLine words config token_dir store listening count
 

@@ -20,31 +20,31 @@ use Rattle.kd_commands.specs.declared.orders.Order.TheVariants.{Help, Show, Expr
 use Rattle.kd_commands.specs.declared.orders.Order.TheVariants.{Leases, Serve}
 
 -- the number that a fault is printed with
-abbrev pub fault_number : LineFault → ℕ
-fault_number CommandLine = 98
-fault_number Memory = 91
+abbrev pub line_fault_number : LineFault → ℕ
+line_fault_number CommandLine = 98
+line_fault_number Memory = 91
 
 -- ---- the command line
 
 -- an argument that has to be there
-abbrev pub needed : Text → Rule
-needed id = record (new_rule id) { required = true }
+abbrev pub needed_rule : Text → Rule
+needed_rule id = record (new_rule id) { required = true }
 
 -- a flag
-abbrev pub flag : Text → Rule
-flag name = record (new_rule name) { long = Some name; action = Some SetTrue }
+abbrev pub flag_rule : Text → Rule
+flag_rule name = record (new_rule name) { long = Some name; action = Some SetTrue }
 
 -- an option with one value
-abbrev pub valued : Text → Rule
-valued name = record (new_rule name) { long = Some name; action = Some Set; value_names = 1 }
+abbrev pub value_rule : Text → Rule
+value_rule name = record (new_rule name) { long = Some name; action = Some Set; value_names = 1 }
 
 -- an option with one value, which has to be there
 abbrev pub needed_value : Text → Rule
-needed_value name = record (valued name) { required = true }
+needed_value name = record (value_rule name) { required = true }
 
 -- a subcommand with one argument, which has to be there
 abbrev pub text_line : Text → Text → App
-text_line name id = with_rule (new_app name) (needed id)
+text_line name id = with_rule (new_app name) (needed_rule id)
 
 -- `show HEX`
 abbrev pub show_line : App
@@ -65,14 +65,14 @@ verify_line = text_line (codes "verify") (codes "HEX")
 -- `eval [--text] PROGRAM DATAGRAM`
 abbrev pub eval_line : App
 eval_line =
-    with_rule (with_rule (with_rule (new_app (codes "eval")) (flag (codes "text"))) (needed (codes "PROGRAM")))
-    (needed (codes "DATAGRAM"))
+    with_rule (with_rule (with_rule (new_app (codes "eval")) (flag_rule (codes "text"))) (needed_rule (codes "PROGRAM")))
+    (needed_rule (codes "DATAGRAM"))
 
 -- a subcommand over files: `NAME [--config F] [--token-dir D] [--store F]`
 abbrev pub files_line : Text → App
 files_line name =
-    with_rule (with_rule (with_rule (new_app name) (valued (codes "config"))) (valued (codes "token-dir")))
-    (valued (codes "store"))
+    with_rule (with_rule (with_rule (new_app name) (value_rule (codes "config"))) (value_rule (codes "token-dir")))
+    (value_rule (codes "store"))
 
 -- `replay [--config F] [--token-dir D] [--store F]`
 abbrev pub replay_line : App
@@ -86,9 +86,9 @@ leases_line = with_rule (files_line (codes "leases")) (needed_value (codes "at")
 -- [--mirror]`
 abbrev pub serve_line : App
 serve_line =
-    with_rule (with_rule (with_rule (with_rule (with_rule (with_rule (files_line (codes "serve")) (valued (codes "bind")))
-    (valued (codes "port"))) (valued (codes "client-port"))) (needed_value (codes "count")))
-    (valued (codes "broadcast-as"))) (flag (codes "mirror"))
+    with_rule (with_rule (with_rule (with_rule (with_rule (with_rule (files_line (codes "serve")) (value_rule (codes "bind")))
+    (value_rule (codes "port"))) (value_rule (codes "client-port"))) (needed_value (codes "count")))
+    (value_rule (codes "broadcast-as"))) (flag_rule (codes "mirror"))
 
 -- the program, with no word for its name, and a subcommand that has to be there
 abbrev pub program_line : App
@@ -127,13 +127,13 @@ pub data Asked : Type 0 where
   serves : Option Text → Option Text → Option Text → Listening → ℕ → Asked
 
 -- a flag was given, by its value
-abbrev pub is_flagged : Option Text → Bool
-is_flagged value = option_map_or (λ v. bytes_eq v (codes "true")) value false
+abbrev pub flag_is_given : Option Text → Bool
+flag_is_given value = option_map_or (λ v. bytes_eq v (codes "true")) value false
 
 -- what two texts ask `eval` for, where both are there, with the flag's value
 abbrev pub evaluation_of : Option Text → Option Text → Option Text → Option Asked
 evaluation_of value program datagram =
-    option_and_then (λ p. option_map (λ d. if is_flagged value then tests p d else evaluates p d) datagram) program
+    option_and_then (λ p. option_map (λ d. if flag_is_given value then tests p d else evaluates p d) datagram) program
 
 -- what these files and a text ask `leases` for, where the text is there and is a number
 abbrev pub listing_of : Option Text → Option Text → Option Text → Option Text → Option Asked
@@ -159,7 +159,7 @@ listening_of bind port client_port broadcast_as mirror = do
 abbrev pub serving_of : (Text → Option Text) → Option Asked
 serving_of text = do
   listening ← listening_of (text (codes "bind")) (text (codes "port")) (text (codes "client-port"))
-      (text (codes "broadcast-as")) (is_flagged (text (codes "mirror")))
+      (text (codes "broadcast-as")) (flag_is_given (text (codes "mirror")))
   digits ← text (codes "count")
   count ← number_of digits
   Some (serves (text (codes "config")) (text (codes "token-dir")) (text (codes "store")) listening count)

@@ -22,7 +22,7 @@ port_of text = option_and_then (λ port. if nat_lt 0 port && nat_lt port (2 ^ 16
 -- the address of a text, where it is one: four decimal numbers with dots between them, each at most 255 and of one
 -- to three digits
 abbrev pub address_of : Text → Option ℕ
-address_of text = option_map (from_be_bytes w32) (lexing.address_of text)
+address_of text = option_map (from_be_bytes w32) (lexing.address_read text)
 
 -- what is read of a text, and what stands where none is given
 abbrev pub read_or : {A : Type 0} → (Text → Option A) → A → Option Text → Option A

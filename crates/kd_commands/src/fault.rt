@@ -1,5 +1,5 @@
 ghost use Rattle.std.specs.Prelude.{◌≡◌};
-ghost use Rattle.kd_commands.specs.Order.{fault_number};
+ghost use Rattle.kd_commands.specs.Order.{line_fault_number};
 ghost use Rattle.kd_commands.specs.declared.fault.LineFault.TheVariants.{Memory};
 
 use std::alloc::AllocError;
@@ -26,7 +26,7 @@ impl fmt::Debug for LineFault {
 impl LineFault {
     /// The fault's number, as the program prints it.
     pub fn number(self) -> u8
-        ensures { result ≡ fault_number self }
+        ensures { result ≡ line_fault_number self }
     {
         match self {
             LineFault::CommandLine => 98,

@@ -8,9 +8,9 @@ ghost use Rattle.kd_commands.specs.Line.{IsHelpLine, IsLine};
 ghost use Rattle.kd_commands.specs.Order.{Asked, Asks, AsksFor, GivesUnlessFull, HasFault, HelpsUnlessFull};
 ghost use Rattle.kd_commands.specs.Order.{asked_of, command_line, compile_line, eval_line, expr_line, files_line};
 ghost use Rattle.kd_commands.specs.Order.{leases_line, program_line, replay_line, show_line, verify_line};
-ghost use Rattle.kd_commands.specs.Order.{compiles, evaluates, evaluation_of, flag, given_by, is_flagged};
-ghost use Rattle.kd_commands.specs.Order.{listening_of, listing_of, needed, needed_value};
-ghost use Rattle.kd_commands.specs.Order.{replays, serve_line, serving_of, shows, tests, types, valued, verifies};
+ghost use Rattle.kd_commands.specs.Order.{compiles, evaluates, evaluation_of, flag_rule, given_by, flag_is_given};
+ghost use Rattle.kd_commands.specs.Order.{listening_of, listing_of, needed_rule, needed_value};
+ghost use Rattle.kd_commands.specs.Order.{replays, serve_line, serving_of, shows, tests, types, value_rule, verifies};
 ghost use Rattle.kd_commands.specs.Values.{address_of, number_of, port_of, read_or};
 ghost use Rattle.kd_commands.specs.Steps.{AnswersKind, GivesIfThere};
 
@@ -135,7 +135,7 @@ fn verify<'a>(alloc: Global) -> Result<Command<'a>, AllocError>
 
 // An argument that has to be there.
 fn needed<'a>(alloc: Global, id: &'a str, help: &'a str) -> Arg<'a>
-    ensures rule { rule_of result ≡ needed id.entry.now }
+    ensures rule { rule_of result ≡ needed_rule id.entry.now }
     ensures help { result.help ≡ Some help.entry }
     ensures local { result.global ≡ false }
 {
@@ -144,7 +144,7 @@ fn needed<'a>(alloc: Global, id: &'a str, help: &'a str) -> Arg<'a>
 
 // `--NAME`: the flag's name, and what help says of it.
 fn flag<'a>(alloc: Global, name: &'a str, help: &'a str) -> Arg<'a>
-    ensures rule { rule_of result ≡ flag name.entry.now }
+    ensures rule { rule_of result ≡ flag_rule name.entry.now }
     ensures local { result.global ≡ false }
 {
     Arg::new(alloc, name)
@@ -183,7 +183,7 @@ fn eval<'a>(alloc: Global) -> Result<Command<'a>, AllocError>
 
 // `--NAME VALUE`: the option's name, what help calls its value, and what help says of it.
 fn valued<'a>(alloc: Global, name: &'a str, value: &'a str, help: &'a str) -> Arg<'a>
-    ensures rule { rule_of result ≡ valued name.entry.now }
+    ensures rule { rule_of result ≡ value_rule name.entry.now }
     ensures local { result.global ≡ false }
 {
     Arg::new(alloc, name)
@@ -386,7 +386,7 @@ fn evaluation(is_text: bool, program: String, datagram: String) -> Order
 
 // Whether a flag was given, by its value.
 fn is_flagged(value: Option<&str>) -> bool
-    ensures { result ≡ is_flagged (option_map (λ s. s.now) value.entry) }
+    ensures { result ≡ flag_is_given (option_map (λ s. s.now) value.entry) }
 {
     match value {
         Some(text) => text == "true",
@@ -492,7 +492,7 @@ fn listening_in(matches: &ArgMatches<'_>) -> Option<Listening>
         (first_value (found_of matches.now) (codes "port"))
         (first_value (found_of matches.now) (codes "client-port"))
         (first_value (found_of matches.now) (codes "broadcast-as"))
-        (is_flagged (first_value (found_of matches.now) (codes "mirror"))) }
+        (flag_is_given (first_value (found_of matches.now) (codes "mirror"))) }
 {
     let bind = address_or(matches.get_str("bind"), LOOPBACK)?;
     let port = port_or(matches.get_str("port"), SERVER_PORT)?;

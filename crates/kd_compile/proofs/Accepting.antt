@@ -5,9 +5,9 @@ use Rattle.std.specs.List.{AllByRecursion}
 use Rattle.std.proofs.lemmas.Bool.{cases_lt, lt-ltb}
 use Rattle.std.proofs.lemmas.List.{append-nil}
 use Rattle.std.proofs.lemmas.Option.{slice_get_within, slice_get_past}
-use Rattle.kd_compile.specs.Measures.{is_number, four, steps, depth, bound, part_bound, greatest, names}
-use Rattle.kd_compile.specs.Measures.{tokens as size}
-use Rattle.kd_compile.specs.Tokens.{place, field_of, code_of, program_for}
+use Rattle.kd_compile.specs.Measures.{number_tree, four_more, step_count, stack_depth, bound, bound_of_part, greatest, names}
+use Rattle.kd_compile.specs.Measures.{token_count as size}
+use Rattle.kd_compile.specs.Tokens.{index_of, token_field, code_of, program_for}
 use Rattle.kd_compile.proofs.Fits.{operand, code_length, operand_length}
 use Rattle.kd_compile.proofs.Rows.{has_front, has_back, has_itself}
 use Rattle.kd_compile.proofs.Pieces.{known_covered, Goes, Leads, GoesOn, Piece, piece_last, piece_front, piece_then, piece_over, piece_counted, covered_through}
@@ -18,9 +18,9 @@ use Rattle.kd_expr.specs.Typing.{type_of}
 use Rattle.kd_expr.specs.declared.node.Field.{Field}
 use Rattle.kd_expr.specs.declared.node.Field.TheVariants as parts
 use Rattle.kd_expr.specs.declared.typing.ValueType.TheVariants as types
-use Rattle.kd_token.specs.Accepts.{Accepts, Point, Flow, Assignment, IsSound, flow_to, out, leaving, origin, IsCovered, IsWithin}
+use Rattle.kd_token.specs.Accepts.{Accepts, Point, Flow, Assignment, IsSoundAt, flow_to, out, leaving, origin, IsCovered, IsWithin}
 use Rattle.kd_token.specs.File.{Code}
-use Rattle.kd_token.specs.Shape.{IsShortKind, AreShort, substring_bound, hex_bound, field_kind, gives}
+use Rattle.kd_token.specs.Shape.{IsShortKind, AreShort, bound_of_substring, bound_of_hex, field_kind, gives}
 use Rattle.kd_token.specs.Reading.{◌>>=◌}
 use Rattle.kd_token.specs.Table.{point, IsRoomFor}
 use Rattle.kd_token.specs.declared.shape.Kind.{Kind}
@@ -31,11 +31,11 @@ use Rattle.kd_token.proofs.Down.{covers_itself}
 
 -- the point before the token behind an operand where a byte string is wanted
 abbrev bytes_points : Tree → List Kind → ℕ → List Point
-bytes_points t s c = if is_number t then point (kind_of t ∷ s) (c + steps t) ∷ [] else []
+bytes_points t s c = if number_tree t then point (kind_of t ∷ s) (c + step_count t) ∷ [] else []
 
 -- the point behind an operand where a byte string is wanted
 abbrev behind : Tree → List Kind → ℕ → Point
-behind t s c = point (kinds.Bytes (bound t) ∷ s) (c + (steps t + four t))
+behind t s c = point (kinds.Bytes (bound t) ∷ s) (c + (step_count t + four_more t))
 
 -- the points before the tokens of an expression, from a shape and a count of steps
 abbrev points_of : Tree → List Kind → ℕ → List Point
@@ -49,22 +49,22 @@ points_of (RelayExists at code) s c = point s c ∷ []
 points_of (Member at name) s c = point s c ∷ []
 points_of (Equal at a b) s c =
     points_of a s c ++ bytes_points a s c ++ (points_of b (behind a s c).shape (behind a s c).count ++ bytes_points b (behind a s c).shape (behind a s c).count) ++ behind b (behind a s c).shape (behind a s c).count ∷ []
-points_of (Not at a) s c = points_of a s c ++ point (kinds.Bool ∷ s) (c + steps a) ∷ []
-points_of (And at a b) s c = points_of a s c ++ point (kinds.Bool ∷ s) (c + steps a) ∷ points_of b s (c + steps a + 1)
-points_of (Or at a b) s c = points_of a s c ++ point (kinds.Bool ∷ s) (c + steps a) ∷ points_of b s (c + steps a + 1)
+points_of (Not at a) s c = points_of a s c ++ point (kinds.Bool ∷ s) (c + step_count a) ∷ []
+points_of (And at a b) s c = points_of a s c ++ point (kinds.Bool ∷ s) (c + step_count a) ∷ points_of b s (c + step_count a + 1)
+points_of (Or at a b) s c = points_of a s c ++ point (kinds.Bool ∷ s) (c + step_count a) ∷ points_of b s (c + step_count a + 1)
 points_of (Group at a) s c = points_of a s c
 points_of (Concat at a b) s c =
     points_of a s c ++ bytes_points a s c ++ (points_of b (behind a s c).shape (behind a s c).count ++ bytes_points b (behind a s c).shape (behind a s c).count) ++ behind b (behind a s c).shape (behind a s c).count ∷ []
 points_of (IfElse at t a b) s c =
-    points_of t s c ++ point (kinds.Bool ∷ s) (c + steps t) ∷ (points_of a s (c + steps t + 1) ++ bytes_points a s (c + steps t + 1) ++ behind a s (c + steps t + 1) ∷ (points_of b s (c + steps t + 1) ++ bytes_points b s (c + steps t + 1)))
+    points_of t s c ++ point (kinds.Bool ∷ s) (c + step_count t) ∷ (points_of a s (c + step_count t + 1) ++ bytes_points a s (c + step_count t + 1) ++ behind a s (c + step_count t + 1) ∷ (points_of b s (c + step_count t + 1) ++ bytes_points b s (c + step_count t + 1)))
 points_of (Substring at a start count) s c = points_of a s c ++ bytes_points a s c ++ behind a s c ∷ []
 points_of (HexString at a b) s c =
     points_of a s c ++ bytes_points a s c ++ (points_of b (behind a s c).shape (behind a s c).count ++ bytes_points b (behind a s c).shape (behind a s c).count) ++ behind b (behind a s c).shape (behind a s c).count ∷ []
 points_of (Lower at a) s c = points_of a s c ++ bytes_points a s c ++ behind a s c ∷ []
 points_of (Upper at a) s c = points_of a s c ++ bytes_points a s c ++ behind a s c ∷ []
-points_of (IntToText at a) s c = points_of a s c ++ point (kinds.Int ∷ s) (c + steps a) ∷ []
+points_of (IntToText at a) s c = points_of a s c ++ point (kinds.Int ∷ s) (c + step_count a) ∷ []
 
-substring_le : (n : ℕ) (count : Option ℤ) → substring_bound n count ≤ n
+substring_le : (n : ℕ) (count : Option ℤ) → bound_of_substring n count ≤ n
 substring_le n None = omega arith
 substring_le n (Some z) = omega arith
 
@@ -91,7 +91,7 @@ bound_le (Lower at a) = bound_le a
 bound_le (Upper at a) = bound_le a
 bound_le (IntToText at a) = omega arith
 
-part_short : (n : ℕ) (field : Field) → part_bound field ≤ n → IsShortKind n (field_kind (field_of field))
+part_short : (n : ℕ) (field : Field) → bound_of_part field ≤ n → IsShortKind n (field_kind (token_field field))
 part_short n parts.Mac le = le
 part_short n parts.Hlen le = tt
 part_short n parts.Htype le = tt
@@ -105,7 +105,7 @@ part_short n parts.Length le = tt
 
 -- a tree's tokens are a piece wherever they begin with room: they leave the tree's value on top
 abbrev HasPieces : Code → Tree → Type 0
-HasPieces p t = (s : List Kind) (c : ℕ) → AreShort p.bound s → length s + depth t ≤ p.depth → Piece p (point s c) (code_of p.names t) (points_of t s c) (point (kind_of t ∷ s) (c + steps t))
+HasPieces p t = (s : List Kind) (c : ℕ) → AreShort p.bound s → length s + stack_depth t ≤ p.depth → Piece p (point s c) (code_of p.names t) (points_of t s c) (point (kind_of t ∷ s) (c + step_count t))
 
 -- a piece that ends with a value of this kind, and the four bytes of a number where one is wanted
 in_four : (p : Code) (q : Point) (ts : List Token) (qs : List Point) (b : Bool) (k : Kind) (n c : ℕ) (s : List Kind) → ((b ≡ true) × (k ≡ kinds.Int) × (n ≡ 4)) ⊎ ((b ≡ false) × (k ≡ kinds.Bytes n)) → n ≤ p.bound → Piece p q ts qs (point (k ∷ s) c)
@@ -127,21 +127,21 @@ in_four p q ts qs true k n c s (inr h) le piece = absurd (let e = h.0 in cc)
 in_four p q ts qs false k n c s (inl h) le piece = absurd (let e = h.0 in cc)
 
 -- an operand where a byte string is wanted
-operand_piece : (p : Code) (t : Tree) → IsBytes t → greatest t ≤ p.bound → HasPieces p t → (s : List Kind) (c : ℕ) → AreShort p.bound s → length s + depth t ≤ p.depth
+operand_piece : (p : Code) (t : Tree) → IsBytes t → greatest t ≤ p.bound → HasPieces p t → (s : List Kind) (c : ℕ) → AreShort p.bound s → length s + stack_depth t ≤ p.depth
     → Piece p (point s c) (operand p.names t) (points_of t s c ++ bytes_points t s c) (behind t s c)
 operand_piece p t is g pieces s c short deep =
     let le : bound t ≤ p.bound = omega (arith, bound_le t, g) in
-    let piece = in_four p (point s c) (code_of p.names t) (points_of t s c) (is_number t) (kind_of t) (bound t) (c + steps t) s (told is) le (pieces s c short deep) in
-    piece_counted p (point s c) (operand p.names t) (points_of t s c ++ bytes_points t s c) (kinds.Bytes (bound t) ∷ s) (c + steps t + four t) (c + (steps t + four t)) (omega arith) piece where
-      told : IsBytes t → ((is_number t ≡ true) × (kind_of t ≡ kinds.Int) × (bound t ≡ 4)) ⊎ ((is_number t ≡ false) × (kind_of t ≡ kinds.Bytes (bound t)))
+    let piece = in_four p (point s c) (code_of p.names t) (points_of t s c) (number_tree t) (kind_of t) (bound t) (c + step_count t) s (told is) le (pieces s c short deep) in
+    piece_counted p (point s c) (operand p.names t) (points_of t s c ++ bytes_points t s c) (kinds.Bytes (bound t) ∷ s) (c + step_count t + four_more t) (c + (step_count t + four_more t)) (omega arith) piece where
+      told : IsBytes t → ((number_tree t ≡ true) × (kind_of t ≡ kinds.Int) × (bound t ≡ 4)) ⊎ ((number_tree t ≡ false) × (kind_of t ≡ kinds.Bytes (bound t)))
       told (inl h) = inl (h.number, h.kind, h.size)
       told (inr h) = inr (h.text, h.kind)
 
 -- an operand that is a truth value
-truth_piece : (p : Code) (t : Tree) → IsTruth t → HasPieces p t → (s : List Kind) (c : ℕ) → AreShort p.bound s → length s + depth t ≤ p.depth
-    → Piece p (point s c) (code_of p.names t) (points_of t s c) (point (kinds.Bool ∷ s) (c + steps t))
+truth_piece : (p : Code) (t : Tree) → IsTruth t → HasPieces p t → (s : List Kind) (c : ℕ) → AreShort p.bound s → length s + stack_depth t ≤ p.depth
+    → Piece p (point s c) (code_of p.names t) (points_of t s c) (point (kinds.Bool ∷ s) (c + step_count t))
 truth_piece p t is pieces s c short deep =
-    let K : Kind → Type 0 = λ k. Piece p (point s c) (code_of p.names t) (points_of t s c) (point (k ∷ s) (c + steps t)) in
+    let K : Kind → Type 0 = λ k. Piece p (point s c) (code_of p.names t) (points_of t s c) (point (k ∷ s) (c + step_count t)) in
     subst K is (pieces s c short deep)
 
 -- a token takes these kinds from the top and leaves one: it goes on where there is room and the next place
@@ -151,10 +151,10 @@ Takes p token taken k = (s : List Kind) (c : ℕ) (a : Assignment) (i : ℕ) →
 
 -- two operands in bytes, and the token that takes them
 two_pieces : (p : Code) (a b : Tree) (token : Token) (k : Kind) → IsBytes a → IsBytes b → greatest a ≤ p.bound → greatest b ≤ p.bound → IsShortKind p.bound k → Takes p token (kinds.Bytes (bound b) ∷ kinds.Bytes (bound a) ∷ []) k → HasPieces p a → HasPieces p b
-    → (s : List Kind) (c : ℕ) → AreShort p.bound s → length s + max (depth a) (1 + depth b) ≤ p.depth
+    → (s : List Kind) (c : ℕ) → AreShort p.bound s → length s + max (stack_depth a) (1 + stack_depth b) ≤ p.depth
     → Piece p (point s c) (operand p.names a ++ operand p.names b ++ token ∷ [])
     (points_of a s c ++ bytes_points a s c ++ (points_of b (behind a s c).shape (behind a s c).count ++ bytes_points b (behind a s c).shape (behind a s c).count) ++ behind b (behind a s c).shape (behind a s c).count ∷ [])
-    (point (k ∷ s) (c + (steps a + four a + (steps b + four b) + 1)))
+    (point (k ∷ s) (c + (step_count a + four_more a + (step_count b + four_more b) + 1)))
 two_pieces p a b token k is_a is_b g h short_k takes pieces_a pieces_b s c short deep =
     let first = operand_piece p a is_a g pieces_a s c short (omega (arith, deep)) in
     let top = behind a s c in
@@ -163,80 +163,80 @@ two_pieces p a b token k is_a is_b g h short_k takes pieces_a pieces_b s c short
     let few : length (behind b top.shape top.count).shape ≤ p.depth = second.room.0 in
     let room : IsRoomFor p (k ∷ s) = (omega (arith, few), (short_k, short)) in
     let last = piece_last p (behind b top.shape top.count) token (point (k ∷ s) ((behind b top.shape top.count).count + 1)) room (λ f i end. takes s (behind b top.shape top.count).count f i room end) in
-    piece_counted p (point s c) _ _ (k ∷ s) ((behind b top.shape top.count).count + 1) (c + (steps a + four a + (steps b + four b) + 1)) (omega arith)
+    piece_counted p (point s c) _ _ (k ∷ s) ((behind b top.shape top.count).count + 1) (c + (step_count a + four_more a + (step_count b + four_more b) + 1)) (omega arith)
     (piece_then p (point s c) (behind b top.shape top.count) _ _ _ _ _ both last)
 
 -- one operand in bytes, and the token that takes it
 one_piece : (p : Code) (a : Tree) (token : Token) (k : Kind) → IsBytes a → greatest a ≤ p.bound → IsShortKind p.bound k → Takes p token (kinds.Bytes (bound a) ∷ []) k → HasPieces p a
-    → (s : List Kind) (c : ℕ) → AreShort p.bound s → length s + depth a ≤ p.depth
-    → Piece p (point s c) (operand p.names a ++ token ∷ []) (points_of a s c ++ bytes_points a s c ++ behind a s c ∷ []) (point (k ∷ s) (c + (steps a + four a + 1)))
+    → (s : List Kind) (c : ℕ) → AreShort p.bound s → length s + stack_depth a ≤ p.depth
+    → Piece p (point s c) (operand p.names a ++ token ∷ []) (points_of a s c ++ bytes_points a s c ++ behind a s c ∷ []) (point (k ∷ s) (c + (step_count a + four_more a + 1)))
 one_piece p a token k is g short_k takes pieces s c short deep =
     let first = operand_piece p a is g pieces s c short deep in
     let top = behind a s c in
     let few : length top.shape ≤ p.depth = first.room.0 in
     let room : IsRoomFor p (k ∷ s) = (omega (arith, few), (short_k, short)) in
     let last = piece_last p top token (point (k ∷ s) (top.count + 1)) room (λ f i end. takes s top.count f i room end) in
-    piece_counted p (point s c) _ _ (k ∷ s) (top.count + 1) (c + (steps a + four a + 1)) (omega arith) (piece_then p (point s c) top _ _ _ _ _ first last)
+    piece_counted p (point s c) _ _ (k ∷ s) (top.count + 1) (c + (step_count a + four_more a + 1)) (omega arith) (piece_then p (point s c) top _ _ _ _ _ first last)
 
 -- one operand as it is, and the token that takes it
 bare_piece : (p : Code) (a : Tree) (token : Token) (l k : Kind) → kind_of a ≡ l → IsShortKind p.bound k → Takes p token (l ∷ []) k → HasPieces p a
-    → (s : List Kind) (c : ℕ) → AreShort p.bound s → length s + depth a ≤ p.depth
-    → Piece p (point s c) (code_of p.names a ++ token ∷ []) (points_of a s c ++ point (l ∷ s) (c + steps a) ∷ []) (point (k ∷ s) (c + (steps a + 1)))
+    → (s : List Kind) (c : ℕ) → AreShort p.bound s → length s + stack_depth a ≤ p.depth
+    → Piece p (point s c) (code_of p.names a ++ token ∷ []) (points_of a s c ++ point (l ∷ s) (c + step_count a) ∷ []) (point (k ∷ s) (c + (step_count a + 1)))
 bare_piece p a token l k is short_k takes pieces s c short deep =
-    let K : Kind → Type 0 = λ k. Piece p (point s c) (code_of p.names a) (points_of a s c) (point (k ∷ s) (c + steps a)) in
+    let K : Kind → Type 0 = λ k. Piece p (point s c) (code_of p.names a) (points_of a s c) (point (k ∷ s) (c + step_count a)) in
     let first = subst K is (pieces s c short deep) in
     let few : length (l ∷ s) ≤ p.depth = first.room.0 in
     let room : IsRoomFor p (k ∷ s) = (omega (arith, few), (short_k, short)) in
-    let last = piece_last p (point (l ∷ s) (c + steps a)) token (point (k ∷ s) (c + steps a + 1)) room (λ f i end. takes s (c + steps a) f i room end) in
-    piece_counted p (point s c) _ _ (k ∷ s) (c + steps a + 1) (c + (steps a + 1)) (omega arith) (piece_then p (point s c) (point (l ∷ s) (c + steps a)) _ _ _ _ _ first last)
+    let last = piece_last p (point (l ∷ s) (c + step_count a)) token (point (k ∷ s) (c + step_count a + 1)) room (λ f i end. takes s (c + step_count a) f i room end) in
+    piece_counted p (point s c) _ _ (k ∷ s) (c + step_count a + 1) (c + (step_count a + 1)) (omega arith) (piece_then p (point s c) (point (l ∷ s) (c + step_count a)) _ _ _ _ _ first last)
 
 -- a truth value, a branch that keeps it or drops it, and another truth value
 keep_piece : (p : Code) (a b : Tree) (token : Token) → IsTruth a → IsTruth b
     → ((s : List Kind) (c : ℕ) (a : Assignment) (i : ℕ) → Goes p a (record { to = i + 1 + size b; point = point (kinds.Bool ∷ s) (c + 1) }) → Goes p a (record { to = i + 1; point = point s (c + 1) }) → GoesOn p a i token (point (kinds.Bool ∷ s) c))
-    → HasPieces p a → HasPieces p b → (s : List Kind) (c : ℕ) → AreShort p.bound s → length s + max (depth a) (depth b) ≤ p.depth
-    → Piece p (point s c) (code_of p.names a ++ token ∷ code_of p.names b) (points_of a s c ++ point (kinds.Bool ∷ s) (c + steps a) ∷ points_of b s (c + steps a + 1)) (point (kinds.Bool ∷ s) (c + (steps a + 1 + steps b)))
+    → HasPieces p a → HasPieces p b → (s : List Kind) (c : ℕ) → AreShort p.bound s → length s + max (stack_depth a) (stack_depth b) ≤ p.depth
+    → Piece p (point s c) (code_of p.names a ++ token ∷ code_of p.names b) (points_of a s c ++ point (kinds.Bool ∷ s) (c + step_count a) ∷ points_of b s (c + step_count a + 1)) (point (kinds.Bool ∷ s) (c + (step_count a + 1 + step_count b)))
 keep_piece p a b token is_a is_b goes pieces_a pieces_b s c short deep =
-    let d : ℕ = c + steps a in
+    let d : ℕ = c + step_count a in
     let first = truth_piece p a is_a pieces_a s c short (omega (arith, deep)) in
     let second = truth_piece p b is_b pieces_b s (d + 1) short (omega (arith, deep)) in
     let few : length (kinds.Bool ∷ s) ≤ p.depth = first.room.0 in
-    let branch = piece_front p (point (kinds.Bool ∷ s) d) token (point s (d + 1)) (point (kinds.Bool ∷ s) (d + 1 + steps b)) (code_of p.names b) (points_of b s (d + 1)) second (λ f i h end.
+    let branch = piece_front p (point (kinds.Bool ∷ s) d) token (point s (d + 1)) (point (kinds.Bool ∷ s) (d + 1 + step_count b)) (code_of p.names b) (points_of b s (d + 1)) second (λ f i h end.
     let length_is = code_length p.names b in
-    let C : ℕ → Type 0 = λ n. IsCovered (f n) (point (kinds.Bool ∷ s) (d + 1 + steps b)) in
+    let C : ℕ → Type 0 = λ n. IsCovered (f n) (point (kinds.Bool ∷ s) (d + 1 + step_count b)) in
     let place : i + 1 + length (code_of p.names b) ≡ i + 1 + size b = omega (arith, length_is) in
-    let kept = covered_through (f (i + 1 + size b)) (point (kinds.Bool ∷ s) (d + 1 + steps b)) (point (kinds.Bool ∷ s) (d + 1)) (subst C place end) (covers_itself (kinds.Bool ∷ s), omega arith) in
+    let kept = covered_through (f (i + 1 + size b)) (point (kinds.Bool ∷ s) (d + 1 + step_count b)) (point (kinds.Bool ∷ s) (d + 1)) (subst C place end) (covers_itself (kinds.Bool ∷ s), omega arith) in
     let next = known_covered (f (i + 1)) (point s (d + 1)) (second.first f (i + 1) h) in
     goes s d f i (first.room, kept) ((omega (arith, few), short), next)) in
-    piece_counted p (point s c) _ _ (kinds.Bool ∷ s) (d + 1 + steps b) (c + (steps a + 1 + steps b)) (omega arith) (piece_then p (point s c) (point (kinds.Bool ∷ s) d) _ _ _ _ _ first branch)
+    piece_counted p (point s c) _ _ (kinds.Bool ∷ s) (d + 1 + step_count b) (c + (step_count a + 1 + step_count b)) (omega arith) (piece_then p (point s c) (point (kinds.Bool ∷ s) d) _ _ _ _ _ first branch)
 
 -- the first of two ways, and the branch over the second
-arm_piece : (p : Code) (a b : Tree) → IsBytes a → IsBytes b → greatest a ≤ p.bound → greatest b ≤ p.bound → HasPieces p a → HasPieces p b → (s : List Kind) (c : ℕ) → AreShort p.bound s → length s + max (depth a) (depth b) ≤ p.depth
-    → Piece p (point s c) (operand p.names a ++ tokens.Branch (size b + four b) ∷ operand p.names b) (points_of a s c ++ bytes_points a s c ++ behind a s c ∷ (points_of b s c ++ bytes_points b s c))
-    (point (kinds.Bytes (max (bound a) (bound b)) ∷ s) (c + max (steps a + four a + 1) (steps b + four b)))
+arm_piece : (p : Code) (a b : Tree) → IsBytes a → IsBytes b → greatest a ≤ p.bound → greatest b ≤ p.bound → HasPieces p a → HasPieces p b → (s : List Kind) (c : ℕ) → AreShort p.bound s → length s + max (stack_depth a) (stack_depth b) ≤ p.depth
+    → Piece p (point s c) (operand p.names a ++ tokens.Branch (size b + four_more b) ∷ operand p.names b) (points_of a s c ++ bytes_points a s c ++ behind a s c ∷ (points_of b s c ++ bytes_points b s c))
+    (point (kinds.Bytes (max (bound a) (bound b)) ∷ s) (c + max (step_count a + four_more a + 1) (step_count b + four_more b)))
 arm_piece p a b is_a is_b g h pieces_a pieces_b s c short deep =
-    let end_point = point (kinds.Bytes (max (bound a) (bound b)) ∷ s) (c + max (steps a + four a + 1) (steps b + four b)) in
+    let end_point = point (kinds.Bytes (max (bound a) (bound b)) ∷ s) (c + max (step_count a + four_more a + 1) (step_count b + four_more b)) in
     let first = operand_piece p a is_a g pieces_a s c short (omega (arith, deep)) in
     let second = operand_piece p b is_b h pieces_b s c short (omega (arith, deep)) in
     let room : IsRoomFor p end_point.shape = (first.room.0, (omega (arith, bound_le a, bound_le b, g, h), short)) in
     let wide = piece_over p (point s c) (behind b s c) end_point (operand p.names b) (points_of b s c ++ bytes_points b s c) room ((omega arith, covers_itself s), omega arith) second in
-    let branch = piece_front p (behind a s c) (tokens.Branch (size b + four b)) (point s c) end_point (operand p.names b) (points_of b s c ++ bytes_points b s c) wide (λ f i known end.
+    let branch = piece_front p (behind a s c) (tokens.Branch (size b + four_more b)) (point s c) end_point (operand p.names b) (points_of b s c ++ bytes_points b s c) wide (λ f i known end.
     let length_is = operand_length p.names b in
     let C : ℕ → Type 0 = λ n. IsCovered (f n) end_point in
-    let place : i + 1 + length (operand p.names b) ≡ i + 1 + (size b + four b) = omega (arith, length_is) in
-    let past = covered_through (f (i + 1 + (size b + four b))) end_point (point (behind a s c).shape ((behind a s c).count + 1)) (subst C place end) ((omega arith, covers_itself s), omega arith) in
+    let place : i + 1 + length (operand p.names b) ≡ i + 1 + (size b + four_more b) = omega (arith, length_is) in
+    let past = covered_through (f (i + 1 + (size b + four_more b))) end_point (point (behind a s c).shape ((behind a s c).count + 1)) (subst C place end) ((omega arith, covers_itself s), omega arith) in
     ((first.room, past), tt)) in
     piece_then p (point s c) (behind a s c) end_point _ _ _ _ first branch
 
 -- a truth value, a branch to the second way, and the two ways
 choice_piece : (p : Code) (at : ℕ) (t a b : Tree) → IsTruth t → IsBytes a → IsBytes b → greatest a ≤ p.bound → greatest b ≤ p.bound
-    → ((s : List Kind) (c : ℕ) (f : Assignment) (i : ℕ) → Goes p f (record { to = i + 1 + (size a + four a + 1); point = point s (c + 1) }) → Goes p f (record { to = i + 1; point = point s (c + 1) }) → GoesOn p f i (tokens.PopBranchFalse (size a + four a + 1)) (point (kinds.Bool ∷ s) c))
+    → ((s : List Kind) (c : ℕ) (f : Assignment) (i : ℕ) → Goes p f (record { to = i + 1 + (size a + four_more a + 1); point = point s (c + 1) }) → Goes p f (record { to = i + 1; point = point s (c + 1) }) → GoesOn p f i (tokens.PopBranchFalse (size a + four_more a + 1)) (point (kinds.Bool ∷ s) c))
     → HasPieces p t → HasPieces p a → HasPieces p b → HasPieces p (IfElse at t a b)
 choice_piece p at t a b is_t is_a is_b g h goes pieces_t pieces_a pieces_b s c short deep =
-    let d : ℕ = c + steps t in
-    let e : ℕ = c + steps t + 1 in
-    let end_point = point (kinds.Bytes (max (bound a) (bound b)) ∷ s) (e + max (steps a + four a + 1) (steps b + four b)) in
+    let d : ℕ = c + step_count t in
+    let e : ℕ = c + step_count t + 1 in
+    let end_point = point (kinds.Bytes (max (bound a) (bound b)) ∷ s) (e + max (step_count a + four_more a + 1) (step_count b + four_more b)) in
     let arm : List Token = operand p.names a in
-    let arms : List Token = operand p.names a ++ tokens.Branch (size b + four b) ∷ operand p.names b in
+    let arms : List Token = operand p.names a ++ tokens.Branch (size b + four_more b) ∷ operand p.names b in
     let arm_points : List Point = points_of a s e ++ bytes_points a s e in
     let other_points : List Point = points_of b s e ++ bytes_points b s e in
     let first = truth_piece p t is_t pieces_t s c short (omega (arith, deep)) in
@@ -244,16 +244,16 @@ choice_piece p at t a b is_t is_a is_b g h goes pieces_t pieces_a pieces_b s c s
     let inner = arm_piece p a b is_a is_b g h pieces_a pieces_b s e short (omega (arith, deep)) in
     let one = operand_piece p a is_a g pieces_a s e short (omega (arith, deep)) in
     let two = operand_piece p b is_b h pieces_b s e short (omega (arith, deep)) in
-    let branch = piece_front p (point (kinds.Bool ∷ s) d) (tokens.PopBranchFalse (size a + four a + 1)) (point s e) end_point arms (arm_points ++ behind a s e ∷ other_points) inner (λ f i known end.
+    let branch = piece_front p (point (kinds.Bool ∷ s) d) (tokens.PopBranchFalse (size a + four_more a + 1)) (point s e) end_point arms (arm_points ++ behind a s e ∷ other_points) inner (λ f i known end.
     let size_is = one.size in
     let length_is = operand_length p.names a in
     let later = has_back f (i + 1) arm_points (behind a s e ∷ other_points) known in
-    let place : i + 1 + length arm_points + 1 ≡ i + 1 + (size a + four a + 1) = omega (arith, size_is, length_is) in
+    let place : i + 1 + length arm_points + 1 ≡ i + 1 + (size a + four_more a + 1) = omega (arith, size_is, length_is) in
     let C : ℕ → Type 0 = λ n. IsCovered (f n) (point s e) in
     let other = subst C place (known_covered (f (i + 1 + length arm_points + 1)) (point s e) (two.first f (i + 1 + length arm_points + 1) later.1)) in
     let next = known_covered (f (i + 1)) (point s e) (inner.first f (i + 1) known) in
     goes s d f i ((omega (arith, few), short), other) ((omega (arith, few), short), next)) in
-    piece_counted p (point s c) _ _ end_point.shape end_point.count (c + (steps t + 1 + max (steps a + four a + 1) (steps b + four b))) (omega arith) (piece_then p (point s c) (point (kinds.Bool ∷ s) d) _ _ _ _ _ first branch)
+    piece_counted p (point s c) _ _ end_point.shape end_point.count (c + (step_count t + 1 + max (step_count a + four_more a + 1) (step_count b + four_more b))) (omega arith) (piece_then p (point s c) (point (kinds.Bool ∷ s) d) _ _ _ _ _ first branch)
 
 -- a token that takes nothing
 leaf_piece : (p : Code) (token : Token) (k : Kind) → IsShortKind p.bound k → Takes p token [] k → (s : List Kind) (c : ℕ) → AreShort p.bound s → length s + 1 ≤ p.depth → Piece p (point s c) (token ∷ []) (point s c ∷ []) (point (k ∷ s) (c + 1))
@@ -262,11 +262,11 @@ leaf_piece p token k short_k takes s c short deep =
     piece_last p (point s c) token (point (k ∷ s) (c + 1)) room (λ f i end. takes s c f i room end)
 
 -- a name that has its place is asked for
-member_takes : (p : Code) (name : List ℕ) → slice_get p.names (place name p.names) ≡ Some name → Takes p (tokens.Member (place name p.names)) [] kinds.Bool
+member_takes : (p : Code) (name : List ℕ) → slice_get p.names (index_of name p.names) ≡ Some name → Takes p (tokens.Member (index_of name p.names)) [] kinds.Bool
 unfolding gives
 member_takes p name is s c f i room end =
-    let less = slice_get_within p.names (place name p.names) name is in
-    let there = lt-ltb (place name p.names) (length p.names) less in
+    let less = slice_get_within p.names (index_of name p.names) name is in
+    let there = lt-ltb (index_of name p.names) (length p.names) less in
     let P : Bool → Type 0 = λ b. MatchOption ((if b then Some (kinds.Bool ∷ s) else None) >>= λ t. Some (flow_to (i + 1) (point s c) t ∷ [])) ⊥ (AllByRecursion (Goes p f)) in
     subst P (sym there) ((room, end), tt)
 
@@ -277,10 +277,10 @@ piece_of p (Literal at bytes) w k g = leaf_piece p (tokens.PushBytes bytes) (kin
 piece_of p (Int at n) w k g = leaf_piece p (tokens.PushInt n) kinds.Int tt (λ s c f i room end. ((room, end), tt))
 piece_of p (OptionValue at code) w k g = leaf_piece p (tokens.PushOption code) (kinds.Bytes 4096) g (λ s c f i room end. ((room, end), tt))
 piece_of p (RelayValue at code) w k g = leaf_piece p (tokens.PushRelay code) (kinds.Bytes 255) g (λ s c f i room end. ((room, end), tt))
-piece_of p (FieldValue at field) w k g = leaf_piece p (tokens.PushField (field_of field)) (field_kind (field_of field)) (part_short p.bound field g) (λ s c f i room end. ((room, end), tt))
+piece_of p (FieldValue at field) w k g = leaf_piece p (tokens.PushField (token_field field)) (field_kind (token_field field)) (part_short p.bound field g) (λ s c f i room end. ((room, end), tt))
 piece_of p (OptionExists at code) w k g = leaf_piece p (tokens.OptionExists code) kinds.Bool tt (λ s c f i room end. ((room, end), tt))
 piece_of p (RelayExists at code) w k g = leaf_piece p (tokens.RelayExists code) kinds.Bool tt (λ s c f i room end. ((room, end), tt))
-piece_of p (Member at name) w k g = leaf_piece p (tokens.Member (place name p.names)) kinds.Bool tt (member_takes p name k)
+piece_of p (Member at name) w k g = leaf_piece p (tokens.Member (index_of name p.names)) kinds.Bool tt (member_takes p name k)
 piece_of p (Equal at a b) w k g =
     two_pieces p a b tokens.Equal kinds.Bool w.0.0 w.1.0 (omega (arith, g)) (omega (arith, g)) tt (λ s c f i room end. ((room, end), tt)) (piece_of p a w.0.1 k.0 (omega (arith, g))) (piece_of p b w.1.1 k.1 (omega (arith, g)))
 piece_of p (Not at a) w k g = bare_piece p a tokens.Not kinds.Bool kinds.Bool w.0 tt (λ s c f i room end. ((room, end), tt)) (piece_of p a w.1 k g)
@@ -294,9 +294,9 @@ piece_of p (Concat at a b) w k g =
 piece_of p (IfElse at t a b) w k g =
     choice_piece p at t a b w.0.0 w.1.0 w.2.0 (omega (arith, g)) (omega (arith, g)) (λ s c f i other next. (other, (next, tt))) (piece_of p t w.0.1 k.0 (omega (arith, g))) (piece_of p a w.1.1 k.1 (omega (arith, g))) (piece_of p b w.2.1 k.2 (omega (arith, g)))
 piece_of p (Substring at a start count) w k g =
-    one_piece p a (tokens.Substring start count) (kinds.Bytes (substring_bound (bound a) count)) w.0 g (omega (arith, substring_le (bound a) count, bound_le a, g)) (λ s c f i room end. ((room, end), tt)) (piece_of p a w.1 k g)
+    one_piece p a (tokens.Substring start count) (kinds.Bytes (bound_of_substring (bound a) count)) w.0 g (omega (arith, substring_le (bound a) count, bound_le a, g)) (λ s c f i room end. ((room, end), tt)) (piece_of p a w.1 k g)
 piece_of p (HexString at a b) w k g =
-    two_pieces p a b tokens.HexString (kinds.Bytes (hex_bound (bound a) (bound b))) w.0.0 w.1.0 (omega (arith, g)) (omega (arith, g)) (omega (arith, g)) (λ s c f i room end. ((room, end), tt)) (piece_of p a w.0.1 k.0 (omega (arith, g))) (piece_of p b w.1.1 k.1 (omega (arith, g)))
+    two_pieces p a b tokens.HexString (kinds.Bytes (bound_of_hex (bound a) (bound b))) w.0.0 w.1.0 (omega (arith, g)) (omega (arith, g)) (omega (arith, g)) (λ s c f i room end. ((room, end), tt)) (piece_of p a w.0.1 k.0 (omega (arith, g))) (piece_of p b w.1.1 k.1 (omega (arith, g)))
 piece_of p (Lower at a) w k g = one_piece p a tokens.Lower (kinds.Bytes (bound a)) w.0 g (omega (arith, bound_le a, g)) (λ s c f i room end. ((room, end), tt)) (piece_of p a w.1 k g)
 piece_of p (Upper at a) w k g = one_piece p a tokens.Upper (kinds.Bytes (bound a)) w.0 g (omega (arith, bound_le a, g)) (λ s c f i room end. ((room, end), tt)) (piece_of p a w.1 k g)
 piece_of p (IntToText at a) w k g = bare_piece p a tokens.IntToText kinds.Int (kinds.Bytes 10) w.0.kind (omega (arith, g)) (λ s c f i room end. ((room, end), tt)) (piece_of p a w.1 k (omega (arith, g)))
@@ -330,7 +330,7 @@ leads_end p a i past =
       by (Some q) = tt
 
 -- places that all lead on, from the origin, are sound
-leads_sound : (p : Code) (a : Assignment) → a 0 ≡ Some origin → ((j : ℕ) → Leads p a j) → (j : ℕ) → IsSound p a j
+leads_sound : (p : Code) (a : Assignment) → a 0 ≡ Some origin → ((j : ℕ) → Leads p a j) → (j : ℕ) → IsSoundAt p a j
 leads_sound p a first leads j = record {
   start = λ e. let P : ℕ → Type 0 = λ n. a n ≡ Some origin in subst P (sym e) first;
   enter = λ i. enters p a j (out p a i) (leads i);
@@ -342,11 +342,11 @@ pub accepted : (t : Tree) → type_of t ≡ Ok types.Bool → Accepts (program_f
 accepted t typed =
     let p = program_for t in
     let well = well_of t types.Bool typed in
-    let end_point = point (kinds.Bool ∷ []) (steps t) in
+    let end_point = point (kinds.Bool ∷ []) (step_count t) in
     let inner = points_of t [] 0 in
     let a : Assignment = slice_get (inner ++ end_point ∷ []) in
     let begun = piece_of p t well.1 (names_known t) (omega arith) in
-    let piece = piece_counted p (point [] 0) (code_of (names t) t) inner (kinds.Bool ∷ []) (0 + steps t) (steps t) (omega arith) (truth_piece p t well.0 begun [] 0 tt (omega arith)) in
+    let piece = piece_counted p (point [] 0) (code_of (names t) t) inner (kinds.Bool ∷ []) (0 + step_count t) (step_count t) (omega arith) (truth_piece p t well.0 begun [] 0 tt (omega arith)) in
     let stands = has_itself (inner ++ end_point ∷ []) in
     let points = has_front a 0 inner (end_point ∷ []) stands in
     let last = (has_back a 0 inner (end_point ∷ []) stands).0 in

@@ -4,9 +4,9 @@ use Rattle.std.specs.Prelude.{◌||◌, nat_lt, if◌then◌else◌}
 use Rattle.std.specs.List.{AllByRecursion}
 use Rattle.std.proofs.lemmas.Bool.{ltb-false}
 use Rattle.std.proofs.lemmas.List.{append_assoc, append-nil}
-use Rattle.kd_compile.specs.Compiled.{first_over, version_of}
-use Rattle.kd_compile.specs.Measures.{is_number, four, depth, greatest, names_after, names, has_branches}
-use Rattle.kd_compile.specs.Measures.{tokens as size}
+use Rattle.kd_compile.specs.Compiled.{first_over, version_for}
+use Rattle.kd_compile.specs.Measures.{number_tree, four_more, stack_depth, greatest, names_after, names, branching}
+use Rattle.kd_compile.specs.Measures.{token_count as size}
 use Rattle.kd_compile.specs.Tokens.{in_bytes, code_of, program_for}
 use Rattle.kd_compile.specs.declared.fault.CompileFault.{CompileFault}
 use Rattle.kd_compile.specs.declared.fault.CompileFault.TheVariants as faults
@@ -14,7 +14,7 @@ use Rattle.kd_compile.proofs.Ranges.{HasRanges, has_ranges, steps_le}
 use Rattle.kd_expr.specs.Grammar.{HasText}
 use Rattle.kd_expr.specs.Tree.{Tree, Literal, Int, OptionValue, RelayValue, FieldValue, OptionExists, RelayExists, Member, Equal, Not, And, Or, Group, Concat, IfElse, Substring, HexString, Lower, Upper, IntToText}
 use Rattle.kd_machine.specs.Held.{with_name}
-use Rattle.kd_machine.specs.World.{is_held}
+use Rattle.kd_machine.specs.Parts.{is_held}
 use Rattle.kd_token.specs.File.{HasFile, IsName, IsBranch, IsToken, AreTokens}
 use Rattle.kd_token.specs.declared.token.Token.{Token}
 use Rattle.kd_token.specs.declared.token.Token.TheVariants as tokens
@@ -25,8 +25,8 @@ use Rattle.kd_token.specs.declared.token.Version.TheVariants as versions
 abbrev pub operand : List (List ℕ) → Tree → List Token
 operand names t = code_of names t ++ in_bytes t
 
-in_bytes_length : (t : Tree) → length (in_bytes t) ≡ four t
-in_bytes_length t = by (is_number t) where
+in_bytes_length : (t : Tree) → length (in_bytes t) ≡ four_more t
+in_bytes_length t = by (number_tree t) where
   by : (b : Bool) → length (if b then tokens.IntBytes ∷ [] else []) ≡ (if b then 1 else 0)
   by true = refl
   by false = refl
@@ -56,7 +56,7 @@ code_length names (Upper at a) = omega (arith, length-append {A = Token}, code_l
 code_length names (IntToText at a) = omega (arith, length-append {A = Token}, code_length names a)
 
 -- an operand has the four bytes of a number for a token more
-pub operand_length : (names : List (List ℕ)) (t : Tree) → length (operand names t) ≡ size t + four t
+pub operand_length : (names : List (List ℕ)) (t : Tree) → length (operand names t) ≡ size t + four_more t
 operand_length names t = omega (arith, length-append {A = Token}, code_length names t, in_bytes_length t)
 
 -- tokens that fit a file in front of others that do
@@ -74,7 +74,7 @@ branch_fits version behind skip two le = let P : Version → Type 0 = λ v. IsBr
 
 -- a version allows the branches of a tree
 abbrev Allows : Version → Tree → Type 0
-Allows version t = has_branches t ≡ true → version ≡ versions.Two
+Allows version t = branching t ≡ true → version ≡ versions.Two
 
 or_first : (x y : Bool) → x ≡ true → (x || y) ≡ true
 or_first true y e = refl
@@ -85,7 +85,7 @@ or_second true y e = refl
 or_second false y e = e
 
 adds_in_bytes : (version : Version) (t : Tree) → Adds version (in_bytes t)
-adds_in_bytes version t = by (is_number t) where
+adds_in_bytes version t = by (number_tree t) where
   by : (b : Bool) → Adds version (if b then tokens.IntBytes ∷ [] else [])
   by true rest r = (tt, r)
   by false rest r = r
@@ -121,7 +121,7 @@ adds_code version names (OptionExists at code) w g r = λ rest h. (tt, h)
 adds_code version names (RelayExists at code) w g r = λ rest h. (tt, h)
 adds_code version names (Member at name) w g r = λ rest h. (tt, h)
 adds_code version names (Equal at a b) w g r =
-    adds_two version names a b tokens.Equal (adds_code version names a (λ e. w (or_first (has_branches a) (has_branches b) e)) (omega (arith, g)) r.0) (adds_code version names b (λ e. w (or_second (has_branches a) (has_branches b) e)) (omega (arith, g)) r.1) (λ n. tt)
+    adds_two version names a b tokens.Equal (adds_code version names a (λ e. w (or_first (branching a) (branching b) e)) (omega (arith, g)) r.0) (adds_code version names b (λ e. w (or_second (branching a) (branching b) e)) (omega (arith, g)) r.1) (λ n. tt)
 adds_code version names (Not at a) w g r = adds_bare version names a tokens.Not (adds_code version names a w g r) (λ n. tt)
 adds_code version names (And at a b) w g r =
     let behind = adds_behind version (size b) (code_of names b) (w refl) (omega (arith, code_length names b)) (adds_code version names b (λ e. w refl) (omega (arith, g)) r.1) in
@@ -131,26 +131,26 @@ adds_code version names (Or at a b) w g r =
     adds_both version (code_of names a) (tokens.BranchTrueElsePop (size b) ∷ code_of names b) (adds_code version names a (λ e. w refl) (omega (arith, g)) r.0) behind
 adds_code version names (Group at a) w g r = adds_code version names a w g r
 adds_code version names (Concat at a b) w g r =
-    adds_two version names a b tokens.Concat (adds_code version names a (λ e. w (or_first (has_branches a) (has_branches b) e)) (omega (arith, g)) r.0) (adds_code version names b (λ e. w (or_second (has_branches a) (has_branches b) e)) (omega (arith, g)) r.1) (λ n. tt)
+    adds_two version names a b tokens.Concat (adds_code version names a (λ e. w (or_first (branching a) (branching b) e)) (omega (arith, g)) r.0) (adds_code version names b (λ e. w (or_second (branching a) (branching b) e)) (omega (arith, g)) r.1) (λ n. tt)
 adds_code version names (IfElse at t a b) w g r =
-    let else_arm = adds_behind version (size b + four b) (operand names b) (w refl) (omega (arith, operand_length names b)) (adds_operand version names b (adds_code version names b (λ e. w refl) (omega (arith, g)) r.2)) in
-    let arms : List Token = operand names a ++ tokens.Branch (size b + four b) ∷ operand names b in
-    let both = adds_both version (operand names a) (tokens.Branch (size b + four b) ∷ operand names b) (adds_operand version names a (adds_code version names a (λ e. w refl) (omega (arith, g)) r.1)) else_arm in
-    let less : size a + four a + 1 ≤ length arms = omega (arith, length-append {A = Token}, operand_length names a) in
-    let behind = adds_behind version (size a + four a + 1) arms (w refl) less both in
-    adds_both version (code_of names t) (tokens.PopBranchFalse (size a + four a + 1) ∷ arms) (adds_code version names t (λ e. w refl) (omega (arith, g)) r.0) behind
+    let else_arm = adds_behind version (size b + four_more b) (operand names b) (w refl) (omega (arith, operand_length names b)) (adds_operand version names b (adds_code version names b (λ e. w refl) (omega (arith, g)) r.2)) in
+    let arms : List Token = operand names a ++ tokens.Branch (size b + four_more b) ∷ operand names b in
+    let both = adds_both version (operand names a) (tokens.Branch (size b + four_more b) ∷ operand names b) (adds_operand version names a (adds_code version names a (λ e. w refl) (omega (arith, g)) r.1)) else_arm in
+    let less : size a + four_more a + 1 ≤ length arms = omega (arith, length-append {A = Token}, operand_length names a) in
+    let behind = adds_behind version (size a + four_more a + 1) arms (w refl) less both in
+    adds_both version (code_of names t) (tokens.PopBranchFalse (size a + four_more a + 1) ∷ arms) (adds_code version names t (λ e. w refl) (omega (arith, g)) r.0) behind
 adds_code version names (Substring at a start count) w g r = adds_one version names a (tokens.Substring start count) (adds_code version names a w g r.1) (λ n. r.0)
 adds_code version names (HexString at a b) w g r =
-    adds_two version names a b tokens.HexString (adds_code version names a (λ e. w (or_first (has_branches a) (has_branches b) e)) (omega (arith, g)) r.0) (adds_code version names b (λ e. w (or_second (has_branches a) (has_branches b) e)) (omega (arith, g)) r.1) (λ n. tt)
+    adds_two version names a b tokens.HexString (adds_code version names a (λ e. w (or_first (branching a) (branching b) e)) (omega (arith, g)) r.0) (adds_code version names b (λ e. w (or_second (branching a) (branching b) e)) (omega (arith, g)) r.1) (λ n. tt)
 adds_code version names (Lower at a) w g r = adds_one version names a tokens.Lower (adds_code version names a w g r) (λ n. tt)
 adds_code version names (Upper at a) w g r = adds_one version names a tokens.Upper (adds_code version names a w g r) (λ n. tt)
 adds_code version names (IntToText at a) w g r = adds_bare version names a tokens.IntToText (adds_code version names a w (omega (arith, g)) r) (λ n. tt)
 
 -- the tokens of a tree fit a file
-are_tokens : (t : Tree) → greatest t ≤ 65535 → HasRanges t → AreTokens (version_of t) (code_of (names t) t)
+are_tokens : (t : Tree) → greatest t ≤ 65535 → HasRanges t → AreTokens (version_for t) (code_of (names t) t)
 are_tokens t g r =
-    let P : List Token → Type 0 = AreTokens (version_of t) in
-    subst P (append-nil (code_of (names t) t)) (adds_code (version_of t) (names t) t (second (has_branches t)) g r [] tt) where
+    let P : List Token → Type 0 = AreTokens (version_for t) in
+    subst P (append-nil (code_of (names t) t)) (adds_code (version_for t) (names t) t (second (branching t)) g r [] tt) where
       second : (b : Bool) → b ≡ true → (if b then versions.Two else versions.One) ≡ versions.Two
       second true e = refl
       second false e = absurd (cc)
@@ -190,7 +190,7 @@ all_after (IntToText at a) names r all = all_after a names r all
 -- a tree whose measures are within the limits
 pub record IsInLimits (t : Tree) : Type 0 where
   pub few_tokens : size t ≤ 1024
-  pub shallow : depth t ≤ 64
+  pub shallow : stack_depth t ≤ 64
   pub short : greatest t ≤ 65535
   pub few_names : length (names t) ≤ 64
 
@@ -202,12 +202,12 @@ not_over false fault rest e = (refl, e)
 pub in_limits : (t : Tree) → first_over t ≡ None → IsInLimits t
 in_limits t e =
     let first = not_over (nat_lt 1024 (size t)) faults.TooManyTokens _ e in
-    let second = not_over (nat_lt 64 (depth t)) faults.TooDeep _ first.1 in
+    let second = not_over (nat_lt 64 (stack_depth t)) faults.TooDeep _ first.1 in
     let third = not_over (nat_lt 65535 (greatest t)) faults.TooLong _ second.1 in
     let last = not_over (nat_lt 64 (length (names t))) faults.TooManyNames _ third.1 in
     record {
       few_tokens = ltb-false 1024 (size t) first.0;
-      shallow = ltb-false 64 (depth t) second.0;
+      shallow = ltb-false 64 (stack_depth t) second.0;
       short = ltb-false 65535 (greatest t) third.0;
       few_names = ltb-false 64 (length (names t)) last.0;
     }

@@ -18,7 +18,7 @@ use Rattle.kd_expr.specs.declared.typing.ValueType.TheVariants as types
 use Rattle.kd_machine.proofs.Ending.{accepted_ends}
 use Rattle.kd_machine.proofs.OneEnd.{one_end}
 use Rattle.kd_machine.specs.Run.{Run}
-use Rattle.kd_machine.specs.Values.{Val, Truth}
+use Rattle.kd_machine.specs.Val.{Val, Truth}
 use Rattle.kd_machine.specs.World.{world}
 use Rattle.kd_options.specs.Message.{Seen}
 use Rattle.kd_token.specs.Accepts.{Accepts}

@@ -2,9 +2,9 @@
 use Rattle.std.proofs.Common.{◌≡◌, ℕ, ◌+◌, Bool, true, false, List, [], ◌∷◌, ◌++◌, length, length-append, Option, Some, refl, sym, ap, subst, arith, inl, inr}
 use Rattle.std.specs.Prelude.{◌⊎◌, ◌&&◌, ◌||◌, if◌then◌else◌, slice_get}
 use Rattle.std.proofs.lemmas.List.{append_assoc}
-use Rattle.kd_compile.specs.Measures.{four}
-use Rattle.kd_compile.specs.Measures.{tokens as size}
-use Rattle.kd_compile.specs.Tokens.{code_of, field_of, in_bytes, place}
+use Rattle.kd_compile.specs.Measures.{four_more}
+use Rattle.kd_compile.specs.Measures.{token_count as size}
+use Rattle.kd_compile.specs.Tokens.{code_of, token_field, in_bytes, index_of}
 use Rattle.kd_compile.specs.Value.{value, part_value, truth_in, number_in, bytes_in}
 use Rattle.kd_compile.proofs.Fits.{code_length, operand_length}
 use Rattle.kd_compile.proofs.Places.{Knows}
@@ -14,8 +14,9 @@ use Rattle.kd_expr.specs.Tree.{Tree, Literal, Int, OptionValue, RelayValue, Fiel
 use Rattle.kd_expr.specs.declared.node.Field.{Field}
 use Rattle.kd_expr.specs.declared.node.Field.TheVariants as parts
 use Rattle.kd_machine.specs.Run.{rule, moves}
-use Rattle.kd_machine.specs.Values.{Val, Truth, Number, Text}
-use Rattle.kd_machine.specs.World.{World, world, is_held, field_value}
+use Rattle.kd_machine.specs.Val.{Val, Truth, Number, Text}
+use Rattle.kd_machine.specs.World.{World, world, value_of_field}
+use Rattle.kd_machine.specs.Parts.{is_held}
 use Rattle.kd_options.specs.Message.{Seen}
 use Rattle.kd_token.specs.File.{Code}
 use Rattle.kd_token.specs.Reading.{◌>>=◌}
@@ -77,7 +78,7 @@ text_is : (m : Seen) (held : List (List ℕ)) (t : Tree) → IsText t → IsWell
 text_is m held t is well = let K : Kind → Type 0 = λ k. HasKind k (value m held t) in subst K is.kind (value_kind m held t well)
 
 -- the field of a token has the value of the part of a message
-part_is : (m : Seen) (field : Field) → field_value m (field_of field) ≡ part_value m field
+part_is : (m : Seen) (field : Field) → value_of_field m (token_field field) ≡ part_value m field
 part_is m parts.Mac = refl
 part_is m parts.Hlen = refl
 part_is m parts.Htype = refl
@@ -181,8 +182,8 @@ push_makes : (p : Code) (w : World) (x : Token) (v : Val) → ((s : List Val) (i
 push_makes p w x v moved s = makes_one p w x s (v ∷ s) (moved s)
 
 -- the name of a member's token
-member_moves : (p : Code) (m : Seen) (held : List (List ℕ)) (name : List ℕ) → slice_get p.names (place name p.names) ≡ Some name → (s : List Val) (i : ℕ)
-    → moves (world p m held) (tokens.Member (place name p.names)) i s ≡ Some (i + 1, Truth (is_held name held) ∷ s)
+member_moves : (p : Code) (m : Seen) (held : List (List ℕ)) (name : List ℕ) → slice_get p.names (index_of name p.names) ≡ Some name → (s : List Val) (i : ℕ)
+    → moves (world p m held) (tokens.Member (index_of name p.names)) i s ≡ Some (i + 1, Truth (is_held name held) ∷ s)
 unfolding rule
 member_moves p m held name e s i =
     let F : Option (List ℕ) → Option (ℕ × List Val) = λ o. o >>= (λ x. Some (Truth (is_held x held) ∷ s)) >>= λ t. Some (i + 1, t) in
@@ -196,10 +197,10 @@ tree_makes p m held (Int at n) well known s = push_makes p (here p m held) (toke
 tree_makes p m held (OptionValue at code) well known s = push_makes p (here p m held) (tokens.PushOption code) _ (λ s i. refl) s
 tree_makes p m held (RelayValue at code) well known s = push_makes p (here p m held) (tokens.PushRelay code) _ (λ s i. refl) s
 tree_makes p m held (FieldValue at field) well known s =
-    push_makes p (here p m held) (tokens.PushField (field_of field)) (part_value m field) (λ s i. ap (λ v. Some (i + 1, v ∷ s)) (part_is m field)) s
+    push_makes p (here p m held) (tokens.PushField (token_field field)) (part_value m field) (λ s i. ap (λ v. Some (i + 1, v ∷ s)) (part_is m field)) s
 tree_makes p m held (OptionExists at code) well known s = push_makes p (here p m held) (tokens.OptionExists code) _ (λ s i. refl) s
 tree_makes p m held (RelayExists at code) well known s = push_makes p (here p m held) (tokens.RelayExists code) _ (λ s i. refl) s
-tree_makes p m held (Member at name) well known s = push_makes p (here p m held) (tokens.Member (place name p.names)) _ (member_moves p m held name known) s
+tree_makes p m held (Member at name) well known s = push_makes p (here p m held) (tokens.Member (index_of name p.names)) _ (member_moves p m held name known) s
 tree_makes p m held (Equal at a b) well known s =
     two_make p m held a b tokens.Equal _ well.0.0 well.0.1 well.1.0 well.1.1 (tree_makes p m held a well.0.1 known.0) (tree_makes p m held b well.1.1 known.1) (λ s i. refl) s
 tree_makes p m held (Not at a) well known s =
@@ -220,7 +221,7 @@ tree_makes p m held (Concat at a b) well known s =
 tree_makes p m held (IfElse at t a b) well known s =
     let first = operand_length p.names a in
     let second = operand_length p.names b in
-    arms_make p (here p m held) (code_of p.names t) (code_of p.names a ++ in_bytes a) (code_of p.names b ++ in_bytes b) s (truth_in (value m held t)) (bytes_in (value m held a)) (bytes_in (value m held b)) (size a + four a + 1) (size b + four b)
+    arms_make p (here p m held) (code_of p.names t) (code_of p.names a ++ in_bytes a) (code_of p.names b ++ in_bytes b) s (truth_in (value m held t)) (bytes_in (value m held a)) (bytes_in (value m held b)) (size a + four_more a + 1) (size b + four_more b)
     (omega (arith, first)) (sym second)
     (truth_makes p m held t well.0.0 well.0.1 (tree_makes p m held t well.0.1 known.0) s)
     (bytes_make p m held a well.1.0 well.1.1 (tree_makes p m held a well.1.1 known.1) s)

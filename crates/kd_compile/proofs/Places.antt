@@ -5,14 +5,14 @@ use Rattle.std.specs.Cmp.Lexicographic.{same_text}
 use Rattle.std.proofs.lemmas.Cmp.{nat_list_eq_equiv}
 use Rattle.std.proofs.lemmas.List.{append_assoc, append-nil}
 use Rattle.kd_compile.specs.Measures.{names_after, names}
-use Rattle.kd_compile.specs.Tokens.{place}
+use Rattle.kd_compile.specs.Tokens.{index_of}
 use Rattle.kd_expr.specs.Tree.{Tree, Literal, Int, OptionValue, RelayValue, FieldValue, OptionExists, RelayExists, Member, Equal, Not, And, Or, Group, Concat, IfElse, Substring, HexString, Lower, Upper, IntToText}
 use Rattle.kd_machine.specs.Held.{with_name}
-use Rattle.kd_machine.specs.World.{same, is_held}
+use Rattle.kd_machine.specs.Parts.{same, is_held}
 
 -- a name stands at its place
 abbrev pub IsPlaced : List (List ℕ) → List ℕ → Type 0
-IsPlaced names name = slice_get names (place name names) ≡ Some name
+IsPlaced names name = slice_get names (index_of name names) ≡ Some name
 
 -- each name that a tree asks for stands at its place
 abbrev pub Knows : List (List ℕ) → Tree → Type 0
@@ -41,7 +41,7 @@ Knows names (IntToText at a) = Knows names a
 placed_on : (name : List ℕ) (names more : List (List ℕ)) → IsPlaced names name → IsPlaced (names ++ more) name
 placed_on name [] more e = absurd (cc)
 placed_on name (x ∷ names) more e = by (same name x) (placed_on name names more) e where
-  by : (b : Bool) → (IsPlaced names name → IsPlaced (names ++ more) name) → slice_get (x ∷ names) (if b then 0 else suc (place name names)) ≡ Some name → slice_get (x ∷ (names ++ more)) (if b then 0 else suc (place name (names ++ more))) ≡ Some name
+  by : (b : Bool) → (IsPlaced names name → IsPlaced (names ++ more) name) → slice_get (x ∷ names) (if b then 0 else suc (index_of name names)) ≡ Some name → slice_get (x ∷ (names ++ more)) (if b then 0 else suc (index_of name (names ++ more))) ≡ Some name
   by true later e = e
   by false later e = later e
 
@@ -49,7 +49,7 @@ placed_on name (x ∷ names) more e = by (same name x) (placed_on name names mor
 placed_among : (name : List ℕ) (names : List (List ℕ)) → is_held name names ≡ true → IsPlaced names name
 placed_among name [] e = absurd (cc)
 placed_among name (x ∷ names) e = by (same name x) refl (placed_among name names) e where
-  by : (b : Bool) → same name x ≡ b → (is_held name names ≡ true → IsPlaced names name) → (b || is_held name names) ≡ true → slice_get (x ∷ names) (if b then 0 else suc (place name names)) ≡ Some name
+  by : (b : Bool) → same name x ≡ b → (is_held name names ≡ true → IsPlaced names name) → (b || is_held name names) ≡ true → slice_get (x ∷ names) (if b then 0 else suc (index_of name names)) ≡ Some name
   by true told later e = ap Some (sym (same_text name x (sym told)))
   by false told later e = later e
 
@@ -60,7 +60,7 @@ placed_behind name [] e = by (same name name) (nat_list_eq_equiv.refl name) wher
   by true told = refl
   by false told = absurd (cc)
 placed_behind name (x ∷ names) e = by (same name x) (placed_behind name names) e where
-  by : (b : Bool) → (is_held name names ≡ false → IsPlaced (names ++ name ∷ []) name) → (b || is_held name names) ≡ false → slice_get (x ∷ (names ++ name ∷ [])) (if b then 0 else suc (place name (names ++ name ∷ []))) ≡ Some name
+  by : (b : Bool) → (is_held name names ≡ false → IsPlaced (names ++ name ∷ []) name) → (b || is_held name names) ≡ false → slice_get (x ∷ (names ++ name ∷ [])) (if b then 0 else suc (index_of name (names ++ name ∷ []))) ≡ Some name
   by true later e = absurd (cc)
   by false later e = later e
 

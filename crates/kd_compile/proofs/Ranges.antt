@@ -3,8 +3,8 @@ use Rattle.std.proofs.Common.{◌≡◌, ℕ, zero, suc, ◌+◌, ◌*◌, ◌�
 use Rattle.std.specs.Prelude.{ℤ, if◌then◌else◌}
 use Rattle.std.specs.Int.{w32}
 use Rattle.std.specs.Int.RustNames.{FitsSigned}
-use Rattle.kd_compile.specs.Measures.{is_number, four, steps, depth}
-use Rattle.kd_compile.specs.Measures.{tokens as size}
+use Rattle.kd_compile.specs.Measures.{number_tree, four_more, step_count, stack_depth}
+use Rattle.kd_compile.specs.Measures.{token_count as size}
 use Rattle.kd_expr.specs.Grammar.{Spells, Level, or_one, or_more, and_one, and_more, not_none, negated, compare_one, equal, sum_one, sum_more, string, hexadecimal, address, number, group, option_hex, option_exists, relay_hex, relay_exists, field, packet_length, member, substring, concat, ifelse, hexstring, lcase, ucase, uint32totext, IsSigned, plain, below, IsLength, counted, whole, HasText}
 use Rattle.kd_expr.specs.Lexical.{Lexeme, Scans, finished, blank, token}
 use Rattle.kd_expr.specs.Tree.{Tree, Literal, Int, OptionValue, RelayValue, FieldValue, OptionExists, RelayExists, Member, Equal, Not, And, Or, Group, Concat, IfElse, Substring, HexString, Lower, Upper, IntToText}
@@ -78,8 +78,8 @@ ranges_of (uint32totext c s) = ranges_of s
 pub has_ranges : (t : Tree) → HasText t → HasRanges t
 has_ranges t h = ranges_of h.parses.spelled
 
-pub four_le : (t : Tree) → four t ≤ 1
-four_le t = by (is_number t) where
+pub four_le : (t : Tree) → four_more t ≤ 1
+four_le t = by (number_tree t) where
   by : (b : Bool) → (if b then 1 else 0) ≤ 1
   by true = omega arith
   by false = omega arith
@@ -129,7 +129,7 @@ pub few_tokens : (t : Tree) → HasText t → size t ≤ 16382
 few_tokens t h = omega (arith, size_le h.parses.spelled, scanned_le h.parses.scanned, h.parses.short)
 
 -- no more tokens run than there are
-pub steps_le : (t : Tree) → steps t ≤ size t
+pub steps_le : (t : Tree) → step_count t ≤ size t
 steps_le (Literal at bytes) = omega arith
 steps_le (Int at n) = omega arith
 steps_le (OptionValue at code) = omega arith
@@ -152,7 +152,7 @@ steps_le (Upper at a) = omega (arith, steps_le a)
 steps_le (IntToText at a) = omega (arith, steps_le a)
 
 -- no more values are on the stack than there are tokens
-pub depth_le : (t : Tree) → depth t ≤ size t
+pub depth_le : (t : Tree) → stack_depth t ≤ size t
 depth_le (Literal at bytes) = omega arith
 depth_le (Int at n) = omega arith
 depth_le (OptionValue at code) = omega arith

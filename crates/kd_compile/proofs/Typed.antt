@@ -2,8 +2,8 @@
 -- of its value on a stack is known.
 use Rattle.std.proofs.Common.{◌≡◌, ℕ, ◌+◌, true, false, length, refl, subst, inl, inr}
 use Rattle.std.specs.Prelude.{◌⊎◌, max, Result, Ok, Err}
-use Rattle.kd_compile.specs.Measures.{is_number, bound}
-use Rattle.kd_compile.specs.Tokens.{field_of}
+use Rattle.kd_compile.specs.Measures.{number_tree, bound}
+use Rattle.kd_compile.specs.Tokens.{token_field}
 use Rattle.kd_expr.specs.Tree.{Tree, Literal, Int, OptionValue, RelayValue, FieldValue, OptionExists, RelayExists, Member, Equal, Not, And, Or, Group, Concat, IfElse, Substring, HexString, Lower, Upper, IntToText, at_of}
 use Rattle.kd_expr.specs.Typing.{type_of, field_type, want_bool, want_bytes, want_int, andthen}
 use Rattle.kd_expr.specs.declared.fault.TypeFault.{TypeFault}
@@ -11,7 +11,7 @@ use Rattle.kd_expr.specs.declared.node.Field.{Field}
 use Rattle.kd_expr.specs.declared.node.Field.TheVariants as parts
 use Rattle.kd_expr.specs.declared.typing.ValueType.{ValueType}
 use Rattle.kd_expr.specs.declared.typing.ValueType.TheVariants as types
-use Rattle.kd_token.specs.Shape.{field_kind, hex_bound, substring_bound}
+use Rattle.kd_token.specs.Shape.{field_kind, bound_of_hex, bound_of_substring}
 use Rattle.kd_token.specs.declared.shape.Kind.{Kind}
 use Rattle.kd_token.specs.declared.shape.Kind.TheVariants as kinds
 
@@ -21,7 +21,7 @@ kind_of (Literal at bytes) = kinds.Bytes (length bytes)
 kind_of (Int at n) = kinds.Int
 kind_of (OptionValue at code) = kinds.Bytes 4096
 kind_of (RelayValue at code) = kinds.Bytes 255
-kind_of (FieldValue at field) = field_kind (field_of field)
+kind_of (FieldValue at field) = field_kind (token_field field)
 kind_of (OptionExists at code) = kinds.Bool
 kind_of (RelayExists at code) = kinds.Bool
 kind_of (Member at name) = kinds.Bool
@@ -32,8 +32,8 @@ kind_of (Or at a b) = kinds.Bool
 kind_of (Group at a) = kinds.Bool
 kind_of (Concat at a b) = kinds.Bytes (bound a + bound b)
 kind_of (IfElse at t a b) = kinds.Bytes (max (bound a) (bound b))
-kind_of (Substring at a start count) = kinds.Bytes (substring_bound (bound a) count)
-kind_of (HexString at a b) = kinds.Bytes (hex_bound (bound a) (bound b))
+kind_of (Substring at a start count) = kinds.Bytes (bound_of_substring (bound a) count)
+kind_of (HexString at a b) = kinds.Bytes (bound_of_hex (bound a) (bound b))
 kind_of (Lower at a) = kinds.Bytes (bound a)
 kind_of (Upper at a) = kinds.Bytes (bound a)
 kind_of (IntToText at a) = kinds.Bytes 10
@@ -44,13 +44,13 @@ IsTruth t = kind_of t ≡ kinds.Bool
 
 -- a number, whose byte string is its four bytes
 pub record IsNumber (t : Tree) : Type 0 where
-  pub number : is_number t ≡ true
+  pub number : number_tree t ≡ true
   pub kind : kind_of t ≡ kinds.Int
   pub size : bound t ≡ 4
 
 -- a byte string
 pub record IsText (t : Tree) : Type 0 where
-  pub text : is_number t ≡ false
+  pub text : number_tree t ≡ false
   pub kind : kind_of t ≡ kinds.Bytes (bound t)
 
 -- what a type says of a tree

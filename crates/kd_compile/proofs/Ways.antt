@@ -3,7 +3,7 @@ use Rattle.std.proofs.Common.{◌≡◌, ℕ, zero, suc, ◌+◌, max, List, [],
 use Rattle.std.specs.Prelude.{slice_get}
 use Rattle.kd_compile.proofs.Rows.{HasAt, has_front, has_back}
 use Rattle.kd_machine.specs.Run.{moves, Step, Segment}
-use Rattle.kd_machine.specs.Values.{Val, longest}
+use Rattle.kd_machine.specs.Val.{Val, longest}
 use Rattle.kd_machine.specs.World.{World}
 use Rattle.kd_token.specs.File.{Code}
 use Rattle.kd_token.specs.declared.token.Token.{Token}

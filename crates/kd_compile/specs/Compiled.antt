@@ -1,6 +1,6 @@
 -- What a compiled program owes to its class test: its measures, that it is accepted, and its meaning.
 use Rattle.std.specs.Prelude.{◌≡◌, ℕ, nat_lt, if◌then◌else◌, List, length, Option, Some, None}
-use Rattle.kd_compile.specs.Measures.{tokens, steps, depth, greatest, names, has_branches}
+use Rattle.kd_compile.specs.Measures.{token_count, step_count, stack_depth, greatest, names, branching}
 use Rattle.kd_compile.specs.Value.{truth}
 use Rattle.kd_compile.specs.declared.fault.CompileFault.{CompileFault}
 use Rattle.kd_compile.specs.declared.fault.CompileFault.TheVariants as faults
@@ -24,23 +24,23 @@ compile_fault_number faults.Memory = 91
 -- 65,535 bytes, 64 names
 abbrev pub first_over : Tree → Option CompileFault
 first_over t =
-    if nat_lt 1024 (tokens t) then Some faults.TooManyTokens
-    else if nat_lt 64 (depth t) then Some faults.TooDeep
+    if nat_lt 1024 (token_count t) then Some faults.TooManyTokens
+    else if nat_lt 64 (stack_depth t) then Some faults.TooDeep
     else if nat_lt 65535 (greatest t) then Some faults.TooLong
     else if nat_lt 64 (length (names t)) then Some faults.TooManyNames
     else None
 
 -- the version of a program: the second where it has branches
-abbrev pub version_of : Tree → Version
-version_of t = if has_branches t then versions.Two else versions.One
+abbrev pub version_for : Tree → Version
+version_for t = if branching t then versions.Two else versions.One
 
 -- a program has the measures of an expression: it declares its steps, its depth and its greatest bound
 pub record HasMeasures (t : Tree) (p : Code) : Type 0 where
-  pub version : p.version ≡ version_of t
-  pub tokens : length p.tokens ≡ tokens t
+  pub version : p.version ≡ version_for t
+  pub tokens : length p.tokens ≡ token_count t
   pub names : p.names ≡ names t
-  pub steps : p.steps ≡ steps t
-  pub depth : p.depth ≡ depth t
+  pub steps : p.steps ≡ step_count t
+  pub depth : p.depth ≡ stack_depth t
   pub bound : p.bound ≡ greatest t
 
 -- a program keeps an expression's meaning: over every message and every list of held names it runs, within

@@ -6,104 +6,104 @@ use Rattle.kd_expr.specs.Tree.{Tree, Literal, Int, OptionValue, RelayValue, Fiel
 use Rattle.kd_expr.specs.declared.node.Field.{Field}
 use Rattle.kd_expr.specs.declared.node.Field.TheVariants as fields
 use Rattle.kd_machine.specs.Held.{with_name}
-use Rattle.kd_token.specs.Shape.{hex_bound, substring_bound}
+use Rattle.kd_token.specs.Shape.{bound_of_hex, bound_of_substring}
 
 -- whether a part of a message is a number
-abbrev pub is_number_part : Field → Bool
-is_number_part fields.Mac = false
-is_number_part fields.Hlen = true
-is_number_part fields.Htype = true
-is_number_part fields.Ciaddr = false
-is_number_part fields.Giaddr = false
-is_number_part fields.Yiaddr = false
-is_number_part fields.Siaddr = false
-is_number_part fields.Msgtype = true
-is_number_part fields.Transid = true
-is_number_part fields.Length = true
+abbrev pub number_part : Field → Bool
+number_part fields.Mac = false
+number_part fields.Hlen = true
+number_part fields.Htype = true
+number_part fields.Ciaddr = false
+number_part fields.Giaddr = false
+number_part fields.Yiaddr = false
+number_part fields.Siaddr = false
+number_part fields.Msgtype = true
+number_part fields.Transid = true
+number_part fields.Length = true
 
 -- whether an expression is a number
-abbrev pub is_number : Tree → Bool
-is_number (Int at n) = true
-is_number (FieldValue at field) = is_number_part field
-is_number t = false
+abbrev pub number_tree : Tree → Bool
+number_tree (Int at n) = true
+number_tree (FieldValue at field) = number_part field
+number_tree t = false
 
 -- one token more where an operand is a number and a byte string is wanted: its four bytes
-abbrev pub four : Tree → ℕ
-four t = if is_number t then 1 else 0
+abbrev pub four_more : Tree → ℕ
+four_more t = if number_tree t then 1 else 0
 
 -- how many tokens its program has; `and` and `or` have a branch, `ifelse` has two
-abbrev pub tokens : Tree → ℕ
-tokens (Literal at bytes) = 1
-tokens (Int at n) = 1
-tokens (OptionValue at code) = 1
-tokens (RelayValue at code) = 1
-tokens (FieldValue at field) = 1
-tokens (OptionExists at code) = 1
-tokens (RelayExists at code) = 1
-tokens (Member at name) = 1
-tokens (Equal at a b) = tokens a + four a + (tokens b + four b) + 1
-tokens (Not at a) = tokens a + 1
-tokens (And at a b) = tokens a + 1 + tokens b
-tokens (Or at a b) = tokens a + 1 + tokens b
-tokens (Group at a) = tokens a
-tokens (Concat at a b) = tokens a + four a + (tokens b + four b) + 1
-tokens (IfElse at t a b) = tokens t + 1 + (tokens a + four a) + 1 + (tokens b + four b)
-tokens (Substring at a start count) = tokens a + four a + 1
-tokens (HexString at a b) = tokens a + four a + (tokens b + four b) + 1
-tokens (Lower at a) = tokens a + four a + 1
-tokens (Upper at a) = tokens a + four a + 1
-tokens (IntToText at a) = tokens a + 1
+abbrev pub token_count : Tree → ℕ
+token_count (Literal at bytes) = 1
+token_count (Int at n) = 1
+token_count (OptionValue at code) = 1
+token_count (RelayValue at code) = 1
+token_count (FieldValue at field) = 1
+token_count (OptionExists at code) = 1
+token_count (RelayExists at code) = 1
+token_count (Member at name) = 1
+token_count (Equal at a b) = token_count a + four_more a + (token_count b + four_more b) + 1
+token_count (Not at a) = token_count a + 1
+token_count (And at a b) = token_count a + 1 + token_count b
+token_count (Or at a b) = token_count a + 1 + token_count b
+token_count (Group at a) = token_count a
+token_count (Concat at a b) = token_count a + four_more a + (token_count b + four_more b) + 1
+token_count (IfElse at t a b) = token_count t + 1 + (token_count a + four_more a) + 1 + (token_count b + four_more b)
+token_count (Substring at a start count) = token_count a + four_more a + 1
+token_count (HexString at a b) = token_count a + four_more a + (token_count b + four_more b) + 1
+token_count (Lower at a) = token_count a + four_more a + 1
+token_count (Upper at a) = token_count a + four_more a + 1
+token_count (IntToText at a) = token_count a + 1
 
 -- how many tokens run at most: the longest way through its program
-abbrev pub steps : Tree → ℕ
-steps (Literal at bytes) = 1
-steps (Int at n) = 1
-steps (OptionValue at code) = 1
-steps (RelayValue at code) = 1
-steps (FieldValue at field) = 1
-steps (OptionExists at code) = 1
-steps (RelayExists at code) = 1
-steps (Member at name) = 1
-steps (Equal at a b) = steps a + four a + (steps b + four b) + 1
-steps (Not at a) = steps a + 1
-steps (And at a b) = steps a + 1 + steps b
-steps (Or at a b) = steps a + 1 + steps b
-steps (Group at a) = steps a
-steps (Concat at a b) = steps a + four a + (steps b + four b) + 1
-steps (IfElse at t a b) = steps t + 1 + max (steps a + four a + 1) (steps b + four b)
-steps (Substring at a start count) = steps a + four a + 1
-steps (HexString at a b) = steps a + four a + (steps b + four b) + 1
-steps (Lower at a) = steps a + four a + 1
-steps (Upper at a) = steps a + four a + 1
-steps (IntToText at a) = steps a + 1
+abbrev pub step_count : Tree → ℕ
+step_count (Literal at bytes) = 1
+step_count (Int at n) = 1
+step_count (OptionValue at code) = 1
+step_count (RelayValue at code) = 1
+step_count (FieldValue at field) = 1
+step_count (OptionExists at code) = 1
+step_count (RelayExists at code) = 1
+step_count (Member at name) = 1
+step_count (Equal at a b) = step_count a + four_more a + (step_count b + four_more b) + 1
+step_count (Not at a) = step_count a + 1
+step_count (And at a b) = step_count a + 1 + step_count b
+step_count (Or at a b) = step_count a + 1 + step_count b
+step_count (Group at a) = step_count a
+step_count (Concat at a b) = step_count a + four_more a + (step_count b + four_more b) + 1
+step_count (IfElse at t a b) = step_count t + 1 + max (step_count a + four_more a + 1) (step_count b + four_more b)
+step_count (Substring at a start count) = step_count a + four_more a + 1
+step_count (HexString at a b) = step_count a + four_more a + (step_count b + four_more b) + 1
+step_count (Lower at a) = step_count a + four_more a + 1
+step_count (Upper at a) = step_count a + four_more a + 1
+step_count (IntToText at a) = step_count a + 1
 
 -- how many values are on the stack at most
-abbrev pub depth : Tree → ℕ
-depth (Literal at bytes) = 1
-depth (Int at n) = 1
-depth (OptionValue at code) = 1
-depth (RelayValue at code) = 1
-depth (FieldValue at field) = 1
-depth (OptionExists at code) = 1
-depth (RelayExists at code) = 1
-depth (Member at name) = 1
-depth (Equal at a b) = max (depth a) (1 + depth b)
-depth (Not at a) = depth a
-depth (And at a b) = max (depth a) (depth b)
-depth (Or at a b) = max (depth a) (depth b)
-depth (Group at a) = depth a
-depth (Concat at a b) = max (depth a) (1 + depth b)
-depth (IfElse at t a b) = max (depth t) (max (depth a) (depth b))
-depth (Substring at a start count) = depth a
-depth (HexString at a b) = max (depth a) (1 + depth b)
-depth (Lower at a) = depth a
-depth (Upper at a) = depth a
-depth (IntToText at a) = depth a
+abbrev pub stack_depth : Tree → ℕ
+stack_depth (Literal at bytes) = 1
+stack_depth (Int at n) = 1
+stack_depth (OptionValue at code) = 1
+stack_depth (RelayValue at code) = 1
+stack_depth (FieldValue at field) = 1
+stack_depth (OptionExists at code) = 1
+stack_depth (RelayExists at code) = 1
+stack_depth (Member at name) = 1
+stack_depth (Equal at a b) = max (stack_depth a) (1 + stack_depth b)
+stack_depth (Not at a) = stack_depth a
+stack_depth (And at a b) = max (stack_depth a) (stack_depth b)
+stack_depth (Or at a b) = max (stack_depth a) (stack_depth b)
+stack_depth (Group at a) = stack_depth a
+stack_depth (Concat at a b) = max (stack_depth a) (1 + stack_depth b)
+stack_depth (IfElse at t a b) = max (stack_depth t) (max (stack_depth a) (stack_depth b))
+stack_depth (Substring at a start count) = stack_depth a
+stack_depth (HexString at a b) = max (stack_depth a) (1 + stack_depth b)
+stack_depth (Lower at a) = stack_depth a
+stack_depth (Upper at a) = stack_depth a
+stack_depth (IntToText at a) = stack_depth a
 
 -- how long the byte string of a part of a message is at most; that of a number is its four bytes
-abbrev pub part_bound : Field → ℕ
-part_bound fields.Mac = 16
-part_bound field = 4
+abbrev pub bound_of_part : Field → ℕ
+bound_of_part fields.Mac = 16
+bound_of_part field = 4
 
 -- how long an expression's byte string is at most; a truth value has none
 abbrev pub bound : Tree → ℕ
@@ -111,7 +111,7 @@ bound (Literal at bytes) = length bytes
 bound (Int at n) = 4
 bound (OptionValue at code) = 4096
 bound (RelayValue at code) = 255
-bound (FieldValue at field) = part_bound field
+bound (FieldValue at field) = bound_of_part field
 bound (OptionExists at code) = 0
 bound (RelayExists at code) = 0
 bound (Member at name) = 0
@@ -122,8 +122,8 @@ bound (Or at a b) = 0
 bound (Group at a) = 0
 bound (Concat at a b) = bound a + bound b
 bound (IfElse at t a b) = max (bound a) (bound b)
-bound (Substring at a start count) = substring_bound (bound a) count
-bound (HexString at a b) = hex_bound (bound a) (bound b)
+bound (Substring at a start count) = bound_of_substring (bound a) count
+bound (HexString at a b) = bound_of_hex (bound a) (bound b)
 bound (Lower at a) = bound a
 bound (Upper at a) = bound a
 bound (IntToText at a) = 10
@@ -138,7 +138,7 @@ greatest (Group at a) = greatest a
 greatest (Concat at a b) = max (bound a + bound b) (max (greatest a) (greatest b))
 greatest (IfElse at t a b) = max (greatest t) (max (greatest a) (greatest b))
 greatest (Substring at a start count) = greatest a
-greatest (HexString at a b) = max (hex_bound (bound a) (bound b)) (max (greatest a) (greatest b))
+greatest (HexString at a b) = max (bound_of_hex (bound a) (bound b)) (max (greatest a) (greatest b))
 greatest (Lower at a) = greatest a
 greatest (Upper at a) = greatest a
 greatest (IntToText at a) = max 10 (greatest a)
@@ -166,17 +166,17 @@ abbrev pub names : Tree → List (List ℕ)
 names t = names_after [] t
 
 -- whether `and`, `or` or `ifelse` occurs, so that its program has branches
-abbrev pub has_branches : Tree → Bool
-has_branches (And at a b) = true
-has_branches (Or at a b) = true
-has_branches (IfElse at t a b) = true
-has_branches (Equal at a b) = has_branches a || has_branches b
-has_branches (Not at a) = has_branches a
-has_branches (Group at a) = has_branches a
-has_branches (Concat at a b) = has_branches a || has_branches b
-has_branches (Substring at a start count) = has_branches a
-has_branches (HexString at a b) = has_branches a || has_branches b
-has_branches (Lower at a) = has_branches a
-has_branches (Upper at a) = has_branches a
-has_branches (IntToText at a) = has_branches a
-has_branches t = false
+abbrev pub branching : Tree → Bool
+branching (And at a b) = true
+branching (Or at a b) = true
+branching (IfElse at t a b) = true
+branching (Equal at a b) = branching a || branching b
+branching (Not at a) = branching a
+branching (Group at a) = branching a
+branching (Concat at a b) = branching a || branching b
+branching (Substring at a start count) = branching a
+branching (HexString at a b) = branching a || branching b
+branching (Lower at a) = branching a
+branching (Upper at a) = branching a
+branching (IntToText at a) = branching a
+branching t = false

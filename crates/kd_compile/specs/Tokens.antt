@@ -6,37 +6,37 @@ use Rattle.std.specs.Prelude.{ℕ, suc, ◌+◌, if◌then◌else◌, List, [], 
 use Rattle.kd_expr.specs.Tree.{Tree, Literal, Int, OptionValue, RelayValue, FieldValue, OptionExists, RelayExists, Member, Equal, Not, And, Or, Group, Concat, IfElse, Substring, HexString, Lower, Upper, IntToText}
 use Rattle.kd_expr.specs.declared.node.Field.{Field}
 use Rattle.kd_expr.specs.declared.node.Field.TheVariants as parts
-use Rattle.kd_machine.specs.World.{same}
+use Rattle.kd_machine.specs.Parts.{same}
 use Rattle.kd_token.specs.File.{Code, code}
 use Rattle.kd_token.specs.declared.token.Field.{Field as TokenField}
 use Rattle.kd_token.specs.declared.token.Field.TheVariants as fields
 use Rattle.kd_token.specs.declared.token.Token.{Token}
 use Rattle.kd_token.specs.declared.token.Token.TheVariants as tokens
-use Rattle.kd_compile.specs.Compiled.{version_of}
-use Rattle.kd_compile.specs.Measures.{is_number, four, steps, depth, greatest, names}
-use Rattle.kd_compile.specs.Measures.{tokens as size}
+use Rattle.kd_compile.specs.Compiled.{version_for}
+use Rattle.kd_compile.specs.Measures.{number_tree, four_more, step_count, stack_depth, greatest, names}
+use Rattle.kd_compile.specs.Measures.{token_count as size}
 
 -- the place of a name among names; their number where it is not there
-abbrev pub place : List ℕ → List (List ℕ) → ℕ
-place name [] = 0
-place name (x ∷ names) = if same name x then 0 else suc (place name names)
+abbrev pub index_of : List ℕ → List (List ℕ) → ℕ
+index_of name [] = 0
+index_of name (x ∷ names) = if same name x then 0 else suc (index_of name names)
 
 -- the field of a token that a part of a message is
-abbrev pub field_of : Field → TokenField
-field_of parts.Mac = fields.Mac
-field_of parts.Hlen = fields.Hlen
-field_of parts.Htype = fields.Htype
-field_of parts.Ciaddr = fields.Ciaddr
-field_of parts.Giaddr = fields.Giaddr
-field_of parts.Yiaddr = fields.Yiaddr
-field_of parts.Siaddr = fields.Siaddr
-field_of parts.Msgtype = fields.MessageType
-field_of parts.Transid = fields.Transaction
-field_of parts.Length = fields.Length
+abbrev pub token_field : Field → TokenField
+token_field parts.Mac = fields.Mac
+token_field parts.Hlen = fields.Hlen
+token_field parts.Htype = fields.Htype
+token_field parts.Ciaddr = fields.Ciaddr
+token_field parts.Giaddr = fields.Giaddr
+token_field parts.Yiaddr = fields.Yiaddr
+token_field parts.Siaddr = fields.Siaddr
+token_field parts.Msgtype = fields.MessageType
+token_field parts.Transid = fields.Transaction
+token_field parts.Length = fields.Length
 
 -- the token behind an operand where a byte string is wanted
 abbrev pub in_bytes : Tree → List Token
-in_bytes t = if is_number t then tokens.IntBytes ∷ [] else []
+in_bytes t = if number_tree t then tokens.IntBytes ∷ [] else []
 
 -- the tokens of an expression, with the names of its program
 abbrev pub code_of : List (List ℕ) → Tree → List Token
@@ -44,10 +44,10 @@ code_of names (Literal at bytes) = tokens.PushBytes bytes ∷ []
 code_of names (Int at n) = tokens.PushInt n ∷ []
 code_of names (OptionValue at code) = tokens.PushOption code ∷ []
 code_of names (RelayValue at code) = tokens.PushRelay code ∷ []
-code_of names (FieldValue at field) = tokens.PushField (field_of field) ∷ []
+code_of names (FieldValue at field) = tokens.PushField (token_field field) ∷ []
 code_of names (OptionExists at code) = tokens.OptionExists code ∷ []
 code_of names (RelayExists at code) = tokens.RelayExists code ∷ []
-code_of names (Member at name) = tokens.Member (place name names) ∷ []
+code_of names (Member at name) = tokens.Member (index_of name names) ∷ []
 code_of names (Equal at a b) = code_of names a ++ in_bytes a ++ (code_of names b ++ in_bytes b) ++ tokens.Equal ∷ []
 code_of names (Not at a) = code_of names a ++ tokens.Not ∷ []
 code_of names (And at a b) = code_of names a ++ tokens.BranchFalseElsePop (size b) ∷ code_of names b
@@ -55,7 +55,7 @@ code_of names (Or at a b) = code_of names a ++ tokens.BranchTrueElsePop (size b)
 code_of names (Group at a) = code_of names a
 code_of names (Concat at a b) = code_of names a ++ in_bytes a ++ (code_of names b ++ in_bytes b) ++ tokens.Concat ∷ []
 code_of names (IfElse at t a b) =
-    code_of names t ++ tokens.PopBranchFalse (size a + four a + 1) ∷ (code_of names a ++ in_bytes a ++ tokens.Branch (size b + four b) ∷ (code_of names b ++ in_bytes b))
+    code_of names t ++ tokens.PopBranchFalse (size a + four_more a + 1) ∷ (code_of names a ++ in_bytes a ++ tokens.Branch (size b + four_more b) ∷ (code_of names b ++ in_bytes b))
 code_of names (Substring at a start count) = code_of names a ++ in_bytes a ++ tokens.Substring start count ∷ []
 code_of names (HexString at a b) = code_of names a ++ in_bytes a ++ (code_of names b ++ in_bytes b) ++ tokens.HexString ∷ []
 code_of names (Lower at a) = code_of names a ++ in_bytes a ++ tokens.Lower ∷ []
@@ -64,4 +64,4 @@ code_of names (IntToText at a) = code_of names a ++ tokens.IntToText ∷ []
 
 -- the program of an expression: its tokens, and its measures as what it declares
 abbrev pub program_for : Tree → Code
-program_for t = code (version_of t) (steps t) (depth t) (greatest t) (names t) (code_of (names t) t)
+program_for t = code (version_for t) (step_count t) (stack_depth t) (greatest t) (names t) (code_of (names t) t)

@@ -12,9 +12,9 @@ use Rattle.kd_expr.specs.declared.node.Field.TheVariants as fields
 use Rattle.kd_options.specs.Joined.{value_of}
 use Rattle.kd_options.specs.Message.{Seen, mac_of}
 use Rattle.kd_options.specs.RelayWalk.{relay_list}
-use Rattle.kd_machine.specs.Strings.{substring, hex_text}
-use Rattle.kd_machine.specs.Values.{Val, Truth, Number, Text}
-use Rattle.kd_machine.specs.World.{same, is_held, or_empty, type_in}
+use Rattle.kd_machine.specs.Strings.{substring, hex_of}
+use Rattle.kd_machine.specs.Val.{Val, Truth, Number, Text}
+use Rattle.kd_machine.specs.Parts.{same, is_held, or_empty, type_in}
 
 -- a truth value
 abbrev pub truth_in : Val → Bool
@@ -69,7 +69,7 @@ value m held (Group at a) = value m held a
 value m held (Concat at a b) = Text (bytes_in (value m held a) ++ bytes_in (value m held b))
 value m held (IfElse at t a b) = Text (if truth_in (value m held t) then bytes_in (value m held a) else bytes_in (value m held b))
 value m held (Substring at a start count) = Text (substring start count (bytes_in (value m held a)))
-value m held (HexString at a b) = Text (hex_text (bytes_in (value m held b)) (bytes_in (value m held a)))
+value m held (HexString at a b) = Text (hex_of (bytes_in (value m held b)) (bytes_in (value m held a)))
 value m held (Lower at a) = Text (map to_ascii_lowercase (bytes_in (value m held a)))
 value m held (Upper at a) = Text (map to_ascii_uppercase (bytes_in (value m held a)))
 value m held (IntToText at a) = Text (decimal (number_in (value m held a)))

@@ -1,5 +1,5 @@
 ghost use Rattle.std.specs.Prelude.{◌≡◌, ◌⊎◌, IfOk, MatchResult, None, Ok, Some};
-ghost use Rattle.kd_compile.specs.Compiled.{HasMeasures, Keeps, first_over, version_of};
+ghost use Rattle.kd_compile.specs.Compiled.{HasMeasures, Keeps, first_over, version_for};
 ghost use Rattle.kd_compile.specs.Measures.{greatest, names};
 ghost use Rattle.kd_compile.specs.Tokens.{program_for};
 ghost use Rattle.kd_compile.specs.declared.fault.CompileFault.TheVariants.{Memory};
@@ -87,7 +87,7 @@ fn program_of(
 
 // The version of an expression's program: the second where it has branches.
 fn version_of(tree: &Node) -> Version
-    ensures { result ≡ version_of (tree_of tree.now) }
+    ensures { result ≡ version_for (tree_of tree.now) }
 {
     if has_branches(tree) {
         Version::Two

@@ -1,10 +1,10 @@
 ghost use Rattle.std.specs.Prelude.{[], ◌≡◌, ◌≤◌, ◌++◌, ◌∷◌, IfOk, OnOk, length};
 ghost use Rattle.std.specs.List.{position};
-ghost use Rattle.kd_compile.specs.Measures.{names, names_after, tokens};
-ghost use Rattle.kd_compile.specs.Tokens.{code_of, field_of, in_bytes, place};
+ghost use Rattle.kd_compile.specs.Measures.{names, names_after, token_count};
+ghost use Rattle.kd_compile.specs.Tokens.{code_of, token_field, in_bytes, index_of};
 ghost use Rattle.kd_expr.specs.View.{tree_of};
 ghost use Rattle.kd_machine.specs.Held.{with_name};
-ghost use Rattle.kd_machine.specs.World.{is_held, same};
+ghost use Rattle.kd_machine.specs.Parts.{is_held, same};
 
 use crate::measure::{four, is_number, tokens};
 use kd_expr::{Field, Node};
@@ -21,7 +21,7 @@ fn find(name: &[u8], names: &[Bytes]) -> Option<usize>
 
 // The place of a name among names, their number where it is not there.
 fn place(name: &[u8], names: &[Bytes]) -> usize
-    ensures at { result ≡ place name.now names.now }
+    ensures at { result ≡ index_of name.now names.now }
     ensures within { result ≤ length names.now }
 {
     find(name, names).unwrap_or(names.len())
@@ -104,7 +104,7 @@ pub(crate) fn member_names(alloc: Global, node: &Node) -> Result<Vec<Bytes>, All
 
 // The field of a token that a part of a message is.
 fn field_of(field: Field) -> TokenField
-    ensures { result ≡ field_of field }
+    ensures { result ≡ token_field field }
 {
     match field {
         Field::Mac => TokenField::Mac,
@@ -135,7 +135,7 @@ fn put_bytes(
     names: &[Bytes],
     out: &mut Vec<Token>,
 ) -> Result<(), AllocError>
-    requires few { tokens (tree_of node.now) ≤ 1024 }
+    requires few { token_count (tree_of node.now) ≤ 1024 }
     requires named { length names.now ≤ 64 }
     ensures { OnOk result (out.new.items ≡ out.old.items ++ code_of names.now (tree_of node.now) ++ in_bytes (tree_of node.now)) }
 {
@@ -155,7 +155,7 @@ pub(crate) fn put_code(
     names: &[Bytes],
     out: &mut Vec<Token>,
 ) -> Result<(), AllocError>
-    requires few { tokens (tree_of node.now) ≤ 1024 }
+    requires few { token_count (tree_of node.now) ≤ 1024 }
     requires named { length names.now ≤ 64 }
     ensures { OnOk result (out.new.items ≡ out.old.items ++ code_of names.now (tree_of node.now)) }
 {

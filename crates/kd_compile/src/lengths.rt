@@ -1,7 +1,7 @@
 ghost use Rattle.std.specs.Prelude.{◌≡◌, ◌≤◌, max, min};
-ghost use Rattle.kd_compile.specs.Measures.{bound, greatest, part_bound};
+ghost use Rattle.kd_compile.specs.Measures.{bound, greatest, bound_of_part};
 ghost use Rattle.kd_expr.specs.View.{tree_of};
-ghost use Rattle.kd_token.specs.Shape.{hex_bound, substring_bound};
+ghost use Rattle.kd_token.specs.Shape.{bound_of_hex, bound_of_substring};
 
 use kd_expr::{Field, Node};
 
@@ -17,7 +17,7 @@ pub(crate) struct Longest {
 
 // Of the byte string of a part of a message.
 fn part_bound(field: Field) -> usize
-    ensures { result ≡ part_bound field }
+    ensures { result ≡ bound_of_part field }
 {
     match field {
         Field::Mac => 16,
@@ -36,7 +36,7 @@ fn part_bound(field: Field) -> usize
 // Of the hexadecimal text of so many bytes with separators of so many bytes.
 fn hex_bound(bytes: usize, separator: usize) -> usize
     requires { (bytes ≤ 65536) × (separator ≤ 65536) }
-    ensures { result ≡ min (hex_bound bytes separator) 65536 }
+    ensures { result ≡ min (bound_of_hex bytes separator) 65536 }
 {
     if bytes == 0 {
         0
@@ -47,7 +47,7 @@ fn hex_bound(bytes: usize, separator: usize) -> usize
 
 // Of a part of so many bytes.
 fn substring_bound(bytes: usize, length: Option<i32>) -> usize
-    ensures { result ≡ substring_bound bytes length }
+    ensures { result ≡ bound_of_substring bytes length }
 {
     match length {
         Some(length) => bytes.min(length.unsigned_abs() as usize),

@@ -1,12 +1,12 @@
 ghost use Rattle.std.specs.Prelude.{◌≡◌, ◌<◌, ◌^◌};
-ghost use Rattle.kd_compile.specs.Measures.{depth, four, has_branches, is_number, is_number_part, steps, tokens};
+ghost use Rattle.kd_compile.specs.Measures.{stack_depth, four_more, branching, number_tree, number_part, step_count, token_count};
 ghost use Rattle.kd_expr.specs.View.{tree_of};
 
 use kd_expr::{Field, Node};
 
 // Whether a part of a message is a number.
 fn is_number_part(field: Field) -> bool
-    ensures { result ≡ is_number_part field }
+    ensures { result ≡ number_part field }
 {
     match field {
         Field::Mac | Field::Ciaddr | Field::Giaddr | Field::Yiaddr | Field::Siaddr => false,
@@ -16,7 +16,7 @@ fn is_number_part(field: Field) -> bool
 
 // Whether an expression is a number.
 pub(crate) fn is_number(node: &Node) -> bool
-    ensures { result ≡ is_number (tree_of node.now) }
+    ensures { result ≡ number_tree (tree_of node.now) }
 {
     match node {
         Node::Int { .. } => true,
@@ -27,15 +27,15 @@ pub(crate) fn is_number(node: &Node) -> bool
 
 // One where an operand is a number: the token of its four bytes.
 pub(crate) fn four(node: &Node) -> u32
-    ensures { result ≡ four (tree_of node.now) }
+    ensures { result ≡ four_more (tree_of node.now) }
 {
     if is_number(node) { 1 } else { 0 }
 }
 
 // How many tokens an expression's program has.
 pub(crate) fn tokens(node: &Node) -> u32
-    requires { tokens (tree_of node.now) < 2 ^ 32 }
-    ensures { result ≡ tokens (tree_of node.now) }
+    requires { token_count (tree_of node.now) < 2 ^ 32 }
+    ensures { result ≡ token_count (tree_of node.now) }
 {
     match node {
         Node::Literal { .. }
@@ -70,8 +70,8 @@ pub(crate) fn tokens(node: &Node) -> u32
 
 // How many tokens run at most.
 pub(crate) fn steps(node: &Node) -> u32
-    requires { steps (tree_of node.now) < 2 ^ 32 }
-    ensures { result ≡ steps (tree_of node.now) }
+    requires { step_count (tree_of node.now) < 2 ^ 32 }
+    ensures { result ≡ step_count (tree_of node.now) }
 {
     match node {
         Node::Literal { .. }
@@ -106,8 +106,8 @@ pub(crate) fn steps(node: &Node) -> u32
 
 // How many values are on the stack at most.
 pub(crate) fn depth(node: &Node) -> u32
-    requires { depth (tree_of node.now) < 2 ^ 32 }
-    ensures { result ≡ depth (tree_of node.now) }
+    requires { stack_depth (tree_of node.now) < 2 ^ 32 }
+    ensures { result ≡ stack_depth (tree_of node.now) }
 {
     match node {
         Node::Literal { .. }
@@ -141,7 +141,7 @@ pub(crate) fn depth(node: &Node) -> u32
 
 // Whether `and`, `or` or `ifelse` occurs.
 pub(crate) fn has_branches(node: &Node) -> bool
-    ensures { result ≡ has_branches (tree_of node.now) }
+    ensures { result ≡ branching (tree_of node.now) }
 {
     match node {
         Node::And { .. } | Node::Or { .. } | Node::IfElse { .. } => true,

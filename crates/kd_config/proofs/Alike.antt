@@ -2,7 +2,7 @@
 use Rattle.std.proofs.Common.{◌≡◌, ℕ, zero, suc, ◌<◌, ◌≤◌, Bool, ◌&&◌, ◌||◌, List, [], ◌∷◌, ◌++◌, length, take, Some, refl, sym, ap, subst, ◌∙◌}
 use Rattle.std.specs.Prelude.{slice_get}
 use Rattle.std.specs.List.{list_all}
-use Rattle.kd_classes.specs.Order.{AreInOrder, IsInOrder, asked, is_built_in, is_known, is_named}
+use Rattle.kd_classes.specs.Order.{AreInOrder, IsInOrder, asked, built_in, known_after, named_among}
 use Rattle.kd_classes.specs.declared.definition.ClassDef.{ClassDef}
 use Rattle.kd_config.specs.Alike.{AskAlike, AsksAlike}
 
@@ -23,19 +23,19 @@ or_alike : (x t u : Bool) → t ≡ u → (x || t) ≡ (x || u)
 or_alike x t u e = ap (λ v. x || v) e
 
 -- the same names are theirs
-alike_named : (name : List ℕ) (xs ys : List ClassDef) → AskAlike xs ys → is_named name xs ≡ is_named name ys
+alike_named : (name : List ℕ) (xs ys : List ClassDef) → AskAlike xs ys → named_among name xs ≡ named_among name ys
 alike_named name [] [] h = refl
 alike_named name [] (b ∷ ys) h = absurd h
 alike_named name (a ∷ xs) [] h = absurd h
 alike_named name (a ∷ xs) (b ∷ ys) h =
-    ap (λ n. is_named name (record { name = n; test = a.test; options = a.options } ∷ xs)) h.0.name
-    ∙ or_alike _ (is_named name xs) (is_named name ys) (alike_named name xs ys h.1)
+    ap (λ n. named_among name (record { name = n; test = a.test; options = a.options } ∷ xs)) h.0.name
+    ∙ or_alike _ (named_among name xs) (named_among name ys) (alike_named name xs ys h.1)
 
 -- the same names are known behind them
-alike_known : (names : List (List ℕ)) (xs ys : List ClassDef) → AskAlike xs ys → list_all (is_known xs) names ≡ list_all (is_known ys) names
+alike_known : (names : List (List ℕ)) (xs ys : List ClassDef) → AskAlike xs ys → list_all (known_after xs) names ≡ list_all (known_after ys) names
 alike_known [] xs ys h = refl
 alike_known (n ∷ names) xs ys h =
-    ap (λ t. (is_built_in n || t) && list_all (is_known xs) names) (alike_named n xs ys h) ∙ ap (λ t. is_known ys n && t) (alike_known names xs ys h)
+    ap (λ t. (built_in n || t) && list_all (known_after xs) names) (alike_named n xs ys h) ∙ ap (λ t. known_after ys n && t) (alike_known names xs ys h)
 
 -- a definition at a place, and the one that asks alike there
 pub record IsAlikeAt (xs : List ClassDef) (i : ℕ) (b : ClassDef) : Type 0 where
@@ -54,8 +54,8 @@ alike_at (suc i) (a ∷ xs) (b ∷ ys) def h e = let k = alike_at i xs ys def h.
 
 alike_order : (xs ys : List ClassDef) (a b : ClassDef) → AskAlike xs ys → AsksAlike a b → IsInOrder xs a → IsInOrder ys b
 alike_order xs ys a b h k order = record {
-  own = sym (ap (λ n. is_named n xs) k.name ∙ alike_named b.name xs ys h) ∙ order.own;
-  known = sym (ap (λ names. list_all (is_known xs) names) k.asks ∙ alike_known (asked b) xs ys h) ∙ order.known;
+  own = sym (ap (λ n. named_among n xs) k.name ∙ alike_named b.name xs ys h) ∙ order.own;
+  known = sym (ap (λ names. list_all (known_after xs) names) k.asks ∙ alike_known (asked b) xs ys h) ∙ order.known;
 }
 
 pub in_order_alike : (xs ys : List ClassDef) → AskAlike xs ys → AreInOrder xs → AreInOrder ys

@@ -1,14 +1,14 @@
 -- The built-in configuration obeys what a configuration obeys.
 use Rattle.std.proofs.Common.{◌≡◌, true, [], refl, arith}
 use Rattle.kd_config.proofs.NoClasses.{none_in_order}
-use Rattle.kd_config.specs.Configuration.{builtin, builtin_pool, builtin_subnet, builtin_times}
+use Rattle.kd_config.specs.Configuration.{builtin_config, builtin_pool, subnet_built_in, times_built_in}
 use Rattle.kd_config.specs.Rules.{may_stand, obeys}
 use Rattle.kd_config.specs.Sound.{AreOptions, AreTimes, IsPool, IsPrefix, IsSound, IsSubnet}
 
 no_options : AreOptions []
 no_options = record { few = omega arith; each = tt; own = tt }
 
-times : AreTimes builtin_times
+times : AreTimes times_built_in
 times = record {
   lifetime = record { above = omega arith; below = omega arith };
   renew = omega arith;
@@ -17,13 +17,13 @@ times = record {
   decline_hold = record { above = omega arith; below = omega arith };
 }
 
-prefix : IsPrefix builtin_subnet.prefix
+prefix : IsPrefix subnet_built_in.prefix
 prefix = record { length = omega arith; clear = refl; within = omega arith }
 
 pool : IsPool builtin_pool
 pool = record { range = record { some = omega arith; few = omega arith }; options = no_options }
 
-subnet : IsSubnet builtin_subnet
+subnet : IsSubnet subnet_built_in
 subnet = record {
   prefix = prefix;
   few_pools = omega arith;
@@ -33,11 +33,11 @@ subnet = record {
   options = no_options;
 }
 
-together : may_stand builtin.subnets ≡ true
+together : may_stand builtin_config.subnets ≡ true
 unfolding may_stand obeys
 together = refl
 
-pub builtin_sound : IsSound builtin
+pub builtin_sound : IsSound builtin_config
 builtin_sound = record {
   server = omega arith;
   times = times;

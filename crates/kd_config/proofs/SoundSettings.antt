@@ -7,19 +7,19 @@ use Rattle.kd_classes.specs.Order.{AreInOrder}
 use Rattle.kd_classes.specs.declared.definition.ClassDef.{ClassDef}
 use Rattle.kd_config.proofs.Came.{came_from, passed, passed_only, some_is, both_passed, few_meant, each_meant}
 use Rattle.kd_config.proofs.Sounds.{bytes_sound, options_sound, prefix_sound, range_sound, times_sound}
-use Rattle.kd_config.specs.Address.{prefix_of, range_of}
-use Rattle.kd_config.specs.Class.{class_of, has_class_keys, name_in, source_in}
+use Rattle.kd_config.specs.Address.{prefix_spelled, range_spelled}
+use Rattle.kd_config.specs.Class.{class_of, has_class_keys, class_name_in, test_source_in}
 use Rattle.kd_config.specs.Configured.{AreDefinitions}
-use Rattle.kd_config.specs.Document.{settings_in, value_of, written_settings}
+use Rattle.kd_config.specs.Document.{accepted_settings, value_spelled, settings_spelled}
 use Rattle.kd_config.specs.Lists.{list_of}
-use Rattle.kd_config.specs.Options.{options_of}
-use Rattle.kd_config.specs.Pool.{has_pool_keys, pool_of, range_in}
-use Rattle.kd_config.specs.Reservation.{has_reservation_keys, identity_of, reservation_of}
+use Rattle.kd_config.specs.Options.{option_list_in}
+use Rattle.kd_config.specs.Pool.{has_pool_keys, pool_of, pool_range}
+use Rattle.kd_config.specs.Reservation.{has_reservation_keys, one_identity, reservation_of}
 use Rattle.kd_config.specs.Rules.{may_stand}
-use Rattle.kd_config.specs.Settings.{has_dhcp4_keys, has_root_keys, root_of, server_in, settings_of, times_of}
+use Rattle.kd_config.specs.Settings.{has_dhcp4_keys, has_root_keys, whole_settings, server_given, dhcp4_settings, times_given}
 use Rattle.kd_config.specs.Sound.{AreOptions, AreTimes, IsClass, IsFrom, IsIdentity, IsPool, IsPrefix, IsRange, IsSound, IsSubnet}
-use Rattle.kd_config.specs.Subnet.{has_subnet_keys, prefix_in, subnet_of}
-use Rattle.kd_config.specs.Values.{address_in, bytes_in, bytes_or_none, number_or, text_or_none}
+use Rattle.kd_config.specs.Subnet.{has_subnet_keys, subnet_prefix, subnet_of}
+use Rattle.kd_config.specs.Values.{address_given, hex_bytes_in, bytes_if_given, number_if_given, text_if_given}
 use Rattle.kd_config.specs.declared.class.ClassEntry.{ClassEntry}
 use Rattle.kd_config.specs.declared.pool.Pool.{Pool}
 use Rattle.kd_config.specs.declared.prefix.Prefix.{Prefix}
@@ -33,33 +33,33 @@ use Rattle.kd_config.specs.declared.token_file.TokenFile.{TokenFile}
 use Rattle.serde_json.specs.Data.{Data}
 use Rattle.serde_json.specs.Find.{as_str, get}
 
-range_in_sound : (d : Data) (range : Range) → range_in d ≡ Some range → IsRange range
-unfolding range_in
-range_in_sound d range e = let text = came_from (as_str d) range_of range e in range_sound text.first range text.gives
+range_in_sound : (d : Data) (range : Range) → pool_range d ≡ Some range → IsRange range
+unfolding pool_range
+range_in_sound d range e = let text = came_from (as_str d) range_spelled range e in range_sound text.first range text.gives
 
 pool_sound : (d : Data) (pool : Pool) → pool_of d ≡ Some pool → IsPool pool
 unfolding pool_of
 pool_sound d pool e =
     let keys = passed (has_pool_keys d) _ pool e in
-    let range = came_from (option_and_then range_in (get (codes "pool") d)) _ pool keys.1 in
-    let options = came_from (options_of (get (codes "option-data") d)) _ pool range.gives in
-    let value = came_from (get (codes "pool") d) range_in range.first range.is in
+    let range = came_from (option_and_then pool_range (get (codes "pool") d)) _ pool keys.1 in
+    let options = came_from (option_list_in (get (codes "option-data") d)) _ pool range.gives in
+    let value = came_from (get (codes "pool") d) pool_range range.first range.is in
     subst IsPool (some_is _ pool options.gives) (record {
       range = range_in_sound value.first range.first value.gives;
       options = options_sound (get (codes "option-data") d) options.first options.is;
     })
 
 -- bytes that are there
-meant_bytes : (most : ℕ) (value : Option Data) (bytes : List ℕ) → bytes_or_none 1 most value ≡ Some (Some bytes) → IsFrom 1 most (length bytes)
+meant_bytes : (most : ℕ) (value : Option Data) (bytes : List ℕ) → bytes_if_given 1 most value ≡ Some (Some bytes) → IsFrom 1 most (length bytes)
 meant_bytes most None bytes e = absurd (cc)
-meant_bytes most (Some d) bytes e = by (bytes_in 1 most d) refl e where
-  by : (read : Option (List ℕ)) → bytes_in 1 most d ≡ read → option_map Some read ≡ Some (Some bytes) → IsFrom 1 most (length bytes)
+meant_bytes most (Some d) bytes e = by (hex_bytes_in 1 most d) refl e where
+  by : (read : Option (List ℕ)) → hex_bytes_in 1 most d ≡ read → option_map Some read ≡ Some (Some bytes) → IsFrom 1 most (length bytes)
   by None h k = absurd (cc)
   by (Some bs) h k = subst (λ b. IsFrom 1 most (length b)) (inner bs bytes k) (bytes_sound 1 most d bs h) where
     inner : (x y : List ℕ) → Some (Some x) ≡ Some (Some y) → x ≡ y
     inner x y same = cc
 
-identity_sound : (hardware client : Option (List ℕ)) (identity : Identity) → ((b : List ℕ) → hardware ≡ Some b → IsFrom 1 16 (length b)) → ((b : List ℕ) → client ≡ Some b → IsFrom 1 255 (length b)) → identity_of hardware client ≡ Some identity → IsIdentity identity
+identity_sound : (hardware client : Option (List ℕ)) (identity : Identity) → ((b : List ℕ) → hardware ≡ Some b → IsFrom 1 16 (length b)) → ((b : List ℕ) → client ≡ Some b → IsFrom 1 255 (length b)) → one_identity hardware client ≡ Some identity → IsIdentity identity
 identity_sound (Some h) None identity f g e = subst IsIdentity (some_is (Hardware h) identity e) (f h refl)
 identity_sound None (Some c) identity f g e = subst IsIdentity (some_is (ClientId c) identity e) (g c refl)
 identity_sound None None identity f g e = absurd (cc)
@@ -69,31 +69,31 @@ reservation_sound : (d : Data) (reservation : Reservation) → reservation_of d 
 unfolding reservation_of
 reservation_sound d reservation e =
     let keys = passed (has_reservation_keys d) _ reservation e in
-    let hardware = came_from (bytes_or_none 1 16 (get (codes "hw-address") d)) _ reservation keys.1 in
-    let client = came_from (bytes_or_none 1 255 (get (codes "client-id") d)) _ reservation hardware.gives in
-    let identity = came_from (identity_of hardware.first client.first) _ reservation client.gives in
-    let address = came_from (option_and_then address_in (get (codes "ip-address") d)) _ reservation identity.gives in
+    let hardware = came_from (bytes_if_given 1 16 (get (codes "hw-address") d)) _ reservation keys.1 in
+    let client = came_from (bytes_if_given 1 255 (get (codes "client-id") d)) _ reservation hardware.gives in
+    let identity = came_from (one_identity hardware.first client.first) _ reservation client.gives in
+    let address = came_from (option_and_then address_given (get (codes "ip-address") d)) _ reservation identity.gives in
     subst (λ r. IsIdentity r.identity) (some_is _ reservation address.gives)
     (identity_sound hardware.first client.first identity.first
-    (λ b h. meant_bytes 16 (get (codes "hw-address") d) b (subst (λ o. bytes_or_none 1 16 (get (codes "hw-address") d) ≡ Some o) h hardware.is))
-    (λ b h. meant_bytes 255 (get (codes "client-id") d) b (subst (λ o. bytes_or_none 1 255 (get (codes "client-id") d) ≡ Some o) h client.is))
+    (λ b h. meant_bytes 16 (get (codes "hw-address") d) b (subst (λ o. bytes_if_given 1 16 (get (codes "hw-address") d) ≡ Some o) h hardware.is))
+    (λ b h. meant_bytes 255 (get (codes "client-id") d) b (subst (λ o. bytes_if_given 1 255 (get (codes "client-id") d) ≡ Some o) h client.is))
     identity.is)
 
-prefix_in_sound : (d : Data) (prefix : Prefix) → prefix_in d ≡ Some prefix → IsPrefix prefix
-unfolding prefix_in
-prefix_in_sound d prefix e = let text = came_from (as_str d) prefix_of prefix e in prefix_sound text.first prefix text.gives
+prefix_in_sound : (d : Data) (prefix : Prefix) → subnet_prefix d ≡ Some prefix → IsPrefix prefix
+unfolding subnet_prefix
+prefix_in_sound d prefix e = let text = came_from (as_str d) prefix_spelled prefix e in prefix_sound text.first prefix text.gives
 
 subnet_sound : (d : Data) (subnet : Subnet) → subnet_of d ≡ Some subnet → IsSubnet subnet
 unfolding subnet_of
 subnet_sound d subnet e =
     let keys = passed (has_subnet_keys d) _ subnet e in
-    let id = came_from (number_or 1 4294967294 1 (get (codes "id") d)) _ subnet keys.1 in
-    let prefix = came_from (option_and_then prefix_in (get (codes "subnet") d)) _ subnet id.gives in
-    let class = came_from (text_or_none (get (codes "client-class") d)) _ subnet prefix.gives in
+    let id = came_from (number_if_given 1 4294967294 1 (get (codes "id") d)) _ subnet keys.1 in
+    let prefix = came_from (option_and_then subnet_prefix (get (codes "subnet") d)) _ subnet id.gives in
+    let class = came_from (text_if_given (get (codes "client-class") d)) _ subnet prefix.gives in
     let pools = came_from (list_of 64 pool_of (get (codes "pools") d)) _ subnet class.gives in
     let reservations = came_from (list_of 4096 reservation_of (get (codes "reservations") d)) _ subnet pools.gives in
-    let options = came_from (options_of (get (codes "option-data") d)) _ subnet reservations.gives in
-    let value = came_from (get (codes "subnet") d) prefix_in prefix.first prefix.is in
+    let options = came_from (option_list_in (get (codes "option-data") d)) _ subnet reservations.gives in
+    let value = came_from (get (codes "subnet") d) subnet_prefix prefix.first prefix.is in
     subst IsSubnet (some_is _ subnet options.gives) (record {
       prefix = prefix_in_sound value.first prefix.first value.gives;
       few_pools = few_meant 64 pool_of (get (codes "pools") d) pools.first pools.is;
@@ -108,8 +108,8 @@ record IsEntry (entry : ClassEntry) : Type 0 where
   name : IsFrom 1 255 (length entry.name)
   options : AreOptions entry.options
 
-name_sound : (d : Data) (name : List ℕ) → name_in d ≡ Some name → IsFrom 1 255 (length name)
-unfolding name_in
+name_sound : (d : Data) (name : List ℕ) → class_name_in d ≡ Some name → IsFrom 1 255 (length name)
+unfolding class_name_in
 name_sound d name e =
     let text = came_from (as_str d) _ name e in
     let test = passed_only (nat_le 1 (length text.first) && nat_le (length text.first) 255) text.first name text.gives in
@@ -120,10 +120,10 @@ entry_sound : (d : Data) (entry : ClassEntry) → class_of d ≡ Some entry → 
 unfolding class_of
 entry_sound d entry e =
     let keys = passed (has_class_keys d) _ entry e in
-    let name = came_from (option_and_then name_in (get (codes "name") d)) _ entry keys.1 in
-    let source = came_from (source_in d) _ entry name.gives in
-    let options = came_from (options_of (get (codes "option-data") d)) _ entry source.gives in
-    let value = came_from (get (codes "name") d) name_in name.first name.is in
+    let name = came_from (option_and_then class_name_in (get (codes "name") d)) _ entry keys.1 in
+    let source = came_from (test_source_in d) _ entry name.gives in
+    let options = came_from (option_list_in (get (codes "option-data") d)) _ entry source.gives in
+    let value = came_from (get (codes "name") d) class_name_in name.first name.is in
     subst IsEntry (some_is _ entry options.gives) (record {
       name = name_sound value.first name.first value.gives;
       options = options_sound (get (codes "option-data") d) options.first options.is;
@@ -142,23 +142,23 @@ some_server : (n : ℕ) → not (n == 0) ≡ true → 1 ≤ n
 some_server zero e = absurd (cc)
 some_server (suc n) e = omega arith
 
-server_sound : (d : Data) (server : ℕ) → server_in d ≡ Some server → 1 ≤ server
-unfolding server_in
+server_sound : (d : Data) (server : ℕ) → server_given d ≡ Some server → 1 ≤ server
+unfolding server_given
 server_sound d server e =
-    let address = came_from (address_in d) _ server e in
+    let address = came_from (address_given d) _ server e in
     let test = passed_only (not (address.first == 0)) address.first server address.gives in
     subst (λ n. 1 ≤ n) test.1 (some_server address.first test.0)
 
-settings_sound : (d : Data) (s : Settings) → settings_of d ≡ Some s → AreSettings s
-unfolding settings_of
+settings_sound : (d : Data) (s : Settings) → dhcp4_settings d ≡ Some s → AreSettings s
+unfolding dhcp4_settings
 settings_sound d s e =
     let keys = passed (has_dhcp4_keys d) _ s e in
-    let server = came_from (option_and_then server_in (get (codes "server-address") d)) _ s keys.1 in
-    let times = came_from (times_of d) _ s server.gives in
-    let options = came_from (options_of (get (codes "option-data") d)) _ s times.gives in
+    let server = came_from (option_and_then server_given (get (codes "server-address") d)) _ s keys.1 in
+    let times = came_from (times_given d) _ s server.gives in
+    let options = came_from (option_list_in (get (codes "option-data") d)) _ s times.gives in
     let classes = came_from (list_of 256 class_of (get (codes "client-classes") d)) _ s options.gives in
     let subnets = came_from (list_of 256 subnet_of (get (codes "subnet4") d)) _ s classes.gives in
-    let value = came_from (get (codes "server-address") d) server_in server.first server.is in
+    let value = came_from (get (codes "server-address") d) server_given server.first server.is in
     subst AreSettings (some_is _ s subnets.gives) (record {
       server = server_sound value.first server.first value.gives;
       times = times_sound d times.first times.is;
@@ -168,16 +168,16 @@ settings_sound d s e =
       subnets = each_meant IsSubnet subnet_of subnet_sound 256 (get (codes "subnet4") d) subnets.first subnets.is;
     })
 
-root_sound : (d : Data) (s : Settings) → root_of d ≡ Some s → AreSettings s
-unfolding root_of
+root_sound : (d : Data) (s : Settings) → whole_settings d ≡ Some s → AreSettings s
+unfolding whole_settings
 root_sound d s e =
     let keys = passed (has_root_keys d) _ s e in
-    let dhcp4 = came_from (get (codes "Dhcp4") d) settings_of s keys.1 in
+    let dhcp4 = came_from (get (codes "Dhcp4") d) dhcp4_settings s keys.1 in
     settings_sound dhcp4.first s dhcp4.gives
 
-written_sound : (text : List ℕ) (s : Settings) → written_settings text ≡ Some s → AreSettings s
-unfolding written_settings
-written_sound text s e = let value = came_from (value_of text) root_of s e in root_sound value.first s value.gives
+written_sound : (text : List ℕ) (s : Settings) → settings_spelled text ≡ Some s → AreSettings s
+unfolding settings_spelled
+written_sound text s e = let value = came_from (value_spelled text) whole_settings s e in root_sound value.first s value.gives
 
 -- the definitions of classes as they are written
 classes_sound : (files : List TokenFile) (entries : List ClassEntry) (defs : List ClassDef) → AllByRecursion IsEntry entries → AreDefinitions files entries defs → AllByRecursion IsClass defs
@@ -190,11 +190,11 @@ classes_sound files (entry ∷ entries) (def ∷ defs) h k = (
 )
 
 -- the configuration of settings and of definitions of their classes
-pub sound : (text : List ℕ) (files : List TokenFile) (s : Settings) (defs : List ClassDef) → settings_in text ≡ Some s → AreDefinitions files s.classes defs → AreInOrder defs
+pub sound : (text : List ℕ) (files : List TokenFile) (s : Settings) (defs : List ClassDef) → accepted_settings text ≡ Some s → AreDefinitions files s.classes defs → AreInOrder defs
     → IsSound (record { server = s.server; times = s.times; options = s.options; classes = defs; subnets = s.subnets })
-unfolding settings_in
+unfolding accepted_settings
 sound text files s defs e h order =
-    let written = came_from (written_settings text) _ s e in
+    let written = came_from (settings_spelled text) _ s e in
     let stand = passed (may_stand written.first.subnets) _ s written.gives in
     let same = some_is written.first s stand.1 in
     let known = subst AreSettings same (written_sound text written.first written.is) in

@@ -2,9 +2,9 @@
 use Rattle.std.specs.Prelude.{ℕ, Bool, ◌&&◌, nat_le, List, [], ◌∷◌, length, codes, Option, Some, None}
 use Rattle.serde_json.specs.Data.{Data}
 use Rattle.serde_json.specs.Find.{as_str, get}
-use Rattle.kd_config.specs.Options.{options_of}
+use Rattle.kd_config.specs.Options.{option_list_in}
 use Rattle.kd_config.specs.Steps.{◌>>=◌, must, only_if}
-use Rattle.kd_config.specs.Values.{has_keys, text_or_none}
+use Rattle.kd_config.specs.Values.{has_keys, text_if_given}
 use Rattle.kd_config.specs.declared.class.ClassEntry.{ClassEntry}
 use Rattle.kd_config.specs.declared.class.TestSource.{TestSource}
 use Rattle.kd_config.specs.declared.class.TestSource.TheVariants.{Nothing, Expression, TokenFile}
@@ -14,30 +14,30 @@ unfoldable pub has_class_keys : Data → Bool
 has_class_keys d = has_keys (codes "name" ∷ codes "test" ∷ codes "tokens" ∷ codes "option-data" ∷ []) (codes "name" ∷ []) d
 
 -- a name of a class: 1 to 255 bytes
-unfoldable pub name_in : Data → Option (List ℕ)
-name_in d = do
+unfoldable pub class_name_in : Data → Option (List ℕ)
+class_name_in d = do
   name ← as_str d
   only_if (nat_le 1 (length name) && nat_le (length name) 255) name
 
 -- a test as text or by a token file, and not both
-abbrev pub source_of : Option (List ℕ) → Option (List ℕ) → Option TestSource
-source_of None None = Some Nothing
-source_of (Some text) None = Some (Expression text)
-source_of None (Some file) = Some (TokenFile file)
-source_of (Some text) (Some file) = None
+abbrev pub test_source : Option (List ℕ) → Option (List ℕ) → Option TestSource
+test_source None None = Some Nothing
+test_source (Some text) None = Some (Expression text)
+test_source None (Some file) = Some (TokenFile file)
+test_source (Some text) (Some file) = None
 
 -- the test that the keys `test` and `tokens` give
-unfoldable pub source_in : Data → Option TestSource
-source_in d = do
-  text ← text_or_none (get (codes "test") d)
-  file ← text_or_none (get (codes "tokens") d)
-  source_of text file
+unfoldable pub test_source_in : Data → Option TestSource
+test_source_in d = do
+  text ← text_if_given (get (codes "test") d)
+  file ← text_if_given (get (codes "tokens") d)
+  test_source text file
 
 -- the class that a value means
 unfoldable pub class_of : Data → Option ClassEntry
 class_of d = do
   _ ← must (has_class_keys d)
-  name ← get (codes "name") d >>= name_in
-  source ← source_in d
-  options ← options_of (get (codes "option-data") d)
+  name ← get (codes "name") d >>= class_name_in
+  source ← test_source_in d
+  options ← option_list_in (get (codes "option-data") d)
   Some (record { name = name; source = source; options = options })

@@ -15,16 +15,16 @@ pub record Configuration : Type 0 where
   pub subnets : List Subnet
 
 -- the times of the built-in configuration
-abbrev pub builtin_times : Times
-builtin_times = record { lifetime = 3600; renew = 1800; rebind = 3150; offer_hold = 60; decline_hold = 600 }
+abbrev pub times_built_in : Times
+times_built_in = record { lifetime = 3600; renew = 1800; rebind = 3150; offer_hold = 60; decline_hold = 600 }
 
 -- its pool, 192.0.2.10 and 192.0.2.11
 abbrev pub builtin_pool : Pool
 builtin_pool = record { range = record { first = 0xc000020a; last = 0xc000020b }; options = [] }
 
 -- its subnet, 192.0.2.0/24
-abbrev pub builtin_subnet : Subnet
-builtin_subnet = record {
+abbrev pub subnet_built_in : Subnet
+subnet_built_in = record {
   prefix = record { address = 0xc0000200; length = 24 };
   class = None;
   pools = builtin_pool ∷ [];
@@ -33,5 +33,5 @@ builtin_subnet = record {
 }
 
 -- the built-in configuration: the server is 192.0.2.1
-abbrev pub builtin : Configuration
-builtin = record { server = 0xc0000201; times = builtin_times; options = []; classes = []; subnets = builtin_subnet ∷ [] }
+abbrev pub builtin_config : Configuration
+builtin_config = record { server = 0xc0000201; times = times_built_in; options = []; classes = []; subnets = subnet_built_in ∷ [] }

@@ -6,7 +6,7 @@ use Rattle.kd_classes.specs.Order.{AreInOrder}
 use Rattle.kd_classes.specs.declared.definition.ClassDef.{ClassDef}
 use Rattle.kd_compile.specs.Compiled.{IsCompiled, first_over}
 use Rattle.kd_config.specs.Configuration.{Configuration}
-use Rattle.kd_config.specs.Document.{settings_in}
+use Rattle.kd_config.specs.Document.{accepted_settings}
 use Rattle.kd_config.specs.declared.class.ClassEntry.{ClassEntry}
 use Rattle.kd_config.specs.declared.class.TestSource.{TestSource}
 use Rattle.kd_config.specs.declared.class.TestSource.TheVariants as sources
@@ -31,13 +31,13 @@ pub record IsTextTest (text : List ℕ) (program : Code) : Type 0 where
   pub program_of : IsProgramOf tree program
 
 -- the bytes of the first of these files with a name
-abbrev pub file_named : List ℕ → List TokenFile → Option (List ℕ)
-file_named name files = option_map (λ file. file.bytes) (find (λ file. bytes_eq name file.name) files)
+abbrev pub file_by_name : List ℕ → List TokenFile → Option (List ℕ)
+file_by_name name files = option_map (λ file. file.bytes) (find (λ file. bytes_eq name file.name) files)
 
 -- the program of a token file: the first file of this name spells it, and it is accepted
 pub record IsFileTest (files : List TokenFile) (name : List ℕ) (program : Code) : Type 0 where
   pub bytes : List ℕ
-  pub named : file_named name files ≡ Some bytes
+  pub named : file_by_name name files ≡ Some bytes
   pub spelled : IsFileOf bytes program
   pub accepted : Accepts program
 
@@ -66,7 +66,7 @@ AreDefinitions files (entry ∷ entries) (def ∷ defs) = IsDefinition files ent
 -- the configuration that a text means with token files
 pub record IsConfigured (text : List ℕ) (files : List TokenFile) (c : Configuration) : Type 0 where
   pub settings : Settings
-  pub written : settings_in text ≡ Some settings
+  pub written : accepted_settings text ≡ Some settings
   pub server : c.server ≡ settings.server
   pub times : c.times ≡ settings.times
   pub options : c.options ≡ settings.options

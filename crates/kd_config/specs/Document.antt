@@ -4,21 +4,21 @@ use Rattle.std.specs.Str.{is_utf8}
 use Rattle.serde_json.specs.Data.{Data}
 use Rattle.serde_json.specs.Read as json
 use Rattle.kd_config.specs.Rules.{may_stand}
-use Rattle.kd_config.specs.Settings.{root_of}
+use Rattle.kd_config.specs.Settings.{whole_settings}
 use Rattle.kd_config.specs.Steps.{◌>>=◌, must}
 use Rattle.kd_config.specs.declared.settings.Settings.{Settings}
 
 -- the value that a text spells
-unfoldable pub value_of : List ℕ → Option Data
-value_of text = if is_utf8 text then json.read text else None
+unfoldable pub value_spelled : List ℕ → Option Data
+value_spelled text = if is_utf8 text then json.read text else None
 
 -- the settings that a text means
-unfoldable pub written_settings : List ℕ → Option Settings
-written_settings text = value_of text >>= root_of
+unfoldable pub settings_spelled : List ℕ → Option Settings
+settings_spelled text = value_spelled text >>= whole_settings
 
 -- the same, where its subnets may stand together
-unfoldable pub settings_in : List ℕ → Option Settings
-settings_in text = do
-  settings ← written_settings text
+unfoldable pub accepted_settings : List ℕ → Option Settings
+accepted_settings text = do
+  settings ← settings_spelled text
   _ ← must (may_stand settings.subnets)
   Some settings

@@ -9,10 +9,10 @@ abbrev pub counts : ℕ → Bool
 counts b = not (b == 32 || b == 58)
 
 -- digits without a prefix 0x
-abbrev pub without_prefix : List ℕ → List ℕ
-without_prefix (a ∷ b ∷ digits) = if a == 48 && (b == 120 || b == 88) then digits else a ∷ b ∷ digits
-without_prefix text = text
+abbrev pub digits_after_prefix : List ℕ → List ℕ
+digits_after_prefix (a ∷ b ∷ digits) = if a == 48 && (b == 120 || b == 88) then digits else a ∷ b ∷ digits
+digits_after_prefix text = text
 
 -- the bytes that a hexadecimal text spells
-unfoldable pub bytes_of : List ℕ → Option (List ℕ)
-bytes_of text = result_ok (decode_of (without_prefix (filter counts text)))
+unfoldable pub bytes_spelled : List ℕ → Option (List ℕ)
+bytes_spelled text = result_ok (decode_of (digits_after_prefix (filter counts text)))

@@ -6,7 +6,7 @@ use Rattle.serde_json.specs.Find.{as_bool, get}
 use Rattle.kd_classes.specs.declared.option_list.OptionData.{OptionData}
 use Rattle.kd_config.specs.Lists.{items_or_none}
 use Rattle.kd_config.specs.Steps.{◌>>=◌, must, only_if}
-use Rattle.kd_config.specs.Values.{bytes_in, has_keys, number_in}
+use Rattle.kd_config.specs.Values.{hex_bytes_in, has_keys, number_within}
 
 -- the keys of option data
 abbrev pub option_keys : List (List ℕ)
@@ -21,22 +21,22 @@ abbrev pub own_codes : List ℕ
 own_codes = 50 ∷ 51 ∷ 52 ∷ 53 ∷ 54 ∷ 55 ∷ 57 ∷ 58 ∷ 59 ∷ 61 ∷ 82 ∷ []
 
 -- the code of an option that may be configured
-unfoldable pub code_in : Data → Option ℕ
-code_in d = do
-  code ← number_in 1 254 d
+unfoldable pub code_given : Data → Option ℕ
+code_given d = do
+  code ← number_within 1 254 d
   only_if (not (list_any (nat_eq code) own_codes)) code
 
 -- an option of these has the code
-abbrev pub has_code : ℕ → List OptionData → Bool
-has_code code options = list_any (λ option. option.code == code) options
+abbrev pub code_among : ℕ → List OptionData → Bool
+code_among code options = list_any (λ option. option.code == code) options
 
 -- the option that a value means behind the options before it
-unfoldable pub option_behind : List OptionData → Data → Option OptionData
-option_behind earlier d = do
+unfoldable pub option_after : List OptionData → Data → Option OptionData
+option_after earlier d = do
   _ ← must (has_option_keys d)
-  code ← get (codes "code") d >>= code_in
-  _ ← must (not (has_code code earlier))
-  value ← get (codes "data") d >>= bytes_in 0 1024
+  code ← get (codes "code") d >>= code_given
+  _ ← must (not (code_among code earlier))
+  value ← get (codes "data") d >>= hex_bytes_in 0 1024
   is_text ← get (codes "csv-format") d >>= as_bool
   only_if (not is_text) (record { code = code; value = value })
 
@@ -44,9 +44,9 @@ option_behind earlier d = do
 abbrev pub options_behind : List OptionData → Items → Option (List OptionData)
 options_behind earlier no_items = Some earlier
 options_behind earlier (item d ds) = do
-  option ← option_behind earlier d
+  option ← option_after earlier d
   options_behind (earlier ++ option ∷ []) ds
 
 -- the options of a list of at most 64, each code once
-unfoldable pub options_of : Option Data → Option (List OptionData)
-options_of value = items_or_none 64 value >>= options_behind []
+unfoldable pub option_list_in : Option Data → Option (List OptionData)
+option_list_in value = items_or_none 64 value >>= options_behind []

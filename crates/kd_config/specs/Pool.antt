@@ -2,8 +2,8 @@
 use Rattle.std.specs.Prelude.{Bool, [], ◌∷◌, codes, Option, Some}
 use Rattle.serde_json.specs.Data.{Data}
 use Rattle.serde_json.specs.Find.{as_str, get}
-use Rattle.kd_config.specs.Address.{range_of}
-use Rattle.kd_config.specs.Options.{options_of}
+use Rattle.kd_config.specs.Address.{range_spelled}
+use Rattle.kd_config.specs.Options.{option_list_in}
 use Rattle.kd_config.specs.Steps.{◌>>=◌, must}
 use Rattle.kd_config.specs.Values.{has_keys}
 use Rattle.kd_config.specs.declared.pool.Pool.{Pool}
@@ -14,13 +14,13 @@ unfoldable pub has_pool_keys : Data → Bool
 has_pool_keys d = has_keys (codes "pool" ∷ codes "option-data" ∷ []) (codes "pool" ∷ []) d
 
 -- the addresses of a pool
-unfoldable pub range_in : Data → Option Range
-range_in d = as_str d >>= range_of
+unfoldable pub pool_range : Data → Option Range
+pool_range d = as_str d >>= range_spelled
 
 -- the pool that a value means
 unfoldable pub pool_of : Data → Option Pool
 pool_of d = do
   _ ← must (has_pool_keys d)
-  range ← get (codes "pool") d >>= range_in
-  options ← options_of (get (codes "option-data") d)
+  range ← get (codes "pool") d >>= pool_range
+  options ← option_list_in (get (codes "option-data") d)
   Some (record { range = range; options = options })

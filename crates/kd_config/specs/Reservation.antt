@@ -3,7 +3,7 @@ use Rattle.std.specs.Prelude.{ℕ, Bool, List, [], ◌∷◌, codes, Option, Som
 use Rattle.serde_json.specs.Data.{Data}
 use Rattle.serde_json.specs.Find.{get}
 use Rattle.kd_config.specs.Steps.{◌>>=◌, must}
-use Rattle.kd_config.specs.Values.{address_in, bytes_or_none, has_keys}
+use Rattle.kd_config.specs.Values.{address_given, bytes_if_given, has_keys}
 use Rattle.kd_config.specs.declared.reservation.Identity.{Identity}
 use Rattle.kd_config.specs.declared.reservation.Identity.TheVariants.{Hardware, ClientId}
 use Rattle.kd_config.specs.declared.reservation.Reservation.{Reservation}
@@ -13,17 +13,17 @@ unfoldable pub has_reservation_keys : Data → Bool
 has_reservation_keys d = has_keys (codes "hw-address" ∷ codes "client-id" ∷ codes "ip-address" ∷ []) (codes "ip-address" ∷ []) d
 
 -- one of the two, and not both
-abbrev pub identity_of : Option (List ℕ) → Option (List ℕ) → Option Identity
-identity_of (Some hardware) None = Some (Hardware hardware)
-identity_of None (Some client) = Some (ClientId client)
-identity_of _ _ = None
+abbrev pub one_identity : Option (List ℕ) → Option (List ℕ) → Option Identity
+one_identity (Some hardware) None = Some (Hardware hardware)
+one_identity None (Some client) = Some (ClientId client)
+one_identity _ _ = None
 
 -- the reservation that a value means
 unfoldable pub reservation_of : Data → Option Reservation
 reservation_of d = do
   _ ← must (has_reservation_keys d)
-  hardware ← bytes_or_none 1 16 (get (codes "hw-address") d)
-  client ← bytes_or_none 1 255 (get (codes "client-id") d)
-  identity ← identity_of hardware client
-  address ← get (codes "ip-address") d >>= address_in
+  hardware ← bytes_if_given 1 16 (get (codes "hw-address") d)
+  client ← bytes_if_given 1 255 (get (codes "client-id") d)
+  identity ← one_identity hardware client
+  address ← get (codes "ip-address") d >>= address_given
   Some (record { identity = identity; address = address })

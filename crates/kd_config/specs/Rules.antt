@@ -2,8 +2,8 @@
 -- share an address, no address is reserved twice, and no client has two reservations in one subnet.
 use Rattle.std.specs.Prelude.{ℕ, Bool, true, false, not, ◌&&◌, nat_eq, bytes_eq, List, [], ◌∷◌, ◌++◌, map}
 use Rattle.std.specs.List.{list_all, list_any}
-use Rattle.kd_config.specs.Address.{contains}
-use Rattle.kd_config.specs.Apart.{are_apart}
+use Rattle.kd_config.specs.Address.{has_address}
+use Rattle.kd_config.specs.Apart.{lie_apart}
 use Rattle.kd_config.specs.declared.pool.Pool.{Pool}
 use Rattle.kd_config.specs.declared.prefix.Prefix.{Prefix}
 use Rattle.kd_config.specs.declared.range.Range.{Range}
@@ -13,8 +13,8 @@ use Rattle.kd_config.specs.declared.reservation.Reservation.{Reservation}
 use Rattle.kd_config.specs.declared.subnet.Subnet.{Subnet}
 
 -- a pool lies in a prefix
-abbrev pub is_within : Prefix → Pool → Bool
-is_within prefix pool = contains prefix pool.range.first && contains prefix pool.range.last
+abbrev pub lies_within : Prefix → Pool → Bool
+lies_within prefix pool = has_address prefix pool.range.first && has_address prefix pool.range.last
 
 -- the addresses that reservations keep
 abbrev pub reserved : List Reservation → List ℕ
@@ -28,7 +28,7 @@ same_identity _ _ = false
 
 -- a reservation has an address of the prefix that is none of the earlier ones
 abbrev pub may_reserve : Prefix → List ℕ → Reservation → Bool
-may_reserve prefix earlier reservation = contains prefix reservation.address && not (list_any (nat_eq reservation.address) earlier)
+may_reserve prefix earlier reservation = has_address prefix reservation.address && not (list_any (nat_eq reservation.address) earlier)
 
 -- a client is none of the earlier ones
 abbrev pub is_new : List Identity → Identity → Bool
@@ -42,7 +42,7 @@ may_all_reserve prefix earlier clients (r ∷ rs) =
 
 -- the rules of one subnet, behind the addresses that are reserved before it
 unfoldable pub obeys : List ℕ → Subnet → Bool
-obeys earlier subnet = list_all (is_within subnet.prefix) subnet.pools && may_all_reserve subnet.prefix earlier [] subnet.reservations
+obeys earlier subnet = list_all (lies_within subnet.prefix) subnet.pools && may_all_reserve subnet.prefix earlier [] subnet.reservations
 
 -- the rules of subnets, one after another
 abbrev pub all_obey : List ℕ → List Subnet → Bool
@@ -54,10 +54,10 @@ abbrev pub ranges_in : List Pool → List Range
 ranges_in pools = map (λ pool. pool.range) pools
 
 -- the addresses of all pools, in order
-abbrev pub all_ranges : List Subnet → List Range
-all_ranges [] = []
-all_ranges (subnet ∷ subnets) = ranges_in subnet.pools ++ all_ranges subnets
+abbrev pub pool_ranges : List Subnet → List Range
+pool_ranges [] = []
+pool_ranges (subnet ∷ subnets) = ranges_in subnet.pools ++ pool_ranges subnets
 
 -- subnets that may stand together: they obey the rules, and no two pools share an address
 unfoldable pub may_stand : List Subnet → Bool
-may_stand subnets = are_apart (all_ranges subnets) && all_obey [] subnets
+may_stand subnets = lie_apart (pool_ranges subnets) && all_obey [] subnets

@@ -4,10 +4,10 @@ use Rattle.serde_json.specs.Data.{Data}
 use Rattle.serde_json.specs.Find.{get}
 use Rattle.kd_config.specs.Class.{class_of}
 use Rattle.kd_config.specs.Lists.{list_of}
-use Rattle.kd_config.specs.Options.{options_of}
+use Rattle.kd_config.specs.Options.{option_list_in}
 use Rattle.kd_config.specs.Steps.{◌>>=◌, must, only_if}
 use Rattle.kd_config.specs.Subnet.{subnet_of}
-use Rattle.kd_config.specs.Values.{address_in, has_keys, number_or}
+use Rattle.kd_config.specs.Values.{address_given, has_keys, number_if_given}
 use Rattle.kd_config.specs.declared.settings.Settings.{Settings}
 use Rattle.kd_config.specs.declared.times.Times.{Times}
 
@@ -26,39 +26,39 @@ unfoldable pub has_root_keys : Data → Bool
 has_root_keys d = has_keys (codes "Dhcp4" ∷ []) (codes "Dhcp4" ∷ []) d
 
 -- the greatest lease time
-abbrev pub longest : ℕ
-longest = 2147483647
+abbrev pub longest_lease : ℕ
+longest_lease = 2147483647
 
 -- the address of the server, which is not 0.0.0.0
-unfoldable pub server_in : Data → Option ℕ
-server_in d = do
-  address ← address_in d
+unfoldable pub server_given : Data → Option ℕ
+server_given d = do
+  address ← address_given d
   only_if (not (address == 0)) address
 
 -- the times of leases and of offers: a client renews before it rebinds, and that before the end
-unfoldable pub times_of : Data → Option Times
-times_of d = do
-  lifetime ← number_or 1 longest 7200 (get (codes "valid-lifetime") d)
-  renew ← number_or 0 longest (lifetime / 2) (get (codes "renew-timer") d)
-  rebind ← number_or 0 longest (lifetime * 7 / 8) (get (codes "rebind-timer") d)
+unfoldable pub times_given : Data → Option Times
+times_given d = do
+  lifetime ← number_if_given 1 longest_lease 7200 (get (codes "valid-lifetime") d)
+  renew ← number_if_given 0 longest_lease (lifetime / 2) (get (codes "renew-timer") d)
+  rebind ← number_if_given 0 longest_lease (lifetime * 7 / 8) (get (codes "rebind-timer") d)
   _ ← must (nat_le renew rebind && nat_le rebind lifetime)
-  offer_hold ← number_or 1 86400 60 (get (codes "offer-hold") d)
-  decline_hold ← number_or 1 31536000 86400 (get (codes "decline-hold") d)
+  offer_hold ← number_if_given 1 86400 60 (get (codes "offer-hold") d)
+  decline_hold ← number_if_given 1 31536000 86400 (get (codes "decline-hold") d)
   Some (record { lifetime = lifetime; renew = renew; rebind = rebind; offer_hold = offer_hold; decline_hold = decline_hold })
 
 -- the settings that the value of `Dhcp4` means
-unfoldable pub settings_of : Data → Option Settings
-settings_of d = do
+unfoldable pub dhcp4_settings : Data → Option Settings
+dhcp4_settings d = do
   _ ← must (has_dhcp4_keys d)
-  server ← get (codes "server-address") d >>= server_in
-  times ← times_of d
-  options ← options_of (get (codes "option-data") d)
+  server ← get (codes "server-address") d >>= server_given
+  times ← times_given d
+  options ← option_list_in (get (codes "option-data") d)
   classes ← list_of 256 class_of (get (codes "client-classes") d)
   subnets ← list_of 256 subnet_of (get (codes "subnet4") d)
   Some (record { server = server; times = times; options = options; classes = classes; subnets = subnets })
 
 -- the settings that a whole text's value means
-unfoldable pub root_of : Data → Option Settings
-root_of d = do
+unfoldable pub whole_settings : Data → Option Settings
+whole_settings d = do
   _ ← must (has_root_keys d)
-  get (codes "Dhcp4") d >>= settings_of
+  get (codes "Dhcp4") d >>= dhcp4_settings

@@ -5,11 +5,11 @@ use Rattle.std.specs.List.{AllByRecursion, list_any}
 use Rattle.kd_classes.specs.Order.{AreInOrder}
 use Rattle.kd_classes.specs.declared.definition.ClassDef.{ClassDef}
 use Rattle.kd_classes.specs.declared.option_list.OptionData.{OptionData}
-use Rattle.kd_config.specs.Address.{cleared, size_of}
+use Rattle.kd_config.specs.Address.{network_address, prefix_size}
 use Rattle.kd_config.specs.Configuration.{Configuration}
-use Rattle.kd_config.specs.Options.{has_code, own_codes}
+use Rattle.kd_config.specs.Options.{code_among, own_codes}
 use Rattle.kd_config.specs.Rules.{may_stand}
-use Rattle.kd_config.specs.Settings.{longest}
+use Rattle.kd_config.specs.Settings.{longest_lease}
 use Rattle.kd_config.specs.declared.pool.Pool.{Pool}
 use Rattle.kd_config.specs.declared.prefix.Prefix.{Prefix}
 use Rattle.kd_config.specs.declared.range.Range.{Range}
@@ -32,7 +32,7 @@ pub record IsOption (option : OptionData) : Type 0 where
 -- each of these options has a code of its own
 abbrev pub HaveOwnCodes : List OptionData → Type 0
 HaveOwnCodes [] = Unit {0}
-HaveOwnCodes (option ∷ options) = (has_code option.code options ≡ false) × HaveOwnCodes options
+HaveOwnCodes (option ∷ options) = (code_among option.code options ≡ false) × HaveOwnCodes options
 
 -- a list of options
 pub record AreOptions (options : List OptionData) : Type 0 where
@@ -42,7 +42,7 @@ pub record AreOptions (options : List OptionData) : Type 0 where
 
 -- times of leases and of offers: a client renews before it rebinds, and that before the end
 pub record AreTimes (times : Times) : Type 0 where
-  pub lifetime : IsFrom 1 longest times.lifetime
+  pub lifetime : IsFrom 1 longest_lease times.lifetime
   pub renew : times.renew ≤ times.rebind
   pub rebind : times.rebind ≤ times.lifetime
   pub offer_hold : IsFrom 1 86400 times.offer_hold
@@ -56,8 +56,8 @@ pub record IsClass (def : ClassDef) : Type 0 where
 -- a prefix: its address has no bits behind its length, and its addresses end within 32 bits
 pub record IsPrefix (prefix : Prefix) : Type 0 where
   pub length : prefix.length ≤ 32
-  pub clear : cleared prefix.address prefix.length ≡ prefix.address
-  pub within : prefix.address + size_of prefix.length ≤ 2 ^ 32
+  pub clear : network_address prefix.address prefix.length ≡ prefix.address
+  pub within : prefix.address + prefix_size prefix.length ≤ 2 ^ 32
 
 -- the addresses of a pool: at least one, at most 65,536
 pub record IsRange (range : Range) : Type 0 where

@@ -2,13 +2,13 @@
 use Rattle.std.specs.Prelude.{Bool, [], ◌∷◌, codes, Option, Some}
 use Rattle.serde_json.specs.Data.{Data}
 use Rattle.serde_json.specs.Find.{as_str, get}
-use Rattle.kd_config.specs.Address.{prefix_of}
+use Rattle.kd_config.specs.Address.{prefix_spelled}
 use Rattle.kd_config.specs.Lists.{list_of}
-use Rattle.kd_config.specs.Options.{options_of}
+use Rattle.kd_config.specs.Options.{option_list_in}
 use Rattle.kd_config.specs.Pool.{pool_of}
 use Rattle.kd_config.specs.Reservation.{reservation_of}
 use Rattle.kd_config.specs.Steps.{◌>>=◌, must}
-use Rattle.kd_config.specs.Values.{has_keys, number_or, text_or_none}
+use Rattle.kd_config.specs.Values.{has_keys, number_if_given, text_if_given}
 use Rattle.kd_config.specs.declared.prefix.Prefix.{Prefix}
 use Rattle.kd_config.specs.declared.subnet.Subnet.{Subnet}
 
@@ -18,17 +18,17 @@ has_subnet_keys d =
     has_keys (codes "id" ∷ codes "subnet" ∷ codes "client-class" ∷ codes "pools" ∷ codes "reservations" ∷ codes "option-data" ∷ []) (codes "subnet" ∷ []) d
 
 -- the prefix of a subnet
-unfoldable pub prefix_in : Data → Option Prefix
-prefix_in d = as_str d >>= prefix_of
+unfoldable pub subnet_prefix : Data → Option Prefix
+subnet_prefix d = as_str d >>= prefix_spelled
 
 -- the subnet that a value means; its number is not used
 unfoldable pub subnet_of : Data → Option Subnet
 subnet_of d = do
   _ ← must (has_subnet_keys d)
-  _ ← number_or 1 4294967294 1 (get (codes "id") d)
-  prefix ← get (codes "subnet") d >>= prefix_in
-  class ← text_or_none (get (codes "client-class") d)
+  _ ← number_if_given 1 4294967294 1 (get (codes "id") d)
+  prefix ← get (codes "subnet") d >>= subnet_prefix
+  class ← text_if_given (get (codes "client-class") d)
   pools ← list_of 64 pool_of (get (codes "pools") d)
   reservations ← list_of 4096 reservation_of (get (codes "reservations") d)
-  options ← options_of (get (codes "option-data") d)
+  options ← option_list_in (get (codes "option-data") d)
   Some (record { prefix = prefix; class = class; pools = pools; reservations = reservations; options = options })

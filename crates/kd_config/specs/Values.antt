@@ -26,32 +26,32 @@ unfoldable pub has_keys : List (List ℕ) → List (List ℕ) → Data → Bool
 has_keys known required d = is_object_of known (as_object d) && list_all (λ key. is_some (get key d)) required
 
 -- a whole number in a range
-unfoldable pub number_in : ℕ → ℕ → Data → Option ℕ
-number_in least most d = do
+unfoldable pub number_within : ℕ → ℕ → Data → Option ℕ
+number_within least most d = do
   n ← option_and_then as_u64 (as_number d)
   only_if (nat_le least n && nat_le n most) n
 
 -- a whole number in a range, or a default where there is no value
-abbrev pub number_or : ℕ → ℕ → ℕ → Option Data → Option ℕ
-number_or least most default None = Some default
-number_or least most default (Some d) = number_in least most d
+abbrev pub number_if_given : ℕ → ℕ → ℕ → Option Data → Option ℕ
+number_if_given least most default None = Some default
+number_if_given least most default (Some d) = number_within least most d
 
 -- the text of a value, or none where there is no value
-abbrev pub text_or_none : Option Data → Option (Option (List ℕ))
-text_or_none None = Some None
-text_or_none (Some d) = option_map Some (as_str d)
+abbrev pub text_if_given : Option Data → Option (Option (List ℕ))
+text_if_given None = Some None
+text_if_given (Some d) = option_map Some (as_str d)
 
 -- an address
-unfoldable pub address_in : Data → Option ℕ
-address_in d = as_str d >>= address.address_of
+unfoldable pub address_given : Data → Option ℕ
+address_given d = as_str d >>= address.address_spelled
 
 -- the bytes of a hexadecimal text, at least and at most so many
-unfoldable pub bytes_in : ℕ → ℕ → Data → Option (List ℕ)
-bytes_in least most d = do
-  bytes ← as_str d >>= hex.bytes_of
+unfoldable pub hex_bytes_in : ℕ → ℕ → Data → Option (List ℕ)
+hex_bytes_in least most d = do
+  bytes ← as_str d >>= hex.bytes_spelled
   only_if (nat_le least (length bytes) && nat_le (length bytes) most) bytes
 
 -- the bytes of a hexadecimal text, or none where there is no value
-abbrev pub bytes_or_none : ℕ → ℕ → Option Data → Option (Option (List ℕ))
-bytes_or_none least most None = Some None
-bytes_or_none least most (Some d) = option_map Some (bytes_in least most d)
+abbrev pub bytes_if_given : ℕ → ℕ → Option Data → Option (Option (List ℕ))
+bytes_if_given least most None = Some None
+bytes_if_given least most (Some d) = option_map Some (hex_bytes_in least most d)

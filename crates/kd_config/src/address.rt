@@ -1,12 +1,12 @@
 ghost use Rattle.std.specs.Prelude.{◌≡◌, option_map};
-ghost use Rattle.kd_config.specs.Address.{address_of, cut_at, without_first_spaces, without_last_spaces};
+ghost use Rattle.kd_config.specs.Address.{address_spelled, parts_at, after_spaces, before_spaces};
 
 use kd_expr::read_address;
 
 // The address that a text spells.
 #[tactic(auto, using(crate::proofs::Addresses::read_is))]
 pub(crate) fn address_of(text: &[u8]) -> Option<u32>
-    ensures { result ≡ address_of text.now }
+    ensures { result ≡ address_spelled text.now }
 {
     match read_address(text) {
         Some(bytes) => Some(u32::from_be_bytes(bytes)),
@@ -16,7 +16,7 @@ pub(crate) fn address_of(text: &[u8]) -> Option<u32>
 
 // What stands before and behind the first of this byte.
 pub(crate) fn cut_at(byte: u8, text: &[u8]) -> Option<(&[u8], &[u8])>
-    ensures { option_map (λ x. (x.0.now, x.1.now)) result ≡ cut_at byte text.now }
+    ensures { option_map (λ x. (x.0.now, x.1.now)) result ≡ parts_at byte text.now }
 {
     for (i, b) in text.iter().enumerate() {
         if *b == byte {
@@ -28,7 +28,7 @@ pub(crate) fn cut_at(byte: u8, text: &[u8]) -> Option<(&[u8], &[u8])>
 
 // A text without the spaces at its front.
 pub(crate) fn without_first_spaces(text: &[u8]) -> &[u8]
-    ensures { result.now ≡ without_first_spaces text.now }
+    ensures { result.now ≡ after_spaces text.now }
 {
     let mut left = text;
     while let [b' ', rest @ ..] = left {
@@ -39,7 +39,7 @@ pub(crate) fn without_first_spaces(text: &[u8]) -> &[u8]
 
 // A text without the spaces at its end.
 pub(crate) fn without_last_spaces(text: &[u8]) -> &[u8]
-    ensures { result.now ≡ without_last_spaces text.now }
+    ensures { result.now ≡ before_spaces text.now }
 {
     let mut left = text;
     while let [rest @ .., b' '] = left {

@@ -1,13 +1,13 @@
 ghost use Rattle.std.specs.Prelude.{◌≡◌, IfOk, OnOk};
 ghost use Rattle.std.specs.List.Sorted.{IsNonDecreasingBy, IsPermutation};
-ghost use Rattle.kd_config.specs.Apart.{are_apart, shares};
+ghost use Rattle.kd_config.specs.Apart.{lie_apart, share_one};
 
 use crate::range::Range;
 use std::alloc::{AllocError, Global};
 
 // No two ranges share an address.
 pub(crate) fn are_apart(alloc: Global, ranges: &[Range]) -> Result<bool, AllocError>
-    ensures { IfOk result (λ apart. apart ≡ are_apart ranges.now) }
+    ensures { IfOk result (λ apart. apart ≡ lie_apart ranges.now) }
 {
     let mut sorted = Vec::from_slice(alloc, ranges)?;
     sort(&mut sorted)?;
@@ -26,7 +26,7 @@ fn sort(ranges: &mut Vec<Range>) -> Result<(), AllocError>
 // No range of a sorted list shares an address with the next.
 fn are_steps_apart(ranges: &[Range]) -> bool
     requires { IsNonDecreasingBy (λ range. range.first) ranges.now }
-    ensures { result ≡ are_apart ranges.now }
+    ensures { result ≡ lie_apart ranges.now }
 {
     for i in 1..ranges.len() {
         if shares(ranges[i - 1], ranges[i]) {
@@ -38,7 +38,7 @@ fn are_steps_apart(ranges: &[Range]) -> bool
 
 // Two ranges share an address: one of them has the first of the other.
 fn shares(a: Range, b: Range) -> bool
-    ensures { result ≡ shares a b }
+    ensures { result ≡ share_one a b }
 {
     a.contains(b.first) || b.contains(a.first)
 }

@@ -1,5 +1,5 @@
 ghost use Rattle.std.specs.Prelude.{◌≡◌, [], IfOk};
-ghost use Rattle.kd_config.specs.Configuration.{builtin, builtin_subnet, builtin_times};
+ghost use Rattle.kd_config.specs.Configuration.{builtin_config, subnet_built_in, times_built_in};
 
 use crate::config::Config;
 use crate::entries::Entries;
@@ -20,7 +20,7 @@ impl Config {
     /// There is no memory for it.
     #[tactic(auto, using(crate::proofs::SoundBuiltin::builtin_sound))]
     pub fn builtin(alloc: Global) -> Result<Config, AllocError>
-        ensures { IfOk result (λ config. config ≡ builtin) }
+        ensures { IfOk result (λ config. config ≡ builtin_config) }
     {
         let mut subnets = Vec::new(alloc);
         subnets.push(builtin_subnet(alloc)?)?;
@@ -36,7 +36,7 @@ impl Config {
 
 // The times of the built-in configuration.
 fn builtin_times() -> Times
-    ensures { result ≡ builtin_times }
+    ensures { result ≡ times_built_in }
 {
     Times {
         lifetime: 3600,
@@ -49,7 +49,7 @@ fn builtin_times() -> Times
 
 // The subnet of the built-in configuration.
 fn builtin_subnet(alloc: Global) -> Result<Subnet, AllocError>
-    ensures { IfOk result (λ subnet. subnet ≡ builtin_subnet) }
+    ensures { IfOk result (λ subnet. subnet ≡ subnet_built_in) }
 {
     let mut pools = Vec::new(alloc);
     pools.push(Pool {

@@ -1,7 +1,7 @@
 ghost use Rattle.std.specs.Prelude.{◌≡◌, option_map};
 ghost use Rattle.serde_json.specs.View.{view};
-ghost use Rattle.kd_config.specs.Class.{class_of, has_class_keys, name_in, source_in, source_of};
-ghost use Rattle.kd_config.specs.Gives.{Gives};
+ghost use Rattle.kd_config.specs.Class.{class_of, has_class_keys, class_name_in, test_source_in, test_source};
+ghost use Rattle.kd_config.specs.Gives.{Means};
 ghost use Rattle.kd_config.specs.Steps.{must};
 
 use crate::fault::ConfigFault;
@@ -59,16 +59,16 @@ impl Entry for ClassEntry {
 // The value is an object with the keys of a class.
 #[tactic(auto, unfolding(crate::specs::Class::has_class_keys))]
 fn check_class(alloc: Global, value: &Value, at: &Place<'_>) -> Result<(), ConfigFault>
-    ensures { Gives result (must (has_class_keys (view value.now))) }
+    ensures { Means result (must (has_class_keys (view value.now))) }
 {
     let known = ["name", "test", "tokens", "option-data"];
     check_keys(alloc, value, at, &known, &["name"])
 }
 
 // A name of a class.
-#[tactic(auto, unfolding(crate::specs::Class::name_in))]
+#[tactic(auto, unfolding(crate::specs::Class::class_name_in))]
 fn name_in(value: &Value) -> Option<&[u8]>
-    ensures { option_map (λ name. name.now) result ≡ name_in (view value.now) }
+    ensures { option_map (λ name. name.now) result ≡ class_name_in (view value.now) }
 {
     let name = value.as_str()?.as_bytes();
     if 1 <= name.len() && name.len() <= 255 {
@@ -79,9 +79,9 @@ fn name_in(value: &Value) -> Option<&[u8]>
 }
 
 // The test that the keys `test` and `tokens` give.
-#[tactic(auto, unfolding(crate::specs::Class::source_in))]
+#[tactic(auto, unfolding(crate::specs::Class::test_source_in))]
 fn source_in(alloc: Global, value: &Value, at: &Place<'_>) -> Result<TestSource, ConfigFault>
-    ensures { Gives result (source_in (view value.now)) }
+    ensures { Means result (test_source_in (view value.now)) }
 {
     let text = text_or_none(alloc, value, at, "test")?;
     let file = text_or_none(alloc, value, at, "tokens")?;
@@ -95,7 +95,7 @@ fn source_of(
     text: Option<Bytes>,
     file: Option<Bytes>,
 ) -> Result<TestSource, ConfigFault>
-    ensures { Gives result (source_of text file) }
+    ensures { Means result (test_source text file) }
 {
     match (text, file) {
         (None, None) => Ok(TestSource::Nothing),

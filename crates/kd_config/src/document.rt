@@ -1,7 +1,7 @@
 ghost use Rattle.std.specs.Prelude.{◌≡◌};
 ghost use Rattle.serde_json.specs.View.{view};
-ghost use Rattle.kd_config.specs.Document.{settings_in, value_of, written_settings};
-ghost use Rattle.kd_config.specs.Gives.{Gives, GivesAs};
+ghost use Rattle.kd_config.specs.Document.{accepted_settings, value_spelled, settings_spelled};
+ghost use Rattle.kd_config.specs.Gives.{Means, GivesAs};
 ghost use Rattle.kd_config.specs.Rules.{may_stand};
 ghost use Rattle.kd_config.specs.Steps.{must};
 
@@ -13,9 +13,9 @@ use serde_json::Value;
 use std::alloc::Global;
 
 // The settings that a text means, where its subnets may stand together.
-#[tactic(auto, unfolding(crate::specs::Document::settings_in))]
+#[tactic(auto, unfolding(crate::specs::Document::accepted_settings))]
 pub(crate) fn settings_in(alloc: Global, text: &[u8]) -> Result<Settings, ConfigFault>
-    ensures { Gives result (settings_in text.now) }
+    ensures { Means result (accepted_settings text.now) }
 {
     let settings = written_settings(alloc, text)?;
     check_subnets(alloc, &settings)?;
@@ -24,7 +24,7 @@ pub(crate) fn settings_in(alloc: Global, text: &[u8]) -> Result<Settings, Config
 
 // The subnets may stand together.
 fn check_subnets(alloc: Global, settings: &Settings) -> Result<(), ConfigFault>
-    ensures { Gives result (must (may_stand settings.now.subnets)) }
+    ensures { Means result (must (may_stand settings.now.subnets)) }
 {
     let root = Place::Root;
     let dhcp4 = Place::Key(&root, "Dhcp4");
@@ -33,9 +33,9 @@ fn check_subnets(alloc: Global, settings: &Settings) -> Result<(), ConfigFault>
 }
 
 // The settings that a text means.
-#[tactic(auto, unfolding(crate::specs::Document::written_settings))]
+#[tactic(auto, unfolding(crate::specs::Document::settings_spelled))]
 fn written_settings(alloc: Global, text: &[u8]) -> Result<Settings, ConfigFault>
-    ensures { Gives result (written_settings text.now) }
+    ensures { Means result (settings_spelled text.now) }
 {
     let value = value_of(alloc, text)?;
     root_of(alloc, &value)
@@ -44,7 +44,7 @@ fn written_settings(alloc: Global, text: &[u8]) -> Result<Settings, ConfigFault>
 // The value that a text spells.
 #[tactic(auto, using(crate::proofs::Documents::spelled, crate::proofs::Documents::not_spelled))]
 fn value_of(alloc: Global, text: &[u8]) -> Result<Value, ConfigFault>
-    ensures { GivesAs view result (value_of text.now) }
+    ensures { GivesAs view result (value_spelled text.now) }
 {
     match Value::from_slice(alloc, text) {
         Ok(value) => Ok(value),

@@ -1,15 +1,15 @@
 ghost use Rattle.std.specs.Prelude.{◌≡◌, IfOk};
 ghost use Rattle.std.specs.List.{filter};
-ghost use Rattle.kd_config.specs.HexText.{bytes_of, counts, without_prefix};
+ghost use Rattle.kd_config.specs.HexText.{bytes_spelled, counts, digits_after_prefix};
 
 use hex::FromHexError;
 use kd_wire::Bytes;
 use std::alloc::{AllocError, Global};
 
 // The bytes that a hexadecimal text spells.
-#[tactic(auto, unfolding(crate::specs::HexText::bytes_of))]
+#[tactic(auto, unfolding(crate::specs::HexText::bytes_spelled))]
 pub(crate) fn bytes_of(alloc: Global, text: &[u8]) -> Result<Option<Bytes>, AllocError>
-    ensures { IfOk result (λ bytes. bytes ≡ bytes_of text.now) }
+    ensures { IfOk result (λ bytes. bytes ≡ bytes_spelled text.now) }
 {
     let digits = counted(alloc, text)?;
     match hex::decode(alloc, without_prefix(&digits)) {
@@ -38,7 +38,7 @@ fn counted(alloc: Global, text: &[u8]) -> Result<Vec<u8>, AllocError>
 
 // Digits without a prefix 0x.
 fn without_prefix(text: &[u8]) -> &[u8]
-    ensures { result.now ≡ without_prefix text.now }
+    ensures { result.now ≡ digits_after_prefix text.now }
 {
     match text {
         [b'0', b'x', digits @ ..] => digits,

@@ -2,7 +2,7 @@ ghost use Rattle.std.specs.Prelude.{◌≡◌, Option};
 ghost use Rattle.serde_json.specs.Data.{Data};
 ghost use Rattle.serde_json.specs.Find.{get};
 ghost use Rattle.serde_json.specs.View.{items_view, view};
-ghost use Rattle.kd_config.specs.Gives.{Gives, GivesAs};
+ghost use Rattle.kd_config.specs.Gives.{Means, GivesAs};
 ghost use Rattle.kd_config.specs.Lists.{all_of, items_or_none, list_of};
 
 use crate::entries::Entries;
@@ -38,7 +38,7 @@ pub(crate) trait Entry: Drop + Sized {
 
     // The entry that a value means.
     fn read(alloc: Global, value: &Value, at: &Place<'_>) -> Result<Self, ConfigFault>
-        ensures { Gives result (means (view value.now)) };
+        ensures { Means result (means (view value.now)) };
 }
 
 // The entries of a list of at most so many at a key.
@@ -50,7 +50,7 @@ pub(crate) fn entries_of<T: Entry>(
     key: &'static str,
     most: usize,
 ) -> Result<Entries<T>, ConfigFault>
-    ensures { Gives result (list_of most T.means (get key.now (view object.now))) }
+    ensures { Means result (list_of most T.means (get key.now (view object.now))) }
 {
     let values = list_at(alloc, object, at, key, most)?;
     entries_in(alloc, values, &Place::Key(&*at, key))
@@ -62,7 +62,7 @@ fn entries_in<T: Entry>(
     values: &[Value],
     at: &Place<'_>,
 ) -> Result<Entries<T>, ConfigFault>
-    ensures { Gives result (all_of T.means (items_view values.now)) }
+    ensures { Means result (all_of T.means (items_view values.now)) }
 {
     let mut list = Vec::new(alloc);
     for i in 0..values.len() {

@@ -1,8 +1,8 @@
 ghost use Rattle.std.specs.Prelude.{◌≡◌, [], codes};
 ghost use Rattle.serde_json.specs.Find.{get};
 ghost use Rattle.serde_json.specs.View.{items_view, view};
-ghost use Rattle.kd_config.specs.Gives.{Gives};
-ghost use Rattle.kd_config.specs.Options.{code_in, has_code, has_option_keys, option_behind, options_behind, options_of};
+ghost use Rattle.kd_config.specs.Gives.{Means};
+ghost use Rattle.kd_config.specs.Options.{code_given, code_among, has_option_keys, option_after, options_behind, option_list_in};
 ghost use Rattle.kd_config.specs.Steps.{must};
 
 use crate::fault::ConfigFault;
@@ -17,13 +17,13 @@ use std::alloc::Global;
 const OWN_CODES: [u8; 11] = [50, 51, 52, 53, 54, 55, 57, 58, 59, 61, 82];
 
 // The options of the list at the key `option-data`, each code once.
-#[tactic(auto, unfolding(crate::specs::Options::options_of))]
+#[tactic(auto, unfolding(crate::specs::Options::option_list_in))]
 pub(crate) fn options_of(
     alloc: Global,
     object: &Value,
     at: &Place<'_>,
 ) -> Result<OptionList, ConfigFault>
-    ensures { Gives result (options_of (get (codes "option-data") (view object.now))) }
+    ensures { Means result (option_list_in (get (codes "option-data") (view object.now))) }
 {
     let values = list_at(alloc, object, at, "option-data", 64)?;
     options_in(alloc, values, &Place::Key(&*at, "option-data"))
@@ -31,7 +31,7 @@ pub(crate) fn options_of(
 
 // The options that values mean, each code once.
 fn options_in(alloc: Global, values: &[Value], at: &Place<'_>) -> Result<OptionList, ConfigFault>
-    ensures { Gives result (options_behind [] (items_view values.now)) }
+    ensures { Means result (options_behind [] (items_view values.now)) }
 {
     let mut list = Vec::new(alloc);
     for i in 0..values.len() {
@@ -42,14 +42,14 @@ fn options_in(alloc: Global, values: &[Value], at: &Place<'_>) -> Result<OptionL
 }
 
 // The option that a value means behind the options before it.
-#[tactic(auto, unfolding(crate::specs::Options::option_behind))]
+#[tactic(auto, unfolding(crate::specs::Options::option_after))]
 fn option_behind(
     alloc: Global,
     value: &Value,
     at: &Place<'_>,
     earlier: &[OptionData],
 ) -> Result<OptionData, ConfigFault>
-    ensures { Gives result (option_behind earlier.now (view value.now)) }
+    ensures { Means result (option_after earlier.now (view value.now)) }
 {
     check_option(alloc, value, at)?;
     let Some(code) = value.get("code").and_then(code_in) else {
@@ -74,16 +74,16 @@ fn option_behind(
 // The value is an object with the keys of option data.
 #[tactic(auto, unfolding(crate::specs::Options::has_option_keys))]
 fn check_option(alloc: Global, value: &Value, at: &Place<'_>) -> Result<(), ConfigFault>
-    ensures { Gives result (must (has_option_keys (view value.now))) }
+    ensures { Means result (must (has_option_keys (view value.now))) }
 {
     let keys = ["code", "data", "csv-format"];
     check_keys(alloc, value, at, &keys, &keys)
 }
 
 // The code of an option that may be configured.
-#[tactic(auto, unfolding(crate::specs::Options::code_in))]
+#[tactic(auto, unfolding(crate::specs::Options::code_given))]
 fn code_in(value: &Value) -> Option<u8>
-    ensures { result ≡ code_in (view value.now) }
+    ensures { result ≡ code_given (view value.now) }
 {
     let code = number_in(value, 1, 254)? as u8;
     if OWN_CODES.contains(&code) {
@@ -95,7 +95,7 @@ fn code_in(value: &Value) -> Option<u8>
 
 // An option of these has the code.
 fn has_code(code: u8, options: &[OptionData]) -> bool
-    ensures { result ≡ has_code code options.now }
+    ensures { result ≡ code_among code options.now }
 {
     options.iter().any(|option| option.code == code)
 }

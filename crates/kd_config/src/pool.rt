@@ -1,7 +1,7 @@
 ghost use Rattle.std.specs.Prelude.{◌≡◌};
 ghost use Rattle.serde_json.specs.View.{view};
-ghost use Rattle.kd_config.specs.Gives.{Gives};
-ghost use Rattle.kd_config.specs.Pool.{has_pool_keys, pool_of, range_in};
+ghost use Rattle.kd_config.specs.Gives.{Means};
+ghost use Rattle.kd_config.specs.Pool.{has_pool_keys, pool_of, pool_range};
 ghost use Rattle.kd_config.specs.Steps.{must};
 
 use crate::fault::ConfigFault;
@@ -40,15 +40,15 @@ impl Entry for Pool {
 // The value is an object with the keys of a pool.
 #[tactic(auto, unfolding(crate::specs::Pool::has_pool_keys))]
 fn check_pool(alloc: Global, value: &Value, at: &Place<'_>) -> Result<(), ConfigFault>
-    ensures { Gives result (must (has_pool_keys (view value.now))) }
+    ensures { Means result (must (has_pool_keys (view value.now))) }
 {
     check_keys(alloc, value, at, &["pool", "option-data"], &["pool"])
 }
 
 // The addresses of a pool.
-#[tactic(auto, unfolding(crate::specs::Pool::range_in))]
+#[tactic(auto, unfolding(crate::specs::Pool::pool_range))]
 fn range_in(value: &Value) -> Option<Range>
-    ensures { result ≡ range_in (view value.now) }
+    ensures { result ≡ pool_range (view value.now) }
 {
     range_of(value.as_str()?.as_bytes())
 }

@@ -1,5 +1,5 @@
 ghost use Rattle.std.specs.Prelude.{◌≡◌, ◌+◌, ◌^◌, ◌≤◌, IfSome};
-ghost use Rattle.kd_config.specs.Address.{cleared, contains, length_of, one_or_two_digits, prefix_of, size_of};
+ghost use Rattle.kd_config.specs.Address.{network_address, has_address, length_spelled, short_decimal, prefix_spelled, prefix_size};
 
 use crate::address::{address_of, cut_at};
 
@@ -15,14 +15,14 @@ pub struct Prefix {
 impl Prefix {
     /// How many addresses it has, 1 to 2^32.
     pub fn size(self) -> u64
-        ensures { result ≡ size_of self.length }
+        ensures { result ≡ prefix_size self.length }
     {
         size_of(self.length)
     }
 
     /// Whether an address, in host order, is one of its own.
     pub fn contains(self, address: u32) -> bool
-        ensures { result ≡ contains self address }
+        ensures { result ≡ has_address self address }
     {
         address >= self.address && u64::from(address) < u64::from(self.address) + self.size()
     }
@@ -30,24 +30,24 @@ impl Prefix {
 
 // How many addresses a prefix of this length has.
 fn size_of(length: u8) -> u64
-    ensures { result ≡ size_of length }
+    ensures { result ≡ prefix_size length }
 {
     1 << 32u8.saturating_sub(length)
 }
 
 // An address without the bits behind a prefix of this length.
 fn cleared(address: u32, length: u8) -> u32
-    ensures cleared { result ≡ cleared address length }
-    ensures within { result + size_of length ≤ 2 ^ 32 }
+    ensures cleared { result ≡ network_address address length }
+    ensures within { result + prefix_size length ≤ 2 ^ 32 }
 {
     let size = size_of(length);
     (u64::from(address) / size * size) as u32
 }
 
 // The length of a prefix.
-#[tactic(auto, unfolding(crate::specs::Address::length_of))]
+#[tactic(auto, unfolding(crate::specs::Address::length_spelled))]
 fn length_of(text: &[u8]) -> Option<u8>
-    ensures { result ≡ length_of text.now }
+    ensures { result ≡ length_spelled text.now }
 {
     let length = one_or_two_digits(text)?;
     if length <= 32 { Some(length) } else { None }
@@ -55,7 +55,7 @@ fn length_of(text: &[u8]) -> Option<u8>
 
 // The number of one or two decimal digits.
 fn one_or_two_digits(text: &[u8]) -> Option<u8>
-    ensures { result ≡ one_or_two_digits text.now }
+    ensures { result ≡ short_decimal text.now }
 {
     match text {
         [a] if a.is_ascii_digit() => Some(*a - b'0'),
@@ -67,10 +67,10 @@ fn one_or_two_digits(text: &[u8]) -> Option<u8>
 }
 
 // The prefix that a text spells.
-#[tactic(auto, unfolding(crate::specs::Address::prefix_of))]
+#[tactic(auto, unfolding(crate::specs::Address::prefix_spelled))]
 pub(crate) fn prefix_of(text: &[u8]) -> Option<Prefix>
-    ensures spelled { result ≡ prefix_of text.now }
-    ensures within { IfSome result (λ prefix. prefix.address + size_of prefix.length ≤ 2 ^ 32) }
+    ensures spelled { result ≡ prefix_spelled text.now }
+    ensures within { IfSome result (λ prefix. prefix.address + prefix_size prefix.length ≤ 2 ^ 32) }
 {
     let (address, length) = cut_at(b'/', text)?;
     let address = address_of(address)?;

@@ -1,5 +1,5 @@
 ghost use Rattle.std.specs.Prelude.{◌≡◌, ◌+◌, ◌^◌, ◌≤◌, ◌&&◌, nat_le};
-ghost use Rattle.kd_config.specs.Address.{between, range_between, range_of, range_of_prefix, size_of};
+ghost use Rattle.kd_config.specs.Address.{range_from, range_of_parts, range_spelled, prefix_range, prefix_size};
 
 use crate::address::{address_of, cut_at, without_first_spaces, without_last_spaces};
 use crate::prefix::{Prefix, prefix_of};
@@ -24,7 +24,7 @@ impl Range {
 
 // The addresses from the first to the last.
 fn between(first: u32, last: u32) -> Option<Range>
-    ensures { result ≡ between first last }
+    ensures { result ≡ range_from first last }
 {
     if first <= last && last - first < 65_536 {
         Some(Range { first, last })
@@ -35,17 +35,17 @@ fn between(first: u32, last: u32) -> Option<Range>
 
 // The addresses of a prefix.
 fn range_of_prefix(prefix: Prefix) -> Option<Range>
-    requires { prefix.address + size_of prefix.length ≤ 2 ^ 32 }
-    ensures { result ≡ range_of_prefix prefix }
+    requires { prefix.address + prefix_size prefix.length ≤ 2 ^ 32 }
+    ensures { result ≡ prefix_range prefix }
 {
     let last = u64::from(prefix.address) + (prefix.size() - 1);
     between(prefix.address, last as u32)
 }
 
 // The addresses between two.
-#[tactic(auto, unfolding(crate::specs::Address::range_between))]
+#[tactic(auto, unfolding(crate::specs::Address::range_of_parts))]
 fn range_between(first: &[u8], last: &[u8]) -> Option<Range>
-    ensures { result ≡ range_between (first.now, last.now) }
+    ensures { result ≡ range_of_parts (first.now, last.now) }
 {
     let first = address_of(without_last_spaces(first))?;
     let last = address_of(without_first_spaces(last))?;
@@ -53,9 +53,9 @@ fn range_between(first: &[u8], last: &[u8]) -> Option<Range>
 }
 
 // The addresses that the text of a pool spells.
-#[tactic(auto, unfolding(crate::specs::Address::range_of))]
+#[tactic(auto, unfolding(crate::specs::Address::range_spelled))]
 pub(crate) fn range_of(text: &[u8]) -> Option<Range>
-    ensures { result ≡ range_of text.now }
+    ensures { result ≡ range_spelled text.now }
 {
     match cut_at(b'-', text) {
         Some((first, last)) => range_between(first, last),

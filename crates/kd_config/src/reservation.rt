@@ -1,7 +1,7 @@
 ghost use Rattle.std.specs.Prelude.{◌≡◌};
 ghost use Rattle.serde_json.specs.View.{view};
-ghost use Rattle.kd_config.specs.Gives.{Gives};
-ghost use Rattle.kd_config.specs.Reservation.{has_reservation_keys, identity_of, reservation_of};
+ghost use Rattle.kd_config.specs.Gives.{Means};
+ghost use Rattle.kd_config.specs.Reservation.{has_reservation_keys, one_identity, reservation_of};
 ghost use Rattle.kd_config.specs.Steps.{must};
 
 use crate::fault::ConfigFault;
@@ -49,7 +49,7 @@ impl Entry for Reservation {
 // The value is an object with the keys of a reservation.
 #[tactic(auto, unfolding(crate::specs::Reservation::has_reservation_keys))]
 fn check_reservation(alloc: Global, value: &Value, at: &Place<'_>) -> Result<(), ConfigFault>
-    ensures { Gives result (must (has_reservation_keys (view value.now))) }
+    ensures { Means result (must (has_reservation_keys (view value.now))) }
 {
     let known = ["hw-address", "client-id", "ip-address"];
     check_keys(alloc, value, at, &known, &["ip-address"])
@@ -62,7 +62,7 @@ fn identity_of(
     hardware: Option<Bytes>,
     client: Option<Bytes>,
 ) -> Result<Identity, ConfigFault>
-    ensures { Gives result (identity_of hardware client) }
+    ensures { Means result (one_identity hardware client) }
 {
     match (hardware, client) {
         (Some(hardware), None) => Ok(Identity::Hardware(hardware)),

@@ -1,10 +1,10 @@
 ghost use Rattle.std.specs.Prelude.{◌≡◌, ◌<◌, ◌≤◌, ◌-◌, ◌++◌, ◌∷◌, ◌&&◌, [], IfOk, OnOk, false, length, map};
 ghost use Rattle.std.specs.List.{list_all};
 ghost use Rattle.indexmap.specs.IndexSet.{keys};
-ghost use Rattle.kd_config.specs.Apart.{are_apart};
-ghost use Rattle.kd_config.specs.Gives.{Gives};
+ghost use Rattle.kd_config.specs.Apart.{lie_apart};
+ghost use Rattle.kd_config.specs.Gives.{Means};
 ghost use Rattle.kd_config.specs.Parts.{client_by};
-ghost use Rattle.kd_config.specs.Rules.{all_obey, all_ranges, is_new, is_within, may_all_reserve, may_reserve, may_stand, obeys, ranges_in, reserved};
+ghost use Rattle.kd_config.specs.Rules.{all_obey, pool_ranges, is_new, lies_within, may_all_reserve, may_reserve, may_stand, obeys, ranges_in, reserved};
 ghost use Rattle.kd_config.specs.Steps.{must};
 
 use crate::apart::are_apart;
@@ -26,7 +26,7 @@ pub(crate) fn check_rules(
     subnets: &[Subnet],
     at: &Place<'_>,
 ) -> Result<(), ConfigFault>
-    ensures { Gives result (must (may_stand subnets.now)) }
+    ensures { Means result (must (may_stand subnets.now)) }
 {
     let ranges = all_ranges(alloc, subnets)?;
     if are_apart(alloc, &ranges)? {
@@ -38,7 +38,7 @@ pub(crate) fn check_rules(
 
 // The subnets obey the rules, one after another.
 fn check_each(alloc: Global, subnets: &[Subnet], at: &Place<'_>) -> Result<(), ConfigFault>
-    ensures { Gives result (must (all_obey [] subnets.now)) }
+    ensures { Means result (must (all_obey [] subnets.now)) }
 {
     let mut earlier = IndexSet::new(alloc);
     for i in 0..subnets.len() {
@@ -49,8 +49,8 @@ fn check_each(alloc: Global, subnets: &[Subnet], at: &Place<'_>) -> Result<(), C
 
 // The first fault of subnets of which two pools share an address.
 fn first_fault(alloc: Global, subnets: &[Subnet], ranges: &[Range], at: &Place<'_>) -> ConfigFault
-    requires all { ranges.now ≡ all_ranges subnets.now }
-    requires shared { are_apart ranges.now ≡ false }
+    requires all { ranges.now ≡ pool_ranges subnets.now }
+    requires shared { lie_apart ranges.now ≡ false }
 {
     match check_to_overlap(alloc, subnets, ranges, at) {
         Ok(never) => match never {},
@@ -66,8 +66,8 @@ fn check_to_overlap(
     ranges: &[Range],
     at: &Place<'_>,
 ) -> Result<Infallible, ConfigFault>
-    requires all { ranges.now ≡ all_ranges subnets.now }
-    requires shared { are_apart ranges.now ≡ false }
+    requires all { ranges.now ≡ pool_ranges subnets.now }
+    requires shared { lie_apart ranges.now ≡ false }
 {
     let mut left = first_overlap(alloc, ranges)?;
     let mut earlier = IndexSet::new(alloc);
@@ -131,7 +131,7 @@ fn first_overlap(alloc: Global, ranges: &[Range]) -> Result<usize, AllocError>
 
 // The addresses of all pools, in order.
 fn all_ranges(alloc: Global, subnets: &[Subnet]) -> Result<Vec<Range>, AllocError>
-    ensures { IfOk result (λ ranges. ranges.items ≡ all_ranges subnets.now) }
+    ensures { IfOk result (λ ranges. ranges.items ≡ pool_ranges subnets.now) }
 {
     let mut ranges = Vec::new(alloc);
     for subnet in subnets {
@@ -159,7 +159,7 @@ fn check_subnet(
     earlier: &mut IndexSet<u32>,
 ) -> Result<(), ConfigFault>
     ensures joined { IfOk result (λ _. keys earlier.new ≡ keys earlier.old ++ reserved subnet.now.reservations) }
-    ensures checked { Gives result (must (obeys (keys earlier.old) subnet.now)) }
+    ensures checked { Means result (must (obeys (keys earlier.old) subnet.now)) }
 {
     let pools = Place::Key(&*at, "pools");
     check_pools(alloc, subnet.prefix, subnet.pools.as_slice(), &pools)?;
@@ -175,7 +175,7 @@ fn check_pools(
     pools: &[Pool],
     at: &Place<'_>,
 ) -> Result<(), ConfigFault>
-    ensures { Gives result (must (list_all (is_within prefix) pools.now)) }
+    ensures { Means result (must (list_all (lies_within prefix) pools.now)) }
 {
     for (i, pool) in pools.iter().enumerate() {
         check_pool(alloc, prefix, pool, &Place::Item(&*at, i))?;
@@ -185,7 +185,7 @@ fn check_pools(
 
 // A pool lies in its subnet's prefix.
 fn check_pool(alloc: Global, prefix: Prefix, pool: &Pool, at: &Place<'_>) -> Result<(), ConfigFault>
-    ensures { Gives result (must (is_within prefix pool.now)) }
+    ensures { Means result (must (lies_within prefix pool.now)) }
 {
     if is_within(prefix, pool) {
         Ok(())
@@ -196,7 +196,7 @@ fn check_pool(alloc: Global, prefix: Prefix, pool: &Pool, at: &Place<'_>) -> Res
 
 // A pool lies in a prefix.
 fn is_within(prefix: Prefix, pool: &Pool) -> bool
-    ensures { result ≡ is_within prefix pool.now }
+    ensures { result ≡ lies_within prefix pool.now }
 {
     prefix.contains(pool.range.first) && prefix.contains(pool.range.last)
 }
@@ -210,7 +210,7 @@ fn check_reservations(
     earlier: &mut IndexSet<u32>,
 ) -> Result<(), ConfigFault>
     ensures joined { IfOk result (λ _. keys earlier.new ≡ keys earlier.old ++ reserved reservations.now) }
-    ensures checked { Gives result (must (may_all_reserve prefix (keys earlier.old) [] reservations.now)) }
+    ensures checked { Means result (must (may_all_reserve prefix (keys earlier.old) [] reservations.now)) }
 {
     let mut clients = IndexSet::new(alloc);
     for i in 0..reservations.len() {
@@ -238,7 +238,7 @@ fn check_reservation<'a>(
 ) -> Result<(), ConfigFault>
     ensures reserved { IfOk result (λ _. keys earlier.new ≡ keys earlier.old ++ reservation.now.address ∷ []) }
     ensures known { IfOk result (λ _. map client_by (keys clients.new) ≡ map client_by (keys clients.old) ++ reservation.now.identity ∷ []) }
-    ensures checked { Gives result (must (may_reserve prefix (keys earlier.old) reservation.now && is_new (map client_by (keys clients.old)) reservation.now.identity)) }
+    ensures checked { Means result (must (may_reserve prefix (keys earlier.old) reservation.now && is_new (map client_by (keys clients.old)) reservation.now.identity)) }
 {
     check_address(alloc, prefix, reservation, at, earlier)?;
     check_client(alloc, &reservation.identity, at, clients)
@@ -253,7 +253,7 @@ fn check_address(
     earlier: &mut IndexSet<u32>,
 ) -> Result<(), ConfigFault>
     ensures joined { IfOk result (λ _. keys earlier.new ≡ keys earlier.old ++ reservation.now.address ∷ []) }
-    ensures checked { Gives result (must (may_reserve prefix (keys earlier.old) reservation.now)) }
+    ensures checked { Means result (must (may_reserve prefix (keys earlier.old) reservation.now)) }
 {
     if !prefix.contains(reservation.address) {
         return Err(outside(alloc, at, "ip-address"));
@@ -273,7 +273,7 @@ fn check_client<'a>(
     earlier: &mut IndexSet<(bool, &'a [u8])>,
 ) -> Result<(), ConfigFault>
     ensures joined { IfOk result (λ _. map client_by (keys earlier.new) ≡ map client_by (keys earlier.old) ++ identity.now ∷ []) }
-    ensures checked { Gives result (must (is_new (map client_by (keys earlier.old)) identity.now)) }
+    ensures checked { Means result (must (is_new (map client_by (keys earlier.old)) identity.now)) }
 {
     if earlier.insert(key_of(identity))? {
         return Ok(());

@@ -1,7 +1,7 @@
 ghost use Rattle.std.specs.Prelude.{◌≡◌};
 ghost use Rattle.serde_json.specs.View.{view};
-ghost use Rattle.kd_config.specs.Gives.{Gives};
-ghost use Rattle.kd_config.specs.Settings.{has_dhcp4_keys, has_root_keys, root_of, server_in, settings_of};
+ghost use Rattle.kd_config.specs.Gives.{Means};
+ghost use Rattle.kd_config.specs.Settings.{has_dhcp4_keys, has_root_keys, whole_settings, server_given, dhcp4_settings};
 ghost use Rattle.kd_config.specs.Steps.{must};
 
 use crate::class::ClassEntry;
@@ -33,9 +33,9 @@ pub(crate) struct Settings {
 }
 
 // The settings that a whole text's value means.
-#[tactic(auto, unfolding(crate::specs::Settings::root_of))]
+#[tactic(auto, unfolding(crate::specs::Settings::whole_settings))]
 pub(crate) fn root_of(alloc: Global, value: &Value) -> Result<Settings, ConfigFault>
-    ensures { Gives result (root_of (view value.now)) }
+    ensures { Means result (whole_settings (view value.now)) }
 {
     let root = Place::Root;
     check_root(alloc, value, &root)?;
@@ -46,9 +46,9 @@ pub(crate) fn root_of(alloc: Global, value: &Value) -> Result<Settings, ConfigFa
 }
 
 // The settings that the value of `Dhcp4` means.
-#[tactic(auto, unfolding(crate::specs::Settings::settings_of))]
+#[tactic(auto, unfolding(crate::specs::Settings::dhcp4_settings))]
 fn settings_of(alloc: Global, value: &Value, at: &Place<'_>) -> Result<Settings, ConfigFault>
-    ensures { Gives result (settings_of (view value.now)) }
+    ensures { Means result (dhcp4_settings (view value.now)) }
 {
     check_dhcp4(alloc, value, at)?;
     let Some(server) = value.get("server-address").and_then(server_in) else {
@@ -70,7 +70,7 @@ fn settings_of(alloc: Global, value: &Value, at: &Place<'_>) -> Result<Settings,
 // The value is an object with `Dhcp4` and no other key.
 #[tactic(auto, unfolding(crate::specs::Settings::has_root_keys))]
 fn check_root(alloc: Global, value: &Value, at: &Place<'_>) -> Result<(), ConfigFault>
-    ensures { Gives result (must (has_root_keys (view value.now))) }
+    ensures { Means result (must (has_root_keys (view value.now))) }
 {
     check_keys(alloc, value, at, &["Dhcp4"], &["Dhcp4"])
 }
@@ -78,7 +78,7 @@ fn check_root(alloc: Global, value: &Value, at: &Place<'_>) -> Result<(), Config
 // The value is an object with the keys of `Dhcp4`.
 #[tactic(auto, unfolding(crate::specs::Settings::has_dhcp4_keys))]
 fn check_dhcp4(alloc: Global, value: &Value, at: &Place<'_>) -> Result<(), ConfigFault>
-    ensures { Gives result (must (has_dhcp4_keys (view value.now))) }
+    ensures { Means result (must (has_dhcp4_keys (view value.now))) }
 {
     let known = [
         "server-address",
@@ -95,9 +95,9 @@ fn check_dhcp4(alloc: Global, value: &Value, at: &Place<'_>) -> Result<(), Confi
 }
 
 // The address of the server, which is not 0.0.0.0.
-#[tactic(auto, unfolding(crate::specs::Settings::server_in))]
+#[tactic(auto, unfolding(crate::specs::Settings::server_given))]
 fn server_in(value: &Value) -> Option<u32>
-    ensures { result ≡ server_in (view value.now) }
+    ensures { result ≡ server_given (view value.now) }
 {
     let address = address_in(value)?;
     if address == 0 { None } else { Some(address) }

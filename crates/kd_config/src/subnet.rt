@@ -1,8 +1,8 @@
 ghost use Rattle.std.specs.Prelude.{◌≡◌};
 ghost use Rattle.serde_json.specs.View.{view};
-ghost use Rattle.kd_config.specs.Gives.{Gives};
+ghost use Rattle.kd_config.specs.Gives.{Means};
 ghost use Rattle.kd_config.specs.Steps.{must};
-ghost use Rattle.kd_config.specs.Subnet.{has_subnet_keys, prefix_in, subnet_of};
+ghost use Rattle.kd_config.specs.Subnet.{has_subnet_keys, subnet_prefix, subnet_of};
 
 use crate::entries::Entries;
 use crate::fault::ConfigFault;
@@ -60,7 +60,7 @@ impl Entry for Subnet {
 // The value is an object with the keys of a subnet.
 #[tactic(auto, unfolding(crate::specs::Subnet::has_subnet_keys))]
 fn check_subnet(alloc: Global, value: &Value, at: &Place<'_>) -> Result<(), ConfigFault>
-    ensures { Gives result (must (has_subnet_keys (view value.now))) }
+    ensures { Means result (must (has_subnet_keys (view value.now))) }
 {
     let known = [
         "id",
@@ -74,9 +74,9 @@ fn check_subnet(alloc: Global, value: &Value, at: &Place<'_>) -> Result<(), Conf
 }
 
 // The prefix of a subnet.
-#[tactic(auto, unfolding(crate::specs::Subnet::prefix_in))]
+#[tactic(auto, unfolding(crate::specs::Subnet::subnet_prefix))]
 fn prefix_in(value: &Value) -> Option<Prefix>
-    ensures { result ≡ prefix_in (view value.now) }
+    ensures { result ≡ subnet_prefix (view value.now) }
 {
     prefix_of(value.as_str()?.as_bytes())
 }

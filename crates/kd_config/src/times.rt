@@ -1,7 +1,7 @@
 ghost use Rattle.std.specs.Prelude.{◌≡◌};
 ghost use Rattle.serde_json.specs.View.{view};
-ghost use Rattle.kd_config.specs.Gives.{Gives};
-ghost use Rattle.kd_config.specs.Settings.{longest, times_of};
+ghost use Rattle.kd_config.specs.Gives.{Means};
+ghost use Rattle.kd_config.specs.Settings.{longest_lease, times_given};
 
 use crate::fault::ConfigFault;
 use crate::place::{Place, bad_value};
@@ -28,9 +28,9 @@ pub struct Times {
 }
 
 // The times of leases and of offers.
-#[tactic(auto, unfolding(crate::specs::Settings::times_of))]
+#[tactic(auto, unfolding(crate::specs::Settings::times_given))]
 pub(crate) fn times_of(alloc: Global, object: &Value, at: &Place<'_>) -> Result<Times, ConfigFault>
-    ensures { Gives result (times_of (view object.now)) }
+    ensures { Means result (times_given (view object.now)) }
 {
     let lifetime = number_or(alloc, object, at, "valid-lifetime", 1, LONGEST, 7200)?;
     let renew = number_or(alloc, object, at, "renew-timer", 0, LONGEST, lifetime / 2)?;

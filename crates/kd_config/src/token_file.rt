@@ -1,5 +1,5 @@
 ghost use Rattle.std.specs.Prelude.{◌≡◌, option_map};
-ghost use Rattle.kd_config.specs.Configured.{file_named};
+ghost use Rattle.kd_config.specs.Configured.{file_by_name};
 
 use kd_wire::Bytes;
 
@@ -14,7 +14,7 @@ pub struct TokenFile {
 
 // The bytes of the first of these files with a name.
 pub(crate) fn file_named<'a>(name: &[u8], files: &'a [TokenFile]) -> Option<&'a [u8]>
-    ensures { option_map (λ bytes. bytes.now) result ≡ file_named name.now files.now }
+    ensures { option_map (λ bytes. bytes.now) result ≡ file_by_name name.now files.now }
 {
     let file = files.iter().find(|file| name == file.name.as_slice())?;
     Some(file.bytes.as_slice())

@@ -2,10 +2,10 @@ ghost use Rattle.std.specs.Prelude.{◌≡◌, ◌≤◌, IfOk, IfSome, map, not
 ghost use Rattle.std.specs.List.{find};
 ghost use Rattle.serde_json.specs.Find.{get};
 ghost use Rattle.serde_json.specs.View.{view};
-ghost use Rattle.kd_config.specs.Gives.{Gives};
+ghost use Rattle.kd_config.specs.Gives.{Means};
 ghost use Rattle.kd_config.specs.Steps.{must};
 ghost use Rattle.kd_config.specs.Parts.{is_one_of, is_there};
-ghost use Rattle.kd_config.specs.Values.{address_in, bytes_in, bytes_or_none, has_keys, number_in, number_or, text_or_none};
+ghost use Rattle.kd_config.specs.Values.{address_given, hex_bytes_in, bytes_if_given, has_keys, number_within, number_if_given, text_if_given};
 
 use crate::address::address_of;
 use crate::fault::ConfigFault;
@@ -24,7 +24,7 @@ pub(crate) fn check_keys(
     known: &[&str],
     required: &[&str],
 ) -> Result<(), ConfigFault>
-    ensures { Gives result (must (has_keys (map (λ k. k.now) known.now) (map (λ k. k.now) required.now) (view value.now))) }
+    ensures { Means result (must (has_keys (map (λ k. k.now) known.now) (map (λ k. k.now) required.now) (view value.now))) }
 {
     let Some(members) = value.as_object() else {
         return Err(bad_place(alloc, at));
@@ -65,9 +65,9 @@ fn missing_key<'a>(value: &Value, required: &[&'a str]) -> Option<&'a str>
 }
 
 // A whole number in a range.
-#[tactic(auto, unfolding(crate::specs::Values::number_in))]
+#[tactic(auto, unfolding(crate::specs::Values::number_within))]
 pub(crate) fn number_in(value: &Value, least: u32, most: u32) -> Option<u32>
-    ensures spelled { result ≡ number_in least most (view value.now) }
+    ensures spelled { result ≡ number_within least most (view value.now) }
     ensures within { IfSome result (λ number. number ≤ most) }
 {
     let number = value.as_u64()?;
@@ -79,15 +79,15 @@ pub(crate) fn number_in(value: &Value, least: u32, most: u32) -> Option<u32>
 }
 
 // An address.
-#[tactic(auto, unfolding(crate::specs::Values::address_in))]
+#[tactic(auto, unfolding(crate::specs::Values::address_given))]
 pub(crate) fn address_in(value: &Value) -> Option<u32>
-    ensures { result ≡ address_in (view value.now) }
+    ensures { result ≡ address_given (view value.now) }
 {
     address_of(value.as_str()?.as_bytes())
 }
 
 // The bytes of a hexadecimal text.
-#[tactic(auto, unfolding(crate::specs::Values::bytes_in))]
+#[tactic(auto, unfolding(crate::specs::Values::hex_bytes_in))]
 pub(crate) fn bytes_at(
     alloc: Global,
     value: &Value,
@@ -95,7 +95,7 @@ pub(crate) fn bytes_at(
     least: usize,
     most: usize,
 ) -> Result<Bytes, ConfigFault>
-    ensures { Gives result (bytes_in least most (view value.now)) }
+    ensures { Means result (hex_bytes_in least most (view value.now)) }
 {
     let Some(text) = value.as_str() else {
         return Err(bad_place(alloc, at));
@@ -119,7 +119,7 @@ pub(crate) fn bytes_or_none(
     key: &'static str,
     most: usize,
 ) -> Result<Option<Bytes>, ConfigFault>
-    ensures { Gives result (bytes_or_none 1 most (get key.now (view object.now))) }
+    ensures { Means result (bytes_if_given 1 most (get key.now (view object.now))) }
 {
     match object.get(key) {
         Some(value) => Ok(Some(bytes_at(alloc, value, &Place::Key(&*at, key), 1, most)?)),
@@ -134,7 +134,7 @@ pub(crate) fn text_or_none(
     at: &Place<'_>,
     key: &'static str,
 ) -> Result<Option<Bytes>, ConfigFault>
-    ensures { Gives result (text_or_none (get key.now (view object.now))) }
+    ensures { Means result (text_if_given (get key.now (view object.now))) }
 {
     let Some(value) = object.get(key) else {
         return Ok(None);
@@ -162,7 +162,7 @@ pub(crate) fn number_or(
     most: u32,
     default: u32,
 ) -> Result<u32, ConfigFault>
-    ensures { Gives result (number_or least most default (get key.now (view object.now))) }
+    ensures { Means result (number_if_given least most default (get key.now (view object.now))) }
 {
     match object.get(key) {
         Some(value) => match number_in(value, least, most) {

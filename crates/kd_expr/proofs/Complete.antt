@@ -1,9 +1,9 @@
 -- What the grammar allows, the reader of tokens gives: by recursion on the derivation.
 use Rattle.std.proofs.Common.{◌≡◌, ℕ, zero, suc, ◌≤◌, ◌<◌, ◌^◌, ℤ, true, Option, Some, None, List, [], ◌∷◌, ◌++◌, length, refl, sym, ◌∙◌, subst, append_assoc, length-append, codes, nat_lt, arith, lt-ltb, le-leb}
-use Rattle.kd_expr.specs.Grammar.{Level, or_level, and_level, not_level, compare_level, sum_level, primary_level, IsCode, code_number, code_name, IsSigned, plain, below, IsLength, counted, whole}
+use Rattle.kd_expr.specs.Grammar.{Level, or_level, and_level, not_level, compare_level, sum_level, primary_level, IsOptionCode, code_number, code_name, IsSigned, plain, below, IsLength, counted, whole}
 use Rattle.kd_expr.specs.Lexical.{Lexeme, StringAt, SignAt}
 use Rattle.kd_expr.specs.Reading as reading
-use Rattle.kd_expr.specs.Reading.{Reader, Deeper, and_then, seq, either, one, done, sign, word, option_code, relay_code, field_of, signed, length_of, class_name, bracketed, option_at, relay_at, field_at, packet_at, member_at, operand_before, one_operand, group_at, two_operands, ifelse_at, substring_at, form_at, named_at, primary_at, sum_of, and_of, or_of, sum_at, compare_at, not_at, and_at, or_at, joined, chain}
+use Rattle.kd_expr.specs.Reading.{Reader, Deeper, and_then, seq, either, one, done, sign_here, word_here, code_of_option, code_of_relay, field_of, signed, length_of_part, class_name, bracketed, option_at, relay_at, field_after, packet_at, member_at, operand_then, operand_in_brackets, group_at, operands_in_brackets, ifelse_at, substring_after, form_at, named_at, primary_at, sum_of, and_of, or_of, sum_at, compare_at, not_at, and_at, or_at, operands_joined, chain}
 use Rattle.kd_expr.specs.Tree.{Tree, Member, Group, IfElse, Substring}
 
 -- the reader answers with this, and leaves the rest
@@ -18,10 +18,10 @@ Refuses {A} o = ◌≡◌ {A = Option (A × List Lexeme)} o None
 pub record InHand (r : Reader Tree) (next : Reader ℕ) (operand : Reader Tree) (join : Tree → Tree → Tree) (ts rest : List Lexeme) (t : Tree) : Type 0 where
   pub count : ℕ
   pub enough : length rest ≤ count
-  pub is : r ts ≡ joined next operand join count t rest
+  pub is : r ts ≡ operands_joined next operand join count t rest
 
-joined_ends : (next : Reader ℕ) (operand : Reader Tree) (join : Tree → Tree → Tree) (k : ℕ) (t : Tree) (rest : List Lexeme) → Refuses (next rest) → Answers (joined next operand join k t rest) t rest
-unfolding joined
+joined_ends : (next : Reader ℕ) (operand : Reader Tree) (join : Tree → Tree → Tree) (k : ℕ) (t : Tree) (rest : List Lexeme) → Refuses (next rest) → Answers (operands_joined next operand join k t rest) t rest
+unfolding operands_joined
 joined_ends next operand join zero t rest e = refl
 joined_ends next operand join (suc k) t rest e = rw e refl
 
@@ -32,11 +32,11 @@ pub chain_one : (next : Reader ℕ) (operand : Reader Tree) (join : Tree → Tre
 unfolding chain
 chain_one next operand join ts rest t e = record { count = length rest; enough = omega arith; is = rw e refl }
 
-joined_more : (next : Reader ℕ) (operand : Reader Tree) (join : Tree → Tree → Tree) (k : ℕ) (a b : Tree) (x : Lexeme) (o : ℕ) (ws rest : List Lexeme) → Answers (next (x ∷ ws)) o ws → Answers (operand ws) b rest → joined next operand join (suc k) a (x ∷ ws) ≡ joined next operand join k (join a b) rest
-unfolding joined
+joined_more : (next : Reader ℕ) (operand : Reader Tree) (join : Tree → Tree → Tree) (k : ℕ) (a b : Tree) (x : Lexeme) (o : ℕ) (ws rest : List Lexeme) → Answers (next (x ∷ ws)) o ws → Answers (operand ws) b rest → operands_joined next operand join (suc k) a (x ∷ ws) ≡ operands_joined next operand join k (join a b) rest
+unfolding operands_joined
 joined_more next operand join k a b x o ws rest e f = rw (e, f) refl
 
-chain_more_at : (r : Reader Tree) (next : Reader ℕ) (operand : Reader Tree) (join : Tree → Tree → Tree) (ts : List Lexeme) (k : ℕ) (a b : Tree) (x : Lexeme) (o : ℕ) (ws rest : List Lexeme) → suc (length ws) ≤ k → r ts ≡ joined next operand join k a (x ∷ ws) → Answers (next (x ∷ ws)) o ws → Answers (operand ws) b rest → length rest ≤ length ws → InHand r next operand join ts rest (join a b)
+chain_more_at : (r : Reader Tree) (next : Reader ℕ) (operand : Reader Tree) (join : Tree → Tree → Tree) (ts : List Lexeme) (k : ℕ) (a b : Tree) (x : Lexeme) (o : ℕ) (ws rest : List Lexeme) → suc (length ws) ≤ k → r ts ≡ operands_joined next operand join k a (x ∷ ws) → Answers (next (x ∷ ws)) o ws → Answers (operand ws) b rest → length rest ≤ length ws → InHand r next operand join ts rest (join a b)
 chain_more_at r next operand join ts zero a b x o ws rest enough is e f fits = absurd (omega arith)
 chain_more_at r next operand join ts (suc k) a b x o ws rest enough is e f fits = record {
   count = k;
@@ -50,27 +50,27 @@ chain_more {r} {next} {operand} {join} {ts} {a} {b} x o vs rest h e f =
 
 -- no further operand of a sum or comparison follows
 pub record StopsCompare (rest : List Lexeme) : Type 0 where
-  pub no_plus : Refuses (sign 43 rest)
-  pub no_equal : Refuses (sign 61 rest)
+  pub no_plus : Refuses (sign_here 43 rest)
+  pub no_equal : Refuses (sign_here 61 rest)
 
 -- nothing of an expression follows
 pub record Stops (rest : List Lexeme) : Type 0 where
   pub compare : StopsCompare rest
-  pub no_and : Refuses (word (codes "and") rest)
-  pub no_or : Refuses (word (codes "or") rest)
+  pub no_and : Refuses (word_here (codes "and") rest)
+  pub no_or : Refuses (word_here (codes "or") rest)
 
 -- a whole expression's loop stands behind it, where nothing of an operand follows
 pub record ReadsAny (n : ℕ) (us : List Lexeme) (t : Tree) : Type 0 where
-  pub reads : (rest : List Lexeme) → StopsCompare rest → Refuses (word (codes "and") rest) → InHand (or_at (reading.below n)) (word (codes "or")) (and_at (reading.below n)) or_of (us ++ rest) rest t
+  pub reads : (rest : List Lexeme) → StopsCompare rest → Refuses (word_here (codes "and") rest) → InHand (or_at (reading.below n)) (word_here (codes "or")) (and_at (reading.below n)) or_of (us ++ rest) rest t
 
 -- what each level of the grammar comes to
 abbrev pub Complete : Level → ℕ → List Lexeme → Tree → Type 0
 Complete or_level n us t = ReadsAny n us t
-Complete and_level n us t = (rest : List Lexeme) → StopsCompare rest → InHand (and_at (reading.below n)) (word (codes "and")) (not_at (reading.below n)) and_of (us ++ rest) rest t
+Complete and_level n us t = (rest : List Lexeme) → StopsCompare rest → InHand (and_at (reading.below n)) (word_here (codes "and")) (not_at (reading.below n)) and_of (us ++ rest) rest t
 Complete not_level n us t = (rest : List Lexeme) → StopsCompare rest → Answers (not_at (reading.below n) (us ++ rest)) t rest
-Complete compare_level n us t = (rest : List Lexeme) → StopsCompare rest → Answers (compare_at (reading.below n) (us ++ rest)) t rest × Refuses (word (codes "not") (us ++ rest))
-Complete sum_level n us t = (rest : List Lexeme) → InHand (sum_at (reading.below n)) (sign 43) (primary_at (reading.below n)) sum_of (us ++ rest) rest t × Refuses (word (codes "not") (us ++ rest))
-Complete primary_level n us t = (rest : List Lexeme) → Answers (primary_at (reading.below n) (us ++ rest)) t rest × Refuses (word (codes "not") (us ++ rest))
+Complete compare_level n us t = (rest : List Lexeme) → StopsCompare rest → Answers (compare_at (reading.below n) (us ++ rest)) t rest × Refuses (word_here (codes "not") (us ++ rest))
+Complete sum_level n us t = (rest : List Lexeme) → InHand (sum_at (reading.below n)) (sign_here 43) (primary_at (reading.below n)) sum_of (us ++ rest) rest t × Refuses (word_here (codes "not") (us ++ rest))
+Complete primary_level n us t = (rest : List Lexeme) → Answers (primary_at (reading.below n) (us ++ rest)) t rest × Refuses (word_here (codes "not") (us ++ rest))
 
 -- a whole expression is read where nothing of it follows
 pub any_complete : {n : ℕ} {us : List Lexeme} {t : Tree} → ReadsAny n us t → (rest : List Lexeme) → Stops rest → Answers (or_at (reading.below n) (us ++ rest)) t rest
@@ -84,19 +84,19 @@ to_comma : {n : ℕ} {us : List Lexeme} {t : Tree} → ReadsAny n us t → (c : 
 to_comma {n} {us} {t} h c vs rest = subst (λ v. Answers (or_at (reading.below n) v) t (SignAt c 44 ∷ (vs ++ rest))) (sym (append_assoc us (SignAt c 44 ∷ vs) rest)) (any_complete h (SignAt c 44 ∷ (vs ++ rest)) (record { compare = record { no_plus = refl; no_equal = refl }; no_and = refl; no_or = refl }))
 
 pub group_reads : {n : ℕ} (at c : ℕ) {us : List Lexeme} {t : Tree} → ReadsAny n us t → (rest : List Lexeme) → Answers (primary_at (reading.below (suc n)) (SignAt at 40 ∷ ((us ++ SignAt c 41 ∷ []) ++ rest))) (Group at t) rest
-unfolding primary_at group_at operand_before reading.below
+unfolding primary_at group_at operand_then reading.below
 group_reads at c h rest = rw (to_close h c [] rest) refl
 
-pub one_reads : {n : ℕ} (o c : ℕ) {us : List Lexeme} {t : Tree} → ReadsAny n us t → (rest : List Lexeme) → Answers (one_operand (reading.below (suc n)) (SignAt o 40 ∷ ((us ++ SignAt c 41 ∷ []) ++ rest))) t rest
-unfolding one_operand operand_before reading.below
+pub one_reads : {n : ℕ} (o c : ℕ) {us : List Lexeme} {t : Tree} → ReadsAny n us t → (rest : List Lexeme) → Answers (operand_in_brackets (reading.below (suc n)) (SignAt o 40 ∷ ((us ++ SignAt c 41 ∷ []) ++ rest))) t rest
+unfolding operand_in_brackets operand_then reading.below
 one_reads o c h rest = rw (to_close h c [] rest) refl
 
-pub two_read : {n : ℕ} (o c d : ℕ) {us vs : List Lexeme} {a b : Tree} → ReadsAny n us a → ReadsAny n vs b → (rest : List Lexeme) → Answers (two_operands (reading.below (suc n)) (SignAt o 40 ∷ ((us ++ SignAt c 44 ∷ (vs ++ SignAt d 41 ∷ [])) ++ rest))) (a, b) rest
-unfolding two_operands operand_before reading.below
+pub two_read : {n : ℕ} (o c d : ℕ) {us vs : List Lexeme} {a b : Tree} → ReadsAny n us a → ReadsAny n vs b → (rest : List Lexeme) → Answers (operands_in_brackets (reading.below (suc n)) (SignAt o 40 ∷ ((us ++ SignAt c 44 ∷ (vs ++ SignAt d 41 ∷ [])) ++ rest))) (a, b) rest
+unfolding operands_in_brackets operand_then reading.below
 two_read o c d {us} {vs} h g rest = rw (to_comma h c (vs ++ SignAt d 41 ∷ []) rest, to_close g d [] rest) refl
 
 pub ifelse_reads : {n : ℕ} (at o c d e : ℕ) {us vs ws : List Lexeme} {t a b : Tree} → ReadsAny n us t → ReadsAny n vs a → ReadsAny n ws b → (rest : List Lexeme) → Answers (ifelse_at (reading.below (suc n)) at (SignAt o 40 ∷ ((us ++ SignAt c 44 ∷ (vs ++ SignAt d 44 ∷ (ws ++ SignAt e 41 ∷ []))) ++ rest))) (IfElse at t a b) rest
-unfolding ifelse_at operand_before reading.below
+unfolding ifelse_at operand_then reading.below
 ifelse_reads at o c d e {us} {vs} {ws} h g f rest = rw (to_comma h c (vs ++ SignAt d 44 ∷ (ws ++ SignAt e 41 ∷ [])) rest, to_comma g d (ws ++ SignAt e 41 ∷ []) rest, to_close f e [] rest) refl
 
 pub less_true : (a b : ℕ) → a < b → nat_lt a b ≡ true
@@ -106,17 +106,17 @@ signed_reads : {x : Lexeme} {n : ℤ} → IsSigned x n → signed x ≡ Some n
 signed_reads (plain {n = k} h) = rw (less_true k (2 ^ 31) h) refl
 signed_reads (below {n = k} h) = rw (le-leb k (2 ^ 31) h) refl
 
-length_reads : {x : Lexeme} {n : Option ℤ} → IsLength x n → length_of x ≡ Some n
+length_reads : {x : Lexeme} {n : Option ℤ} → IsLength x n → length_of_part x ≡ Some n
 length_reads (counted (plain {n = k} h)) = rw (less_true k (2 ^ 31) h) refl
 length_reads (counted (below {n = k} h)) = rw (le-leb k (2 ^ 31) h) refl
 length_reads whole = refl
 
-pub code_reads : {x : Lexeme} {c : ℕ} → IsCode x c → option_code x ≡ Some c
+pub code_reads : {x : Lexeme} {c : ℕ} → IsOptionCode x c → code_of_option x ≡ Some c
 code_reads (code_number {code = c} h) = rw (less_true c 256 h) refl
 code_reads (code_name e) = e
 
-pub substring_reads : {n : ℕ} (at o c d e : ℕ) {us : List Lexeme} {x y : Lexeme} {a : Tree} {start : ℤ} {len : Option ℤ} → ReadsAny n us a → IsSigned x start → IsLength y len → (rest : List Lexeme) → Answers (substring_at (reading.below (suc n)) at (SignAt o 40 ∷ ((us ++ SignAt c 44 ∷ x ∷ SignAt d 44 ∷ y ∷ SignAt e 41 ∷ []) ++ rest))) (Substring at a start len) rest
-unfolding substring_at operand_before reading.below
+pub substring_reads : {n : ℕ} (at o c d e : ℕ) {us : List Lexeme} {x y : Lexeme} {a : Tree} {start : ℤ} {len : Option ℤ} → ReadsAny n us a → IsSigned x start → IsLength y len → (rest : List Lexeme) → Answers (substring_after (reading.below (suc n)) at (SignAt o 40 ∷ ((us ++ SignAt c 44 ∷ x ∷ SignAt d 44 ∷ y ∷ SignAt e 41 ∷ []) ++ rest))) (Substring at a start len) rest
+unfolding substring_after operand_then reading.below
 substring_reads at o c d e {us} {x} {y} h i j rest =
     rw (to_comma h c (x ∷ SignAt d 44 ∷ y ∷ SignAt e 41 ∷ []) rest, signed_reads i, length_reads j) refl
 

@@ -2,11 +2,11 @@
 use Rattle.std.proofs.Common.{◌≡◌, ℕ, ◌≤◌, ◌<◌, ◌^◌, List, ◌∷◌, length, arith, length-append, ap}
 use Rattle.kd_expr.specs.Grammar.{Spells, Level, or_one, or_more, and_one, and_more, not_none, negated, compare_one, equal, sum_one, sum_more, string, hexadecimal, address, number, group, option_hex, option_exists, relay_hex, relay_exists, field, packet_length, member, substring, concat, ifelse, hexstring, lcase, ucase, uint32totext, HasText}
 use Rattle.kd_expr.specs.Lexical.{Lexeme, Scans, finished, blank, token}
-use Rattle.kd_expr.specs.Size.{nodes}
+use Rattle.kd_expr.specs.Size.{node_count}
 use Rattle.kd_expr.specs.Tree.{Tree}
 use Rattle.kd_expr.proofs.Words.{word_starts}
 
-nodes_le : {l : Level} {n : ℕ} {us : List Lexeme} {t : Tree} → Spells l n us t → nodes t ≤ length us
+nodes_le : {l : Level} {n : ℕ} {us : List Lexeme} {t : Tree} → Spells l n us t → node_count t ≤ length us
 nodes_le (or_one s) = nodes_le s
 nodes_le (or_more o s r) = omega (arith, length-append {A = Lexeme}, nodes_le s, nodes_le r)
 nodes_le (and_one s) = nodes_le s
@@ -45,5 +45,5 @@ tokens_le (token word rest w s) =
     let size : length word ≡ length (f.first ∷ f.others) = ap (λ v. length v) f.is in
     omega (arith, tokens_le s, size, length-append word rest)
 
-pub nodes_of_text : (t : Tree) → HasText t → nodes t < 2 ^ 32
+pub nodes_of_text : (t : Tree) → HasText t → node_count t < 2 ^ 32
 nodes_of_text t h = omega (arith, nodes_le h.parses.spelled, tokens_le h.parses.scanned, h.parses.short)

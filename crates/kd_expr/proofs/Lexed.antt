@@ -1,8 +1,8 @@
 -- A word that is cut off the front of bytes is one of the definition, and each word is cut off so.
 use Rattle.std.proofs.Common.{◌≡◌, ℕ, ◌≤◌, Bool, true, false, ◌&&◌, ◌==◌, nat_le, List, [], ◌∷◌, ◌++◌, length, refl, sym, ◌∙◌, ap, subst, append_assoc, arith, if◌then◌else◌, Option, Some, None, eqb-true, leb-true}
-use Rattle.kd_expr.specs.Address.{is_digit, Each, decimal}
-use Rattle.kd_expr.specs.Lexical.{Lexeme, StringAt, HexAt, AddressAt, NumberAt, MinusAt, NameAt, SignAt, is_letter, is_hex_digit, is_sign, is_x, in_string, in_run, in_name, Ends, Word, string_word, hex_word, address_word, number_word, minus_word, name_word, sign_word, equal_word}
-use Rattle.kd_expr.specs.Lexing.{front_of, behind_of, all_pass, hex_digits, address_of, run_token, run_cut, closed, string_cut, minus_token, minus_cut, name_cut, equal_cut, cut}
+use Rattle.kd_expr.specs.Address.{a_digit, Each, decimal}
+use Rattle.kd_expr.specs.Lexical.{Lexeme, StringAt, HexAt, AddressAt, NumberAt, MinusAt, NameAt, SignAt, a_letter, is_hex_digit, a_sign, is_x, in_string, in_run, in_name, WordEnds, Word, string_word, hex_word, address_word, number_word, minus_word, name_word, sign_word, equal_word}
+use Rattle.kd_expr.specs.Lexing.{front_of, behind_of, all_pass, digits_after_0x, address_read, token_of_run, run_cut, closed, string_cut, minus_token, minus_cut, name_cut, equal_cut, cut}
 use Rattle.kd_expr.specs.Reading.{and_then, or_else}
 use Rattle.kd_expr.proofs.Addresses.{came_from, address_sound}
 use Rattle.kd_expr.proofs.Options.{some_is, none_is, some_pair, if_some}
@@ -34,7 +34,7 @@ unfolding string_cut
 string_sound at bytes x rest e =
     subst (λ v. IsCut at (39 ∷ v) x rest) (sym (front_behind in_string bytes)) (closed_sound at (front_of in_string bytes) (behind_of in_string bytes) x rest (each_front in_string bytes) e)
 
-pub digit_in_run : (b : ℕ) → is_digit b ≡ true → in_run b ≡ true
+pub digit_in_run : (b : ℕ) → a_digit b ≡ true → in_run b ≡ true
 digit_in_run b h = rw h refl
 
 -- the digits behind a prefix
@@ -45,8 +45,8 @@ record IsHex (run digits : List ℕ) : Type 0 where
   some : 1 ≤ length digits
   each : Each is_hex_digit digits
 
-hex_sound : (run digits : List ℕ) → hex_digits run ≡ Some digits → IsHex run digits
-unfolding hex_digits
+hex_sound : (run digits : List ℕ) → digits_after_0x run ≡ Some digits → IsHex run digits
+unfolding digits_after_0x
 hex_sound [] digits e = none_is e
 hex_sound (z ∷ []) digits e = none_is e
 hex_sound (z ∷ x ∷ ds) digits e =
@@ -62,50 +62,50 @@ hex_sound (z ∷ x ∷ ds) digits e =
       each = all_pass_is is_hex_digit ds back.1;
     })
 
-hex_made : (at x : ℕ) (digits rest : List ℕ) → is_x x ≡ true → 1 ≤ length digits → Each is_hex_digit digits → Ends in_run rest → Word at (48 ∷ x ∷ digits) rest (HexAt at digits)
+hex_made : (at x : ℕ) (digits rest : List ℕ) → is_x x ≡ true → 1 ≤ length digits → Each is_hex_digit digits → WordEnds in_run rest → Word at (48 ∷ x ∷ digits) rest (HexAt at digits)
 hex_made at x [] rest p some each e = absurd (omega (arith, some))
 hex_made at x (d ∷ ds) rest p some each e = hex_word p each e
 
 -- the token of a run that is no number
-other_sound : (at : ℕ) (run rest : List ℕ) (x : Lexeme) → Ends in_run rest → or_else (hex_digits run) (λ digits. Some (HexAt at digits)) (and_then (address_of run) (λ a. Some (AddressAt at a))) ≡ Some x → Word at run rest x
+other_sound : (at : ℕ) (run rest : List ℕ) (x : Lexeme) → WordEnds in_run rest → or_else (digits_after_0x run) (λ digits. Some (HexAt at digits)) (and_then (address_read run) (λ a. Some (AddressAt at a))) ≡ Some x → Word at run rest x
 other_sound at run rest x h e =
-    let there : (o : Option (List ℕ)) → hex_digits run ≡ o → or_else o (λ digits. Some (HexAt at digits)) (and_then (address_of run) (λ a. Some (AddressAt at a))) ≡ Some x → Word at run rest x
-    = λ o. elim o as (λ o. hex_digits run ≡ o → or_else o (λ digits. Some (HexAt at digits)) (and_then (address_of run) (λ a. Some (AddressAt at a))) ≡ Some x → Word at run rest x) [
+    let there : (o : Option (List ℕ)) → digits_after_0x run ≡ o → or_else o (λ digits. Some (HexAt at digits)) (and_then (address_read run) (λ a. Some (AddressAt at a))) ≡ Some x → Word at run rest x
+    = λ o. elim o as (λ o. digits_after_0x run ≡ o → or_else o (λ digits. Some (HexAt at digits)) (and_then (address_read run) (λ a. Some (AddressAt at a))) ≡ Some x → Word at run rest x) [
       | None ↦ λ _ k.
-          let c = came_from (address_of run) (λ a. Some (AddressAt at a)) x k in
+          let c = came_from (address_read run) (λ a. Some (AddressAt at a)) x k in
           subst (λ v. Word at run rest v) (some_is c.gives) (address_word (address_sound run c.first c.is) h)
       | Some digits ↦ λ is k.
           let hex = hex_sound run digits is in
           subst (λ v. Word at run rest v) (some_is k) (subst (λ v. Word at v rest (HexAt at digits)) (sym hex.is) (hex_made at hex.x digits rest hex.is_prefix hex.some hex.each h))
     ] in
-    there (hex_digits run) refl e
+    there (digits_after_0x run) refl e
 
-run_token_sound : (at d : ℕ) (ds rest : List ℕ) (x : Lexeme) → Ends in_run rest → run_token at (d ∷ ds) ≡ Some x → Word at (d ∷ ds) rest x
-unfolding run_token
+run_token_sound : (at d : ℕ) (ds rest : List ℕ) (x : Lexeme) → WordEnds in_run rest → token_of_run at (d ∷ ds) ≡ Some x → Word at (d ∷ ds) rest x
+unfolding token_of_run
 run_token_sound at d ds rest x h e =
-    let there : (k : Bool) → all_pass is_digit (d ∷ ds) ≡ k → (if k then Some (NumberAt at (decimal (d ∷ ds))) else or_else (hex_digits (d ∷ ds)) (λ digits. Some (HexAt at digits)) (and_then (address_of (d ∷ ds)) (λ a. Some (AddressAt at a)))) ≡ Some x → Word at (d ∷ ds) rest x
-    = λ k. elim k as (λ k. all_pass is_digit (d ∷ ds) ≡ k → (if k then Some (NumberAt at (decimal (d ∷ ds))) else or_else (hex_digits (d ∷ ds)) (λ digits. Some (HexAt at digits)) (and_then (address_of (d ∷ ds)) (λ a. Some (AddressAt at a)))) ≡ Some x → Word at (d ∷ ds) rest x) [
-      | true ↦ λ is k. subst (λ v. Word at (d ∷ ds) rest v) (some_is k) (number_word (all_pass_is is_digit (d ∷ ds) is) h)
+    let there : (k : Bool) → all_pass a_digit (d ∷ ds) ≡ k → (if k then Some (NumberAt at (decimal (d ∷ ds))) else or_else (digits_after_0x (d ∷ ds)) (λ digits. Some (HexAt at digits)) (and_then (address_read (d ∷ ds)) (λ a. Some (AddressAt at a)))) ≡ Some x → Word at (d ∷ ds) rest x
+    = λ k. elim k as (λ k. all_pass a_digit (d ∷ ds) ≡ k → (if k then Some (NumberAt at (decimal (d ∷ ds))) else or_else (digits_after_0x (d ∷ ds)) (λ digits. Some (HexAt at digits)) (and_then (address_read (d ∷ ds)) (λ a. Some (AddressAt at a)))) ≡ Some x → Word at (d ∷ ds) rest x) [
+      | true ↦ λ is k. subst (λ v. Word at (d ∷ ds) rest v) (some_is k) (number_word (all_pass_is a_digit (d ∷ ds) is) h)
       | false ↦ λ _ k. other_sound at (d ∷ ds) rest x h k
     ] in
-    there (all_pass is_digit (d ∷ ds)) refl e
+    there (all_pass a_digit (d ∷ ds)) refl e
 
 -- a run at the front of bytes that begin with a digit
-run_sound : (at b : ℕ) (bytes : List ℕ) (x : Lexeme) (rest : List ℕ) → is_digit b ≡ true → Cuts (run_cut at (b ∷ bytes)) x rest → IsCut at (b ∷ bytes) x rest
+run_sound : (at b : ℕ) (bytes : List ℕ) (x : Lexeme) (rest : List ℕ) → a_digit b ≡ true → Cuts (run_cut at (b ∷ bytes)) x rest → IsCut at (b ∷ bytes) x rest
 unfolding run_cut
 run_sound at b bytes x rest digit e =
-    let c = came_from (run_token at (front_of in_run (b ∷ bytes))) _ (x, rest) e in
+    let c = came_from (token_of_run at (front_of in_run (b ∷ bytes))) _ (x, rest) e in
     let both = some_pair c.gives in
     let front_is : front_of in_run (b ∷ bytes) ≡ b ∷ front_of in_run bytes = rw (digit_in_run b digit) refl in
-    let token_is : run_token at (b ∷ front_of in_run bytes) ≡ Some x = ap (λ v. run_token at v) (sym front_is) ∙ c.is ∙ ap (λ v. Some v) both.0 in
+    let token_is : token_of_run at (b ∷ front_of in_run bytes) ≡ Some x = ap (λ v. token_of_run at v) (sym front_is) ∙ c.is ∙ ap (λ v. Some v) both.0 in
     record {
       word = front_of in_run (b ∷ bytes);
       is = front_behind in_run (b ∷ bytes) ∙ ap (λ v. front_of in_run (b ∷ bytes) ++ v) both.1;
       spelled = subst (λ v. Word at v rest x) (sym front_is)
-          (run_token_sound at b (front_of in_run bytes) rest x (subst (λ v. Ends in_run v) both.1 (ends_behind in_run (b ∷ bytes))) token_is);
+          (run_token_sound at b (front_of in_run bytes) rest x (subst (λ v. WordEnds in_run v) both.1 (ends_behind in_run (b ∷ bytes))) token_is);
     }
 
-minus_made : (at : ℕ) (run rest : List ℕ) → 1 ≤ length run → Each is_digit run → Ends in_run rest → Word at (45 ∷ run) rest (MinusAt at (decimal run))
+minus_made : (at : ℕ) (run rest : List ℕ) → 1 ≤ length run → Each a_digit run → WordEnds in_run rest → Word at (45 ∷ run) rest (MinusAt at (decimal run))
 minus_made at [] rest some each e = absurd (omega (arith, some))
 minus_made at (d ∷ ds) rest some each e = minus_word each e
 
@@ -114,19 +114,19 @@ unfolding minus_cut
 minus_sound at bytes x rest e =
     let c = came_from (minus_token at (front_of in_run bytes)) _ (x, rest) e in
     let both = some_pair c.gives in
-    let token = if_some (nat_le 1 (length (front_of in_run bytes)) && all_pass is_digit (front_of in_run bytes)) c.is in
-    let tests = both_of_two (nat_le 1 (length (front_of in_run bytes))) (all_pass is_digit (front_of in_run bytes)) token.0 in
+    let token = if_some (nat_le 1 (length (front_of in_run bytes)) && all_pass a_digit (front_of in_run bytes)) c.is in
+    let tests = both_of_two (nat_le 1 (length (front_of in_run bytes))) (all_pass a_digit (front_of in_run bytes)) token.0 in
     record {
       word = 45 ∷ front_of in_run bytes;
       is = ap (λ v. 45 ∷ v) (front_behind in_run bytes ∙ ap (λ v. front_of in_run bytes ++ v) both.1);
       spelled = subst (λ v. Word at (45 ∷ front_of in_run bytes) rest v) (token.1 ∙ both.0)
-          (minus_made at (front_of in_run bytes) rest (leb-true 1 (length (front_of in_run bytes)) tests.0) (all_pass_is is_digit (front_of in_run bytes) tests.1) (subst (λ v. Ends in_run v) both.1 (ends_behind in_run bytes)));
+          (minus_made at (front_of in_run bytes) rest (leb-true 1 (length (front_of in_run bytes)) tests.0) (all_pass_is a_digit (front_of in_run bytes) tests.1) (subst (λ v. WordEnds in_run v) both.1 (ends_behind in_run bytes)));
     }
 
-pub letter_in_name : (b : ℕ) → is_letter b ≡ true → in_name b ≡ true
+pub letter_in_name : (b : ℕ) → a_letter b ≡ true → in_name b ≡ true
 letter_in_name b h = rw h refl
 
-name_sound : (at b : ℕ) (bytes : List ℕ) (x : Lexeme) (rest : List ℕ) → is_letter b ≡ true → Cuts (name_cut at (b ∷ bytes)) x rest → IsCut at (b ∷ bytes) x rest
+name_sound : (at b : ℕ) (bytes : List ℕ) (x : Lexeme) (rest : List ℕ) → a_letter b ≡ true → Cuts (name_cut at (b ∷ bytes)) x rest → IsCut at (b ∷ bytes) x rest
 unfolding name_cut
 name_sound at b bytes x rest letter e =
     let both = some_pair e in
@@ -136,7 +136,7 @@ name_sound at b bytes x rest letter e =
       is = front_behind in_name (b ∷ bytes) ∙ ap (λ v. front_of in_name (b ∷ bytes) ++ v) both.1;
       spelled = subst (λ v. Word at (front_of in_name (b ∷ bytes)) rest v) both.0
           (subst (λ v. Word at v rest (NameAt at v)) (sym front_is)
-          (name_word letter (each_front in_name bytes) (subst (λ v. Ends in_name v) both.1 (ends_behind in_name (b ∷ bytes)))));
+          (name_word letter (each_front in_name bytes) (subst (λ v. WordEnds in_name v) both.1 (ends_behind in_name (b ∷ bytes)))));
     }
 
 equal_sound : (at : ℕ) (bytes : List ℕ) (x : Lexeme) (rest : List ℕ) → Cuts (equal_cut at bytes) x rest → IsCut at (61 ∷ bytes) x rest
@@ -150,9 +150,9 @@ equal_sound at (b ∷ bytes) x rest e =
       spelled = subst (λ v. Word at (61 ∷ 61 ∷ []) rest v) (ap (λ v. v.0) both.1) equal_word;
     }
 
-sign_sound : (at b : ℕ) (bytes : List ℕ) (x : Lexeme) (rest : List ℕ) → Cuts (if is_sign b then Some (SignAt at b, bytes) else None) x rest → IsCut at (b ∷ bytes) x rest
+sign_sound : (at b : ℕ) (bytes : List ℕ) (x : Lexeme) (rest : List ℕ) → Cuts (if a_sign b then Some (SignAt at b, bytes) else None) x rest → IsCut at (b ∷ bytes) x rest
 sign_sound at b bytes x rest e =
-    let both = if_some {A = Lexeme × List ℕ} {a = (SignAt at b, bytes)} {b = (x, rest)} (is_sign b) e in
+    let both = if_some {A = Lexeme × List ℕ} {a = (SignAt at b, bytes)} {b = (x, rest)} (a_sign b) e in
     record {
       word = b ∷ [];
       is = ap (λ v. b ∷ v) (ap (λ v. v.1) both.1);
@@ -174,8 +174,8 @@ unfolding cut
 cut_sound at [] x rest e = none_is {a = (x, rest)} e
 cut_sound at (b ∷ bytes) x rest e =
     by_byte at b 39 bytes x rest _ _ (string_sound at bytes x rest)
-    (by_test at b bytes x rest (is_digit b) _ _ (run_sound at b bytes x rest)
+    (by_test at b bytes x rest (a_digit b) _ _ (run_sound at b bytes x rest)
     (by_byte at b 45 bytes x rest _ _ (minus_sound at bytes x rest)
-    (by_test at b bytes x rest (is_letter b) _ _ (name_sound at b bytes x rest)
+    (by_test at b bytes x rest (a_letter b) _ _ (name_sound at b bytes x rest)
     (by_byte at b 61 bytes x rest _ _ (equal_sound at bytes x rest)
     (sign_sound at b bytes x rest))))) e

@@ -1,10 +1,10 @@
 -- What the grammar allows, the reader of tokens gives: one lemma a production, and all of them.
 use Rattle.std.proofs.Common.{◌≡◌, ℕ, suc, ◌≤◌, ◌<◌, ◌^◌, ℤ, Option, Some, List, [], ◌∷◌, ◌++◌, length, refl, sym, subst, append_assoc, codes}
-use Rattle.kd_expr.specs.Grammar.{Spells, Level, or_one, or_more, and_one, and_more, not_none, negated, compare_one, equal, sum_one, sum_more, string, hexadecimal, address, number, group, option_hex, option_exists, relay_hex, relay_exists, field, packet_length, member, substring, concat, ifelse, hexstring, lcase, ucase, uint32totext, IsCode, IsSigned, IsLength, hex_bytes}
+use Rattle.kd_expr.specs.Grammar.{Spells, Level, or_one, or_more, and_one, and_more, not_none, negated, compare_one, equal, sum_one, sum_more, string, hexadecimal, address, number, group, option_hex, option_exists, relay_hex, relay_exists, field, packet_length, member, substring, concat, ifelse, hexstring, lcase, ucase, uint32totext, IsOptionCode, IsSigned, IsLength, hex_bytes}
 use Rattle.kd_expr.specs.Lexical.{Lexeme, StringAt, HexAt, AddressAt, NumberAt, NameAt, SignAt}
-use Rattle.kd_expr.specs.Names.{field_named}
+use Rattle.kd_expr.specs.Names.{field_by_name}
 use Rattle.kd_expr.specs.Reading as reading
-use Rattle.kd_expr.specs.Reading.{Reader, Deeper, and_then, seq, either, one, done, sign, word, option_code, relay_code, field_of, signed, length_of, class_name, bracketed, option_at, relay_at, field_at, packet_at, member_at, one_operand, group_at, two_operands, ifelse_at, substring_at, form_at, named_at, primary_at, sum_of, and_of, or_of, sum_at, compare_at, not_at, and_at, or_at, joined, chain}
+use Rattle.kd_expr.specs.Reading.{Reader, Deeper, and_then, seq, either, one, done, sign_here, word_here, code_of_option, code_of_relay, field_of, signed, length_of_part, class_name, bracketed, option_at, relay_at, field_after, packet_at, member_at, operand_in_brackets, group_at, operands_in_brackets, ifelse_at, substring_after, form_at, named_at, primary_at, sum_of, and_of, or_of, sum_at, compare_at, not_at, and_at, or_at, operands_joined, chain}
 use Rattle.kd_expr.specs.Tree.{Tree, Literal, Int, OptionValue, RelayValue, FieldValue, OptionExists, RelayExists, Member, Equal, Not, Concat, IfElse, Substring, HexString, Lower, Upper, IntToText, at_of}
 use Rattle.kd_expr.specs.declared.node.Field.{Field}
 use Rattle.kd_expr.specs.declared.node.Field.TheVariants.{Length}
@@ -26,11 +26,11 @@ number_reads : (n at k : ℕ) (rest : List Lexeme) → k < 2 ^ 32 → Answers (p
 unfolding primary_at
 number_reads n at k rest h = rw (less_true k (2 ^ 32) h) refl
 
-option_reads : {x : Lexeme} {code : ℕ} (n at l r d e : ℕ) (rest : List Lexeme) → IsCode x code → Answers (primary_at (reading.below n) (NameAt at (codes "option") ∷ SignAt l 91 ∷ x ∷ SignAt r 93 ∷ SignAt d 46 ∷ NameAt e (codes "hex") ∷ rest)) (OptionValue at code) rest
+option_reads : {x : Lexeme} {code : ℕ} (n at l r d e : ℕ) (rest : List Lexeme) → IsOptionCode x code → Answers (primary_at (reading.below n) (NameAt at (codes "option") ∷ SignAt l 91 ∷ x ∷ SignAt r 93 ∷ SignAt d 46 ∷ NameAt e (codes "hex") ∷ rest)) (OptionValue at code) rest
 unfolding primary_at named_at option_at
 option_reads n at l r d e rest i = rw (code_reads i) refl
 
-option_exists_reads : {x : Lexeme} {code : ℕ} (n at l r d e : ℕ) (rest : List Lexeme) → IsCode x code → Answers (primary_at (reading.below n) (NameAt at (codes "option") ∷ SignAt l 91 ∷ x ∷ SignAt r 93 ∷ SignAt d 46 ∷ NameAt e (codes "exists") ∷ rest)) (OptionExists at code) rest
+option_exists_reads : {x : Lexeme} {code : ℕ} (n at l r d e : ℕ) (rest : List Lexeme) → IsOptionCode x code → Answers (primary_at (reading.below n) (NameAt at (codes "option") ∷ SignAt l 91 ∷ x ∷ SignAt r 93 ∷ SignAt d 46 ∷ NameAt e (codes "exists") ∷ rest)) (OptionExists at code) rest
 unfolding primary_at named_at option_at
 option_exists_reads n at l r d e rest i = rw (code_reads i) refl
 
@@ -42,8 +42,8 @@ relay_exists_reads : (n at l k r d e code : ℕ) (rest : List Lexeme) → code <
 unfolding primary_at named_at relay_at
 relay_exists_reads n at l k r d e code rest h = rw (less_true code 256 h) refl
 
-field_reads : (n at d e : ℕ) (name : List ℕ) (part : Field) (rest : List Lexeme) → field_named name ≡ Some part → Answers (primary_at (reading.below n) (NameAt at (codes "pkt4") ∷ SignAt d 46 ∷ NameAt e name ∷ rest)) (FieldValue at part) rest
-unfolding primary_at named_at field_at
+field_reads : (n at d e : ℕ) (name : List ℕ) (part : Field) (rest : List Lexeme) → field_by_name name ≡ Some part → Answers (primary_at (reading.below n) (NameAt at (codes "pkt4") ∷ SignAt d 46 ∷ NameAt e name ∷ rest)) (FieldValue at part) rest
+unfolding primary_at named_at field_after
 field_reads n at d e name part rest h = rw h refl
 
 packet_reads : (n at d e : ℕ) (rest : List Lexeme) → Answers (primary_at (reading.below n) (NameAt at (codes "pkt") ∷ SignAt d 46 ∷ NameAt e (codes "len") ∷ rest)) (FieldValue at Length) rest
@@ -82,17 +82,17 @@ part_reads : {n : ℕ} (at o c d e : ℕ) {us : List Lexeme} {x y : Lexeme} {a :
 unfolding primary_at named_at form_at
 part_reads at o c d e h i j rest = substring_reads at o c d e h i j rest
 
-sum_first : (n : ℕ) (ts rest : List Lexeme) (t : Tree) → Answers (primary_at (reading.below n) ts) t rest → InHand (sum_at (reading.below n)) (sign 43) (primary_at (reading.below n)) sum_of ts rest t
+sum_first : (n : ℕ) (ts rest : List Lexeme) (t : Tree) → Answers (primary_at (reading.below n) ts) t rest → InHand (sum_at (reading.below n)) (sign_here 43) (primary_at (reading.below n)) sum_of ts rest t
 unfolding sum_at
-sum_first n ts rest t e = chain_one (sign 43) (primary_at (reading.below n)) sum_of ts rest t e
+sum_first n ts rest t e = chain_one (sign_here 43) (primary_at (reading.below n)) sum_of ts rest t e
 
-and_first : (n : ℕ) (ts rest : List Lexeme) (t : Tree) → Answers (not_at (reading.below n) ts) t rest → InHand (and_at (reading.below n)) (word (codes "and")) (not_at (reading.below n)) and_of ts rest t
+and_first : (n : ℕ) (ts rest : List Lexeme) (t : Tree) → Answers (not_at (reading.below n) ts) t rest → InHand (and_at (reading.below n)) (word_here (codes "and")) (not_at (reading.below n)) and_of ts rest t
 unfolding and_at
-and_first n ts rest t e = chain_one (word (codes "and")) (not_at (reading.below n)) and_of ts rest t e
+and_first n ts rest t e = chain_one (word_here (codes "and")) (not_at (reading.below n)) and_of ts rest t e
 
-or_first : (n : ℕ) (ts rest : List Lexeme) (t : Tree) → Answers (and_at (reading.below n) ts) t rest → InHand (or_at (reading.below n)) (word (codes "or")) (and_at (reading.below n)) or_of ts rest t
+or_first : (n : ℕ) (ts rest : List Lexeme) (t : Tree) → Answers (and_at (reading.below n) ts) t rest → InHand (or_at (reading.below n)) (word_here (codes "or")) (and_at (reading.below n)) or_of ts rest t
 unfolding or_at
-or_first n ts rest t e = chain_one (word (codes "or")) (and_at (reading.below n)) or_of ts rest t e
+or_first n ts rest t e = chain_one (word_here (codes "or")) (and_at (reading.below n)) or_of ts rest t e
 
 compare_alone : (n : ℕ) (ts rest : List Lexeme) (t : Tree) → Answers (sum_at (reading.below n) ts) t rest → StopsCompare rest → Answers (compare_at (reading.below n) ts) t rest
 unfolding compare_at
@@ -102,7 +102,7 @@ compare_both : (n o : ℕ) (ts vs rest : List Lexeme) (a b : Tree) → Answers (
 unfolding compare_at
 compare_both n o ts vs rest a b e f = rw (e, f) refl
 
-not_without : (n : ℕ) (ts rest : List Lexeme) (t : Tree) → Answers (compare_at (reading.below n) ts) t rest → Refuses (word (codes "not") ts) → Answers (not_at (reading.below n) ts) t rest
+not_without : (n : ℕ) (ts rest : List Lexeme) (t : Tree) → Answers (compare_at (reading.below n) ts) t rest → Refuses (word_here (codes "not") ts) → Answers (not_at (reading.below n) ts) t rest
 unfolding not_at
 not_without n ts rest t e f = rw (f, e) refl
 
@@ -121,12 +121,12 @@ complete (or_one {n = n} {ts = ts} {t = t} s) = record {
 }
 complete (or_more {n = n} o {us = us} {vs = vs} {a = a} {b = b} s r) = record {
   reads = λ rest stops no_and.
-      subst (λ v. InHand (or_at (reading.below n)) (word (codes "or")) (and_at (reading.below n)) or_of v rest (or_of a b)) (sym (append_assoc us (NameAt o (codes "or") ∷ vs) rest))
+      subst (λ v. InHand (or_at (reading.below n)) (word_here (codes "or")) (and_at (reading.below n)) or_of v rest (or_of a b)) (sym (append_assoc us (NameAt o (codes "or") ∷ vs) rest))
       (chain_more (NameAt o (codes "or")) o vs rest ((complete s).reads (NameAt o (codes "or") ∷ (vs ++ rest)) (record { no_plus = refl; no_equal = refl }) refl) refl (hand_ends (complete r rest stops) no_and));
 }
 complete (and_one {n = n} {ts = ts} {t = t} s) = λ rest stops. and_first n (ts ++ rest) rest t (complete s rest stops)
 complete (and_more {n = n} o {us = us} {vs = vs} {a = a} {b = b} s r) = λ rest stops.
-    subst (λ v. InHand (and_at (reading.below n)) (word (codes "and")) (not_at (reading.below n)) and_of v rest (and_of a b)) (sym (append_assoc us (NameAt o (codes "and") ∷ vs) rest))
+    subst (λ v. InHand (and_at (reading.below n)) (word_here (codes "and")) (not_at (reading.below n)) and_of v rest (and_of a b)) (sym (append_assoc us (NameAt o (codes "and") ∷ vs) rest))
     (chain_more (NameAt o (codes "and")) o vs rest (complete s (NameAt o (codes "and") ∷ (vs ++ rest)) (record { no_plus = refl; no_equal = refl })) refl (complete r rest stops))
 complete (not_none {n = n} {ts = ts} {t = t} s) = λ rest stops. let c = complete s rest stops in not_without n (ts ++ rest) rest t c.0 c.1
 complete (negated {n = n} {at = at} {ts = ts} {t = t} s) = λ rest stops. negation_below n at (ts ++ rest) rest t (complete s rest stops)
@@ -135,14 +135,14 @@ complete (equal {n = n} o {us = us} {vs = vs} {a = a} {b = b} s r) = λ rest sto
     let c = complete s (SignAt o 61 ∷ (vs ++ rest)) in
     let d = complete r rest in (
       subst (λ v. Answers (compare_at (reading.below n) v) (Equal (at_of a) a b) rest) (sym (append_assoc us (SignAt o 61 ∷ vs) rest)) (compare_both n o (us ++ SignAt o 61 ∷ (vs ++ rest)) (vs ++ rest) rest a b (hand_ends c.0 refl) (hand_ends d.0 stops.no_plus)),
-      subst (λ v. Refuses (word (codes "not") v)) (sym (append_assoc us (SignAt o 61 ∷ vs) rest)) c.1,
+      subst (λ v. Refuses (word_here (codes "not") v)) (sym (append_assoc us (SignAt o 61 ∷ vs) rest)) c.1,
     )
 complete (sum_one {n = n} {ts = ts} {t = t} s) = λ rest. let c = complete s rest in (sum_first n (ts ++ rest) rest t c.0, c.1)
 complete (sum_more {n = n} o {us = us} {vs = vs} {a = a} {b = b} s r) = λ rest.
     let c = complete s (SignAt o 43 ∷ (vs ++ rest)) in (
-      subst (λ v. InHand (sum_at (reading.below n)) (sign 43) (primary_at (reading.below n)) sum_of v rest (sum_of a b)) (sym (append_assoc us (SignAt o 43 ∷ vs) rest))
+      subst (λ v. InHand (sum_at (reading.below n)) (sign_here 43) (primary_at (reading.below n)) sum_of v rest (sum_of a b)) (sym (append_assoc us (SignAt o 43 ∷ vs) rest))
           (chain_more (SignAt o 43) o vs rest c.0 refl (complete r rest).0),
-      subst (λ v. Refuses (word (codes "not") v)) (sym (append_assoc us (SignAt o 43 ∷ vs) rest)) c.1,
+      subst (λ v. Refuses (word_here (codes "not") v)) (sym (append_assoc us (SignAt o 43 ∷ vs) rest)) c.1,
     )
 complete (string {n = n} {at = at} {s = s}) = λ rest. (literal_reads n at s rest, refl)
 complete (hexadecimal {n = n} {at = at} {digits = s}) = λ rest. (hex_reads n at s rest, refl)

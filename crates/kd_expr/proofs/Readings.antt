@@ -2,7 +2,7 @@
 use Rattle.std.proofs.Common.{◌≡◌, ℕ, zero, suc, ◌≤◌, ◌^◌, ℤ, Bool, true, false, Option, Some, None, List, [], ◌∷◌, ◌++◌, length, refl, sym, ap, subst, append-nil, codes, bytes_eq, if◌then◌else◌, nat_lt, ltb-true}
 use Rattle.kd_expr.specs.Grammar.{Spells, Level, or_level, and_level, not_level, compare_level, sum_level, primary_level, or_one, or_more, and_one, and_more, not_none, negated, compare_one, equal, sum_one, sum_more, string, hexadecimal, address, number, group, option_hex, option_exists, relay_hex, relay_exists, field, packet_length, member, substring, concat, ifelse, hexstring, lcase, ucase, uint32totext, IsSigned, IsLength}
 use Rattle.kd_expr.specs.Lexical.{Lexeme, StringAt, HexAt, AddressAt, NumberAt, MinusAt, NameAt, SignAt, BadAt}
-use Rattle.kd_expr.specs.Reading.{Reader, Deeper, and_then, seq, one, done, sign, word, sign_at, word_at, option_code, relay_code, suffix, field_of, signed, length_of, class_name, bracketed, option_at, relay_at, field_at, packet_at, member_at, operand_before, one_operand, group_at, two_operands, ifelse_at, substring_at, form_at, named_at, primary_at, sum_of, and_of, or_of, sum_at, compare_at, not_at, and_at, or_at, below}
+use Rattle.kd_expr.specs.Reading.{Reader, Deeper, and_then, seq, one, done, sign_here, word_here, sign_at, word_at, code_of_option, code_of_relay, suffix_of, field_of, signed, length_of_part, class_name, bracketed, option_at, relay_at, field_after, packet_at, member_at, operand_then, operand_in_brackets, group_at, operands_in_brackets, ifelse_at, substring_after, form_at, named_at, primary_at, sum_of, and_of, or_of, sum_at, compare_at, not_at, and_at, or_at, below}
 use Rattle.kd_expr.specs.Tree.{Tree, Int, OptionValue, RelayValue, FieldValue, OptionExists, RelayExists, Member, Equal, Not, Group, Concat, IfElse, Substring, HexString, Lower, Upper, IntToText, at_of}
 use Rattle.kd_expr.specs.declared.node.Field.{Field}
 use Rattle.kd_expr.proofs.Options.{none_is, some_pair, if_some}
@@ -13,10 +13,10 @@ use Rattle.std.proofs.lemmas.Slice.Eq.{bytes_eq-Decides}
 at_front : {B : Type 0} (P : List Lexeme → B → Type 0) (r : Reader B) {x y : Lexeme} → x ≡ y → IsSound (λ ws b. P (y ∷ ws) b) r → IsSound (λ ws b. P (x ∷ ws) b) r
 at_front P r e h = let F : Lexeme → Type 0 = λ z. IsSound (λ ws b. P (z ∷ ws) b) r in subst F (sym e) h
 
-sign_sound : {B : Type 0} (P : List Lexeme → B → Type 0) (b : ℕ) (f : ℕ → Reader B) → ((o : ℕ) → IsSound (λ ws t. P (SignAt o b ∷ ws) t) (f o)) → IsSound P (seq (sign b) f)
+sign_sound : {B : Type 0} (P : List Lexeme → B → Type 0) (b : ℕ) (f : ℕ → Reader B) → ((o : ℕ) → IsSound (λ ws t. P (SignAt o b ∷ ws) t) (f o)) → IsSound P (seq (sign_here b) f)
 sign_sound P b f h = seq_one_sound P (sign_at b) f (λ x o e. at_front P (f o) (sign_is b x o e) (h o))
 
-word_sound : {B : Type 0} (P : List Lexeme → B → Type 0) (w : List ℕ) (f : ℕ → Reader B) → ((o : ℕ) → IsSound (λ ws t. P (NameAt o w ∷ ws) t) (f o)) → IsSound P (seq (word w) f)
+word_sound : {B : Type 0} (P : List Lexeme → B → Type 0) (w : List ℕ) (f : ℕ → Reader B) → ((o : ℕ) → IsSound (λ ws t. P (NameAt o w ∷ ws) t) (f o)) → IsSound P (seq (word_here w) f)
 word_sound P w f h = seq_one_sound P (word_at w) f (λ x o e. at_front P (f o) (word_is w x o e) (h o))
 
 -- a code in brackets, and what follows it
@@ -26,7 +26,7 @@ data InBrackets (code : Lexeme → Option ℕ) : List Lexeme → ℕ × Bool →
 bracketed_sound : (code : Lexeme → Option ℕ) → IsSound (InBrackets code) (bracketed code)
 bracketed_sound code =
     sign_sound _ 91 _ (λ l. seq_one_sound _ code _ (λ x c is. sign_sound _ 93 _ (λ r. sign_sound _ 46 _ (λ d.
-    seq_one_sound _ suffix _ (λ y b has. done_sound _ (c, b) (in_brackets l r d x y is (suffix_is y b has)))))))
+    seq_one_sound _ suffix_of _ (λ y b has. done_sound _ (c, b) (in_brackets l r d x y is (suffix_is y b has)))))))
 
 -- spelled one nesting deeper
 pub data Inner : Level → ℕ → List Lexeme → Tree → Type 0 where
@@ -56,13 +56,13 @@ name_sound P name w r s hr hs =
     ] in
     at (bytes_eq name w) refl
 
-option_from : (m at : ℕ) (c : ℕ × Bool) (us : List Lexeme) → InBrackets option_code us c → IsSound (λ ws t. Behind m at (codes "option") (us ++ ws) t) (done (if c.1 then OptionExists at c.0 else OptionValue at c.0))
+option_from : (m at : ℕ) (c : ℕ × Bool) (us : List Lexeme) → InBrackets code_of_option us c → IsSound (λ ws t. Behind m at (codes "option") (us ++ ws) t) (done (if c.1 then OptionExists at c.0 else OptionValue at c.0))
 option_from m at _ _ (in_brackets l r d x _ {c = c} is hex) = done_sound _ _ (option_hex (option_code_is x c is))
 option_from m at _ _ (in_brackets l r d x _ {c = c} is exists) = done_sound _ _ (option_exists (option_code_is x c is))
 
 option_sound : (m at : ℕ) → IsSound (Behind m at (codes "option")) (option_at at)
 unfolding option_at
-option_sound m at = seq_sound (InBrackets option_code) _ (bracketed option_code) _ (bracketed_sound option_code) (option_from m at)
+option_sound m at = seq_sound (InBrackets code_of_option) _ (bracketed code_of_option) _ (bracketed_sound code_of_option) (option_from m at)
 
 relay_made : (m at l r d e : ℕ) (x : Lexeme) (c : ℕ) → IsRelayCode x c → Behind m at (codes "relay4") (SignAt l 91 ∷ x ∷ SignAt r 93 ∷ SignAt d 46 ∷ NameAt e (codes "hex") ∷ []) (RelayValue at c)
 relay_made m at l r d e _ _ (relay_number h) = relay_hex h
@@ -70,26 +70,26 @@ relay_made m at l r d e _ _ (relay_number h) = relay_hex h
 relay_there : (m at l r d e : ℕ) (x : Lexeme) (c : ℕ) → IsRelayCode x c → Behind m at (codes "relay4") (SignAt l 91 ∷ x ∷ SignAt r 93 ∷ SignAt d 46 ∷ NameAt e (codes "exists") ∷ []) (RelayExists at c)
 relay_there m at l r d e _ _ (relay_number h) = relay_exists h
 
-relay_from : (m at : ℕ) (c : ℕ × Bool) (us : List Lexeme) → InBrackets relay_code us c → IsSound (λ ws t. Behind m at (codes "relay4") (us ++ ws) t) (done (if c.1 then RelayExists at c.0 else RelayValue at c.0))
+relay_from : (m at : ℕ) (c : ℕ × Bool) (us : List Lexeme) → InBrackets code_of_relay us c → IsSound (λ ws t. Behind m at (codes "relay4") (us ++ ws) t) (done (if c.1 then RelayExists at c.0 else RelayValue at c.0))
 relay_from m at _ _ (in_brackets l r d x _ {c = c} is (hex {at = e})) = done_sound _ _ (relay_made m at l r d e x c (relay_code_is x c is))
 relay_from m at _ _ (in_brackets l r d x _ {c = c} is (exists {at = e})) = done_sound _ _ (relay_there m at l r d e x c (relay_code_is x c is))
 
 relay_sound : (m at : ℕ) → IsSound (Behind m at (codes "relay4")) (relay_at at)
 unfolding relay_at
-relay_sound m at = seq_sound (InBrackets relay_code) _ (bracketed relay_code) _ (bracketed_sound relay_code) (relay_from m at)
+relay_sound m at = seq_sound (InBrackets code_of_relay) _ (bracketed code_of_relay) _ (bracketed_sound code_of_relay) (relay_from m at)
 
 field_made : (m at d : ℕ) (x : Lexeme) (part : Field) → IsPartName x part → Behind m at (codes "pkt4") (SignAt d 46 ∷ x ∷ []) (FieldValue at part)
 field_made m at d _ _ (part_name e) = field e
 
-field_sound : (m at : ℕ) → IsSound (Behind m at (codes "pkt4")) (field_at at)
-unfolding field_at
+field_sound : (m at : ℕ) → IsSound (Behind m at (codes "pkt4")) (field_after at)
+unfolding field_after
 field_sound m at = sign_sound _ 46 _ (λ d. seq_one_sound _ field_of _ (λ x part is. done_sound _ _ (field_made m at d x part (field_of_is x part is))))
 
 packet_sound : (m at : ℕ) → IsSound (Behind m at (codes "pkt")) (packet_at at)
 unfolding packet_at
 packet_sound m at = sign_sound _ 46 _ (λ d. word_sound _ (codes "len") _ (λ e. done_sound _ _ packet_length))
 
-member_from : (m at o : ℕ) (name : List ℕ) (us : List Lexeme) → InnerName m us name → IsSound (λ ws t. Behind m at (codes "member") (SignAt o 40 ∷ (us ++ ws)) t) (seq (sign 41) (λ _. done (Member at name)))
+member_from : (m at o : ℕ) (name : List ℕ) (us : List Lexeme) → InnerName m us name → IsSound (λ ws t. Behind m at (codes "member") (SignAt o 40 ∷ (us ++ ws)) t) (seq (sign_here 41) (λ _. done (Member at name)))
 member_from m at o _ _ (inner_name least most) = sign_sound _ 41 _ (λ c. done_sound _ _ (member least most))
 
 -- the productions whose operands are nested one deeper
@@ -140,13 +140,13 @@ upper_from m at a us (in_round o c s) = done_sound (λ ws t. Behind m at (codes 
 text_from : (m at : ℕ) (a : Tree) (us : List Lexeme) → InRound m us a → IsSound (λ ws t. Behind m at (codes "uint32totext") (us ++ ws) t) (done (IntToText at a))
 text_from m at a us (in_round o c s) = done_sound (λ ws t. Behind m at (codes "uint32totext") (us ++ ws) t) _ (subst (λ v. Behind m at (codes "uint32totext") v (IntToText at a)) (sym (append-nil us)) (text_made c s))
 
-before_is : {B : Type 0} (d : Deeper) (b : ℕ) (f : Tree → Reader B) (ts : List Lexeme) → seq (operand_before d b) f ts ≡ seq d.any (λ a. seq (sign b) (λ _. f a)) ts
-unfolding operand_before
+before_is : {B : Type 0} (d : Deeper) (b : ℕ) (f : Tree → Reader B) (ts : List Lexeme) → seq (operand_then d b) f ts ≡ seq d.any (λ a. seq (sign_here b) (λ _. f a)) ts
+unfolding operand_then
 before_is {B} d b f ts =
-    let at : (o : Option (Tree × List Lexeme)) → and_then (and_then o (λ x. seq (sign b) (λ _. done x.0) x.1)) (λ z. f z.0 z.1) ≡ and_then o (λ x. seq (sign b) (λ _. f x.0) x.1)
-    = λ o. elim o as (λ v. and_then (and_then v (λ x. seq (sign b) (λ _. done x.0) x.1)) (λ z. f z.0 z.1) ≡ and_then v (λ x. seq (sign b) (λ _. f x.0) x.1)) [
+    let at : (o : Option (Tree × List Lexeme)) → and_then (and_then o (λ x. seq (sign_here b) (λ _. done x.0) x.1)) (λ z. f z.0 z.1) ≡ and_then o (λ x. seq (sign_here b) (λ _. f x.0) x.1)
+    = λ o. elim o as (λ v. and_then (and_then v (λ x. seq (sign_here b) (λ _. done x.0) x.1)) (λ z. f z.0 z.1) ≡ and_then v (λ x. seq (sign_here b) (λ _. f x.0) x.1)) [
       | None ↦ refl
-      | Some x ↦ and_then_twice (sign b x.1) (λ y. Some (x.0, y.1)) (λ z. f z.0 z.1)
+      | Some x ↦ and_then_twice (sign_here b x.1) (λ y. Some (x.0, y.1)) (λ z. f z.0 z.1)
     ] in
     at (d.any ts)
 
@@ -155,19 +155,19 @@ module _ (m : ℕ) (d : Deeper) (s : DeeperIsSound m d) where
   unfolding member_at
   member_sound at = sign_sound _ 40 _ (λ o. seq_sound (InnerName m) _ d.name _ s.name (member_from m at o))
 
-  before_sound : {B : Type 0} (P : List Lexeme → B → Type 0) (b : ℕ) (f : Tree → Reader B) → ((a : Tree) (us : List Lexeme) → Inner or_level m us a → (c : ℕ) → IsSound (λ ws t. P (us ++ SignAt c b ∷ ws) t) (f a)) → IsSound P (seq (operand_before d b) f)
-  before_sound P b f h = same_sound P _ _ (before_is d b f) (seq_sound (Inner or_level m) P d.any (λ a. seq (sign b) (λ _. f a)) s.any (λ a us i. sign_sound (λ ws t. P (us ++ ws) t) b (λ _. f a) (h a us i)))
+  before_sound : {B : Type 0} (P : List Lexeme → B → Type 0) (b : ℕ) (f : Tree → Reader B) → ((a : Tree) (us : List Lexeme) → Inner or_level m us a → (c : ℕ) → IsSound (λ ws t. P (us ++ SignAt c b ∷ ws) t) (f a)) → IsSound P (seq (operand_then d b) f)
+  before_sound P b f h = same_sound P _ _ (before_is d b f) (seq_sound (Inner or_level m) P d.any (λ a. seq (sign_here b) (λ _. f a)) s.any (λ a us i. sign_sound (λ ws t. P (us ++ ws) t) b (λ _. f a) (h a us i)))
 
   group_sound : IsSound (Spells primary_level m) (group_at d)
   unfolding group_at
   group_sound = sign_sound _ 40 _ (λ at. before_sound _ 41 _ (λ a us i c. done_sound _ _ (group_made c i)))
 
-  one_operand_sound : IsSound (InRound m) (one_operand d)
-  unfolding one_operand operand_before
+  one_operand_sound : IsSound (InRound m) (operand_in_brackets d)
+  unfolding operand_in_brackets operand_then
   one_operand_sound = sign_sound _ 40 _ (λ o. seq_sound (Inner or_level m) _ d.any _ s.any (λ a us i. sign_sound _ 41 _ (λ c. done_sound _ _ (in_round o c i))))
 
-  two_operands_sound : IsSound (TwoInRound m) (two_operands d)
-  unfolding two_operands
+  two_operands_sound : IsSound (TwoInRound m) (operands_in_brackets d)
+  unfolding operands_in_brackets
   two_operands_sound =
       sign_sound _ 40 _ (λ o. before_sound _ 44 _ (λ a us i c. before_sound _ 41 _ (λ b vs j e.
       done_sound _ (a, b) (two_in_round o c e i j))))
@@ -178,11 +178,11 @@ module _ (m : ℕ) (d : Deeper) (s : DeeperIsSound m d) where
       sign_sound _ 40 _ (λ o. before_sound _ 44 _ (λ t us i c. before_sound _ 44 _ (λ a vs j e.
       before_sound _ 41 _ (λ b ws k f. done_sound _ _ (ifelse_made c e f i j k)))))
 
-  substring_sound : (at : ℕ) → IsSound (Behind m at (codes "substring")) (substring_at d at)
-  unfolding substring_at
+  substring_sound : (at : ℕ) → IsSound (Behind m at (codes "substring")) (substring_after d at)
+  unfolding substring_after
   substring_sound at =
       sign_sound _ 40 _ (λ o. before_sound _ 44 _ (λ a us i c. seq_one_sound _ signed _ (λ x start j.
-      sign_sound _ 44 _ (λ e. seq_one_sound _ length_of _ (λ y len k.
+      sign_sound _ 44 _ (λ e. seq_one_sound _ length_of_part _ (λ y len k.
       sign_sound _ 41 _ (λ f. done_sound _ _ (substring_made c e f i (signed_is x start j) (length_is y len k))))))))
 
   form_sound : (at : ℕ) (name : List ℕ) → IsSound (Behind m at name) (form_at d at name)
@@ -190,11 +190,11 @@ module _ (m : ℕ) (d : Deeper) (s : DeeperIsSound m d) where
   form_sound at name =
       name_sound (Behind m at) name (codes "substring") _ _ (substring_sound at)
       (name_sound (Behind m at) name (codes "ifelse") _ _ (ifelse_sound at)
-      (name_sound (Behind m at) name (codes "concat") _ _ (seq_sound (TwoInRound m) _ (two_operands d) _ two_operands_sound (concat_from m at))
-      (name_sound (Behind m at) name (codes "hexstring") _ _ (seq_sound (TwoInRound m) _ (two_operands d) _ two_operands_sound (hexstring_from m at))
-      (name_sound (Behind m at) name (codes "lcase") _ _ (seq_sound (InRound m) _ (one_operand d) _ one_operand_sound (lower_from m at))
-      (name_sound (Behind m at) name (codes "ucase") _ _ (seq_sound (InRound m) _ (one_operand d) _ one_operand_sound (upper_from m at))
-      (name_sound (Behind m at) name (codes "uint32totext") _ _ (seq_sound (InRound m) _ (one_operand d) _ one_operand_sound (text_from m at))
+      (name_sound (Behind m at) name (codes "concat") _ _ (seq_sound (TwoInRound m) _ (operands_in_brackets d) _ two_operands_sound (concat_from m at))
+      (name_sound (Behind m at) name (codes "hexstring") _ _ (seq_sound (TwoInRound m) _ (operands_in_brackets d) _ two_operands_sound (hexstring_from m at))
+      (name_sound (Behind m at) name (codes "lcase") _ _ (seq_sound (InRound m) _ (operand_in_brackets d) _ one_operand_sound (lower_from m at))
+      (name_sound (Behind m at) name (codes "ucase") _ _ (seq_sound (InRound m) _ (operand_in_brackets d) _ one_operand_sound (upper_from m at))
+      (name_sound (Behind m at) name (codes "uint32totext") _ _ (seq_sound (InRound m) _ (operand_in_brackets d) _ one_operand_sound (text_from m at))
       (λ ts t rest e. none_is e)))))))
 
   named_sound : (at : ℕ) (name : List ℕ) → IsSound (Behind m at name) (named_at d at name)

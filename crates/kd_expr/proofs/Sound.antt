@@ -1,7 +1,7 @@
 -- What the reader of tokens gives, the grammar allows: one lemma for each way of putting readers together.
 use Rattle.std.proofs.Common.{◌≡◌, ℕ, zero, suc, Option, Some, None, List, [], ◌∷◌, ◌++◌, length, refl, sym, ◌∙◌, ap, subst, append_assoc, append-nil}
 use Rattle.kd_expr.specs.Lexical.{Lexeme}
-use Rattle.kd_expr.specs.Reading.{Reader, and_then, or_else, done, seq, either, one, joined, chain}
+use Rattle.kd_expr.specs.Reading.{Reader, and_then, or_else, done, seq, either, one, operands_joined, chain}
 use Rattle.kd_expr.specs.Tree.{Tree}
 use Rattle.kd_expr.proofs.Options.{some_pair, none_is}
 
@@ -99,13 +99,13 @@ pub weaker : {A : Type 0} (P Q : List Lexeme → A → Type 0) (r : Reader A) �
 weaker P Q r w h ts a rest e = let t = h ts a rest e in record { front = t.front; is = t.is; holds = w t.front a t.holds }
 
 -- a chain's loop: what is in hand has the fact, and each further operand keeps it
-pub joined_sound : (P Q : List Lexeme → Tree → Type 0) (test : Lexeme → Option ℕ) (operand : Reader Tree) (join : Tree → Tree → Tree) → IsSound Q operand → ((x : Lexeme) (o : ℕ) → test x ≡ Some o → (us vs : List Lexeme) (a b : Tree) → P us a → Q vs b → P (us ++ x ∷ vs) (join a b)) → (k : ℕ) (us : List Lexeme) (a : Tree) → P us a → IsSound (λ ws t. P (us ++ ws) t) (joined (one test) operand join k a)
-unfolding joined
+pub joined_sound : (P Q : List Lexeme → Tree → Type 0) (test : Lexeme → Option ℕ) (operand : Reader Tree) (join : Tree → Tree → Tree) → IsSound Q operand → ((x : Lexeme) (o : ℕ) → test x ≡ Some o → (us vs : List Lexeme) (a b : Tree) → P us a → Q vs b → P (us ++ x ∷ vs) (join a b)) → (k : ℕ) (us : List Lexeme) (a : Tree) → P us a → IsSound (λ ws t. P (us ++ ws) t) (operands_joined (one test) operand join k a)
+unfolding operands_joined
 joined_sound P Q test operand join q step zero us a p = done_sound (λ ws t. P (us ++ ws) t) a (subst (λ v. P v a) (sym (append-nil us)) p)
 joined_sound P Q test operand join q step (suc k) us a p =
-    either_one_sound (λ ws t. P (us ++ ws) t) test (λ _. seq operand (λ b. joined (one test) operand join k (join a b))) (done a)
-    (λ x o is. seq_sound Q (λ ws t. P (us ++ x ∷ ws) t) operand (λ b. joined (one test) operand join k (join a b)) q
-    (λ b vs r. weaker (λ ws t. P ((us ++ x ∷ vs) ++ ws) t) (λ ws t. P (us ++ x ∷ (vs ++ ws)) t) (joined (one test) operand join k (join a b))
+    either_one_sound (λ ws t. P (us ++ ws) t) test (λ _. seq operand (λ b. operands_joined (one test) operand join k (join a b))) (done a)
+    (λ x o is. seq_sound Q (λ ws t. P (us ++ x ∷ ws) t) operand (λ b. operands_joined (one test) operand join k (join a b)) q
+    (λ b vs r. weaker (λ ws t. P ((us ++ x ∷ vs) ++ ws) t) (λ ws t. P (us ++ x ∷ (vs ++ ws)) t) (operands_joined (one test) operand join k (join a b))
     (λ ws t h. subst (λ v. P v t) (append_assoc us (x ∷ vs) ws) h)
     (joined_sound P Q test operand join q step k (us ++ x ∷ vs) (join a b) (step x o is us vs a b p r))))
     (done_sound (λ ws t. P (us ++ ws) t) a (subst (λ v. P v a) (sym (append-nil us)) p))
@@ -113,8 +113,8 @@ joined_sound P Q test operand join q step (suc k) us a p =
 pub chain_sound : (P Q : List Lexeme → Tree → Type 0) (test : Lexeme → Option ℕ) (operand : Reader Tree) (join : Tree → Tree → Tree) → IsSound Q operand → ((us : List Lexeme) (a : Tree) → Q us a → P us a) → ((x : Lexeme) (o : ℕ) → test x ≡ Some o → (us vs : List Lexeme) (a b : Tree) → P us a → Q vs b → P (us ++ x ∷ vs) (join a b)) → IsSound P (chain (one test) operand join)
 unfolding chain
 chain_sound P Q test operand join q first step ts t rest e =
-    let at : (answer : Option (Tree × List Lexeme)) → operand ts ≡ answer → and_then answer (λ x. joined (one test) operand join (length x.1) x.0 x.1) ≡ Some (t, rest) → Takes (λ us. P us t) ts rest
-    = λ answer. elim answer as (λ v. operand ts ≡ v → and_then v (λ x. joined (one test) operand join (length x.1) x.0 x.1) ≡ Some (t, rest) → Takes (λ us. P us t) ts rest) [
+    let at : (answer : Option (Tree × List Lexeme)) → operand ts ≡ answer → and_then answer (λ x. operands_joined (one test) operand join (length x.1) x.0 x.1) ≡ Some (t, rest) → Takes (λ us. P us t) ts rest
+    = λ answer. elim answer as (λ v. operand ts ≡ v → and_then v (λ x. operands_joined (one test) operand join (length x.1) x.0 x.1) ≡ Some (t, rest) → Takes (λ us. P us t) ts rest) [
       | None ↦ λ _ k. none_is k
       | Some x ↦ λ is k. let u = q ts x.0 x.1 is in
           takes_more (λ us. P us t) (λ us. Q us x.0) ts x.1 rest u

@@ -2,7 +2,7 @@
 use Rattle.std.proofs.Common.{◌≡◌, ℕ, ◌+◌, Bool, true, false, cond, ◌||◌, ◌&&◌, List, [], ◌∷◌, ◌++◌, take, drop, refl, ap, if◌then◌else◌, one-add}
 use Rattle.std.specs.List.{prefix_len}
 use Rattle.kd_expr.specs.Address.{Each}
-use Rattle.kd_expr.specs.Lexical.{Ends}
+use Rattle.kd_expr.specs.Lexical.{WordEnds}
 use Rattle.kd_expr.specs.Lexing.{front_of, behind_of, is_empty, all_pass}
 
 pub front_is : (p : ℕ → Bool) (bytes : List ℕ) → take (prefix_len p bytes) bytes ≡ front_of p bytes
@@ -35,11 +35,11 @@ each_front p (b ∷ bytes) =
     ] in
     at (p b) refl
 
-pub ends_behind : (p : ℕ → Bool) (bytes : List ℕ) → Ends p (behind_of p bytes)
+pub ends_behind : (p : ℕ → Bool) (bytes : List ℕ) → WordEnds p (behind_of p bytes)
 ends_behind p [] = tt
 ends_behind p (b ∷ bytes) =
-    let at : (k : Bool) → p b ≡ k → Ends p (if k then behind_of p bytes else b ∷ bytes)
-    = λ k. elim k as (λ k. p b ≡ k → Ends p (if k then behind_of p bytes else b ∷ bytes)) [
+    let at : (k : Bool) → p b ≡ k → WordEnds p (if k then behind_of p bytes else b ∷ bytes)
+    = λ k. elim k as (λ k. p b ≡ k → WordEnds p (if k then behind_of p bytes else b ∷ bytes)) [
       | true ↦ λ e. ends_behind p bytes
       | false ↦ λ e. e
     ] in
@@ -55,12 +55,12 @@ front_behind p (b ∷ bytes) =
     ] in
     at (p b)
 
-pub front_word : (p : ℕ → Bool) (word rest : List ℕ) → Each p word → Ends p rest → front_of p (word ++ rest) ≡ word
+pub front_word : (p : ℕ → Bool) (word rest : List ℕ) → Each p word → WordEnds p rest → front_of p (word ++ rest) ≡ word
 front_word p [] [] _ _ = refl
 front_word p [] (b ∷ rest) _ e = rw e refl
 front_word p (b ∷ word) rest h e = rw h.0 (ap (λ v. b ∷ v) (front_word p word rest h.1 e))
 
-pub behind_word : (p : ℕ → Bool) (word rest : List ℕ) → Each p word → Ends p rest → behind_of p (word ++ rest) ≡ rest
+pub behind_word : (p : ℕ → Bool) (word rest : List ℕ) → Each p word → WordEnds p rest → behind_of p (word ++ rest) ≡ rest
 behind_word p [] [] _ _ = refl
 behind_word p [] (b ∷ rest) _ e = rw e refl
 behind_word p (b ∷ word) rest h e = rw h.0 (behind_word p word rest h.1 e)

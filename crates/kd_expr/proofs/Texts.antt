@@ -1,7 +1,7 @@
 -- The tokens of a text are those of the definition, and so is the tree that they spell.
 use Rattle.std.proofs.Common.{◌≡◌, ℕ, zero, suc, ◌+◌, ◌-◌, ◌≤◌, ◌<◌, Bool, true, false, List, [], ◌∷◌, ◌++◌, length, refl, sym, ◌∙◌, ap, subst, append-nil, append_assoc, arith, length-append, if◌then◌else◌, Option, Some, None}
-use Rattle.kd_expr.specs.Grammar.{Spells, Level, or_level, or_one, or_more, and_one, and_more, not_none, negated, compare_one, equal, sum_one, sum_more, string, hexadecimal, address, number, group, option_hex, option_exists, relay_hex, relay_exists, field, packet_length, member, substring, concat, ifelse, hexstring, lcase, ucase, uint32totext, IsCode, code_number, code_name, IsSigned, plain, below, IsLength, counted, whole, Parses}
-use Rattle.kd_expr.specs.Lexical.{Lexeme, StringAt, HexAt, AddressAt, NumberAt, MinusAt, NameAt, SignAt, BadAt, is_blank, Word, Scans, finished, blank, token}
+use Rattle.kd_expr.specs.Grammar.{Spells, Level, or_level, or_one, or_more, and_one, and_more, not_none, negated, compare_one, equal, sum_one, sum_more, string, hexadecimal, address, number, group, option_hex, option_exists, relay_hex, relay_exists, field, packet_length, member, substring, concat, ifelse, hexstring, lcase, ucase, uint32totext, IsOptionCode, code_number, code_name, IsSigned, plain, below, IsLength, counted, whole, Parses}
+use Rattle.kd_expr.specs.Lexical.{Lexeme, StringAt, HexAt, AddressAt, NumberAt, MinusAt, NameAt, SignAt, BadAt, a_blank, Word, Scans, finished, blank, token}
 use Rattle.kd_expr.specs.Lexing.{cut, tokens_from}
 use Rattle.kd_expr.specs.Reading as reading
 use Rattle.kd_expr.specs.Reading.{or_at, whole_at, and_then}
@@ -31,7 +31,7 @@ good_append (MinusAt at s ∷ us) vs g h = good_append us vs g h
 good_append (NameAt at s ∷ us) vs g h = good_append us vs g h
 good_append (SignAt at s ∷ us) vs g h = good_append us vs g h
 
-good_code : {x : Lexeme} {c : ℕ} (ts : List Lexeme) → IsCode x c → Good ts → Good (x ∷ ts)
+good_code : {x : Lexeme} {c : ℕ} (ts : List Lexeme) → IsOptionCode x c → Good ts → Good (x ∷ ts)
 good_code ts (code_number h) g = g
 good_code ts (code_name h) g = g
 
@@ -117,14 +117,14 @@ tokens_sound (suc k) at (b ∷ bytes) h g =
       | Some x ↦ λ is g. scans_word at (b ∷ bytes) x.0 x.1 _ (cut_sound at (b ∷ bytes) x.0 x.1 is)
           (tokens_sound k (at + (length (b ∷ bytes) - length x.1)) x.1 (omega (arith, h, cut_shorter at (b ∷ bytes) x.0 x.1 is)) (good_tail x.0 _ g))
     ] in
-    let here : (v : Bool) → is_blank b ≡ v → Good (if v then tokens_from k (at + 1) bytes else after_cut k at (b ∷ bytes) (cut at (b ∷ bytes))) → Scans at (b ∷ bytes) (if v then tokens_from k (at + 1) bytes else after_cut k at (b ∷ bytes) (cut at (b ∷ bytes)))
-    = λ v. elim v as (λ v. is_blank b ≡ v → Good (if v then tokens_from k (at + 1) bytes else after_cut k at (b ∷ bytes) (cut at (b ∷ bytes))) → Scans at (b ∷ bytes) (if v then tokens_from k (at + 1) bytes else after_cut k at (b ∷ bytes) (cut at (b ∷ bytes)))) [
+    let here : (v : Bool) → a_blank b ≡ v → Good (if v then tokens_from k (at + 1) bytes else after_cut k at (b ∷ bytes) (cut at (b ∷ bytes))) → Scans at (b ∷ bytes) (if v then tokens_from k (at + 1) bytes else after_cut k at (b ∷ bytes) (cut at (b ∷ bytes)))
+    = λ v. elim v as (λ v. a_blank b ≡ v → Good (if v then tokens_from k (at + 1) bytes else after_cut k at (b ∷ bytes) (cut at (b ∷ bytes))) → Scans at (b ∷ bytes) (if v then tokens_from k (at + 1) bytes else after_cut k at (b ∷ bytes) (cut at (b ∷ bytes)))) [
       | true ↦ λ is g. blank is (tokens_sound k (at + 1) bytes (omega (arith, h)) g)
       | false ↦ λ _ g. word (cut at (b ∷ bytes)) refl g
     ] in
-    here (is_blank b) refl g
+    here (a_blank b) refl g
 
-word_scanned : (k at b : ℕ) (word others rest : List ℕ) (x : Lexeme) → word ≡ b ∷ others → is_blank b ≡ false → ◌≡◌ {A = Option (Lexeme × List ℕ)} (cut at (word ++ rest)) (Some (x, rest)) → tokens_from (suc k) at (word ++ rest) ≡ x ∷ tokens_from k (at + length word) rest
+word_scanned : (k at b : ℕ) (word others rest : List ℕ) (x : Lexeme) → word ≡ b ∷ others → a_blank b ≡ false → ◌≡◌ {A = Option (Lexeme × List ℕ)} (cut at (word ++ rest)) (Some (x, rest)) → tokens_from (suc k) at (word ++ rest) ≡ x ∷ tokens_from k (at + length word) rest
 unfolding tokens_from
 word_scanned k at b word others rest x is no_blank e =
     let bytes_are : word ++ rest ≡ b ∷ (others ++ rest) = ap (λ v. v ++ rest) is in
@@ -138,7 +138,7 @@ unfolding tokens_from
 no_tokens zero at = refl
 no_tokens (suc k) at = refl
 
-blank_scanned : {ts : List Lexeme} (k at b : ℕ) (bytes : List ℕ) → is_blank b ≡ true → length (b ∷ bytes) ≤ k → ((k : ℕ) → length bytes ≤ k → tokens_from k (at + 1) bytes ≡ ts) → tokens_from k at (b ∷ bytes) ≡ ts
+blank_scanned : {ts : List Lexeme} (k at b : ℕ) (bytes : List ℕ) → a_blank b ≡ true → length (b ∷ bytes) ≤ k → ((k : ℕ) → length bytes ≤ k → tokens_from k (at + 1) bytes ≡ ts) → tokens_from k at (b ∷ bytes) ≡ ts
 unfolding tokens_from
 blank_scanned zero at b bytes is h rec = absurd (omega (arith, h))
 blank_scanned (suc k) at b bytes is h rec = rw is (rec k (omega (arith, h)))
@@ -196,39 +196,39 @@ parse_complete text t p = ap (λ v. whole_at v) (tokens_complete p.scanned (leng
 abbrev pub Left : List Lexeme → ℕ → List ℕ → List Lexeme → Type 0
 Left done at rest all = (k : ℕ) × (length rest ≤ k) × (done ++ tokens_from k at rest ≡ all)
 
-blank_at : (done : List Lexeme) (at b : ℕ) (bytes : List ℕ) (all : List Lexeme) (k : ℕ) → length (b ∷ bytes) ≤ k → is_blank b ≡ true → done ++ tokens_from k at (b ∷ bytes) ≡ all → Left done (at + 1) bytes all
+blank_at : (done : List Lexeme) (at b : ℕ) (bytes : List ℕ) (all : List Lexeme) (k : ℕ) → length (b ∷ bytes) ≤ k → a_blank b ≡ true → done ++ tokens_from k at (b ∷ bytes) ≡ all → Left done (at + 1) bytes all
 unfolding tokens_from
 blank_at done at b bytes all zero h is e = absurd (omega (arith, h))
 blank_at done at b bytes all (suc k) h is e =
     let step : tokens_from (suc k) at (b ∷ bytes) ≡ tokens_from k (at + 1) bytes = rw is refl in
     (k, omega (arith, h), ap (λ v. done ++ v) (sym step) ∙ e)
 
-pub blank_left : (done : List Lexeme) (at b : ℕ) (bytes rest : List ℕ) (all : List Lexeme) → rest ≡ b ∷ bytes → is_blank b ≡ true → Left done at rest all → Left done (at + 1) bytes all
+pub blank_left : (done : List Lexeme) (at b : ℕ) (bytes rest : List ℕ) (all : List Lexeme) → rest ≡ b ∷ bytes → a_blank b ≡ true → Left done at rest all → Left done (at + 1) bytes all
 blank_left done at b bytes rest all is there l =
     let here : Left done at (b ∷ bytes) all = subst (λ v. Left done at v all) is l in
     blank_at done at b bytes all here.0 here.1 there here.2
 
-word_left_at : (done : List Lexeme) (at b : ℕ) (bytes : List ℕ) (x : Lexeme) (after : List ℕ) (all : List Lexeme) (k : ℕ) → length (b ∷ bytes) ≤ k → is_blank b ≡ false → ◌≡◌ {A = Option (Lexeme × List ℕ)} (cut at (b ∷ bytes)) (Some (x, after)) → done ++ tokens_from k at (b ∷ bytes) ≡ all → Left (done ++ x ∷ []) (at + (length (b ∷ bytes) - length after)) after all
+word_left_at : (done : List Lexeme) (at b : ℕ) (bytes : List ℕ) (x : Lexeme) (after : List ℕ) (all : List Lexeme) (k : ℕ) → length (b ∷ bytes) ≤ k → a_blank b ≡ false → ◌≡◌ {A = Option (Lexeme × List ℕ)} (cut at (b ∷ bytes)) (Some (x, after)) → done ++ tokens_from k at (b ∷ bytes) ≡ all → Left (done ++ x ∷ []) (at + (length (b ∷ bytes) - length after)) after all
 unfolding tokens_from
 word_left_at done at b bytes x after all zero h is e f = absurd (omega (arith, h))
 word_left_at done at b bytes x after all (suc k) h is e f =
     let step : tokens_from (suc k) at (b ∷ bytes) ≡ x ∷ tokens_from k (at + (length (b ∷ bytes) - length after)) after = rw (is, e) refl in
     (k, omega (arith, h, cut_shorter at (b ∷ bytes) x after e), append_assoc done (x ∷ []) (tokens_from k (at + (length (b ∷ bytes) - length after)) after) ∙ (ap (λ v. done ++ v) (sym step) ∙ f))
 
-pub word_left : (done : List Lexeme) (at b : ℕ) (bytes rest : List ℕ) (x : Lexeme) (after : List ℕ) (all : List Lexeme) → rest ≡ b ∷ bytes → is_blank b ≡ false → ◌≡◌ {A = Option (Lexeme × List ℕ)} (cut at rest) (Some (x, after)) → Left done at rest all → Left (done ++ x ∷ []) (at + (length rest - length after)) after all
+pub word_left : (done : List Lexeme) (at b : ℕ) (bytes rest : List ℕ) (x : Lexeme) (after : List ℕ) (all : List Lexeme) → rest ≡ b ∷ bytes → a_blank b ≡ false → ◌≡◌ {A = Option (Lexeme × List ℕ)} (cut at rest) (Some (x, after)) → Left done at rest all → Left (done ++ x ∷ []) (at + (length rest - length after)) after all
 word_left done at b bytes rest x after all is no_blank e l =
     let here : Left done at (b ∷ bytes) all = subst (λ v. Left done at v all) is l in
     subst (λ v. Left (done ++ x ∷ []) (at + (length v - length after)) after all) (sym is)
     (word_left_at done at b bytes x after all here.0 here.1 no_blank (ap (λ v. cut at v) (sym is) ∙ e) here.2)
 
-bad_left_at : (done : List Lexeme) (at b : ℕ) (bytes : List ℕ) (all : List Lexeme) (k : ℕ) → length (b ∷ bytes) ≤ k → is_blank b ≡ false → cut at (b ∷ bytes) ≡ None → done ++ tokens_from k at (b ∷ bytes) ≡ all → done ++ BadAt at ∷ [] ≡ all
+bad_left_at : (done : List Lexeme) (at b : ℕ) (bytes : List ℕ) (all : List Lexeme) (k : ℕ) → length (b ∷ bytes) ≤ k → a_blank b ≡ false → cut at (b ∷ bytes) ≡ None → done ++ tokens_from k at (b ∷ bytes) ≡ all → done ++ BadAt at ∷ [] ≡ all
 unfolding tokens_from
 bad_left_at done at b bytes all zero h is e f = absurd (omega (arith, h))
 bad_left_at done at b bytes all (suc k) h is e f =
     let step : tokens_from (suc k) at (b ∷ bytes) ≡ BadAt at ∷ [] = rw (is, e) refl in
     ap (λ v. done ++ v) (sym step) ∙ f
 
-pub bad_left : (done : List Lexeme) (at b : ℕ) (bytes rest : List ℕ) (all : List Lexeme) → rest ≡ b ∷ bytes → is_blank b ≡ false → cut at rest ≡ None → Left done at rest all → done ++ BadAt at ∷ [] ≡ all
+pub bad_left : (done : List Lexeme) (at b : ℕ) (bytes rest : List ℕ) (all : List Lexeme) → rest ≡ b ∷ bytes → a_blank b ≡ false → cut at rest ≡ None → Left done at rest all → done ++ BadAt at ∷ [] ≡ all
 bad_left done at b bytes rest all is no_blank e l =
     let here : Left done at (b ∷ bytes) all = subst (λ v. Left done at v all) is l in
     bad_left_at done at b bytes all here.0 here.1 no_blank (ap (λ v. cut at v) (sym is) ∙ e) here.2

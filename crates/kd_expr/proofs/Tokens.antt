@@ -1,9 +1,9 @@
 -- What the tests of one token let through, in the grammar's words.
 use Rattle.std.proofs.Common.{◌≡◌, ℕ, ◌≤◌, ◌<◌, ◌^◌, ℤ, Bool, true, false, Option, Some, None, List, length, refl, sym, ◌∙◌, ap, subst, codes, bytes_eq, if◌then◌else◌, nat_lt, nat_le, ◌&&◌, ◌==◌, eqb-true, ltb-true, leb-true}
-use Rattle.kd_expr.specs.Grammar.{IsCode, code_number, code_name, IsSigned, plain, below, IsLength, counted, whole}
+use Rattle.kd_expr.specs.Grammar.{IsOptionCode, code_number, code_name, IsSigned, plain, below, IsLength, counted, whole}
 use Rattle.kd_expr.specs.Lexical.{Lexeme, StringAt, NumberAt, MinusAt, NameAt, SignAt}
-use Rattle.kd_expr.specs.Names.{field_named}
-use Rattle.kd_expr.specs.Reading.{sign_at, word_at, option_code, relay_code, suffix, field_of, signed, length_of, class_name}
+use Rattle.kd_expr.specs.Names.{field_by_name}
+use Rattle.kd_expr.specs.Reading.{sign_at, word_at, code_of_option, code_of_relay, suffix_of, field_of, signed, length_of_part, class_name}
 use Rattle.kd_expr.specs.declared.node.Field.{Field}
 use Rattle.kd_expr.proofs.Options.{some_is, none_is, if_some}
 use Rattle.std.proofs.lemmas.Slice.Eq.{bytes_eq-Decides}
@@ -18,9 +18,9 @@ word_is w (NameAt at v) o e =
     let both = if_some (bytes_eq v w) e in ap (λ u. NameAt u v) both.1 ∙ ap (λ u. NameAt o u) ((bytes_eq-Decides v w).0 both.0)
 word_is w _ o e = none_is e
 
-pub option_code_is : (x : Lexeme) (c : ℕ) → option_code x ≡ Some c → IsCode x c
+pub option_code_is : (x : Lexeme) (c : ℕ) → code_of_option x ≡ Some c → IsOptionCode x c
 option_code_is (NumberAt at n) c e =
-    let both = if_some (nat_lt n 256) e in subst (λ v. IsCode (NumberAt at n) v) both.1 (code_number (ltb-true n 256 both.0))
+    let both = if_some (nat_lt n 256) e in subst (λ v. IsOptionCode (NumberAt at n) v) both.1 (code_number (ltb-true n 256 both.0))
 option_code_is (NameAt at name) c e = code_name e
 option_code_is _ c e = none_is e
 
@@ -28,7 +28,7 @@ option_code_is _ c e = none_is e
 pub data IsRelayCode : Lexeme → ℕ → Type 0 where
   relay_number : {at n : ℕ} → n < 256 → IsRelayCode (NumberAt at n) n
 
-pub relay_code_is : (x : Lexeme) (c : ℕ) → relay_code x ≡ Some c → IsRelayCode x c
+pub relay_code_is : (x : Lexeme) (c : ℕ) → code_of_relay x ≡ Some c → IsRelayCode x c
 relay_code_is (NumberAt at n) c e =
     let both = if_some (nat_lt n 256) e in subst (λ v. IsRelayCode (NumberAt at n) v) both.1 (relay_number (ltb-true n 256 both.0))
 relay_code_is _ c e = none_is e
@@ -38,7 +38,7 @@ pub data IsSuffix : Lexeme → Bool → Type 0 where
   hex : {at : ℕ} → IsSuffix (NameAt at (codes "hex")) false
   exists : {at : ℕ} → IsSuffix (NameAt at (codes "exists")) true
 
-pub suffix_is : (x : Lexeme) (b : Bool) → suffix x ≡ Some b → IsSuffix x b
+pub suffix_is : (x : Lexeme) (b : Bool) → suffix_of x ≡ Some b → IsSuffix x b
 suffix_is (NameAt at name) b e =
     let at_hex : (k : Bool) → bytes_eq name (codes "hex") ≡ k → ◌≡◌ {A = Option Bool} (if k then Some false else if bytes_eq name (codes "exists") then Some true else None) (Some b) → IsSuffix (NameAt at name) b
     = λ k. elim k as (λ k. bytes_eq name (codes "hex") ≡ k → ◌≡◌ {A = Option Bool} (if k then Some false else if bytes_eq name (codes "exists") then Some true else None) (Some b) → IsSuffix (NameAt at name) b) [
@@ -51,7 +51,7 @@ suffix_is _ b e = none_is e
 
 -- the name of a part of a message
 pub data IsPartName : Lexeme → Field → Type 0 where
-  part_name : {at : ℕ} {name : List ℕ} {part : Field} → field_named name ≡ Some part → IsPartName (NameAt at name) part
+  part_name : {at : ℕ} {name : List ℕ} {part : Field} → field_by_name name ≡ Some part → IsPartName (NameAt at name) part
 
 pub field_of_is : (x : Lexeme) (part : Field) → field_of x ≡ Some part → IsPartName x part
 field_of_is (NameAt at name) part e = part_name e
@@ -64,7 +64,7 @@ signed_is (MinusAt at k) n e =
     let both = if_some (nat_le k (2 ^ 31)) e in subst (λ v. IsSigned (MinusAt at k) v) both.1 (below (leb-true k (2 ^ 31) both.0))
 signed_is _ n e = none_is e
 
-pub length_is : (x : Lexeme) (n : Option ℤ) → length_of x ≡ Some n → IsLength x n
+pub length_is : (x : Lexeme) (n : Option ℤ) → length_of_part x ≡ Some n → IsLength x n
 length_is (NumberAt at k) n e =
     let both = if_some (nat_lt k (2 ^ 31)) e in subst (λ v. IsLength (NumberAt at k) v) both.1 (counted (plain (ltb-true k (2 ^ 31) both.0)))
 length_is (MinusAt at k) n e =

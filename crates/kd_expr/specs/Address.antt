@@ -3,8 +3,8 @@
 use Rattle.std.specs.Prelude.{◌≡◌, ℕ, ◌+◌, ◌*◌, ◌-◌, ◌≤◌, Bool, true, ◌&&◌, nat_le, List, [], ◌∷◌, ◌++◌, length}
 
 -- the digits 0 to 9
-abbrev pub is_digit : ℕ → Bool
-is_digit b = nat_le 48 b && nat_le b 57
+abbrev pub a_digit : ℕ → Bool
+a_digit b = nat_le 48 b && nat_le b 57
 
 -- every byte passes a test
 abbrev pub Each : (ℕ → Bool) → List ℕ → Type 0
@@ -22,7 +22,7 @@ decimal digits = decimal_behind 0 digits
 
 -- a part of an address: one to three digits, of a number of at most 255
 pub record IsPart (text : List ℕ) (value : ℕ) : Type 0 where
-  pub digits : Each is_digit text
+  pub digits : Each a_digit text
   pub some : 1 ≤ length text
   pub few : length text ≤ 3
   pub is : value ≡ decimal text

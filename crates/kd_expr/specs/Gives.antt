@@ -8,6 +8,6 @@ abbrev pub Fails : {B : Type 0} → SyntaxFault → Option B → Type 0
 Fails fault read = fault ≢ faults.Memory → read ≡ None
 
 -- the answer is what is read, as it is seen
-abbrev pub Gives : {A B : Type 0} → (A → B) → Result A SyntaxFault → Option B → Type 0
-Gives view (Ok a) read = read ≡ Some (view a)
-Gives view (Err fault) read = Fails fault read
+abbrev pub ReadsAs : {A B : Type 0} → (A → B) → Result A SyntaxFault → Option B → Type 0
+ReadsAs view (Ok a) read = read ≡ Some (view a)
+ReadsAs view (Err fault) read = Fails fault read

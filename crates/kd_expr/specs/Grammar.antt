@@ -2,7 +2,7 @@
 -- tokens spell which tree. `or`, `and` and `+` group to the left; ranges and the nesting are part of it.
 use Rattle.std.specs.Prelude.{◌≡◌, ℕ, zero, suc, ◌+◌, ◌*◌, ◌-◌, ◌%◌, ◌^◌, ◌<◌, ◌≤◌, ℤ, pos, negsuc, ◌==◌, ◌&&◌, nat_le, List, [], ◌∷◌, ◌++◌, length, codes, Option, Some, None, if◌then◌else◌}
 use Rattle.kd_expr.specs.Lexical.{Lexeme, StringAt, HexAt, AddressAt, NumberAt, MinusAt, NameAt, SignAt, Scans}
-use Rattle.kd_expr.specs.Names.{code_named, field_named}
+use Rattle.kd_expr.specs.Names.{code_by_name, field_by_name}
 use Rattle.kd_expr.specs.Tree.{Tree, Literal, Int, OptionValue, RelayValue, FieldValue, OptionExists, RelayExists, Member, Equal, Not, And, Or, Group, Concat, IfElse, Substring, HexString, Lower, Upper, IntToText, at_of}
 use Rattle.kd_expr.specs.declared.node.Field.{Field}
 use Rattle.kd_expr.specs.declared.node.Field.TheVariants.{Length}
@@ -40,8 +40,8 @@ abbrev pub RightAt : ℕ → Lexeme
 RightAt at = SignAt at 93
 
 -- the value of a hexadecimal digit of either case, and 0 for another byte
-abbrev pub hex_digit : ℕ → ℕ
-hex_digit d =
+abbrev pub hex_digit_value : ℕ → ℕ
+hex_digit_value d =
     if nat_le 48 d && nat_le d 57 then d - 48
     else if nat_le 65 d && nat_le d 70 then d - 55
     else if nat_le 97 d && nat_le d 102 then d - 87
@@ -51,16 +51,16 @@ hex_digit d =
 abbrev pub hex_pairs : List ℕ → List ℕ
 hex_pairs [] = []
 hex_pairs (d ∷ []) = []
-hex_pairs (d ∷ e ∷ digits) = (16 * hex_digit d + hex_digit e) ∷ hex_pairs digits
+hex_pairs (d ∷ e ∷ digits) = (16 * hex_digit_value d + hex_digit_value e) ∷ hex_pairs digits
 
 -- the bytes of hexadecimal digits: an odd number of them gets a 0 in front
 abbrev pub hex_bytes : List ℕ → List ℕ
 hex_bytes digits = if length digits % 2 == 1 then hex_pairs (48 ∷ digits) else hex_pairs digits
 
 -- the code of an option: a number up to 255, or a name of the table
-pub data IsCode : Lexeme → ℕ → Type 0 where
-  code_number : {at code : ℕ} → code < 256 → IsCode (NumberAt at code) code
-  code_name : {at code : ℕ} {name : List ℕ} → code_named name ≡ Some code → IsCode (NameAt at name) code
+pub data IsOptionCode : Lexeme → ℕ → Type 0 where
+  code_number : {at code : ℕ} → code < 256 → IsOptionCode (NumberAt at code) code
+  code_name : {at code : ℕ} {name : List ℕ} → code_by_name name ≡ Some code → IsOptionCode (NameAt at name) code
 
 -- the number below zero by this much
 abbrev pub minus : ℕ → ℤ
@@ -103,11 +103,11 @@ pub data Spells : Level → ℕ → List Lexeme → Tree → Type 0 where
   address : {n at : ℕ} {bytes : List ℕ} → Spells primary_level n (AddressAt at bytes ∷ []) (Literal at bytes)
   number : {n at k : ℕ} → k < 2 ^ 32 → Spells primary_level n (NumberAt at k ∷ []) (Int at k)
   group : {n at : ℕ} (c : ℕ) {ts : List Lexeme} {t : Tree} → Spells or_level n ts t → Spells primary_level (suc n) (OpenAt at ∷ (ts ++ CloseAt c ∷ [])) (Group at t)
-  option_hex : {n at l r d e code : ℕ} {x : Lexeme} → IsCode x code → Spells primary_level n (NameAt at (codes "option") ∷ LeftAt l ∷ x ∷ RightAt r ∷ DotAt d ∷ NameAt e (codes "hex") ∷ []) (OptionValue at code)
-  option_exists : {n at l r d e code : ℕ} {x : Lexeme} → IsCode x code → Spells primary_level n (NameAt at (codes "option") ∷ LeftAt l ∷ x ∷ RightAt r ∷ DotAt d ∷ NameAt e (codes "exists") ∷ []) (OptionExists at code)
+  option_hex : {n at l r d e code : ℕ} {x : Lexeme} → IsOptionCode x code → Spells primary_level n (NameAt at (codes "option") ∷ LeftAt l ∷ x ∷ RightAt r ∷ DotAt d ∷ NameAt e (codes "hex") ∷ []) (OptionValue at code)
+  option_exists : {n at l r d e code : ℕ} {x : Lexeme} → IsOptionCode x code → Spells primary_level n (NameAt at (codes "option") ∷ LeftAt l ∷ x ∷ RightAt r ∷ DotAt d ∷ NameAt e (codes "exists") ∷ []) (OptionExists at code)
   relay_hex : {n at l k r d e code : ℕ} → code < 256 → Spells primary_level n (NameAt at (codes "relay4") ∷ LeftAt l ∷ NumberAt k code ∷ RightAt r ∷ DotAt d ∷ NameAt e (codes "hex") ∷ []) (RelayValue at code)
   relay_exists : {n at l k r d e code : ℕ} → code < 256 → Spells primary_level n (NameAt at (codes "relay4") ∷ LeftAt l ∷ NumberAt k code ∷ RightAt r ∷ DotAt d ∷ NameAt e (codes "exists") ∷ []) (RelayExists at code)
-  field : {n at d e : ℕ} {name : List ℕ} {part : Field} → field_named name ≡ Some part → Spells primary_level n (NameAt at (codes "pkt4") ∷ DotAt d ∷ NameAt e name ∷ []) (FieldValue at part)
+  field : {n at d e : ℕ} {name : List ℕ} {part : Field} → field_by_name name ≡ Some part → Spells primary_level n (NameAt at (codes "pkt4") ∷ DotAt d ∷ NameAt e name ∷ []) (FieldValue at part)
   packet_length : {n at d e : ℕ} → Spells primary_level n (NameAt at (codes "pkt") ∷ DotAt d ∷ NameAt e (codes "len") ∷ []) (FieldValue at Length)
   member : {n at o k c : ℕ} {name : List ℕ} → 1 ≤ length name → length name ≤ 255 → Spells primary_level (suc n) (NameAt at (codes "member") ∷ OpenAt o ∷ StringAt k name ∷ CloseAt c ∷ []) (Member at name)
   substring : {n at o : ℕ} (c d e : ℕ) {us : List Lexeme} {x y : Lexeme} {a : Tree} {start : ℤ} {len : Option ℤ} → Spells or_level n us a → IsSigned x start → IsLength y len → Spells primary_level (suc n) (NameAt at (codes "substring") ∷ OpenAt o ∷ (us ++ CommaAt c ∷ x ∷ CommaAt d ∷ y ∷ CloseAt e ∷ [])) (Substring at a start len)

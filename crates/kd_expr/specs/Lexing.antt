@@ -2,15 +2,15 @@
 -- it to the definition of words. No public contract of this crate cites it; kd_config and kd_commands say by
 -- its `address_of` which text spells an address, and kd_config by its `behind_of` what follows blanks.
 use Rattle.std.specs.Prelude.{ℕ, zero, suc, ◌+◌, ◌-◌, Bool, true, false, ◌&&◌, ◌==◌, nat_le, List, [], ◌∷◌, length, Option, Some, None, if◌then◌else◌}
-use Rattle.kd_expr.specs.Address.{is_digit, decimal}
-use Rattle.kd_expr.specs.Lexical.{Lexeme, StringAt, HexAt, AddressAt, NumberAt, MinusAt, NameAt, SignAt, BadAt, is_blank, is_letter, is_hex_digit, is_sign, is_x, in_string, in_run, in_name}
+use Rattle.kd_expr.specs.Address.{a_digit, decimal}
+use Rattle.kd_expr.specs.Lexical.{Lexeme, StringAt, HexAt, AddressAt, NumberAt, MinusAt, NameAt, SignAt, BadAt, a_blank, a_letter, is_hex_digit, a_sign, is_x, in_string, in_run, in_name}
 use Rattle.kd_expr.specs.Reading.{and_then, or_else}
 use Rattle.kd_expr.specs.declared.class.Class.{Class}
 use Rattle.kd_expr.specs.declared.class.Class.TheVariants as classes
 
 -- the test of a class of bytes
 abbrev pub class_test : Class → ℕ → Bool
-class_test classes.Digit = is_digit
+class_test classes.Digit = a_digit
 class_test classes.HexDigit = is_hex_digit
 class_test classes.InRun = in_run
 class_test classes.InName = in_name
@@ -36,38 +36,38 @@ abbrev pub all_pass : (ℕ → Bool) → List ℕ → Bool
 all_pass p bytes = is_empty (behind_of p bytes)
 
 -- the number of the digits at the front, as a part of an address, and what follows
-unfoldable pub part : List ℕ → Option (ℕ × List ℕ)
-part text =
-    if nat_le 1 (length (front_of is_digit text)) && nat_le (length (front_of is_digit text)) 3 && nat_le (decimal (front_of is_digit text)) 255
-    then Some (decimal (front_of is_digit text), behind_of is_digit text)
+unfoldable pub part_at_front : List ℕ → Option (ℕ × List ℕ)
+part_at_front text =
+    if nat_le 1 (length (front_of a_digit text)) && nat_le (length (front_of a_digit text)) 3 && nat_le (decimal (front_of a_digit text)) 255
+    then Some (decimal (front_of a_digit text), behind_of a_digit text)
     else None
 
 -- the same behind a dot
-unfoldable pub next_part : List ℕ → Option (ℕ × List ℕ)
-next_part [] = None
-next_part (b ∷ text) = if b == 46 then part text else None
+unfoldable pub part_after_dot : List ℕ → Option (ℕ × List ℕ)
+part_after_dot [] = None
+part_after_dot (b ∷ text) = if b == 46 then part_at_front text else None
 
 -- the four bytes of an address
-unfoldable pub address_of : List ℕ → Option (List ℕ)
-address_of text =
-    and_then (part text) (λ a. and_then (next_part a.1) (λ b. and_then (next_part b.1) (λ c. and_then (next_part c.1) (λ d.
+unfoldable pub address_read : List ℕ → Option (List ℕ)
+address_read text =
+    and_then (part_at_front text) (λ a. and_then (part_after_dot a.1) (λ b. and_then (part_after_dot b.1) (λ c. and_then (part_after_dot c.1) (λ d.
     if is_empty d.1 then Some (a.0 ∷ b.0 ∷ c.0 ∷ d.0 ∷ []) else None))))
 
 -- the digits behind a hexadecimal prefix
-unfoldable pub hex_digits : List ℕ → Option (List ℕ)
-hex_digits [] = None
-hex_digits (z ∷ []) = None
-hex_digits (z ∷ x ∷ ds) = if (z == 48 && is_x x) && (nat_le 1 (length ds) && all_pass is_hex_digit ds) then Some ds else None
+unfoldable pub digits_after_0x : List ℕ → Option (List ℕ)
+digits_after_0x [] = None
+digits_after_0x (z ∷ []) = None
+digits_after_0x (z ∷ x ∷ ds) = if (z == 48 && is_x x) && (nat_le 1 (length ds) && all_pass is_hex_digit ds) then Some ds else None
 
 -- the token of a run
-unfoldable pub run_token : ℕ → List ℕ → Option Lexeme
-run_token at run =
-    if all_pass is_digit run then Some (NumberAt at (decimal run))
-    else or_else (hex_digits run) (λ digits. Some (HexAt at digits)) (and_then (address_of run) (λ a. Some (AddressAt at a)))
+unfoldable pub token_of_run : ℕ → List ℕ → Option Lexeme
+token_of_run at run =
+    if all_pass a_digit run then Some (NumberAt at (decimal run))
+    else or_else (digits_after_0x run) (λ digits. Some (HexAt at digits)) (and_then (address_read run) (λ a. Some (AddressAt at a)))
 
 -- a run and what follows it
 unfoldable pub run_cut : ℕ → List ℕ → Option (Lexeme × List ℕ)
-run_cut at bytes = and_then (run_token at (front_of in_run bytes)) (λ x. Some (x, behind_of in_run bytes))
+run_cut at bytes = and_then (token_of_run at (front_of in_run bytes)) (λ x. Some (x, behind_of in_run bytes))
 
 -- a string of these bytes, where an apostrophe follows them
 abbrev pub closed : ℕ → List ℕ → List ℕ → Option (Lexeme × List ℕ)
@@ -80,7 +80,7 @@ string_cut at bytes = closed at (front_of in_string bytes) (behind_of in_string 
 
 -- the token of a run behind a minus
 abbrev pub minus_token : ℕ → List ℕ → Option Lexeme
-minus_token at run = if nat_le 1 (length run) && all_pass is_digit run then Some (MinusAt at (decimal run)) else None
+minus_token at run = if nat_le 1 (length run) && all_pass a_digit run then Some (MinusAt at (decimal run)) else None
 
 -- a number behind its minus, and what follows it
 unfoldable pub minus_cut : ℕ → List ℕ → Option (Lexeme × List ℕ)
@@ -100,11 +100,11 @@ unfoldable pub cut : ℕ → List ℕ → Option (Lexeme × List ℕ)
 cut at [] = None
 cut at (b ∷ bytes) =
     if b == 39 then string_cut at bytes
-    else if is_digit b then run_cut at (b ∷ bytes)
+    else if a_digit b then run_cut at (b ∷ bytes)
     else if b == 45 then minus_cut at bytes
-    else if is_letter b then name_cut at (b ∷ bytes)
+    else if a_letter b then name_cut at (b ∷ bytes)
     else if b == 61 then equal_cut at bytes
-    else if is_sign b then Some (SignAt at b, bytes)
+    else if a_sign b then Some (SignAt at b, bytes)
     else None
 
 -- the tokens of bytes, at most k bytes and words further; the last is bad where no word stands
@@ -112,7 +112,7 @@ unfoldable pub tokens_from : ℕ → ℕ → List ℕ → List Lexeme
 tokens_from k at [] = []
 tokens_from zero at (b ∷ bytes) = []
 tokens_from (suc k) at (b ∷ bytes) =
-    if is_blank b then tokens_from k (at + 1) bytes
+    if a_blank b then tokens_from k (at + 1) bytes
     else elim (cut at (b ∷ bytes)) [
       | None ↦ BadAt at ∷ []
       | Some x ↦ x.0 ∷ tokens_from k (at + (length (b ∷ bytes) - length x.1)) x.1

@@ -5,8 +5,8 @@ use Rattle.kd_expr.specs.declared.node.Field.{Field}
 use Rattle.kd_expr.specs.declared.node.Field.TheVariants.{Mac, Hlen, Htype, Ciaddr, Giaddr, Yiaddr, Siaddr, Msgtype, Transid}
 
 -- the code of the option that a name stands for
-unfoldable pub code_named : List ℕ → Option ℕ
-code_named name =
+unfoldable pub code_by_name : List ℕ → Option ℕ
+code_by_name name =
     if bytes_eq name (codes "subnet-mask") then Some 1
     else if bytes_eq name (codes "routers") then Some 3
     else if bytes_eq name (codes "domain-name-servers") then Some 6
@@ -25,8 +25,8 @@ code_named name =
     else None
 
 -- the part of a message that a name behind `pkt4.` stands for
-unfoldable pub field_named : List ℕ → Option Field
-field_named name =
+unfoldable pub field_by_name : List ℕ → Option Field
+field_by_name name =
     if bytes_eq name (codes "mac") then Some Mac
     else if bytes_eq name (codes "hlen") then Some Hlen
     else if bytes_eq name (codes "htype") then Some Htype

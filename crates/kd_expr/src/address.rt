@@ -1,6 +1,6 @@
 ghost use Rattle.std.specs.Prelude.{◌≡◌, ℕ, List, IfSome, Some, option_map};
 ghost use Rattle.kd_expr.specs.Address.{IsAddress};
-ghost use Rattle.kd_expr.specs.Lexing.{part, next_part, address_of};
+ghost use Rattle.kd_expr.specs.Lexing.{part_at_front, part_after_dot, address_read};
 
 use crate::class::{Class, split};
 use crate::number::number;
@@ -15,9 +15,9 @@ pub fn read_address(text: &[u8]) -> Option<[u8; 4]>
 }
 
 // The four parts of an address.
-#[tactic(auto, unfolding(crate::specs::Lexing::address_of))]
+#[tactic(auto, unfolding(crate::specs::Lexing::address_read))]
 pub(crate) fn address_of(text: &[u8]) -> Option<[u8; 4]>
-    ensures { result ≡ address_of text.now }
+    ensures { result ≡ address_read text.now }
 {
     let (a, rest) = part(text)?;
     let (b, rest) = next_part(rest)?;
@@ -30,9 +30,9 @@ pub(crate) fn address_of(text: &[u8]) -> Option<[u8; 4]>
 }
 
 // The part behind a dot.
-#[tactic(auto, unfolding(crate::specs::Lexing::next_part))]
+#[tactic(auto, unfolding(crate::specs::Lexing::part_after_dot))]
 fn next_part(text: &[u8]) -> Option<(u8, &[u8])>
-    ensures { option_map (λ x. (x.0, x.1.now)) result ≡ next_part text.now }
+    ensures { option_map (λ x. (x.0, x.1.now)) result ≡ part_after_dot text.now }
 {
     match text {
         [b, rest @ ..] if *b == 46 => part(rest),
@@ -41,9 +41,9 @@ fn next_part(text: &[u8]) -> Option<(u8, &[u8])>
 }
 
 // The part at the front, and what follows it.
-#[tactic(auto, unfolding(crate::specs::Lexing::part))]
+#[tactic(auto, unfolding(crate::specs::Lexing::part_at_front))]
 fn part(text: &[u8]) -> Option<(u8, &[u8])>
-    ensures { option_map (λ x. (x.0, x.1.now)) result ≡ part text.now }
+    ensures { option_map (λ x. (x.0, x.1.now)) result ≡ part_at_front text.now }
 {
     let (digits, rest) = split(Class::Digit, text);
     match number(digits) {

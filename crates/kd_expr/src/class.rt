@@ -1,7 +1,7 @@
 ghost use Rattle.std.specs.Prelude.{◌≡◌, ◌≤◌, length};
 ghost use Rattle.std.specs.List.{prefix_len};
-ghost use Rattle.kd_expr.specs.Address.{is_digit};
-ghost use Rattle.kd_expr.specs.Lexical.{is_blank, is_letter, is_sign};
+ghost use Rattle.kd_expr.specs.Address.{a_digit};
+ghost use Rattle.kd_expr.specs.Lexical.{a_blank, a_letter, a_sign};
 ghost use Rattle.kd_expr.specs.Lexing.{class_test, front_of, behind_of, all_pass};
 
 // A class of bytes that words are made of.
@@ -29,28 +29,28 @@ fn is_of(class: Class, b: u8) -> bool
 
 // A digit 0 to 9.
 pub(crate) fn is_digit(b: u8) -> bool
-    ensures { result ≡ is_digit b }
+    ensures { result ≡ a_digit b }
 {
     48 <= b && b <= 57
 }
 
 // A letter of ASCII.
 pub(crate) fn is_letter(b: u8) -> bool
-    ensures { result ≡ is_letter b }
+    ensures { result ≡ a_letter b }
 {
     (65 <= b && b <= 90) || (97 <= b && b <= 122)
 }
 
 // A space, tab, carriage return or line feed.
 pub(crate) fn is_blank(b: u8) -> bool
-    ensures { result ≡ is_blank b }
+    ensures { result ≡ a_blank b }
 {
     b == 32 || b == 9 || b == 13 || b == 10
 }
 
 // A bracket, comma, dot or plus.
 pub(crate) fn is_sign(b: u8) -> bool
-    ensures { result ≡ is_sign b }
+    ensures { result ≡ a_sign b }
 {
     b == 40 || b == 41 || b == 43 || b == 44 || b == 46 || b == 91 || b == 93
 }

@@ -1,6 +1,6 @@
 ghost use Rattle.std.specs.Prelude.{◌≡◌, IfOk, Ok, Err, MatchResult};
 ghost use Rattle.kd_expr.specs.Grammar.{HasText, Parses};
-ghost use Rattle.kd_expr.specs.Size.{nodes};
+ghost use Rattle.kd_expr.specs.Size.{node_count};
 ghost use Rattle.kd_expr.specs.Typing.{test_type};
 ghost use Rattle.kd_expr.specs.View.{tree_of};
 
@@ -96,7 +96,7 @@ impl Typed {
 
     /// How many nodes the tree has; the numbers of a substring are none.
     pub fn nodes(&self) -> u32
-        ensures { result ≡ nodes (tree_of self.now) }
+        ensures { result ≡ node_count (tree_of self.now) }
     {
         count(&self.tree)
     }

@@ -1,6 +1,6 @@
 ghost use Rattle.std.specs.Prelude.{◌≡◌, ◌≤◌, IfOk, length, codes, bytes_eq};
-ghost use Rattle.kd_expr.specs.Gives.{Gives};
-ghost use Rattle.kd_expr.specs.Reading.{below, named_at, form_at, operand_before, one_operand, two_operands, ifelse_at, substring_at};
+ghost use Rattle.kd_expr.specs.Gives.{ReadsAs};
+ghost use Rattle.kd_expr.specs.Reading.{below, named_at, form_at, operand_then, operand_in_brackets, operands_in_brackets, ifelse_at, substring_after};
 ghost use Rattle.kd_expr.specs.View.{lexemes, tree_of};
 
 use crate::fault::SyntaxFault;
@@ -20,7 +20,7 @@ pub(crate) fn named_of<'t, 'a>(
     tokens: &'t [Token<'a>],
     depth: u8,
 ) -> Result<(Node, &'t [Token<'a>]), SyntaxFault>
-    ensures reads { Gives (λ x. (tree_of x.0, lexemes x.1.now)) result (named_at (below depth) at name.now (lexemes tokens.now)) }
+    ensures reads { ReadsAs (λ x. (tree_of x.0, lexemes x.1.now)) result (named_at (below depth) at name.now (lexemes tokens.now)) }
     ensures shorter { IfOk result (λ x. length x.1.now ≤ length tokens.now) }
 {
     if name == b"option".as_slice() {
@@ -48,7 +48,7 @@ fn form_of<'t, 'a>(
     tokens: &'t [Token<'a>],
     depth: u8,
 ) -> Result<(Node, &'t [Token<'a>]), SyntaxFault>
-    ensures reads { Gives (λ x. (tree_of x.0, lexemes x.1.now)) result (form_at (below depth) at name.now (lexemes tokens.now)) }
+    ensures reads { ReadsAs (λ x. (tree_of x.0, lexemes x.1.now)) result (form_at (below depth) at name.now (lexemes tokens.now)) }
     ensures shorter { IfOk result (λ x. length x.1.now ≤ length tokens.now) }
 {
     if name == b"substring".as_slice() {
@@ -84,7 +84,7 @@ fn form_of<'t, 'a>(
 
 // An operand behind the bracket at this place, and the sign that has to follow it.
 #[cycle(parser)]
-#[tactic(auto, unfolding(crate::specs::Reading::operand_before))]
+#[tactic(auto, unfolding(crate::specs::Reading::operand_then))]
 pub(crate) fn operand_before<'t, 'a>(
     source: Source,
     tokens: &'t [Token<'a>],
@@ -92,7 +92,7 @@ pub(crate) fn operand_before<'t, 'a>(
     open: usize,
     wanted: u8,
 ) -> Result<(Box<Node>, &'t [Token<'a>]), SyntaxFault>
-    ensures reads { Gives (λ x. (tree_of x.0.value, lexemes x.1.now)) result (operand_before (below depth) wanted (lexemes tokens.now)) }
+    ensures reads { ReadsAs (λ x. (tree_of x.0.value, lexemes x.1.now)) result (operand_then (below depth) wanted (lexemes tokens.now)) }
     ensures shorter { IfOk result (λ x. length x.1.now ≤ length tokens.now) }
 {
     let (operand, rest) = any_deeper(source, tokens, depth, open)?;
@@ -102,13 +102,13 @@ pub(crate) fn operand_before<'t, 'a>(
 
 // An operand in brackets.
 #[cycle(parser)]
-#[tactic(auto, unfolding(crate::specs::Reading::one_operand))]
+#[tactic(auto, unfolding(crate::specs::Reading::operand_in_brackets))]
 fn one_operand<'t, 'a>(
     source: Source,
     tokens: &'t [Token<'a>],
     depth: u8,
 ) -> Result<(Box<Node>, &'t [Token<'a>]), SyntaxFault>
-    ensures reads { Gives (λ x. (tree_of x.0.value, lexemes x.1.now)) result (one_operand (below depth) (lexemes tokens.now)) }
+    ensures reads { ReadsAs (λ x. (tree_of x.0.value, lexemes x.1.now)) result (operand_in_brackets (below depth) (lexemes tokens.now)) }
     ensures shorter { IfOk result (λ x. length x.1.now ≤ length tokens.now) }
 {
     let (open, rest) = expect_sign(tokens, b'(', source.end)?;
@@ -117,13 +117,13 @@ fn one_operand<'t, 'a>(
 
 // Two operands in brackets.
 #[cycle(parser)]
-#[tactic(auto, unfolding(crate::specs::Reading::two_operands))]
+#[tactic(auto, unfolding(crate::specs::Reading::operands_in_brackets))]
 fn two_operands<'t, 'a>(
     source: Source,
     tokens: &'t [Token<'a>],
     depth: u8,
 ) -> Result<(Box<Node>, Box<Node>, &'t [Token<'a>]), SyntaxFault>
-    ensures reads { Gives (λ x. ((tree_of x.0.value, tree_of x.1.value), lexemes x.2.now)) result (two_operands (below depth) (lexemes tokens.now)) }
+    ensures reads { ReadsAs (λ x. ((tree_of x.0.value, tree_of x.1.value), lexemes x.2.now)) result (operands_in_brackets (below depth) (lexemes tokens.now)) }
     ensures shorter { IfOk result (λ x. length x.2.now ≤ length tokens.now) }
 {
     let (open, rest) = expect_sign(tokens, b'(', source.end)?;
@@ -141,7 +141,7 @@ fn ifelse_of<'t, 'a>(
     tokens: &'t [Token<'a>],
     depth: u8,
 ) -> Result<(Node, &'t [Token<'a>]), SyntaxFault>
-    ensures reads { Gives (λ x. (tree_of x.0, lexemes x.1.now)) result (ifelse_at (below depth) at (lexemes tokens.now)) }
+    ensures reads { ReadsAs (λ x. (tree_of x.0, lexemes x.1.now)) result (ifelse_at (below depth) at (lexemes tokens.now)) }
     ensures shorter { IfOk result (λ x. length x.1.now ≤ length tokens.now) }
 {
     let (open, rest) = expect_sign(tokens, b'(', source.end)?;
@@ -153,14 +153,14 @@ fn ifelse_of<'t, 'a>(
 
 // What stands behind `substring`.
 #[cycle(parser)]
-#[tactic(auto, unfolding(crate::specs::Reading::substring_at))]
+#[tactic(auto, unfolding(crate::specs::Reading::substring_after))]
 fn substring_of<'t, 'a>(
     source: Source,
     at: usize,
     tokens: &'t [Token<'a>],
     depth: u8,
 ) -> Result<(Node, &'t [Token<'a>]), SyntaxFault>
-    ensures reads { Gives (λ x. (tree_of x.0, lexemes x.1.now)) result (substring_at (below depth) at (lexemes tokens.now)) }
+    ensures reads { ReadsAs (λ x. (tree_of x.0, lexemes x.1.now)) result (substring_after (below depth) at (lexemes tokens.now)) }
     ensures shorter { IfOk result (λ x. length x.1.now ≤ length tokens.now) }
 {
     let (open, rest) = expect_sign(tokens, b'(', source.end)?;

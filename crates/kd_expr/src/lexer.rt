@@ -1,5 +1,5 @@
 ghost use Rattle.std.specs.Prelude.{◌≡◌, ◌<◌, ◌≤◌, IfSome, OnOk, IfOk, Some, length, option_map, option_copied};
-ghost use Rattle.kd_expr.specs.Lexing.{hex_digits, run_token, run_cut, string_cut, minus_token, minus_cut, name_cut, equal_cut, cut, tokens_from, front_of};
+ghost use Rattle.kd_expr.specs.Lexing.{digits_after_0x, token_of_run, run_cut, string_cut, minus_token, minus_cut, name_cut, equal_cut, cut, tokens_from, front_of};
 ghost use Rattle.kd_expr.specs.View.{lexemes, lexeme_of};
 
 use crate::address::address_of;
@@ -99,9 +99,9 @@ fn run_at<'a>(at: usize, bytes: &'a [u8]) -> Option<(Token<'a>, &'a [u8])>
 }
 
 // The token of a run: a number, hexadecimal digits or an address.
-#[tactic(auto, unfolding(crate::specs::Lexing::run_token))]
+#[tactic(auto, unfolding(crate::specs::Lexing::token_of_run))]
 fn run_token<'a>(at: usize, run: &'a [u8]) -> Option<Token<'a>>
-    ensures { option_map (λ x. lexeme_of x) result ≡ run_token at run.now }
+    ensures { option_map (λ x. lexeme_of x) result ≡ token_of_run at run.now }
 {
     if all_of(Class::Digit, run) {
         return Some(Token {
@@ -123,9 +123,9 @@ fn run_token<'a>(at: usize, run: &'a [u8]) -> Option<Token<'a>>
 }
 
 // The digits behind a hexadecimal prefix.
-#[tactic(auto, unfolding(crate::specs::Lexing::hex_digits))]
+#[tactic(auto, unfolding(crate::specs::Lexing::digits_after_0x))]
 fn hex_digits(run: &[u8]) -> Option<&[u8]>
-    ensures { option_copied result ≡ hex_digits run.now }
+    ensures { option_copied result ≡ digits_after_0x run.now }
 {
     let [zero, x, digits @ ..] = run else {
         return None;

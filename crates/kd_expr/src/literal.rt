@@ -1,5 +1,5 @@
 ghost use Rattle.std.specs.Prelude.{◌≡◌, ◌<◌, ◌++◌, OnOk, IfOk};
-ghost use Rattle.kd_expr.specs.Grammar.{hex_digit, hex_pairs, hex_bytes};
+ghost use Rattle.kd_expr.specs.Grammar.{hex_digit_value, hex_pairs, hex_bytes};
 
 use kd_wire::Bytes;
 use std::alloc::{AllocError, Global};
@@ -40,7 +40,7 @@ fn push_pairs(bytes: &mut Vec<u8>, digits: &[u8]) -> Result<(), AllocError>
 
 // The value of a hexadecimal digit, and 0 for another byte.
 fn hex_digit(d: u8) -> u8
-    ensures value { result ≡ hex_digit d }
+    ensures value { result ≡ hex_digit_value d }
     ensures small { result < 16 }
 {
     match d {

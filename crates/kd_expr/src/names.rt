@@ -1,7 +1,7 @@
 ghost use Rattle.std.specs.Prelude.{◌≡◌, ◌≤◌, ◌<◌, IfOk, length, codes, bytes_eq};
-ghost use Rattle.kd_expr.specs.Gives.{Gives};
-ghost use Rattle.kd_expr.specs.Names.{code_named, field_named};
-ghost use Rattle.kd_expr.specs.Reading.{below, one, bracketed, option_code, relay_code, suffix, field_of, signed, length_of, class_name, option_at, relay_at, field_at, packet_at, member_at};
+ghost use Rattle.kd_expr.specs.Gives.{ReadsAs};
+ghost use Rattle.kd_expr.specs.Names.{code_by_name, field_by_name};
+ghost use Rattle.kd_expr.specs.Reading.{below, one, bracketed, code_of_option, code_of_relay, suffix_of, field_of, signed, length_of_part, class_name, option_at, relay_at, field_after, packet_at, member_at};
 ghost use Rattle.kd_expr.specs.View.{lexemes, tree_of};
 
 use crate::fault::SyntaxFault;
@@ -19,7 +19,7 @@ pub(crate) fn option_of<'t, 'a>(
     at: usize,
     tokens: &'t [Token<'a>],
 ) -> Result<(Node, &'t [Token<'a>]), SyntaxFault>
-    ensures reads { Gives (λ x. (tree_of x.0, lexemes x.1.now)) result (option_at at (lexemes tokens.now)) }
+    ensures reads { ReadsAs (λ x. (tree_of x.0, lexemes x.1.now)) result (option_at at (lexemes tokens.now)) }
     ensures shorter { IfOk result (λ x. length x.1.now ≤ length tokens.now) }
 {
     let (_, rest) = expect_sign(tokens, b'[', source.end)?;
@@ -41,7 +41,7 @@ pub(crate) fn relay_of<'t, 'a>(
     at: usize,
     tokens: &'t [Token<'a>],
 ) -> Result<(Node, &'t [Token<'a>]), SyntaxFault>
-    ensures reads { Gives (λ x. (tree_of x.0, lexemes x.1.now)) result (relay_at at (lexemes tokens.now)) }
+    ensures reads { ReadsAs (λ x. (tree_of x.0, lexemes x.1.now)) result (relay_at at (lexemes tokens.now)) }
     ensures shorter { IfOk result (λ x. length x.1.now ≤ length tokens.now) }
 {
     let (_, rest) = expect_sign(tokens, b'[', source.end)?;
@@ -57,13 +57,13 @@ pub(crate) fn relay_of<'t, 'a>(
 }
 
 // What stands behind `pkt4`.
-#[tactic(auto, unfolding(crate::specs::Reading::field_at))]
+#[tactic(auto, unfolding(crate::specs::Reading::field_after))]
 pub(crate) fn field_of<'t, 'a>(
     source: Source,
     at: usize,
     tokens: &'t [Token<'a>],
 ) -> Result<(Node, &'t [Token<'a>]), SyntaxFault>
-    ensures reads { Gives (λ x. (tree_of x.0, lexemes x.1.now)) result (field_at at (lexemes tokens.now)) }
+    ensures reads { ReadsAs (λ x. (tree_of x.0, lexemes x.1.now)) result (field_after at (lexemes tokens.now)) }
     ensures shorter { IfOk result (λ x. length x.1.now ≤ length tokens.now) }
 {
     let (_, rest) = expect_sign(tokens, b'.', source.end)?;
@@ -78,7 +78,7 @@ pub(crate) fn packet_of<'t, 'a>(
     at: usize,
     tokens: &'t [Token<'a>],
 ) -> Result<(Node, &'t [Token<'a>]), SyntaxFault>
-    ensures reads { Gives (λ x. (tree_of x.0, lexemes x.1.now)) result (packet_at at (lexemes tokens.now)) }
+    ensures reads { ReadsAs (λ x. (tree_of x.0, lexemes x.1.now)) result (packet_at at (lexemes tokens.now)) }
     ensures shorter { IfOk result (λ x. length x.1.now ≤ length tokens.now) }
 {
     let (_, rest) = expect_sign(tokens, b'.', source.end)?;
@@ -100,7 +100,7 @@ pub(crate) fn member_of<'t, 'a>(
     tokens: &'t [Token<'a>],
     depth: u8,
 ) -> Result<(Node, &'t [Token<'a>]), SyntaxFault>
-    ensures reads { Gives (λ x. (tree_of x.0, lexemes x.1.now)) result (member_at (below depth) at (lexemes tokens.now)) }
+    ensures reads { ReadsAs (λ x. (tree_of x.0, lexemes x.1.now)) result (member_at (below depth) at (lexemes tokens.now)) }
     ensures shorter { IfOk result (λ x. length x.1.now ≤ length tokens.now) }
 {
     let (open, rest) = expect_sign(tokens, b'(', source.end)?;
@@ -118,7 +118,7 @@ fn name_deeper<'t, 'a>(
     at: usize,
     end: usize,
 ) -> Result<(&'a [u8], &'t [Token<'a>]), SyntaxFault>
-    ensures reads { Gives (λ x. (x.0.now, lexemes x.1.now)) result ((below depth).name (lexemes tokens.now)) }
+    ensures reads { ReadsAs (λ x. (x.0.now, lexemes x.1.now)) result ((below depth).name (lexemes tokens.now)) }
     ensures shorter { IfOk result (λ x. length x.1.now ≤ length tokens.now) }
 {
     if depth == 0 {
@@ -139,7 +139,7 @@ fn option_code<'t, 'a>(
     tokens: &'t [Token<'a>],
     end: usize,
 ) -> Result<(u8, &'t [Token<'a>]), SyntaxFault>
-    ensures reads { Gives (λ x. (x.0, lexemes x.1.now)) result (one option_code (lexemes tokens.now)) }
+    ensures reads { ReadsAs (λ x. (x.0, lexemes x.1.now)) result (one code_of_option (lexemes tokens.now)) }
     ensures shorter { IfOk result (λ x. length x.1.now < length tokens.now) }
 {
     let [first, rest @ ..] = tokens else {
@@ -164,7 +164,7 @@ fn relay_code<'t, 'a>(
     tokens: &'t [Token<'a>],
     end: usize,
 ) -> Result<(u8, &'t [Token<'a>]), SyntaxFault>
-    ensures reads { Gives (λ x. (x.0, lexemes x.1.now)) result (one relay_code (lexemes tokens.now)) }
+    ensures reads { ReadsAs (λ x. (x.0, lexemes x.1.now)) result (one code_of_relay (lexemes tokens.now)) }
     ensures shorter { IfOk result (λ x. length x.1.now < length tokens.now) }
 {
     let [first, rest @ ..] = tokens else {
@@ -185,7 +185,7 @@ fn suffix<'t, 'a>(
     tokens: &'t [Token<'a>],
     end: usize,
 ) -> Result<(bool, &'t [Token<'a>]), SyntaxFault>
-    ensures reads { Gives (λ x. (x.0, lexemes x.1.now)) result (one suffix (lexemes tokens.now)) }
+    ensures reads { ReadsAs (λ x. (x.0, lexemes x.1.now)) result (one suffix_of (lexemes tokens.now)) }
     ensures shorter { IfOk result (λ x. length x.1.now < length tokens.now) }
 {
     let [first, rest @ ..] = tokens else {
@@ -204,7 +204,7 @@ fn field<'t, 'a>(
     tokens: &'t [Token<'a>],
     end: usize,
 ) -> Result<(Field, &'t [Token<'a>]), SyntaxFault>
-    ensures reads { Gives (λ x. (x.0, lexemes x.1.now)) result (one field_of (lexemes tokens.now)) }
+    ensures reads { ReadsAs (λ x. (x.0, lexemes x.1.now)) result (one field_of (lexemes tokens.now)) }
     ensures shorter { IfOk result (λ x. length x.1.now < length tokens.now) }
 {
     let [first, rest @ ..] = tokens else {
@@ -225,7 +225,7 @@ pub(crate) fn signed_of<'t, 'a>(
     tokens: &'t [Token<'a>],
     end: usize,
 ) -> Result<(i32, &'t [Token<'a>]), SyntaxFault>
-    ensures reads { Gives (λ x. (x.0, lexemes x.1.now)) result (one signed (lexemes tokens.now)) }
+    ensures reads { ReadsAs (λ x. (x.0, lexemes x.1.now)) result (one signed (lexemes tokens.now)) }
     ensures shorter { IfOk result (λ x. length x.1.now < length tokens.now) }
 {
     let [first, rest @ ..] = tokens else {
@@ -251,7 +251,7 @@ pub(crate) fn length_of<'t, 'a>(
     tokens: &'t [Token<'a>],
     end: usize,
 ) -> Result<(Option<i32>, &'t [Token<'a>]), SyntaxFault>
-    ensures reads { Gives (λ x. (x.0, lexemes x.1.now)) result (one length_of (lexemes tokens.now)) }
+    ensures reads { ReadsAs (λ x. (x.0, lexemes x.1.now)) result (one length_of_part (lexemes tokens.now)) }
     ensures shorter { IfOk result (λ x. length x.1.now < length tokens.now) }
 {
     let [first, rest @ ..] = tokens else {
@@ -269,9 +269,9 @@ pub(crate) fn length_of<'t, 'a>(
 }
 
 // The code of the option that a name stands for.
-#[tactic(auto, unfolding(crate::specs::Names::code_named))]
+#[tactic(auto, unfolding(crate::specs::Names::code_by_name))]
 fn code_named(name: &[u8]) -> Option<u8>
-    ensures { result ≡ code_named name.now }
+    ensures { result ≡ code_by_name name.now }
 {
     if name == b"subnet-mask".as_slice() {
         Some(1)
@@ -309,9 +309,9 @@ fn code_named(name: &[u8]) -> Option<u8>
 }
 
 // The part of a message that a name behind `pkt4.` stands for.
-#[tactic(auto, unfolding(crate::specs::Names::field_named))]
+#[tactic(auto, unfolding(crate::specs::Names::field_by_name))]
 fn field_named(name: &[u8]) -> Option<Field>
-    ensures { result ≡ field_named name.now }
+    ensures { result ≡ field_by_name name.now }
 {
     if name == b"mac".as_slice() {
         Some(Field::Mac)

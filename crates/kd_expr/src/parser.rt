@@ -1,5 +1,5 @@
 ghost use Rattle.std.specs.Prelude.{◌≡◌, ◌≤◌, ◌<◌, IfOk, MatchResult, length, codes, bytes_eq};
-ghost use Rattle.kd_expr.specs.Gives.{Gives};
+ghost use Rattle.kd_expr.specs.Gives.{ReadsAs};
 ghost use Rattle.kd_expr.specs.Reading.{below, or_at, and_at, not_at, compare_at, sum_at, primary_at, group_at};
 ghost use Rattle.kd_expr.specs.Reading as reading;
 ghost use Rattle.kd_expr.specs.Tree.{Equal, Not, at_of};
@@ -79,13 +79,13 @@ fn negation(alloc: Global, at: usize, operand: Node) -> Result<Node, SyntaxFault
 
 // A disjunction, which is any expression, where `depth` more brackets and `not`s may be nested.
 #[cycle(parser)]
-#[tactic(auto, unfolding(crate::specs::Reading::or_at, crate::specs::Reading::chain, crate::specs::Reading::joined))]
+#[tactic(auto, unfolding(crate::specs::Reading::or_at, crate::specs::Reading::chain, crate::specs::Reading::operands_joined))]
 pub(crate) fn or_of<'t, 'a>(
     source: Source,
     tokens: &'t [Token<'a>],
     depth: u8,
 ) -> Result<(Node, &'t [Token<'a>]), SyntaxFault>
-    ensures reads { Gives (λ x. (tree_of x.0, lexemes x.1.now)) result (or_at (below depth) (lexemes tokens.now)) }
+    ensures reads { ReadsAs (λ x. (tree_of x.0, lexemes x.1.now)) result (or_at (below depth) (lexemes tokens.now)) }
     ensures shorter { IfOk result (λ x. length x.1.now ≤ length tokens.now) }
 {
     let (mut first, mut rest) = and_of(source, tokens, depth)?;
@@ -99,13 +99,13 @@ pub(crate) fn or_of<'t, 'a>(
 
 // A conjunction.
 #[cycle(parser)]
-#[tactic(auto, unfolding(crate::specs::Reading::and_at, crate::specs::Reading::chain, crate::specs::Reading::joined))]
+#[tactic(auto, unfolding(crate::specs::Reading::and_at, crate::specs::Reading::chain, crate::specs::Reading::operands_joined))]
 fn and_of<'t, 'a>(
     source: Source,
     tokens: &'t [Token<'a>],
     depth: u8,
 ) -> Result<(Node, &'t [Token<'a>]), SyntaxFault>
-    ensures reads { Gives (λ x. (tree_of x.0, lexemes x.1.now)) result (and_at (below depth) (lexemes tokens.now)) }
+    ensures reads { ReadsAs (λ x. (tree_of x.0, lexemes x.1.now)) result (and_at (below depth) (lexemes tokens.now)) }
     ensures shorter { IfOk result (λ x. length x.1.now ≤ length tokens.now) }
 {
     let (mut first, mut rest) = not_of(source, tokens, depth)?;
@@ -125,7 +125,7 @@ fn not_of<'t, 'a>(
     tokens: &'t [Token<'a>],
     depth: u8,
 ) -> Result<(Node, &'t [Token<'a>]), SyntaxFault>
-    ensures reads { Gives (λ x. (tree_of x.0, lexemes x.1.now)) result (not_at (below depth) (lexemes tokens.now)) }
+    ensures reads { ReadsAs (λ x. (tree_of x.0, lexemes x.1.now)) result (not_at (below depth) (lexemes tokens.now)) }
     ensures shorter { IfOk result (λ x. length x.1.now ≤ length tokens.now) }
 {
     match word(tokens, b"not") {
@@ -145,7 +145,7 @@ fn compare_of<'t, 'a>(
     tokens: &'t [Token<'a>],
     depth: u8,
 ) -> Result<(Node, &'t [Token<'a>]), SyntaxFault>
-    ensures reads { Gives (λ x. (tree_of x.0, lexemes x.1.now)) result (compare_at (below depth) (lexemes tokens.now)) }
+    ensures reads { ReadsAs (λ x. (tree_of x.0, lexemes x.1.now)) result (compare_at (below depth) (lexemes tokens.now)) }
     ensures shorter { IfOk result (λ x. length x.1.now ≤ length tokens.now) }
 {
     let (first, rest) = sum_of(source, tokens, depth)?;
@@ -160,13 +160,13 @@ fn compare_of<'t, 'a>(
 
 // A sum of byte strings.
 #[cycle(parser)]
-#[tactic(auto, unfolding(crate::specs::Reading::sum_at, crate::specs::Reading::chain, crate::specs::Reading::joined))]
+#[tactic(auto, unfolding(crate::specs::Reading::sum_at, crate::specs::Reading::chain, crate::specs::Reading::operands_joined))]
 fn sum_of<'t, 'a>(
     source: Source,
     tokens: &'t [Token<'a>],
     depth: u8,
 ) -> Result<(Node, &'t [Token<'a>]), SyntaxFault>
-    ensures reads { Gives (λ x. (tree_of x.0, lexemes x.1.now)) result (sum_at (below depth) (lexemes tokens.now)) }
+    ensures reads { ReadsAs (λ x. (tree_of x.0, lexemes x.1.now)) result (sum_at (below depth) (lexemes tokens.now)) }
     ensures shorter { IfOk result (λ x. length x.1.now ≤ length tokens.now) }
 {
     let (mut first, mut rest) = primary_of(source, tokens, depth)?;
@@ -186,7 +186,7 @@ fn primary_of<'t, 'a>(
     tokens: &'t [Token<'a>],
     depth: u8,
 ) -> Result<(Node, &'t [Token<'a>]), SyntaxFault>
-    ensures reads { Gives (λ x. (tree_of x.0, lexemes x.1.now)) result (primary_at (below depth) (lexemes tokens.now)) }
+    ensures reads { ReadsAs (λ x. (tree_of x.0, lexemes x.1.now)) result (primary_at (below depth) (lexemes tokens.now)) }
     ensures shorter { IfOk result (λ x. length x.1.now ≤ length tokens.now) }
 {
     let [token, rest @ ..] = tokens else {
@@ -224,7 +224,7 @@ fn group_of<'t, 'a>(
     tokens: &'t [Token<'a>],
     depth: u8,
 ) -> Result<(Node, &'t [Token<'a>]), SyntaxFault>
-    ensures reads { Gives (λ x. (tree_of x.0, lexemes x.1.now)) result (group_at (below depth) (lexemes tokens.now)) }
+    ensures reads { ReadsAs (λ x. (tree_of x.0, lexemes x.1.now)) result (group_at (below depth) (lexemes tokens.now)) }
     ensures shorter { IfOk result (λ x. length x.1.now ≤ length tokens.now) }
 {
     let (at, rest) = expect_sign(tokens, b'(', source.end)?;
@@ -241,7 +241,7 @@ pub(crate) fn any_deeper<'t, 'a>(
     depth: u8,
     at: usize,
 ) -> Result<(Node, &'t [Token<'a>]), SyntaxFault>
-    ensures reads { Gives (λ x. (tree_of x.0, lexemes x.1.now)) result ((below depth).any (lexemes tokens.now)) }
+    ensures reads { ReadsAs (λ x. (tree_of x.0, lexemes x.1.now)) result ((below depth).any (lexemes tokens.now)) }
     ensures shorter { IfOk result (λ x. length x.1.now ≤ length tokens.now) }
 {
     if depth == 0 {
@@ -259,7 +259,7 @@ fn operand_deeper<'t, 'a>(
     depth: u8,
     at: usize,
 ) -> Result<(Node, &'t [Token<'a>]), SyntaxFault>
-    ensures reads { Gives (λ x. (tree_of x.0, lexemes x.1.now)) result ((below depth).operand (lexemes tokens.now)) }
+    ensures reads { ReadsAs (λ x. (tree_of x.0, lexemes x.1.now)) result ((below depth).operand (lexemes tokens.now)) }
     ensures shorter { IfOk result (λ x. length x.1.now ≤ length tokens.now) }
 {
     if depth == 0 {

@@ -1,5 +1,5 @@
 ghost use Rattle.std.specs.Prelude.{◌≡◌, ◌<◌, ◌≤◌, ◌↔◌, IfOk, MatchResult, length, Err, Ok};
-ghost use Rattle.kd_expr.specs.Gives.{Gives};
+ghost use Rattle.kd_expr.specs.Gives.{ReadsAs};
 ghost use Rattle.kd_expr.specs.Grammar.{Parses};
 ghost use Rattle.kd_expr.specs.Lexing.{tokens_from};
 ghost use Rattle.kd_expr.specs.Reading.{whole_at};
@@ -44,7 +44,7 @@ pub fn read(alloc: Global, text: &[u8]) -> Result<Expr, ExprFault>
 // The tree that all tokens of a text spell.
 #[tactic(auto, unfolding(crate::specs::Reading::whole_at))]
 fn node_in(alloc: Global, text: &[u8]) -> Result<Node, SyntaxFault>
-    ensures { Gives tree_of result (whole_at (tokens_from (length text.now) 0 text.now)) }
+    ensures { ReadsAs tree_of result (whole_at (tokens_from (length text.now) 0 text.now)) }
 {
     let tokens = tokens_of(alloc, text)?;
     let source = Source {

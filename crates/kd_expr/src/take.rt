@@ -1,7 +1,7 @@
 ghost use Rattle.std.specs.Prelude.{◌≡◌, ◌≢◌, ◌≤◌, ◌^◌, ◌<◌, IfOk, IfSome, length, option_map, option_copied, bytes_eq, codes};
-ghost use Rattle.kd_expr.specs.Gives.{Gives};
-ghost use Rattle.kd_expr.specs.Names.{code_named, field_named};
-ghost use Rattle.kd_expr.specs.Reading.{one, sign, word, option_code, relay_code, suffix, field_of, signed, length_of, class_name};
+ghost use Rattle.kd_expr.specs.Gives.{ReadsAs};
+ghost use Rattle.kd_expr.specs.Names.{code_by_name, field_by_name};
+ghost use Rattle.kd_expr.specs.Reading.{one, sign_here, word_here, code_of_option, code_of_relay, suffix_of, field_of, signed, length_of_part, class_name};
 ghost use Rattle.kd_expr.specs.View.{lexemes, lexeme_at};
 ghost use Rattle.kd_expr.specs.declared.fault.SyntaxFault.TheVariants as faults;
 
@@ -26,7 +26,7 @@ pub(crate) fn unexpected(tokens: &[Token<'_>], end: usize) -> SyntaxFault
 
 // The place of this sign, and what follows it.
 pub(crate) fn sign<'t, 'a>(tokens: &'t [Token<'a>], wanted: u8) -> Option<(usize, &'t [Token<'a>])>
-    ensures reads { option_map (λ x. (x.0, lexemes x.1.now)) result ≡ sign wanted (lexemes tokens.now) }
+    ensures reads { option_map (λ x. (x.0, lexemes x.1.now)) result ≡ sign_here wanted (lexemes tokens.now) }
     ensures shorter { IfSome result (λ x. length x.1.now < length tokens.now) }
 {
     let [first, rest @ ..] = tokens else {
@@ -44,7 +44,7 @@ pub(crate) fn word<'t, 'a>(
     tokens: &'t [Token<'a>],
     wanted: &[u8],
 ) -> Option<(usize, &'t [Token<'a>])>
-    ensures reads { option_map (λ x. (x.0, lexemes x.1.now)) result ≡ word wanted.now (lexemes tokens.now) }
+    ensures reads { option_map (λ x. (x.0, lexemes x.1.now)) result ≡ word_here wanted.now (lexemes tokens.now) }
     ensures shorter { IfSome result (λ x. length x.1.now < length tokens.now) }
 {
     let [first, rest @ ..] = tokens else {
@@ -63,7 +63,7 @@ pub(crate) fn expect_sign<'t, 'a>(
     wanted: u8,
     end: usize,
 ) -> Result<(usize, &'t [Token<'a>]), SyntaxFault>
-    ensures reads { Gives (λ x. (x.0, lexemes x.1.now)) result (sign wanted (lexemes tokens.now)) }
+    ensures reads { ReadsAs (λ x. (x.0, lexemes x.1.now)) result (sign_here wanted (lexemes tokens.now)) }
     ensures shorter { IfOk result (λ x. length x.1.now < length tokens.now) }
 {
     match sign(tokens, wanted) {
@@ -78,7 +78,7 @@ pub(crate) fn expect_word<'t, 'a>(
     wanted: &[u8],
     end: usize,
 ) -> Result<(usize, &'t [Token<'a>]), SyntaxFault>
-    ensures reads { Gives (λ x. (x.0, lexemes x.1.now)) result (word wanted.now (lexemes tokens.now)) }
+    ensures reads { ReadsAs (λ x. (x.0, lexemes x.1.now)) result (word_here wanted.now (lexemes tokens.now)) }
     ensures shorter { IfOk result (λ x. length x.1.now < length tokens.now) }
 {
     match word(tokens, wanted) {

@@ -1,5 +1,5 @@
 ghost use Rattle.std.specs.Prelude.{◌≡◌, ◌<◌, ◌^◌};
-ghost use Rattle.kd_expr.specs.Size.{nodes};
+ghost use Rattle.kd_expr.specs.Size.{node_count};
 ghost use Rattle.kd_expr.specs.Typing.{field_type, type_of, test_type, want_bool, want_bytes, want_int};
 ghost use Rattle.kd_expr.specs.Tree.{at_of};
 ghost use Rattle.kd_expr.specs.View.{tree_of};
@@ -124,8 +124,8 @@ fn type_of_field(field: Field) -> ValueType
 
 // How many nodes an expression has.
 pub(crate) fn count(node: &Node) -> u32
-    requires { nodes (tree_of node.now) < 2 ^ 32 }
-    ensures { result ≡ nodes (tree_of node.now) }
+    requires { node_count (tree_of node.now) < 2 ^ 32 }
+    ensures { result ≡ node_count (tree_of node.now) }
 {
     match node {
         Node::Literal { .. }

@@ -1,6 +1,6 @@
 -- What a server starts with: the configuration of a text that was read, or the built-in one.
 use Rattle.std.specs.Prelude.{◌≡◌, ◌≢◌, ◌≤◌, ℕ, Bool, false, List, [], length, Option, Some, None, is_some, IfSome}
-use Rattle.kd_config.specs.Configuration.{Configuration, builtin}
+use Rattle.kd_config.specs.Configuration.{Configuration, builtin_config}
 use Rattle.kd_config.specs.Configured.{IsConfigured}
 use Rattle.kd_config.specs.declared.fault.ConfigFault.TheVariants as configs
 use Rattle.kd_config.specs.declared.token_file.TokenFile.{TokenFile}
@@ -10,7 +10,7 @@ use Rattle.kd_io.specs.declared.start.StartFault.TheVariants as starts
 
 -- the configuration that a text means with these token files; without a text the built-in one
 abbrev pub IsStart : Option (List ℕ) → List TokenFile → Configuration → Type 0
-IsStart None files c = c ≡ builtin
+IsStart None files c = c ≡ builtin_config
 IsStart (Some text) files c = IsConfigured text files c
 
 -- a fault of a text that means no configuration, or want of memory

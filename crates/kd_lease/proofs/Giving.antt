@@ -9,8 +9,8 @@ use Rattle.kd_classes.specs.declared.definition.ClassDef.{ClassDef}
 use Rattle.kd_classes.specs.declared.option_list.OptionData.{OptionData}
 use Rattle.kd_config.specs.Configuration.{Configuration}
 use Rattle.kd_config.specs.declared.subnet.Subnet.{Subnet}
-use Rattle.kd_machine.specs.World.{is_held}
-use Rattle.kd_lease.specs.Given.{class_options, given, mask_of, pool_options}
+use Rattle.kd_machine.specs.Parts.{is_held}
+use Rattle.kd_lease.specs.Given.{class_options, given, prefix_mask, options_of_pool}
 use Rattle.kd_lease.specs.Plan.{ReplyOption}
 
 class_options-append : (a b : List ClassDef) (names : List (List ℕ)) → class_options (a ++ b) names ≡ class_options a names ++ class_options b names
@@ -47,7 +47,7 @@ more_codes f bs code some =
 
 -- the options of a configuration, each list as it is found
 pub all_given : (config : Configuration) (subnet : Subnet) (names : List (List ℕ)) (address : ℕ) (pool own classes all : List OptionData) (mask : List ℕ)
-    → pool ≡ pool_options subnet.pools address → own ≡ subnet.options → classes ≡ class_options config.classes names → all ≡ config.options → mask ≡ mask_of subnet.prefix
+    → pool ≡ options_of_pool subnet.pools address → own ≡ subnet.options → classes ≡ class_options config.classes names → all ≡ config.options → mask ≡ prefix_mask subnet.prefix
     → pool ++ own ++ classes ++ all ++ record { code = 1; value = mask } ∷ [] ≡ given config subnet names address
 unfolding given
 all_given config subnet names address pool own classes all mask p o c a m = λ i. p i ++ o i ++ c i ++ a i ++ record { code = 1; value = m i } ∷ []

@@ -3,32 +3,32 @@ use Rattle.std.proofs.Common.{◌≡◌, ℕ, suc, ◌+◌, ◌<◌, ◌≤◌, 
 use Rattle.std.proofs.lemmas.Bool.{eqb-true, false≢true}
 use Rattle.std.proofs.lemmas.Bool.Decides.{nat_tests}
 use Rattle.std.proofs.lemmas.Option.{none-some, slice_get_cases}
-use Rattle.kd_rows.specs.Table.{addresses_of, is_of, row_at}
+use Rattle.kd_rows.specs.Table.{addresses_of, belongs_to, row_at}
 use Rattle.kd_rows.specs.declared.row.Row.{Row}
-use Rattle.kd_lease.specs.Choice.{Asking, changed_in, fits, has_such, is_held_by, is_holding, is_live, is_newer, is_past}
-use Rattle.kd_lease.specs.Rules.{IsNewest, is_client_at, is_held_at, is_offered}
-use Rattle.kd_lease.specs.Seeking.{better, is_past_at, is_sought}
+use Rattle.kd_lease.specs.Choice.{Asking, changed_in, fitting_for, has_such, held_row, holding_state, live_row, set_later, past_row}
+use Rattle.kd_lease.specs.Rules.{IsNewest, client_has, held_at, offered_state}
+use Rattle.kd_lease.specs.Seeking.{newer_of, past_at, sought_at}
 use Rattle.kd_lease.specs.declared.seeking.Sought.{Sought}
 use Rattle.kd_lease.specs.declared.seeking.Sought.TheVariants as seeks
-use Rattle.kd_config.specs.Address.{contains}
+use Rattle.kd_config.specs.Address.{has_address}
 
 -- what was found is the newest of the first n addresses that are such
 abbrev pub IsNewestOf : List Row → (ℕ → Bool) → List ℕ → ℕ → Option ℕ → Type 0
 IsNewestOf rows such xs n None = (k : ℕ) → k < n → such (get_or xs k 0) ≡ false
-IsNewestOf rows such xs n (Some a) = (such a ≡ true) × ((k : ℕ) → k < n → such (get_or xs k 0) ≡ true → is_newer rows (get_or xs k 0) a ≡ false)
+IsNewestOf rows such xs n (Some a) = (such a ≡ true) × ((k : ℕ) → k < n → such (get_or xs k 0) ≡ true → set_later rows (get_or xs k 0) a ≡ false)
 
 -- one address more
 abbrev pub better_of : List Row → (ℕ → Bool) → Option ℕ → ℕ → Option ℕ
 better_of rows such None a = if such a then Some a else None
-better_of rows such (Some b) a = if such a && is_newer rows a b then Some a else Some b
+better_of rows such (Some b) a = if such a && set_later rows a b then Some a else Some b
 
-not_newer_itself : (rows : List Row) (a : ℕ) → is_newer rows a a ≡ false
+not_newer_itself : (rows : List Row) (a : ℕ) → set_later rows a a ≡ false
 not_newer_itself rows a = by (changed_in (row_at rows a)) where
   by : (m : ℕ) → (nat_lt m m || (m == m && nat_lt a a)) ≡ false
   by m = grind (arith, nat_tests)
 
 -- what is newer than a newer address is newer
-not_newer : (rows : List Row) (x a b : ℕ) → is_newer rows a b ≡ true → is_newer rows x b ≡ false → is_newer rows x a ≡ false
+not_newer : (rows : List Row) (x a b : ℕ) → set_later rows a b ≡ true → set_later rows x b ≡ false → set_later rows x a ≡ false
 not_newer rows x a b = by (changed_in (row_at rows x)) (changed_in (row_at rows a)) (changed_in (row_at rows b)) where
   by : (l m n : ℕ) → (nat_lt n m || (m == n && nat_lt a b)) ≡ true → (nat_lt n l || (l == n && nat_lt x b)) ≡ false → (nat_lt m l || (l == m && nat_lt x a)) ≡ false
   by l m n h g = grind (arith, nat_tests)
@@ -37,28 +37,28 @@ pub newest_more : (rows : List Row) (such : ℕ → Bool) (xs : List ℕ) (n : �
     → IsNewestOf rows such xs (n + 1) (better_of rows such best (get_or xs n 0))
 newest_more rows such xs n None h = by (such (get_or xs n 0)) refl where
   by : (b : Bool) → such (get_or xs n 0) ≡ b → IsNewestOf rows such xs (n + 1) (if b then Some (get_or xs n 0) else None)
-  by true e = (e, below_more (λ k. such (get_or xs k 0) ≡ true → is_newer rows (get_or xs k 0) (get_or xs n 0) ≡ false) n (λ k less g. absurd (false≢true (sym (h k less) ∙ g))) (λ g. not_newer_itself rows (get_or xs n 0)))
+  by true e = (e, below_more (λ k. such (get_or xs k 0) ≡ true → set_later rows (get_or xs k 0) (get_or xs n 0) ≡ false) n (λ k less g. absurd (false≢true (sym (h k less) ∙ g))) (λ g. not_newer_itself rows (get_or xs n 0)))
   by false e = below_more (λ k. such (get_or xs k 0) ≡ false) n h e
-newest_more rows such xs n (Some b) h = by (such (get_or xs n 0)) (is_newer rows (get_or xs n 0) b) refl refl where
-  by : (t u : Bool) → such (get_or xs n 0) ≡ t → is_newer rows (get_or xs n 0) b ≡ u → IsNewestOf rows such xs (n + 1) (if t && u then Some (get_or xs n 0) else Some b)
-  by true true e f = (e, below_more (λ k. such (get_or xs k 0) ≡ true → is_newer rows (get_or xs k 0) (get_or xs n 0) ≡ false) n (λ k less g. not_newer rows (get_or xs k 0) (get_or xs n 0) b f (h.1 k less g)) (λ g. not_newer_itself rows (get_or xs n 0)))
-  by true false e f = (h.0, below_more (λ k. such (get_or xs k 0) ≡ true → is_newer rows (get_or xs k 0) b ≡ false) n h.1 (λ g. f))
-  by false u e f = (h.0, below_more (λ k. such (get_or xs k 0) ≡ true → is_newer rows (get_or xs k 0) b ≡ false) n h.1 (λ g. absurd (false≢true (sym e ∙ g))))
+newest_more rows such xs n (Some b) h = by (such (get_or xs n 0)) (set_later rows (get_or xs n 0) b) refl refl where
+  by : (t u : Bool) → such (get_or xs n 0) ≡ t → set_later rows (get_or xs n 0) b ≡ u → IsNewestOf rows such xs (n + 1) (if t && u then Some (get_or xs n 0) else Some b)
+  by true true e f = (e, below_more (λ k. such (get_or xs k 0) ≡ true → set_later rows (get_or xs k 0) (get_or xs n 0) ≡ false) n (λ k less g. not_newer rows (get_or xs k 0) (get_or xs n 0) b f (h.1 k less g)) (λ g. not_newer_itself rows (get_or xs n 0)))
+  by true false e f = (h.0, below_more (λ k. such (get_or xs k 0) ≡ true → set_later rows (get_or xs k 0) b ≡ false) n h.1 (λ g. f))
+  by false u e f = (h.0, below_more (λ k. such (get_or xs k 0) ≡ true → set_later rows (get_or xs k 0) b ≡ false) n h.1 (λ g. absurd (false≢true (sym e ∙ g))))
 
 -- an address that a client has a row at stands among the client's
-pub stands : (client : List ℕ) (rows : List Row) (a : ℕ) → has_such (is_of client) (row_at rows a) ≡ true → (k : ℕ) × (k < length (addresses_of client rows)) × (get_or (addresses_of client rows) k 0 ≡ a)
+pub stands : (client : List ℕ) (rows : List Row) (a : ℕ) → has_such (belongs_to client) (row_at rows a) ≡ true → (k : ℕ) × (k < length (addresses_of client rows)) × (get_or (addresses_of client rows) k 0 ≡ a)
 stands client [] a h = absurd (false≢true h)
-stands client (r ∷ rows) a h = by (r.address == a) (is_of client r) refl refl h (stands client rows a) where
-  by : (t u : Bool) → (r.address == a) ≡ t → is_of client r ≡ u → has_such (is_of client) (if t then Some r else row_at rows a) ≡ true
-      → (has_such (is_of client) (row_at rows a) ≡ true → (k : ℕ) × (k < length (addresses_of client rows)) × (get_or (addresses_of client rows) k 0 ≡ a))
-      → (k : ℕ) × (k < length (map (λ row. row.address) (if u then r ∷ filter (is_of client) rows else filter (is_of client) rows))) × (get_or (map (λ row. row.address) (if u then r ∷ filter (is_of client) rows else filter (is_of client) rows)) k 0 ≡ a)
+stands client (r ∷ rows) a h = by (r.address == a) (belongs_to client r) refl refl h (stands client rows a) where
+  by : (t u : Bool) → (r.address == a) ≡ t → belongs_to client r ≡ u → has_such (belongs_to client) (if t then Some r else row_at rows a) ≡ true
+      → (has_such (belongs_to client) (row_at rows a) ≡ true → (k : ℕ) × (k < length (addresses_of client rows)) × (get_or (addresses_of client rows) k 0 ≡ a))
+      → (k : ℕ) × (k < length (map (λ row. row.address) (if u then r ∷ filter (belongs_to client) rows else filter (belongs_to client) rows))) × (get_or (map (λ row. row.address) (if u then r ∷ filter (belongs_to client) rows else filter (belongs_to client) rows)) k 0 ≡ a)
   by true true e f h rest = (0, omega arith, eqb-true r.address a e)
   by true false e f h rest = absurd (false≢true (sym f ∙ h))
   by false true e f h rest = let s = rest h in (suc s.0, let l = s.1 in omega arith, s.2)
   by false false e f h rest = rest h
 
 -- the newest of all the client's addresses that are such is the newest of all that are, where those are the client's
-pub newest_of_all : (rows : List Row) (such : ℕ → Bool) (client : List ℕ) (n : ℕ) (best : Option ℕ) → ((a : ℕ) → such a ≡ true → has_such (is_of client) (row_at rows a) ≡ true)
+pub newest_of_all : (rows : List Row) (such : ℕ → Bool) (client : List ℕ) (n : ℕ) (best : Option ℕ) → ((a : ℕ) → such a ≡ true → has_such (belongs_to client) (row_at rows a) ≡ true)
     → length (addresses_of client rows) ≤ n → IsNewestOf rows such (addresses_of client rows) n best → IsNewest rows such best
 newest_of_all rows such client n None own all h = λ a. by a (such a) refl where
   by : (a : ℕ) (b : Bool) → such a ≡ b → such a ≡ false
@@ -69,7 +69,7 @@ newest_of_all rows such client n (Some a) own all h = (
   λ b e.
       let s = stands client rows b (own b e) in
       let l = s.1 in
-      ap (λ x. is_newer rows x a) (sym s.2) ∙ h.1 s.0 (omega arith) (ap such s.2 ∙ e),
+      ap (λ x. set_later rows x a) (sym s.2) ∙ h.1 s.0 (omega arith) (ap such s.2 ∙ e),
 )
 
 -- an address that is sought is the client's
@@ -77,29 +77,29 @@ both : (t u : Bool) → (t && u) ≡ true → t ≡ true
 both true u h = refl
 both false u h = h
 
-mine : (q : Asking) (row : Row) (t u : Bool) → (t && (is_of q.client row && u)) ≡ true → is_of q.client row ≡ true
-mine q row true u h = both (is_of q.client row) u h
+mine : (q : Asking) (row : Row) (t u : Bool) → (t && (belongs_to q.client row && u)) ≡ true → belongs_to q.client row ≡ true
+mine q row true u h = both (belongs_to q.client row) u h
 mine q row false u h = absurd (false≢true h)
 
 past_is_mine : (t u : Bool) → (t && u) ≡ true → u ≡ true
 past_is_mine true u h = h
 past_is_mine false u h = absurd (false≢true h)
 
-such_is_mine : (q : Asking) (such : Row → Bool) → ((row : Row) → such row ≡ true → is_of q.client row ≡ true) → (o : Option Row) → has_such such o ≡ true → has_such (is_of q.client) o ≡ true
+such_is_mine : (q : Asking) (such : Row → Bool) → ((row : Row) → such row ≡ true → belongs_to q.client row ≡ true) → (o : Option Row) → has_such such o ≡ true → has_such (belongs_to q.client) o ≡ true
 such_is_mine q such h None g = g
 such_is_mine q such h (Some row) g = h row g
 
-pub sought_is_mine : (q : Asking) (sought : Sought) (a : ℕ) → is_sought q sought a ≡ true → has_such (is_of q.client) (row_at q.rows a) ≡ true
-sought_is_mine q (seeks.Own s) a h = such_is_mine q (is_held_by q) (λ row g. mine q row (is_live q.now row) (is_holding row.state) g) (row_at q.rows a) (both (is_held_at q a) (fits q s.now a) h)
-sought_is_mine q (seeks.Past s) a h = such_is_mine q (is_past q) (λ row g. past_is_mine (not (is_live q.now row)) (is_of q.client row) g) (row_at q.rows a) (both (is_past_at q a) (fits q s.now a) h)
-sought_is_mine q seeks.Offer a h = such_is_mine q (λ row. is_live q.now row && (is_of q.client row && is_offered row.state)) (λ row g. mine q row (is_live q.now row) (is_offered row.state) g) (row_at q.rows a) h
-sought_is_mine q (seeks.Record s) a h = both (is_client_at q a) (contains s.now.prefix a) h
+pub sought_is_mine : (q : Asking) (sought : Sought) (a : ℕ) → sought_at q sought a ≡ true → has_such (belongs_to q.client) (row_at q.rows a) ≡ true
+sought_is_mine q (seeks.Own s) a h = such_is_mine q (held_row q) (λ row g. mine q row (live_row q.now row) (holding_state row.state) g) (row_at q.rows a) (both (held_at q a) (fitting_for q s.now a) h)
+sought_is_mine q (seeks.Past s) a h = such_is_mine q (past_row q) (λ row g. past_is_mine (not (live_row q.now row)) (belongs_to q.client row) g) (row_at q.rows a) (both (past_at q a) (fitting_for q s.now a) h)
+sought_is_mine q seeks.Offer a h = such_is_mine q (λ row. live_row q.now row && (belongs_to q.client row && offered_state row.state)) (λ row g. mine q row (live_row q.now row) (offered_state row.state) g) (row_at q.rows a) h
+sought_is_mine q (seeks.Record s) a h = both (client_has q a) (has_address s.now.prefix a) h
 
 -- a client has no more addresses than there are rows
 pub few_addresses : (client : List ℕ) (rows : List Row) → length (addresses_of client rows) ≤ length rows
 few_addresses client [] = omega arith
-few_addresses client (r ∷ rows) = by (is_of client r) (few_addresses client rows) where
-  by : (u : Bool) → length (addresses_of client rows) ≤ length rows → length (map (λ row. row.address) (if u then r ∷ filter (is_of client) rows else filter (is_of client) rows)) ≤ length (r ∷ rows)
+few_addresses client (r ∷ rows) = by (belongs_to client r) (few_addresses client rows) where
+  by : (u : Bool) → length (addresses_of client rows) ≤ length rows → length (map (λ row. row.address) (if u then r ∷ filter (belongs_to client) rows else filter (belongs_to client) rows)) ≤ length (r ∷ rows)
   by true h = omega arith
   by false h = omega arith
 
@@ -107,7 +107,7 @@ pub at_start : (rows : List Row) (such : ℕ → Bool) (xs : List ℕ) → IsNew
 at_start rows such xs k less = absurd (omega arith)
 
 -- the code's step is that of the lemmas
-pub better_is : (q : Asking) (sought : Sought) (best : Option ℕ) (a : ℕ) → better q sought best a ≡ better_of q.rows (is_sought q sought) best a
+pub better_is : (q : Asking) (sought : Sought) (best : Option ℕ) (a : ℕ) → newer_of q sought best a ≡ better_of q.rows (sought_at q sought) best a
 better_is q sought None a = refl
 better_is q sought (Some b) a = refl
 

@@ -2,10 +2,10 @@
 use Rattle.std.proofs.Common.{◌≡◌, ℕ, Bool, true, false, ◌&&◌, ◌||◌, ◌==◌, nat_eq, not, List, [], ◌∷◌, ◌++◌, refl, sym, ap, ◌∙◌, subst, Option, Some, if◌then◌else◌}
 use Rattle.std.specs.List.{find, list_all, list_any}
 use Rattle.std.proofs.lemmas.Bool.{eqb-true, false≢true}
-use Rattle.kd_config.specs.Address.{contains}
-use Rattle.kd_config.specs.Apart.{are_apart}
+use Rattle.kd_config.specs.Address.{has_address}
+use Rattle.kd_config.specs.Apart.{lie_apart}
 use Rattle.kd_config.specs.Configuration.{Configuration}
-use Rattle.kd_config.specs.Rules.{all_obey, all_ranges, is_new, is_within, may_all_reserve, may_reserve, may_stand, obeys, reserved}
+use Rattle.kd_config.specs.Rules.{all_obey, pool_ranges, is_new, lies_within, may_all_reserve, may_reserve, may_stand, obeys, reserved}
 use Rattle.kd_config.specs.Sound.{IsSound}
 use Rattle.kd_config.specs.declared.prefix.Prefix.{Prefix}
 use Rattle.kd_config.specs.declared.reservation.Identity.{Identity}
@@ -14,8 +14,8 @@ use Rattle.kd_config.specs.declared.reservation.Reservation.{Reservation}
 use Rattle.kd_config.specs.declared.subnet.Subnet.{Subnet}
 use Rattle.kd_options.specs.Joined.{value_of}
 use Rattle.kd_options.specs.Message.{Seen, mac_of}
-use Rattle.kd_lease.specs.Choice.{is_from, is_reserved, is_reserved_in, reservation_of}
-use Rattle.kd_lease.specs.Seeking.{is_by, keeps}
+use Rattle.kd_lease.specs.Choice.{is_from, reserved_anywhere, reserved_in, client_reservation}
+use Rattle.kd_lease.specs.Seeking.{identified_by, reserves}
 
 left : (t u : Bool) → (t && u) ≡ true → t ≡ true
 left true u h = refl
@@ -27,58 +27,58 @@ right false u h = absurd (false≢true h)
 
 -- a reserved address lies in the prefix
 within : (prefix : Prefix) (earlier : List ℕ) (clients : List Identity) (rs : List Reservation) (a : ℕ)
-    → may_all_reserve prefix earlier clients rs ≡ true → list_any (λ reservation. reservation.address == a) rs ≡ true → contains prefix a ≡ true
+    → may_all_reserve prefix earlier clients rs ≡ true → list_any (λ reservation. reservation.address == a) rs ≡ true → has_address prefix a ≡ true
 within prefix earlier clients [] a may has = absurd (false≢true has)
 within prefix earlier clients (r ∷ rs) a may has = by (r.address == a) refl has (within prefix (earlier ++ r.address ∷ []) (clients ++ r.identity ∷ []) rs a rest) where
-  here : contains prefix r.address ≡ true
-  here = left (contains prefix r.address) (not (list_any (nat_eq r.address) earlier)) (left (may_reserve prefix earlier r) (is_new clients r.identity && may_all_reserve prefix (earlier ++ r.address ∷ []) (clients ++ r.identity ∷ []) rs) may)
+  here : has_address prefix r.address ≡ true
+  here = left (has_address prefix r.address) (not (list_any (nat_eq r.address) earlier)) (left (may_reserve prefix earlier r) (is_new clients r.identity && may_all_reserve prefix (earlier ++ r.address ∷ []) (clients ++ r.identity ∷ []) rs) may)
 
   rest : may_all_reserve prefix (earlier ++ r.address ∷ []) (clients ++ r.identity ∷ []) rs ≡ true
   rest = right (is_new clients r.identity) (may_all_reserve prefix (earlier ++ r.address ∷ []) (clients ++ r.identity ∷ []) rs) (right (may_reserve prefix earlier r) (is_new clients r.identity && may_all_reserve prefix (earlier ++ r.address ∷ []) (clients ++ r.identity ∷ []) rs) may)
 
   by : (b : Bool) → (r.address == a) ≡ b → (b || list_any (λ reservation. reservation.address == a) rs) ≡ true
-      → (list_any (λ reservation. reservation.address == a) rs ≡ true → contains prefix a ≡ true) → contains prefix a ≡ true
-  by true e h later = subst (λ (n : ℕ). contains prefix n ≡ true) (eqb-true r.address a e) here
+      → (list_any (λ reservation. reservation.address == a) rs ≡ true → has_address prefix a ≡ true) → has_address prefix a ≡ true
+  by true e h later = subst (λ (n : ℕ). has_address prefix n ≡ true) (eqb-true r.address a e) here
   by false e h later = later h
 
-in_subnet : (earlier : List ℕ) (s : Subnet) (a : ℕ) → obeys earlier s ≡ true → is_reserved_in a s ≡ true → contains s.prefix a ≡ true
+in_subnet : (earlier : List ℕ) (s : Subnet) (a : ℕ) → obeys earlier s ≡ true → reserved_in a s ≡ true → has_address s.prefix a ≡ true
 unfolding obeys
-in_subnet earlier s a h has = within s.prefix earlier [] s.reservations a (right (list_all (is_within s.prefix) s.pools) (may_all_reserve s.prefix earlier [] s.reservations) h) has
+in_subnet earlier s a h has = within s.prefix earlier [] s.reservations a (right (list_all (lies_within s.prefix) s.pools) (may_all_reserve s.prefix earlier [] s.reservations) h) has
 
 -- a subnet has a reservation of an address exactly where its prefix has it too
-same_keeps : (earlier : List ℕ) (s : Subnet) (a : ℕ) → obeys earlier s ≡ true → is_reserved_in a s ≡ keeps a s
-same_keeps earlier s a h = by (contains s.prefix a) (is_reserved_in a s) refl refl where
-  by : (t u : Bool) → contains s.prefix a ≡ t → is_reserved_in a s ≡ u → u ≡ (t && u)
+same_keeps : (earlier : List ℕ) (s : Subnet) (a : ℕ) → obeys earlier s ≡ true → reserved_in a s ≡ reserves a s
+same_keeps earlier s a h = by (has_address s.prefix a) (reserved_in a s) refl refl where
+  by : (t u : Bool) → has_address s.prefix a ≡ t → reserved_in a s ≡ u → u ≡ (t && u)
   by true u e f = refl
   by false true e f = absurd (false≢true (sym e ∙ in_subnet earlier s a h f))
   by false false e f = refl
 
-each_keeps : (earlier : List ℕ) (subnets : List Subnet) (a : ℕ) → all_obey earlier subnets ≡ true → list_any (is_reserved_in a) subnets ≡ list_any (keeps a) subnets
+each_keeps : (earlier : List ℕ) (subnets : List Subnet) (a : ℕ) → all_obey earlier subnets ≡ true → list_any (reserved_in a) subnets ≡ list_any (reserves a) subnets
 each_keeps earlier [] a h = refl
 each_keeps earlier (s ∷ subnets) a h =
     let first = left (obeys earlier s) (all_obey (earlier ++ reserved s.reservations) subnets) h in
     let rest = right (obeys earlier s) (all_obey (earlier ++ reserved s.reservations) subnets) h in
-    ap (λ b. b || list_any (is_reserved_in a) subnets) (same_keeps earlier s a first)
-    ∙ ap (λ b. keeps a s || b) (each_keeps (earlier ++ reserved s.reservations) subnets a rest)
+    ap (λ b. b || list_any (reserved_in a) subnets) (same_keeps earlier s a first)
+    ∙ ap (λ b. reserves a s || b) (each_keeps (earlier ++ reserved s.reservations) subnets a rest)
 
 stands : (subnets : List Subnet) → may_stand subnets ≡ true → all_obey [] subnets ≡ true
 unfolding may_stand
-stands subnets h = right (are_apart (all_ranges subnets)) (all_obey [] subnets) h
+stands subnets h = right (lie_apart (pool_ranges subnets)) (all_obey [] subnets) h
 
 -- an address is reserved where a subnet that has it in its prefix has a reservation of it
-pub reserved_where : (config : Configuration) (a : ℕ) → IsSound config → is_reserved config a ≡ list_any (keeps a) config.subnets
+pub reserved_where : (config : Configuration) (a : ℕ) → IsSound config → reserved_anywhere config a ≡ list_any (reserves a) config.subnets
 reserved_where config a sound = each_keeps [] config.subnets a (stands config.subnets sound.subnets.together)
 
-from_by : (m : Seen) (identity : Identity) → is_from m identity ≡ is_by (mac_of m.header) (value_of 61 m.options) identity
+from_by : (m : Seen) (identity : Identity) → is_from m identity ≡ identified_by (mac_of m.header) (value_of 61 m.options) identity
 from_by m (Hardware bytes) = refl
 from_by m (ClientId bytes) = refl
 
-find_by : (m : Seen) (rs : List Reservation) → find (λ r. is_from m r.identity) rs ≡ find (λ r. is_by (mac_of m.header) (value_of 61 m.options) r.identity) rs
+find_by : (m : Seen) (rs : List Reservation) → find (λ r. is_from m r.identity) rs ≡ find (λ r. identified_by (mac_of m.header) (value_of 61 m.options) r.identity) rs
 find_by m [] = refl
 find_by m (r ∷ rs) =
     ap (λ (b : Bool). if b then Some r else find (λ r. is_from m r.identity) rs) (from_by m r.identity)
-    ∙ ap (λ (o : Option Reservation). if is_by (mac_of m.header) (value_of 61 m.options) r.identity then Some r else o) (find_by m rs)
+    ∙ ap (λ (o : Option Reservation). if identified_by (mac_of m.header) (value_of 61 m.options) r.identity then Some r else o) (find_by m rs)
 
 -- whose a reservation is, is asked by what the message says of its client
-pub reservation_by : (m : Seen) (s : Subnet) → reservation_of m s ≡ find (λ r. is_by (mac_of m.header) (value_of 61 m.options) r.identity) s.reservations
+pub reservation_by : (m : Seen) (s : Subnet) → client_reservation m s ≡ find (λ r. identified_by (mac_of m.header) (value_of 61 m.options) r.identity) s.reservations
 reservation_by m s = find_by m s.reservations

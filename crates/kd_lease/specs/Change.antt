@@ -6,15 +6,15 @@ use Rattle.kd_classes.specs.HeldSet.{HeldSet}
 use Rattle.kd_config.specs.Configuration.{Configuration}
 use Rattle.kd_event.specs.declared.reason.Reason.{Reason}
 use Rattle.kd_event.specs.declared.reason.Reason.TheVariants as reasons
-use Rattle.kd_machine.specs.World.{is_held}
+use Rattle.kd_machine.specs.Parts.{is_held}
 use Rattle.kd_options.specs.Message.{Seen}
 use Rattle.kd_rows.specs.Table.{with_row}
 use Rattle.kd_rows.specs.declared.row.Row.{Row}
 use Rattle.kd_lease.specs.Choice.{Asking}
-use Rattle.kd_lease.specs.Client.{identity, is_from_server, room_of}
+use Rattle.kd_lease.specs.Client.{client_identity, server_message, reply_room}
 use Rattle.kd_lease.specs.Plan.{Outcome}
 use Rattle.kd_lease.specs.Plan.Outcome.{planned, quiet}
-use Rattle.kd_lease.specs.ReplyOf.{fits_room}
+use Rattle.kd_lease.specs.ReplyOf.{within_room}
 use Rattle.kd_lease.specs.ReplyOptions.{reply_options}
 use Rattle.kd_lease.specs.Rules.{Does}
 use Rattle.kd_lease.specs.declared.plan.PlanKind.{PlanKind}
@@ -36,7 +36,7 @@ outcome_for q (plans.Quiet reason) = quiet reason
 
 -- the obligatory options fit, where there is a reply
 abbrev pub fits_in : ℕ → Outcome → Bool
-fits_in room (planned kind yiaddr options) = fits_room room options
+fits_in room (planned kind yiaddr options) = within_room room options
 fits_in room (quiet reason) = true
 
 -- this row is set and this is got, where the reply fits; else nothing is set, and there is no reply
@@ -45,11 +45,11 @@ WhereFits true row outcome set got = (set ≡ row) × (got ≡ outcome)
 WhereFits false row outcome set got = (set ≡ None) × (got ≡ quiet reasons.ReplyTooLong)
 
 -- what a message does by its rule, and gets
-pub record Answers (q : Asking) (set : Option Row) (got : Outcome) : Type 0 where
+pub record AnswersTo (q : Asking) (set : Option Row) (got : Outcome) : Type 0 where
   pub row : Option Row
   pub plan : Planned
   pub does : Does q row plan
-  pub replies : WhereFits (fits_in (room_of q.message) (outcome_for q plan)) row (outcome_for q plan) set got
+  pub replies : WhereFits (fits_in (reply_room q.message) (outcome_for q plan)) row (outcome_for q plan) set got
 
 -- nothing is done and there is no answer, for this reason, where it applies
 abbrev pub Unless : Bool → Reason → (Option Row → Outcome → Type 0) → Option Row → Outcome → Type 0
@@ -70,8 +70,8 @@ asked_for config rows names m now client =
 -- answered, and none of the class DROP
 abbrev pub Decides : Configuration → List Row → List (List ℕ) → Seen → ℕ → Option Row → Outcome → Type 0
 Decides config rows names m now set got =
-    Unless (is_from_server m) reasons.NotRequest
-    (ForClient (identity m) (λ client. Unless (is_held (codes "DROP") names) reasons.DropClass (Answers (asked_for config rows names m now client)))) set got
+    Unless (server_message m) reasons.NotRequest
+    (ForClient (client_identity m) (λ client. Unless (is_held (codes "DROP") names) reasons.DropClass (AnswersTo (asked_for config rows names m now client)))) set got
 
 -- the rows after one is set, or none
 abbrev pub after : List Row → Option Row → List Row

@@ -14,7 +14,7 @@ use Rattle.kd_config.specs.declared.reservation.Reservation.{Reservation}
 use Rattle.kd_config.specs.declared.subnet.Subnet.{Subnet}
 use Rattle.kd_options.specs.Joined.{value_of}
 use Rattle.kd_options.specs.Message.{Seen, mac_of}
-use Rattle.kd_rows.specs.Table.{is_of, row_at}
+use Rattle.kd_rows.specs.Table.{belongs_to, row_at}
 use Rattle.kd_rows.specs.declared.row.Row.{Row}
 use Rattle.kd_rows.specs.declared.row.State.{State}
 use Rattle.kd_rows.specs.declared.row.State.TheVariants.{Offered, Bound, Released, Declined}
@@ -30,43 +30,43 @@ pub record Asking : Type 0 where
   pub now : ℕ
 
 -- a value is there, and is these bytes
-abbrev pub is_value : List ℕ → Option (List ℕ) → Bool
-is_value bytes None = false
-is_value bytes (Some value) = bytes_eq value bytes
+abbrev pub same_value : List ℕ → Option (List ℕ) → Bool
+same_value bytes None = false
+same_value bytes (Some value) = bytes_eq value bytes
 
 -- a message comes from this client: by its hardware address, or by its option 61
 abbrev pub is_from : Seen → Identity → Bool
 is_from m (Hardware bytes) = bytes_eq (mac_of m.header) bytes
-is_from m (ClientId bytes) = is_value bytes (value_of 61 m.options)
+is_from m (ClientId bytes) = same_value bytes (value_of 61 m.options)
 
 -- the reservation of a message: the first of the subnet that is for its client
-abbrev pub reservation_of : Seen → Subnet → Option Reservation
-reservation_of m s = find (λ reservation. is_from m reservation.identity) s.reservations
+abbrev pub client_reservation : Seen → Subnet → Option Reservation
+client_reservation m s = find (λ reservation. is_from m reservation.identity) s.reservations
 
 -- the address that is reserved for the client of a message
-abbrev pub reserved_address : Seen → Subnet → Option ℕ
-reserved_address m s = option_map (λ reservation. reservation.address) (reservation_of m s)
+abbrev pub address_reserved : Seen → Subnet → Option ℕ
+address_reserved m s = option_map (λ reservation. reservation.address) (client_reservation m s)
 
 -- a subnet has a reservation of this address
-abbrev pub is_reserved_in : ℕ → Subnet → Bool
-is_reserved_in a s = list_any (λ reservation. reservation.address == a) s.reservations
+abbrev pub reserved_in : ℕ → Subnet → Bool
+reserved_in a s = list_any (λ reservation. reservation.address == a) s.reservations
 
 -- a subnet of the configuration has one
-abbrev pub is_reserved : Configuration → ℕ → Bool
-is_reserved config a = list_any (is_reserved_in a) config.subnets
+abbrev pub reserved_anywhere : Configuration → ℕ → Bool
+reserved_anywhere config a = list_any (reserved_in a) config.subnets
 
 -- an address is there, and is this one
-abbrev pub is_address : Option ℕ → ℕ → Bool
-is_address None a = false
-is_address (Some b) a = b == a
+abbrev pub same_address : Option ℕ → ℕ → Bool
+same_address None a = false
+same_address (Some b) a = b == a
 
 -- a pool of the subnet has this address
-abbrev pub in_pools : Subnet → ℕ → Bool
-in_pools s a = list_any (λ pool. has pool.range a) s.pools
+abbrev pub pooled : Subnet → ℕ → Bool
+pooled s a = list_any (λ pool. has pool.range a) s.pools
 
 -- an address fits: it is in a pool of the subnet and reserved for nobody, or reserved for the client
-abbrev pub fits : Asking → Subnet → ℕ → Bool
-fits q s a = (in_pools s a && not (is_reserved q.config a)) || is_address (reserved_address q.message s) a
+abbrev pub fitting_for : Asking → Subnet → ℕ → Bool
+fitting_for q s a = (pooled s a && not (reserved_anywhere q.config a)) || same_address (address_reserved q.message s) a
 
 -- a row is there, and is such a one
 abbrev pub has_such : (Row → Bool) → Option Row → Bool
@@ -74,48 +74,48 @@ has_such such None = false
 has_such such (Some row) = such row
 
 -- a row has not ended yet
-abbrev pub is_live : ℕ → Row → Bool
-is_live now row = nat_lt now row.ends
+abbrev pub live_row : ℕ → Row → Bool
+live_row now row = nat_lt now row.ends
 
 -- a state in which a client holds an address
-abbrev pub is_holding : State → Bool
-is_holding Offered = true
-is_holding Bound = true
-is_holding Released = false
-is_holding Declined = false
+abbrev pub holding_state : State → Bool
+holding_state Offered = true
+holding_state Bound = true
+holding_state Released = false
+holding_state Declined = false
 
 -- the client's own row, offered or bound
-abbrev pub is_its : Asking → Row → Bool
-is_its q row = is_of q.client row && is_holding row.state
+abbrev pub own_row : Asking → Row → Bool
+own_row q row = belongs_to q.client row && holding_state row.state
 
 -- a row that the client holds: its own, live, offered or bound
-abbrev pub is_held_by : Asking → Row → Bool
-is_held_by q row = is_live q.now row && is_its q row
+abbrev pub held_row : Asking → Row → Bool
+held_row q row = live_row q.now row && own_row q row
 
 -- the client's own row, which has ended
-abbrev pub is_past : Asking → Row → Bool
-is_past q row = not (is_live q.now row) && is_of q.client row
+abbrev pub past_row : Asking → Row → Bool
+past_row q row = not (live_row q.now row) && belongs_to q.client row
 
 -- a row leaves its address free for the client: it has ended, or is the client's, offered or bound
-abbrev pub leaves_free : Asking → Row → Bool
-leaves_free q row = not (is_live q.now row) || is_its q row
+abbrev pub freed_by : Asking → Row → Bool
+freed_by q row = not (live_row q.now row) || own_row q row
 
 -- an address is free for the client: it has no row, or one that leaves it free
-abbrev pub is_free : Asking → ℕ → Bool
-is_free q a = is_none (row_at q.rows a) || has_such (leaves_free q) (row_at q.rows a)
+abbrev pub free_for : Asking → ℕ → Bool
+free_for q a = is_none (row_at q.rows a) || has_such (freed_by q) (row_at q.rows a)
 
 -- the client may be given an address: it fits and is free
-abbrev pub is_usable : Asking → Subnet → ℕ → Bool
-is_usable q s a = fits q s a && is_free q a
+abbrev pub usable : Asking → Subnet → ℕ → Bool
+usable q s a = fitting_for q s a && free_for q a
 
 -- the address that a value of four bytes is
-abbrev pub address_in : Option (List ℕ) → Option ℕ
-address_in (Some (a ∷ b ∷ c ∷ d ∷ [])) = Some (from_be_bytes w32 (a ∷ b ∷ c ∷ d ∷ []))
-address_in other = None
+abbrev pub address_of_value : Option (List ℕ) → Option ℕ
+address_of_value (Some (a ∷ b ∷ c ∷ d ∷ [])) = Some (from_be_bytes w32 (a ∷ b ∷ c ∷ d ∷ []))
+address_of_value other = None
 
 -- the address that the client asks for, option 50
-abbrev pub requested_of : Seen → Option ℕ
-requested_of m = address_in (value_of 50 m.options)
+abbrev pub requested_address : Seen → Option ℕ
+requested_address m = address_of_value (value_of 50 m.options)
 
 -- what speaks for an address, the strongest first: it is reserved for the client, it is the client's, it was
 -- the client's, the client asks for it, nobody had it yet, its row has ended
@@ -138,12 +138,12 @@ place expired = 6
 
 -- an address has a rank
 abbrev pub has_rank : Asking → Subnet → Rank → ℕ → Bool
-has_rank q s reserved a = is_address (reserved_address q.message s) a && is_free q a
-has_rank q s own a = has_such (is_held_by q) (row_at q.rows a) && fits q s a
-has_rank q s past a = has_such (is_past q) (row_at q.rows a) && fits q s a
-has_rank q s asked a = is_address (requested_of q.message) a && is_usable q s a
-has_rank q s fresh a = in_pools s a && (is_none (row_at q.rows a) && fits q s a)
-has_rank q s expired a = in_pools s a && (has_such (λ row. not (is_live q.now row)) (row_at q.rows a) && fits q s a)
+has_rank q s reserved a = same_address (address_reserved q.message s) a && free_for q a
+has_rank q s own a = has_such (held_row q) (row_at q.rows a) && fitting_for q s a
+has_rank q s past a = has_such (past_row q) (row_at q.rows a) && fitting_for q s a
+has_rank q s asked a = same_address (requested_address q.message) a && usable q s a
+has_rank q s fresh a = pooled s a && (is_none (row_at q.rows a) && fitting_for q s a)
+has_rank q s expired a = pooled s a && (has_such (λ row. not (live_row q.now row)) (row_at q.rows a) && fitting_for q s a)
 
 -- the moment at which a row was set, 0 where there is none
 abbrev pub changed_in : Option Row → ℕ
@@ -151,42 +151,42 @@ changed_in None = 0
 changed_in (Some row) = row.changed
 
 -- of two addresses the first is newer: its row was set later, or at one moment and it is the lesser address
-abbrev pub is_newer : List Row → ℕ → ℕ → Bool
-is_newer rows a b =
+abbrev pub set_later : List Row → ℕ → ℕ → Bool
+set_later rows a b =
     let m = changed_in (row_at rows a) in
     let n = changed_in (row_at rows b) in
     nat_lt n m || (m == n && nat_lt a b)
 
 -- the place of the first pool that has an address
-abbrev pub pool_of : List Pool → ℕ → ℕ
-pool_of [] a = 0
-pool_of (pool ∷ pools) a = if has pool.range a then 0 else pool_of pools a + 1
+abbrev pub pool_place : List Pool → ℕ → ℕ
+pool_place [] a = 0
+pool_place (pool ∷ pools) a = if has pool.range a then 0 else pool_place pools a + 1
 
 -- of two addresses the first is earlier: in an earlier pool, or in one pool and it is the lesser address
 abbrev pub is_earlier : List Pool → ℕ → ℕ → Bool
 is_earlier pools a b =
-    let m = pool_of pools a in
-    let n = pool_of pools b in
+    let m = pool_place pools a in
+    let n = pool_place pools b in
     nat_lt m n || (m == n && nat_lt a b)
 
 -- of two addresses of one rank the first comes before the other
 abbrev pub is_before : Asking → Subnet → Rank → ℕ → ℕ → Bool
 is_before q s reserved a b = false
-is_before q s own a b = is_newer q.rows a b
-is_before q s past a b = is_newer q.rows a b
+is_before q s own a b = set_later q.rows a b
+is_before q s past a b = set_later q.rows a b
 is_before q s asked a b = false
 is_before q s fresh a b = is_earlier s.pools a b
 is_before q s expired a b = is_earlier s.pools a b
 
 -- an address is the first of a rank: it has the rank, and none that has it comes before
-pub record IsFirst (q : Asking) (s : Subnet) (rank : Rank) (a : ℕ) : Type 0 where
+pub record IsFirstOf (q : Asking) (s : Subnet) (rank : Rank) (a : ℕ) : Type 0 where
   pub ranked : has_rank q s rank a ≡ true
   pub first : (b : ℕ) → has_rank q s rank b ≡ true → is_before q s rank b a ≡ false
 
 -- the address for the client: the first of a rank, where none has a rank of a lesser place
 pub record Choice (q : Asking) (s : Subnet) (a : ℕ) : Type 0 where
   pub rank : Rank
-  pub first : IsFirst q s rank a
+  pub first : IsFirstOf q s rank a
   pub least : (other : Rank) (b : ℕ) → has_rank q s other b ≡ true → place rank ≤ place other
 
 -- no address has a rank

@@ -16,13 +16,13 @@ abbrev pub kind_of : Seen → ℕ
 kind_of m = first_byte (value_of 53 m.options)
 
 -- a message that servers send: its op is 2, or it is an OFFER, an ACK or a NAK
-abbrev pub is_from_server : Seen → Bool
-is_from_server m = m.header.op == 2 || kind_of m == 2 || kind_of m == 5 || kind_of m == 6
+abbrev pub server_message : Seen → Bool
+server_message m = m.header.op == 2 || kind_of m == 2 || kind_of m == 5 || kind_of m == 6
 
 -- the identity that the hardware gives: 0, the kind of link layer, and the address, where there is one
-abbrev pub hardware_identity : ℕ → List ℕ → Option (List ℕ)
-hardware_identity htype [] = None
-hardware_identity htype (b ∷ mac) = Some (0 ∷ htype ∷ b ∷ mac)
+abbrev pub identity_by_hardware : ℕ → List ℕ → Option (List ℕ)
+identity_by_hardware htype [] = None
+identity_by_hardware htype (b ∷ mac) = Some (0 ∷ htype ∷ b ∷ mac)
 
 -- the identity of a client with this client identifier: 1 and it, where it is there and not empty
 abbrev pub identity_by : Option (List ℕ) → Option (List ℕ) → Option (List ℕ)
@@ -31,8 +31,8 @@ identity_by (Some []) hardware = hardware
 identity_by (Some (b ∷ bytes)) hardware = Some (1 ∷ b ∷ bytes)
 
 -- who the client is: by option 61, else by its hardware
-abbrev pub identity : Seen → Option (List ℕ)
-identity m = identity_by (value_of 61 m.options) (hardware_identity m.header.htype (mac_of m.header))
+abbrev pub client_identity : Seen → Option (List ℕ)
+client_identity m = identity_by (value_of 61 m.options) (identity_by_hardware m.header.htype (mac_of m.header))
 
 -- a code is asked for: it stands in option 55, or that is absent
 abbrev pub is_asked_in : ℕ → Option (List ℕ) → Bool
@@ -40,8 +40,8 @@ is_asked_in code None = true
 is_asked_in code (Some list) = list_any (λ c. c == code) list
 
 -- the message asks for this option
-abbrev pub asks_for : ℕ → Seen → Bool
-asks_for code m = is_asked_in code (value_of 55 m.options)
+abbrev pub wants_option : ℕ → Seen → Bool
+wants_option code m = is_asked_in code (value_of 55 m.options)
 
 -- the greatest message that the client takes: option 57 where it has two bytes, else 576
 abbrev pub greatest_by : Option (List ℕ) → ℕ
@@ -49,5 +49,5 @@ greatest_by (Some (a ∷ b ∷ [])) = a * 256 + b
 greatest_by other = 576
 
 -- the room for a reply: what is left of that behind the headers of IP and UDP, from 548 to 1472 bytes
-abbrev pub room_of : Seen → ℕ
-room_of m = min 1472 (max 576 (greatest_by (value_of 57 m.options)) - 28)
+abbrev pub reply_room : Seen → ℕ
+reply_room m = min 1472 (max 576 (greatest_by (value_of 57 m.options)) - 28)

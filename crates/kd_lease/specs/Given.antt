@@ -6,15 +6,15 @@ use Rattle.std.specs.List.{find, flat_map, range_with_len}
 use Rattle.byteorder.specs.Endian.{big_bytes}
 use Rattle.kd_classes.specs.declared.definition.ClassDef.{ClassDef}
 use Rattle.kd_classes.specs.declared.option_list.OptionData.{OptionData}
-use Rattle.kd_config.specs.Address.{size_of}
+use Rattle.kd_config.specs.Address.{prefix_size}
 use Rattle.kd_config.specs.Apart.{has}
 use Rattle.kd_config.specs.Configuration.{Configuration}
 use Rattle.kd_config.specs.declared.pool.Pool.{Pool}
 use Rattle.kd_config.specs.declared.prefix.Prefix.{Prefix}
 use Rattle.kd_config.specs.declared.subnet.Subnet.{Subnet}
-use Rattle.kd_machine.specs.World.{is_held}
+use Rattle.kd_machine.specs.Parts.{is_held}
 use Rattle.kd_options.specs.Message.{Seen}
-use Rattle.kd_lease.specs.Client.{asks_for}
+use Rattle.kd_lease.specs.Client.{wants_option}
 use Rattle.kd_lease.specs.Plan.{ReplyOption}
 
 -- the options of a pool, where there is one
@@ -23,25 +23,25 @@ options_in None = []
 options_in (Some pool) = pool.options
 
 -- the options of the first of the pools that has the address
-abbrev pub pool_options : List Pool → ℕ → List OptionData
-pool_options pools address = options_in (find (λ pool. has pool.range address) pools)
+abbrev pub options_of_pool : List Pool → ℕ → List OptionData
+options_of_pool pools address = options_in (find (λ pool. has pool.range address) pools)
 
 -- the options of the classes whose names are held, in order
 abbrev pub class_options : List ClassDef → List (List ℕ) → List OptionData
 class_options classes names = flat_map (λ class. class.options) (filter (λ class. is_held class.name names) classes)
 
 -- the mask of a prefix (RFC 2132 section 3.3): ones, as many as its length, and zeros, in network order
-abbrev pub mask_of : Prefix → List ℕ
-mask_of prefix = big_bytes 4 (2 ^ 32 - size_of prefix.length)
+abbrev pub prefix_mask : Prefix → List ℕ
+prefix_mask prefix = big_bytes 4 (2 ^ 32 - prefix_size prefix.length)
 
 -- the mask as an option
 abbrev pub mask_option : Prefix → OptionData
-mask_option prefix = record { code = 1; value = mask_of prefix }
+mask_option prefix = record { code = 1; value = prefix_mask prefix }
 
 -- the options given at an address of a subnet to the holder of these names, the first of a code before others
 unfoldable pub given : Configuration → Subnet → List (List ℕ) → ℕ → List OptionData
 given config subnet names address =
-    pool_options subnet.pools address ++ subnet.options ++ class_options config.classes names ++ config.options ++ mask_option subnet.prefix ∷ []
+    options_of_pool subnet.pools address ++ subnet.options ++ class_options config.classes names ++ config.options ++ mask_option subnet.prefix ∷ []
 
 -- the value of a code: that of the first option that has it
 abbrev pub value_in : ℕ → List OptionData → Option (List ℕ)
@@ -58,7 +58,7 @@ configured asked code (Some value) = if asked then optional code value else []
 
 -- the configured option with a code, for the reply to a message
 abbrev pub configured_at : Seen → List OptionData → ℕ → List ReplyOption
-configured_at m options code = configured (asks_for code m) code (value_in code options)
+configured_at m options code = configured (wants_option code m) code (value_in code options)
 
 -- the configured options of the reply to a message, in rising code
 unfoldable pub configured_options : Seen → List OptionData → List ReplyOption

@@ -2,9 +2,9 @@
 use Rattle.std.specs.Prelude.{◌≡◌, ℕ, true, false, ◌⊎◌, Option, Some, None}
 use Rattle.kd_config.specs.declared.subnet.Subnet.{Subnet}
 use Rattle.kd_options.specs.declared.kind.MessageType.{MessageType}
-use Rattle.kd_rows.specs.Table.{is_of, row_at}
+use Rattle.kd_rows.specs.Table.{belongs_to, row_at}
 use Rattle.kd_rows.specs.declared.row.Row.{Row}
-use Rattle.kd_lease.specs.Choice.{Asking, Rank, has_rank, is_live}
+use Rattle.kd_lease.specs.Choice.{Asking, Rank, has_rank, live_row}
 use Rattle.kd_lease.specs.Rules.{Sets}
 use Rattle.kd_lease.specs.declared.planned.Planned.{Planned}
 use Rattle.kd_lease.specs.declared.planned.Planned.TheVariants as plans
@@ -20,8 +20,8 @@ NakSetsNone = (q : Asking) (type : MessageType) (set : Option Row) → Sets q ty
 -- a row of another client that has not ended, whatever its state
 pub record IsAnothers (q : Asking) (a : ℕ) (row : Row) : Type 0 where
   pub there : row_at q.rows a ≡ Some row
-  pub live : is_live q.now row ≡ true
-  pub other : is_of q.client row ≡ false
+  pub live : live_row q.now row ≡ true
+  pub other : belongs_to q.client row ≡ false
 
 -- an address that has such a row has no rank
 abbrev pub HeldHasNoRank : Type 0

@@ -11,8 +11,8 @@ pub record ReplyOption : Type 0 where
   pub obligatory : Bool
 
 -- the option that an item is
-abbrev pub option_in : Item → ReplyOption
-option_in item = record { code = item.code; value = item.value; obligatory = item.obligatory }
+abbrev pub option_of_item : Item → ReplyOption
+option_of_item item = record { code = item.code; value = item.value; obligatory = item.obligatory }
 
 -- what a message gets: a reply of this kind, with the client's new address or zero, and these options; or
 -- nothing, for a reason

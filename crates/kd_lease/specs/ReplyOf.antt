@@ -3,34 +3,34 @@
 use Rattle.std.specs.Prelude.{◌≡◌, ℕ, ◌+◌, Bool, true, ◌==◌, List, [], ◌∷◌, Option, Some, None, map, replicate, length, nat_le, sum_by, bit_or, if◌then◌else◌}
 use Rattle.kd_options.specs.Reply.{cost_of, reply_text}
 use Rattle.kd_options.specs.declared.item.Item.{Item}
-use Rattle.kd_lease.specs.Plan.{ReplyOption, option_in}
+use Rattle.kd_lease.specs.Plan.{ReplyOption, option_of_item}
 use Rattle.kd_lease.specs.declared.plan.PlanKind.{PlanKind}
 use Rattle.kd_lease.specs.declared.plan.PlanKind.TheVariants as kinds
 use Rattle.kd_wire.specs.declared.header.Header.{Header}
 
 -- the flags: a NAK through a relay asks it to broadcast; else those of the message
-abbrev pub reply_flags : PlanKind → Header → ℕ
-reply_flags kinds.Nak h = if h.giaddr == 0 then h.flags else bit_or h.flags 0x8000
-reply_flags other h = h.flags
+abbrev pub flags_of_reply : PlanKind → Header → ℕ
+flags_of_reply kinds.Nak h = if h.giaddr == 0 then h.flags else bit_or h.flags 0x8000
+flags_of_reply other h = h.flags
 
 -- the field ciaddr: that of the message in an ACK, else zero
-abbrev pub reply_ciaddr : PlanKind → Header → ℕ
-reply_ciaddr kinds.Offer h = 0
-reply_ciaddr kinds.Ack h = h.ciaddr
-reply_ciaddr kinds.InformAck h = h.ciaddr
-reply_ciaddr kinds.Nak h = 0
+abbrev pub ciaddr_of_reply : PlanKind → Header → ℕ
+ciaddr_of_reply kinds.Offer h = 0
+ciaddr_of_reply kinds.Ack h = h.ciaddr
+ciaddr_of_reply kinds.InformAck h = h.ciaddr
+ciaddr_of_reply kinds.Nak h = 0
 
 -- the header of a reply to a message with this header
-unfoldable pub reply_header : PlanKind → ℕ → Header → Header
-reply_header kind yiaddr h = record {
+unfoldable pub header_of_reply : PlanKind → ℕ → Header → Header
+header_of_reply kind yiaddr h = record {
   op = 2;
   htype = h.htype;
   hlen = h.hlen;
   hops = 0;
   xid = h.xid;
   secs = 0;
-  flags = reply_flags kind h;
-  ciaddr = reply_ciaddr kind h;
+  flags = flags_of_reply kind h;
+  ciaddr = ciaddr_of_reply kind h;
   yiaddr = yiaddr;
   siaddr = 0;
   giaddr = h.giaddr;
@@ -53,10 +53,10 @@ abbrev pub needed : ReplyOption → ℕ
 needed option = if option.obligatory then cost_of (length option.value) else 0
 
 -- the options that have to be there fit into the room, with header, cookie and End
-abbrev pub fits_room : ℕ → List ReplyOption → Bool
-fits_room room options = nat_le (240 + sum_by needed options + 1) room
+abbrev pub within_room : ℕ → List ReplyOption → Bool
+within_room room options = nat_le (240 + sum_by needed options + 1) room
 
 -- the text of a reply with these options
 abbrev pub IsReplyText : Header → ℕ → List ReplyOption → List ℕ → Type 0
 IsReplyText header room options text =
-    (items : List Item) × (map option_in items ≡ options) × (text ≡ reply_text header room items)
+    (items : List Item) × (map option_of_item items ≡ options) × (text ≡ reply_text header room items)

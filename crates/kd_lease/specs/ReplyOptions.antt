@@ -9,16 +9,16 @@ use Rattle.kd_lease.specs.Choice.{Asking}
 use Rattle.kd_lease.specs.Given.{configured_options, given}
 use Rattle.kd_lease.specs.Plan.{ReplyOption}
 use Rattle.kd_lease.specs.ReplyOf.{obligatory, returned}
-use Rattle.kd_lease.specs.Rules.{subnet_for}
+use Rattle.kd_lease.specs.Rules.{serving_subnet}
 use Rattle.kd_lease.specs.declared.plan.PlanKind.{PlanKind}
 use Rattle.kd_lease.specs.declared.plan.PlanKind.TheVariants as kinds
 
 -- the message type of a reply
-abbrev pub reply_type : PlanKind → ℕ
-reply_type kinds.Offer = 2
-reply_type kinds.Ack = 5
-reply_type kinds.InformAck = 5
-reply_type kinds.Nak = 6
+abbrev pub plan_type : PlanKind → ℕ
+plan_type kinds.Offer = 2
+plan_type kinds.Ack = 5
+plan_type kinds.InformAck = 5
+plan_type kinds.Nak = 6
 
 -- the times of a lease: how long it lasts, and when to renew and to rebind it
 abbrev pub lease_times : Times → List ReplyOption
@@ -39,14 +39,14 @@ configured_in q (Some s) address = configured_options q.message (given q.config 
 
 -- the configured options of a reply: at the address that it gives, or that the client has; a NAK has none
 abbrev pub configured_for : Asking → PlanKind → ℕ → List ReplyOption
-configured_for q kinds.Offer yiaddr = configured_in q (subnet_for q) yiaddr
-configured_for q kinds.Ack yiaddr = configured_in q (subnet_for q) yiaddr
-configured_for q kinds.InformAck yiaddr = configured_in q (subnet_for q) q.message.header.ciaddr
+configured_for q kinds.Offer yiaddr = configured_in q (serving_subnet q) yiaddr
+configured_for q kinds.Ack yiaddr = configured_in q (serving_subnet q) yiaddr
+configured_for q kinds.InformAck yiaddr = configured_in q (serving_subnet q) q.message.header.ciaddr
 configured_for q kinds.Nak yiaddr = []
 
 -- the options of a reply: type and server, the times of a lease, the client identifier as it came, the
 -- configured ones, the relay's information as it came
 unfoldable pub reply_options : Asking → PlanKind → ℕ → List ReplyOption
 reply_options q kind yiaddr =
-    obligatory 53 (reply_type kind ∷ []) ++ obligatory 54 (big_bytes 4 q.config.server) ++ times_in kind q.config.times
+    obligatory 53 (plan_type kind ∷ []) ++ obligatory 54 (big_bytes 4 q.config.server) ++ times_in kind q.config.times
     ++ returned 61 (value_of 61 q.message.options) ++ configured_for q kind yiaddr ++ returned 82 (value_of 82 q.message.options)

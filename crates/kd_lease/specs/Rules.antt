@@ -2,7 +2,7 @@
 -- is planned for it. The rows, their states and the times for which an offer and a declined address are held
 -- are ours.
 use Rattle.std.specs.Prelude.{◌≡◌, ℕ, ◌+◌, Bool, true, false, not, ◌&&◌, ◌==◌, ◌⊎◌, List, [], Option, Some, None, option_map, if◌then◌else◌}
-use Rattle.kd_config.specs.Address.{contains}
+use Rattle.kd_config.specs.Address.{has_address}
 use Rattle.kd_config.specs.declared.subnet.Subnet.{Subnet}
 use Rattle.kd_event.specs.declared.reason.Reason.{Reason}
 use Rattle.kd_event.specs.declared.reason.Reason.TheVariants as reasons
@@ -12,13 +12,13 @@ use Rattle.kd_options.specs.Message.{Seen}
 use Rattle.kd_options.specs.declared.kind.MessageType.{MessageType}
 use Rattle.kd_options.specs.declared.kind.MessageType.TheVariants as types
 use Rattle.kd_rows.specs.Row.{IsInRange}
-use Rattle.kd_rows.specs.Table.{is_of, row_at}
+use Rattle.kd_rows.specs.Table.{belongs_to, row_at}
 use Rattle.kd_rows.specs.declared.row.Row.{Row}
 use Rattle.kd_rows.specs.declared.row.State.{State}
 use Rattle.kd_rows.specs.declared.row.State.TheVariants as states
-use Rattle.kd_lease.specs.Choice.{Asking, Choice, NoChoice, address_in, fits, has_such, is_held_by, is_live, is_newer, is_usable, requested_of}
+use Rattle.kd_lease.specs.Choice.{Asking, Choice, NoChoice, address_of_value, fitting_for, has_such, held_row, live_row, set_later, usable, requested_address}
 use Rattle.kd_lease.specs.Client.{kind_of}
-use Rattle.kd_lease.specs.SubnetOf.{subnet_of}
+use Rattle.kd_lease.specs.SubnetOf.{subnet_serving}
 use Rattle.kd_lease.specs.declared.question.Question.{Question}
 use Rattle.kd_lease.specs.declared.planned.Planned.{Planned}
 use Rattle.kd_lease.specs.declared.planned.Planned.TheVariants as plans
@@ -35,71 +35,71 @@ asking question = record {
 }
 
 -- a row of the client, set now
-abbrev pub row_of : Asking → ℕ → State → ℕ → Row
-row_of q a state ends = record { address = a; client = q.client; state = state; changed = q.now; ends = ends }
+abbrev pub row_set_now : Asking → ℕ → State → ℕ → Row
+row_set_now q a state ends = record { address = a; client = q.client; state = state; changed = q.now; ends = ends }
 
 -- the row of an address that is offered
-abbrev pub offered : Asking → ℕ → Row
-offered q a = row_of q a states.Offered (q.now + q.config.times.offer_hold)
+abbrev pub offered_row : Asking → ℕ → Row
+offered_row q a = row_set_now q a states.Offered (q.now + q.config.times.offer_hold)
 
 -- the row of an address that is leased
-abbrev pub leased : Asking → ℕ → Row
-leased q a = row_of q a states.Bound (q.now + q.config.times.lifetime)
+abbrev pub leased_row : Asking → ℕ → Row
+leased_row q a = row_set_now q a states.Bound (q.now + q.config.times.lifetime)
 
 -- the row of an address that its client gave back
-abbrev pub released : Asking → ℕ → Row
-released q a = row_of q a states.Released q.now
+abbrev pub released_row : Asking → ℕ → Row
+released_row q a = row_set_now q a states.Released q.now
 
 -- the row of an address that is in use by another host: it is no client's
-abbrev pub declined : Asking → ℕ → Row
-declined q a = record { address = a; client = []; state = states.Declined; changed = q.now; ends = q.now + q.config.times.decline_hold }
+abbrev pub declined_row : Asking → ℕ → Row
+declined_row q a = record { address = a; client = []; state = states.Declined; changed = q.now; ends = q.now + q.config.times.decline_hold }
 
 -- a state of leases
-abbrev pub is_bound : State → Bool
-is_bound states.Bound = true
-is_bound other = false
+abbrev pub bound_state : State → Bool
+bound_state states.Bound = true
+bound_state other = false
 
 -- a state of offers
-abbrev pub is_offered : State → Bool
-is_offered states.Offered = true
-is_offered other = false
+abbrev pub offered_state : State → Bool
+offered_state states.Offered = true
+offered_state other = false
 
 -- the client leases an address: its row is the client's, live and bound
-abbrev pub is_leased : Asking → ℕ → Bool
-is_leased q a = has_such (λ row. is_live q.now row && (is_of q.client row && is_bound row.state)) (row_at q.rows a)
+abbrev pub leased_to : Asking → ℕ → Bool
+leased_to q a = has_such (λ row. live_row q.now row && (belongs_to q.client row && bound_state row.state)) (row_at q.rows a)
 
 -- an address is offered to the client: its row is the client's, live and offered
-abbrev pub is_offer : Asking → ℕ → Bool
-is_offer q a = has_such (λ row. is_live q.now row && (is_of q.client row && is_offered row.state)) (row_at q.rows a)
+abbrev pub offered_to : Asking → ℕ → Bool
+offered_to q a = has_such (λ row. live_row q.now row && (belongs_to q.client row && offered_state row.state)) (row_at q.rows a)
 
 -- the client holds an address: its row is the client's, live, and offered or bound
-abbrev pub is_held_at : Asking → ℕ → Bool
-is_held_at q a = has_such (is_held_by q) (row_at q.rows a)
+abbrev pub held_at : Asking → ℕ → Bool
+held_at q a = has_such (held_row q) (row_at q.rows a)
 
 -- the row of an address is the client's
-abbrev pub is_client_at : Asking → ℕ → Bool
-is_client_at q a = has_such (is_of q.client) (row_at q.rows a)
+abbrev pub client_has : Asking → ℕ → Bool
+client_has q a = has_such (belongs_to q.client) (row_at q.rows a)
 
 -- the client has a row at an address in the subnet's prefix
 abbrev pub is_record : Asking → Subnet → ℕ → Bool
-is_record q s a = is_client_at q a && contains s.prefix a
+is_record q s a = client_has q a && has_address s.prefix a
 
 -- the client may renew its lease of an address: its row is the client's, and it fits
-abbrev pub may_renew : Asking → Subnet → ℕ → Bool
-may_renew q s a = is_client_at q a && fits q s a
+abbrev pub renewable : Asking → Subnet → ℕ → Bool
+renewable q s a = client_has q a && fitting_for q s a
 
 -- the newest of the addresses of a kind, or that there is none
 abbrev pub IsNewest : List Row → (ℕ → Bool) → Option ℕ → Type 0
 IsNewest rows such None = (a : ℕ) → such a ≡ false
-IsNewest rows such (Some a) = (such a ≡ true) × ((b : ℕ) → such b ≡ true → is_newer rows b a ≡ false)
+IsNewest rows such (Some a) = (such a ≡ true) × ((b : ℕ) → such b ≡ true → set_later rows b a ≡ false)
 
 -- no row is set, and there is no answer, for this reason
 abbrev pub IsQuiet : Reason → Option Row → Planned → Type 0
 IsQuiet reason set planned = (set ≡ None) × (planned ≡ plans.Quiet reason)
 
 -- the subnet that serves the message
-abbrev pub subnet_for : Asking → Option Subnet
-subnet_for q = subnet_of q.config q.names q.message.header
+abbrev pub serving_subnet : Asking → Option Subnet
+serving_subnet q = subnet_serving q.config q.names q.message.header
 
 -- what is done in a subnet; nothing where there is none
 abbrev pub InSubnet : Option Subnet → (Subnet → Option Row → Planned → Type 0) → Option Row → Planned → Type 0
@@ -117,68 +117,68 @@ WithCiaddr true Does set planned = IsQuiet reasons.NoCiaddr set planned
 WithCiaddr false Does set planned = Does set planned
 
 -- the row that an offer sets: none where the client leases the address
-abbrev pub offer_row : Asking → ℕ → Option Row
-offer_row q a = if is_leased q a then None else Some (offered q a)
+abbrev pub row_of_offer : Asking → ℕ → Option Row
+row_of_offer q a = if leased_to q a then None else Some (offered_row q a)
 
 -- a DISCOVER in its subnet (section 4.3.1): an offer of the address for the client
 abbrev pub OnDiscover : Asking → Subnet → Option Row → Planned → Type 0
-OnDiscover q s set (plans.Offer a) = Choice q s a × (set ≡ offer_row q a)
+OnDiscover q s set (plans.Offer a) = Choice q s a × (set ≡ row_of_offer q a)
 OnDiscover q s set (plans.Quiet reason) = NoChoice q s × (set ≡ None) × (reason ≡ reasons.NoAddress)
 OnDiscover q s set other = ⊥
 
 -- a REQUEST to this server for an address (section 4.3.2, SELECTING): it is leased where the client may be
 -- given it
 abbrev pub OnSelect : Asking → Subnet → ℕ → Option Row → Planned → Type 0
-OnSelect q s asked set (plans.Ack a) = (a ≡ asked) × (is_usable q s a ≡ true) × (set ≡ Some (leased q a))
-OnSelect q s asked set plans.Nak = (is_usable q s asked ≡ false) × (set ≡ None)
+OnSelect q s asked set (plans.Ack a) = (a ≡ asked) × (usable q s a ≡ true) × (set ≡ Some (leased_row q a))
+OnSelect q s asked set plans.Nak = (usable q s asked ≡ false) × (set ≡ None)
 OnSelect q s asked set other = ⊥
 
 -- a REQUEST to another server: the newest offer to the client, where there is one, is given back
 abbrev pub OnOther : Asking → Option Row → Planned → Type 0
 OnOther q set planned =
-    ((offer : Option ℕ) × IsNewest q.rows (is_offer q) offer × (set ≡ option_map (released q) offer)) × (planned ≡ plans.Quiet reasons.OtherServer)
+    ((offer : Option ℕ) × IsNewest q.rows (offered_to q) offer × (set ≡ option_map (released_row q) offer)) × (planned ≡ plans.Quiet reasons.OtherServer)
 
 -- why a REQUEST that names no server is refused: the address is outside the subnet's prefix; or the client has
 -- a row there, but may not renew this one
-abbrev pub IsRefused : Asking → Subnet → ℕ → Type 0
-IsRefused q s a = (contains s.prefix a ≡ false) ⊎ (((b : ℕ) × (is_record q s b ≡ true)) × (may_renew q s a ≡ false))
+abbrev pub IsRenewalRefused : Asking → Subnet → ℕ → Type 0
+IsRenewalRefused q s a = (has_address s.prefix a ≡ false) ⊎ (((b : ℕ) × (is_record q s b ≡ true)) × (renewable q s a ≡ false))
 
 -- a REQUEST that names no server (section 4.3.2, INIT-REBOOT, RENEWING and REBINDING): a client that the
 -- server knows in the subnet may renew its lease there
 abbrev pub OnRenew : Asking → Subnet → ℕ → Option Row → Planned → Type 0
-OnRenew q s asked set (plans.Ack a) = (a ≡ asked) × (contains s.prefix a ≡ true) × (may_renew q s a ≡ true) × (set ≡ Some (leased q a))
-OnRenew q s asked set plans.Nak = IsRefused q s asked × (set ≡ None)
+OnRenew q s asked set (plans.Ack a) = (a ≡ asked) × (has_address s.prefix a ≡ true) × (renewable q s a ≡ true) × (set ≡ Some (leased_row q a))
+OnRenew q s asked set plans.Nak = IsRenewalRefused q s asked × (set ≡ None)
 OnRenew q s asked set (plans.Quiet reason) =
-    (contains s.prefix asked ≡ true) × ((b : ℕ) → is_record q s b ≡ false) × (set ≡ None) × (reason ≡ reasons.NoRecord)
+    (has_address s.prefix asked ≡ true) × ((b : ℕ) → is_record q s b ≡ false) × (set ≡ None) × (reason ≡ reasons.NoRecord)
 OnRenew q s asked set other = ⊥
 
 -- the server that a message names, option 54
-abbrev pub server_of : Seen → Option ℕ
-server_of m = address_in (value_of 54 m.options)
+abbrev pub named_server : Seen → Option ℕ
+named_server m = address_of_value (value_of 54 m.options)
 
 -- a message names another server
-abbrev pub names_other : ℕ → Option ℕ → Bool
-names_other server None = false
-names_other server (Some named) = not (named == server)
+abbrev pub other_server : ℕ → Option ℕ → Bool
+other_server server None = false
+other_server server (Some named) = not (named == server)
 
 -- the address of a REQUEST that names no server: the one that the client has, else the one that it asks for
-abbrev pub renewed_of : Seen → Option ℕ
-renewed_of m = if m.header.ciaddr == 0 then requested_of m else Some m.header.ciaddr
+abbrev pub renewed_address : Seen → Option ℕ
+renewed_address m = if m.header.ciaddr == 0 then requested_address m else Some m.header.ciaddr
 
 -- a REQUEST that names a server, this one or another
 abbrev pub OnNamed : Asking → Bool → Option Row → Planned → Type 0
-OnNamed q true set planned = WithAsked (requested_of q.message) (λ a. InSubnet (subnet_for q) (λ s. OnSelect q s a)) set planned
+OnNamed q true set planned = WithAsked (requested_address q.message) (λ a. InSubnet (serving_subnet q) (λ s. OnSelect q s a)) set planned
 OnNamed q false set planned = OnOther q set planned
 
 -- a REQUEST, by the server that it names (section 4.3.2)
 abbrev pub OnRequest : Asking → Option ℕ → Option Row → Planned → Type 0
-OnRequest q None set planned = WithAsked (renewed_of q.message) (λ a. InSubnet (subnet_for q) (λ s. OnRenew q s a)) set planned
+OnRequest q None set planned = WithAsked (renewed_address q.message) (λ a. InSubnet (serving_subnet q) (λ s. OnRenew q s a)) set planned
 OnRequest q (Some server) set planned = OnNamed q (server == q.config.server) set planned
 
 -- a lease or an offer that the client gives up: where it holds it, this row is set
-abbrev pub GivesUp : Bool → Row → Reason → Option Row → Planned → Type 0
-GivesUp true row done set planned = (set ≡ Some row) × (planned ≡ plans.Quiet done)
-GivesUp false row done set planned = IsQuiet reasons.NotHeld set planned
+abbrev pub GivesUpLease : Bool → Row → Reason → Option Row → Planned → Type 0
+GivesUpLease true row done set planned = (set ≡ Some row) × (planned ≡ plans.Quiet done)
+GivesUpLease false row done set planned = IsQuiet reasons.NotHeld set planned
 
 -- what is done unless the message names another server
 abbrev pub UnlessOther : Bool → (Option Row → Planned → Type 0) → Option Row → Planned → Type 0
@@ -188,13 +188,13 @@ UnlessOther false Does set planned = Does set planned
 -- a DECLINE (section 4.3.3): the address that it names is held back
 abbrev pub OnDecline : Asking → Option Row → Planned → Type 0
 OnDecline q set planned =
-    UnlessOther (names_other q.config.server (server_of q.message)) (WithAsked (requested_of q.message) (λ a. GivesUp (is_held_at q a) (declined q a) reasons.Declined)) set planned
+    UnlessOther (other_server q.config.server (named_server q.message)) (WithAsked (requested_address q.message) (λ a. GivesUpLease (held_at q a) (declined_row q a) reasons.Declined)) set planned
 
 -- a RELEASE (section 4.3.4): the client's address is given back
 abbrev pub OnRelease : Asking → Option Row → Planned → Type 0
 OnRelease q set planned =
     let a = q.message.header.ciaddr in
-    UnlessOther (names_other q.config.server (server_of q.message)) (WithCiaddr (a == 0) (GivesUp (is_held_at q a) (released q a) reasons.Released)) set planned
+    UnlessOther (other_server q.config.server (named_server q.message)) (WithCiaddr (a == 0) (GivesUpLease (held_at q a) (released_row q a) reasons.Released)) set planned
 
 -- an answer to an INFORM sets no row
 abbrev pub Informs : Subnet → Option Row → Planned → Type 0
@@ -202,12 +202,12 @@ Informs s set planned = (set ≡ None) × (planned ≡ plans.Inform)
 
 -- an INFORM (section 4.3.5), in its subnet
 abbrev pub OnInform : Asking → Option Row → Planned → Type 0
-OnInform q set planned = WithCiaddr (q.message.header.ciaddr == 0) (InSubnet (subnet_for q) Informs) set planned
+OnInform q set planned = WithCiaddr (q.message.header.ciaddr == 0) (InSubnet (serving_subnet q) Informs) set planned
 
 -- what a message of this type does; those that servers send do nothing
 abbrev pub Sets : Asking → MessageType → Option Row → Planned → Type 0
-Sets q types.Discover set planned = InSubnet (subnet_for q) (OnDiscover q) set planned
-Sets q types.Request set planned = OnRequest q (server_of q.message) set planned
+Sets q types.Discover set planned = InSubnet (serving_subnet q) (OnDiscover q) set planned
+Sets q types.Request set planned = OnRequest q (named_server q.message) set planned
 Sets q types.Decline set planned = OnDecline q set planned
 Sets q types.Release set planned = OnRelease q set planned
 Sets q types.Inform set planned = OnInform q set planned

@@ -2,37 +2,37 @@
 -- a client's addresses and in pools, and the first of one rank.
 use Rattle.std.specs.Prelude.{◌≡◌, ℕ, ◌<◌, ◌≤◌, Bool, true, false, not, ◌&&◌, is_none, List, Option, Some, None, if◌then◌else◌}
 use Rattle.std.specs.Str.{bytes_eq}
-use Rattle.kd_config.specs.Address.{contains}
+use Rattle.kd_config.specs.Address.{has_address}
 use Rattle.kd_config.specs.declared.reservation.Identity.{Identity}
 use Rattle.kd_config.specs.declared.reservation.Identity.TheVariants.{Hardware, ClientId}
 use Rattle.kd_config.specs.declared.subnet.Subnet.{Subnet}
 use Rattle.kd_rows.specs.Table.{row_at}
-use Rattle.kd_lease.specs.Choice.{Asking, IsFirst, Rank, fits, has_rank, has_such, is_live, is_newer, is_past, is_reserved_in, is_value}
+use Rattle.kd_lease.specs.Choice.{Asking, IsFirstOf, Rank, fitting_for, has_rank, has_such, live_row, set_later, past_row, reserved_in, same_value}
 use Rattle.kd_lease.specs.Choice.Rank.{own, past, fresh, expired}
-use Rattle.kd_lease.specs.Rules.{is_offer, is_record}
+use Rattle.kd_lease.specs.Rules.{offered_to, is_record}
 use Rattle.kd_lease.specs.declared.seeking.Sought.{Sought}
 use Rattle.kd_lease.specs.declared.seeking.Sought.TheVariants as seeks
 
 -- the row of an address is the client's and has ended
-abbrev pub is_past_at : Asking → ℕ → Bool
-is_past_at q a = has_such (is_past q) (row_at q.rows a)
+abbrev pub past_at : Asking → ℕ → Bool
+past_at q a = has_such (past_row q) (row_at q.rows a)
 
 -- an address is sought
-abbrev pub is_sought : Asking → Sought → ℕ → Bool
-is_sought q (seeks.Own s) a = has_rank q s.now own a
-is_sought q (seeks.Past s) a = has_rank q s.now past a
-is_sought q seeks.Offer a = is_offer q a
-is_sought q (seeks.Record s) a = is_record q s.now a
+abbrev pub sought_at : Asking → Sought → ℕ → Bool
+sought_at q (seeks.Own s) a = has_rank q s.now own a
+sought_at q (seeks.Past s) a = has_rank q s.now past a
+sought_at q seeks.Offer a = offered_to q a
+sought_at q (seeks.Record s) a = is_record q s.now a
 
 -- the newer of what was found and an address that is sought
-abbrev pub better : Asking → Sought → Option ℕ → ℕ → Option ℕ
-better q sought None a = if is_sought q sought a then Some a else None
-better q sought (Some b) a = if is_sought q sought a && is_newer q.rows a b then Some a else Some b
+abbrev pub newer_of : Asking → Sought → Option ℕ → ℕ → Option ℕ
+newer_of q sought None a = if sought_at q sought a then Some a else None
+newer_of q sought (Some b) a = if sought_at q sought a && set_later q.rows a b then Some a else Some b
 
 -- what is found is the first of a rank, or nothing where no address has it
 abbrev pub IsRanked : Asking → Subnet → Rank → Option ℕ → Type 0
 IsRanked q s rank None = (b : ℕ) → has_rank q s rank b ≡ false
-IsRanked q s rank (Some a) = IsFirst q s rank a
+IsRanked q s rank (Some a) = IsFirstOf q s rank a
 
 -- the rank of pools that is looked for: addresses that nobody had yet, or those whose rows have ended
 abbrev pub pool_rank : Bool → Rank
@@ -40,18 +40,18 @@ pool_rank true = fresh
 pool_rank false = expired
 
 -- a client is this one, by its hardware address or by its identifier
-abbrev pub is_by : List ℕ → Option (List ℕ) → Identity → Bool
-is_by mac id (Hardware bytes) = bytes_eq mac bytes
-is_by mac id (ClientId bytes) = is_value bytes id
+abbrev pub identified_by : List ℕ → Option (List ℕ) → Identity → Bool
+identified_by mac id (Hardware bytes) = bytes_eq mac bytes
+identified_by mac id (ClientId bytes) = same_value bytes id
 
 -- a subnet has an address in its prefix and a reservation of it
-abbrev pub keeps : ℕ → Subnet → Bool
-keeps a s = contains s.prefix a && is_reserved_in a s
+abbrev pub reserves : ℕ → Subnet → Bool
+reserves a s = has_address s.prefix a && reserved_in a s
 
 -- an address, where it is in a pool, has that rank
 abbrev pub is_open : Asking → Subnet → Bool → ℕ → Bool
-is_open q s true a = is_none (row_at q.rows a) && fits q s a
-is_open q s false a = has_such (λ row. not (is_live q.now row)) (row_at q.rows a) && fits q s a
+is_open q s true a = is_none (row_at q.rows a) && fitting_for q s a
+is_open q s false a = has_such (λ row. not (live_row q.now row)) (row_at q.rows a) && fitting_for q s a
 
 -- the least address from first to last that is open, or that none is
 abbrev pub IsLeastOpen : Asking → Subnet → Bool → ℕ → ℕ → Option ℕ → Type 0

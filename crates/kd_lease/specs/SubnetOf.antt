@@ -2,25 +2,25 @@
 -- the DHCPv4 Server Selects a Subnet for the Client).
 use Rattle.std.specs.Prelude.{ℕ, Bool, true, not, ◌&&◌, ◌==◌, List, Option, Some, None, if◌then◌else◌}
 use Rattle.std.specs.List.{find}
-use Rattle.kd_config.specs.Address.{contains}
+use Rattle.kd_config.specs.Address.{has_address}
 use Rattle.kd_config.specs.Configuration.{Configuration}
 use Rattle.kd_config.specs.declared.subnet.Subnet.{Subnet}
-use Rattle.kd_machine.specs.World.{is_held}
+use Rattle.kd_machine.specs.Parts.{is_held}
 use Rattle.kd_wire.specs.declared.header.Header.{Header}
 
 -- where a message comes from: its relay, else the address that its client has, else the server's link
-abbrev pub place_of : ℕ → Header → ℕ
-place_of server h = if not (h.giaddr == 0) then h.giaddr else if not (h.ciaddr == 0) then h.ciaddr else server
+abbrev pub message_place : ℕ → Header → ℕ
+message_place server h = if not (h.giaddr == 0) then h.giaddr else if not (h.ciaddr == 0) then h.ciaddr else server
 
 -- the class that a subnet asks for is held, or it asks for none
-abbrev pub admits : Option (List ℕ) → List (List ℕ) → Bool
-admits None names = true
-admits (Some class) names = is_held class names
+abbrev pub class_admits : Option (List ℕ) → List (List ℕ) → Bool
+class_admits None names = true
+class_admits (Some class) names = is_held class names
 
 -- a subnet serves this place and the holder of these names
-abbrev pub serves : ℕ → List (List ℕ) → Subnet → Bool
-serves place names subnet = contains subnet.prefix place && admits subnet.class names
+abbrev pub served_by : ℕ → List (List ℕ) → Subnet → Bool
+served_by place names subnet = has_address subnet.prefix place && class_admits subnet.class names
 
 -- the first subnet of the configuration that serves a message whose classes have these names
-unfoldable pub subnet_of : Configuration → List (List ℕ) → Header → Option Subnet
-subnet_of config names h = find (serves (place_of config.server h) names) config.subnets
+unfoldable pub subnet_serving : Configuration → List (List ℕ) → Header → Option Subnet
+subnet_serving config names h = find (served_by (message_place config.server h) names) config.subnets

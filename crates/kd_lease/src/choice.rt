@@ -19,15 +19,15 @@ pub(crate) fn choose(question: &Question<'_>, subnet: &Subnet) -> Option<u32>
         Some(address) => return Some(address),
         None => {}
     }
-    match own(question, subnet) {
+    match newest_own(question, subnet) {
         Some(address) => return Some(address),
         None => {}
     }
-    match past(question, subnet) {
+    match newest_past(question, subnet) {
         Some(address) => return Some(address),
         None => {}
     }
-    match asked(question, subnet) {
+    match asked_for(question, subnet) {
         Some(address) => return Some(address),
         None => {}
     }
@@ -55,21 +55,21 @@ fn kept(question: &Question<'_>, subnet: &Subnet) -> Option<u32>
 }
 
 // The newest address that the client holds and that fits.
-fn own(question: &Question<'_>, subnet: &Subnet) -> Option<u32>
+fn newest_own(question: &Question<'_>, subnet: &Subnet) -> Option<u32>
     ensures { IsRanked (asking question.now) subnet.now own result }
 {
     newest(question, &Sought::Own(subnet))
 }
 
 // The newest address that the client had and that fits.
-fn past(question: &Question<'_>, subnet: &Subnet) -> Option<u32>
+fn newest_past(question: &Question<'_>, subnet: &Subnet) -> Option<u32>
     ensures { IsRanked (asking question.now) subnet.now past result }
 {
     newest(question, &Sought::Past(subnet))
 }
 
 // The address that the client asks for, where it may be given it.
-fn asked(question: &Question<'_>, subnet: &Subnet) -> Option<u32>
+fn asked_for(question: &Question<'_>, subnet: &Subnet) -> Option<u32>
     ensures { IsRanked (asking question.now) subnet.now asked result }
 {
     match requested_of(question.message) {

@@ -1,12 +1,12 @@
 ghost use Rattle.std.specs.Prelude.{◌≡◌};
 ghost use Rattle.kd_options.specs.Joined.{value_of};
-ghost use Rattle.kd_lease.specs.Client.{asks_for, greatest_by, is_from_server, room_of};
+ghost use Rattle.kd_lease.specs.Client.{wants_option, greatest_by, server_message, reply_room};
 
 use kd_options::{Message, MessageType};
 
 // The message is one that servers send.
 pub(crate) fn is_from_server(message: &Message<'_>) -> bool
-    ensures { result ≡ is_from_server message.now }
+    ensures { result ≡ server_message message.now }
 {
     if message.header().op == 2 {
         return true;
@@ -21,7 +21,7 @@ pub(crate) fn is_from_server(message: &Message<'_>) -> bool
 
 // The message asks for the option with this code.
 pub(crate) fn asks_for(message: &Message<'_>, code: u8) -> bool
-    ensures { result ≡ asks_for code message.now }
+    ensures { result ≡ wants_option code message.now }
 {
     match message.option(55) {
         Some(list) => list.contains(&code),
@@ -31,7 +31,7 @@ pub(crate) fn asks_for(message: &Message<'_>, code: u8) -> bool
 
 // The room for the reply, in bytes.
 pub(crate) fn room_of(message: &Message<'_>) -> u16
-    ensures { result ≡ room_of message.now }
+    ensures { result ≡ reply_room message.now }
 {
     (greatest_of(message).max(576) - 28).min(1472)
 }

@@ -1,6 +1,6 @@
 ghost use Rattle.std.specs.Prelude.{◌≡◌, ℕ, ◌<◌, ◌^◌, IfOk, IfSome, None};
-ghost use Rattle.kd_lease.specs.Change.{Answers, Decides, WhereFits, fits_in, reply_in};
-ghost use Rattle.kd_lease.specs.Client.{room_of};
+ghost use Rattle.kd_lease.specs.Change.{AnswersTo, Decides, WhereFits, fits_in, reply_in};
+ghost use Rattle.kd_lease.specs.Client.{reply_room};
 ghost use Rattle.kd_lease.specs.Decided.{IsAnswerTo, outcome_in};
 ghost use Rattle.kd_lease.specs.Rules.{IsSetAt, asking};
 ghost use Rattle.kd_lease.specs.declared.plan.Answer.TheVariants as answers;
@@ -64,7 +64,7 @@ pub fn decide(
 // What a client's message changes and gets, by its rule.
 fn answer_for(alloc: Global, question: &Question<'_>) -> Result<Decision, AllocError>
     requires { question.now.moment < 2 ^ 40 }
-    ensures answers { IfOk result (λ d. Answers (asking question.now) d.row (outcome_in d.answer)) }
+    ensures answers { IfOk result (λ d. AnswersTo (asking question.now) d.row (outcome_in d.answer)) }
     ensures replies { IfOk result (λ d. IsAnswerTo question.now.message.now d.answer) }
     ensures set { IfOk result (λ d. IfSome d.row (IsSetAt question.now.moment)) }
 {
@@ -90,7 +90,7 @@ fn replied(
     kind: PlanKind,
     yiaddr: u32,
 ) -> Result<Decision, AllocError>
-    ensures answers { IfOk result (λ d. WhereFits (fits_in (room_of question.now.message.now) (reply_in (asking question.now) kind yiaddr))
+    ensures answers { IfOk result (λ d. WhereFits (fits_in (reply_room question.now.message.now) (reply_in (asking question.now) kind yiaddr))
         row (reply_in (asking question.now) kind yiaddr) d.row (outcome_in d.answer)) }
     ensures replies { IfOk result (λ d. IsAnswerTo question.now.message.now d.answer) }
     ensures set { (moment : ℕ) → IfSome row (IsSetAt moment) → IfOk result (λ d. IfSome d.row (IsSetAt moment)) }

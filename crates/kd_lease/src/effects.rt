@@ -1,8 +1,8 @@
 ghost use Rattle.std.specs.Prelude.{◌≡◌, ◌<◌, ◌^◌, IfOk, IfSome, None, Some};
 ghost use Rattle.kd_config.specs.Sound.{AreTimes};
 ghost use Rattle.std.specs.Option.{option_copied};
-ghost use Rattle.kd_lease.specs.Rules.{Does, InSubnet, IsSetAt, OnDecline, OnDiscover, OnInform, OnOther, OnRelease, OnRenew, OnRequest, OnSelect, WithAsked, asking, leased, may_renew, names_other, renewed_of, server_of, subnet_for};
-ghost use Rattle.kd_lease.specs.Choice.{requested_of};
+ghost use Rattle.kd_lease.specs.Rules.{Does, InSubnet, IsSetAt, OnDecline, OnDiscover, OnInform, OnOther, OnRelease, OnRenew, OnRequest, OnSelect, WithAsked, asking, leased_row, renewable, other_server, renewed_address, named_server, serving_subnet};
+ghost use Rattle.kd_lease.specs.Choice.{requested_address};
 ghost use Rattle.kd_lease.specs.declared.planned.Planned.TheVariants as plans;
 
 use crate::choice::choose;
@@ -60,7 +60,7 @@ fn effect_by_type(alloc: Global, question: &Question<'_>) -> Result<Effect, Allo
 // A DISCOVER (RFC 2131 section 4.3.1).
 fn discover(alloc: Global, question: &Question<'_>) -> Result<Effect, AllocError>
     requires { question.now.moment < 2 ^ 40 }
-    ensures { IfOk result (λ effect. InSubnet (subnet_for (asking question.now)) (OnDiscover (asking question.now)) effect.row effect.planned) }
+    ensures { IfOk result (λ effect. InSubnet (serving_subnet (asking question.now)) (OnDiscover (asking question.now)) effect.row effect.planned) }
 {
     match subnet_for(question) {
         Some(subnet) => discover_in(alloc, question, subnet),
@@ -89,7 +89,7 @@ fn discover_in(
 // A REQUEST, by the server that it names (RFC 2131 section 4.3.2).
 fn request(alloc: Global, question: &Question<'_>) -> Result<Effect, AllocError>
     requires { question.now.moment < 2 ^ 40 }
-    ensures { IfOk result (λ effect. OnRequest (asking question.now) (server_of question.now.message.now) effect.row effect.planned) }
+    ensures { IfOk result (λ effect. OnRequest (asking question.now) (named_server question.now.message.now) effect.row effect.planned) }
 {
     match server_of(question.message) {
         Some(server) => {
@@ -106,8 +106,8 @@ fn request(alloc: Global, question: &Question<'_>) -> Result<Effect, AllocError>
 // A REQUEST to this server for an address (SELECTING).
 fn select(alloc: Global, question: &Question<'_>) -> Result<Effect, AllocError>
     requires { question.now.moment < 2 ^ 40 }
-    ensures { IfOk result (λ effect. WithAsked (requested_of question.now.message.now)
-        (λ a. InSubnet (subnet_for (asking question.now)) (λ s. OnSelect (asking question.now) s a)) effect.row effect.planned) }
+    ensures { IfOk result (λ effect. WithAsked (requested_address question.now.message.now)
+        (λ a. InSubnet (serving_subnet (asking question.now)) (λ s. OnSelect (asking question.now) s a)) effect.row effect.planned) }
 {
     let Some(address) = requested_of(question.message) else {
         return Ok(quiet(Reason::NoRequested));
@@ -151,8 +151,8 @@ fn other(alloc: Global, question: &Question<'_>) -> Result<Effect, AllocError>
 // A REQUEST that names no server (INIT-REBOOT, RENEWING and REBINDING).
 fn renew(alloc: Global, question: &Question<'_>) -> Result<Effect, AllocError>
     requires { question.now.moment < 2 ^ 40 }
-    ensures { IfOk result (λ effect. WithAsked (renewed_of question.now.message.now)
-        (λ a. InSubnet (subnet_for (asking question.now)) (λ s. OnRenew (asking question.now) s a)) effect.row effect.planned) }
+    ensures { IfOk result (λ effect. WithAsked (renewed_address question.now.message.now)
+        (λ a. InSubnet (serving_subnet (asking question.now)) (λ s. OnRenew (asking question.now) s a)) effect.row effect.planned) }
 {
     let Some(address) = renewed_of(question.message) else {
         return Ok(quiet(Reason::NoRequested));
@@ -190,7 +190,7 @@ fn renew_in(
 
 // The client may renew its lease of an address: its row is the client's, and it fits.
 fn may_renew(question: &Question<'_>, subnet: &Subnet, address: u32) -> bool
-    ensures { result ≡ may_renew (asking question.now) subnet.now address }
+    ensures { result ≡ renewable (asking question.now) subnet.now address }
 {
     is_client_at(question, address) && fits(question, subnet, address)
 }
@@ -256,7 +256,7 @@ fn inform(question: &Question<'_>) -> Effect
 // An address is leased to the client.
 fn lease(alloc: Global, question: &Question<'_>, address: u32) -> Result<Effect, AllocError>
     requires { question.now.moment < 2 ^ 40 }
-    ensures { IfOk result (λ effect. effect ≡ record { row = Some (leased (asking question.now) address); planned = plans.Ack address }) }
+    ensures { IfOk result (λ effect. effect ≡ record { row = Some (leased_row (asking question.now) address); planned = plans.Ack address }) }
 {
     Ok(Effect {
         row: Some(leased(alloc, question, address)?),
@@ -286,21 +286,21 @@ fn quiet(reason: Reason) -> Effect
 
 // The subnet that serves the message.
 pub(crate) fn subnet_for<'a>(question: &Question<'a>) -> Option<&'a Subnet>
-    ensures { option_copied result ≡ subnet_for (asking question.now) }
+    ensures { option_copied result ≡ serving_subnet (asking question.now) }
 {
     subnet_of(question.config, question.names, &question.message.header())
 }
 
 // The server that a message names (RFC 2132 section 9.7).
 fn server_of(message: &Message<'_>) -> Option<u32>
-    ensures { result ≡ server_of message.now }
+    ensures { result ≡ named_server message.now }
 {
     address_in(message.option(54))
 }
 
 // A message names another server.
 fn names_other(server: u32, named: Option<u32>) -> bool
-    ensures { result ≡ names_other server named }
+    ensures { result ≡ other_server server named }
 {
     match named {
         Some(named) => named != server,
@@ -310,7 +310,7 @@ fn names_other(server: u32, named: Option<u32>) -> bool
 
 // The address of a REQUEST that names no server: the one that the client has, else the one that it asks for.
 fn renewed_of(message: &Message<'_>) -> Option<u32>
-    ensures { result ≡ renewed_of message.now }
+    ensures { result ≡ renewed_address message.now }
 {
     let ciaddr = message.header().ciaddr;
     if ciaddr == 0 {

@@ -1,7 +1,7 @@
 ghost use Rattle.std.specs.Prelude.{◌≡◌};
 ghost use Rattle.std.specs.Option.{option_copied};
-ghost use Rattle.kd_rows.specs.Table.{is_of};
-ghost use Rattle.kd_lease.specs.Choice.{address_in, fits, in_pools, is_address, is_free, is_held_by, is_holding, is_its, is_live, is_past, is_usable, leaves_free, requested_of};
+ghost use Rattle.kd_rows.specs.Table.{belongs_to};
+ghost use Rattle.kd_lease.specs.Choice.{address_of_value, fitting_for, pooled, same_address, free_for, held_row, holding_state, own_row, live_row, past_row, usable, freed_by, requested_address};
 ghost use Rattle.kd_lease.specs.Rules.{asking};
 
 use crate::question::Question;
@@ -12,7 +12,7 @@ use kd_rows::{Row, State};
 
 // An address fits: it is in a pool of the subnet and reserved for nobody, or reserved for the client.
 pub(crate) fn fits(question: &Question<'_>, subnet: &Subnet, address: u32) -> bool
-    ensures { result ≡ fits (asking question.now) subnet.now address }
+    ensures { result ≡ fitting_for (asking question.now) subnet.now address }
 {
     (in_pools(subnet, address) && !is_reserved(question.config, address))
         || is_address(reserved_address(question.message, subnet), address)
@@ -20,7 +20,7 @@ pub(crate) fn fits(question: &Question<'_>, subnet: &Subnet, address: u32) -> bo
 
 // A pool of the subnet has this address.
 fn in_pools(subnet: &Subnet, address: u32) -> bool
-    ensures { result ≡ in_pools subnet.now address }
+    ensures { result ≡ pooled subnet.now address }
 {
     subnet
         .pools
@@ -31,7 +31,7 @@ fn in_pools(subnet: &Subnet, address: u32) -> bool
 
 // An address is there, and is this one.
 pub(crate) fn is_address(found: Option<u32>, address: u32) -> bool
-    ensures { result ≡ is_address found address }
+    ensures { result ≡ same_address found address }
 {
     match found {
         Some(found) => found == address,
@@ -41,14 +41,14 @@ pub(crate) fn is_address(found: Option<u32>, address: u32) -> bool
 
 // The client may be given an address: it fits and is free.
 pub(crate) fn is_usable(question: &Question<'_>, subnet: &Subnet, address: u32) -> bool
-    ensures { result ≡ is_usable (asking question.now) subnet.now address }
+    ensures { result ≡ usable (asking question.now) subnet.now address }
 {
     fits(question, subnet, address) && is_free(question, address)
 }
 
 // An address is free for the client: it has no row, or one that leaves it free.
 pub(crate) fn is_free(question: &Question<'_>, address: u32) -> bool
-    ensures { result ≡ is_free (asking question.now) address }
+    ensures { result ≡ free_for (asking question.now) address }
 {
     match question.rows.get(address) {
         Some(row) => leaves_free(question, row),
@@ -58,49 +58,49 @@ pub(crate) fn is_free(question: &Question<'_>, address: u32) -> bool
 
 // A row leaves its address free for the client: it has ended, or is the client's, offered or bound.
 fn leaves_free(question: &Question<'_>, row: &Row) -> bool
-    ensures { result ≡ leaves_free (asking question.now) row.now }
+    ensures { result ≡ freed_by (asking question.now) row.now }
 {
     !is_live(question.moment, row) || is_its(question, row)
 }
 
 // A row that the client holds: its own, live, offered or bound.
 pub(crate) fn is_held_by(question: &Question<'_>, row: &Row) -> bool
-    ensures { result ≡ is_held_by (asking question.now) row.now }
+    ensures { result ≡ held_row (asking question.now) row.now }
 {
     is_live(question.moment, row) && is_its(question, row)
 }
 
 // The client's own row, which has ended.
 pub(crate) fn is_past(question: &Question<'_>, row: &Row) -> bool
-    ensures { result ≡ is_past (asking question.now) row.now }
+    ensures { result ≡ past_row (asking question.now) row.now }
 {
     !is_live(question.moment, row) && is_of(question.client, row)
 }
 
 // The client's own row, offered or bound.
 fn is_its(question: &Question<'_>, row: &Row) -> bool
-    ensures { result ≡ is_its (asking question.now) row.now }
+    ensures { result ≡ own_row (asking question.now) row.now }
 {
     is_of(question.client, row) && is_holding(row.state)
 }
 
 // A row is this client's.
 pub(crate) fn is_of(client: &[u8], row: &Row) -> bool
-    ensures { result ≡ is_of client.now row.now }
+    ensures { result ≡ belongs_to client.now row.now }
 {
     row.client.as_slice() == client
 }
 
 // A row has not ended yet.
 pub(crate) fn is_live(now: u64, row: &Row) -> bool
-    ensures { result ≡ is_live now row.now }
+    ensures { result ≡ live_row now row.now }
 {
     now < row.ends
 }
 
 // A state in which a client holds an address.
 fn is_holding(state: State) -> bool
-    ensures { result ≡ is_holding state }
+    ensures { result ≡ holding_state state }
 {
     match state {
         State::Offered => true,
@@ -112,14 +112,14 @@ fn is_holding(state: State) -> bool
 
 // The address that the client asks for (RFC 2132 section 9.1).
 pub(crate) fn requested_of(message: &Message<'_>) -> Option<u32>
-    ensures { result ≡ requested_of message.now }
+    ensures { result ≡ requested_address message.now }
 {
     address_in(message.option(50))
 }
 
 // The address that a value of four bytes is.
 pub(crate) fn address_in(value: Option<&[u8]>) -> Option<u32>
-    ensures { result ≡ address_in (option_copied value.entry) }
+    ensures { result ≡ address_of_value (option_copied value.entry) }
 {
     match value {
         Some([a, b, c, d]) => Some(u32::from_be_bytes([*a, *b, *c, *d])),

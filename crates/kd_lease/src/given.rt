@@ -1,8 +1,8 @@
 ghost use Rattle.std.specs.Prelude.{◌≡◌, ◌++◌, ◌∷◌, [], IfOk, List, OnOk, map, option_copied};
 ghost use Rattle.kd_classes.specs.declared.option_list.OptionData.{OptionData};
-ghost use Rattle.kd_lease.specs.Client.{asks_for};
-ghost use Rattle.kd_lease.specs.Given.{class_options, configured, configured_options, given, mask_of, value_in};
-ghost use Rattle.kd_lease.specs.Plan.{option_in};
+ghost use Rattle.kd_lease.specs.Client.{wants_option};
+ghost use Rattle.kd_lease.specs.Given.{class_options, configured, configured_options, given, prefix_mask, value_in};
+ghost use Rattle.kd_lease.specs.Plan.{option_of_item};
 ghost use Rattle.kd_lease.specs.Valuing.{HasValues};
 ghost use Rattle.kd_wire.specs.Area.{IsCode};
 
@@ -27,7 +27,7 @@ pub(crate) fn put_given(
     message: &Message<'_>,
     address: u32,
 ) -> Result<(), AllocError>
-    ensures { OnOk result (map option_in list.new.items ≡ map option_in list.old.items
+    ensures { OnOk result (map option_of_item list.new.items ≡ map option_of_item list.old.items
         ++ configured_options message.now (given config.now subnet.now names.now address)) }
 {
     let mask = mask_of(subnet.prefix);
@@ -71,7 +71,7 @@ fn put_values(
     values: &Values<'_>,
 ) -> Result<(), AllocError>
     ensures { (options : List OptionData) → HasValues values.now.by_code options
-        → OnOk result (map option_in list.new.items ≡ map option_in list.old.items
+        → OnOk result (map option_of_item list.new.items ≡ map option_of_item list.old.items
         ++ configured_options message.now options) }
 {
     for code in 1..255u8 {
@@ -89,8 +89,8 @@ fn put_configured(
     value: Option<&[u8]>,
 ) -> Result<(), AllocError>
     requires { IsCode code }
-    ensures { OnOk result (map option_in list.new.items
-        ≡ map option_in list.old.items ++ configured (asks_for code message.now) code (option_copied value.entry)) }
+    ensures { OnOk result (map option_of_item list.new.items
+        ≡ map option_of_item list.old.items ++ configured (wants_option code message.now) code (option_copied value.entry)) }
 {
     match value {
         Some(value) if asks_for(message, code) => put_optional(alloc, list, code, value),
@@ -100,7 +100,7 @@ fn put_configured(
 
 // The mask of a prefix, in network order (RFC 2132 section 3.3).
 fn mask_of(prefix: Prefix) -> [u8; 4]
-    ensures { result ≡ mask_of prefix }
+    ensures { result ≡ prefix_mask prefix }
 {
     let mask = (1u64 << 32) - prefix.size();
     (mask as u32).to_be_bytes()

@@ -1,5 +1,5 @@
 ghost use Rattle.std.specs.Prelude.{◌≡◌, ◌++◌, IfOk};
-ghost use Rattle.kd_lease.specs.Client.{hardware_identity, identity};
+ghost use Rattle.kd_lease.specs.Client.{identity_by_hardware, client_identity};
 
 use kd_options::Message;
 use kd_wire::Bytes;
@@ -12,7 +12,7 @@ use std::alloc::{AllocError, Global};
 ///
 /// There is no memory for the bytes.
 pub fn identity(alloc: Global, message: &Message<'_>) -> Result<Option<Bytes>, AllocError>
-    ensures { IfOk result (λ found. found ≡ identity message.now) }
+    ensures { IfOk result (λ found. found ≡ client_identity message.now) }
 {
     match message.option(61) {
         Some([first, rest @ ..]) => Ok(Some(joined(alloc, &[1, *first], rest)?)),
@@ -22,7 +22,7 @@ pub fn identity(alloc: Global, message: &Message<'_>) -> Result<Option<Bytes>, A
 
 // The identity that the hardware gives, where there is an address.
 fn hardware_identity(alloc: Global, htype: u8, mac: &[u8]) -> Result<Option<Bytes>, AllocError>
-    ensures { IfOk result (λ found. found ≡ hardware_identity htype mac.now) }
+    ensures { IfOk result (λ found. found ≡ identity_by_hardware htype mac.now) }
 {
     match mac {
         [] => Ok(None),

@@ -1,7 +1,7 @@
 ghost use Rattle.std.specs.Prelude.{◌≡◌, ◌++◌, IfOk, OnOk, map};
-ghost use Rattle.kd_lease.specs.Plan.{option_in};
-ghost use Rattle.kd_lease.specs.ReplyOptions.{configured_for, configured_in, lease_times, reply_options, reply_type, times_in};
-ghost use Rattle.kd_lease.specs.Rules.{asking, subnet_for};
+ghost use Rattle.kd_lease.specs.Plan.{option_of_item};
+ghost use Rattle.kd_lease.specs.ReplyOptions.{configured_for, configured_in, lease_times, reply_options, plan_type, times_in};
+ghost use Rattle.kd_lease.specs.Rules.{asking, serving_subnet};
 
 use crate::effects::subnet_for;
 use crate::given::put_given;
@@ -23,7 +23,7 @@ pub(crate) fn reply_items(
     kind: PlanKind,
     yiaddr: u32,
 ) -> Result<Items, AllocError>
-    ensures { IfOk result (λ items. map option_in items ≡ reply_options (asking question.now) kind yiaddr) }
+    ensures { IfOk result (λ items. map option_of_item items ≡ reply_options (asking question.now) kind yiaddr) }
 {
     let message = question.message;
     let server = question.config.server().to_be_bytes();
@@ -39,7 +39,7 @@ pub(crate) fn reply_items(
 
 // The message type of a reply (RFC 2132 section 9.6).
 fn reply_type(kind: PlanKind) -> u8
-    ensures { result ≡ reply_type kind }
+    ensures { result ≡ plan_type kind }
 {
     match kind {
         PlanKind::Offer => 2,
@@ -56,7 +56,7 @@ fn put_times(
     kind: PlanKind,
     times: Times,
 ) -> Result<(), AllocError>
-    ensures { OnOk result (map option_in list.new.items ≡ map option_in list.old.items ++ times_in kind times) }
+    ensures { OnOk result (map option_of_item list.new.items ≡ map option_of_item list.old.items ++ times_in kind times) }
 {
     match kind {
         PlanKind::Offer => put_lease_times(alloc, list, times),
@@ -68,7 +68,7 @@ fn put_times(
 
 // Puts how long a lease lasts, and when to renew and to rebind it.
 fn put_lease_times(alloc: Global, list: &mut Vec<Item>, times: Times) -> Result<(), AllocError>
-    ensures { OnOk result (map option_in list.new.items ≡ map option_in list.old.items ++ lease_times times) }
+    ensures { OnOk result (map option_of_item list.new.items ≡ map option_of_item list.old.items ++ lease_times times) }
 {
     put_obligatory(alloc, list, 51, &times.lifetime.to_be_bytes())?;
     put_obligatory(alloc, list, 58, &times.renew.to_be_bytes())?;
@@ -83,7 +83,7 @@ fn put_configured_for(
     kind: PlanKind,
     yiaddr: u32,
 ) -> Result<(), AllocError>
-    ensures { OnOk result (map option_in list.new.items ≡ map option_in list.old.items ++ configured_for (asking question.now) kind yiaddr) }
+    ensures { OnOk result (map option_of_item list.new.items ≡ map option_of_item list.old.items ++ configured_for (asking question.now) kind yiaddr) }
 {
     match kind {
         PlanKind::Offer => put_configured_at(alloc, list, question, yiaddr),
@@ -102,8 +102,8 @@ fn put_configured_at(
     question: &Question<'_>,
     address: u32,
 ) -> Result<(), AllocError>
-    ensures { OnOk result (map option_in list.new.items ≡ map option_in list.old.items
-        ++ configured_in (asking question.now) (subnet_for (asking question.now)) address) }
+    ensures { OnOk result (map option_of_item list.new.items ≡ map option_of_item list.old.items
+        ++ configured_in (asking question.now) (serving_subnet (asking question.now)) address) }
 {
     match subnet_for(question) {
         Some(subnet) => put_given(

@@ -1,8 +1,8 @@
 ghost use Rattle.std.specs.Prelude.{◌≡◌, ◌++◌, ◌∷◌, [], IsTrue, OnOk, map, option_copied};
-ghost use Rattle.kd_options.specs.Reply.{Fits};
+ghost use Rattle.kd_options.specs.Reply.{ItemsFit};
 ghost use Rattle.kd_lease.specs.Given.{optional};
-ghost use Rattle.kd_lease.specs.Plan.{option_in};
-ghost use Rattle.kd_lease.specs.ReplyOf.{fits_room, obligatory, returned, reply_ciaddr, reply_flags, reply_header};
+ghost use Rattle.kd_lease.specs.Plan.{option_of_item};
+ghost use Rattle.kd_lease.specs.ReplyOf.{within_room, obligatory, returned, ciaddr_of_reply, flags_of_reply, header_of_reply};
 ghost use Rattle.kd_wire.specs.Area.{IsCode};
 
 use crate::plan::PlanKind;
@@ -11,9 +11,9 @@ use kd_wire::{Bytes, Header};
 use std::alloc::{AllocError, Global};
 
 // The header of a reply to a message with this header.
-#[tactic(auto, unfolding(crate::specs::ReplyOf::reply_header))]
+#[tactic(auto, unfolding(crate::specs::ReplyOf::header_of_reply))]
 pub(crate) fn reply_header(kind: PlanKind, yiaddr: u32, header: &Header) -> Header
-    ensures { result ≡ reply_header kind yiaddr header.now }
+    ensures { result ≡ header_of_reply kind yiaddr header.now }
 {
     Header {
         op: 2,
@@ -35,7 +35,7 @@ pub(crate) fn reply_header(kind: PlanKind, yiaddr: u32, header: &Header) -> Head
 
 // The flags: a NAK through a relay asks it to broadcast.
 fn reply_flags(kind: PlanKind, header: &Header) -> u16
-    ensures { result ≡ reply_flags kind header.now }
+    ensures { result ≡ flags_of_reply kind header.now }
 {
     match kind {
         PlanKind::Nak if header.giaddr != 0 => header.flags | 0x8000,
@@ -45,7 +45,7 @@ fn reply_flags(kind: PlanKind, header: &Header) -> u16
 
 // The field ciaddr: that of the message in an ACK.
 fn reply_ciaddr(kind: PlanKind, header: &Header) -> u32
-    ensures { result ≡ reply_ciaddr kind header.now }
+    ensures { result ≡ ciaddr_of_reply kind header.now }
 {
     match kind {
         PlanKind::Offer => 0,
@@ -57,8 +57,8 @@ fn reply_ciaddr(kind: PlanKind, header: &Header) -> u32
 
 // The obligatory options of a reply fit into the room.
 pub(crate) fn fits_room(reply: &Reply, room: u16) -> bool
-    ensures short { result ≡ fits_room room (map option_in reply.now.items) }
-    ensures fits { IsTrue result → Fits room reply.now.items }
+    ensures short { result ≡ within_room room (map option_of_item reply.now.items) }
+    ensures fits { IsTrue result → ItemsFit room reply.now.items }
 {
     reply.fits(room)
 }
@@ -71,7 +71,7 @@ pub(crate) fn put_obligatory(
     value: &[u8],
 ) -> Result<(), AllocError>
     requires { IsCode code }
-    ensures { OnOk result (map option_in list.new.items ≡ map option_in list.old.items ++ obligatory code value.now) }
+    ensures { OnOk result (map option_of_item list.new.items ≡ map option_of_item list.old.items ++ obligatory code value.now) }
 {
     put_option(alloc, list, code, value, true)
 }
@@ -84,8 +84,8 @@ pub(crate) fn put_returned(
     value: Option<&[u8]>,
 ) -> Result<(), AllocError>
     requires { IsCode code }
-    ensures { OnOk result (map option_in list.new.items
-        ≡ map option_in list.old.items ++ returned code (option_copied value.entry)) }
+    ensures { OnOk result (map option_of_item list.new.items
+        ≡ map option_of_item list.old.items ++ returned code (option_copied value.entry)) }
 {
     match value {
         Some(value) => put_obligatory(alloc, list, code, value),
@@ -101,7 +101,7 @@ pub(crate) fn put_optional(
     value: &[u8],
 ) -> Result<(), AllocError>
     requires { IsCode code }
-    ensures { OnOk result (map option_in list.new.items ≡ map option_in list.old.items ++ optional code value.now) }
+    ensures { OnOk result (map option_of_item list.new.items ≡ map option_of_item list.old.items ++ optional code value.now) }
 {
     put_option(alloc, list, code, value, false)
 }
@@ -114,7 +114,7 @@ fn put_option(
     obligatory: bool,
 ) -> Result<(), AllocError>
     requires { IsCode code }
-    ensures { OnOk result (map option_in list.new.items ≡ map option_in list.old.items
+    ensures { OnOk result (map option_of_item list.new.items ≡ map option_of_item list.old.items
         ++ record { code = code; value = value.now; obligatory = obligatory } ∷ []) }
 {
     let value = Bytes::own(Vec::from_slice(alloc, value)?);

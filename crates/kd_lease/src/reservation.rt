@@ -1,15 +1,15 @@
 ghost use Rattle.std.specs.Prelude.{◌≡◌};
 ghost use Rattle.std.specs.List.{list_any};
 ghost use Rattle.std.specs.Option.{option_copied};
-ghost use Rattle.kd_lease.specs.Choice.{is_reserved, is_reserved_in, is_value, reservation_of, reserved_address};
-ghost use Rattle.kd_lease.specs.Seeking.{is_by, keeps};
+ghost use Rattle.kd_lease.specs.Choice.{reserved_anywhere, reserved_in, same_value, client_reservation, address_reserved};
+ghost use Rattle.kd_lease.specs.Seeking.{identified_by, reserves};
 
 use kd_config::{Config, Identity, Reservation, Subnet};
 use kd_options::Message;
 
 // The address that is reserved in a subnet for the client of a message.
 pub(crate) fn reserved_address(message: &Message<'_>, subnet: &Subnet) -> Option<u32>
-    ensures { result ≡ reserved_address message.now subnet.now }
+    ensures { result ≡ address_reserved message.now subnet.now }
 {
     match reservation_of(message, subnet) {
         Some(reservation) => Some(reservation.address),
@@ -20,7 +20,7 @@ pub(crate) fn reserved_address(message: &Message<'_>, subnet: &Subnet) -> Option
 // The first reservation of a subnet that is for the client of a message.
 #[tactic(auto, using(crate::proofs::Reserved::reservation_by))]
 fn reservation_of<'a>(message: &Message<'_>, subnet: &'a Subnet) -> Option<&'a Reservation>
-    ensures { option_copied result ≡ reservation_of message.now subnet.now }
+    ensures { option_copied result ≡ client_reservation message.now subnet.now }
 {
     let mac = message.mac();
     let id = message.option(61);
@@ -33,7 +33,7 @@ fn reservation_of<'a>(message: &Message<'_>, subnet: &'a Subnet) -> Option<&'a R
 
 // A client is this one, by its hardware address or by its identifier.
 fn is_by(mac: &[u8], id: Option<&[u8]>, identity: &Identity) -> bool
-    ensures { result ≡ is_by mac.now (option_copied id.entry) identity.now }
+    ensures { result ≡ identified_by mac.now (option_copied id.entry) identity.now }
 {
     match identity {
         Identity::Hardware(bytes) => mac == bytes.as_slice(),
@@ -43,7 +43,7 @@ fn is_by(mac: &[u8], id: Option<&[u8]>, identity: &Identity) -> bool
 
 // A value is there, and is these bytes.
 fn is_value(bytes: &[u8], value: Option<&[u8]>) -> bool
-    ensures { result ≡ is_value bytes.now (option_copied value.entry) }
+    ensures { result ≡ same_value bytes.now (option_copied value.entry) }
 {
     match value {
         Some(value) => value == bytes,
@@ -53,28 +53,28 @@ fn is_value(bytes: &[u8], value: Option<&[u8]>) -> bool
 
 // A subnet of the configuration has a reservation of this address.
 pub(crate) fn is_reserved(config: &Config, address: u32) -> bool
-    ensures { result ≡ is_reserved config.now address }
+    ensures { result ≡ reserved_anywhere config.now address }
 {
     are_keeping(address, config.subnets())
 }
 
 // One of these subnets has an address in its prefix and a reservation of it.
 fn are_keeping(address: u32, subnets: &[Subnet]) -> bool
-    ensures { result ≡ list_any (keeps address) subnets.now }
+    ensures { result ≡ list_any (reserves address) subnets.now }
 {
     subnets.iter().any(|subnet| keeps(address, subnet))
 }
 
 // A subnet has an address in its prefix and a reservation of it.
 fn keeps(address: u32, subnet: &Subnet) -> bool
-    ensures { result ≡ keeps address subnet.now }
+    ensures { result ≡ reserves address subnet.now }
 {
     subnet.prefix.contains(address) && is_reserved_in(address, subnet)
 }
 
 // A subnet has a reservation of this address.
 fn is_reserved_in(address: u32, subnet: &Subnet) -> bool
-    ensures { result ≡ is_reserved_in address subnet.now }
+    ensures { result ≡ reserved_in address subnet.now }
 {
     subnet
         .reservations

@@ -1,7 +1,7 @@
 ghost use Rattle.std.specs.Prelude.{◌≡◌};
-ghost use Rattle.kd_lease.specs.Choice.{changed_in, is_newer};
-ghost use Rattle.kd_lease.specs.Rules.{IsNewest, asking, is_bound, is_client_at, is_held_at, is_leased, is_offer, is_offered, is_record};
-ghost use Rattle.kd_lease.specs.Seeking.{better, is_past_at, is_sought};
+ghost use Rattle.kd_lease.specs.Choice.{changed_in, set_later};
+ghost use Rattle.kd_lease.specs.Rules.{IsNewest, asking, bound_state, client_has, held_at, leased_to, offered_to, offered_state, is_record};
+ghost use Rattle.kd_lease.specs.Seeking.{newer_of, past_at, sought_at};
 ghost use Rattle.kd_rows.specs.Table.{row_at};
 
 use crate::fitting::{fits, is_held_by, is_live, is_of, is_past};
@@ -24,7 +24,7 @@ pub(crate) enum Sought<'a> {
 
 // The newest of the client's addresses that are sought.
 pub(crate) fn newest(question: &Question<'_>, sought: &Sought<'_>) -> Option<u32>
-    ensures { IsNewest (asking question.now).rows (is_sought (asking question.now) sought.now) result }
+    ensures { IsNewest (asking question.now).rows (sought_at (asking question.now) sought.now) result }
 {
     let mut best = None;
     for i in 0..question.rows.len() {
@@ -43,7 +43,7 @@ fn better(
     best: Option<u32>,
     address: u32,
 ) -> Option<u32>
-    ensures { result ≡ better (asking question.now) sought.now best address }
+    ensures { result ≡ newer_of (asking question.now) sought.now best address }
 {
     if !is_sought(question, sought, address) {
         return best;
@@ -62,7 +62,7 @@ fn better(
 
 // An address is sought.
 fn is_sought(question: &Question<'_>, sought: &Sought<'_>, address: u32) -> bool
-    ensures { result ≡ is_sought (asking question.now) sought.now address }
+    ensures { result ≡ sought_at (asking question.now) sought.now address }
 {
     match sought {
         Sought::Own(subnet) => is_held_at(question, address) && fits(question, subnet, address),
@@ -76,7 +76,7 @@ fn is_sought(question: &Question<'_>, sought: &Sought<'_>, address: u32) -> bool
 
 // Of two addresses the first is newer: its row was set later, or at one moment and it is the lesser address.
 fn is_newer(rows: &Rows, a: u32, b: u32) -> bool
-    ensures { result ≡ is_newer rows.now.rows a b }
+    ensures { result ≡ set_later rows.now.rows a b }
 {
     let m = changed_at(rows, a);
     let n = changed_at(rows, b);
@@ -95,7 +95,7 @@ fn changed_at(rows: &Rows, address: u32) -> u64
 
 // The client holds an address: its row is the client's, live, and offered or bound.
 pub(crate) fn is_held_at(question: &Question<'_>, address: u32) -> bool
-    ensures { result ≡ is_held_at (asking question.now) address }
+    ensures { result ≡ held_at (asking question.now) address }
 {
     match question.rows.get(address) {
         Some(row) => is_held_by(question, row),
@@ -105,7 +105,7 @@ pub(crate) fn is_held_at(question: &Question<'_>, address: u32) -> bool
 
 // The row of an address is the client's and has ended.
 fn is_past_at(question: &Question<'_>, address: u32) -> bool
-    ensures { result ≡ is_past_at (asking question.now) address }
+    ensures { result ≡ past_at (asking question.now) address }
 {
     match question.rows.get(address) {
         Some(row) => is_past(question, row),
@@ -115,7 +115,7 @@ fn is_past_at(question: &Question<'_>, address: u32) -> bool
 
 // The row of an address is the client's.
 pub(crate) fn is_client_at(question: &Question<'_>, address: u32) -> bool
-    ensures { result ≡ is_client_at (asking question.now) address }
+    ensures { result ≡ client_has (asking question.now) address }
 {
     match question.rows.get(address) {
         Some(row) => is_of(question.client, row),
@@ -125,7 +125,7 @@ pub(crate) fn is_client_at(question: &Question<'_>, address: u32) -> bool
 
 // The client leases an address: its row is the client's, live and bound.
 pub(crate) fn is_leased(question: &Question<'_>, address: u32) -> bool
-    ensures { result ≡ is_leased (asking question.now) address }
+    ensures { result ≡ leased_to (asking question.now) address }
 {
     match question.rows.get(address) {
         Some(row) => {
@@ -137,7 +137,7 @@ pub(crate) fn is_leased(question: &Question<'_>, address: u32) -> bool
 
 // An address is offered to the client: its row is the client's, live and offered.
 fn is_offer(question: &Question<'_>, address: u32) -> bool
-    ensures { result ≡ is_offer (asking question.now) address }
+    ensures { result ≡ offered_to (asking question.now) address }
 {
     match question.rows.get(address) {
         Some(row) => {
@@ -149,7 +149,7 @@ fn is_offer(question: &Question<'_>, address: u32) -> bool
 
 // A state of leases.
 fn is_bound(state: State) -> bool
-    ensures { result ≡ is_bound state }
+    ensures { result ≡ bound_state state }
 {
     match state {
         State::Bound => true,
@@ -159,7 +159,7 @@ fn is_bound(state: State) -> bool
 
 // A state of offers.
 fn is_offered(state: State) -> bool
-    ensures { result ≡ is_offered state }
+    ensures { result ≡ offered_state state }
 {
     match state {
         State::Offered => true,

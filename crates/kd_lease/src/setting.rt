@@ -1,5 +1,5 @@
 ghost use Rattle.std.specs.Prelude.{◌≡◌, ◌<◌, ◌^◌, IfOk};
-ghost use Rattle.kd_lease.specs.Rules.{asking, declined, leased, offer_row, offered, released, row_of};
+ghost use Rattle.kd_lease.specs.Rules.{asking, declined_row, leased_row, row_of_offer, offered_row, released_row, row_set_now};
 
 use crate::question::Question;
 use crate::seeking::is_leased;
@@ -14,7 +14,7 @@ pub(crate) fn offer_row(
     address: u32,
 ) -> Result<Option<Row>, AllocError>
     requires { question.now.moment < 2 ^ 40 }
-    ensures { IfOk result (λ row. row ≡ offer_row (asking question.now) address) }
+    ensures { IfOk result (λ row. row ≡ row_of_offer (asking question.now) address) }
 {
     if is_leased(question, address) {
         Ok(None)
@@ -26,7 +26,7 @@ pub(crate) fn offer_row(
 // The row of an address that is offered.
 fn offered(alloc: Global, question: &Question<'_>, address: u32) -> Result<Row, AllocError>
     requires { question.now.moment < 2 ^ 40 }
-    ensures { IfOk result (λ row. row ≡ offered (asking question.now) address) }
+    ensures { IfOk result (λ row. row ≡ offered_row (asking question.now) address) }
 {
     let ends = question.moment + u64::from(question.config.times().offer_hold);
     row_of(alloc, question, address, State::Offered, ends)
@@ -39,7 +39,7 @@ pub(crate) fn leased(
     address: u32,
 ) -> Result<Row, AllocError>
     requires { question.now.moment < 2 ^ 40 }
-    ensures { IfOk result (λ row. row ≡ leased (asking question.now) address) }
+    ensures { IfOk result (λ row. row ≡ leased_row (asking question.now) address) }
 {
     let ends = question.moment + u64::from(question.config.times().lifetime);
     row_of(alloc, question, address, State::Bound, ends)
@@ -51,7 +51,7 @@ pub(crate) fn released(
     question: &Question<'_>,
     address: u32,
 ) -> Result<Row, AllocError>
-    ensures { IfOk result (λ row. row ≡ released (asking question.now) address) }
+    ensures { IfOk result (λ row. row ≡ released_row (asking question.now) address) }
 {
     row_of(alloc, question, address, State::Released, question.moment)
 }
@@ -59,7 +59,7 @@ pub(crate) fn released(
 // The row of an address that is in use by another host.
 pub(crate) fn declined(alloc: Global, question: &Question<'_>, address: u32) -> Row
     requires { question.now.moment < 2 ^ 40 }
-    ensures { result ≡ declined (asking question.now) address }
+    ensures { result ≡ declined_row (asking question.now) address }
 {
     Row {
         address,
@@ -78,7 +78,7 @@ fn row_of(
     state: State,
     ends: u64,
 ) -> Result<Row, AllocError>
-    ensures { IfOk result (λ row. row ≡ row_of (asking question.now) address state ends) }
+    ensures { IfOk result (λ row. row ≡ row_set_now (asking question.now) address state ends) }
 {
     Ok(Row {
         address,

@@ -1,8 +1,8 @@
 ghost use Rattle.std.specs.Prelude.{◌≡◌, option_copied};
 ghost use Rattle.std.specs.List.{find};
 ghost use Rattle.kd_config.specs.Apart.{has};
-ghost use Rattle.kd_lease.specs.Given.{pool_options};
-ghost use Rattle.kd_lease.specs.SubnetOf.{admits, place_of, serves, subnet_of};
+ghost use Rattle.kd_lease.specs.Given.{options_of_pool};
+ghost use Rattle.kd_lease.specs.SubnetOf.{class_admits, message_place, served_by, subnet_serving};
 
 use kd_classes::OptionData;
 use kd_config::{Config, Pool, Subnet};
@@ -10,9 +10,9 @@ use kd_machine::Held;
 use kd_wire::Header;
 
 // The first subnet that serves a message with this header, whose classes have these names.
-#[tactic(auto, unfolding(crate::specs::SubnetOf::subnet_of))]
+#[tactic(auto, unfolding(crate::specs::SubnetOf::subnet_serving))]
 pub(crate) fn subnet_of<'a>(config: &'a Config, names: &Held, header: &Header) -> Option<&'a Subnet>
-    ensures { option_copied result ≡ subnet_of config.now names.now header.now }
+    ensures { option_copied result ≡ subnet_serving config.now names.now header.now }
 {
     let place = place_of(config.server(), header);
     config
@@ -23,7 +23,7 @@ pub(crate) fn subnet_of<'a>(config: &'a Config, names: &Held, header: &Header) -
 
 // Where a message comes from: its relay, else its client's address, else the server's link.
 fn place_of(server: u32, header: &Header) -> u32
-    ensures { result ≡ place_of server header.now }
+    ensures { result ≡ message_place server header.now }
 {
     if header.giaddr != 0 {
         header.giaddr
@@ -36,14 +36,14 @@ fn place_of(server: u32, header: &Header) -> u32
 
 // The subnet serves this place and the holder of these names.
 fn serves(place: u32, names: &Held, subnet: &Subnet) -> bool
-    ensures { result ≡ serves place names.now subnet.now }
+    ensures { result ≡ served_by place names.now subnet.now }
 {
     subnet.prefix.contains(place) && admits(subnet, names)
 }
 
 // The class that the subnet asks for is held, or it asks for none.
 fn admits(subnet: &Subnet, names: &Held) -> bool
-    ensures { result ≡ admits subnet.now.class names.now }
+    ensures { result ≡ class_admits subnet.now.class names.now }
 {
     match &subnet.class {
         Some(class) => names.contains(class.as_slice()),
@@ -53,7 +53,7 @@ fn admits(subnet: &Subnet, names: &Held) -> bool
 
 // The options of the first pool of the subnet that has the address.
 pub(crate) fn pool_options(subnet: &Subnet, address: u32) -> &[OptionData]
-    ensures { result.now ≡ pool_options subnet.now.pools address }
+    ensures { result.now ≡ options_of_pool subnet.now.pools address }
 {
     match pool_of(subnet, address) {
         Some(pool) => pool.options.as_slice(),

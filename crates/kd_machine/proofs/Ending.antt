@@ -10,10 +10,11 @@ use Rattle.kd_token.specs.Reading.{◌>>=◌}
 use Rattle.kd_token.specs.declared.token.Token.{Token}
 use Rattle.kd_token.specs.declared.way.Way.{Way}
 use Rattle.kd_token.specs.declared.way.Way.TheVariants as routes
-use Rattle.kd_machine.specs.Values.{Val, Truth, take_truth, longest, top_size}
+use Rattle.kd_machine.specs.Val.{Val, Truth, longest}
+use Rattle.kd_machine.specs.Values.{take_truth, size_of_top}
 use Rattle.kd_machine.specs.World.{World, world}
 use Rattle.kd_machine.specs.Run.{rule, moves_by, moves, Segment, Run, EndsWithin}
-use Rattle.kd_machine.specs.Fits.{Stands, IsRunning}
+use Rattle.kd_machine.specs.Fits.{StandsAt, IsRunning}
 use Rattle.kd_machine.proofs.Rests.{moves_rest}
 use Rattle.kd_machine.proofs.Standing.{stands_first, stands_moves, stands_end}
 
@@ -55,8 +56,8 @@ running_first p message held a = record {
 pub running_on : (p : Code) (message : Seen) (held : List (List ℕ)) (i n : ℕ) (s : List Val) (d l : ℕ) (token : Token) (j : ℕ) (t : List Val) → HasFile p → IsMessage message → IsRunning p message held i n s d l → slice_get p.tokens i ≡ Some token → moves (world p message held) token i s ≡ Some (j, t)
     → IsRunning p message held j (n + 1) t (max d (length t)) (max l (longest t))
 running_on p message held i n s d l token j t file is run there moved =
-    let M : Option (ℕ × List Val) → Type 0 = λ o. MatchOption o ⊥ (λ r. Stands p r.0 (n + 1) r.1) in
-    let next : Stands p j (n + 1) t = subst M moved (stands_moves p message held i n s token file is run.stands there) in
+    let M : Option (ℕ × List Val) → Type 0 = λ o. MatchOption o ⊥ (λ r. StandsAt p r.0 (n + 1) r.1) in
+    let next : StandsAt p j (n + 1) t = subst M moved (stands_moves p message held i n s token file is run.stands there) in
     let deep = next.deep in
     let long = next.long in
     let more : suc n ≡ n + 1 = omega arith in
@@ -77,18 +78,18 @@ running_on p message held i n s d l token j t file is run there moved =
 -- a stack with room for the declared depth has room for what a step leaves
 pub has_room : (room : ℕ) (p : Code) (message : Seen) (held : List (List ℕ)) (i n : ℕ) (s : List Val) (d l : ℕ) (token : Token) → p.depth ≤ room → HasFile p → IsMessage message → IsRunning p message held i n s d l → slice_get p.tokens i ≡ Some token → MatchOption (moves (world p message held) token i s) ⊥ (λ r. length r.1 ≤ room)
 has_room room p message held i n s d l token most file is run there = by (moves (world p message held) token i s) (stands_moves p message held i n s token file is run.stands there) where
-  by : (o : Option (ℕ × List Val)) → MatchOption o ⊥ (λ r. Stands p r.0 (n + 1) r.1) → MatchOption o ⊥ (λ r. length r.1 ≤ room)
+  by : (o : Option (ℕ × List Val)) → MatchOption o ⊥ (λ r. StandsAt p r.0 (n + 1) r.1) → MatchOption o ⊥ (λ r. length r.1 ≤ room)
   by None m = m
   by (Some r) m = let deep = m.deep in omega (arith, deep, most)
 
 -- the longest value after a step is the one on top, or was counted before
-top_alone : (t : List Val) (l : ℕ) → longest (drop 1 t) ≤ l → max l (top_size t) ≡ max l (longest t)
+top_alone : (t : List Val) (l : ℕ) → longest (drop 1 t) ≤ l → max l (size_of_top t) ≡ max l (longest t)
 top_alone [] l le = refl
 top_alone (v ∷ t) l le = omega (arith, le)
 
 -- a run goes on by a step whose top alone is looked at
 pub running_next : (p : Code) (message : Seen) (held : List (List ℕ)) (i n : ℕ) (s : List Val) (d l : ℕ) (token : Token) (j : ℕ) (t : List Val) → HasFile p → IsMessage message → IsRunning p message held i n s d l → slice_get p.tokens i ≡ Some token → moves (world p message held) token i s ≡ Some (j, t)
-    → IsRunning p message held j (n + 1) t (max d (length t)) (max l (top_size t))
+    → IsRunning p message held j (n + 1) t (max d (length t)) (max l (size_of_top t))
 running_next p message held i n s d l token j t file is run there moved =
     let B : Option (ℕ × List Val) → Type 0 = λ o. MatchOption o (Unit {0}) (λ r. longest (drop 1 r.1) ≤ l) in
     let rest : longest (drop 1 t) ≤ l = subst B moved (moves_rest l (world p message held) token i s run.covers) in
@@ -122,7 +123,7 @@ ends_from (suc fuel) p message held i n s d l file is le run =
       More : Type 0
       More = (j m : ℕ) (t : List Val) (e h : ℕ) → length p.tokens ≤ j + fuel → IsRunning p message held j m t e h → EndsWithin p message held
 
-      steps : (token : Token) → slice_get p.tokens i ≡ Some token → (o : Option (ℕ × List Val)) → moves (world p message held) token i s ≡ o → MatchOption o ⊥ (λ r. Stands p r.0 (n + 1) r.1) → IsForward i o → More → EndsWithin p message held
+      steps : (token : Token) → slice_get p.tokens i ≡ Some token → (o : Option (ℕ × List Val)) → moves (world p message held) token i s ≡ o → MatchOption o ⊥ (λ r. StandsAt p r.0 (n + 1) r.1) → IsForward i o → More → EndsWithin p message held
       steps token there None e m f more = absurd m
       steps token there (Some r) e m f more = more r.0 (n + 1) r.1 (max d (length r.1)) (max l (longest r.1)) (omega (arith, le, f)) (running_on p message held i n s d l token r.0 r.1 file is run there e)
 

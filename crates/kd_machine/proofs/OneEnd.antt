@@ -6,7 +6,7 @@ use Rattle.std.proofs.lemmas.Option.{slice_get_past}
 use Rattle.kd_options.specs.Message.{Seen}
 use Rattle.kd_token.specs.File.{Code}
 use Rattle.kd_token.specs.declared.token.Token.{Token}
-use Rattle.kd_machine.specs.Values.{Val, Truth, longest}
+use Rattle.kd_machine.specs.Val.{Val, Truth, longest}
 use Rattle.kd_machine.specs.World.{World, world}
 use Rattle.kd_machine.specs.Run.{moves, Step, Segment, Run}
 

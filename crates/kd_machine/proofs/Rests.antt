@@ -9,8 +9,10 @@ use Rattle.kd_token.specs.declared.token.Token.{Token}
 use Rattle.kd_token.specs.declared.token.Token.TheVariants as tokens
 use Rattle.kd_token.specs.declared.way.Way.{Way}
 use Rattle.kd_token.specs.declared.way.Way.TheVariants as routes
-use Rattle.kd_machine.specs.Values.{Val, Truth, Number, Text, take_text, take_truth, take_number, longest}
-use Rattle.kd_machine.specs.World.{World, is_held}
+use Rattle.kd_machine.specs.Val.{Val, Truth, Number, Text, longest}
+use Rattle.kd_machine.specs.Values.{take_text, take_truth, take_number}
+use Rattle.kd_machine.specs.World.{World}
+use Rattle.kd_machine.specs.Parts.{is_held}
 use Rattle.kd_machine.specs.Run.{rule, moves_by, moves}
 
 -- what is below a value that is taken

@@ -14,7 +14,7 @@ use Rattle.kd_options.specs.Options.{IsType}
 use Rattle.kd_options.proofs.Sizes.{header_short, len_short, relay_short, value_short}
 use Rattle.kd_token.specs.File.{IsToken}
 use Rattle.kd_token.specs.Reading.{◌>>=◌}
-use Rattle.kd_token.specs.Shape.{take_bytes, take_bool, take_int, field_kind, substring_bound, hex_bound, gives}
+use Rattle.kd_token.specs.Shape.{bytes_taken, bool_taken, int_taken, field_kind, bound_of_substring, bound_of_hex, gives}
 use Rattle.kd_token.specs.declared.shape.Kind.{Kind}
 use Rattle.kd_token.specs.declared.shape.Kind.TheVariants as kinds
 use Rattle.kd_token.specs.declared.token.Field.{Field}
@@ -23,9 +23,11 @@ use Rattle.kd_token.specs.declared.token.Token.{Token}
 use Rattle.kd_token.specs.declared.token.Token.TheVariants as tokens
 use Rattle.kd_token.specs.declared.token.Version.{Version}
 use Rattle.kd_token.proofs.Down.{Down, bind_down, hex_down}
-use Rattle.kd_machine.specs.Values.{Val, Truth, Number, Text, take_text, take_truth, take_number}
-use Rattle.kd_machine.specs.Strings.{is_negative, beginning, part, part_from, substring, digits_of, hex_text}
-use Rattle.kd_machine.specs.World.{World, is_held, or_empty, option_in, relay_in, type_in, field_value}
+use Rattle.kd_machine.specs.Val.{Val, Truth, Number, Text}
+use Rattle.kd_machine.specs.Values.{take_text, take_truth, take_number}
+use Rattle.kd_machine.specs.Strings.{is_negative, start_in, part, part_from, substring, byte_digits, hex_of}
+use Rattle.kd_machine.specs.World.{World, option_in, relay_in, value_of_field}
+use Rattle.kd_machine.specs.Parts.{is_held, or_empty, type_in}
 use Rattle.kd_machine.specs.Run.{rule}
 use Rattle.kd_machine.specs.Fits.{FitsKind, Fits}
 
@@ -41,7 +43,7 @@ TruthFits r y = Fits r y.1
 abbrev NumberFits : List Kind → ℕ × List Val → Type 0
 NumberFits r y = (y.0 < 2 ^ 32) × Fits r y.1
 
-text_fits : (r : List Kind) (s : List Val) → Fits r s → Down TextFits (take_bytes r) (take_text s)
+text_fits : (r : List Kind) (s : List Val) → Fits r s → Down TextFits (bytes_taken r) (take_text s)
 text_fits [] s f = tt
 text_fits (kinds.Bytes n ∷ r) (Text bytes ∷ s) f = (f.0, f.1)
 text_fits (kinds.Bytes n ∷ r) [] f = absurd f
@@ -50,7 +52,7 @@ text_fits (kinds.Bytes n ∷ r) (Number m ∷ s) f = absurd f.0
 text_fits (kinds.Bool ∷ r) s f = tt
 text_fits (kinds.Int ∷ r) s f = tt
 
-pub truth_fits : (r : List Kind) (s : List Val) → Fits r s → Down TruthFits (take_bool r) (take_truth s)
+pub truth_fits : (r : List Kind) (s : List Val) → Fits r s → Down TruthFits (bool_taken r) (take_truth s)
 truth_fits [] s f = tt
 truth_fits (kinds.Bool ∷ r) (Truth b ∷ s) f = f.1
 truth_fits (kinds.Bool ∷ r) [] f = absurd f
@@ -59,7 +61,7 @@ truth_fits (kinds.Bool ∷ r) (Text bytes ∷ s) f = absurd f.0
 truth_fits (kinds.Bytes n ∷ r) s f = tt
 truth_fits (kinds.Int ∷ r) s f = tt
 
-number_fits : (r : List Kind) (s : List Val) → Fits r s → Down NumberFits (take_int r) (take_number s)
+number_fits : (r : List Kind) (s : List Val) → Fits r s → Down NumberFits (int_taken r) (take_number s)
 number_fits [] s f = tt
 number_fits (kinds.Int ∷ r) (Number n ∷ s) f = (f.0, f.1)
 number_fits (kinds.Int ∷ r) [] f = absurd f
@@ -74,7 +76,7 @@ empty_short most None h = omega arith
 empty_short most (Some value) h = h
 
 -- a part is no longer than the whole, and than the number asked for
-part_short : (count : Option ℤ) (b : ℕ) (bytes : List ℕ) (n : ℕ) → length bytes ≤ n → length (part count b bytes) ≤ substring_bound n count
+part_short : (count : Option ℤ) (b : ℕ) (bytes : List ℕ) (n : ℕ) → length bytes ≤ n → length (part count b bytes) ≤ bound_of_substring n count
 part_short None b bytes n le = let e = length-drop b bytes in omega (arith, e, le)
 part_short (Some z) b bytes n le = by (is_negative z) where
   by : (negative : Bool) → length (if negative then drop (b - unsigned_abs z) (take b bytes) else take (unsigned_abs z) (drop b bytes)) ≤ min n (unsigned_abs z)
@@ -87,21 +89,21 @@ part_short (Some z) b bytes n le = by (is_negative z) where
       let f = length-drop b bytes in
       omega (arith, e, f, le)
 
-substring_short : (start : ℤ) (count : Option ℤ) (bytes : List ℕ) (n : ℕ) → length bytes ≤ n → length (substring start count bytes) ≤ substring_bound n count
-substring_short start count bytes n le = by (beginning start (length bytes)) where
-  by : (o : Option ℕ) → length (part_from o count bytes) ≤ substring_bound n count
+substring_short : (start : ℤ) (count : Option ℤ) (bytes : List ℕ) (n : ℕ) → length bytes ≤ n → length (substring start count bytes) ≤ bound_of_substring n count
+substring_short start count bytes n le = by (start_in start (length bytes)) where
+  by : (o : Option ℕ) → length (part_from o count bytes) ≤ bound_of_substring n count
   by None = omega arith
   by (Some b) = part_short count b bytes n le
 
-flat_size : (separator bytes : List ℕ) → length (flat_map (λ c. separator ++ digits_of c) bytes) ≡ length bytes * length separator + 2 * length bytes
+flat_size : (separator bytes : List ℕ) → length (flat_map (λ c. separator ++ byte_digits c) bytes) ≡ length bytes * length separator + 2 * length bytes
 flat_size separator [] = omega arith
 flat_size separator (b ∷ bytes) =
     let rest = flat_size separator bytes in
-    let front = length-append (separator ++ digits_of b) (flat_map (λ c. separator ++ digits_of c) bytes) in
-    let first = length-append separator (digits_of b) in
+    let front = length-append (separator ++ byte_digits b) (flat_map (λ c. separator ++ byte_digits c) bytes) in
+    let first = length-append separator (byte_digits b) in
     omega (arith, rest, front, first)
 
-hex_size : (separator bytes : List ℕ) → length (hex_text separator bytes) ≡ hex_bound (length bytes) (length separator)
+hex_size : (separator bytes : List ℕ) → length (hex_of separator bytes) ≡ bound_of_hex (length bytes) (length separator)
 hex_size separator [] = refl
 hex_size separator (b ∷ bytes) =
     let rest = flat_size separator bytes in
@@ -109,7 +111,7 @@ hex_size separator (b ∷ bytes) =
     let one : suc (length bytes) - 1 ≡ length bytes = omega arith in
     rw (no, one) (omega (arith, rest))
 
-hex_short : (separator bytes : List ℕ) (n m : ℕ) → length bytes ≤ n → length separator ≤ m → length (hex_text separator bytes) ≤ hex_bound n m
+hex_short : (separator bytes : List ℕ) (n m : ℕ) → length bytes ≤ n → length separator ≤ m → length (hex_of separator bytes) ≤ bound_of_hex n m
 hex_short separator bytes n m le less = let e = hex_size separator bytes in let d = hex_down n (length bytes) m (length separator) le less in omega (arith, e, d)
 
 -- the number of a message's type is of one byte
@@ -120,7 +122,7 @@ type_short (Some (n ∷ [])) h = omega (arith, h.1)
 type_short (Some (n ∷ m ∷ bytes)) h = absurd h
 
 -- the value of a field fits the field's kind
-field_fits : (m : Seen) → IsMessage m → (field : Field) → FitsKind (field_kind field) (field_value m field)
+field_fits : (m : Seen) → IsMessage m → (field : Field) → FitsKind (field_kind field) (value_of_field m field)
 field_fits m is fields.Mac = let e = length-take (min m.header.hlen 16) m.header.chaddr in omega (arith, e)
 field_fits m is fields.Hlen = let h = header_short m is in omega (arith, h.1)
 field_fits m is fields.Htype = let h = header_short m is in omega (arith, h.0)

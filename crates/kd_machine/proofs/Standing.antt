@@ -9,7 +9,7 @@ use Rattle.kd_options.specs.Message.{Seen, IsMessage}
 use Rattle.kd_token.specs.Accepts.{Accepts, Point, Flow, flow_to, way_of, flows_by, flows, leaving, origin, IsCovered, IsWithin}
 use Rattle.kd_token.specs.File.{Code, HasFile}
 use Rattle.kd_token.specs.Reading.{◌>>=◌}
-use Rattle.kd_token.specs.Shape.{Covers, CoversKind, AreShort, IsShortKind, gives, take_bool}
+use Rattle.kd_token.specs.Shape.{Covers, CoversKind, AreShort, IsShortKind, gives, bool_taken}
 use Rattle.kd_token.specs.Table.{skip_of}
 use Rattle.kd_token.specs.declared.shape.Kind.{Kind}
 use Rattle.kd_token.specs.declared.shape.Kind.TheVariants as kinds
@@ -18,10 +18,11 @@ use Rattle.kd_token.specs.declared.way.Way.{Way}
 use Rattle.kd_token.specs.declared.way.Way.TheVariants as routes
 use Rattle.kd_token.proofs.Down.{Down}
 use Rattle.kd_token.proofs.Tidy.{is_token, reach_within}
-use Rattle.kd_machine.specs.Values.{Val, Truth, Number, Text, size, take_truth, longest}
+use Rattle.kd_machine.specs.Val.{Val, Truth, Number, Text, size, longest}
+use Rattle.kd_machine.specs.Values.{take_truth}
 use Rattle.kd_machine.specs.World.{World, world}
 use Rattle.kd_machine.specs.Run.{rule, moves_by, moves}
-use Rattle.kd_machine.specs.Fits.{FitsKind, Fits, Stands}
+use Rattle.kd_machine.specs.Fits.{FitsKind, Fits, StandsAt}
 use Rattle.kd_machine.proofs.Rules.{TruthFits, truth_fits, rule_fits}
 
 kind_covered : (k l : Kind) (v : Val) → CoversKind k l → FitsKind l v → FitsKind k v
@@ -68,7 +69,7 @@ fits_longest most (k ∷ r) (v ∷ s) a f =
     omega (arith, top, rest)
 
 -- at the first place stand no values
-pub stands_first : (p : Code) → Accepts p → Stands p 0 0 []
+pub stands_first : (p : Code) → Accepts p → StandsAt p 0 0 []
 stands_first p a = record {
   assigned = a;
   point = origin;
@@ -81,9 +82,9 @@ stands_first p a = record {
 }
 
 -- a flow from where values stand brings values that fit it to where it leads
-flow_stands : (p : Code) (a : Accepts p) (n : ℕ) (f : Flow) (t : List Val) → f.to ≤ length p.tokens → n + 1 ≤ f.point.count → IsCovered (a.0 f.to) f.point → IsWithin p f → Fits f.point.shape t → Stands p f.to (n + 1) t
+flow_stands : (p : Code) (a : Accepts p) (n : ℕ) (f : Flow) (t : List Val) → f.to ≤ length p.tokens → n + 1 ≤ f.point.count → IsCovered (a.0 f.to) f.point → IsWithin p f → Fits f.point.shape t → StandsAt p f.to (n + 1) t
 flow_stands p a n f t place le covered within fits = by (a.0 f.to) refl covered where
-  by : (o : Option Point) → a.0 f.to ≡ o → IsCovered o f.point → Stands p f.to (n + 1) t
+  by : (o : Option Point) → a.0 f.to ≡ o → IsCovered o f.point → StandsAt p f.to (n + 1) t
   by None e c = absurd c
   by (Some x) e c =
       let size = fits_length f.point.shape t fits in
@@ -108,7 +109,7 @@ module _ (p : Code) (w : World) (a : Accepts p) (i n : ℕ) (token : Token) (x :
 
   -- what stands after the step
   abbrev Moved : Option (ℕ × List Val) → Type 0
-  Moved o = MatchOption o ⊥ (λ r. Stands p r.0 (n + 1) r.1)
+  Moved o = MatchOption o ⊥ (λ r. StandsAt p r.0 (n + 1) r.1)
 
   moved_on : (g : Option (List Kind)) (t : Option (List Val)) → i + 1 ≤ length p.tokens → Down Fits g t → Leaves (g >>= λ r. Some (flow_to (i + 1) x r ∷ [])) → Enters (g >>= λ r. Some (flow_to (i + 1) x r ∷ [])) → Moved (t >>= λ u. Some (i + 1, u))
   moved_on None t place d l e = absurd l
@@ -140,11 +141,11 @@ module _ (p : Code) (w : World) (a : Accepts p) (i n : ℕ) (token : Token) (x :
   moved_by : (way : Way) → i + 1 + skip_of way ≤ length p.tokens → Down Fits (gives (length p.names) token x.shape) (rule w token s) → Leaves (flows_by way (length p.names) token i x) → Enters (flows_by way (length p.names) token i x) → Moved (moves_by way w token i s)
   moved_by routes.On place d l e = moved_on (gives (length p.names) token x.shape) (rule w token s) (omega (arith, place)) d l e
   moved_by (routes.Skip skip) place d l e = flow_stands p a n (flow_to (i + 1 + skip) x x.shape) s place (omega (arith, counted)) ((e (i + 1 + skip) place).0 refl) l.0 fits
-  moved_by (routes.Fork skip) place d l e = moved_fork skip (take_bool x.shape) (take_truth s) place (truth_fits x.shape s fits) l e
-  moved_by (routes.Keep stays skip) place d l e = moved_keep stays skip (take_bool x.shape) (take_truth s) place (truth_fits x.shape s fits) l e
+  moved_by (routes.Fork skip) place d l e = moved_fork skip (bool_taken x.shape) (take_truth s) place (truth_fits x.shape s fits) l e
+  moved_by (routes.Keep stays skip) place d l e = moved_keep stays skip (bool_taken x.shape) (take_truth s) place (truth_fits x.shape s fits) l e
 
 -- a step goes on from where values stand
-pub stands_moves : (p : Code) (message : Seen) (held : List (List ℕ)) (i n : ℕ) (s : List Val) (token : Token) → HasFile p → IsMessage message → Stands p i n s → slice_get p.tokens i ≡ Some token → MatchOption (moves (world p message held) token i s) ⊥ (λ r. Stands p r.0 (n + 1) r.1)
+pub stands_moves : (p : Code) (message : Seen) (held : List (List ℕ)) (i n : ℕ) (s : List Val) (token : Token) → HasFile p → IsMessage message → StandsAt p i n s → slice_get p.tokens i ≡ Some token → MatchOption (moves (world p message held) token i s) ⊥ (λ r. StandsAt p r.0 (n + 1) r.1)
 stands_moves p message held i n s token file is st there =
     let names : ℕ = length p.names in
     let a = st.assigned in
@@ -158,7 +159,7 @@ stands_moves p message held i n s token file is st there =
     (λ j le. let E : Option (List Flow) → Type 0 = λ o. MatchOption o (Unit {0}) (AllByRecursion (λ f. f.to ≡ j → IsCovered (a.0 j) f.point)) in subst E here ((a.1 j (omega (arith, le))).enter i))
 
 -- at the end stands one truth value, in the declared steps
-pub stands_end : (p : Code) (n : ℕ) (s : List Val) → Stands p (length p.tokens) n s → (n ≤ p.steps) × MatchOption (take_truth s) ⊥ (λ r. s ≡ Truth r.0 ∷ [])
+pub stands_end : (p : Code) (n : ℕ) (s : List Val) → StandsAt p (length p.tokens) n s → (n ≤ p.steps) × MatchOption (take_truth s) ⊥ (λ r. s ≡ Truth r.0 ∷ [])
 stands_end p n s st =
     let a = st.assigned in
     let T : Option Point → Type 0 = λ o. MatchOption o ⊥ (λ q. q.count ≤ p.steps) in

@@ -8,7 +8,7 @@ use Rattle.kd_token.specs.declared.shape.Kind.TheVariants as kinds
 use Rattle.kd_options.specs.Message.{Seen}
 use Rattle.kd_machine.specs.Run.{Segment}
 use Rattle.kd_machine.specs.World.{world}
-use Rattle.kd_machine.specs.Values.{Val, Truth, Number, Text, longest}
+use Rattle.kd_machine.specs.Val.{Val, Truth, Number, Text, longest}
 
 -- a value fits a kind
 abbrev pub FitsKind : Kind → Val → Type 0
@@ -31,7 +31,7 @@ Fits (k ∷ r) (v ∷ s) = FitsKind k v × Fits r s
 
 -- what stands at place i of an accepted program after n steps: values that fit what an assignment knows
 -- there, within what the program declares
-pub record Stands (p : Code) (i : ℕ) (n : ℕ) (s : List Val) : Type 0 where
+pub record StandsAt (p : Code) (i : ℕ) (n : ℕ) (s : List Val) : Type 0 where
   pub assigned : Accepts p
   pub point : Point
   pub known : assigned.0 i ≡ Some point
@@ -44,7 +44,7 @@ pub record Stands (p : Code) (i : ℕ) (n : ℕ) (s : List Val) : Type 0 where
 -- a run at place i after n steps with values s, its peaks so far d and l
 pub record IsRunning (p : Code) (message : Seen) (held : List (List ℕ)) (i : ℕ) (n : ℕ) (s : List Val) (d : ℕ) (l : ℕ) : Type 0 where
   pub chain : Segment p (world p message held) 0 [] n i s d l
-  pub stands : Stands p i n s
+  pub stands : StandsAt p i n s
   pub depth : d ≤ p.depth
   pub bound : l ≤ p.bound
   pub covers : longest s ≤ l

@@ -1,6 +1,6 @@
 -- The names of classes that a message is in.
 use Rattle.std.specs.Prelude.{ℕ, List, [], ◌∷◌, ◌++◌, Option, Some, None, if◌then◌else◌, codes}
-use Rattle.kd_machine.specs.World.{is_held}
+use Rattle.kd_machine.specs.Parts.{is_held}
 
 -- one name more; a name that is there stays once
 abbrev pub with_name : List ℕ → List (List ℕ) → List (List ℕ)

@@ -1,5 +1,7 @@
+pub mod Val
 pub mod Values
 pub mod Strings
+pub mod Parts
 pub mod World
 pub mod Run
 pub mod Held

@@ -13,9 +13,11 @@ use Rattle.kd_token.specs.declared.token.Token.{Token}
 use Rattle.kd_token.specs.declared.token.Token.TheVariants as tokens
 use Rattle.kd_token.specs.declared.way.Way.{Way}
 use Rattle.kd_token.specs.declared.way.Way.TheVariants as routes
-use Rattle.kd_machine.specs.Values.{Val, Truth, Number, Text, take_text, take_truth, take_number, longest}
-use Rattle.kd_machine.specs.Strings.{substring, hex_text}
-use Rattle.kd_machine.specs.World.{World, world, same, is_held, or_empty, option_in, relay_in, field_value}
+use Rattle.kd_machine.specs.Val.{Val, Truth, Number, Text, longest}
+use Rattle.kd_machine.specs.Values.{take_text, take_truth, take_number}
+use Rattle.kd_machine.specs.Strings.{substring, hex_of}
+use Rattle.kd_machine.specs.World.{World, world, option_in, relay_in, value_of_field}
+use Rattle.kd_machine.specs.Parts.{same, is_held, or_empty}
 
 -- what a token that goes on makes of the values; none where it cannot take what it wants. A branch does not
 -- go on: it moves by its way (`moves_by`)
@@ -24,7 +26,7 @@ rule w (tokens.PushBytes bytes) s = Some (Text bytes ∷ s)
 rule w (tokens.PushInt number) s = Some (Number number ∷ s)
 rule w (tokens.PushOption code) s = Some (Text (or_empty (option_in w code)) ∷ s)
 rule w (tokens.PushRelay code) s = Some (Text (or_empty (relay_in w code)) ∷ s)
-rule w (tokens.PushField field) s = Some (field_value w.message field ∷ s)
+rule w (tokens.PushField field) s = Some (value_of_field w.message field ∷ s)
 rule w (tokens.OptionExists code) s = Some (Truth (is_some (option_in w code)) ∷ s)
 rule w (tokens.RelayExists code) s = Some (Truth (is_some (relay_in w code)) ∷ s)
 rule w (tokens.Member index) s = slice_get w.names index >>= λ name. Some (Truth (is_held name w.held) ∷ s)
@@ -35,7 +37,7 @@ rule w tokens.Or s = take_truth s >>= λ b. take_truth b.1 >>= λ a. Some (Truth
 rule w tokens.IfElse s = take_text s >>= λ b. take_text b.1 >>= λ a. take_truth a.1 >>= λ c. Some (Text (if c.0 then a.0 else b.0) ∷ c.1)
 rule w (tokens.Substring start count) s = take_text s >>= λ a. Some (Text (substring start count a.0) ∷ a.1)
 rule w tokens.Concat s = take_text s >>= λ b. take_text b.1 >>= λ a. Some (Text (a.0 ++ b.0) ∷ a.1)
-rule w tokens.HexString s = take_text s >>= λ b. take_text b.1 >>= λ a. Some (Text (hex_text b.0 a.0) ∷ a.1)
+rule w tokens.HexString s = take_text s >>= λ b. take_text b.1 >>= λ a. Some (Text (hex_of b.0 a.0) ∷ a.1)
 rule w tokens.Lower s = take_text s >>= λ a. Some (Text (map to_ascii_lowercase a.0) ∷ a.1)
 rule w tokens.Upper s = take_text s >>= λ a. Some (Text (map to_ascii_uppercase a.0) ∷ a.1)
 rule w tokens.IntToText s = take_number s >>= λ a. Some (Text (decimal a.0) ∷ a.1)

@@ -8,8 +8,8 @@ is_negative z = int_lt z (pos 0)
 
 -- where a part begins in a string of so many bytes: a negative start counts from the end; nowhere, where
 -- it is before the first byte or not before the end
-abbrev pub beginning : ℤ → ℕ → Option ℕ
-beginning start size =
+abbrev pub start_in : ℤ → ℕ → Option ℕ
+start_in start size =
     if is_negative start then (if nat_le (unsigned_abs start) size then Some (size - unsigned_abs start) else None)
     else (if nat_lt (unsigned_abs start) size then Some (unsigned_abs start) else None)
 
@@ -26,17 +26,17 @@ part_from (Some b) count bytes = part count b bytes
 
 -- a part of a string
 abbrev pub substring : ℤ → Option ℤ → List ℕ → List ℕ
-substring start count bytes = part_from (beginning start (length bytes)) count bytes
+substring start count bytes = part_from (start_in start (length bytes)) count bytes
 
 -- a hexadecimal digit in lower case
-abbrev pub digit : ℕ → ℕ
-digit n = if nat_lt n 10 then 0x30 + n else 0x57 + n
+abbrev pub lower_digit : ℕ → ℕ
+lower_digit n = if nat_lt n 10 then 0x30 + n else 0x57 + n
 
 -- the two digits of a byte
-abbrev pub digits_of : ℕ → List ℕ
-digits_of b = digit (b / 16) ∷ digit (b % 16) ∷ []
+abbrev pub byte_digits : ℕ → List ℕ
+byte_digits b = lower_digit (b / 16) ∷ lower_digit (b % 16) ∷ []
 
 -- the digits of each byte, with a separator between bytes
-abbrev pub hex_text : List ℕ → List ℕ → List ℕ
-hex_text separator [] = []
-hex_text separator (b ∷ bytes) = digits_of b ++ flat_map (λ c. separator ++ digits_of c) bytes
+abbrev pub hex_of : List ℕ → List ℕ → List ℕ
+hex_of separator [] = []
+hex_of separator (b ∷ bytes) = byte_digits b ++ flat_map (λ c. separator ++ byte_digits c) bytes

@@ -1,9 +1,9 @@
 ghost use Rattle.std.specs.Prelude.{◌≡◌, ℕ, ◌≤◌, List, length, None, Some, slice_range};
-ghost use Rattle.kd_machine.specs.Strings.{beginning, part, substring};
+ghost use Rattle.kd_machine.specs.Strings.{start_in, part, substring};
 
 // Where a part begins in a string of so many bytes, if it begins there.
 fn beginning(start: i32, size: usize) -> Option<usize>
-    ensures { result ≡ beginning start size }
+    ensures { result ≡ start_in start size }
 {
     let distance = start.unsigned_abs() as usize;
     if start < 0 {

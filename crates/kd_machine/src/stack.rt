@@ -1,5 +1,6 @@
 ghost use Rattle.std.specs.Prelude.{◌≡◌, ◌<◌, ◌∷◌, [], IsSome, IsSomeAnd, MatchOption, Some, length, map, reverse};
-ghost use Rattle.kd_machine.specs.Values.{Text, take_number, take_text, take_truth, top_size, value_of};
+ghost use Rattle.kd_machine.specs.Val.{Text};
+ghost use Rattle.kd_machine.specs.Values.{take_number, take_text, take_truth, size_of_top, stands_for};
 
 use crate::value::Value;
 use arrayvec::ArrayVec;
@@ -13,11 +14,12 @@ pub(crate) struct Stack<'a, const ROOM: usize> {
 
 impl<'a, const ROOM: usize> Model for Stack<'a, ROOM> {
     ghost use Rattle.std.specs.Prelude.{List, map, reverse};
-    ghost use Rattle.kd_machine.specs.Values.{Val, value_of};
+    ghost use Rattle.kd_machine.specs.Val.{Val};
+    ghost use Rattle.kd_machine.specs.Values.{stands_for};
 
     ghost Value = { List Val };
 
-    ghost view = { λ s. map value_of (reverse s.values.items) };
+    ghost view = { λ s. map stands_for (reverse s.values.items) };
 }
 
 impl<'a, const ROOM: usize> Stack<'a, ROOM> {
@@ -40,7 +42,7 @@ impl<'a, const ROOM: usize> Stack<'a, ROOM> {
     // The length of the value on top.
     #[inline]
     pub(crate) fn top_size(&self) -> usize
-        ensures { result ≡ top_size self.now }
+        ensures { result ≡ size_of_top self.now }
     {
         match self.values.as_slice().last() {
             Some(value) => value.len(),
@@ -51,7 +53,7 @@ impl<'a, const ROOM: usize> Stack<'a, ROOM> {
     #[inline]
     pub(crate) fn push(&mut self, value: Value<'a>)
         requires { length self.old < ROOM }
-        ensures { self.new ≡ value_of value.entry ∷ self.old }
+        ensures { self.new ≡ stands_for value.entry ∷ self.old }
     {
         self.values.push(value);
     }
@@ -93,7 +95,7 @@ impl<'a, const ROOM: usize> Stack<'a, ROOM> {
     #[inline]
     pub(crate) fn pop_text(&mut self) -> Value<'a>
         requires { IsSome (take_text self.old) }
-        ensures { MatchOption (take_text self.old) ⊥ (λ r. (value_of result ≡ Text r.0) × (self.new ≡ r.1)) }
+        ensures { MatchOption (take_text self.old) ⊥ (λ r. (stands_for result ≡ Text r.0) × (self.new ≡ r.1)) }
     {
         match self.values.pop() {
             Some(value) => value,

@@ -1,8 +1,10 @@
 ghost use Rattle.std.specs.Prelude.{◌≡◌, ◌<◌, ◌≤◌, ◌∷◌, IsOk, MatchOption, OnOk, Some, length, nat_eq};
 ghost use Rattle.std.specs.Map.{lookup};
 ghost use Rattle.kd_machine.specs.Run.{IsFree, rule};
-ghost use Rattle.kd_machine.specs.Values.{Text, value_of};
-ghost use Rattle.kd_machine.specs.World.{field_value, or_empty, world};
+ghost use Rattle.kd_machine.specs.Val.{Text};
+ghost use Rattle.kd_machine.specs.Values.{stands_for};
+ghost use Rattle.kd_machine.specs.World.{value_of_field, world};
+ghost use Rattle.kd_machine.specs.Parts.{or_empty};
 ghost use Rattle.kd_options.specs.RelayWalk.{relay_list};
 
 use crate::held::Held;
@@ -15,7 +17,7 @@ use std::alloc::{AllocError, Global};
 
 // The value of a field of the message.
 fn field_value<'a>(message: &'a Message<'_>, field: Field) -> Value<'a>
-    ensures { value_of result ≡ field_value message.now field }
+    ensures { stands_for result ≡ value_of_field message.now field }
 {
     let header = message.header();
     match field {
@@ -39,7 +41,7 @@ fn push_field<'a, const ROOM: usize>(
     field: Field,
 )
     requires { length stack.old < ROOM }
-    ensures { stack.new ≡ field_value message.now field ∷ stack.old }
+    ensures { stack.new ≡ value_of_field message.now field ∷ stack.old }
 {
     stack.push(field_value(message, field));
 }

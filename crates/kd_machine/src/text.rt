@@ -1,27 +1,27 @@
 ghost use Rattle.std.specs.Prelude.{◌≡◌, ◌<◌, ◌++◌, IfOk, OnOk, decimal};
 ghost use Rattle.std.specs.List.{flat_map};
-ghost use Rattle.kd_machine.specs.Strings.{digit, digits_of, hex_text};
+ghost use Rattle.kd_machine.specs.Strings.{lower_digit, byte_digits, hex_of};
 
 use std::alloc::{AllocError, Global};
 
 // A hexadecimal digit in lower case.
 fn digit(n: u8) -> u8
     requires { n < 16 }
-    ensures { result ≡ digit n }
+    ensures { result ≡ lower_digit n }
 {
     if n < 10 { b'0' + n } else { b'a' - 10 + n }
 }
 
 // The two digits of a byte.
 fn digits_of(byte: u8) -> [u8; 2]
-    ensures { result ≡ digits_of byte }
+    ensures { result ≡ byte_digits byte }
 {
     [digit(byte / 16), digit(byte % 16)]
 }
 
 // Two hexadecimal digits for each byte, with a separator between bytes.
 pub(crate) fn hex_text(alloc: Global, bytes: &[u8], separator: &[u8]) -> Result<Vec<u8>, AllocError>
-    ensures { IfOk result (λ v. v.items ≡ hex_text separator.now bytes.now) }
+    ensures { IfOk result (λ v. v.items ≡ hex_of separator.now bytes.now) }
 {
     let mut out = Vec::new(alloc);
     let Some((first, rest)) = bytes.split_first() else {
@@ -34,7 +34,7 @@ pub(crate) fn hex_text(alloc: Global, bytes: &[u8], separator: &[u8]) -> Result<
 
 // Two digits for each byte, each behind a separator.
 fn put_behind(out: &mut Vec<u8>, bytes: &[u8], separator: &[u8]) -> Result<(), AllocError>
-    ensures { OnOk result (out.new.items ≡ out.old.items ++ flat_map (λ b. separator.now ++ digits_of b) bytes.now) }
+    ensures { OnOk result (out.new.items ≡ out.old.items ++ flat_map (λ b. separator.now ++ byte_digits b) bytes.now) }
 {
     'bytes: for byte in bytes {
         out.extend_from_slice(separator)?;
@@ -54,7 +54,7 @@ pub(crate) fn joined(alloc: Global, first: &[u8], second: &[u8]) -> Result<Vec<u
 }
 
 // A number's decimal digits.
-pub(crate) fn decimal(alloc: Global, number: u32) -> Result<Vec<u8>, AllocError>
+pub(crate) fn decimal_text(alloc: Global, number: u32) -> Result<Vec<u8>, AllocError>
     ensures { IfOk result (λ v. v.items ≡ decimal number) }
 {
     Ok(format!(in alloc; "{number}")?.into_bytes())

@@ -1,13 +1,14 @@
 ghost use Rattle.std.specs.Prelude.{◌≡◌, ◌<◌, ◌∷◌, ◌++◌, if◌then◌else◌, IsSome, IsSomeAnd, MatchOption, OnOk, length, map};
 ghost use Rattle.std.specs.Char.{to_ascii_lowercase, to_ascii_uppercase};
 ghost use Rattle.std.specs.Fmt.{decimal};
-ghost use Rattle.kd_machine.specs.Strings.{hex_text, substring};
-ghost use Rattle.kd_machine.specs.Values.{Text, Truth, take_number, take_text, take_truth};
-ghost use Rattle.kd_machine.specs.World.{same};
+ghost use Rattle.kd_machine.specs.Strings.{hex_of, substring};
+ghost use Rattle.kd_machine.specs.Val.{Text, Truth};
+ghost use Rattle.kd_machine.specs.Values.{take_number, take_text, take_truth};
+ghost use Rattle.kd_machine.specs.Parts.{same};
 
 use crate::bounds::bounds;
 use crate::stack::Stack;
-use crate::text::{decimal, hex_text, joined};
+use crate::text::{decimal_text, hex_text, joined};
 use crate::value::Value;
 use std::alloc::{AllocError, Global};
 
@@ -58,7 +59,7 @@ pub(crate) fn hex_string<const ROOM: usize>(
     stack: &mut Stack<'_, ROOM>,
 ) -> Result<(), AllocError>
     requires { IsSomeAnd (take_text stack.old) (λ b. IsSomeAnd (take_text b.1) (λ a. length a.1 < ROOM)) }
-    ensures { OnOk result (MatchOption (take_text stack.old) ⊥ (λ b. MatchOption (take_text b.1) ⊥ (λ a. stack.new ≡ Text (hex_text b.0 a.0) ∷ a.1))) }
+    ensures { OnOk result (MatchOption (take_text stack.old) ⊥ (λ b. MatchOption (take_text b.1) ⊥ (λ a. stack.new ≡ Text (hex_of b.0 a.0) ∷ a.1))) }
 {
     let (value, separator) = stack.two_texts();
     let bytes = hex_text(alloc, value, separator)?;
@@ -104,7 +105,7 @@ pub(crate) fn digits<const ROOM: usize>(
     requires { IsSomeAnd (take_number stack.old) (λ a. length a.1 < ROOM) }
     ensures { OnOk result (MatchOption (take_number stack.old) ⊥ (λ a. stack.new ≡ Text (decimal a.0) ∷ a.1)) }
 {
-    let bytes = decimal(alloc, stack.pop_number())?;
+    let bytes = decimal_text(alloc, stack.pop_number())?;
     stack.push(Value::owned(alloc, bytes)?);
     Ok(())
 }

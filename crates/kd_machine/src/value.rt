@@ -1,5 +1,6 @@
 ghost use Rattle.std.specs.Prelude.{◌≡◌, ℕ, ◌≤◌, IfOk, List, length, slice_range};
-ghost use Rattle.kd_machine.specs.Values.{IsText, Text, size, value_of};
+ghost use Rattle.kd_machine.specs.Val.{IsText, Text, size};
+ghost use Rattle.kd_machine.specs.Values.{stands_for};
 
 use std::alloc::{AllocError, Global};
 use std::marker::Model;
@@ -25,15 +26,15 @@ impl<'a> Default for Value<'a> {
 impl<'a> Value<'a> {
     // These bytes, as its own.
     pub(crate) fn owned(alloc: Global, bytes: Vec<u8>) -> Result<Value<'a>, AllocError>
-        ensures { IfOk result (λ v. value_of v ≡ Text bytes.items) }
+        ensures { IfOk result (λ v. stands_for v ≡ Text bytes.items) }
     {
         Ok(Value::Owned(Box::new(alloc, Owned::new(bytes))?))
     }
 
     // The byte string.
     pub(crate) fn as_slice(&self) -> &[u8]
-        requires { IsText (value_of self.now) }
-        ensures { value_of self.now ≡ Text result.now }
+        requires { IsText (stands_for self.now) }
+        ensures { stands_for self.now ≡ Text result.now }
     {
         match self {
             Value::Slice(bytes) => bytes,
@@ -45,7 +46,7 @@ impl<'a> Value<'a> {
 
     // The length of a byte string, and 0 of what is none.
     pub(crate) fn len(&self) -> usize
-        ensures { result ≡ size (value_of self.now) }
+        ensures { result ≡ size (stands_for self.now) }
     {
         match self {
             Value::Slice(bytes) => bytes.len(),
@@ -57,10 +58,10 @@ impl<'a> Value<'a> {
 
     // The byte string becomes a part of itself.
     pub(crate) fn narrow(&mut self, from: usize, to: usize)
-        requires text { IsText (value_of self.old) }
+        requires text { IsText (stands_for self.old) }
         requires order { from ≤ to }
-        requires within { to ≤ size (value_of self.old) }
-        ensures { (bytes : List ℕ) → value_of self.old ≡ Text bytes → value_of self.new ≡ Text (slice_range bytes from to) }
+        requires within { to ≤ size (stands_for self.old) }
+        ensures { (bytes : List ℕ) → stands_for self.old ≡ Text bytes → stands_for self.new ≡ Text (slice_range bytes from to) }
     {
         match self {
             Value::Slice(bytes) => *bytes = &bytes[from..to],

@@ -3,17 +3,17 @@ use Rattle.std.proofs.Common.{◌≡◌, ℕ, Bool, true, List, [], ◌++◌, re
 use Rattle.kd_wire.specs.Area.{Piece, IsArea}
 use Rattle.kd_options.specs.Areas.{IsAreaFault, IsFirstAreaFault}
 use Rattle.kd_options.specs.Joined.{HasOptions, IsAreaIf, options_of, value_of, options_field, file_field, sname_field, uses_file, uses_sname}
-use Rattle.kd_options.specs.Joining.{Joins, JoinsArea}
+use Rattle.kd_options.specs.Joining.{JoinsPieces, JoinsArea}
 use Rattle.kd_options.specs.declared.fault.AreaFault.{AreaFault}
 use Rattle.kd_options.specs.declared.fault.AreaFault.TheVariants.{Cut, Memory}
 
 module _ (bytes : List ℕ) (first : List Piece) where
   module _ (file sname : Bool) (file_is : file ≡ uses_file (value_of 52 first)) (sname_is : sname ≡ uses_sname (value_of 52 first)) where
     -- what is in use after the options field is what its own option 52 says
-    file_used : (field : List Piece) → Joins field [] first → file ≡ uses_file (value_of 52 (options_of field))
+    file_used : (field : List Piece) → JoinsPieces field [] first → file ≡ uses_file (value_of 52 (options_of field))
     file_used field joins = file_is ∙ ap (λ o. uses_file (value_of 52 o)) (joins [] refl)
 
-    sname_used : (field : List Piece) → Joins field [] first → sname ≡ uses_sname (value_of 52 (options_of field))
+    sname_used : (field : List Piece) → JoinsPieces field [] first → sname ≡ uses_sname (value_of 52 (options_of field))
     sname_used field joins = sname_is ∙ ap (λ o. uses_sname (value_of 52 o)) (joins [] refl)
 
     -- three areas joined are the options of the datagram
@@ -33,10 +33,10 @@ module _ (bytes : List ℕ) (first : List Piece) where
     }
 
     -- the pieces of a datagram that has options are those of the areas as they come
-    pub file_area : (options : List Piece) (h : HasOptions bytes options) → Joins h.in_use.field [] first → IsAreaIf file (file_field bytes) h.in_use.file
+    pub file_area : (options : List Piece) (h : HasOptions bytes options) → JoinsPieces h.in_use.field [] first → IsAreaIf file (file_field bytes) h.in_use.file
     file_area options h joins = let P : Bool → Type 0 = λ used. IsAreaIf used (file_field bytes) h.in_use.file in subst P (sym (file_used h.in_use.field joins)) h.in_use.file_is
 
-    pub sname_area : (options : List Piece) (h : HasOptions bytes options) → Joins h.in_use.field [] first → IsAreaIf sname (sname_field bytes) h.in_use.sname
+    pub sname_area : (options : List Piece) (h : HasOptions bytes options) → JoinsPieces h.in_use.field [] first → IsAreaIf sname (sname_field bytes) h.in_use.sname
     sname_area options h joins = let P : Bool → Type 0 = λ used. IsAreaIf used (sname_field bytes) h.in_use.sname in subst P (sym (sname_used h.in_use.field joins)) h.in_use.sname_is
 
     -- the fault of the file field is the first, behind a whole options field
@@ -52,7 +52,7 @@ module _ (bytes : List ℕ) (first : List Piece) where
     sname_fault second Memory a b is = tt
 
   -- the options that three areas make are the datagram's
-  pub same_options : (second third options : List Piece) (h : HasOptions bytes options) → Joins h.in_use.field [] first → Joins h.in_use.file first second → Joins h.in_use.sname second third → third ≡ options
+  pub same_options : (second third options : List Piece) (h : HasOptions bytes options) → JoinsPieces h.in_use.field [] first → JoinsPieces h.in_use.file first second → JoinsPieces h.in_use.sname second third → third ≡ options
   same_options second third options h a b c =
       c (h.in_use.field ++ h.in_use.file) (b h.in_use.field (a [] refl)) ∙ ap options_of (sym h.in_use.in_order) ∙ sym h.joins
 
@@ -69,7 +69,7 @@ begun area field old first same none a = record {
   joins = λ before e. a.joins before (none ∙ e);
 }
 
-pub begun_joins : (pieces old first : List Piece) → old ≡ [] → Joins pieces old first → Joins pieces [] first
+pub begun_joins : (pieces old first : List Piece) → old ≡ [] → JoinsPieces pieces old first → JoinsPieces pieces [] first
 begun_joins pieces old first none joins = λ before e. joins before (none ∙ e)
 
 -- an area by another name

@@ -9,7 +9,7 @@ use Rattle.std.proofs.lemmas.List.Folds.{flat_map-map}
 use Rattle.kd_wire.specs.Area.{IsArea, IsCode, IsSlot, Piece, Slot, piece, piece_of, spelled}
 use Rattle.kd_options.specs.Joined.{value_of}
 use Rattle.kd_options.specs.Laws.{BeginsWithType, IsItem, item_options}
-use Rattle.kd_options.specs.Options.{IsAddress, IsReadable, IsType}
+use Rattle.kd_options.specs.Options.{IsAddressValue, IsReadable, IsType}
 use Rattle.kd_options.specs.Reply.{items_text, piece_count, pieces_of}
 use Rattle.kd_options.specs.declared.item.Item.{Item}
 
@@ -44,8 +44,8 @@ each_gives P Q gives (x ∷ xs) each = (gives x each.0, each_gives P Q gives xs 
 pub items_readable : (items : List Item) → BeginsWithType items → AllByRecursion IsItem items → IsReadable (item_options items)
 items_readable items kind each = record {
   kind = value_of-type items kind;
-  requested = value_of-each 50 IsAddress items (each_gives IsItem (λ x. x.code ≡ 50 → IsAddress x.value) (λ x is. is.requested) items each);
-  server = value_of-each 54 IsAddress items (each_gives IsItem (λ x. x.code ≡ 54 → IsAddress x.value) (λ x is. is.server) items each);
+  requested = value_of-each 50 IsAddressValue items (each_gives IsItem (λ x. x.code ≡ 50 → IsAddressValue x.value) (λ x is. is.requested) items each);
+  server = value_of-each 54 IsAddressValue items (each_gives IsItem (λ x. x.code ≡ 54 → IsAddressValue x.value) (λ x is. is.server) items each);
 }
 
 -- a piece as what stands in an area

@@ -7,7 +7,7 @@ use Rattle.std.proofs.lemmas.List.Sums.{sum_by-cons}
 use Rattle.std.proofs.lemmas.Map.Keys.{IsDistinct-cons, IsDistinct-head, IsDistinct-tail}
 use Rattle.kd_wire.specs.Area.{Piece, piece, spelled}
 use Rattle.kd_options.specs.Laws.{BeginsWithType, item_codes}
-use Rattle.kd_options.specs.Reply.{Fits, base_cost, item_cost, items_text, kept, kept_from, obligatory_cost, pieces_of, pieces_text}
+use Rattle.kd_options.specs.Reply.{ItemsFit, base_cost, item_cost, items_text, kept, kept_from, obligatory_cost, pieces_of, pieces_text}
 use Rattle.kd_options.specs.declared.item.Item.{Item}
 use Rattle.kd_options.proofs.Puts.{length-all_text}
 
@@ -77,5 +77,5 @@ kept_from-within used room (x ∷ items) fits =
     by false false own is same next = omega (arith, costs, same)
 
 -- the bytes of the kept items and an End fit behind a header
-pub kept_within : (room : ℕ) (items : List Item) → Fits room items → length (items_text (kept room items)) + 241 ≤ room
+pub kept_within : (room : ℕ) (items : List Item) → ItemsFit room items → length (items_text (kept room items)) + 241 ≤ room
 kept_within room items fits = omega (arith, kept_from-within (base_cost items) room items fits)

@@ -3,7 +3,7 @@ use Rattle.std.proofs.Common.{◌≡◌, ℕ, ◌≤◌, Bool, true, false, List
 use Rattle.std.specs.Prelude.{◌&&◌, nat_le, not, is_some, IfSome, IsSomeAnd, if◌then◌else◌}
 use Rattle.kd_wire.specs.Area.{Piece}
 use Rattle.kd_options.specs.Joined.{value_of}
-use Rattle.kd_options.specs.Options.{IsType, IsAddress, IsReadable, is_type, may_be_address, option_fault}
+use Rattle.kd_options.specs.Options.{IsType, IsAddressValue, IsReadable, is_type, absent_or_address, option_fault}
 use Rattle.kd_wire.specs.Header.{header_read}
 use Rattle.kd_wire.specs.declared.header.Header.{Header as HeaderRecord}
 use Rattle.kd_wire.specs.declared.header.WireFault.{WireFault}
@@ -34,11 +34,11 @@ type_is_there : (value : Option (List ℕ)) → IsSomeAnd value IsType → is_so
 type_is_there None is = absurd is
 type_is_there (Some value) is = refl
 
-address_tested : (value : Option (List ℕ)) → may_be_address value ≡ true → IfSome value IsAddress
+address_tested : (value : Option (List ℕ)) → absent_or_address value ≡ true → IfSome value IsAddressValue
 address_tested None is = tt
 address_tested (Some value) is = eqb-true (length value) 4 is
 
-address_passes : (value : Option (List ℕ)) → IfSome value IsAddress → may_be_address value ≡ true
+address_passes : (value : Option (List ℕ)) → IfSome value IsAddressValue → absent_or_address value ≡ true
 address_passes None is = refl
 address_passes (Some value) is = eq-eqb (length value) 4 is
 
@@ -52,12 +52,12 @@ no_fault options is =
 pub readable : (options : List Piece) → option_fault options ≡ None → IsReadable options
 unfolding option_fault
 readable options none =
-    by (is_some (value_of 53 options)) (is_type (value_of 53 options)) (may_be_address (value_of 50 options)) (may_be_address (value_of 54 options)) refl refl refl none
+    by (is_some (value_of 53 options)) (is_type (value_of 53 options)) (absent_or_address (value_of 50 options)) (absent_or_address (value_of 54 options)) refl refl refl none
   where
     some : {A : Type 0} (f : ReadFault) → Some f ≡ None → A
     some f e = absurd (true≢false (ap is_some e))
 
-    by : (a b c d : Bool) → is_type (value_of 53 options) ≡ b → may_be_address (value_of 50 options) ≡ c → may_be_address (value_of 54 options) ≡ d → (if not a then Some NoType else if not b then Some BadType else if not c then Some (BadOption RequestedAddress) else if not d then Some (BadOption ServerIdentifier) else None) ≡ None → IsReadable options
+    by : (a b c d : Bool) → is_type (value_of 53 options) ≡ b → absent_or_address (value_of 50 options) ≡ c → absent_or_address (value_of 54 options) ≡ d → (if not a then Some NoType else if not b then Some BadType else if not c then Some (BadOption RequestedAddress) else if not d then Some (BadOption ServerIdentifier) else None) ≡ None → IsReadable options
     by false b c d second third fourth e = some _ e
     by true false c d second third fourth e = some _ e
     by true true false d second third fourth e = some _ e
@@ -82,7 +82,7 @@ may_be_of_options (Some fault) = is_of_options fault
 of_options : (options : List Piece) → may_be_of_options (option_fault options) ≡ true
 unfolding option_fault
 of_options options =
-    by (is_some (value_of 53 options)) (is_type (value_of 53 options)) (may_be_address (value_of 50 options)) (may_be_address (value_of 54 options))
+    by (is_some (value_of 53 options)) (is_type (value_of 53 options)) (absent_or_address (value_of 50 options)) (absent_or_address (value_of 54 options))
   where
     by : (a b c d : Bool) → may_be_of_options (if not a then Some NoType else if not b then Some BadType else if not c then Some (BadOption RequestedAddress) else if not d then Some (BadOption ServerIdentifier) else None) ≡ true
     by false b c d = refl

@@ -9,7 +9,7 @@ use Rattle.kd_wire.specs.declared.header.Header.{Header}
 use Rattle.kd_options.specs.Joined.{HasOptions, IsAreaIf, file_field, options_field, options_of, sname_field, uses_file, uses_sname, value_of}
 use Rattle.kd_options.specs.Laws.{IsItem, IsReply, item_options, read_back}
 use Rattle.kd_options.specs.Message.{Reads}
-use Rattle.kd_options.specs.Reply.{Fits, base_cost, items_text, kept, pieces_of, reply_text, unpadded}
+use Rattle.kd_options.specs.Reply.{ItemsFit, base_cost, items_text, kept, pieces_of, reply_text, unpadded}
 use Rattle.kd_options.specs.declared.item.Item.{Item}
 use Rattle.kd_options.proofs.ItemOptions.{each_gives, items_area, items_readable, value_of-none}
 use Rattle.kd_options.proofs.Kept.{kept_distinct, kept_each, kept_type, kept_within}
@@ -34,7 +34,7 @@ plain_options bytes pieces options area joins plain =
       joins = sym joins ∙ ap options_of (sym (append-nil (pieces ++ []) ∙ append-nil pieces));
     }
 
-module _ (header : Header) (room : ℕ) (items : List Item) (is : IsReply header room items) (fits : Fits room items) where
+module _ (header : Header) (room : ℕ) (items : List Item) (is : IsReply header room items) (fits : ItemsFit room items) where
   abbrev zeros : List ℕ
   zeros = replicate (300 - length (unpadded header room items)) 0
 
@@ -75,7 +75,7 @@ module _ (header : Header) (room : ℕ) (items : List Item) (is : IsReply header
       plain_options (reply_text header room items) pieces (item_options (kept room items)) (subst P (sym field_is) (items_area (kept room items) zeros)) (options_of-items (kept room items) (kept_distinct (base_cost items) room items is.codes)) plain
 
 -- the law
-pub text_reads : (header : Header) (room : ℕ) (items : List Item) → IsReply header room items → Fits room items → Reads (reply_text header room items) (read_back header room items)
+pub text_reads : (header : Header) (room : ℕ) (items : List Item) → IsReply header room items → ItemsFit room items → Reads (reply_text header room items) (read_back header room items)
 text_reads header room items is fits = record {
   header = header_is header room items is fits;
   len = refl;

@@ -22,11 +22,11 @@ joined_into code value (o ∷ options) =
     if o.0 == code then (o.0, o.1 ++ value) ∷ options else o ∷ joined_into code value options
 
 -- these pieces were joined to the options of any pieces before
-abbrev pub Joins : List Piece → List Piece → List Piece → Type 0
-Joins pieces old new = (before : List Piece) → old ≡ options_of before → new ≡ options_of (before ++ pieces)
+abbrev pub JoinsPieces : List Piece → List Piece → List Piece → Type 0
+JoinsPieces pieces old new = (before : List Piece) → old ≡ options_of before → new ≡ options_of (before ++ pieces)
 
 -- the pieces of an area, if it is in use, were joined
 pub record JoinsArea (used : Bool) (area : List ℕ) (old new : List Piece) : Type 0 where
   pub pieces : List Piece
   pub is : IsAreaIf used area pieces
-  pub joins : Joins pieces old new
+  pub joins : JoinsPieces pieces old new

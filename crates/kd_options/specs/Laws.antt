@@ -5,7 +5,7 @@ use Rattle.std.specs.List.{AllByRecursion, IsDistinct}
 use Rattle.kd_wire.specs.Area.{Piece}
 use Rattle.kd_wire.specs.declared.header.Header.{Header}
 use Rattle.kd_options.specs.Message.{Seen, AreBytes}
-use Rattle.kd_options.specs.Options.{IsAddress, IsType}
+use Rattle.kd_options.specs.Options.{IsAddressValue, IsType}
 use Rattle.kd_options.specs.Reply.{kept, reply_text}
 use Rattle.kd_options.specs.declared.item.Item.{Item}
 
@@ -35,8 +35,8 @@ pub record IsHeader (header : Header) : Type 0 where
 -- its code is from 1 to 254 is part of its type
 pub record IsItem (item : Item) : Type 0 where
   pub plain : item.code ≢ 52
-  pub requested : item.code ≡ 50 → IsAddress item.value
-  pub server : item.code ≡ 54 → IsAddress item.value
+  pub requested : item.code ≡ 50 → IsAddressValue item.value
+  pub server : item.code ≡ 54 → IsAddressValue item.value
   pub bytes_are : AreBytes item.value
 
 -- the first item is the message type, and obligatory

@@ -13,14 +13,14 @@ IsType (n ∷ []) = (1 ≤ n) × (n ≤ 8)
 IsType (n ∷ m ∷ bytes) = ⊥
 
 -- an address: four bytes
-abbrev pub IsAddress : List ℕ → Type 0
-IsAddress value = length value ≡ 4
+abbrev pub IsAddressValue : List ℕ → Type 0
+IsAddressValue value = length value ≡ 4
 
 -- a readable message's options: 53 is there and a type; 50 and 54, where they are there, are addresses
 pub record IsReadable (options : List Piece) : Type 0 where
   pub kind : IsSomeAnd (value_of 53 options) IsType
-  pub requested : IfSome (value_of 50 options) IsAddress
-  pub server : IfSome (value_of 54 options) IsAddress
+  pub requested : IfSome (value_of 50 options) IsAddressValue
+  pub server : IfSome (value_of 54 options) IsAddressValue
 
 -- the test of a message type
 abbrev pub is_type : Option (List ℕ) → Bool
@@ -30,15 +30,15 @@ is_type (Some (n ∷ [])) = nat_le 1 n && nat_le n 8
 is_type (Some (n ∷ m ∷ bytes)) = false
 
 -- the test of an address that may be absent
-abbrev pub may_be_address : Option (List ℕ) → Bool
-may_be_address None = true
-may_be_address (Some value) = length value == 4
+abbrev pub absent_or_address : Option (List ℕ) → Bool
+absent_or_address None = true
+absent_or_address (Some value) = length value == 4
 
 -- the first fault of the options: no type, a bad one, a bad option 50, a bad option 54
 unfoldable pub option_fault : List Piece → Option ReadFault
 option_fault options =
     if not (is_some (value_of 53 options)) then Some NoType
     else if not (is_type (value_of 53 options)) then Some BadType
-    else if not (may_be_address (value_of 50 options)) then Some (BadOption RequestedAddress)
-    else if not (may_be_address (value_of 54 options)) then Some (BadOption ServerIdentifier)
+    else if not (absent_or_address (value_of 50 options)) then Some (BadOption RequestedAddress)
+    else if not (absent_or_address (value_of 54 options)) then Some (BadOption ServerIdentifier)
     else None

@@ -49,8 +49,8 @@ abbrev pub kept : ℕ → List Item → List Item
 kept room items = kept_from (base_cost items) room items
 
 -- the obligatory items fit
-abbrev pub Fits : ℕ → List Item → Type 0
-Fits room items = base_cost items + 1 ≤ room
+abbrev pub ItemsFit : ℕ → List Item → Type 0
+ItemsFit room items = base_cost items + 1 ≤ room
 
 -- the first k pieces of a value: 255 bytes each, and what is left
 abbrev pub first_pieces : ℕ → List ℕ → ℕ → List Piece
@@ -87,4 +87,4 @@ reply_text header room items = padded (unpadded header room items)
 -- what a fault of writing means: the obligatory items do not fit; want of memory comes only where they do
 abbrev pub IsWriteFault : ℕ → List Item → WriteFault → Type 0
 IsWriteFault room items TooLong = room < base_cost items + 1
-IsWriteFault room items Memory = Fits room items
+IsWriteFault room items Memory = ItemsFit room items

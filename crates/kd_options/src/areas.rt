@@ -2,7 +2,7 @@ ghost use Rattle.std.specs.Prelude.{◌≡◌, ◌≤◌, List, length, IfOk, If
 ghost use Rattle.kd_wire.specs.Area.{Piece};
 ghost use Rattle.kd_options.specs.Areas.{IsAreaFault, IsFirstAreaFault};
 ghost use Rattle.kd_options.specs.Joined.{HasOptions, IsAreaIf, options_field, uses_file, uses_sname};
-ghost use Rattle.kd_options.specs.Joining.{Joins, JoinsArea, entries_of};
+ghost use Rattle.kd_options.specs.Joining.{JoinsPieces, JoinsArea, entries_of};
 ghost use Rattle.kd_options.specs.declared.fault.AreaFault.TheVariants.{Memory};
 
 use crate::fault::AreaFault;
@@ -70,7 +70,7 @@ fn add_area<'a>(
         (JoinsArea used area.now (entries_of options.old.entries) (entries_of options.new.entries)) }
     ensures fault { IfErr result (IsAreaFault used area.now start) }
     ensures only { (list : List Piece) → IsAreaIf used area.now list → MatchResult result
-        (λ _. Joins list (entries_of options.old.entries) (entries_of options.new.entries))
+        (λ _. JoinsPieces list (entries_of options.old.entries) (entries_of options.new.entries))
         (λ fault. fault ≡ Memory) }
 {
     if !used {
@@ -91,7 +91,7 @@ fn add_pieces<'a>(
     list: Pieces<'a>,
 ) -> Result<(), AllocError>
     ensures { OnOk result
-        (Joins list.entry (entries_of options.old.entries) (entries_of options.new.entries)) }
+        (JoinsPieces list.entry (entries_of options.old.entries) (entries_of options.new.entries)) }
 {
     for (code, piece) in list {
         join(alloc, options, code, piece)?;

@@ -4,7 +4,7 @@ ghost use Rattle.kd_options.specs.Joined.{value_of};
 ghost use Rattle.kd_options.specs.Joining.{entries_of};
 ghost use Rattle.kd_options.specs.Kind.{type_number};
 ghost use Rattle.kd_options.specs.Message.{IsMessage, Seen, Reads, IsFirstFault, mac_of};
-ghost use Rattle.kd_options.specs.Options.{IsType, option_fault, may_be_address};
+ghost use Rattle.kd_options.specs.Options.{IsType, option_fault, absent_or_address};
 ghost use Rattle.kd_options.specs.Relay.{IsRelayList, firsts};
 ghost use Rattle.kd_options.specs.RelayWalk.{relay_list};
 ghost use Rattle.kd_options.specs.declared.fault.ReadFault.TheVariants.{Memory};
@@ -170,7 +170,7 @@ fn fault_in(fields: &IndexMap<u8, Value<'_>>) -> Option<ReadFault>
 
 // An address has four bytes, where it is there.
 fn may_be_address(value: Option<&[u8]>) -> bool
-    ensures { result ≡ may_be_address (option_copied value.entry) }
+    ensures { result ≡ absent_or_address (option_copied value.entry) }
 {
     match value {
         Some(value) => value.len() == 4,

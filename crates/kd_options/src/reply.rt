@@ -1,7 +1,7 @@
 ghost use Rattle.std.specs.Prelude.{◌≡◌, ◌+◌, ◌^◌, ◌<◌, ◌≤◌, ◌↔◌, ◌++◌, IfErr, IfOk, IsTrue, MatchOption, OnOk, drop, length, replicate};
 ghost use Rattle.kd_wire.specs.Area.{IsCode};
 ghost use Rattle.kd_wire.specs.Put.{with_bytes_at};
-ghost use Rattle.kd_options.specs.Reply.{Fits, IsWriteFault, base_cost, cost_of, first_text, item_cost, items_text, kept, optional_cost, piece_count, pieces_of, pieces_text, reply_text, unpadded};
+ghost use Rattle.kd_options.specs.Reply.{ItemsFit, IsWriteFault, base_cost, cost_of, first_text, item_cost, items_text, kept, optional_cost, piece_count, pieces_of, pieces_text, reply_text, unpadded};
 
 use crate::fault::WriteFault;
 use crate::item::{Item, Items};
@@ -25,7 +25,7 @@ const LEAST: usize = 300;
 impl Reply {
     /// The obligatory options fit in this many bytes, with header, cookie and End.
     pub fn fits(&self, room: u16) -> bool
-        ensures { IsTrue result ↔ Fits room self.now.items }
+        ensures { IsTrue result ↔ ItemsFit room self.now.items }
     {
         room_left(self.items.as_slice(), usize::from(room)).is_some()
     }
@@ -41,7 +41,7 @@ impl Reply {
         requires { 300 ≤ room }
         ensures found { IfOk result (λ bytes. bytes.items ≡ reply_text self.now.header room self.now.items) }
         ensures within { IfOk result (λ bytes. length bytes.items ≤ room) }
-        ensures fits { OnOk result (Fits room self.now.items) }
+        ensures fits { OnOk result (ItemsFit room self.now.items) }
         ensures fault { IfErr result (IsWriteFault room self.now.items) }
     {
         let items = self.items.as_slice();

@@ -11,13 +11,13 @@ use Rattle.kd_event.specs.declared.ports.Ports.{Ports}
 use Rattle.kd_keeps.specs.Fault.{store_fault_number}
 use Rattle.kd_keeps.specs.declared.fault.StoreFault.{StoreFault}
 use Rattle.kd_keeps.specs.declared.keeps.Keeps.{Ghosts}
-use Rattle.kd_commands.specs.Order.{AsksFor, HasFault, fault_number}
+use Rattle.kd_commands.specs.Order.{AsksFor, HasFault, line_fault_number}
 use Rattle.kd_commands.specs.declared.fault.LineFault.{LineFault}
 use Rattle.kd_commands.specs.declared.orders.Listening.{Listening}
 use Rattle.kd_commands.specs.declared.orders.Order.{Order}
 use Rattle.kd_commands.specs.declared.orders.Order.TheVariants as orders
 use Rattle.kd_replay.specs.Faults.{loop_fault_number, replay_fault_number, serve_fault_number}
-use Rattle.kd_replay.specs.Replay.{Leaves}
+use Rattle.kd_replay.specs.Replay.{LeavesWritten}
 use Rattle.kd_replay.specs.Serving.{HasServed, StopsServing, Traffic}
 use Rattle.kd_replay.specs.declared.ends.EndFailed.{EndFailed}
 use Rattle.kd_replay.specs.declared.fault.LoopFault.{LoopFault}
@@ -25,7 +25,7 @@ use Rattle.kd_replay.specs.declared.fault.ReplayFault.{ReplayFault}
 use Rattle.kd_replay.specs.declared.link.Link.{Ghosts as Links}
 use Rattle.kd_replay.specs.declared.fault.ServeFault.{ServeFault}
 use Rattle.kd_server.specs.Keeping.{IsUnopened, Keeping, Opens, Refuses, Steps}
-use Rattle.kd_server.specs.Leases.{IsNoList, lease_line, leases_at}
+use Rattle.kd_server.specs.Leases.{IsNoList, lease_line, leases_of_rows}
 use Rattle.kd_program.specs.Streams.{Prints, Puts, ShowsOrBreaks, Starves, Stream, Streams, Tells, TellsWith}
 use Rattle.kd_program.specs.declared.host.Host.{Ghosts as Hosts}
 use Rattle.kd_program.specs.declared.serving.Files.{Files}
@@ -33,9 +33,9 @@ use Rattle.kd_program.specs.declared.serving.Work.{Work}
 use Rattle.kd_program.specs.declared.serving.Work.TheVariants as works
 
 -- the ports of a server: those of its words, and else those of the standard (RFC 2131 section 4.1)
-abbrev pub ports_of : Work → Ports
-ports_of (works.Serve listening count) = record { server = listening.port; client = listening.client_port }
-ports_of other = record { server = 67; client = 68 }
+abbrev pub ports_asked : Work → Ports
+ports_asked (works.Serve listening count) = record { server = listening.port; client = listening.client_port }
+ports_asked other = record { server = 67; client = 68 }
 
 -- how a replay ends: without a fault, or its fault is told
 abbrev pub EndsReplay : Result ℕ ReplayFault → ℕ → Stream → Stream → Type 0
@@ -65,16 +65,16 @@ module _ {L S : Type 0} (l : Links L) (g : Ghosts S) where
 -- over a store of leases
 module _ {S : Type 0} (g : Ghosts S) where
   -- a server replays what is left of standard input, to standard output
-  pub record Replays (server after : Keeping S) (status : ℕ) (old new : Streams) : Type 0 where
+  pub record ReplaysInput (server after : Keeping S) (status : ℕ) (old new : Streams) : Type 0 where
     pub result : Result ℕ ReplayFault
     pub leaves : (input output : List ℕ) → old.input.bytes ≡ Some input → old.output.bytes ≡ Some output
-        → Leaves (Steps g) (Refuses g) (new.input.failed ≡ true) result input server after output new.output.bytes
+        → LeavesWritten (Steps g) (Refuses g) (new.input.failed ≡ true) result input server after output new.output.bytes
     pub ends : EndsReplay result status old.faults new.faults
 
   -- a server's leases at a moment are shown, or it is told why there are none; memory may run out for their lines
-  abbrev pub Lists : ℕ → Keeping S → ℕ → Streams → Streams → Type 0
-  Lists at server status old new =
-      ShowsOrBreaks (flat_map lease_line (leases_at at server.rows)) 0 status old.output new.output old.faults new.faults
+  abbrev pub ListsLeases : ℕ → Keeping S → ℕ → Streams → Streams → Type 0
+  ListsLeases at server status old new =
+      ShowsOrBreaks (flat_map lease_line (leases_of_rows at server.rows)) 0 status old.output new.output old.faults new.faults
       ⊎ (((fault : ServeFault) × IsNoList (g.has_failed server.store) at fault × Tells (serve_fault_number fault) status old new)
       ⊎ Starves status old new)
 
@@ -82,7 +82,7 @@ module _ {S : Type 0} (g : Ghosts S) where
 module _ {H N U L C S : Type 0} (h : Hosts H N U L C) (l : Links L) (g : Ghosts S) where
   -- the host gives a socket, which has not failed, and its clock; a line is told of what the server does, and it serves
   -- datagrams of that socket
-  pub record Begins (listening : Listening) (count : ℕ) (before after : H) (server left : Keeping S) (status : ℕ) (old new : Streams) : Type 0 where
+  pub record BeginsServing (listening : Listening) (count : ℕ) (before after : H) (server left : Keeping S) (status : ℕ) (old new : Streams) : Type 0 where
     pub link : L
     pub bound : H
     pub given : h.binds before listening (Ok link) bound
@@ -110,21 +110,21 @@ module _ {H N U L C S : Type 0} (h : Hosts H N U L C) (l : Links L) (g : Ghosts 
   -- a server serves datagrams of the host's socket, or stays as it is
   abbrev pub Listens : Listening → ℕ → H → H → Keeping S → Keeping S → ℕ → Streams → Streams → Type 0
   Listens listening count before after server left status old new =
-      Begins listening count before after server left status old new
+      BeginsServing listening count before after server left status old new
       ⊎ ((left ≡ server) × (HasNoSocket listening before after status old new ⊎ HasNoLine listening before after status old new))
 
   -- what a server is opened for
   abbrev pub Works : Work → H → H → Keeping S → Keeping S → ℕ → Streams → Streams → Type 0
-  Works works.Replay before after server left status old new = (after ≡ before) × Replays g server left status old new
+  Works works.Replay before after server left status old new = (after ≡ before) × ReplaysInput g server left status old new
   Works (works.Leases at) before after server left status old new =
-      (after ≡ before) × ((left ≡ server) × Lists g at server status old new)
+      (after ≡ before) × ((left ≡ server) × ListsLeases g at server status old new)
   Works (works.Serve listening count) before after server left status old new =
       Listens listening count before after server left status old new
 
   -- a server that goes by a configuration is opened over a store, does its work, and gives back its store
   pub record IsServed (work : Work) (config : Configuration) (store back : S) (before after : H) (status : ℕ) (old new : Streams) : Type 0 where
     pub server : Keeping S
-    pub opened : Opens g (ports_of work) config store server
+    pub opened : Opens g (ports_asked work) config store server
     pub left : Keeping S
     pub worked : Works work before after server left status old new
     pub closed : back ≡ left.store
@@ -206,17 +206,17 @@ module _ {H N U L C : Type 0} (h : Hosts H N U L C) (named : Ghosts N) (unnamed 
   Says order status old new = ((printed : Printed) × Answers order printed × Prints printed status old new) ⊎ Starves status old new
 
   -- what an order does
-  abbrev pub Does : Order → H → H → ℕ → Streams → Streams → Type 0
-  Does (orders.Replay config token_dir store) before after status old new =
+  abbrev pub CarriesOut : Order → H → H → ℕ → Streams → Streams → Type 0
+  CarriesOut (orders.Replay config token_dir store) before after status old new =
       Starts (record { config = config; token_dir = token_dir; store = store }) works.Replay before after status old new
-  Does (orders.Leases config token_dir store at) before after status old new =
+  CarriesOut (orders.Leases config token_dir store at) before after status old new =
       Starts (record { config = config; token_dir = token_dir; store = store }) (works.Leases at) before after status old new
-  Does (orders.Serve config token_dir store listening count) before after status old new =
+  CarriesOut (orders.Serve config token_dir store listening count) before after status old new =
       Starts (record { config = config; token_dir = token_dir; store = store }) (works.Serve listening count) before after status old new
-  Does other before after status old new = (after ≡ before) × Says other status old new
+  CarriesOut other before after status old new = (after ≡ before) × Says other status old new
 
   -- what words do: the fault that they have is told, or what they ask for is done
   abbrev pub Carries : List (List ℕ) → H → H → ℕ → Streams → Streams → Type 0
   Carries words before after status old new =
-      ((fault : LineFault) × HasFault words fault × (after ≡ before) × Tells (fault_number fault) status old new)
-      ⊎ ((order : Order) × AsksFor words order × Does order before after status old new)
+      ((fault : LineFault) × HasFault words fault × (after ≡ before) × Tells (line_fault_number fault) status old new)
+      ⊎ ((order : Order) × AsksFor words order × CarriesOut order before after status old new)

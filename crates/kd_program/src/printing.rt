@@ -2,7 +2,7 @@ ghost use Rattle.std.specs.Prelude.{◌≡◌, ◌++◌, ℕ, IfOk, List, codes,
 ghost use Rattle.std.specs.Fmt.{decimal};
 ghost use Rattle.kd_tools.specs.Show.{line_feed};
 ghost use Rattle.kd_program.specs.Streams.{Prints, Puts, ShowsOrBreaks, TellsWith, fault_line, memory_line, streams, written_to};
-ghost use Rattle.kd_commands.specs.Order.{fault_number};
+ghost use Rattle.kd_commands.specs.Order.{line_fault_number};
 ghost use Rattle.kd_tools.specs.Status.{status_of};
 
 use crate::ends::Ends;
@@ -94,7 +94,7 @@ pub fn refuse_memory<E: Sink>(faults: &mut E) -> u8
 
 /// Writes why there are no words to carry out, and says the exit status.
 pub fn refuse_words<E: Sink>(alloc: Global, faults: &mut E, fault: LineFault) -> u8
-    ensures { TellsWith (fault_number fault) (status_of (fault_number fault)) result
+    ensures { TellsWith (line_fault_number fault) (status_of (line_fault_number fault)) result
         (written_to E.Sink faults.old) (written_to E.Sink faults.new) }
 {
     refuse(alloc, faults, fault.number(), &fault)

@@ -1,6 +1,6 @@
 ghost use Rattle.std.specs.Prelude.{◌≡◌, false, map, string_bytes};
 ghost use Rattle.kd_program.specs.Streams.{streams};
-ghost use Rattle.kd_program.specs.Running.{Carries, Does};
+ghost use Rattle.kd_program.specs.Running.{Carries, CarriesOut};
 
 use crate::ends::Ends;
 use crate::host::Host;
@@ -40,7 +40,7 @@ fn carried_out<H: Host, R: Source, O: Sink, E: Sink>(
 ) -> u8
     requires input { R.has_failed ends.old.input ≡ false }
     requires output { O.has_failed ends.old.output ≡ false }
-    ensures { Does H.Host H.Named.Keeps H.Unnamed.Keeps H.Socket.Link
+    ensures { CarriesOut H.Host H.Named.Keeps H.Unnamed.Keeps H.Socket.Link
         order host.old host.new result
         (streams R.Source O.Sink E.Sink ends.old) (streams R.Source O.Sink E.Sink ends.new) }
 {

@@ -4,7 +4,7 @@ ghost use Rattle.kd_tools.specs.Status.{status_of};
 ghost use Rattle.kd_io.specs.Faults.{start_fault_number};
 ghost use Rattle.kd_keeps.specs.Fault.{store_fault_number};
 ghost use Rattle.kd_program.specs.Streams.{TellsWith, streams, written_to};
-ghost use Rattle.kd_program.specs.Running.{Listens, Lists, Receives, Replays, Serves, Starts, Works, ports_of};
+ghost use Rattle.kd_program.specs.Running.{Listens, ListsLeases, Receives, ReplaysInput, Serves, Starts, Works, ports_asked};
 
 use crate::banner::{Banner, Sizes, banner_line, pool_addresses};
 use crate::ends::Ends;
@@ -187,7 +187,7 @@ fn worked<H: Host, R: Source, O: Sink, E: Sink, S: Keeps>(
 
 // The ports of a server: those of the words, and else the standard's.
 fn ports_of(work: Work) -> Ports
-    ensures { result ≡ ports_of work }
+    ensures { result ≡ ports_asked work }
 {
     match work {
         Work::Serve(listening, _) => Ports {
@@ -209,7 +209,7 @@ fn replayed<R: Source, O: Sink, E: Sink, S: Keeps>(
 ) -> u8
     requires input { R.has_failed ends.old.input ≡ false }
     requires output { O.has_failed ends.old.output ≡ false }
-    ensures { Replays S.Keeps server.old server.new result
+    ensures { ReplaysInput S.Keeps server.old server.new result
         (streams R.Source O.Sink E.Sink ends.old) (streams R.Source O.Sink E.Sink ends.new) }
 {
     match replay(alloc, &mut ends.input, &mut ends.output, server) {
@@ -231,7 +231,7 @@ fn listed<R: Source, O: Sink, E: Sink, S: Keeps>(
     server: &Server<S>,
     at: u64,
 ) -> u8
-    ensures { Lists S.Keeps at server.now result
+    ensures { ListsLeases S.Keeps at server.now result
         (streams R.Source O.Sink E.Sink ends.old) (streams R.Source O.Sink E.Sink ends.new) }
 {
     let leases = match server.leases(at) {

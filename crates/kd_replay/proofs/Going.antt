@@ -6,7 +6,7 @@ use Rattle.std.proofs.lemmas.List.{append-nil, flat_map_more}
 use Rattle.kd_replay.specs.Handling.{EndsEvent, HandlesEvent}
 use Rattle.kd_replay.specs.Lines.{IsEventLine, lines_of}
 use Rattle.kd_replay.specs.Parts.{FindsIn}
-use Rattle.kd_replay.specs.Replay.{Did, Ends, Handles, IsNoEvent, Leaves, most_lines}
+use Rattle.kd_replay.specs.Replay.{Did, Ends, Handles, IsNoEvent, LeavesWritten, most_lines}
 use Rattle.kd_replay.specs.Text.{line_of}
 use Rattle.kd_event.specs.declared.event.Event.{Event}
 use Rattle.kd_event.specs.declared.event.Handled.{Handled}
@@ -81,36 +81,36 @@ module _ {H : Type 0} (gives : H → Event → Handled → H → Type 0) where
 
 module _ {H : Type 0} (gives : H → Event → Handled → H → Type 0) (fails : H → Event → ServeFault → H → Type 0) where
   module _ (source_failed : Type 0) (input : List ℕ) (server : H) (old : List ℕ) (number : ℕ) (mid : H) (left contents : Option (List ℕ)) (g : Going gives input server old number mid left contents) (few : number ≤ most_lines) where
-    pub leaves_end : (left' : Option (List ℕ)) (text : List ℕ) → FindsIn found.End g.rest left' text → Leaves gives fails source_failed (Ok number) input server mid old contents
+    pub leaves_end : (left' : Option (List ℕ)) (text : List ℕ) → FindsIn found.End g.rest left' text → LeavesWritten gives fails source_failed (Ok number) input server mid old contents
     leaves_end left' text f =
         let e : lines_of input ≡ g.before = g.lines ∙ ap (λ r. g.before ++ r) f.finds ∙ append-nil g.before in
         record { out = g.out; told = g.told; replays = (rw e (sym g.count), few, rw e g.did) }
 
     stopped : (fault : ReplayFault) (new : H) (out : List ℕ) (contents' : Option (List ℕ)) → contents' ≡ Some out → (fault ≡ faults.Read) ⊎ (number < most_lines) → Ends gives fails source_failed fault (number + 1) (lines_of g.rest) mid new g.out out
-        → Leaves gives fails source_failed (Err fault) input server new old contents'
+        → LeavesWritten gives fails source_failed (Err fault) input server new old contents'
     stopped fault new out contents' told early ends = record {
       out = out;
       told = told;
       replays = record { before = g.before; after = lines_of g.rest; mid = mid; between = g.out; all = g.lines; few = rw g.count few; early = rw g.count early; did = g.did; ends = rw g.count ends };
     }
 
-    pub leaves_read : source_failed → Leaves gives fails source_failed (Err faults.Read) input server mid old contents
+    pub leaves_read : source_failed → LeavesWritten gives fails source_failed (Err faults.Read) input server mid old contents
     leaves_read failed = stopped faults.Read mid g.out contents g.told (inl refl) (inl failed, refl, refl)
 
-    pub leaves_memory : number < most_lines → Leaves gives fails source_failed (Err faults.Memory) input server mid old contents
+    pub leaves_memory : number < most_lines → LeavesWritten gives fails source_failed (Err faults.Memory) input server mid old contents
     leaves_memory early = stopped faults.Memory mid g.out contents g.told (inr early) (refl, refl)
 
-    pub leaves_too_long : number < most_lines → (left' : Option (List ℕ)) (text : List ℕ) → FindsIn found.TooLong g.rest left' text → Leaves gives fails source_failed (Err (faults.BadLine (number + 1))) input server mid old contents
+    pub leaves_too_long : number < most_lines → (left' : Option (List ℕ)) (text : List ℕ) → FindsIn found.TooLong g.rest left' text → LeavesWritten gives fails source_failed (Err (faults.BadLine (number + 1))) input server mid old contents
     leaves_too_long early left' text f =
         let none : IsNoEvent f.finds.first = λ event p. omega (arith, p.short, f.finds.long) in
         stopped (faults.BadLine (number + 1)) mid g.out contents g.told (inr early) (rw f.finds.all (refl, none, refl, refl))
 
     pub leaves_bad : number < most_lines → (left' : Option (List ℕ)) (text : List ℕ) → FindsIn found.Line g.rest left' text → IsNoEvent text
-        → Leaves gives fails source_failed (Err (faults.BadLine (number + 1))) input server mid old contents
+        → LeavesWritten gives fails source_failed (Err (faults.BadLine (number + 1))) input server mid old contents
     leaves_bad early left' text f none = stopped (faults.BadLine (number + 1)) mid g.out contents g.told (inr early) (rw f.finds.0 (refl, none, refl, refl))
 
     pub leaves_event : number < most_lines → (left' : Option (List ℕ)) (text : List ℕ) (event : Event) (fault : ReplayFault) (new : H) (contents' : Option (List ℕ)) → FindsIn found.Line g.rest left' text
-        → IsEventLine text event → EndsEvent gives fails fault event mid new contents contents' → Leaves gives fails source_failed (Err fault) input server new old contents'
+        → IsEventLine text event → EndsEvent gives fails fault event mid new contents contents' → LeavesWritten gives fails source_failed (Err fault) input server new old contents'
     leaves_event early left' text event (faults.BadLine k) new contents' f is e = absurd e
     leaves_event early left' text event (faults.Serve fault) new contents' f is e =
         stopped (faults.Serve fault) new g.out contents' (e.2 ∙ g.told) (inr early) (rw f.finds.0 (record { event = event; spelled = is; failed = e.0; other = e.1 }, refl))
@@ -122,8 +122,8 @@ module _ {H : Type 0} (gives : H → Event → Handled → H → Type 0) (fails 
 
     -- there is one line too many
     module _ (all : number ≡ most_lines) where
-      pub leaves_more : (left' : Option (List ℕ)) (text : List ℕ) → FindsIn found.Line g.rest left' text → Leaves gives fails source_failed (Err faults.Read) input server mid old contents
+      pub leaves_more : (left' : Option (List ℕ)) (text : List ℕ) → FindsIn found.Line g.rest left' text → LeavesWritten gives fails source_failed (Err faults.Read) input server mid old contents
       leaves_more left' text f = stopped faults.Read mid g.out contents g.told (inl refl) (inr (ap (λ n. n + 1) all, rw f.finds.0 (omega arith)), refl, refl)
 
-      pub leaves_more_long : (left' : Option (List ℕ)) (text : List ℕ) → FindsIn found.TooLong g.rest left' text → Leaves gives fails source_failed (Err faults.Read) input server mid old contents
+      pub leaves_more_long : (left' : Option (List ℕ)) (text : List ℕ) → FindsIn found.TooLong g.rest left' text → LeavesWritten gives fails source_failed (Err faults.Read) input server mid old contents
       leaves_more_long left' text f = stopped faults.Read mid g.out contents g.told (inl refl) (inr (ap (λ n. n + 1) all, rw f.finds.all (omega arith)), refl, refl)

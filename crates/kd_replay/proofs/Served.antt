@@ -7,7 +7,7 @@ use Rattle.std.specs.Io.KnownBytes.{Appends}
 use Rattle.kd_event.specs.declared.event.Event.{Event}
 use Rattle.kd_event.specs.declared.event.Handled.{Handled}
 use Rattle.kd_replay.specs.History.{History}
-use Rattle.kd_replay.specs.Answering.{IsAnswered, IsCut}
+use Rattle.kd_replay.specs.Answering.{IsTold, IsCut}
 use Rattle.kd_replay.specs.Serving.{Answered, EndsServing, Grows, HasCut, HasServed, Packet, StopsServing, Traffic, packets_of, text_of}
 use Rattle.kd_replay.specs.declared.fault.LoopFault.{LoopFault}
 use Rattle.kd_replay.specs.declared.fault.LoopFault.TheVariants as faults
@@ -73,7 +73,7 @@ module _ {H : Type 0} (gives : H → Event → Handled → H → Type 0) where
 
     -- it was served, where its text was written
     pub served_if : (result : Result Unit LoopFault)
-        → MatchResult result (λ _. IsAnswered handled mid gone old written) (λ fault. (fault ≡ faults.Write) × IsCut handled mid gone old written)
+        → MatchResult result (λ _. IsTold handled mid gone old written) (λ fault. (fault ≡ faults.Write) × IsCut handled mid gone old written)
         → OnOk result (HasServed gives 1 server new (record { received = received; sent = sent; written = old }) (record { received = after; sent = gone; written = written }))
     served_if (Err fault) h = tt
     served_if (Ok done) h = record {
@@ -101,7 +101,7 @@ module _ {H : Type 0} (gives : H → Event → Handled → H → Type 0) where
 
     -- serving ended at it, where its text was not written
     pub ended_if : (fails : H → Event → ServeFault → H → Type 0) (not_received not_written : Type 0) (result : Result Unit LoopFault)
-        → MatchResult result (λ _. IsAnswered handled mid gone old written) (λ fault. (fault ≡ faults.Write) × IsCut handled mid gone old written)
+        → MatchResult result (λ _. IsTold handled mid gone old written) (λ fault. (fault ≡ faults.Write) × IsCut handled mid gone old written)
         → OnErr result not_written
         → IfErr result (λ fault. EndsServing gives fails not_received not_written fault server new
         (record { received = received; sent = sent; written = old }) (record { received = after; sent = gone; written = written }))

@@ -7,7 +7,7 @@ use Rattle.kd_replay.specs.Serving.{Grows, Packet, packets_of, text_of}
 
 module _ (handled : Handled) (packets gone : Option (List Packet)) (old out : Option (List ℕ)) where
   -- the reply was sent or not, and its text is written
-  pub record IsAnswered : Type 0 where
+  pub record IsTold : Type 0 where
     pub sent : Bool
     pub grows : Grows packets gone (packets_of (record { handled = handled; sent = sent }))
     pub appended : Appends old out (text_of (record { handled = handled; sent = sent }))

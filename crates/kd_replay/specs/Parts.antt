@@ -36,11 +36,11 @@ pub record TakesTooLong (ahead line left : List ℕ) : Type 0 where
   pub long : line_limit < length line + length front
 
 -- what is taken of the bytes ahead into a line, by what is found there
-abbrev pub Takes : Part → List ℕ → List ℕ → List ℕ → List ℕ → Type 0
-Takes part.Last ahead line left new = TakesLast ahead line left new
-Takes part.Open ahead line left new = TakesAll ahead line left new
-Takes part.None ahead line left new = (ahead ≡ []) × (left ≡ []) × (new ≡ line)
-Takes part.TooLong ahead line left new = TakesTooLong ahead line left
+abbrev pub TakesPart : Part → List ℕ → List ℕ → List ℕ → List ℕ → Type 0
+TakesPart part.Last ahead line left new = TakesLast ahead line left new
+TakesPart part.Open ahead line left new = TakesAll ahead line left new
+TakesPart part.None ahead line left new = (ahead ≡ []) × (left ≡ []) × (new ≡ line)
+TakesPart part.TooLong ahead line left new = TakesTooLong ahead line left
 
 -- the first of the lines is too long
 pub record FindsTooLong (lines : List (List ℕ)) : Type 0 where
@@ -50,16 +50,16 @@ pub record FindsTooLong (lines : List (List ℕ)) : Type 0 where
   pub long : line_limit < length first
 
 -- the next of the lines, and the lines behind it
-abbrev pub Finds : Found → List (List ℕ) → List ℕ → List (List ℕ) → Type 0
-Finds found.Line lines text more = (lines ≡ text ∷ more) × (length text ≤ line_limit)
-Finds found.TooLong lines text more = FindsTooLong lines
-Finds found.End lines text more = lines ≡ []
+abbrev pub FindsLine : Found → List (List ℕ) → List ℕ → List (List ℕ) → Type 0
+FindsLine found.Line lines text more = (lines ≡ text ∷ more) × (length text ≤ line_limit)
+FindsLine found.TooLong lines text more = FindsTooLong lines
+FindsLine found.End lines text more = lines ≡ []
 
 -- the next line of an input, and what is left of it
 pub record FindsIn (found : Found) (all : List ℕ) (left : Option (List ℕ)) (text : List ℕ) : Type 0 where
   pub rest : List ℕ
   pub known : left ≡ Some rest
-  pub finds : Finds found (lines_of all) text (lines_of rest)
+  pub finds : FindsLine found (lines_of all) text (lines_of rest)
 
 -- bytes from the front are written, and no others
 pub record WritesPart (old new : Option (List ℕ)) (bytes : List ℕ) : Type 0 where

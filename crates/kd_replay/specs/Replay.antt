@@ -23,9 +23,9 @@ AreEvents [] (event ∷ events) = ⊥
 AreEvents (line ∷ lines) [] = ⊥
 
 -- there is a first line, and it is such
-abbrev pub IsFirst : (List ℕ → Type 0) → List (List ℕ) → Type 0
-IsFirst IsSuch [] = ⊥
-IsFirst IsSuch (line ∷ lines) = IsSuch line
+abbrev pub FirstLineIs : (List ℕ → Type 0) → List (List ℕ) → Type 0
+FirstLineIs IsSuch [] = ⊥
+FirstLineIs IsSuch (line ∷ lines) = IsSuch line
 
 -- a line is no event
 abbrev pub IsNoEvent : List ℕ → Type 0
@@ -62,7 +62,7 @@ module _ {H : Type 0} (gives : H → Event → Handled → H → Type 0) where
 -- the relation that says what a fault leaves
 module _ {H : Type 0} (fails : H → Event → ServeFault → H → Type 0) where
   -- a line's event has a fault, which is not want of memory
-  pub record Refuses (fault : ServeFault) (line : List ℕ) (server new : H) : Type 0 where
+  pub record LineFails (fault : ServeFault) (line : List ℕ) (server new : H) : Type 0 where
     pub event : Event
     pub spelled : IsEventLine line event
     pub failed : fails server event fault new
@@ -73,9 +73,9 @@ module _ {H : Type 0} (gives : H → Event → Handled → H → Type 0) (fails 
   -- event, at a fault of its event, while its text is written, where the source has failed or it is one
   -- line too many, or for want of memory
   abbrev pub Ends : Type 0 → ReplayFault → ℕ → List (List ℕ) → H → H → List ℕ → List ℕ → Type 0
-  Ends source_failed (faults.BadLine k) number lines server new old out = (k ≡ number) × IsFirst IsNoEvent lines × (new ≡ server) × (out ≡ old)
-  Ends source_failed (faults.Serve fault) number lines server new old out = IsFirst (λ line. Refuses fails fault line server new) lines × (out ≡ old)
-  Ends source_failed faults.Write number lines server new old out = IsFirst (λ line. Cuts gives line server new old out) lines
+  Ends source_failed (faults.BadLine k) number lines server new old out = (k ≡ number) × FirstLineIs IsNoEvent lines × (new ≡ server) × (out ≡ old)
+  Ends source_failed (faults.Serve fault) number lines server new old out = FirstLineIs (λ line. LineFails fails fault line server new) lines × (out ≡ old)
+  Ends source_failed faults.Write number lines server new old out = FirstLineIs (λ line. Cuts gives line server new old out) lines
   Ends source_failed faults.Read number lines server new old out =
       (source_failed ⊎ ((number ≡ most_lines + 1) × (0 < length lines))) × (new ≡ server) × (out ≡ old)
   Ends source_failed faults.Memory number lines server new old out = (new ≡ server) × (out ≡ old)
@@ -99,7 +99,7 @@ module _ {H : Type 0} (gives : H → Event → Handled → H → Type 0) (fails 
   Replays source_failed (Err fault) lines server new old out = Stops source_failed fault lines server new old out
 
   -- what a replay of an input leaves in the sink, whose contents are known
-  pub record Leaves (source_failed : Type 0) (result : Result ℕ ReplayFault) (input : List ℕ) (server new : H) (old : List ℕ) (contents : Option (List ℕ)) : Type 0 where
+  pub record LeavesWritten (source_failed : Type 0) (result : Result ℕ ReplayFault) (input : List ℕ) (server new : H) (old : List ℕ) (contents : Option (List ℕ)) : Type 0 where
     pub out : List ℕ
     pub told : contents ≡ Some out
     pub replays : Replays source_failed result (lines_of input) server new old out

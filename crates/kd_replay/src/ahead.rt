@@ -1,7 +1,7 @@
 ghost use Rattle.std.specs.Prelude.{◌≡◌, ◌↔◌, IsTrue, ◌+◌, ◌<◌, ◌≤◌, [], IfOk, OnOk, OnErr, length, slice_range, true, vec_capacity};
 ghost use Rattle.std.specs.Io.KnownBytes.{Consumes, IsAtEnd, prepend_known};
 ghost use Rattle.kd_replay.specs.Lines.{line_limit};
-ghost use Rattle.kd_replay.specs.Parts.{Takes};
+ghost use Rattle.kd_replay.specs.Parts.{TakesPart};
 
 use crate::ends::{EndFailed, Source};
 use crate::lines::LINE_LIMIT;
@@ -91,7 +91,7 @@ impl Ahead {
     pub(crate) fn take_part(&mut self, line: &mut Vec<u8>) -> Part
         requires room { line_limit ≤ vec_capacity line.old }
         requires begun { length line.old.items ≤ line_limit }
-        ensures takes { Takes result self.old line.old.items self.new line.new.items }
+        ensures takes { TakesPart result self.old line.old.items self.new line.new.items }
         ensures short { length line.new.items ≤ line_limit }
         ensures capacity { vec_capacity line.old ≤ vec_capacity line.new }
     {

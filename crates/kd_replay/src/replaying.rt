@@ -4,7 +4,7 @@ ghost use Rattle.std.specs.Result.{IsErrOf};
 ghost use Rattle.kd_replay.specs.Handling.{EndsEvent, HandlesEvent};
 ghost use Rattle.kd_replay.specs.Lines.{line_limit};
 ghost use Rattle.kd_replay.specs.Parts.{WritesPart};
-ghost use Rattle.kd_replay.specs.Replay.{Handles, Leaves, most_lines};
+ghost use Rattle.kd_replay.specs.Replay.{Handles, LeavesWritten, most_lines};
 ghost use Rattle.kd_replay.specs.Text.{line_of, line_room};
 ghost use Rattle.kd_replay.specs.declared.fault.ReplayFault.TheVariants as faults;
 
@@ -60,7 +60,7 @@ pub fn replay_with<R: Source, W: Sink, H: Serves>(
     requires source { R.has_failed source.old ≡ false }
     requires sink { W.has_failed sink.old ≡ false }
     ensures replayed { (input old : List ℕ) → R.remaining source.old ≡ Some input → W.contents sink.old ≡ Some old
-        → Leaves H.gives H.fails (R.has_failed source.new ≡ true) result input server.old server.new old (W.contents sink.new) }
+        → LeavesWritten H.gives H.fails (R.has_failed source.new ≡ true) result input server.old server.new old (W.contents sink.new) }
     ensures counted { IfOk result (λ count. Handles H.gives count server.old server.new) }
     ensures read { IsErrOf result faults.Read
         → (R.has_failed source.new ≡ true) ⊎ Handles H.gives most_lines server.old server.new }

@@ -1,5 +1,5 @@
 ghost use Rattle.std.specs.Prelude.{◌≡◌, ◌+◌, ◌≤◌, ◌++◌, IfErr, IfOk, MatchResult, OnErr, OnOk, false, length, true, vec_capacity};
-ghost use Rattle.kd_replay.specs.Answering.{IsAnswered, IsCut};
+ghost use Rattle.kd_replay.specs.Answering.{IsTold, IsCut};
 ghost use Rattle.kd_replay.specs.Serving.{EndsServing, Grows, HasServed, StopsServing, behind_line, packets_in, text_of};
 ghost use Rattle.kd_replay.specs.Text.{line_of, line_room};
 ghost use Rattle.kd_replay.specs.declared.fault.LoopFault.TheVariants as faults;
@@ -116,7 +116,7 @@ fn answer<L: Link, W: Sink>(
     requires line { length (line_of handled.now) ≤ line_room }
     requires room { line_room + 14 ≤ vec_capacity room.old }
     ensures answered { MatchResult result
-        (λ _. IsAnswered handled.entry.now (L.sent link.old) (L.sent link.new) (W.contents sink.old) (W.contents sink.new))
+        (λ _. IsTold handled.entry.now (L.sent link.old) (L.sent link.new) (W.contents sink.old) (W.contents sink.new))
         (λ fault. (fault ≡ faults.Write) × IsCut handled.entry.now (L.sent link.old) (L.sent link.new) (W.contents sink.old) (W.contents sink.new)) }
     ensures received { L.received link.new ≡ L.received link.old }
     ensures failed { OnErr result (W.has_failed sink.new ≡ true) }

@@ -6,7 +6,7 @@ use Rattle.std.proofs.lemmas.Bool.Decides.{nat_tests}
 use Rattle.std.proofs.lemmas.List.{get_or_default}
 use Rattle.std.proofs.lemmas.Option.{same_Some}
 use Rattle.kd_rows.specs.declared.row.Row.{Row}
-use Rattle.kd_rows.specs.Index.{IsBound, IsBounded, IsLower, IsNow, IsPlace, block_of, end_at}
+use Rattle.kd_rows.specs.Index.{IsBound, IsBounded, IsLower, IsNow, IsPlace, block_number, end_at}
 use Rattle.kd_rows.specs.Table.{Rise, row_at, with_row}
 use Rattle.kd_rows.proofs.Places.{apart, read_at}
 use Rattle.kd_rows.proofs.Sets.{all-with_row, rise-with_row, row_at-with_row}
@@ -37,38 +37,38 @@ read_set bound bounds block b h = ⊎_elim
     (cases_eq bound.address block)
 
 -- the bounds after a row is set, and the bound of its block
-pub bounded_set : (rows bounds : List Row) (row bound : Row) → IsBounded rows bounds → bound.address ≡ block_of row.address → IsBound (with_row row rows) bound.address bound.ends → IsBounded (with_row row rows) (with_row bound bounds)
+pub bounded_set : (rows bounds : List Row) (row bound : Row) → IsBounded rows bounds → bound.address ≡ block_number row.address → IsBound (with_row row rows) bound.address bound.ends → IsBounded (with_row row rows) (with_row bound bounds)
 bounded_set rows bounds row bound old same is = record { rise = rise-with_row bound bounds old.rise; has = has; least = least } where
-  has : All (λ (r : Row). IsSome (row_at (with_row bound bounds) (block_of r.address))) (with_row row rows)
-  has = all-with_row (λ (r : Row). IsSome (row_at (with_row bound bounds) (block_of r.address))) row rows (some_here bound bounds (block_of row.address) same) (λ k d within. some_more bound bounds (block_of (get_or rows k d).address) (old.has k d within))
+  has : All (λ (r : Row). IsSome (row_at (with_row bound bounds) (block_number r.address))) (with_row row rows)
+  has = all-with_row (λ (r : Row). IsSome (row_at (with_row bound bounds) (block_number r.address))) row rows (some_here bound bounds (block_number row.address) same) (λ k d within. some_more bound bounds (block_number (get_or rows k d).address) (old.has k d within))
 
   least : (block : ℕ) (b : Row) → row_at (with_row bound bounds) block ≡ Some b → IsBound (with_row row rows) block b.ends
   least block b h = by (read_set bound bounds block b h) where
     by : ((bound.address ≡ block) × (bound ≡ b)) ⊎ ((bound.address ≡ block → ⊥) × (row_at bounds block ≡ Some b)) → IsBound (with_row row rows) block b.ends
     by (inl e) = subst (λ (x : Row). IsBound (with_row row rows) block x.ends) e.1 (subst (λ (n : ℕ). IsBound (with_row row rows) n bound.ends) e.0 is)
-    by (inr n) = all-with_row (λ (r : Row). block_of r.address ≡ block → b.ends ≤ r.ends) row rows (λ e. absurd (n.0 (same ∙ e))) (old.least block b n.1)
+    by (inr n) = all-with_row (λ (r : Row). block_number r.address ≡ block → b.ends ≤ r.ends) row rows (λ e. absurd (n.0 (same ∙ e))) (old.least block b n.1)
 
 -- what is left of a bound is one after a row is set
-pub kept_is : (rows bounds : List Row) (row : Row) (held kept : Option ℕ) (least : ℕ) → IsBounded rows bounds → held ≡ end_at bounds (block_of row.address) → IsLower held row.ends kept → IsNow (with_row row rows) (block_of row.address) kept least
-    → IsBound (with_row row rows) (block_of row.address) least
+pub kept_is : (rows bounds : List Row) (row : Row) (held kept : Option ℕ) (least : ℕ) → IsBounded rows bounds → held ≡ end_at bounds (block_number row.address) → IsLower held row.ends kept → IsNow (with_row row rows) (block_number row.address) kept least
+    → IsBound (with_row row rows) (block_number row.address) least
 kept_is rows bounds row held None least old is lower now = now
 kept_is rows bounds row None (Some kept) least old is lower now = absurd lower
-kept_is rows bounds row (Some bound) (Some kept) least old is lower now = by (row_at bounds (block_of row.address)) refl is where
-  by : (o : Option Row) → row_at bounds (block_of row.address) ≡ o → Some bound ≡ option_map (λ (r : Row). r.ends) o → IsBound (with_row row rows) (block_of row.address) least
+kept_is rows bounds row (Some bound) (Some kept) least old is lower now = by (row_at bounds (block_number row.address)) refl is where
+  by : (o : Option Row) → row_at bounds (block_number row.address) ≡ o → Some bound ≡ option_map (λ (r : Row). r.ends) o → IsBound (with_row row rows) (block_number row.address) least
   by None e is = cc
   by (Some b) e is =
       let same : bound ≡ b.ends = same_Some bound b.ends is in
-      all-with_row (λ (r : Row). block_of r.address ≡ block_of row.address → least ≤ r.ends) row rows (λ h. omega (arith, lower, now))
-      (λ k d within h. let g = old.least (block_of row.address) b e k d within h in omega (arith, g, lower, now, same))
+      all-with_row (λ (r : Row). block_number r.address ≡ block_number row.address → least ≤ r.ends) row rows (λ h. omega (arith, lower, now))
+      (λ k d within h. let g = old.least (block_number row.address) b e k d within h in omega (arith, g, lower, now, same))
 
 -- a block of which a row is has room for its bound, since it has one
-pub held_there : (rows bounds : List Row) (row : Row) → IsBounded rows bounds → IsSome (row_at rows row.address) → IsSome (row_at bounds (block_of row.address))
+pub held_there : (rows bounds : List Row) (row : Row) → IsBounded rows bounds → IsSome (row_at rows row.address) → IsSome (row_at bounds (block_number row.address))
 held_there rows bounds row old there = by (row_at rows row.address) refl there where
-  by : (o : Option Row) → row_at rows row.address ≡ o → IsSome o → IsSome (row_at bounds (block_of row.address))
+  by : (o : Option Row) → row_at rows row.address ≡ o → IsSome o → IsSome (row_at bounds (block_number row.address))
   by None e there = cc
   by (Some r) e there =
-      let h = row_all (λ (x : Row). IsSome (row_at bounds (block_of x.address))) rows row.address r old.has e in
-      subst (λ (a : ℕ). IsSome (row_at bounds (block_of a))) h.1 h.0
+      let h = row_all (λ (x : Row). IsSome (row_at bounds (block_number x.address))) rows row.address r old.has e in
+      subst (λ (a : ℕ). IsSome (row_at bounds (block_number a))) h.1 h.0
 
 pub some_end : (rows : List Row) (a : ℕ) → is_some (end_at rows a) ≡ is_some (row_at rows a)
 some_end rows a = by (row_at rows a) where
@@ -77,16 +77,16 @@ some_end rows a = by (row_at rows a) where
   by (Some r) = refl
 
 -- so there is room for the bound of a row that can be set
-pub room_for : (rows bounds : List Row) (row : Row) (room : ℕ) → IsBounded rows bounds → (is_some (row_at rows row.address) || nat_lt 0 room) ≡ true → row_at bounds (block_of row.address) ≡ None → 0 < room
+pub room_for : (rows bounds : List Row) (row : Row) (room : ℕ) → IsBounded rows bounds → (is_some (row_at rows row.address) || nat_lt 0 room) ≡ true → row_at bounds (block_number row.address) ≡ None → 0 < room
 room_for rows bounds row room old spare none = by (is_some (row_at rows row.address)) (held_there rows bounds row old) spare where
-  by : (b : Bool) → (b ≡ true → IsSome (row_at bounds (block_of row.address))) → (b || nat_lt 0 room) ≡ true → 0 < room
+  by : (b : Bool) → (b ≡ true → IsSome (row_at bounds (block_number row.address))) → (b || nat_lt 0 room) ≡ true → 0 < room
   by true there spare = let h = there refl in cc
   by false there spare = grind (arith, nat_tests)
 
 -- and there is room for as many new addresses as before, or one less
 pub enough_after : (rows bounds : List Row) (row : Row) (room rows_room bounds_room left rows_left bounds_left : ℕ) → IsBounded rows bounds → room ≤ min rows_room bounds_room → left ≡ room - (if is_some (row_at rows row.address) then 0 else 1)
-    → rows_left + (if is_some (row_at rows row.address) then 0 else 1) ≡ rows_room → bounds_left + (if is_some (row_at bounds (block_of row.address)) then 0 else 1) ≡ bounds_room → left ≤ min rows_left bounds_left
-enough_after rows bounds row room rows_room bounds_room left rows_left bounds_left old enough one two three = by (is_some (row_at rows row.address)) (is_some (row_at bounds (block_of row.address))) (held_there rows bounds row old) one two three where
+    → rows_left + (if is_some (row_at rows row.address) then 0 else 1) ≡ rows_room → bounds_left + (if is_some (row_at bounds (block_number row.address)) then 0 else 1) ≡ bounds_room → left ≤ min rows_left bounds_left
+enough_after rows bounds row room rows_room bounds_room left rows_left bounds_left old enough one two three = by (is_some (row_at rows row.address)) (is_some (row_at bounds (block_number row.address))) (held_there rows bounds row old) one two three where
   by : (b t : Bool) → (b ≡ true → t ≡ true) → left ≡ room - (if b then 0 else 1) → rows_left + (if b then 0 else 1) ≡ rows_room → bounds_left + (if t then 0 else 1) ≡ bounds_room → left ≤ min rows_left bounds_left
   by true true there one two three = omega arith
   by true false there one two three = let h = there refl in cc
@@ -95,7 +95,7 @@ enough_after rows bounds row room rows_room bounds_room left rows_left bounds_le
 
 -- the search of a block's rows: the least end of those that were passed
 abbrev pub IsLeastTo : List Row → ℕ → ℕ → ℕ → Type 0
-IsLeastTo rows block place least = (i : ℕ) (d : Row) → i < place → i < length rows → block_of (get_or rows i d).address ≡ block → least ≤ (get_or rows i d).ends
+IsLeastTo rows block place least = (i : ℕ) (d : Row) → i < place → i < length rows → block_number (get_or rows i d).address ≡ block → least ≤ (get_or rows i d).ends
 
 -- none of the rows below a block is of it
 pub least_first : (rows : List Row) (block place least : ℕ) → IsPlace rows (block * 64) place → IsLeastTo rows block place least
@@ -111,7 +111,7 @@ least_step rows block place least next row within is h low lower i d before insi
       same = get_or_default rows place row d within
 
 -- the rows from one of a greater block on are of none that is searched
-pub least_to : (rows : List Row) (block place least : ℕ) (row : Row) → Rise rows → place < length rows → row ≡ get_or rows place row → block < block_of row.address → IsLeastTo rows block place least → IsBound rows block least
+pub least_to : (rows : List Row) (block place least : ℕ) (row : Row) → Rise rows → place < length rows → row ≡ get_or rows place row → block < block_number row.address → IsLeastTo rows block place least → IsBound rows block least
 least_to rows block place least row rise within is above h i d inside e = ⊎_elim
     (λ l. h i d l inside e)
     (λ l. let g = apart rows rise place i d l inside in let f = read_at rows place row d within is in absurd (omega (arith, g, f, e, above)))
@@ -123,7 +123,7 @@ least_all rows block place least all h i d inside e = h i d (omega arith) inside
 -- while the bounds are set: those so far are bounds, and the rows that were passed have one each
 pub record BoundedTo (rows bounds : List Row) (place : ℕ) : Type 0 where
   pub rise : Rise bounds
-  pub has : (i : ℕ) (d : Row) → i < place → i < length rows → IsSome (row_at bounds (block_of (get_or rows i d).address))
+  pub has : (i : ℕ) (d : Row) → i < place → i < length rows → IsSome (row_at bounds (block_number (get_or rows i d).address))
   pub least : (block : ℕ) (bound : Row) → row_at bounds block ≡ Some bound → IsBound rows block bound.ends
 
 pub bounded_first : (rows bounds : List Row) → bounds ≡ [] → BoundedTo rows bounds 0
@@ -133,24 +133,24 @@ pub bounded_all : (rows bounds : List Row) (place : ℕ) → length rows ≤ pla
 bounded_all rows bounds place all h = record { rise = h.rise; has = λ i d within. h.has i d (omega arith) within; least = h.least }
 
 -- a row of the block of the one before has its bound
-pub bounded_same : (rows bounds : List Row) (place : ℕ) (row other : Row) → 0 < place → place < length rows → row ≡ get_or rows place row → other ≡ get_or rows (place - 1) other → block_of other.address ≡ block_of row.address → BoundedTo rows bounds place → BoundedTo rows bounds (place + 1)
+pub bounded_same : (rows bounds : List Row) (place : ℕ) (row other : Row) → 0 < place → place < length rows → row ≡ get_or rows place row → other ≡ get_or rows (place - 1) other → block_number other.address ≡ block_number row.address → BoundedTo rows bounds place → BoundedTo rows bounds (place + 1)
 bounded_same rows bounds place row other from within is was same h = record { rise = h.rise; has = has; least = h.least } where
-  has : (i : ℕ) (d : Row) → i < place + 1 → i < length rows → IsSome (row_at bounds (block_of (get_or rows i d).address))
+  has : (i : ℕ) (d : Row) → i < place + 1 → i < length rows → IsSome (row_at bounds (block_number (get_or rows i d).address))
   has i d before inside = ⊎_elim (λ l. h.has i d l inside) (λ l. here (omega arith)) (cases_lt i place) where
-    here : i ≡ place → IsSome (row_at bounds (block_of (get_or rows i d).address))
+    here : i ≡ place → IsSome (row_at bounds (block_number (get_or rows i d).address))
     here e =
         let a : (get_or rows i d).address ≡ row.address = ap (λ (n : ℕ). (get_or rows n d).address) e ∙ read_at rows place row d within is in
         let b : (get_or rows (place - 1) d).address ≡ other.address = read_at rows (place - 1) other d (omega arith) was in
         let g = h.has (place - 1) d (omega arith) (omega arith) in
-        subst (λ (x : ℕ). IsSome (row_at bounds x)) (ap block_of b ∙ same ∙ sym (ap block_of a)) g
+        subst (λ (x : ℕ). IsSome (row_at bounds x)) (ap block_number b ∙ same ∙ sym (ap block_number a)) g
 
 -- and one of another block has the one that is set
-pub bounded_more : (rows bounds : List Row) (place : ℕ) (row bound : Row) → place < length rows → row ≡ get_or rows place row → bound.address ≡ block_of row.address → IsBound rows bound.address bound.ends → BoundedTo rows bounds place → BoundedTo rows (with_row bound bounds) (place + 1)
+pub bounded_more : (rows bounds : List Row) (place : ℕ) (row bound : Row) → place < length rows → row ≡ get_or rows place row → bound.address ≡ block_number row.address → IsBound rows bound.address bound.ends → BoundedTo rows bounds place → BoundedTo rows (with_row bound bounds) (place + 1)
 bounded_more rows bounds place row bound within is same this h = record { rise = rise-with_row bound bounds h.rise; has = has; least = least } where
-  has : (i : ℕ) (d : Row) → i < place + 1 → i < length rows → IsSome (row_at (with_row bound bounds) (block_of (get_or rows i d).address))
+  has : (i : ℕ) (d : Row) → i < place + 1 → i < length rows → IsSome (row_at (with_row bound bounds) (block_number (get_or rows i d).address))
   has i d before inside = ⊎_elim
-      (λ l. some_more bound bounds (block_of (get_or rows i d).address) (h.has i d l inside))
-      (λ l. let e : i ≡ place = omega arith in some_here bound bounds (block_of (get_or rows i d).address) (same ∙ sym (ap block_of (ap (λ (n : ℕ). (get_or rows n d).address) e ∙ read_at rows place row d within is))))
+      (λ l. some_more bound bounds (block_number (get_or rows i d).address) (h.has i d l inside))
+      (λ l. let e : i ≡ place = omega arith in some_here bound bounds (block_number (get_or rows i d).address) (same ∙ sym (ap block_number (ap (λ (n : ℕ). (get_or rows n d).address) e ∙ read_at rows place row d within is))))
       (cases_lt i place)
 
   least : (block : ℕ) (b : Row) → row_at (with_row bound bounds) block ≡ Some b → IsBound rows block b.ends

@@ -6,14 +6,14 @@ use Rattle.std.proofs.lemmas.Bool.Decides.{nat_tests}
 use Rattle.std.proofs.lemmas.List.{drop_more, get_or-map, length-map, take-append-drop}
 use Rattle.std.proofs.lemmas.List.Edits.{get_or-insert_above, get_or-insert_at, get_or-insert_below, get_or-remove_above, get_or-remove_below, length-insert, length-remove}
 use Rattle.kd_rows.specs.declared.row.Row.{Row}
-use Rattle.kd_rows.specs.Index.{Gives, IsBelow, IsByClient, IsIndex, IsKeyPlace, Moves, Rises, Takes, addresses_in, client_at, client_in, lists, key_at, key_in, row_in}
+use Rattle.kd_rows.specs.Index.{PutsAt, IsKeyBelow, IsByClient, IsIndex, IsKeyPlace, Moves, Rises, Takes, addresses_in, client_at, client_in, lists, key_at, key_in, row_in}
 use Rattle.kd_rows.specs.Table.{Rise, row_at, with_row}
 use Rattle.kd_rows.proofs.Keys.{Stands, below_from, listed_at, not_below_itself}
 use Rattle.kd_rows.proofs.Places.{is_at, same_at}
 use Rattle.kd_rows.proofs.Sets.{row_at-with_row}
 
-join : (g : ℕ → List ℕ × ℕ) (x y u v : ℕ) → u ≡ x → v ≡ y → IsBelow (g x) (g y) → IsBelow (g u) (g v)
-join g x y u v e f h = subst (λ (z : ℕ). IsBelow (g u) (g z)) (sym f) (subst (λ (z : ℕ). IsBelow (g z) (g y)) (sym e) h)
+join : (g : ℕ → List ℕ × ℕ) (x y u v : ℕ) → u ≡ x → v ≡ y → IsKeyBelow (g x) (g y) → IsKeyBelow (g u) (g v)
+join g x y u v e f h = subst (λ (z : ℕ). IsKeyBelow (g u) (g z)) (sym f) (subst (λ (z : ℕ). IsKeyBelow (g z) (g y)) (sym e) h)
 
 -- one place up or down
 up : (index : List ℕ) (place x i : ℕ) → place ≤ length index → place < i → get_or (insert index place x) i 0 ≡ get_or index (i - 1) 0
@@ -30,22 +30,22 @@ rises_insert f g index k place rising p agree mine other i j order within =
       m : j < length index + 1
       m = omega (arith, length-insert index place k.1 p.in_range)
 
-      rises : (i j : ℕ) → i < j → j < length index → IsBelow (g (get_or index i 0)) (g (get_or index j 0))
-      rises i j order within = subst (λ (l : List ℕ × ℕ). IsBelow (g (get_or index i 0)) l) (sym (agree j within)) (subst (λ (l : List ℕ × ℕ). IsBelow l (f (get_or index j 0))) (sym (agree i (omega arith))) (rising i j order within))
+      rises : (i j : ℕ) → i < j → j < length index → IsKeyBelow (g (get_or index i 0)) (g (get_or index j 0))
+      rises i j order within = subst (λ (l : List ℕ × ℕ). IsKeyBelow (g (get_or index i 0)) l) (sym (agree j within)) (subst (λ (l : List ℕ × ℕ). IsKeyBelow l (f (get_or index j 0))) (sym (agree i (omega arith))) (rising i j order within))
 
-      low : (i : ℕ) → i < length index → i < place → IsBelow (g (get_or index i 0)) (g k.1)
-      low i within before = subst (λ (l : List ℕ × ℕ). IsBelow (g (get_or index i 0)) l) (sym mine) (subst (λ (l : List ℕ × ℕ). IsBelow l k) (sym (agree i within)) (p.below i before))
+      low : (i : ℕ) → i < length index → i < place → IsKeyBelow (g (get_or index i 0)) (g k.1)
+      low i within before = subst (λ (l : List ℕ × ℕ). IsKeyBelow (g (get_or index i 0)) l) (sym mine) (subst (λ (l : List ℕ × ℕ). IsKeyBelow l k) (sym (agree i within)) (p.below i before))
 
-      high : (i : ℕ) → place ≤ i → i < length index → IsBelow (g k.1) (g (get_or index i 0))
-      high i after within = subst (λ (l : List ℕ × ℕ). IsBelow (g k.1) l) (sym (agree i within)) (subst (λ (l : List ℕ × ℕ). IsBelow l (f (get_or index i 0))) (sym mine) (below_from k (f (get_or index i 0)) (other i within) (p.above i after within)))
+      high : (i : ℕ) → place ≤ i → i < length index → IsKeyBelow (g k.1) (g (get_or index i 0))
+      high i after within = subst (λ (l : List ℕ × ℕ). IsKeyBelow (g k.1) l) (sym (agree i within)) (subst (λ (l : List ℕ × ℕ). IsKeyBelow l (f (get_or index i 0))) (sym mine) (below_from k (f (get_or index i 0)) (other i within) (p.above i after within)))
 
-      before : j < place → IsBelow (g (get_or (insert index place k.1) i 0)) (g (get_or (insert index place k.1) j 0))
+      before : j < place → IsKeyBelow (g (get_or (insert index place k.1) i 0)) (g (get_or (insert index place k.1) j 0))
       before l = join g (get_or index i 0) (get_or index j 0) _ _ (get_or-insert_below index place k.1 0 i (omega arith) p.in_range) (get_or-insert_below index place k.1 0 j l p.in_range) (rises i j order (omega (arith, p.in_range)))
 
-      at : j ≡ place → IsBelow (g (get_or (insert index place k.1) i 0)) (g (get_or (insert index place k.1) j 0))
+      at : j ≡ place → IsKeyBelow (g (get_or (insert index place k.1) i 0)) (g (get_or (insert index place k.1) j 0))
       at e = join g (get_or index i 0) k.1 _ _ (get_or-insert_below index place k.1 0 i (omega arith) p.in_range) (subst (λ (x : ℕ). get_or (insert index place k.1) x 0 ≡ k.1) (sym e) (get_or-insert_at index place k.1 0 p.in_range)) (low i n (omega arith))
 
-      behind : place ≤ j → (j ≡ place → ⊥) → IsBelow (g (get_or (insert index place k.1) i 0)) (g (get_or (insert index place k.1) j 0))
+      behind : place ≤ j → (j ≡ place → ⊥) → IsKeyBelow (g (get_or (insert index place k.1) i 0)) (g (get_or (insert index place k.1) j 0))
       behind after ne =
           ⊎_elim (λ l. join g (get_or index i 0) (get_or index (j - 1) 0) _ _ (get_or-insert_below index place k.1 0 i l p.in_range) (up index place k.1 j p.in_range (omega arith)) (rises i (j - 1) (omega arith) (omega (arith, m))))
           (λ a. ⊎_elim (λ e. join g k.1 (get_or index (j - 1) 0) _ _ (subst (λ (x : ℕ). get_or (insert index place k.1) x 0 ≡ k.1) (sym e) (get_or-insert_at index place k.1 0 p.in_range)) (up index place k.1 j p.in_range (omega arith)) (high (j - 1) (omega arith) (omega (arith, m))))
@@ -94,8 +94,8 @@ lists-remove_this : (f : ℕ → List ℕ × ℕ) (xs : List ℕ) (place : ℕ) 
 lists-remove_this f xs place rising inside = ⊎_elim (λ h. absurd (twice (listed_at (remove xs place) (get_or xs place 0) h))) (λ e. e) (cases_Bool (lists (remove xs place) (get_or xs place 0))) where
   twice : Stands (remove xs place) (get_or xs place 0) → ⊥
   twice s =
-      ⊎_elim (λ l. not_below_itself (f (get_or xs place 0)) (subst (λ (x : ℕ). IsBelow (f x) (f (get_or xs place 0))) (sym (get_or-remove_below xs place 0 s.place l inside) ∙ s.here) (rising s.place place l inside)))
-      (λ l. not_below_itself (f (get_or xs place 0)) (subst (λ (x : ℕ). IsBelow (f (get_or xs place 0)) (f x)) (sym (get_or-remove_above xs place 0 s.place l inside) ∙ s.here) (rising place (s.place + 1) (omega arith) (omega (arith, s.within, length-remove xs place inside)))))
+      ⊎_elim (λ l. not_below_itself (f (get_or xs place 0)) (subst (λ (x : ℕ). IsKeyBelow (f x) (f (get_or xs place 0))) (sym (get_or-remove_below xs place 0 s.place l inside) ∙ s.here) (rising s.place place l inside)))
+      (λ l. not_below_itself (f (get_or xs place 0)) (subst (λ (x : ℕ). IsKeyBelow (f (get_or xs place 0)) (f x)) (sym (get_or-remove_above xs place 0 s.place l inside) ∙ s.here) (rising place (s.place + 1) (omega arith) (omega (arith, s.within, length-remove xs place inside)))))
       (cases_lt s.place place)
 
 pub at_lists : (xs : List ℕ) (i : ℕ) → i < length xs → lists xs (get_or xs i 0) ≡ true
@@ -122,7 +122,7 @@ is_there row rows a = ap is_some (row_at-with_row row rows a) ∙ by (row.addres
   by false = refl
 
 -- an address is given to an index of the others
-given : (rows : List Row) (row : Row) (old new : List ℕ) → Rises (key_at rows) old → Gives (key_at rows) old (row.client, row.address) new → ((a : ℕ) → lists old a ≡ (if row.address == a then false else is_some (row_at rows a))) → IsIndex (with_row row rows) new
+given : (rows : List Row) (row : Row) (old new : List ℕ) → Rises (key_at rows) old → PutsAt (key_at rows) old (row.client, row.address) new → ((a : ℕ) → lists old a ≡ (if row.address == a then false else is_some (row_at rows a))) → IsIndex (with_row row rows) new
 given rows row old new rising gives others = subst (IsIndex (with_row row rows)) (sym gives.2) (record { same = same; rising = rises }) where
   out : lists old row.address ≡ false
   out = others row.address ∙ rw (eq-eqb row.address row.address refl) refl
@@ -143,7 +143,7 @@ given rows row old new rising gives others = subst (IsIndex (with_row row rows))
   rises = rises_insert (key_at rows) (key_at (with_row row rows)) old (row.client, row.address) gives.0 rising gives.1 agree mine (λ i within e. not_there old row.address out i within (ap (λ (k : List ℕ × ℕ). k.1) e))
 
 -- the index after a new address is set
-pub new_index : (rows : List Row) (row : Row) (old new : List ℕ) → IsIndex rows old → row_at rows row.address ≡ None → Gives (key_at rows) old (row.client, row.address) new → IsIndex (with_row row rows) new
+pub new_index : (rows : List Row) (row : Row) (old new : List ℕ) → IsIndex rows old → row_at rows row.address ≡ None → PutsAt (key_at rows) old (row.client, row.address) new → IsIndex (with_row row rows) new
 new_index rows row old new indexed none gives = given rows row old new indexed.rising gives others where
   others : (a : ℕ) → lists old a ≡ (if row.address == a then false else is_some (row_at rows a))
   others a = indexed.same a ∙ by (row.address == a) refl where
@@ -164,7 +164,7 @@ moved_index rows row old new indexed moves = given rows row moves.0 new (rises_t
     by false e = lists-remove_other old moves.1.0 a moves.1.1 (subst (λ (x : ℕ). (x == a) ≡ false) (sym moves.1.2) e) ∙ indexed.same a
 
 rises_along : (f g : ℕ → List ℕ × ℕ) (index : List ℕ) → ((a : ℕ) → g a ≡ f a) → Rises f index → Rises g index
-rises_along f g index agree rising i j order within = subst (λ (l : List ℕ × ℕ). IsBelow (g (get_or index i 0)) l) (sym (agree (get_or index j 0))) (subst (λ (l : List ℕ × ℕ). IsBelow l (f (get_or index j 0))) (sym (agree (get_or index i 0))) (rising i j order within))
+rises_along f g index agree rising i j order within = subst (λ (l : List ℕ × ℕ). IsKeyBelow (g (get_or index i 0)) l) (sym (agree (get_or index j 0))) (subst (λ (l : List ℕ × ℕ). IsKeyBelow l (f (get_or index j 0))) (sym (agree (get_or index i 0))) (rising i j order within))
 
 -- the index after an address is set for the client that it has
 pub same_index : (rows : List Row) (row r : Row) (old : List ℕ) → IsIndex rows old → row_at rows row.address ≡ Some r → r.client ≡ row.client → IsIndex (with_row row rows) old
@@ -205,7 +205,7 @@ index_from rows slots numbers all numbered = record { same = same; rising = risi
   rising : Rises (key_at rows) (addresses_in slots numbers)
   rising i j order within =
       let n : j < length numbers = omega (arith, length-map numbers address) in
-      subst (λ (l : List ℕ × ℕ). IsBelow (key_at rows (get_or (addresses_in slots numbers) i 0)) l) (sym (at j n)) (subst (λ (l : List ℕ × ℕ). IsBelow l (key_in slots (get_or numbers j 0))) (sym (at i (omega arith))) (numbered.rising i j order n))
+      subst (λ (l : List ℕ × ℕ). IsKeyBelow (key_at rows (get_or (addresses_in slots numbers) i 0)) l) (sym (at j n)) (subst (λ (l : List ℕ × ℕ). IsKeyBelow l (key_in slots (get_or numbers j 0))) (sym (at i (omega arith))) (numbered.rising i j order n))
 
   found : (xs : List ℕ) (n : ℕ) → lists xs n ≡ true → lists (map address xs) (address n) ≡ true
   found xs n h = let s = listed_at xs n h in

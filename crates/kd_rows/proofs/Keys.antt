@@ -12,7 +12,7 @@ use Rattle.std.proofs.lemmas.List.Edits.{get_or-remove_above, get_or-remove_belo
 use Rattle.std.proofs.lemmas.Cmp.{on_total, then_total, tied_itself}
 use Rattle.std.proofs.lemmas.Map.Lookups.{exact_bytes, exact_pairs, exact_unsigned}
 use Rattle.kd_rows.specs.declared.row.Row.{Row}
-use Rattle.kd_rows.specs.Index.{IsAt, IsBelow, IsIndex, IsKeyPlace, Moves, Rises, client_at, client_in, lists, key_at, key_order}
+use Rattle.kd_rows.specs.Index.{IsRowPlace, IsKeyBelow, IsIndex, IsKeyPlace, Moves, Rises, client_at, client_in, lists, key_at, key_order}
 use Rattle.kd_rows.specs.Table.{row_at}
 
 pub keys_total : IsTotalOrder key_order
@@ -21,42 +21,42 @@ keys_total = then_total (on_total (λ (k : List ℕ × ℕ). k.0) nat_list_cmp_t
 pub same_keys : (k l : List ℕ × ℕ) → key_order k l ≡ Equal → k ≡ l
 same_keys = exact_pairs _ _ exact_bytes exact_unsigned
 
-pub below_trans : (k l m : List ℕ × ℕ) → IsBelow k l → IsBelow l m → IsBelow k m
+pub below_trans : (k l m : List ℕ × ℕ) → IsKeyBelow k l → IsKeyBelow l m → IsKeyBelow k m
 below_trans k l m = keys_total.trans k l m
 
-pub not_below_itself : (k : List ℕ × ℕ) → IsBelow k k → ⊥
+pub not_below_itself : (k : List ℕ × ℕ) → IsKeyBelow k k → ⊥
 not_below_itself k h = let e = tied_itself keys_total k in cc
 
 -- of two keys that are not the same one comes first
-pub below_from : (k l : List ℕ × ℕ) → (k ≡ l → ⊥) → (IsBelow l k → ⊥) → IsBelow k l
+pub below_from : (k l : List ℕ × ℕ) → (k ≡ l → ⊥) → (IsKeyBelow l k → ⊥) → IsKeyBelow k l
 below_from k l other not_above = by (key_order k l) refl where
-  by : (o : Ordering) → key_order k l ≡ o → IsBelow k l
+  by : (o : Ordering) → key_order k l ≡ o → IsKeyBelow k l
   by Less e = e
   by Equal e = absurd (other (same_keys k l e))
   by Greater e = absurd (not_above (keys_total.antisymm l k ∙ rw e refl))
 
 -- what a test of two keys says
-pub below_if : (k l : List ℕ × ℕ) → is_lt (key_order k l) ≡ true → IsBelow k l
+pub below_if : (k l : List ℕ × ℕ) → is_lt (key_order k l) ≡ true → IsKeyBelow k l
 below_if k l = by (key_order k l) where
   by : (o : Ordering) → is_lt o ≡ true → o ≡ Less
   by Less e = refl
   by Equal e = cc
   by Greater e = cc
 
-pub not_below_if : (k l : List ℕ × ℕ) → is_lt (key_order k l) ≡ false → IsBelow k l → ⊥
+pub not_below_if : (k l : List ℕ × ℕ) → is_lt (key_order k l) ≡ false → IsKeyBelow k l → ⊥
 not_below_if k l e h = let g = ap is_lt h in cc
 
 -- a half of the index is passed
-pub low_more : (key : ℕ → List ℕ × ℕ) (index : List ℕ) (k : List ℕ × ℕ) (middle : ℕ) → Rises key index → middle < length index → IsBelow (key (get_or index middle 0)) k → (i : ℕ) → i < middle + 1 → IsBelow (key (get_or index i 0)) k
+pub low_more : (key : ℕ → List ℕ × ℕ) (index : List ℕ) (k : List ℕ × ℕ) (middle : ℕ) → Rises key index → middle < length index → IsKeyBelow (key (get_or index middle 0)) k → (i : ℕ) → i < middle + 1 → IsKeyBelow (key (get_or index i 0)) k
 low_more key index k middle rising within here i before = by (cases_eq i middle) where
-  by : (i ≡ middle) ⊎ (i ≡ middle → ⊥) → IsBelow (key (get_or index i 0)) k
-  by (inl e) = subst (λ (j : ℕ). IsBelow (key (get_or index j 0)) k) (sym e) here
+  by : (i ≡ middle) ⊎ (i ≡ middle → ⊥) → IsKeyBelow (key (get_or index i 0)) k
+  by (inl e) = subst (λ (j : ℕ). IsKeyBelow (key (get_or index j 0)) k) (sym e) here
   by (inr n) = below_trans (key (get_or index i 0)) (key (get_or index middle 0)) k (rising i middle (omega arith) within) here
 
-pub high_less : (key : ℕ → List ℕ × ℕ) (index : List ℕ) (k : List ℕ × ℕ) (middle : ℕ) → Rises key index → (IsBelow (key (get_or index middle 0)) k → ⊥) → (i : ℕ) → middle ≤ i → i < length index → IsBelow (key (get_or index i 0)) k → ⊥
+pub high_less : (key : ℕ → List ℕ × ℕ) (index : List ℕ) (k : List ℕ × ℕ) (middle : ℕ) → Rises key index → (IsKeyBelow (key (get_or index middle 0)) k → ⊥) → (i : ℕ) → middle ≤ i → i < length index → IsKeyBelow (key (get_or index i 0)) k → ⊥
 high_less key index k middle rising here i after within h = by (cases_eq i middle) where
   by : (i ≡ middle) ⊎ (i ≡ middle → ⊥) → ⊥
-  by (inl e) = here (subst (λ (j : ℕ). IsBelow (key (get_or index j 0)) k) e h)
+  by (inl e) = here (subst (λ (j : ℕ). IsKeyBelow (key (get_or index j 0)) k) e h)
   by (inr n) = here (below_trans (key (get_or index middle 0)) (key (get_or index i 0)) k (rising middle i (omega arith) within) h)
 
 -- the key that a step of the search compares
@@ -81,9 +81,9 @@ pub key_here : (key : ℕ → List ℕ × ℕ) (index : List ℕ) (a place : ℕ
 key_here key index a place rising p h = by (listed_at index a h) where
   by : Stands index a → (place < length index) × (get_or index place 0 ≡ a)
   by s =
-      ⊎_elim (λ before. absurd (not_below_itself (key a) (subst (λ (x : ℕ). IsBelow (key x) (key a)) s.here (p.below s.place before))))
+      ⊎_elim (λ before. absurd (not_below_itself (key a) (subst (λ (x : ℕ). IsKeyBelow (key x) (key a)) s.here (p.below s.place before))))
       (λ after. ⊎_elim (λ e. let w : place < length index = omega (arith, s.within) in (w, subst (λ (j : ℕ). get_or index j 0 ≡ a) e s.here))
-      (λ n. absurd (p.above place (omega arith) (omega (arith, s.within)) (subst (λ (x : ℕ). IsBelow (key (get_or index place 0)) (key x)) s.here (rising place s.place (omega arith) s.within))))
+      (λ n. absurd (p.above place (omega arith) (omega (arith, s.within)) (subst (λ (x : ℕ). IsKeyBelow (key (get_or index place 0)) (key x)) s.here (rising place s.place (omega arith) s.within))))
       (cases_eq s.place place))
       (cases_lt s.place place)
 
@@ -93,11 +93,11 @@ place_left key index k from place inside p = by (nat_lt from place) refl where
   n : length (remove index from) + 1 ≡ length index
   n = length-remove index from inside
 
-  at : (i j : ℕ) → get_or (remove index from) i 0 ≡ get_or index j 0 → IsBelow (key (get_or index j 0)) k → IsBelow (key (get_or (remove index from) i 0)) k
-  at i j e h = subst (λ (x : ℕ). IsBelow (key x) k) (sym e) h
+  at : (i j : ℕ) → get_or (remove index from) i 0 ≡ get_or index j 0 → IsKeyBelow (key (get_or index j 0)) k → IsKeyBelow (key (get_or (remove index from) i 0)) k
+  at i j e h = subst (λ (x : ℕ). IsKeyBelow (key x) k) (sym e) h
 
-  off : (i j : ℕ) → get_or (remove index from) i 0 ≡ get_or index j 0 → (IsBelow (key (get_or index j 0)) k → ⊥) → IsBelow (key (get_or (remove index from) i 0)) k → ⊥
-  off i j e h g = h (subst (λ (x : ℕ). IsBelow (key x) k) e g)
+  off : (i j : ℕ) → get_or (remove index from) i 0 ≡ get_or index j 0 → (IsKeyBelow (key (get_or index j 0)) k → ⊥) → IsKeyBelow (key (get_or (remove index from) i 0)) k → ⊥
+  off i j e h g = h (subst (λ (x : ℕ). IsKeyBelow (key x) k) e g)
 
   by : (b : Bool) → nat_lt from place ≡ b → IsKeyPlace key (remove index from) k (if b then place - 1 else place)
   by true e = let l : from < place = grind (arith, nat_tests) in record {
@@ -125,7 +125,7 @@ left_within n from place inside le = by (nat_lt from place) refl where
   by false e = let l : place ≤ from = grind (arith, nat_tests) in omega arith
 
 -- the address of a row stands at the place of its key
-pub row_here : (rows : List Row) (index client : List ℕ) (a place from : ℕ) (row : Row) → IsIndex rows index → IsAt rows a place → row ≡ get_or rows place row → client ≡ row.client → IsKeyPlace (key_at rows) index (client, a) from → (from < length index) × (get_or index from 0 ≡ a)
+pub row_here : (rows : List Row) (index client : List ℕ) (a place from : ℕ) (row : Row) → IsIndex rows index → IsRowPlace rows a place → row ≡ get_or rows place row → client ≡ row.client → IsKeyPlace (key_at rows) index (client, a) from → (from < length index) × (get_or index from 0 ≡ a)
 row_here rows index client a place from row indexed at is of p = key_here (key_at rows) index a from indexed.rising (subst (λ (c : List ℕ). IsKeyPlace (key_at rows) index (c, a) from) (of ∙ sym (ap client_in there)) p) (indexed.same a ∙ ap is_some there) where
   there : row_at rows a ≡ Some row
   there = at.found row ∙ ap Some (sym is)

@@ -11,8 +11,8 @@ use Rattle.std.proofs.lemmas.Cmp.{tied_itself}
 use Rattle.std.proofs.lemmas.List.{get_or-drop, length-drop}
 use Rattle.std.proofs.lemmas.Map.Lookups.{exact_bytes}
 use Rattle.kd_rows.specs.declared.row.Row.{Row}
-use Rattle.kd_rows.specs.Index.{IsBelow, IsIndex, IsKeyPlace, Rises, client_at, client_in, lists, key_at}
-use Rattle.kd_rows.specs.Table.{Rise, RiseFrom, addresses_of, is_of, row_at}
+use Rattle.kd_rows.specs.Index.{IsKeyBelow, IsIndex, IsKeyPlace, Rises, client_at, client_in, lists, key_at}
+use Rattle.kd_rows.specs.Table.{Rise, RiseFrom, addresses_of, belongs_to, row_at}
 use Rattle.kd_rows.proofs.Places.{none_below}
 
 -- numbers that rise from n on
@@ -76,7 +76,7 @@ lists-addresses client n [] a rise = by (pointwise nat_eq [] client) where
   by true = refl
   by false = refl
 lists-addresses client n (r ∷ rows) a rise =
-    by (r.address == a) (is_of client r) refl refl (lists-addresses client (r.address + 1) rows a rise.1) (λ e. none_below (r.address + 1) rows a rise.1 (omega (arith, e))) where
+    by (r.address == a) (belongs_to client r) refl refl (lists-addresses client (r.address + 1) rows a rise.1) (λ e. none_below (r.address + 1) rows a rise.1 (omega (arith, e))) where
       both : (b : Bool) (o : Option Row) → o ≡ None → (b && is_some o) ≡ false
       both true o e = ap is_some e
       both false o e = refl
@@ -85,8 +85,8 @@ lists-addresses client n (r ∷ rows) a rise =
       right true = refl
       right false = refl
 
-      by : (t b : Bool) → (r.address == a) ≡ t → is_of client r ≡ b → lists (addresses_of client rows) a ≡ (owns rows client a && is_some (row_at rows a)) → (r.address ≡ a → row_at rows a ≡ None)
-          → lists (map (λ (row : Row). row.address) (if b then r ∷ filter (is_of client) rows else filter (is_of client) rows)) a ≡ (pointwise nat_eq (client_in (if t then Some r else row_at rows a)) client && is_some (if t then Some r else row_at rows a))
+      by : (t b : Bool) → (r.address == a) ≡ t → belongs_to client r ≡ b → lists (addresses_of client rows) a ≡ (owns rows client a && is_some (row_at rows a)) → (r.address ≡ a → row_at rows a ≡ None)
+          → lists (map (λ (row : Row). row.address) (if b then r ∷ filter (belongs_to client) rows else filter (belongs_to client) rows)) a ≡ (pointwise nat_eq (client_in (if t then Some r else row_at rows a)) client && is_some (if t then Some r else row_at rows a))
       by true true t e h none = rw (t, e) refl
       by true false t e h none = h ∙ (both (owns rows client a) (row_at rows a) (none (eqb-true r.address a t)) ∙ rw e refl)
       by false true t e h none = rw t h
@@ -94,13 +94,13 @@ lists-addresses client n (r ∷ rows) a rise =
 
 pub addresses_ascend : (client : List ℕ) (n : ℕ) (rows : List Row) → RiseFrom n rows → Ascends n (addresses_of client rows)
 addresses_ascend client n [] rise = tt
-addresses_ascend client n (r ∷ rows) rise = by (is_of client r) (addresses_ascend client (r.address + 1) rows rise.1) where
-  by : (b : Bool) → Ascends (r.address + 1) (addresses_of client rows) → Ascends n (map (λ (row : Row). row.address) (if b then r ∷ filter (is_of client) rows else filter (is_of client) rows))
+addresses_ascend client n (r ∷ rows) rise = by (belongs_to client r) (addresses_ascend client (r.address + 1) rows rise.1) where
+  by : (b : Bool) → Ascends (r.address + 1) (addresses_of client rows) → Ascends n (map (λ (row : Row). row.address) (if b then r ∷ filter (belongs_to client) rows else filter (belongs_to client) rows))
   by true h = (rise.0, h)
   by false h = let g = rise.0 in ascends_from n (r.address + 1) (addresses_of client rows) (omega arith) h
 
 -- of two keys of one client the lesser address comes first
-pub same_client : (c d : List ℕ) (a b : ℕ) → c ≡ d → IsBelow (c, a) (d, b) → a < b
+pub same_client : (c d : List ℕ) (a b : ℕ) → c ≡ d → IsKeyBelow (c, a) (d, b) → a < b
 same_client c d a b e h = less a b (sym (ap (λ (o : Ordering). ordering_then o (nat_cmp a b)) (subst (λ (x : List ℕ). slice_cmp nat_cmp c x ≡ Equal) e (tied_itself nat_list_cmp_total c))) ∙ h) where
   less : (a b : ℕ) → nat_cmp a b ≡ Less → a < b
   less a b h = grind (arith, nat_tests)
@@ -165,7 +165,7 @@ addresses_are rows index client rise indexed =
     (λ a. lists-addresses client 0 rows a rise ∙ sym (lists-filter (owns rows client) index a ∙ ap (λ (b : Bool). owns rows client a && b) (indexed.same a)))
 
 -- a key that is not below a client's first, but below one of its, is the client's
-pub not_again : (c client : List ℕ) (x y : ℕ) → (IsBelow (c, x) (client, 0) → ⊥) → IsBelow (c, x) (client, y) → c ≡ client
+pub not_again : (c client : List ℕ) (x y : ℕ) → (IsKeyBelow (c, x) (client, 0) → ⊥) → IsKeyBelow (c, x) (client, y) → c ≡ client
 not_again c client x y first second = by (slice_cmp nat_cmp c client) refl where
   by : (o : Ordering) → slice_cmp nat_cmp c client ≡ o → c ≡ client
   by Less e = absurd (first (rw e refl))
@@ -183,7 +183,7 @@ none_behind rows index client start rising p i j from order within out = ⊎_eli
   same own =
       let theirs = (bytes_decides (client_at rows (get_or index j 0)) client).0 own in
       not_again (client_at rows (get_or index i 0)) client (get_or index i 0) (get_or index j 0) (p.above i from (omega arith))
-      (subst (λ (c : List ℕ). IsBelow (client_at rows (get_or index i 0), get_or index i 0) (c, get_or index j 0)) theirs (rising i j order within))
+      (subst (λ (c : List ℕ). IsKeyBelow (client_at rows (get_or index i 0), get_or index i 0) (c, get_or index j 0)) theirs (rising i j order within))
 
 -- the addresses of a client begin at the place of its first key
 pub from_start : (rows : List Row) (index : List ℕ) (client : List ℕ) (start : ℕ) → Rise rows → IsIndex rows index → IsKeyPlace (key_at rows) index (client, 0) start → addresses_of client rows ≡ filter (owns rows client) (drop start index)

@@ -8,7 +8,7 @@ use Rattle.std.proofs.lemmas.Option.{slice_get_cases}
 use Rattle.kd_rows.specs.declared.row.Row.{Row}
 use Rattle.kd_rows.specs.Row.{IsInRange}
 use Rattle.kd_rows.specs.Table.{IsNext, Rise, RiseFrom, row_at}
-use Rattle.kd_rows.specs.Index.{IsAt, IsPlace}
+use Rattle.kd_rows.specs.Index.{IsRowPlace, IsPlace}
 
 -- rows that rise from n on stand there or above
 pub from_on : (n : ℕ) (rows : List Row) → RiseFrom n rows → (i : ℕ) (d : Row) → i < length rows → n + i ≤ (get_or rows i d).address
@@ -94,7 +94,7 @@ absent_at rows a place rise p other = none_at rows a by where
         omega arith
 
 -- a row at its place is found there
-pub is_at : (rows : List Row) (a place : ℕ) → Rise rows → place < length rows → ((d : Row) → (get_or rows place d).address ≡ a) → IsAt rows a place
+pub is_at : (rows : List Row) (a place : ℕ) → Rise rows → place < length rows → ((d : Row) → (get_or rows place d).address ≡ a) → IsRowPlace rows a place
 is_at rows a place rise within here = record {
   in_range = within;
   here = here;

@@ -5,7 +5,7 @@ use Rattle.std.proofs.lemmas.Bool.{cases_lt, eq-eqb, eqb-true, le-ltb}
 use Rattle.std.proofs.lemmas.Bool.Decides.{nat_tests}
 use Rattle.std.proofs.lemmas.Option.{same_Some}
 use Rattle.kd_rows.specs.declared.row.Row.{Row}
-use Rattle.kd_rows.specs.Index.{IsAt, IsPlace}
+use Rattle.kd_rows.specs.Index.{IsRowPlace, IsPlace}
 use Rattle.kd_rows.specs.Row.{IsInRange}
 use Rattle.kd_rows.specs.Table.{Rise, RiseFrom, latest_of, row_at, with_row}
 use Rattle.kd_rows.proofs.Places.{none_below}
@@ -42,7 +42,7 @@ replaced_at row (r ∷ rows) (suc place) within below here =
     grind (arith, nat_tests)
 
 -- a row takes the place of the one at its address
-pub replaced : (row : Row) (rows : List Row) (place : ℕ) → IsAt rows row.address place → with_row row rows ≡ set rows place row
+pub replaced : (row : Row) (rows : List Row) (place : ℕ) → IsRowPlace rows row.address place → with_row row rows ≡ set rows place row
 replaced row rows place at = replaced_at row rows place at.in_range at.below at.here
 
 pub rise_from-with_row : (row : Row) (n : ℕ) (rows : List Row) → n ≤ row.address → RiseFrom n rows → RiseFrom n (with_row row rows)

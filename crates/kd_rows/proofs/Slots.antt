@@ -7,7 +7,7 @@ use Rattle.std.proofs.lemmas.List.{drop-map, get_or-map, get_or-set_other, get_o
 use Rattle.std.proofs.lemmas.List.Edits.{length-insert}
 use Rattle.std.proofs.lemmas.List.Elements.{All-push}
 use Rattle.kd_rows.specs.declared.row.Row.{Row}
-use Rattle.kd_rows.specs.Index.{IsAt, IsByAddress, IsByClient, IsPlace, IsStored, addresses_in, lists, row_in, rows_in}
+use Rattle.kd_rows.specs.Index.{IsRowPlace, IsByAddress, IsByClient, IsPlace, IsStored, addresses_in, lists, row_in, rows_in}
 use Rattle.kd_rows.specs.Table.{Rise, row_at, with_row}
 use Rattle.kd_rows.proofs.Indexes.{lists-append, lists-insert, numbered_within}
 use Rattle.kd_rows.proofs.Keys.{Stands, listed_at}
@@ -66,12 +66,12 @@ set_in slots numbers place row sorted within = same_lists _ _ lengths at where
         ∙ sym (get_or-set_other (rows_in slots numbers) place k row d other)
 
 -- the same, of a place that is that of the row's address
-pub replaced_in : (slots : List Row) (numbers : List ℕ) (place : ℕ) (row : Row) → IsByAddress slots numbers → IsAt (rows_in slots numbers) row.address place → rows_in (set slots (get_or numbers place 0) row) numbers ≡ with_row row (rows_in slots numbers)
+pub replaced_in : (slots : List Row) (numbers : List ℕ) (place : ℕ) (row : Row) → IsByAddress slots numbers → IsRowPlace (rows_in slots numbers) row.address place → rows_in (set slots (get_or numbers place 0) row) numbers ≡ with_row row (rows_in slots numbers)
 replaced_in slots numbers place row sorted at =
     set_in slots numbers place row sorted (omega (arith, at.in_range, length-map numbers (row_in slots))) ∙ sym (replaced row (rows_in slots numbers) place at)
 
 -- the invariant after a row is overwritten
-pub replaced_sorted : (slots : List Row) (numbers : List ℕ) (place : ℕ) (row : Row) → row.address < 2 ^ 32 → IsByAddress slots numbers → IsAt (rows_in slots numbers) row.address place → IsByAddress (set slots (get_or numbers place 0) row) numbers
+pub replaced_sorted : (slots : List Row) (numbers : List ℕ) (place : ℕ) (row : Row) → row.address < 2 ^ 32 → IsByAddress slots numbers → IsRowPlace (rows_in slots numbers) row.address place → IsByAddress (set slots (get_or numbers place 0) row) numbers
 replaced_sorted slots numbers place row low sorted at =
     let is = sym (replaced_in slots numbers place row sorted at) in
     let n = length-set slots (get_or numbers place 0) row in
@@ -84,12 +84,12 @@ replaced_sorted slots numbers place row low sorted at =
     }
 
 -- the rows after one is overwritten, by what was read
-pub replaced_now : (slots rows : List Row) (numbers : List ℕ) (place number : ℕ) (row : Row) → IsByAddress slots numbers → rows_in slots numbers ≡ rows → number ≡ get_or numbers place number → IsAt rows row.address place → IsByAddress (set slots number row) numbers × (rows_in (set slots number row) numbers ≡ with_row row rows)
+pub replaced_now : (slots rows : List Row) (numbers : List ℕ) (place number : ℕ) (row : Row) → IsByAddress slots numbers → rows_in slots numbers ≡ rows → number ≡ get_or numbers place number → IsRowPlace rows row.address place → IsByAddress (set slots number row) numbers × (rows_in (set slots number row) numbers ≡ with_row row rows)
 replaced_now slots rows numbers place number row sorted are is at_place = subst
     (λ (n : ℕ). IsByAddress (set slots n row) numbers × (rows_in (set slots n row) numbers ≡ with_row row rows)) (sym (is ∙ get_or_default numbers place number 0 within))
     (replaced_sorted slots numbers place row low sorted at, replaced_in slots numbers place row sorted at ∙ ap (with_row row) are) where
-      at : IsAt (rows_in slots numbers) row.address place
-      at = subst (λ (rs : List Row). IsAt rs row.address place) (sym are) at_place
+      at : IsRowPlace (rows_in slots numbers) row.address place
+      at = subst (λ (rs : List Row). IsRowPlace rs row.address place) (sym are) at_place
 
       within : place < length numbers
       within = omega (arith, at.in_range, length-map numbers (row_in slots))
@@ -302,13 +302,13 @@ pub within_by_client : (slots : List Row) (numbers : List ℕ) → IsByClient sl
 within_by_client slots numbers numbered k d inside = subst (λ (n : ℕ). n < length slots) (get_or_default numbers k 0 d inside) (numbered_within slots numbers numbered k inside)
 
 -- the invariant after a row is overwritten
-pub replaced_stored : (slots rows : List Row) (by_address by_client : List ℕ) (place number : ℕ) (row : Row) → IsStored slots by_address by_client → rows_in slots by_address ≡ rows → number ≡ get_or by_address place number → IsAt rows row.address place → IsStored (set slots number row) by_address by_client
+pub replaced_stored : (slots rows : List Row) (by_address by_client : List ℕ) (place number : ℕ) (row : Row) → IsStored slots by_address by_client → rows_in slots by_address ≡ rows → number ≡ get_or by_address place number → IsRowPlace rows row.address place → IsStored (set slots number row) by_address by_client
 replaced_stored slots rows by_address by_client place number row stored are is at =
     let n = length-set slots number row in
     record { sorted = (replaced_now slots rows by_address place number row stored.sorted are is at).0; within = λ k d inside. let h = stored.within k d inside in omega (arith, h, n) }
 
 -- and its index
-pub replaced_index : (slots rows : List Row) (by_address by_client : List ℕ) (place number : ℕ) (row : Row) → IsStored slots by_address by_client → rows_in slots by_address ≡ rows → number ≡ get_or by_address place number → IsAt rows row.address place → addresses_in (set slots number row) by_client ≡ addresses_in slots by_client
+pub replaced_index : (slots rows : List Row) (by_address by_client : List ℕ) (place number : ℕ) (row : Row) → IsStored slots by_address by_client → rows_in slots by_address ≡ rows → number ≡ get_or by_address place number → IsRowPlace rows row.address place → addresses_in (set slots number row) by_client ≡ addresses_in slots by_client
 replaced_index slots rows by_address by_client place number row stored are is at = same_addresses slots by_client number row (subst (λ (n : ℕ). n < length slots) (sym this) (stored.sorted.within place 0 inside))
     (sym (at.here row) ∙ ap (λ (rs : List Row). (get_or rs place row).address) (sym are) ∙ ap (λ (r : Row). r.address) (row_of_place slots by_address place row inside ∙ ap (row_in slots) (sym this))) where
       inside : place < length by_address

@@ -12,7 +12,7 @@ use Rattle.std.proofs.lemmas.List.FromFn.{get_or-range_with_len, length-range_wi
 use Rattle.std.proofs.lemmas.List.Sorted.{All-permutation, list_any-IsPermutation}
 use Rattle.std.proofs.lemmas.Map.Keys.{IsDistinct-IsPermutation, IsDistinct-from_apart, apart_from_distinct}
 use Rattle.kd_rows.specs.declared.row.Row.{Row}
-use Rattle.kd_rows.specs.Index.{AreKeys, IsBelow, IsByClient, Rises, key_in, key_order, lists, row_in}
+use Rattle.kd_rows.specs.Index.{AreKeys, IsKeyBelow, IsByClient, Rises, key_in, key_order, lists, row_in}
 use Rattle.kd_rows.specs.Table.{Rise}
 use Rattle.kd_rows.proofs.Indexes.{at_lists}
 use Rattle.kd_rows.proofs.Keys.{below_from, below_trans}
@@ -34,17 +34,17 @@ any_of number (x ∷ keys) n = by (number x == n) (any_of number keys n) where
   by false h = h
 
 -- each key below the next: below all behind
-rises_by_steps : (f : ℕ → List ℕ × ℕ) (xs : List ℕ) → ((k : ℕ) → k + 1 < length xs → IsBelow (f (get_or xs k 0)) (f (get_or xs (k + 1) 0))) → Rises f xs
+rises_by_steps : (f : ℕ → List ℕ × ℕ) (xs : List ℕ) → ((k : ℕ) → k + 1 < length xs → IsKeyBelow (f (get_or xs k 0)) (f (get_or xs (k + 1) 0))) → Rises f xs
 rises_by_steps f xs steps i zero order within = absurd (omega arith)
 rises_by_steps f xs steps i (suc j) order within = ⊎_elim
-    (λ e. subst (λ (n : ℕ). IsBelow (f (get_or xs n 0)) (f (get_or xs (suc j) 0))) (sym e) last)
+    (λ e. subst (λ (n : ℕ). IsKeyBelow (f (get_or xs n 0)) (f (get_or xs (suc j) 0))) (sym e) last)
     (λ n. below_trans (f (get_or xs i 0)) (f (get_or xs j 0)) (f (get_or xs (suc j) 0)) (rises_by_steps f xs steps i j (omega arith) (omega arith)) last)
     (cases_eq i j) where
       next : j + 1 ≡ suc j
       next = omega arith
 
-      last : IsBelow (f (get_or xs j 0)) (f (get_or xs (suc j) 0))
-      last = subst (λ (n : ℕ). IsBelow (f (get_or xs j 0)) (f (get_or xs n 0))) next (steps j (omega arith))
+      last : IsKeyBelow (f (get_or xs j 0)) (f (get_or xs (suc j) 0))
+      last = subst (λ (n : ℕ). IsKeyBelow (f (get_or xs j 0)) (f (get_or xs n 0))) next (steps j (omega arith))
 
 -- a row is at one place alone
 pub one : (slots : List Row) → Rise slots → (n m : ℕ) → n < length slots → m < length slots → (row_in slots n).address ≡ (row_in slots m).address → n ≡ m
@@ -86,7 +86,7 @@ keys_apart {X} key number slots count keys are = IsDistinct-from_apart (λ x y. 
 abbrev pub whole_order : List ℕ × ℕ → ℕ → List ℕ × ℕ → ℕ → Ordering
 whole_order k n l m = ordering_then (key_order k l) (nat_cmp n m)
 
-below_whole : (k l : List ℕ × ℕ) (n m : ℕ) → IsBelow k l → is_lt (whole_order k n l m) ≡ true
+below_whole : (k l : List ℕ × ℕ) (n m : ℕ) → IsKeyBelow k l → is_lt (whole_order k n l m) ≡ true
 below_whole k l n m below = rw below refl
 
 -- the numbers of sorted keys
@@ -111,7 +111,7 @@ sorted_numbers {X} key number slots keys sorted rise are moved order = record { 
     below : (a b : ℕ) → nat_lt a b ≡ true → a < b
     below a b h = grind (arith, nat_tests)
 
-  step : (k : ℕ) (d : X) → k + 1 < length sorted → IsBelow (key (get_or sorted k d)) (key (get_or sorted (k + 1) d))
+  step : (k : ℕ) (d : X) → k + 1 < length sorted → IsKeyBelow (key (get_or sorted k d)) (key (get_or sorted (k + 1) d))
   step k d inside = below_from (key x) (key y) other above where
     x : X
     x = get_or sorted k d
@@ -119,7 +119,7 @@ sorted_numbers {X} key number slots keys sorted rise are moved order = record { 
     y : X
     y = get_or sorted (k + 1) d
 
-    above : IsBelow (key y) (key x) → ⊥
+    above : IsKeyBelow (key y) (key x) → ⊥
     above h = false≢true (sym (order k d (omega arith) inside) ∙ below_whole (key y) (key x) (number y) (number x) h)
 
     other : key x ≡ key y → ⊥
@@ -127,12 +127,12 @@ sorted_numbers {X} key number slots keys sorted rise are moved order = record { 
         let same_address : (row_in slots (number x)).address ≡ (row_in slots (number y)).address = ap (λ (l : List ℕ × ℕ). l.1) (sym (keyed k d (omega arith)) ∙ e ∙ keyed (k + 1) d inside) in
         false≢true (sym (apart_from_distinct (λ x y. number x == number y) sorted k (k + 1) d apart_sorted (omega arith) inside) ∙ eq-eqb (number x) (number y) (one slots rise (number x) (number y) (within k d (omega arith)) (within (k + 1) d inside) same_address))
 
-  steps : (k : ℕ) → k + 1 < length (map number sorted) → IsBelow (key_in slots (get_or (map number sorted) k 0)) (key_in slots (get_or (map number sorted) (k + 1) 0))
+  steps : (k : ℕ) → k + 1 < length (map number sorted) → IsKeyBelow (key_in slots (get_or (map number sorted) k 0)) (key_in slots (get_or (map number sorted) (k + 1) 0))
   steps k inside = by sorted refl where
-    by : (xs : List X) → sorted ≡ xs → IsBelow (key_in slots (get_or (map number sorted) k 0)) (key_in slots (get_or (map number sorted) (k + 1) 0))
+    by : (xs : List X) → sorted ≡ xs → IsKeyBelow (key_in slots (get_or (map number sorted) k 0)) (key_in slots (get_or (map number sorted) (k + 1) 0))
     by [] e = absurd (omega (arith, length-map sorted number, ap length e))
     by (d ∷ xs) e =
         let n : k + 1 < length sorted = omega (arith, length-map sorted number) in
         let this : key (get_or sorted k d) ≡ key_in slots (get_or (map number sorted) k 0) = keyed k d (omega arith) ∙ ap (key_in slots) (sym (get_or-map number sorted k d 0 (omega arith))) in
         let next : key (get_or sorted (k + 1) d) ≡ key_in slots (get_or (map number sorted) (k + 1) 0) = keyed (k + 1) d n ∙ ap (key_in slots) (sym (get_or-map number sorted (k + 1) d 0 n)) in
-        subst (λ (l : List ℕ × ℕ). IsBelow l (key_in slots (get_or (map number sorted) (k + 1) 0))) this (subst (λ (l : List ℕ × ℕ). IsBelow (key (get_or sorted k d)) l) next (step k d n))
+        subst (λ (l : List ℕ × ℕ). IsKeyBelow l (key_in slots (get_or (map number sorted) (k + 1) 0))) this (subst (λ (l : List ℕ × ℕ). IsKeyBelow (key (get_or sorted k d)) l) next (step k d n))

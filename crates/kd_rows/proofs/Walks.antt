@@ -3,7 +3,7 @@ use Rattle.std.proofs.Common.{◌≡◌, ℕ, ◌+◌, ◌*◌, ◌<◌, ◌≤�
 use Rattle.std.specs.List.{All}
 use Rattle.std.proofs.lemmas.Bool.{cases_eq, cases_lt}
 use Rattle.kd_rows.specs.declared.row.Row.{Row}
-use Rattle.kd_rows.specs.Index.{IsBounded, IsPlace, block_of}
+use Rattle.kd_rows.specs.Index.{IsBounded, IsPlace, block_number}
 use Rattle.kd_rows.specs.Table.{IsNextEnded, Rise, row_at}
 use Rattle.kd_rows.proofs.Bounds.{row_all}
 use Rattle.kd_rows.proofs.Places.{apart, is_at, none_at, read_at}
@@ -77,53 +77,53 @@ none_early rows first last moment least all early a row from to found =
 
 -- none of the rows from an address to another whose blocks stand before a place has ended
 abbrev pub NoneOf : List Row → List Row → ℕ → ℕ → ℕ → ℕ → Type 0
-NoneOf rows bounds first last moment place = (a : ℕ) (row : Row) → first ≤ a → a ≤ last → IsBelowFrom bounds (block_of a) place → row_at rows a ≡ Some row → moment < row.ends
+NoneOf rows bounds first last moment place = (a : ℕ) (row : Row) → first ≤ a → a ≤ last → IsBelowFrom bounds (block_number a) place → row_at rows a ≡ Some row → moment < row.ends
 
 -- the block of an address that has a row has a bound, at most the row's end
-has_bound : (rows bounds : List Row) (a : ℕ) (row : Row) → IsBounded rows bounds → row_at rows a ≡ Some row → (bound : Row) × (row_at bounds (block_of a) ≡ Some bound) × (bound.ends ≤ row.ends)
-has_bound rows bounds a row b found = by (row_at bounds (block_of a)) refl (subst (λ (n : ℕ). IsSome (row_at bounds (block_of n))) has.1 has.0) where
-  has : IsSome (row_at bounds (block_of row.address)) × (row.address ≡ a)
-  has = row_all (λ (r : Row). IsSome (row_at bounds (block_of r.address))) rows a row b.has found
+has_bound : (rows bounds : List Row) (a : ℕ) (row : Row) → IsBounded rows bounds → row_at rows a ≡ Some row → (bound : Row) × (row_at bounds (block_number a) ≡ Some bound) × (bound.ends ≤ row.ends)
+has_bound rows bounds a row b found = by (row_at bounds (block_number a)) refl (subst (λ (n : ℕ). IsSome (row_at bounds (block_number n))) has.1 has.0) where
+  has : IsSome (row_at bounds (block_number row.address)) × (row.address ≡ a)
+  has = row_all (λ (r : Row). IsSome (row_at bounds (block_number r.address))) rows a row b.has found
 
-  by : (o : Option Row) → row_at bounds (block_of a) ≡ o → IsSome o → (bound : Row) × (row_at bounds (block_of a) ≡ Some bound) × (bound.ends ≤ row.ends)
+  by : (o : Option Row) → row_at bounds (block_number a) ≡ o → IsSome o → (bound : Row) × (row_at bounds (block_number a) ≡ Some bound) × (bound.ends ≤ row.ends)
   by None e some = cc
-  by (Some bound) e some = (bound, e, (row_all (λ (r : Row). block_of r.address ≡ block_of a → bound.ends ≤ r.ends) rows a row (b.least (block_of a) bound e) found).0 (ap block_of has.1))
+  by (Some bound) e some = (bound, e, (row_all (λ (r : Row). block_number r.address ≡ block_number a → bound.ends ≤ r.ends) rows a row (b.least (block_number a) bound e) found).0 (ap block_number has.1))
 
-pub blocks_first : (rows bounds : List Row) (first last moment place : ℕ) → IsBounded rows bounds → IsPlace bounds (block_of first) place → NoneOf rows bounds first last moment place
+pub blocks_first : (rows bounds : List Row) (first last moment place : ℕ) → IsBounded rows bounds → IsPlace bounds (block_number first) place → NoneOf rows bounds first last moment place
 blocks_first rows bounds first last moment place b p a row from to above found =
     let has = has_bound rows bounds a row b found in
-    let none : row_at bounds (block_of a) ≡ None = nowhere bounds (block_of a) place (λ i d before within. let h = p.below i d before in omega arith) above in
+    let none : row_at bounds (block_number a) ≡ None = nowhere bounds (block_number a) place (λ i d before within. let h = p.below i d before in omega arith) above in
     absurd (nothing (sym none ∙ has.1)) where
       nothing : None ≡ Some (has_bound rows bounds a row b found).0 → ⊥
       nothing e = cc
 
 -- what is left of the search where a block's rows have not ended, from the first address to the last
 pub blocks_step : (rows bounds : List Row) (first last moment place : ℕ) (bound : Row) → IsBounded rows bounds → place < length bounds → bound ≡ get_or bounds place bound
-    → ((a : ℕ) (row : Row) → first ≤ a → a ≤ last → block_of a ≡ bound.address → row_at rows a ≡ Some row → moment < row.ends) → NoneOf rows bounds first last moment place → NoneOf rows bounds first last moment (place + 1)
-blocks_step rows bounds first last moment place bound b within is here h a row from to above found = by (around bounds place (block_of a) bound b.rise within is above) where
-  has : (bound : Row) × (row_at bounds (block_of a) ≡ Some bound) × (bound.ends ≤ row.ends)
+    → ((a : ℕ) (row : Row) → first ≤ a → a ≤ last → block_number a ≡ bound.address → row_at rows a ≡ Some row → moment < row.ends) → NoneOf rows bounds first last moment place → NoneOf rows bounds first last moment (place + 1)
+blocks_step rows bounds first last moment place bound b within is here h a row from to above found = by (around bounds place (block_number a) bound b.rise within is above) where
+  has : (bound : Row) × (row_at bounds (block_number a) ≡ Some bound) × (bound.ends ≤ row.ends)
   has = has_bound rows bounds a row b found
 
-  nothing : (x : Row) → row_at bounds (block_of a) ≡ None → row_at bounds (block_of a) ≡ Some x → ⊥
+  nothing : (x : Row) → row_at bounds (block_number a) ≡ None → row_at bounds (block_number a) ≡ Some x → ⊥
   nothing x e f = cc
 
-  by : IsBelowFrom bounds (block_of a) place ⊎ ((block_of a ≡ bound.address) ⊎ (row_at bounds (block_of a) ≡ None)) → moment < row.ends
+  by : IsBelowFrom bounds (block_number a) place ⊎ ((block_number a ≡ bound.address) ⊎ (row_at bounds (block_number a) ≡ None)) → moment < row.ends
   by (inl below) = h a row from to below found
   by (inr (inl e)) = here a row from to e found
   by (inr (inr none)) = absurd (nothing has.0 none has.1)
 
 -- a block whose bound is behind a moment: none of its rows has ended
 pub block_live : (rows bounds : List Row) (first last moment place : ℕ) (bound : Row) → IsBounded rows bounds → place < length bounds → bound ≡ get_or bounds place bound → moment < bound.ends
-    → (a : ℕ) (row : Row) → first ≤ a → a ≤ last → block_of a ≡ bound.address → row_at rows a ≡ Some row → moment < row.ends
+    → (a : ℕ) (row : Row) → first ≤ a → a ≤ last → block_number a ≡ bound.address → row_at rows a ≡ Some row → moment < row.ends
 block_live rows bounds first last moment place bound b within is live a row from to at found =
-    let e : row_at bounds (block_of a) ≡ Some bound = subst (λ (n : ℕ). row_at bounds n ≡ Some bound) (sym at) (found_here bounds place bound b.rise within is) in
-    let h = row_all (λ (r : Row). block_of r.address ≡ block_of a → bound.ends ≤ r.ends) rows a row (b.least (block_of a) bound e) found in
-    let low : bound.ends ≤ row.ends = h.0 (ap block_of h.1) in
+    let e : row_at bounds (block_number a) ≡ Some bound = subst (λ (n : ℕ). row_at bounds n ≡ Some bound) (sym at) (found_here bounds place bound b.rise within is) in
+    let h = row_all (λ (r : Row). block_number r.address ≡ block_number a → bound.ends ≤ r.ends) rows a row (b.least (block_number a) bound e) found in
+    let low : bound.ends ≤ row.ends = h.0 (ap block_number h.1) in
     omega arith
 
 -- a block whose rows were looked at, where none has ended
 pub block_none : (rows : List Row) (first last from to moment block : ℕ) → from ≤ max first (block * 64) → min last (block * 64 + 63) ≤ to → IsNextEnded rows from to moment None
-    → (a : ℕ) (row : Row) → first ≤ a → a ≤ last → block_of a ≡ block → row_at rows a ≡ Some row → moment < row.ends
+    → (a : ℕ) (row : Row) → first ≤ a → a ≤ last → block_number a ≡ block → row_at rows a ≡ Some row → moment < row.ends
 block_none rows first last from to moment block low high none a row f t at found = none a row (omega (arith, at)) (omega (arith, at)) found
 
 -- a row of a block that has ended, where none of the blocks before has one
@@ -135,14 +135,14 @@ block_found rows bounds first last from to moment place bound row b within is lo
   omega (arith, found.2),
   found.3,
   λ a other f less there. ⊎_elim
-      (λ l. h a other f (omega (arith, found.2)) (below_here bounds place (block_of a) bound b.rise within is l) there)
+      (λ l. h a other f (omega (arith, found.2)) (below_here bounds place (block_number a) bound b.rise within is l) there)
       (λ l. found.4 a other (omega (arith, l)) less there)
-      (cases_lt (block_of a) bound.address),
+      (cases_lt (block_number a) bound.address),
 )
 
 -- the search ends where a block is above that of the last address, or there are no more
-pub blocks_past : (rows bounds : List Row) (first last moment place : ℕ) (bound : Row) → IsBounded rows bounds → place < length bounds → bound ≡ get_or bounds place bound → block_of last < bound.address → NoneOf rows bounds first last moment place → IsNextEnded rows first last moment None
-blocks_past rows bounds first last moment place bound b within is past h a row from to found = h a row from to (below_here bounds place (block_of a) bound b.rise within is (omega (arith, past))) found
+pub blocks_past : (rows bounds : List Row) (first last moment place : ℕ) (bound : Row) → IsBounded rows bounds → place < length bounds → bound ≡ get_or bounds place bound → block_number last < bound.address → NoneOf rows bounds first last moment place → IsNextEnded rows first last moment None
+blocks_past rows bounds first last moment place bound b within is past h a row from to found = h a row from to (below_here bounds place (block_number a) bound b.rise within is (omega (arith, past))) found
 
 pub blocks_over : (rows bounds : List Row) (first last moment place : ℕ) → length bounds ≤ place → NoneOf rows bounds first last moment place → IsNextEnded rows first last moment None
 blocks_over rows bounds first last moment place all h a row from to found = h a row from to (λ i d after inside. absurd (omega arith)) found

@@ -25,8 +25,8 @@ abbrev pub key_order : List ℕ × ℕ → List ℕ × ℕ → Ordering
 key_order k l = ordering_then (slice_cmp nat_cmp k.0 l.0) (nat_cmp k.1 l.1)
 
 -- a key comes before another
-abbrev pub IsBelow : List ℕ × ℕ → List ℕ × ℕ → Type 0
-IsBelow k l = key_order k l ≡ Less
+abbrev pub IsKeyBelow : List ℕ × ℕ → List ℕ × ℕ → Type 0
+IsKeyBelow k l = key_order k l ≡ Less
 
 -- what an address of the index is ordered by
 abbrev pub key_at : List Row → ℕ → List ℕ × ℕ
@@ -34,7 +34,7 @@ key_at rows a = (client_at rows a, a)
 
 -- the addresses stand in the order of their keys
 abbrev pub Rises : (ℕ → List ℕ × ℕ) → List ℕ → Type 0
-Rises key index = (i j : ℕ) → i < j → j < length index → IsBelow (key (slice_index index i)) (key (slice_index index j))
+Rises key index = (i j : ℕ) → i < j → j < length index → IsKeyBelow (key (slice_index index i)) (key (slice_index index j))
 
 -- a list has an address
 abbrev pub lists : List ℕ → ℕ → Bool
@@ -92,8 +92,8 @@ pub record AreKeys {X : Type 0} (key : X → List ℕ × ℕ) (number : X → �
   pub keyed : All (λ x. key x ≡ key_in slots (number x)) keys
 
 -- the block of an address, of 64 addresses
-abbrev pub block_of : ℕ → ℕ
-block_of a = a / 64
+abbrev pub block_number : ℕ → ℕ
+block_number a = a / 64
 
 -- a bound as a row: its block for an address, and the bound for an end
 abbrev pub bound_row : Bound → Row
@@ -110,12 +110,12 @@ end_at rows a = option_map (λ row. row.ends) (row_at rows a)
 
 -- no row of a block ends before a moment
 abbrev pub IsBound : List Row → ℕ → ℕ → Type 0
-IsBound rows block least = All (λ row. block_of row.address ≡ block → least ≤ row.ends) rows
+IsBound rows block least = All (λ row. block_number row.address ≡ block → least ≤ row.ends) rows
 
 -- the block of each row has a bound, and each bound is one of its block
 pub record IsBounded (rows bounds : List Row) : Type 0 where
   pub rise : Rise bounds
-  pub has : All (λ row. IsSome (row_at bounds (block_of row.address))) rows
+  pub has : All (λ row. IsSome (row_at bounds (block_number row.address))) rows
   pub least : (block : ℕ) (bound : Row) → row_at bounds block ≡ Some bound → IsBound rows block bound.ends
 
 -- what is left of a bound is at most that bound, and at most the end of the row that is set
@@ -146,7 +146,7 @@ pub record IsPlace (rows : List Row) (a place : ℕ) : Type 0 where
   pub above : (i : ℕ) (d : Row) → place ≤ i → i < length rows → a ≤ (slice_index_or rows i d).address
 
 -- a place is that of the row of an address
-pub record IsAt (rows : List Row) (a place : ℕ) : Type 0 where
+pub record IsRowPlace (rows : List Row) (a place : ℕ) : Type 0 where
   pub in_range : place < length rows
   pub here : (d : Row) → (slice_index_or rows place d).address ≡ a
   pub found : (d : Row) → row_at rows a ≡ Some (slice_index_or rows place d)
@@ -155,17 +155,17 @@ pub record IsAt (rows : List Row) (a place : ℕ) : Type 0 where
 -- the place of the row of an address, or that it has none
 abbrev pub IsFound : List Row → ℕ → Option ℕ → Type 0
 IsFound rows a None = row_at rows a ≡ None
-IsFound rows a (Some place) = IsAt rows a place
+IsFound rows a (Some place) = IsRowPlace rows a place
 
 -- the addresses before a place have keys below k, and those from it on do not
 pub record IsKeyPlace (key : ℕ → List ℕ × ℕ) (index : List ℕ) (k : List ℕ × ℕ) (place : ℕ) : Type 0 where
   pub in_range : place ≤ length index
-  pub below : (i : ℕ) → i < place → IsBelow (key (slice_index index i)) k
-  pub above : (i : ℕ) → place ≤ i → i < length index → IsBelow (key (slice_index index i)) k → ⊥
+  pub below : (i : ℕ) → i < place → IsKeyBelow (key (slice_index index i)) k
+  pub above : (i : ℕ) → place ≤ i → i < length index → IsKeyBelow (key (slice_index index i)) k → ⊥
 
 -- an address is put at the place of its key
-abbrev pub Gives : (ℕ → List ℕ × ℕ) → List ℕ → List ℕ × ℕ → List ℕ → Type 0
-Gives key old k new = (place : ℕ) × IsKeyPlace key old k place × (new ≡ insert old place k.1)
+abbrev pub PutsAt : (ℕ → List ℕ × ℕ) → List ℕ → List ℕ × ℕ → List ℕ → Type 0
+PutsAt key old k new = (place : ℕ) × IsKeyPlace key old k place × (new ≡ insert old place k.1)
 
 -- an address is taken from its place
 abbrev pub Takes : List ℕ → ℕ → List ℕ → Type 0
@@ -173,4 +173,4 @@ Takes old a new = (place : ℕ) × (place < length old) × (slice_index old plac
 
 -- an address is taken from its place, and put at that of another key
 abbrev pub Moves : (ℕ → List ℕ × ℕ) → List ℕ → List ℕ × ℕ → List ℕ → Type 0
-Moves key old k new = (between : List ℕ) × Takes old k.1 between × Gives key between k new
+Moves key old k new = (between : List ℕ) × Takes old k.1 between × PutsAt key between k new

@@ -41,16 +41,16 @@ least_of [] = 2 ^ 64 - 1
 least_of (row ∷ rows) = min row.ends (least_of rows)
 
 -- a row is this client's
-abbrev pub is_of : List ℕ → Row → Bool
-is_of client row = pointwise nat_eq row.client client
+abbrev pub belongs_to : List ℕ → Row → Bool
+belongs_to client row = pointwise nat_eq row.client client
 
 -- the addresses of a client's rows, rising
 abbrev pub addresses_of : List ℕ → List Row → List ℕ
-addresses_of client rows = map (λ row. row.address) (filter (is_of client) rows)
+addresses_of client rows = map (λ row. row.address) (filter (belongs_to client) rows)
 
 -- a row can be set without memory
-abbrev pub spare : Table → Row → Bool
-spare table row = is_some (row_at table.rows row.address) || nat_lt 0 table.room
+abbrev pub room_for_row : Table → Row → Bool
+room_for_row table row = is_some (row_at table.rows row.address) || nat_lt 0 table.room
 
 -- the least address from first to last that has no row, or that each has one
 abbrev pub IsFirstGap : List Row → ℕ → ℕ → Option ℕ → Type 0

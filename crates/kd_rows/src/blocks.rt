@@ -1,5 +1,5 @@
 ghost use Rattle.std.specs.Prelude.{◌≡◌, ◌+◌, ◌<◌, [], length, None, OnOk, is_some, if◌then◌else◌, slice_index_or};
-ghost use Rattle.kd_rows.specs.Index.{IsBound, IsBounded, IsLower, IsNow, IsPlace, block_of, bound_row, end_at};
+ghost use Rattle.kd_rows.specs.Index.{IsBound, IsBounded, IsLower, IsNow, IsPlace, block_number, bound_row, end_at};
 ghost use Rattle.kd_rows.specs.Table.{Rise, row_at, with_row};
 
 use crate::sorted::Sorted;
@@ -11,7 +11,7 @@ pub(crate) const BLOCK: u32 = 64;
 
 // The block of an address.
 pub(crate) fn block_of(address: u32) -> u32
-    ensures { result ≡ block_of address }
+    ensures { result ≡ block_number address }
 {
     address / BLOCK
 }
@@ -131,7 +131,7 @@ impl Blocks {
 // The least end of the rows in the block of an address, the greatest of all moments without rows.
 pub(crate) fn least_beside(rows: &Sorted, address: u32) -> u64
     requires { Rise rows.now.rows }
-    ensures { IsBound rows.now.rows (block_of address) result }
+    ensures { IsBound rows.now.rows (block_number address) result }
 {
     let block = block_of(address);
     let mut least = u64::MAX;
@@ -184,7 +184,7 @@ pub(crate) fn kept_bound(held: Option<u64>, replaced: Option<u64>, ends: u64) ->
 // The bound of the block of an address: what is left of it, or the least end of its rows.
 pub(crate) fn bound_now(rows: &Sorted, address: u32, kept: Option<u64>) -> u64
     requires { Rise rows.now.rows }
-    ensures { IsNow rows.now.rows (block_of address) kept result }
+    ensures { IsNow rows.now.rows (block_number address) kept result }
 {
     match kept {
         Some(least) => least,

@@ -1,5 +1,5 @@
 ghost use Rattle.std.specs.Prelude.{◌≡◌, ◌+◌, ◌-◌, ◌<◌, None, is_some, if◌then◌else◌, nat_lt};
-ghost use Rattle.kd_rows.specs.Index.{IsAt, IsIndex, Moves, key_at};
+ghost use Rattle.kd_rows.specs.Index.{IsRowPlace, IsIndex, Moves, key_at};
 ghost use Rattle.kd_rows.specs.Table.{Rise, row_at, with_row};
 
 use crate::find::find;
@@ -27,7 +27,7 @@ pub(crate) fn put_row(rows: &mut Sorted, row: Row)
         }
         None => {
             let key = key_place(rows, row.client.as_slice(), row.address);
-            rows.insert(key, row);
+            rows.insert_row(key, row);
         }
     }
 }
@@ -35,7 +35,7 @@ pub(crate) fn put_row(rows: &mut Sorted, row: Row)
 // Moves the address of a row to the place of the index that it has under another client.
 fn give_client(rows: &mut Sorted, place: usize, client: &[u8], address: u32)
     requires indexed { IsIndex rows.old.rows rows.old.index }
-    requires at { IsAt rows.old.rows address place }
+    requires at { IsRowPlace rows.old.rows address place }
     ensures rows { rows.new.rows ≡ rows.old.rows }
     ensures moved { Moves (key_at rows.old.rows) rows.old.index (client.now, address) rows.new.index }
     ensures room { rows.new.room ≡ rows.old.room }

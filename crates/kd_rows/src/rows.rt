@@ -3,7 +3,7 @@ ghost use Rattle.std.specs.List.{All};
 ghost use Rattle.std.specs.Option.{option_copied};
 ghost use Rattle.kd_rows.specs.Row.{IsInRange};
 ghost use Rattle.kd_rows.specs.Index.{end_at};
-ghost use Rattle.kd_rows.specs.Table.{IsFirstGap, IsNext, IsNextEnded, Rise, addresses_of, latest_of, least_of, row_at, spare, with_row};
+ghost use Rattle.kd_rows.specs.Table.{IsFirstGap, IsNext, IsNextEnded, Rise, addresses_of, latest_of, least_of, row_at, room_for_row, with_row};
 
 use crate::blocks::{Blocks, Bound, block_of, bound_all, bound_now, kept_bound};
 use crate::ended::next_ended;
@@ -166,7 +166,7 @@ impl Rows {
 
     /// Whether a row can be set without memory: its address has one, or there is room for one more.
     pub fn spare(&self, row: &Row) -> bool
-        ensures { result ≡ spare self.now row.now }
+        ensures { result ≡ room_for_row self.now row.now }
     {
         find(&self.rows, row.address).is_some() || self.room > 0
     }
@@ -179,8 +179,8 @@ impl Rows {
     pub fn reserve(&mut self, row: &Row) -> Result<(), AllocError>
         ensures rows { self.new.rows ≡ self.old.rows }
         ensures least { self.new.least ≡ self.old.least }
-        ensures spare { OnOk result (spare self.new row.now ≡ true) }
-        ensures needed { OnErr result (spare self.old row.now ≡ false) }
+        ensures spare { OnOk result (room_for_row self.new row.now ≡ true) }
+        ensures needed { OnErr result (room_for_row self.old row.now ≡ false) }
     {
         if !self.spare(row) {
             self.rows.reserve()?;
@@ -193,7 +193,7 @@ impl Rows {
     /// Sets a row: in place of the row of its address, or where that address belongs. No memory is
     /// taken.
     pub fn set(&mut self, row: Row)
-        requires spare { spare self.old row ≡ true }
+        requires spare { room_for_row self.old row ≡ true }
         requires changed { latest_of self.old.rows ≤ row.changed }
         requires range { IsInRange row }
         ensures rows { self.new.rows ≡ with_row row self.old.rows }

@@ -1,7 +1,7 @@
 ghost use Rattle.std.specs.Prelude.{◌≡◌, ◌+◌, ◌<◌, ◌≤◌, length, IfOk, None, OnOk, Some, slice_get, slice_index, slice_index_or, vec_capacity, vec_len};
 ghost use Rattle.std.specs.List.{insert, remove};
 ghost use Rattle.std.specs.Option.{option_copied};
-ghost use Rattle.kd_rows.specs.Index.{IsAt, IsIndex, IsPlace};
+ghost use Rattle.kd_rows.specs.Index.{IsRowPlace, IsIndex, IsPlace};
 ghost use Rattle.kd_rows.specs.Table.{Rise, row_at, with_row};
 
 use crate::numbers::{number_of, numbers_by_address, numbers_by_client};
@@ -129,7 +129,7 @@ impl Sorted {
 
     // Sets a row in place of the one at its address.
     pub(crate) fn replace(&mut self, place: usize, row: Row)
-        requires { IsAt self.old.rows row.address place }
+        requires { IsRowPlace self.old.rows row.address place }
         ensures rows { self.new.rows ≡ with_row row self.old.rows }
         ensures index { self.new.index ≡ self.old.index }
         ensures room { self.new.room ≡ self.old.room }
@@ -151,7 +151,7 @@ impl Sorted {
     }
 
     // Puts a row where its address belongs, and its address at a place of the index.
-    pub(crate) fn insert(&mut self, key: usize, row: Row)
+    pub(crate) fn insert_row(&mut self, key: usize, row: Row)
         requires none { row_at self.old.rows row.address ≡ None }
         requires key { key ≤ length self.old.index }
         requires room { 0 < self.old.room }

@@ -7,22 +7,22 @@ use Rattle.kd_config.specs.declared.subnet.Subnet.{Subnet}
 use Rattle.kd_event.specs.declared.reason.Reason.{Reason}
 use Rattle.kd_event.specs.declared.reason.Reason.TheVariants as reasons
 use Rattle.kd_lease.proofs.Held.{no_rank, not_renewed, not_usable}
-use Rattle.kd_lease.specs.Choice.{Asking, has_such, is_held_by, is_holding, is_live, requested_of}
+use Rattle.kd_lease.specs.Choice.{Asking, has_such, held_row, holding_state, live_row, requested_address}
 use Rattle.kd_lease.specs.Laws.{IsAnothers}
-use Rattle.kd_lease.specs.Rules.{GivesUp, InSubnet, Informs, IsNewest, IsQuiet, OnDiscover, OnNamed, OnOther, OnRenew, OnRequest, OnSelect, Sets, UnlessOther, WithAsked, WithCiaddr, declined, is_bound, is_held_at, is_leased, is_offer, is_offered, leased, names_other, offered, released, renewed_of, server_of, subnet_for}
+use Rattle.kd_lease.specs.Rules.{GivesUpLease, InSubnet, Informs, IsNewest, IsQuiet, OnDiscover, OnNamed, OnOther, OnRenew, OnRequest, OnSelect, Sets, UnlessOther, WithAsked, WithCiaddr, declined_row, bound_state, held_at, leased_to, offered_to, offered_state, leased_row, other_server, offered_row, released_row, renewed_address, named_server, serving_subnet}
 use Rattle.kd_lease.specs.declared.planned.Planned.{Planned}
 use Rattle.kd_lease.specs.declared.planned.Planned.TheVariants as plans
 use Rattle.kd_options.specs.Kind.{type_number}
 use Rattle.kd_options.specs.declared.kind.MessageType.{MessageType}
 use Rattle.kd_options.specs.declared.kind.MessageType.TheVariants as types
-use Rattle.kd_rows.specs.Table.{is_of, row_at}
+use Rattle.kd_rows.specs.Table.{belongs_to, row_at}
 use Rattle.kd_rows.specs.declared.row.Row.{Row}
 use Rattle.kd_rows.specs.declared.row.State.TheVariants as states
 
 -- the row of an address is a live lease
 pub record IsLease (q : Asking) (a : ℕ) (row : Row) : Type 0 where
   pub there : row_at q.rows a ≡ Some row
-  pub live : is_live q.now row ≡ true
+  pub live : live_row q.now row ≡ true
   pub bound : row.state ≡ states.Bound
 
 -- a type of messages by which a client gives an address up
@@ -31,8 +31,8 @@ IsGivingUp type = (type ≡ types.Release) ⊎ (type ≡ types.Decline)
 
 -- a row may be set in place of a lease: by its client, which leases the address anew or gives it up
 pub record MayReplace (q : Asking) (type : MessageType) (row held : Row) : Type 0 where
-  pub own : is_of q.client held ≡ true
-  pub how : (row ≡ leased q row.address) ⊎ (IsGivingUp type × (is_bound row.state ≡ false))
+  pub own : belongs_to q.client held ≡ true
+  pub how : (row ≡ leased_row q row.address) ⊎ (IsGivingUp type × (bound_state row.state ≡ false))
 
 -- a row may be set whatever lease stands at its address
 abbrev pub MaySet : Asking → MessageType → Row → Type 0
@@ -42,8 +42,8 @@ MaySet q type row = (held : Row) → IsLease q row.address held → MayReplace q
 abbrev pub MaySetIt : Asking → MessageType → Option Row → Type 0
 MaySetIt q type set = (row : Row) → set ≡ Some row → MaySet q type row
 
-own_if : (q : Asking) (a : ℕ) (held : Row) → IsLease q a held → (IsAnothers q a held → ⊥) → is_of q.client held ≡ true
-own_if q a held l none = true_from_ne_false (is_of q.client held) (λ e. none (record { there = l.there; live = l.live; other = e }))
+own_if : (q : Asking) (a : ℕ) (held : Row) → IsLease q a held → (IsAnothers q a held → ⊥) → belongs_to q.client held ≡ true
+own_if q a held l none = true_from_ne_false (belongs_to q.client held) (λ e. none (record { there = l.there; live = l.live; other = e }))
 
 none_set : (q : Asking) (type : MessageType) (set : Option Row) → set ≡ None → MaySetIt q type set
 none_set q type set none row e = absurd (none-some row (sym none ∙ e))
@@ -51,31 +51,31 @@ none_set q type set none row e = absurd (none-some row (sym none ∙ e))
 one_set : (q : Asking) (type : MessageType) (set : Option Row) (row : Row) → set ≡ Some row → MaySet q type row → MaySetIt q type set
 one_set q type set row is may r e = let same : row ≡ r = cc in subst (MaySet q type) same may
 
-leases : (q : Asking) (type : MessageType) (a : ℕ) → ((held : Row) → IsAnothers q a held → ⊥) → MaySet q type (leased q a)
+leases : (q : Asking) (type : MessageType) (a : ℕ) → ((held : Row) → IsAnothers q a held → ⊥) → MaySet q type (leased_row q a)
 leases q type a fair held l = record { own = own_if q a held l (fair held); how = inl refl }
 
 -- an address that the client chose and leases is offered without a row
-offers : (q : Asking) (type : MessageType) (a : ℕ) → ((held : Row) → IsAnothers q a held → ⊥) → is_leased q a ≡ false → MaySet q type (offered q a)
+offers : (q : Asking) (type : MessageType) (a : ℕ) → ((held : Row) → IsAnothers q a held → ⊥) → leased_to q a ≡ false → MaySet q type (offered_row q a)
 offers q type a fair not held l =
     let own = own_if q a held l (fair held) in
-    let bound : is_bound held.state ≡ true = ap is_bound l.bound in
-    let there : is_leased q a ≡ true = ap (has_such (λ row. is_live q.now row && (is_of q.client row && is_bound row.state))) l.there
-    ∙ and_from (is_live q.now held) (is_of q.client held && is_bound held.state) l.live (and_from (is_of q.client held) (is_bound held.state) own bound) in
+    let bound : bound_state held.state ≡ true = ap bound_state l.bound in
+    let there : leased_to q a ≡ true = ap (has_such (λ row. live_row q.now row && (belongs_to q.client row && bound_state row.state))) l.there
+    ∙ and_from (live_row q.now held) (belongs_to q.client held && bound_state held.state) l.live (and_from (belongs_to q.client held) (bound_state held.state) own bound) in
     absurd (false≢true (sym not ∙ there))
 
 -- what the client holds is its own
-held_own : (q : Asking) (a : ℕ) (held : Row) → is_held_at q a ≡ true → row_at q.rows a ≡ Some held → is_of q.client held ≡ true
+held_own : (q : Asking) (a : ℕ) (held : Row) → held_at q a ≡ true → row_at q.rows a ≡ Some held → belongs_to q.client held ≡ true
 held_own q a held h there =
-    let e : (is_live q.now held && (is_of q.client held && is_holding held.state)) ≡ true = sym (ap (has_such (is_held_by q)) there) ∙ h in
-    (and_parts (is_of q.client held) (is_holding held.state) (and_parts (is_live q.now held) (is_of q.client held && is_holding held.state) e).1).0
+    let e : (live_row q.now held && (belongs_to q.client held && holding_state held.state)) ≡ true = sym (ap (has_such (held_row q)) there) ∙ h in
+    (and_parts (belongs_to q.client held) (holding_state held.state) (and_parts (live_row q.now held) (belongs_to q.client held && holding_state held.state) e).1).0
 
 -- an offer is no lease
-offer_unbound : (q : Asking) (a : ℕ) (held : Row) → is_offer q a ≡ true → IsLease q a held → ⊥
+offer_unbound : (q : Asking) (a : ℕ) (held : Row) → offered_to q a ≡ true → IsLease q a held → ⊥
 offer_unbound q a held h l =
-    let e : (is_live q.now held && (is_of q.client held && is_offered held.state)) ≡ true
-    = sym (ap (has_such (λ row. is_live q.now row && (is_of q.client row && is_offered row.state))) l.there) ∙ h in
-    let offered : is_offered held.state ≡ true = (and_parts (is_of q.client held) (is_offered held.state) (and_parts (is_live q.now held) (is_of q.client held && is_offered held.state) e).1).1 in
-    false≢true (sym (ap is_offered l.bound) ∙ offered)
+    let e : (live_row q.now held && (belongs_to q.client held && offered_state held.state)) ≡ true
+    = sym (ap (has_such (λ row. live_row q.now row && (belongs_to q.client row && offered_state row.state))) l.there) ∙ h in
+    let offered_row : offered_state held.state ≡ true = (and_parts (belongs_to q.client held) (offered_state held.state) (and_parts (live_row q.now held) (belongs_to q.client held && offered_state held.state) e).1).1 in
+    false≢true (sym (ap offered_state l.bound) ∙ offered_row)
 
 in_subnet : (P : Type 0) (o : Option Subnet) (Does : Subnet → Option Row → Planned → Type 0) (set : Option Row) (planned : Planned)
     → ((reason : Reason) → IsQuiet reason set planned → P) → ((s : Subnet) → Does s set planned → P) → InSubnet o Does set planned → P
@@ -98,18 +98,18 @@ unless_other P true Does set planned quiet each h = quiet _ h
 unless_other P false Does set planned quiet each h = each h
 
 gives_up : (P : Type 0) (b : Bool) (row : Row) (done : Reason) (set : Option Row) (planned : Planned)
-    → ((reason : Reason) → IsQuiet reason set planned → P) → (b ≡ true → set ≡ Some row → planned ≡ plans.Quiet done → P) → GivesUp b row done set planned → P
+    → ((reason : Reason) → IsQuiet reason set planned → P) → (b ≡ true → set ≡ Some row → planned ≡ plans.Quiet done → P) → GivesUpLease b row done set planned → P
 gives_up P true row done set planned quiet each h = each refl h.0 h.1
 gives_up P false row done set planned quiet each h = quiet _ h
 
 discovered : (q : Asking) (s : Subnet) (set : Option Row) (planned : Planned) → OnDiscover q s set planned → MaySetIt q types.Discover set
-discovered q s set (plans.Offer a) h = by (is_leased q a) refl h.1 where
+discovered q s set (plans.Offer a) h = by (leased_to q a) refl h.1 where
   fair : (held : Row) → IsAnothers q a held → ⊥
   fair held other = false≢true (sym (no_rank q s h.0.rank a held other) ∙ h.0.first.ranked)
 
-  by : (b : Bool) → is_leased q a ≡ b → set ≡ (if b then None else Some (offered q a)) → MaySetIt q types.Discover set
+  by : (b : Bool) → leased_to q a ≡ b → set ≡ (if b then None else Some (offered_row q a)) → MaySetIt q types.Discover set
   by true not e = none_set q types.Discover set e
-  by false not e = one_set q types.Discover set (offered q a) e (offers q types.Discover a fair not)
+  by false not e = one_set q types.Discover set (offered_row q a) e (offers q types.Discover a fair not)
 discovered q s set (plans.Ack a) h = absurd h
 discovered q s set plans.Nak h = absurd h
 discovered q s set plans.Inform h = absurd h
@@ -118,7 +118,7 @@ discovered q s set (plans.Quiet reason) h = none_set q types.Discover set h.1
 selected : (q : Asking) (s : Subnet) (asked : ℕ) (set : Option Row) (planned : Planned) → OnSelect q s asked set planned → MaySetIt q types.Request set
 selected q s asked set (plans.Offer a) h = absurd h
 selected q s asked set (plans.Ack a) h =
-    one_set q types.Request set (leased q a) h.2 (leases q types.Request a (λ held other. false≢true (sym (not_usable q s a held other) ∙ h.1)))
+    one_set q types.Request set (leased_row q a) h.2 (leases q types.Request a (λ held other. false≢true (sym (not_usable q s a held other) ∙ h.1)))
 selected q s asked set plans.Nak h = none_set q types.Request set h.1
 selected q s asked set plans.Inform h = absurd h
 selected q s asked set (plans.Quiet reason) h = absurd h
@@ -126,77 +126,77 @@ selected q s asked set (plans.Quiet reason) h = absurd h
 renewed : (q : Asking) (s : Subnet) (asked : ℕ) (set : Option Row) (planned : Planned) → OnRenew q s asked set planned → MaySetIt q types.Request set
 renewed q s asked set (plans.Offer a) h = absurd h
 renewed q s asked set (plans.Ack a) h =
-    one_set q types.Request set (leased q a) h.3 (leases q types.Request a (λ held other. false≢true (sym (not_renewed q s a held other) ∙ h.2)))
+    one_set q types.Request set (leased_row q a) h.3 (leases q types.Request a (λ held other. false≢true (sym (not_renewed q s a held other) ∙ h.2)))
 renewed q s asked set plans.Nak h = none_set q types.Request set h.1
 renewed q s asked set plans.Inform h = absurd h
 renewed q s asked set (plans.Quiet reason) h = none_set q types.Request set h.2
 
 given_back : (q : Asking) (set : Option Row) (planned : Planned) → OnOther q set planned → MaySetIt q types.Request set
 given_back q set planned h = by h.0.0 h.0.1 h.0.2 where
-  by : (offer : Option ℕ) → IsNewest q.rows (is_offer q) offer → set ≡ option_map (released q) offer → MaySetIt q types.Request set
+  by : (offer : Option ℕ) → IsNewest q.rows (offered_to q) offer → set ≡ option_map (released_row q) offer → MaySetIt q types.Request set
   by None newest e = none_set q types.Request set e
-  by (Some a) newest e = one_set q types.Request set (released q a) e (λ held l. absurd (offer_unbound q a held newest.0 l))
+  by (Some a) newest e = one_set q types.Request set (released_row q a) e (λ held l. absurd (offer_unbound q a held newest.0 l))
 
 named : (q : Asking) (b : Bool) (set : Option Row) (planned : Planned) → OnNamed q b set planned → MaySetIt q types.Request set
 named q true set planned h =
-    with_asked (MaySetIt q types.Request set) (requested_of q.message) (λ a. InSubnet (subnet_for q) (λ s. OnSelect q s a)) set planned (λ reason g. none_set q types.Request set g.0)
-    (λ a g. in_subnet (MaySetIt q types.Request set) (subnet_for q) (λ s. OnSelect q s a) set planned (λ reason f. none_set q types.Request set f.0) (λ s f. selected q s a set planned f) g) h
+    with_asked (MaySetIt q types.Request set) (requested_address q.message) (λ a. InSubnet (serving_subnet q) (λ s. OnSelect q s a)) set planned (λ reason g. none_set q types.Request set g.0)
+    (λ a g. in_subnet (MaySetIt q types.Request set) (serving_subnet q) (λ s. OnSelect q s a) set planned (λ reason f. none_set q types.Request set f.0) (λ s f. selected q s a set planned f) g) h
 named q false set planned h = given_back q set planned h
 
 requested : (q : Asking) (server : Option ℕ) (set : Option Row) (planned : Planned) → OnRequest q server set planned → MaySetIt q types.Request set
 requested q None set planned h =
-    with_asked (MaySetIt q types.Request set) (renewed_of q.message) (λ a. InSubnet (subnet_for q) (λ s. OnRenew q s a)) set planned (λ reason g. none_set q types.Request set g.0)
-    (λ a g. in_subnet (MaySetIt q types.Request set) (subnet_for q) (λ s. OnRenew q s a) set planned (λ reason f. none_set q types.Request set f.0) (λ s f. renewed q s a set planned f) g) h
+    with_asked (MaySetIt q types.Request set) (renewed_address q.message) (λ a. InSubnet (serving_subnet q) (λ s. OnRenew q s a)) set planned (λ reason g. none_set q types.Request set g.0)
+    (λ a g. in_subnet (MaySetIt q types.Request set) (serving_subnet q) (λ s. OnRenew q s a) set planned (λ reason f. none_set q types.Request set f.0) (λ s f. renewed q s a set planned f) g) h
 requested q (Some server) set planned h = named q _ set planned h
 
-given_up : (q : Asking) (type : MessageType) (a : ℕ) (row : Row) (done : Reason) (set : Option Row) (planned : Planned) → IsGivingUp type → row.address ≡ a → is_bound row.state ≡ false
-    → GivesUp (is_held_at q a) row done set planned → MaySetIt q type set
+given_up : (q : Asking) (type : MessageType) (a : ℕ) (row : Row) (done : Reason) (set : Option Row) (planned : Planned) → IsGivingUp type → row.address ≡ a → bound_state row.state ≡ false
+    → GivesUpLease (held_at q a) row done set planned → MaySetIt q type set
 given_up q type a row done set planned giving at unbound h =
-    gives_up (MaySetIt q type set) (is_held_at q a) row done set planned (λ reason g. none_set q type set g.0)
+    gives_up (MaySetIt q type set) (held_at q a) row done set planned (λ reason g. none_set q type set g.0)
     (λ holds is quiet. one_set q type set row is (λ held l. record { own = held_own q a held holds (ap (row_at q.rows) (sym at) ∙ l.there); how = inr (giving, unbound) })) h
 
 -- the row that a message sets may be set, whatever lease stands at its address
 pub may_set : (q : Asking) (type : MessageType) (set : Option Row) (planned : Planned) → Sets q type set planned → MaySetIt q type set
 may_set q types.Discover set planned h =
-    in_subnet (MaySetIt q types.Discover set) (subnet_for q) (OnDiscover q) set planned (λ reason g. none_set q types.Discover set g.0) (λ s g. discovered q s set planned g) h
+    in_subnet (MaySetIt q types.Discover set) (serving_subnet q) (OnDiscover q) set planned (λ reason g. none_set q types.Discover set g.0) (λ s g. discovered q s set planned g) h
 may_set q types.Offer set planned h = none_set q types.Offer set h.0
-may_set q types.Request set planned h = requested q (server_of q.message) set planned h
+may_set q types.Request set planned h = requested q (named_server q.message) set planned h
 may_set q types.Decline set planned h =
-    unless_other (MaySetIt q types.Decline set) (names_other q.config.server (server_of q.message)) (WithAsked (requested_of q.message) (λ a. GivesUp (is_held_at q a) (declined q a) reasons.Declined)) set planned (λ reason g. none_set q types.Decline set g.0)
-    (λ g. with_asked (MaySetIt q types.Decline set) (requested_of q.message) (λ a. GivesUp (is_held_at q a) (declined q a) reasons.Declined) set planned (λ reason f. none_set q types.Decline set f.0)
-    (λ a f. given_up q types.Decline a (declined q a) reasons.Declined set planned (inr refl) refl refl f) g) h
+    unless_other (MaySetIt q types.Decline set) (other_server q.config.server (named_server q.message)) (WithAsked (requested_address q.message) (λ a. GivesUpLease (held_at q a) (declined_row q a) reasons.Declined)) set planned (λ reason g. none_set q types.Decline set g.0)
+    (λ g. with_asked (MaySetIt q types.Decline set) (requested_address q.message) (λ a. GivesUpLease (held_at q a) (declined_row q a) reasons.Declined) set planned (λ reason f. none_set q types.Decline set f.0)
+    (λ a f. given_up q types.Decline a (declined_row q a) reasons.Declined set planned (inr refl) refl refl f) g) h
 may_set q types.Ack set planned h = none_set q types.Ack set h.0
 may_set q types.Nak set planned h = none_set q types.Nak set h.0
 may_set q types.Release set planned h =
     let a = q.message.header.ciaddr in
-    unless_other (MaySetIt q types.Release set) (names_other q.config.server (server_of q.message)) (WithCiaddr (a == 0) (GivesUp (is_held_at q a) (released q a) reasons.Released)) set planned (λ reason g. none_set q types.Release set g.0)
-    (λ g. with_ciaddr (MaySetIt q types.Release set) (a == 0) (GivesUp (is_held_at q a) (released q a) reasons.Released) set planned (λ reason f. none_set q types.Release set f.0)
-    (λ f. given_up q types.Release a (released q a) reasons.Released set planned (inl refl) refl refl f) g) h
+    unless_other (MaySetIt q types.Release set) (other_server q.config.server (named_server q.message)) (WithCiaddr (a == 0) (GivesUpLease (held_at q a) (released_row q a) reasons.Released)) set planned (λ reason g. none_set q types.Release set g.0)
+    (λ g. with_ciaddr (MaySetIt q types.Release set) (a == 0) (GivesUpLease (held_at q a) (released_row q a) reasons.Released) set planned (λ reason f. none_set q types.Release set f.0)
+    (λ f. given_up q types.Release a (released_row q a) reasons.Released set planned (inl refl) refl refl f) g) h
 may_set q types.Inform set planned h =
-    with_ciaddr (MaySetIt q types.Inform set) (q.message.header.ciaddr == 0) (InSubnet (subnet_for q) Informs) set planned (λ reason g. none_set q types.Inform set g.0)
-    (λ g. in_subnet (MaySetIt q types.Inform set) (subnet_for q) Informs set planned (λ reason f. none_set q types.Inform set f.0) (λ s f. none_set q types.Inform set f.0) g) h
+    with_ciaddr (MaySetIt q types.Inform set) (q.message.header.ciaddr == 0) (InSubnet (serving_subnet q) Informs) set planned (λ reason g. none_set q types.Inform set g.0)
+    (λ g. in_subnet (MaySetIt q types.Inform set) (serving_subnet q) Informs set planned (λ reason f. none_set q types.Inform set f.0) (λ s f. none_set q types.Inform set f.0) g) h
 
 -- what is planned is an ACK, and so not quiet
 not_quiet : (P : Type 0) (a : ℕ) (set : Option Row) (reason : Reason) → IsQuiet reason set (plans.Ack a) → P
 not_quiet P a set reason h = let e : plans.Ack a ≡ plans.Quiet reason = h.1 in cc
 
-acked_named : (q : Asking) (b : Bool) (set : Option Row) (a : ℕ) → OnNamed q b set (plans.Ack a) → set ≡ Some (leased q a)
+acked_named : (q : Asking) (b : Bool) (set : Option Row) (a : ℕ) → OnNamed q b set (plans.Ack a) → set ≡ Some (leased_row q a)
 acked_named q true set a h =
-    with_asked (set ≡ Some (leased q a)) (requested_of q.message) (λ b. InSubnet (subnet_for q) (λ s. OnSelect q s b)) set (plans.Ack a) (not_quiet (set ≡ Some (leased q a)) a set)
-    (λ b g. in_subnet (set ≡ Some (leased q a)) (subnet_for q) (λ s. OnSelect q s b) set (plans.Ack a) (not_quiet (set ≡ Some (leased q a)) a set) (λ s f. f.2) g) h
+    with_asked (set ≡ Some (leased_row q a)) (requested_address q.message) (λ b. InSubnet (serving_subnet q) (λ s. OnSelect q s b)) set (plans.Ack a) (not_quiet (set ≡ Some (leased_row q a)) a set)
+    (λ b g. in_subnet (set ≡ Some (leased_row q a)) (serving_subnet q) (λ s. OnSelect q s b) set (plans.Ack a) (not_quiet (set ≡ Some (leased_row q a)) a set) (λ s f. f.2) g) h
 acked_named q false set a h = let e : plans.Ack a ≡ plans.Quiet reasons.OtherServer = h.1 in cc
 
-acked_request : (q : Asking) (server : Option ℕ) (set : Option Row) (a : ℕ) → OnRequest q server set (plans.Ack a) → set ≡ Some (leased q a)
+acked_request : (q : Asking) (server : Option ℕ) (set : Option Row) (a : ℕ) → OnRequest q server set (plans.Ack a) → set ≡ Some (leased_row q a)
 acked_request q None set a h =
-    with_asked (set ≡ Some (leased q a)) (renewed_of q.message) (λ b. InSubnet (subnet_for q) (λ s. OnRenew q s b)) set (plans.Ack a) (not_quiet (set ≡ Some (leased q a)) a set)
-    (λ b g. in_subnet (set ≡ Some (leased q a)) (subnet_for q) (λ s. OnRenew q s b) set (plans.Ack a) (not_quiet (set ≡ Some (leased q a)) a set) (λ s f. f.3) g) h
+    with_asked (set ≡ Some (leased_row q a)) (renewed_address q.message) (λ b. InSubnet (serving_subnet q) (λ s. OnRenew q s b)) set (plans.Ack a) (not_quiet (set ≡ Some (leased_row q a)) a set)
+    (λ b g. in_subnet (set ≡ Some (leased_row q a)) (serving_subnet q) (λ s. OnRenew q s b) set (plans.Ack a) (not_quiet (set ≡ Some (leased_row q a)) a set) (λ s f. f.3) g) h
 acked_request q (Some server) set a h = acked_named q _ set a h
 
 -- where an ACK of a REQUEST is planned, the lease is set
-pub acked : (q : Asking) (type : MessageType) (set : Option Row) (a : ℕ) → type_number type ≡ type_number types.Request → Sets q type set (plans.Ack a) → set ≡ Some (leased q a)
+pub acked : (q : Asking) (type : MessageType) (set : Option Row) (a : ℕ) → type_number type ≡ type_number types.Request → Sets q type set (plans.Ack a) → set ≡ Some (leased_row q a)
 acked q types.Discover set a is h = absurd (omega arith)
 acked q types.Offer set a is h = absurd (omega arith)
-acked q types.Request set a is h = acked_request q (server_of q.message) set a h
+acked q types.Request set a is h = acked_request q (named_server q.message) set a h
 acked q types.Decline set a is h = absurd (omega arith)
 acked q types.Ack set a is h = absurd (omega arith)
 acked q types.Nak set a is h = absurd (omega arith)

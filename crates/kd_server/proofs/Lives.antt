@@ -13,37 +13,37 @@ use Rattle.kd_replay.specs.declared.fault.ServeFault.TheVariants as faults
 use Rattle.kd_options.specs.Message.{Reads}
 use Rattle.kd_rows.specs.Table.{latest_of}
 use Rattle.kd_rows.specs.declared.row.Row.{Row}
-use Rattle.kd_server.specs.Keeping.{Holds, IsStopped, Keeping, Refuses, Steps}
-use Rattle.kd_server.specs.Lives.{Answers, AreSteps, Call, Called, IsAnswerOf, IsIdle, IsLeft, IsNoRun, IsOpening, IsRun, LivesAreHistories, Opening, RunsAreCalls, calls_of}
-use Rattle.kd_server.specs.NoOverlap.{Happens, History, Step, now_of}
+use Rattle.kd_server.specs.Keeping.{StoreHolds, IsStopped, Keeping, Refuses, Steps}
+use Rattle.kd_server.specs.Lives.{CallAnswers, AreSteps, Call, Called, IsAnswerOf, IsIdle, IsLeft, IsNoRun, IsOpening, IsRun, LivesAreHistories, Opening, RunsAreCalls, calls_of}
+use Rattle.kd_server.specs.NoOverlap.{Happens, LeaseHistory, LeaseStep, now_of}
 use Rattle.kd_server.specs.Step.{IsAnswered, IsUnreadable}
 
 -- steps from these rows to those
-abbrev HistoryTo : Configuration → List Row → List Step → List Row → Type 0
+abbrev HistoryTo : Configuration → List Row → List LeaseStep → List Row → Type 0
 HistoryTo config rows [] last = last ≡ rows
 HistoryTo config rows (e ∷ es) last = (e.before ≡ rows) × Happens config e e.outcome × HistoryTo config e.after es last
 
 -- calls are steps from these rows to those
 record Told (config : Configuration) (ports : Ports) (rows : List Row) (calls : List Call) (last : List Row) : Type 0 where
-  steps : List Step
+  steps : List LeaseStep
   history : HistoryTo config rows steps last
   are : AreSteps ports calls steps
 
 -- steps after steps
-followed : (config : Configuration) (rows : List Row) (es : List Step) (last : List Row) (fs : List Step)
-    → HistoryTo config rows es last → History config last fs → History config rows (es ++ fs)
-followed config rows [] last fs h k = subst (λ (r : List Row). History config r fs) h k
+followed : (config : Configuration) (rows : List Row) (es : List LeaseStep) (last : List Row) (fs : List LeaseStep)
+    → HistoryTo config rows es last → LeaseHistory config last fs → LeaseHistory config rows (es ++ fs)
+followed config rows [] last fs h k = subst (λ (r : List Row). LeaseHistory config r fs) h k
 followed config rows (e ∷ es) last fs h k = (h.0, h.1, followed config e.after es last fs h.2 k)
 
 -- a call in which nothing happens, before other calls
-idle_first : (ports : Ports) (call : Call) (calls : List Call) (es : List Step) → IsIdle call.event call.answer
+idle_first : (ports : Ports) (call : Call) (calls : List Call) (es : List LeaseStep) → IsIdle call.event call.answer
     → AreSteps ports calls es → AreSteps ports (call ∷ calls) es
 idle_first ports call calls [] idle are = (idle, are)
 idle_first ports call calls (e ∷ es) idle are = inl (idle, are)
 
 module _ {S : Type 0} (g : Ghosts S) where
   -- where the disk is clean after a call, it was before
-  clean_before : (old new : Keeping S) (event : Event) (answer : Result Handled ServeFault) → Answers g old event answer new
+  clean_before : (old new : Keeping S) (event : Event) (answer : Result Handled ServeFault) → CallAnswers g old event answer new
       → g.has_clean_disk new.store → g.has_clean_disk old.store
   clean_before old new event (Ok handled) a clean = a.store.clean clean
   clean_before old new event (Err faults.MomentTooLarge) a clean = subst (λ (s : Keeping S). g.has_clean_disk s.store) a.2 clean
@@ -58,7 +58,7 @@ module _ {S : Type 0} (g : Ghosts S) where
 
   -- a server whose store has failed answers Failed, and nothing happens
   stuck : (old new : Keeping S) (event : Event) (answer : Result Handled ServeFault) → g.has_failed old.store ≡ true
-      → Answers g old event answer new → (new ≡ old) × IsIdle event answer
+      → CallAnswers g old event answer new → (new ≡ old) × IsIdle event answer
   stuck old new event (Ok handled) failed a = absurd (false≢true (sym a.worked ∙ failed))
   stuck old new event (Err faults.MomentTooLarge) failed a = absurd (false≢true (sym a.0 ∙ failed))
   stuck old new event (Err faults.Memory) failed a = absurd (false≢true (sym a.0 ∙ failed))
@@ -102,7 +102,7 @@ module _ {S : Type 0} (g : Ghosts S) where
 
     read : IsAnswered latest_of (Changes old.config) old.ports old.rows event handled.now handled.response mid.rows → Told old.config old.ports old.rows (call ∷ calls) last
     read w =
-        let e : Step = record { moment = event.moment; message = w.message; before = old.rows; after = mid.rows; outcome = Some w.outcome } in
+        let e : LeaseStep = record { moment = event.moment; message = w.message; before = old.rows; after = mid.rows; outcome = Some w.outcome } in
         record {
           steps = e ∷ later.steps;
           history = (refl, subst (λ now. Changes old.config old.rows w.message now mid.rows w.outcome) a.step.now w.changes, later.history);
@@ -111,8 +111,8 @@ module _ {S : Type 0} (g : Ghosts S) where
 
   -- a step that was stopped is the last in which something happens: it leaves the rows from before it, or those after
   stopped : (old mid new : Keeping S) (event : Event) (stop : IsStopped g old event mid) (calls : List Call) → new ≡ mid
-      → AreSteps old.ports calls [] → g.has_clean_disk mid.store → Holds g old.store old.rows → (last : List Row) → IsFound new last
-      → (call : Call) → call.event ≡ event → ((e : Step) → e.outcome ≡ None → IsAnswerOf old.ports e call.answer)
+      → AreSteps old.ports calls [] → g.has_clean_disk mid.store → StoreHolds g old.store old.rows → (last : List Row) → IsFound new last
+      → (call : Call) → call.event ≡ event → ((e : LeaseStep) → e.outcome ≡ None → IsAnswerOf old.ports e call.answer)
       → Told old.config old.ports old.rows (call ∷ calls) last
   stopped old mid new event stop calls same none clean holds last found call its is = ⊎_elim unread read stop.step.done where
     unread : IsUnreadable latest_of (Changes old.config) old.ports old.rows event stop.handled.response stop.after → Told old.config old.ports old.rows (call ∷ calls) last
@@ -126,7 +126,7 @@ module _ {S : Type 0} (g : Ghosts S) where
 
     read : IsAnswered latest_of (Changes old.config) old.ports old.rows event stop.handled.now stop.handled.response stop.after → Told old.config old.ports old.rows (call ∷ calls) last
     read w =
-        let e : Step = record { moment = event.moment; message = w.message; before = old.rows; after = last; outcome = None } in
+        let e : LeaseStep = record { moment = event.moment; message = w.message; before = old.rows; after = last; outcome = None } in
         let changes = subst (λ now. Changes old.config old.rows w.message now stop.after w.outcome) stop.step.now w.changes in
         record {
           steps = e ∷ [];
@@ -142,25 +142,25 @@ module _ {S : Type 0} (g : Ghosts S) where
       record { steps = later.steps; history = later.history; are = idle_first old.ports call calls later.steps idle later.are }
 
   -- what is told of a call and those behind it
-  one : (old mid new : Keeping S) (event : Event) (answer : Result Handled ServeFault) (calls : List Call) → Answers g old event answer mid
-      → Called g mid calls new → g.has_clean_disk mid.store → Holds g old.store old.rows → (Holds g mid.store mid.rows → Tells mid calls new)
+  one : (old mid new : Keeping S) (event : Event) (answer : Result Handled ServeFault) (calls : List Call) → CallAnswers g old event answer mid
+      → Called g mid calls new → g.has_clean_disk mid.store → StoreHolds g old.store old.rows → (StoreHolds g mid.store mid.rows → Tells mid calls new)
       → Tells old (record { event = event; answer = answer } ∷ calls) new
   one old mid new event (Ok handled) calls a later clean holds tells = answered old mid new event handled calls a (tells (a.store.holds clean holds))
   one old mid new event (Err faults.MomentTooLarge) calls a later clean holds tells =
       unchanged old mid new (record { event = event; answer = Err faults.MomentTooLarge }) calls tt a.2
-      (tells (subst (λ (s : Keeping S). Holds g s.store s.rows) (sym a.2) holds))
+      (tells (subst (λ (s : Keeping S). StoreHolds g s.store s.rows) (sym a.2) holds))
   one old mid new event (Err faults.Memory) calls a later clean holds tells =
       unchanged old mid new (record { event = event; answer = Err faults.Memory }) calls tt a.2
-      (tells (subst (λ (s : Keeping S). Holds g s.store s.rows) (sym a.2) holds))
+      (tells (subst (λ (s : Keeping S). StoreHolds g s.store s.rows) (sym a.2) holds))
   one old mid new event (Err (faults.Store fault)) calls a later clean holds tells = λ last found.
       let rest = stuck_all old.ports calls mid new a.store.failed later in
       stopped old mid new event a calls rest.0 rest.1 clean holds last found (record { event = event; answer = Err (faults.Store fault) }) refl (λ e none. none)
   one old mid new event (Err faults.Failed) calls a later clean holds tells =
       unchanged old mid new (record { event = event; answer = Err faults.Failed }) calls tt a.1
-      (tells (subst (λ (s : Keeping S). Holds g s.store s.rows) (sym a.1) holds))
+      (tells (subst (λ (s : Keeping S). StoreHolds g s.store s.rows) (sym a.1) holds))
 
   -- what is told of all calls
-  all : (calls : List Call) (old new : Keeping S) → Called g old calls new → g.has_clean_disk new.store → Holds g old.store old.rows → Tells old calls new
+  all : (calls : List Call) (old new : Keeping S) → Called g old calls new → g.has_clean_disk new.store → StoreHolds g old.store old.rows → Tells old calls new
   all [] old new same clean holds = λ last found. record {
     steps = [];
     history = ⊎_elim
@@ -179,7 +179,7 @@ module _ {S : Type 0} (g : Ghosts S) where
   ran config o stands clean r last found =
       let last_clean : g.has_clean_disk r.last.store = subst g.has_clean_disk r.store clean in
       let opened = r.opens.holds (clean_first o.calls r.first r.last r.called last_clean) o.rows stands in
-      let holds : Holds g r.first.store r.first.rows = subst (Holds g r.first.store) (sym opened.0) opened.1 in
+      let holds : StoreHolds g r.first.store r.first.rows = subst (StoreHolds g r.first.store) (sym opened.0) opened.1 in
       let told = all o.calls r.first r.last r.called last_clean holds last (subst (λ (s : S). (last ≡ r.last.rows) ⊎ IsLeft g s last) r.store found) in
       subst (λ (c : Configuration). Told c o.ports o.rows o.calls last) r.opens.config_is
       (subst (λ (p : Ports). Told r.first.config p o.rows o.calls last) r.opens.ports_are

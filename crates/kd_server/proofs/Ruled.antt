@@ -3,13 +3,13 @@ use Rattle.std.proofs.Common.{◌≡◌, ℕ, Bool, true, false, codes, List, Op
 use Rattle.kd_config.specs.Configuration.{Configuration}
 use Rattle.kd_event.specs.declared.reason.Reason.{Reason}
 use Rattle.kd_event.specs.declared.reason.Reason.TheVariants as reasons
-use Rattle.kd_lease.specs.Change.{Answers, Decides, ForClient, Unless, WhereFits, asked_for, fits_in, outcome_for}
-use Rattle.kd_lease.specs.Client.{identity, is_from_server, room_of}
+use Rattle.kd_lease.specs.Change.{AnswersTo, Decides, ForClient, Unless, WhereFits, asked_for, fits_in, outcome_for}
+use Rattle.kd_lease.specs.Client.{client_identity, server_message, reply_room}
 use Rattle.kd_lease.specs.Plan.{Outcome}
 use Rattle.kd_lease.specs.Plan.Outcome.{quiet}
 use Rattle.kd_lease.specs.Rules.{Does}
 use Rattle.kd_lease.specs.declared.planned.Planned.{Planned}
-use Rattle.kd_machine.specs.World.{is_held}
+use Rattle.kd_machine.specs.Parts.{is_held}
 use Rattle.kd_options.specs.Message.{Seen}
 use Rattle.kd_rows.specs.declared.row.Row.{Row}
 
@@ -20,7 +20,7 @@ IsSilent set got = (set ≡ None) × ((reason : Reason) × (got ≡ quiet reason
 -- a row is set by a rule, or none, and the message gets what is planned
 pub record Ruled (config : Configuration) (rows : List Row) (names : List (List ℕ)) (m : Seen) (now : ℕ) (set : Option Row) (got : Outcome) : Type 0 where
   pub client : List ℕ
-  pub by : identity m ≡ Some client
+  pub by : client_identity m ≡ Some client
   pub plan : Planned
   pub does : Does (asked_for config rows names m now client) set plan
   pub gets : got ≡ outcome_for (asked_for config rows names m now client) plan
@@ -44,17 +44,17 @@ where_fits P false row outcome set got silent done h = silent (h.0, (reasons.Rep
 pub ruled : (config : Configuration) (rows : List Row) (names : List (List ℕ)) (m : Seen) (now : ℕ) (set : Option Row) (got : Outcome)
     → Decides config rows names m now set got → IsSilent set got ⊎ Ruled config rows names m now set got
 ruled config rows names m now set got h =
-    unless Goal (is_from_server m) reasons.NotRequest (ForClient (identity m) served) set got inl
-    (for_client Goal (identity m) served set got inl
-    (λ client by. unless Goal (is_held (codes "DROP") names) reasons.DropClass (Answers (asked_for config rows names m now client)) set got inl (answered client by))) h where
+    unless Goal (server_message m) reasons.NotRequest (ForClient (client_identity m) served) set got inl
+    (for_client Goal (client_identity m) served set got inl
+    (λ client by. unless Goal (is_held (codes "DROP") names) reasons.DropClass (AnswersTo (asked_for config rows names m now client)) set got inl (answered client by))) h where
       Goal : Type 0
       Goal = IsSilent set got ⊎ Ruled config rows names m now set got
 
       served : List ℕ → Option Row → Outcome → Type 0
-      served client = Unless (is_held (codes "DROP") names) reasons.DropClass (Answers (asked_for config rows names m now client))
+      served client = Unless (is_held (codes "DROP") names) reasons.DropClass (AnswersTo (asked_for config rows names m now client))
 
-      answered : (client : List ℕ) → identity m ≡ Some client → Answers (asked_for config rows names m now client) set got → IsSilent set got ⊎ Ruled config rows names m now set got
+      answered : (client : List ℕ) → client_identity m ≡ Some client → AnswersTo (asked_for config rows names m now client) set got → IsSilent set got ⊎ Ruled config rows names m now set got
       answered client by a =
           let q = asked_for config rows names m now client in
-          where_fits (IsSilent set got ⊎ Ruled config rows names m now set got) (fits_in (room_of m) (outcome_for q a.plan)) a.row (outcome_for q a.plan) set got inl
+          where_fits (IsSilent set got ⊎ Ruled config rows names m now set got) (fits_in (reply_room m) (outcome_for q a.plan)) a.row (outcome_for q a.plan) set got inl
           (λ same gets. inr (record { client = client; by = by; plan = a.plan; does = subst (λ (o : Option Row). Does q o a.plan) (sym same) a.does; gets = gets })) a.replies

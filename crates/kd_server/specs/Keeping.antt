@@ -33,7 +33,7 @@ IsOpenFault faults.Failed failed = ⊥
 
 module _ {S : Type 0} (g : Ghosts S) where
   -- a store stands at these rows, and a crash leaves them
-  pub record Holds (store : S) (rows : List Row) : Type 0 where
+  pub record StoreHolds (store : S) (rows : List Row) : Type 0 where
     pub stands : g.stands store rows
     pub leaves : g.leaves store rows rows
 
@@ -42,14 +42,14 @@ module _ {S : Type 0} (g : Ghosts S) where
   pub record StillHolds (old new : S) (before rows : List Row) : Type 0 where
     pub works : g.has_failed new ≡ false
     pub clean : g.has_clean_disk new → g.has_clean_disk old
-    pub holds : g.has_clean_disk new → Holds old before → Holds new rows
+    pub holds : g.has_clean_disk new → StoreHolds old before → StoreHolds new rows
 
   -- a store that has failed at a change: a crash leaves the rows from before or those from after
   pub record Loses (old new : S) (before rows : List Row) : Type 0 where
     pub failed : g.has_failed new ≡ true
     pub clean : g.has_clean_disk new → g.has_clean_disk old
     pub changed : rows ≢ before
-    pub left : g.has_clean_disk new → Holds old before → g.leaves new before rows
+    pub left : g.has_clean_disk new → StoreHolds old before → g.leaves new before rows
 
   -- a server keeps its ports, its configuration and its rows
   pub record IsSameBut (old new : Keeping S) : Type 0 where
@@ -89,7 +89,7 @@ module _ {S : Type 0} (g : Ghosts S) where
     pub config_is : server.config ≡ config
     pub works : g.has_failed server.store ≡ false
     pub clean : g.has_clean_disk server.store → g.has_clean_disk store
-    pub holds : g.has_clean_disk server.store → (table : List Row) → g.stands store table → (server.rows ≡ table) × Holds server.store table
+    pub holds : g.has_clean_disk server.store → (table : List Row) → g.stands store table → (server.rows ≡ table) × StoreHolds server.store table
 
   -- no server was opened: the configuration and the store come back, and a crash leaves the table that the store
   -- stood at

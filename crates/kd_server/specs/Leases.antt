@@ -10,12 +10,12 @@ use Rattle.kd_rows.specs.declared.row.State.TheVariants as states
 use Rattle.kd_server.specs.declared.leases.Lease.{Lease}
 
 -- a row at a moment: it is live before its end
-abbrev pub lease_at : ℕ → Row → Lease
-lease_at now row = record { row = row; live = nat_lt now row.ends }
+abbrev pub lease_of_row : ℕ → Row → Lease
+lease_of_row now row = record { row = row; live = nat_lt now row.ends }
 
 -- the leases of rows, at a moment that counts as their latest change where that is later
-abbrev pub leases_at : ℕ → List Row → List Lease
-leases_at moment rows = map (lease_at (max moment (latest_of rows))) rows
+abbrev pub leases_of_rows : ℕ → List Row → List Lease
+leases_of_rows moment rows = map (lease_of_row (max moment (latest_of rows))) rows
 
 -- why there is no list: by whether the store has failed, and the moment
 abbrev pub IsNoList : Bool → ℕ → ServeFault → Type 0
@@ -25,20 +25,20 @@ IsNoList failed moment (faults.Store fault) = ⊥
 IsNoList failed moment faults.Failed = failed ≡ true
 
 -- the word for a state
-abbrev pub state_word : State → List ℕ
-state_word states.Offered = codes "Offered"
-state_word states.Bound = codes "Bound"
-state_word states.Released = codes "Released"
-state_word states.Declined = codes "Declined"
+abbrev pub word_of_state : State → List ℕ
+word_of_state states.Offered = codes "Offered"
+word_of_state states.Bound = codes "Bound"
+word_of_state states.Released = codes "Released"
+word_of_state states.Declined = codes "Declined"
 
 -- the word for whether a row is live
-abbrev pub live_word : Bool → List ℕ
-live_word true = codes "live"
-live_word false = codes "past"
+abbrev pub word_of_live : Bool → List ℕ
+word_of_live true = codes "live"
+word_of_live false = codes "past"
 
 -- the line of a lease, with its line feed: address, state, client, the moment at which it was set, its end, and whether
 -- it is live
 unfoldable pub lease_line : Lease → List ℕ
 lease_line lease =
-    address_text lease.row.address ++ codes " " ++ state_word lease.row.state ++ codes " " ++ bytes_text lease.row.client
-    ++ codes " changed " ++ decimal lease.row.changed ++ codes " ends " ++ decimal lease.row.ends ++ codes " " ++ live_word lease.live ++ codes "\n"
+    address_text lease.row.address ++ codes " " ++ word_of_state lease.row.state ++ codes " " ++ bytes_text lease.row.client
+    ++ codes " changed " ++ decimal lease.row.changed ++ codes " ends " ++ decimal lease.row.ends ++ codes " " ++ word_of_live lease.live ++ codes "\n"

@@ -13,7 +13,7 @@ use Rattle.kd_replay.specs.declared.fault.ServeFault.{ServeFault}
 use Rattle.kd_replay.specs.declared.fault.ServeFault.TheVariants as faults
 use Rattle.kd_rows.specs.declared.row.Row.{Row}
 use Rattle.kd_server.specs.Keeping.{IsUnopened, Keeping, Opens, Refuses, Steps}
-use Rattle.kd_server.specs.NoOverlap.{History, Step, now_of}
+use Rattle.kd_server.specs.NoOverlap.{LeaseHistory, LeaseStep, now_of}
 use Rattle.kd_server.specs.Step.{Responds}
 
 -- a call of `handle`: its event, and what it answered
@@ -32,14 +32,14 @@ pub record Opening (S : Type 0) : Type 0 where
 
 module _ {S : Type 0} (g : Ghosts S) where
   -- what `handle` promises of a call
-  abbrev pub Answers : Keeping S → Event → Result Handled ServeFault → Keeping S → Type 0
-  Answers old event (Ok handled) new = Steps g old event handled new
-  Answers old event (Err fault) new = Refuses g old event fault new
+  abbrev pub CallAnswers : Keeping S → Event → Result Handled ServeFault → Keeping S → Type 0
+  CallAnswers old event (Ok handled) new = Steps g old event handled new
+  CallAnswers old event (Err fault) new = Refuses g old event fault new
 
   -- calls one after another, each on the server that the one before it left
   abbrev pub Called : Keeping S → List Call → Keeping S → Type 0
   Called old [] new = new ≡ old
-  Called old (call ∷ calls) new = (mid : Keeping S) × Answers old call.event call.answer mid × Called mid calls new
+  Called old (call ∷ calls) new = (mid : Keeping S) × CallAnswers old call.event call.answer mid × Called mid calls new
 
   -- a server is opened and called, and its store is left
   pub record IsRun (config : Configuration) (o : Opening S) : Type 0 where
@@ -93,30 +93,30 @@ IsIdle event (Err fault) = Unit {0}
 
 -- what a step gets is what a call answered: what was sent, at the moment that counts; and where the store has failed the
 -- step was stopped
-abbrev pub IsAnswerOf : Ports → Step → Result Handled ServeFault → Type 0
+abbrev pub IsAnswerOf : Ports → LeaseStep → Result Handled ServeFault → Type 0
 IsAnswerOf ports e (Ok handled) =
     (handled.now ≡ now_of e) × ((outcome : Outcome) × (e.outcome ≡ Some outcome) × Responds ports e.message outcome handled.response)
 IsAnswerOf ports e (Err (faults.Store fault)) = e.outcome ≡ None
 IsAnswerOf ports e (Err fault) = ⊥
 
 -- a step is a call: its moment is the event's, its message is what the datagram reads as, and it gets what was answered
-pub record IsStepOf (ports : Ports) (call : Call) (e : Step) : Type 0 where
+pub record IsStepOf (ports : Ports) (call : Call) (e : LeaseStep) : Type 0 where
   pub moment : e.moment ≡ call.event.moment
   pub reads : Reads call.event.bytes e.message
   pub answer : IsAnswerOf ports e call.answer
 
 -- the steps are the calls in which something happens, in their order
-abbrev pub AreSteps : Ports → List Call → List Step → Type 0
+abbrev pub AreSteps : Ports → List Call → List LeaseStep → Type 0
 AreSteps ports [] es = es ≡ []
 AreSteps ports (call ∷ calls) [] = IsIdle call.event call.answer × AreSteps ports calls []
 AreSteps ports (call ∷ calls) (e ∷ es) =
     (IsIdle call.event call.answer × AreSteps ports calls (e ∷ es)) ⊎ (IsStepOf ports call e × AreSteps ports calls es)
 
 -- the same of the calls of openings
-abbrev pub AreStepsOfAll : {S : Type 0} → List (Opening S) → List Step → Type 0
+abbrev pub AreStepsOfAll : {S : Type 0} → List (Opening S) → List LeaseStep → Type 0
 AreStepsOfAll [] es = es ≡ []
 AreStepsOfAll (o ∷ os) es =
-    (mine : List Step) × (later : List Step) × (es ≡ mine ++ later) × AreSteps o.ports o.calls mine × AreStepsOfAll os later
+    (mine : List LeaseStep) × (later : List LeaseStep) × (es ≡ mine ++ later) × AreSteps o.ports o.calls mine × AreStepsOfAll os later
 
 -- the rows at which a life begins; without an opening there are none
 abbrev pub first_rows : {S : Type 0} → List (Opening S) → List Row
@@ -127,4 +127,4 @@ first_rows (o ∷ os) = o.rows
 abbrev pub LivesAreHistories : {S : Type 0} → Ghosts S → Type 0
 LivesAreHistories {S} g =
     (config : Configuration) (life : List (Opening S)) → Life g config life
-    → (es : List Step) × History config (first_rows life) es × AreStepsOfAll life es
+    → (es : List LeaseStep) × LeaseHistory config (first_rows life) es × AreStepsOfAll life es

@@ -2,11 +2,11 @@
 -- parameter.
 use Rattle.std.specs.Prelude.{◌≡◌, ℕ, ◌^◌, ◌<◌, max, ◌⊎◌}
 use Rattle.kd_options.specs.Message.{Seen, Reads}
-use Rattle.kd_lease.specs.Client.{room_of}
+use Rattle.kd_lease.specs.Client.{reply_room}
 use Rattle.kd_lease.specs.Destination.{destination_of}
 use Rattle.kd_lease.specs.Plan.{Outcome}
 use Rattle.kd_lease.specs.Plan.Outcome.{planned, quiet}
-use Rattle.kd_lease.specs.ReplyOf.{IsReplyText, reply_header}
+use Rattle.kd_lease.specs.ReplyOf.{IsReplyText, header_of_reply}
 use Rattle.kd_event.specs.declared.ports.Ports.{Ports}
 use Rattle.kd_event.specs.declared.event.Event.{Event}
 use Rattle.kd_event.specs.declared.event.Handled.{Handled}
@@ -20,7 +20,7 @@ Responds ports m (quiet reason) response = response ≡ responses.Quiet reason
 Responds ports m (planned kind yiaddr options) (responses.Quiet reason) = ⊥
 Responds ports m (planned kind yiaddr options) (responses.Reply destination text) =
     (destination ≡ destination_of m.header kind yiaddr ports)
-    × IsReplyText (reply_header kind yiaddr m.header) (room_of m) options text
+    × IsReplyText (header_of_reply kind yiaddr m.header) (reply_room m) options text
 
 module _ {Table : Type 0} (latest : Table → ℕ) (Changes : Table → Seen → ℕ → Table → Outcome → Type 0) (ports : Ports) where
   -- the datagram reads as no message: nothing is sent, and nothing changes

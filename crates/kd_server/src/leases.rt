@@ -2,7 +2,7 @@ ghost use Rattle.std.specs.Prelude.{◌≡◌, ◌<◌, ◌^◌, ◌++◌, false
 ghost use Rattle.std.specs.Fmt.{decimal};
 ghost use Rattle.std.specs.List.{flat_map};
 ghost use Rattle.kd_replay.specs.Text.{address_text, bytes_text};
-ghost use Rattle.kd_server.specs.Leases.{IsNoList, lease_at, lease_line, leases_at, live_word, state_word};
+ghost use Rattle.kd_server.specs.Leases.{IsNoList, lease_of_row, lease_line, leases_of_rows, word_of_live, word_of_state};
 
 use crate::server::MOMENTS;
 use kd_replay::ServeFault;
@@ -27,7 +27,7 @@ pub(crate) fn leases_at(
     failed: bool,
     moment: u64,
 ) -> Result<Vec<Lease>, ServeFault>
-    ensures leases { IfOk result (λ list. list.items ≡ leases_at moment rows.now.rows) }
+    ensures leases { IfOk result (λ list. list.items ≡ leases_of_rows moment rows.now.rows) }
     ensures works { IfOk result (λ list. (failed ≡ false) × (moment < 2 ^ 40)) }
     ensures fault { IfErr result (IsNoList failed moment) }
 {
@@ -43,7 +43,7 @@ pub(crate) fn leases_at(
 
 // The rows at a moment that counts.
 fn leases_of(alloc: Global, rows: &Rows, now: u64) -> Result<Vec<Lease>, AllocError>
-    ensures { IfOk result (λ list. list.items ≡ map (lease_at now) rows.now.rows) }
+    ensures { IfOk result (λ list. list.items ≡ map (lease_of_row now) rows.now.rows) }
 {
     let mut list = Vec::with_capacity(alloc, rows.len())?;
     let mut index = 0;
@@ -56,7 +56,7 @@ fn leases_of(alloc: Global, rows: &Rows, now: u64) -> Result<Vec<Lease>, AllocEr
 
 // A row at a moment.
 fn lease_at(alloc: Global, row: &Row, now: u64) -> Result<Lease, AllocError>
-    ensures { IfOk result (λ lease. lease ≡ lease_at now row.now) }
+    ensures { IfOk result (λ lease. lease ≡ lease_of_row now row.now) }
 {
     Ok(Lease {
         row: Row {
@@ -135,7 +135,7 @@ fn put_moments(out: &mut String, changed: u64, ends: u64) -> Result<(), AllocErr
 
 // The word for a state.
 fn state_word(state: State) -> &'static str
-    ensures { result.now ≡ state_word state }
+    ensures { result.now ≡ word_of_state state }
 {
     match state {
         State::Offered => "Offered",
@@ -147,7 +147,7 @@ fn state_word(state: State) -> &'static str
 
 // The word for whether a row is live.
 fn live_word(live: bool) -> &'static str
-    ensures { result.now ≡ live_word live }
+    ensures { result.now ≡ word_of_live live }
 {
     if live { "live" } else { "past" }
 }

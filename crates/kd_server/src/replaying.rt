@@ -1,6 +1,6 @@
 ghost use Rattle.std.specs.Prelude.{◌≡◌, ◌⊎◌, ℕ, List, Some, true, false, IfOk};
 ghost use Rattle.std.specs.Result.{IsErrOf};
-ghost use Rattle.kd_replay.specs.Replay.{Handles, Leaves, most_lines};
+ghost use Rattle.kd_replay.specs.Replay.{Handles, LeavesWritten, most_lines};
 ghost use Rattle.kd_replay.specs.declared.fault.ReplayFault.TheVariants as faults;
 ghost use Rattle.kd_server.specs.Keeping.{Refuses, Steps};
 
@@ -27,7 +27,7 @@ pub fn replay<R: Source, W: Sink, S: Keeps>(
     requires source { R.has_failed source.old ≡ false }
     requires sink { W.has_failed sink.old ≡ false }
     ensures replayed { (input old : List ℕ) → R.remaining source.old ≡ Some input → W.contents sink.old ≡ Some old
-        → Leaves (Steps S.Keeps) (Refuses S.Keeps) (R.has_failed source.new ≡ true) result input server.old server.new old (W.contents sink.new) }
+        → LeavesWritten (Steps S.Keeps) (Refuses S.Keeps) (R.has_failed source.new ≡ true) result input server.old server.new old (W.contents sink.new) }
     ensures counted { IfOk result (λ count. Handles (Steps S.Keeps) count server.old server.new) }
     ensures read { IsErrOf result faults.Read
         → (R.has_failed source.new ≡ true) ⊎ Handles (Steps S.Keeps) most_lines server.old server.new }

@@ -5,7 +5,7 @@ ghost use Rattle.kd_replay.specs.History.{Runs};
 ghost use Rattle.kd_replay.specs.Text.{IsSmall};
 ghost use Rattle.kd_rows.specs.Table.{with_row};
 ghost use Rattle.kd_server.specs.Keeping.{IsUnopened, Opens, Refuses, Steps, StillHolds};
-ghost use Rattle.kd_server.specs.Leases.{IsNoList, leases_at};
+ghost use Rattle.kd_server.specs.Leases.{IsNoList, leases_of_rows};
 ghost use Rattle.kd_server.specs.Unkept.{IsSettable, IsUnkept};
 
 use crate::leases::{Lease, leases_at};
@@ -92,7 +92,7 @@ impl<S: Keeps> Server<S> {
     ///
     /// `Failed` where the store has failed, `MomentTooLarge` where the moment is not below 2^40, and `Memory`.
     pub fn leases(&self, moment: u64) -> Result<Vec<Lease>, ServeFault>
-        ensures leases { IfOk result (λ list. list.items ≡ leases_at moment self.now.rows) }
+        ensures leases { IfOk result (λ list. list.items ≡ leases_of_rows moment self.now.rows) }
         ensures works { IfOk result (λ list. (S.has_failed self.now.store ≡ false) × (moment < 2 ^ 40)) }
         ensures failed { IfErr result (IsNoList (S.has_failed self.now.store) moment) }
     {

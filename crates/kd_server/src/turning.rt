@@ -1,7 +1,7 @@
 ghost use Rattle.std.specs.Prelude.{◌≡◌, ◌≤◌, ◌<◌, ◌^◌, IfOk, IfSome};
 ghost use Rattle.kd_lease.specs.Decided.{IsAnswerTo, outcome_in};
 ghost use Rattle.kd_lease.specs.Rules.{IsSetAt};
-ghost use Rattle.kd_options.specs.Reply.{Fits};
+ghost use Rattle.kd_options.specs.Reply.{ItemsFit};
 ghost use Rattle.kd_replay.specs.Text.{IsSmall};
 ghost use Rattle.kd_server.specs.Step.{Responds};
 ghost use Rattle.kd_server.specs.Turn.{IsSent, IsTurn, Turns};
@@ -90,7 +90,7 @@ fn sent(
     message: &Message<'_>,
     plan: &Plan,
 ) -> Result<Response, AllocError>
-    requires fits { Fits plan.now.room plan.now.reply.items }
+    requires fits { ItemsFit plan.now.room plan.now.reply.items }
     requires least { 300 ≤ plan.now.room }
     requires most { plan.now.room ≤ 1472 }
     ensures found { IfOk result (IsSent ports message.now plan.now) }

@@ -18,8 +18,8 @@ use Rattle.kd_store.specs.Lease.{lease_schema, rows_text, columns_of}
 use Rattle.kd_store.specs.Stands.{columns_in, Lists, Stands, Leaves}
 use Rattle.sqlite.specs.declared.error.Error.{Error}
 use Rattle.kd_keeps.specs.declared.fault.StoreFault.{StoreFault}
-use Rattle.kd_store.specs.Fault.{fault_of}
-use Rattle.kd_store.specs.Statement.{first_five, AreShown, AreUnread, IsReady, IsUnreadable}
+use Rattle.kd_store.specs.Fault.{store_fault}
+use Rattle.kd_store.specs.Statement.{first_five, AreShown, AreUnread, IsReady, IsUnreadRow}
 use Rattle.kd_store.proofs.Texts.{select, selects, names, rows_is, rows_plain, rows_unlisted}
 use Rattle.kd_store.proofs.Tables.{one_table}
 use Rattle.kd_store.proofs.States.{Rests, Settles, left_of, after_query, after_query_error, stands_rests, stands_same}
@@ -84,7 +84,7 @@ stands_on_err (Err e) old new table h is = stands_rests old new table h (unread_
 
 -- why rows are not read, without what that leaves
 pub told_on_err : {V : Type 0} (r : Result V StoreFault) (old new : State) → IfErr r (AreUnread old new)
-    → IfErr r (λ fault. IsUnreadable fault ⊎ ((error : Error) × (fault ≡ fault_of error) × FailsToQuery rows_text [] old new error))
+    → IfErr r (λ fault. IsUnreadRow fault ⊎ ((error : Error) × (fault ≡ store_fault error) × FailsToQuery rows_text [] old new error))
 told_on_err (Ok v) old new is = tt
 told_on_err (Err e) old new (inl h) = inl h.0
 told_on_err (Err e) old new (inr h) = inr h

@@ -7,11 +7,11 @@ use Rattle.kd_keeps.specs.declared.fault.StoreFault.{StoreFault}
 use Rattle.kd_keeps.specs.declared.fault.StoreFault.TheVariants.{Schema, Sql}
 
 -- want of memory, a fault of the disk or want of room keeps its name; all else is a table that is none of ours
-abbrev pub fault_of : Error → StoreFault
-fault_of (SqliteFailure code.OutOfMemory) = Sql cause.OutOfMemory
-fault_of (SqliteFailure code.SystemIoFailure) = Sql cause.SystemIoFailure
-fault_of (SqliteFailure code.DatabaseCorrupt) = Sql cause.DatabaseCorrupt
-fault_of (SqliteFailure code.DiskFull) = Sql cause.DiskFull
-fault_of (SqliteFailure code.Closed) = Sql cause.Closed
-fault_of (SqliteFailure code.TooBig) = Sql cause.TooBig
-fault_of _ = Schema
+abbrev pub store_fault : Error → StoreFault
+store_fault (SqliteFailure code.OutOfMemory) = Sql cause.OutOfMemory
+store_fault (SqliteFailure code.SystemIoFailure) = Sql cause.SystemIoFailure
+store_fault (SqliteFailure code.DatabaseCorrupt) = Sql cause.DatabaseCorrupt
+store_fault (SqliteFailure code.DiskFull) = Sql cause.DiskFull
+store_fault (SqliteFailure code.Closed) = Sql cause.Closed
+store_fault (SqliteFailure code.TooBig) = Sql cause.TooBig
+store_fault _ = Schema

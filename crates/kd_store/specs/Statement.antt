@@ -12,20 +12,20 @@ use Rattle.kd_keeps.specs.declared.fault.StoreFault.{StoreFault}
 use Rattle.kd_keeps.specs.declared.fault.StoreFault.TheVariants.{Schema, Sql}
 use Rattle.kd_rows.specs.declared.row.Row.{Row}
 use Rattle.kd_store.specs.Lease.{lease_schema, columns_of, rows_text}
-use Rattle.kd_store.specs.Fault.{fault_of}
+use Rattle.kd_store.specs.Fault.{store_fault}
 
 -- the first five columns
 abbrev pub first_five : Columns → Columns
 first_five c = column c 0 ∷ column c 1 ∷ column c 2 ∷ column c 3 ∷ column c 4 ∷ []
 
 -- why a row is not read: it is none of ours, or there is no memory for it
-abbrev pub IsUnreadable : StoreFault → Type 0
-IsUnreadable fault = (fault ≡ Schema) ⊎ (fault ≡ Sql OutOfMemory)
+abbrev pub IsUnreadRow : StoreFault → Type 0
+IsUnreadRow fault = (fault ≡ Schema) ⊎ (fault ≡ Sql OutOfMemory)
 
 -- why rows are not read: one of them is not, and nothing has changed, or the query failed with the error of that fault
 abbrev pub AreUnread : State → State → StoreFault → Type 0
 AreUnread old new fault =
-    (IsUnreadable fault × IsUnchanged old new) ⊎ ((error : Error) × (fault ≡ fault_of error) × FailsToQuery rows_text [] old new error)
+    (IsUnreadRow fault × IsUnchanged old new) ⊎ ((error : Error) × (fault ≡ store_fault error) × FailsToQuery rows_text [] old new error)
 
 -- after the rows that it gave, the query gives one more, which is read, or those were its answer
 abbrev pub GoesOn : {S : Type 0} → Ghosts S → Held S → Held S → List Columns → Option Row → Type 0

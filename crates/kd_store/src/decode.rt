@@ -1,7 +1,7 @@
 ghost use Rattle.std.specs.Prelude.{◌≡◌, IfOk, IfErr};
 ghost use Rattle.kd_rows.specs.Row.{IsInRange, state_number};
 ghost use Rattle.kd_store.specs.Lease.{columns_of};
-ghost use Rattle.kd_store.specs.Statement.{IsUnreadable, first_five};
+ghost use Rattle.kd_store.specs.Statement.{IsUnreadRow, first_five};
 ghost use Rattle.sqlite.specs.Order.{column};
 
 use crate::fault::fault_of;
@@ -11,9 +11,9 @@ use kd_wire::Bytes;
 use sqlite::types::FromSql;
 
 // The value of a column.
-fn column<T: FromSql>(columns: &sqlite::Row, at: usize) -> Result<T, StoreFault>
+fn column_at<T: FromSql>(columns: &sqlite::Row, at: usize) -> Result<T, StoreFault>
     ensures value { IfOk result (λ value. T.FromSql.reads_as (column columns.now at) value) }
-    ensures fault { IfErr result IsUnreadable }
+    ensures fault { IfErr result IsUnreadRow }
 {
     match columns.get(at) {
         Ok(value) => Ok(value),
@@ -24,7 +24,7 @@ fn column<T: FromSql>(columns: &sqlite::Row, at: usize) -> Result<T, StoreFault>
 // The state that a number stands for.
 fn state_of(number: u32) -> Result<State, StoreFault>
     ensures value { IfOk result (λ state. number ≡ state_number state) }
-    ensures fault { IfErr result IsUnreadable }
+    ensures fault { IfErr result IsUnreadRow }
 {
     let known = match u8::try_from(number) {
         Ok(number) => State::of_number(number),
@@ -40,13 +40,13 @@ fn state_of(number: u32) -> Result<State, StoreFault>
 pub(crate) fn decode(columns: &sqlite::Row) -> Result<Row, StoreFault>
     ensures columns { IfOk result (λ row. columns_of row ≡ first_five columns.now) }
     ensures range { IfOk result IsInRange }
-    ensures fault { IfErr result IsUnreadable }
+    ensures fault { IfErr result IsUnreadRow }
 {
-    let address: u32 = column(columns, 0)?;
-    let client: Vec<u8> = column(columns, 1)?;
-    let number: u32 = column(columns, 2)?;
-    let changed: u64 = column(columns, 3)?;
-    let ends: u64 = column(columns, 4)?;
+    let address: u32 = column_at(columns, 0)?;
+    let client: Vec<u8> = column_at(columns, 1)?;
+    let number: u32 = column_at(columns, 2)?;
+    let changed: u64 = column_at(columns, 3)?;
+    let ends: u64 = column_at(columns, 4)?;
     let row = Row {
         address,
         client: Bytes::own(client),

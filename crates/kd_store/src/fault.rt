@@ -1,5 +1,5 @@
 ghost use Rattle.std.specs.Prelude.{◌≡◌};
-ghost use Rattle.kd_store.specs.Fault.{fault_of};
+ghost use Rattle.kd_store.specs.Fault.{store_fault};
 
 use kd_keeps::{Cause, StoreFault};
 use sqlite::{Error, ErrorCode};
@@ -9,7 +9,7 @@ pub(crate) const NO_MEMORY: StoreFault = StoreFault::Sql(Cause::OutOfMemory);
 
 // What an error of the database says to the layer above.
 pub(crate) fn fault_of(error: Error) -> StoreFault
-    ensures { result ≡ fault_of error }
+    ensures { result ≡ store_fault error }
 {
     let Error::SqliteFailure(code) = error else {
         return StoreFault::Schema;

@@ -10,8 +10,8 @@ ghost use Rattle.kd_rows.specs.Table.{Rise, with_row};
 ghost use Rattle.kd_rows.specs.declared.row.Row.{Row as LeaseRow};
 ghost use Rattle.kd_store.specs.Lease.{columns_of, lease_schema, make_text, no_schema, put_text, rows_text};
 ghost use Rattle.kd_store.specs.Stands.{Finds, Holds, Leaves, Stands};
-ghost use Rattle.kd_store.specs.Statement.{AreShown, AreUnread, GoesOn, IsReady, IsUnreadable};
-ghost use Rattle.kd_store.specs.Fault.{fault_of};
+ghost use Rattle.kd_store.specs.Statement.{AreShown, AreUnread, GoesOn, IsReady, IsUnreadRow};
+ghost use Rattle.kd_store.specs.Fault.{store_fault};
 ghost use Rattle.sqlite.specs.declared.error.Error.{Error};
 ghost use Rattle.sqlite.specs.Tree.{Trees};
 
@@ -39,7 +39,7 @@ pub(crate) fn make<S: Alter>(conn: &mut Connection<S>) -> Result<(), StoreFault>
     ensures same { HasCleanDisk (state S.Store conn.new) → (state S.Store conn.old).now.schema ≡ lease_schema → OnOk result (IsReady (state S.Store conn.new) × IsUnchanged (state S.Store conn.old) (state S.Store conn.new)) }
     ensures table { HasCleanDisk (state S.Store conn.new) → (table : List LeaseRow) → Finds (state S.Store conn.old) table → OnOk result (Stands (state S.Store conn.new) table) }
     ensures fault { HasCleanDisk (state S.Store conn.new) → (table : List LeaseRow) → Finds (state S.Store conn.old) table → OnErr result (IsTrue (state S.Store conn.new).is_open → Finds (state S.Store conn.new) table) }
-    ensures told { HasCleanDisk (state S.Store conn.new) → IfErr result (λ fault. (error : Error) × (fault ≡ fault_of error) × Executes make_text [] (state S.Store conn.old) (state S.Store conn.new) (Err error)) }
+    ensures told { HasCleanDisk (state S.Store conn.new) → IfErr result (λ fault. (error : Error) × (fault ≡ store_fault error) × Executes make_text [] (state S.Store conn.old) (state S.Store conn.new) (Err error)) }
     ensures crash { HasCleanDisk (state S.Store conn.new) → (table : List LeaseRow) → Finds (state S.Store conn.old) table → (db : Trees) → (state S.Store conn.new).may_leave db → (state S.Store conn.old).may_leave db ⊎ Holds db table }
 {
     let _idle = conn.is_autocommit();
@@ -79,7 +79,7 @@ pub(crate) fn put<S: Alter>(conn: &mut Connection<S>, row: &Row) -> Result<(), S
     ensures clean { doubt (state S.Store conn.old).is_clean ≤ doubt (state S.Store conn.new).is_clean }
     ensures put { HasCleanDisk (state S.Store conn.new) → (table : List LeaseRow) → Stands (state S.Store conn.old) table → OnOk result (Stands (state S.Store conn.new) (with_row row.now table)) }
     ensures fault { HasCleanDisk (state S.Store conn.new) → (table : List LeaseRow) → Stands (state S.Store conn.old) table → OnErr result (IsTrue (state S.Store conn.new).is_open → Stands (state S.Store conn.new) table) }
-    ensures told { HasCleanDisk (state S.Store conn.new) → IfErr result (λ fault. (error : Error) × (fault ≡ fault_of error) × Executes put_text (columns_of row.now) (state S.Store conn.old) (state S.Store conn.new) (Err error)) }
+    ensures told { HasCleanDisk (state S.Store conn.new) → IfErr result (λ fault. (error : Error) × (fault ≡ store_fault error) × Executes put_text (columns_of row.now) (state S.Store conn.old) (state S.Store conn.new) (Err error)) }
     ensures crash { HasCleanDisk (state S.Store conn.new) → (table : List LeaseRow) → Stands (state S.Store conn.old) table → Leaves (state S.Store conn.new) table (with_row row.now table) }
 {
     match execute_put(conn, row) {
@@ -152,7 +152,7 @@ pub(crate) fn read<S: Alter>(
     ensures found { HasCleanDisk (state S.Store conn.new) → IsReady (state S.Store conn.old) → IfOk result (λ rows. Stands (state S.Store conn.old) rows.items × Stands (state S.Store conn.new) rows.items) }
     ensures rows { HasCleanDisk (state S.Store conn.new) → (table : List LeaseRow) → Stands (state S.Store conn.old) table → IfOk result (λ rows. (rows.items ≡ table) × Stands (state S.Store conn.new) table) }
     ensures fault { HasCleanDisk (state S.Store conn.new) → (table : List LeaseRow) → Stands (state S.Store conn.old) table → OnErr result (IsTrue (state S.Store conn.new).is_open → Stands (state S.Store conn.new) table) }
-    ensures told { HasCleanDisk (state S.Store conn.new) → IfErr result (λ fault. IsUnreadable fault ⊎ ((error : Error) × (fault ≡ fault_of error) × FailsToQuery rows_text [] (state S.Store conn.old) (state S.Store conn.new) error)) }
+    ensures told { HasCleanDisk (state S.Store conn.new) → IfErr result (λ fault. IsUnreadRow fault ⊎ ((error : Error) × (fault ≡ store_fault error) × FailsToQuery rows_text [] (state S.Store conn.old) (state S.Store conn.new) error)) }
     ensures crash { HasCleanDisk (state S.Store conn.new) → (table : List LeaseRow) → Stands (state S.Store conn.old) table → Leaves (state S.Store conn.new) table table }
 {
     match conn.query(ROWS, &[]) {

@@ -17,7 +17,7 @@ use Rattle.kd_token.specs.declared.token.Token.TheVariants as tokens
 use Rattle.kd_token.specs.declared.token.Version.{Version}
 use Rattle.kd_token.specs.declared.token.Version.TheVariants as versions
 use Rattle.kd_token.specs.File.{Code, HasFile, IsName, IsToken, IsBranch, IsCount, IsShort, AreTokens, version_number, field_number, long_bytes, signed_bytes, count_bytes, token_bytes, name_bytes, names_bytes, tokens_bytes, file_bytes}
-use Rattle.kd_token.specs.Reading.{◌>>=◌, many_at, front_at, number_at, limited_at, signed_at, magic_at, version_at, name_at, names_at, long_at, field_of, field_at, number_of_bytes_at, count_at, substring_at, skip_at, plain_of, operands_at, token_at, tokens_at, all_names_at, all_tokens_at, program_at}
+use Rattle.kd_token.specs.Reading.{◌>>=◌, many_at, front_at, number_in_front, limited_at, signed_at, magic_at, version_at, name_at, names_at, long_at, field_numbered, field_at, number_of_bytes_at, count_at, substring_at, skip_at, plain_token, operands_at, token_at, tokens_at, all_names_at, all_tokens_at, program_at}
 
 -- bytes that stand in front
 front_again : (n : ℕ) (bytes rest : List ℕ) → length bytes ≡ n → front_at n (bytes ++ rest) ≡ Some (bytes, rest)
@@ -26,25 +26,25 @@ front_again n bytes rest len =
     rw (long, take_at bytes rest n len, drop_at bytes rest n len) refl
 
 -- a number whose bytes stand in front
-number_again : (n x : ℕ) (bytes rest : List ℕ) → length bytes ≡ n → big_number n bytes ≡ x → number_at n (bytes ++ rest) ≡ Some (x, rest)
+number_again : (n x : ℕ) (bytes rest : List ℕ) → length bytes ≡ n → big_number n bytes ≡ x → number_in_front n (bytes ++ rest) ≡ Some (x, rest)
 number_again n x bytes rest len is =
     let long : nat_lt (length (bytes ++ rest)) n ≡ false = le-ltb _ _ (omega (arith, length-append bytes rest)) in
     rw (long, take_at bytes rest n len, drop_at bytes rest n len, is) refl
 
-one_again : (x : ℕ) (rest : List ℕ) → number_at 1 (x ∷ rest) ≡ Some (x, rest)
+one_again : (x : ℕ) (rest : List ℕ) → number_in_front 1 (x ∷ rest) ≡ Some (x, rest)
 one_again x rest = let same : x * 256 ^ 0 + 0 ≡ x = omega arith in number_again 1 x (x ∷ []) rest refl same
 
-two_again : (x : ℕ) (rest : List ℕ) → x < 2 ^ 16 → number_at 2 (big_bytes 2 x ++ rest) ≡ Some (x, rest)
+two_again : (x : ℕ) (rest : List ℕ) → x < 2 ^ 16 → number_in_front 2 (big_bytes 2 x ++ rest) ≡ Some (x, rest)
 two_again x rest fits =
     let back = from_be_bytes-to_be_bytes_2 x fits in
     number_again 2 x (big_bytes 2 x) rest refl (omega (arith, back))
 
-four_again : (x : ℕ) (rest : List ℕ) → x < 2 ^ 32 → number_at 4 (big_bytes 4 x ++ rest) ≡ Some (x, rest)
+four_again : (x : ℕ) (rest : List ℕ) → x < 2 ^ 32 → number_in_front 4 (big_bytes 4 x ++ rest) ≡ Some (x, rest)
 four_again x rest fits =
     let back = from_be_bytes-to_be_bytes_4 x fits in
     number_again 4 x (big_bytes 4 x) rest refl (omega (arith, back))
 
-limited_again : (n most x : ℕ) (bytes rest : List ℕ) → number_at n bytes ≡ Some (x, rest) → x ≤ most → limited_at n most bytes ≡ Some (x, rest)
+limited_again : (n most x : ℕ) (bytes rest : List ℕ) → number_in_front n bytes ≡ Some (x, rest) → x ≤ most → limited_at n most bytes ≡ Some (x, rest)
 unfolding limited_at
 limited_again n most x bytes rest e few = let less : nat_lt most x ≡ false = le-ltb _ _ few in rw (e, less) refl
 
@@ -73,11 +73,11 @@ name_again name rest is =
 long_again : (bytes rest : List ℕ) → length bytes < 2 ^ 16 → long_at (long_bytes bytes ++ rest) ≡ Some (bytes, rest)
 unfolding long_at
 long_again bytes rest fits =
-    ap (λ b. number_at 2 b >>= λ size. front_at size.0 size.1) (append_assoc (big_bytes 2 (length bytes)) bytes rest)
+    ap (λ b. number_in_front 2 b >>= λ size. front_at size.0 size.1) (append_assoc (big_bytes 2 (length bytes)) bytes rest)
     ∙ rw (two_again (length bytes) (bytes ++ rest) fits) (front_again (length bytes) bytes rest refl)
 
 field_again : (field : Field) (rest : List ℕ) → field_at (field_number field ∷ rest) ≡ Some (field, rest)
-unfolding field_at field_of
+unfolding field_at field_numbered
 field_again fields.Mac rest = rw (one_again 0 rest) refl
 field_again fields.Hlen rest = rw (one_again 1 rest) refl
 field_again fields.Htype rest = rw (one_again 2 rest) refl
@@ -111,7 +111,7 @@ unfolding token_at
 behind_opcode version behind opcode bytes read e = rw (one_again opcode bytes) e
 
 operands_again : (version : Version) (behind : ℕ) (token : Token) (rest : List ℕ) → behind < 2 ^ 16 → IsToken version behind token → token_at version behind (token_bytes token ++ rest) ≡ Some (token, rest)
-unfolding operands_at plain_of
+unfolding operands_at plain_token
 operands_again v n (tokens.PushBytes bytes) rest few is = behind_opcode v n 0x01 (long_bytes bytes ++ rest) _ (rw (long_again bytes rest is) refl)
 operands_again v n (tokens.PushInt x) rest few is = behind_opcode v n 0x02 (big_bytes 4 x ++ rest) _ (rw (four_again x rest is) refl)
 operands_again v n (tokens.PushOption x) rest few is = behind_opcode v n 0x03 (x ∷ rest) _ (rw (one_again x rest) refl)

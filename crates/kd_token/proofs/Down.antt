@@ -8,7 +8,7 @@ use Rattle.kd_token.specs.declared.shape.Kind.TheVariants as kinds
 use Rattle.kd_token.specs.declared.token.Token.{Token}
 use Rattle.kd_token.specs.declared.token.Token.TheVariants as tokens
 use Rattle.kd_token.specs.Reading.{◌>>=◌}
-use Rattle.kd_token.specs.Shape.{CoversKind, Covers, take_bytes, take_bool, take_int, field_kind, substring_bound, hex_bound, gives}
+use Rattle.kd_token.specs.Shape.{CoversKind, Covers, bytes_taken, bool_taken, int_taken, field_kind, bound_of_substring, bound_of_hex, gives}
 
 -- where the first is there, the second is, and the relation holds of the two
 abbrev pub Down : {A B : Type 0} → (A → B → Type 0) → Option A → Option B → Type 0
@@ -25,7 +25,7 @@ bind_down R Q (Some x) (Some y) f g d h = h x y d
 abbrev BoundBelow : ℕ × List Kind → ℕ × List Kind → Type 0
 BoundBelow x y = (y.0 ≤ x.0) × Covers x.1 y.1
 
-bytes_down : (r s : List Kind) → Covers r s → Down BoundBelow (take_bytes r) (take_bytes s)
+bytes_down : (r s : List Kind) → Covers r s → Down BoundBelow (bytes_taken r) (bytes_taken s)
 bytes_down [] s c = tt
 bytes_down (k ∷ r) [] c = absurd c
 bytes_down (kinds.Bytes n ∷ r) (kinds.Bytes m ∷ s) c = (c.0, c.1)
@@ -34,7 +34,7 @@ bytes_down (kinds.Bytes n ∷ r) (kinds.Int ∷ s) c = absurd c.0
 bytes_down (kinds.Bool ∷ r) (l ∷ s) c = tt
 bytes_down (kinds.Int ∷ r) (l ∷ s) c = tt
 
-pub bool_down : (r s : List Kind) → Covers r s → Down Covers (take_bool r) (take_bool s)
+pub bool_down : (r s : List Kind) → Covers r s → Down Covers (bool_taken r) (bool_taken s)
 bool_down [] s c = tt
 bool_down (k ∷ r) [] c = absurd c
 bool_down (kinds.Bool ∷ r) (kinds.Bool ∷ s) c = c.1
@@ -43,7 +43,7 @@ bool_down (kinds.Bool ∷ r) (kinds.Int ∷ s) c = absurd c.0
 bool_down (kinds.Bytes n ∷ r) (l ∷ s) c = tt
 bool_down (kinds.Int ∷ r) (l ∷ s) c = tt
 
-int_down : (r s : List Kind) → Covers r s → Down Covers (take_int r) (take_int s)
+int_down : (r s : List Kind) → Covers r s → Down Covers (int_taken r) (int_taken s)
 int_down [] s c = tt
 int_down (k ∷ r) [] c = absurd c
 int_down (kinds.Int ∷ r) (kinds.Int ∷ s) c = c.1
@@ -62,11 +62,11 @@ pub covers_itself : (s : List Kind) → Covers s s
 covers_itself [] = tt
 covers_itself (k ∷ s) = (kind_covers k, covers_itself s)
 
-substring_down : (n m : ℕ) (count : Option ℤ) → m ≤ n → substring_bound m count ≤ substring_bound n count
+substring_down : (n m : ℕ) (count : Option ℤ) → m ≤ n → bound_of_substring m count ≤ bound_of_substring n count
 substring_down n m None le = le
 substring_down n m (Some z) le = omega (arith, le)
 
-pub hex_down : (n m a b : ℕ) → m ≤ n → b ≤ a → hex_bound m b ≤ hex_bound n a
+pub hex_down : (n m a b : ℕ) → m ≤ n → b ≤ a → bound_of_hex m b ≤ bound_of_hex n a
 hex_down zero zero a b le less = omega arith
 hex_down zero (suc m) a b le less = absurd (omega (arith, le))
 hex_down (suc n) zero a b le less = omega arith

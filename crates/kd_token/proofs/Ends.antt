@@ -10,7 +10,7 @@ use Rattle.kd_token.specs.declared.token.Token.{Token}
 use Rattle.kd_token.specs.declared.table.Entry.{Entry}
 use Rattle.kd_token.specs.declared.table.Entry.TheVariants.{Joined, Clash}
 use Rattle.kd_token.specs.File.{Code}
-use Rattle.kd_token.specs.Accepts.{Point, Flow, Assignment, flows, leaving, IsWithin, IsSound, AreSound, IsFaultAt, IsTooManySteps, IsNoFinish, IsVerifyFault, IsInPlaceOf, IsPlaceOf, Accepts, IsSoundThroughout}
+use Rattle.kd_token.specs.Accepts.{Point, Flow, Assignment, flows, leaving, IsWithin, IsSoundAt, AreSound, IsFaultAt, IsTooManySteps, IsNoFinish, IsVerifyFault, IsInPlaceOf, IsPlaceOf, Accepts, IsSoundThroughout}
 use Rattle.kd_token.specs.Table.{IsBelow, IsPassed}
 use Rattle.kd_token.proofs.Down.{Down}
 use Rattle.kd_token.proofs.FlowsDown.{EachBelow, flows_down, within_down}
@@ -18,7 +18,7 @@ use Rattle.kd_token.proofs.FlowsDown.{EachBelow, flows_down, within_down}
 -- an assignment that is sound through n is above what has arrived at n
 pub above_here : (p : Code) (n : ℕ) (entries : ℕ → Entry) → IsPassed p n entries → (a : Assignment) → AreSound p a (n + 1) → IsBelow (entries n) (a n)
 above_here p n entries k a s =
-    let here : IsSound p a n = s n (omega arith) in
+    let here : IsSoundAt p a n = s n (omega arith) in
     k.least a (λ i less. s i (omega (arith, less))) n (omega arith) here.start (λ i less. here.enter i)
 
 -- ways that bring different shapes meet
@@ -44,7 +44,7 @@ leave_fault p n entries s c token k le is at not = (le, (k.some, k.sound), refut
 
   refute : (a : Assignment) → AreSound p a (n + 1) → ⊥
   refute a sound =
-      let here : IsSound p a n = sound n (omega arith) in
+      let here : IsSoundAt p a n = sound n (omega arith) in
       let P : Entry → Type 0 = λ e. IsBelow e (a n) in
       let Q : Option Token → Type 0 = λ t. MatchOption (leaving (length p.names) t n (a n)) ⊥ (AllByRecursion (IsWithin p)) in
       by (a n) (subst P is (above_here p n entries k a sound)) (subst Q at here.leave)

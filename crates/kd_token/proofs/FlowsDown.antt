@@ -7,7 +7,7 @@ use Rattle.kd_token.specs.declared.token.Token.{Token}
 use Rattle.kd_token.specs.declared.way.Way.{Way}
 use Rattle.kd_token.specs.declared.way.Way.TheVariants as routes
 use Rattle.kd_token.specs.File.{Code}
-use Rattle.kd_token.specs.Shape.{CoversKind, Covers, IsShortKind, AreShort, gives, take_bool}
+use Rattle.kd_token.specs.Shape.{CoversKind, Covers, IsShortKind, AreShort, gives, bool_taken}
 use Rattle.kd_token.specs.Accepts.{Point, Flow, flow_to, way_of, flows_by, flows, IsWithin}
 use Rattle.kd_token.proofs.Down.{Down, bind_down, bool_down, gives_down}
 
@@ -27,9 +27,9 @@ down_by routes.On names token i x q c le =
     bind_down Covers EachBelow (gives names token x.shape) (gives names token q.shape) (λ s. Some (flow_to (i + 1) x s ∷ [])) (λ s. Some (flow_to (i + 1) q s ∷ [])) (gives_down names token x.shape q.shape c) (λ r s d. ((refl, d, omega (arith, le)), tt))
 down_by (routes.Skip skip) names token i x q c le = ((refl, c, omega (arith, le)), tt)
 down_by (routes.Fork skip) names token i x q c le =
-    bind_down Covers EachBelow (take_bool x.shape) (take_bool q.shape) (λ r. Some (flow_to (i + 1 + skip) x r ∷ flow_to (i + 1) x r ∷ [])) (λ r. Some (flow_to (i + 1 + skip) q r ∷ flow_to (i + 1) q r ∷ [])) (bool_down x.shape q.shape c) (λ r s d. ((refl, d, omega (arith, le)), ((refl, d, omega (arith, le)), tt)))
+    bind_down Covers EachBelow (bool_taken x.shape) (bool_taken q.shape) (λ r. Some (flow_to (i + 1 + skip) x r ∷ flow_to (i + 1) x r ∷ [])) (λ r. Some (flow_to (i + 1 + skip) q r ∷ flow_to (i + 1) q r ∷ [])) (bool_down x.shape q.shape c) (λ r s d. ((refl, d, omega (arith, le)), ((refl, d, omega (arith, le)), tt)))
 down_by (routes.Keep stays skip) names token i x q c le =
-    bind_down Covers EachBelow (take_bool x.shape) (take_bool q.shape) (λ r. Some (flow_to (i + 1 + skip) x (kinds.Bool ∷ r) ∷ flow_to (i + 1) x r ∷ [])) (λ r. Some (flow_to (i + 1 + skip) q (kinds.Bool ∷ r) ∷ flow_to (i + 1) q r ∷ [])) (bool_down x.shape q.shape c) (λ r s d. ((refl, (tt, d), omega (arith, le)), ((refl, d, omega (arith, le)), tt)))
+    bind_down Covers EachBelow (bool_taken x.shape) (bool_taken q.shape) (λ r. Some (flow_to (i + 1 + skip) x (kinds.Bool ∷ r) ∷ flow_to (i + 1) x r ∷ [])) (λ r. Some (flow_to (i + 1 + skip) q (kinds.Bool ∷ r) ∷ flow_to (i + 1) q r ∷ [])) (bool_down x.shape q.shape c) (λ r s d. ((refl, (tt, d), omega (arith, le)), ((refl, d, omega (arith, le)), tt)))
 
 -- the flows of a point below are below
 pub flows_down : (names : ℕ) (token : Token) (i : ℕ) (x q : Point) → Covers x.shape q.shape → q.count ≤ x.count → Down EachBelow (flows names token i x) (flows names token i q)

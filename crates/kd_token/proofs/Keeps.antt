@@ -8,7 +8,7 @@ use Rattle.kd_token.specs.declared.token.Token.TheVariants as tokens
 use Rattle.kd_token.specs.File.{Code}
 use Rattle.kd_token.specs.Reading.{◌>>=◌}
 use Rattle.kd_token.specs.Table.{IsRoomFor}
-use Rattle.kd_token.specs.Shape.{AreShort, IsShortKind, take_bytes, take_bool, take_int, gives}
+use Rattle.kd_token.specs.Shape.{AreShort, IsShortKind, bytes_taken, bool_taken, int_taken, gives}
 
 -- what holds of a result, where there is one
 abbrev pub Keeps : {A : Type 0} → (A → Type 0) → Option A → Type 0
@@ -22,19 +22,19 @@ bind_keeps P Q (Some x) f k h = h x k
 abbrev RestIsShort : ℕ → ℕ × List Kind → Type 0
 RestIsShort most x = AreShort most x.1
 
-bytes_keep : (most : ℕ) (s : List Kind) → AreShort most s → Keeps (RestIsShort most) (take_bytes s)
+bytes_keep : (most : ℕ) (s : List Kind) → AreShort most s → Keeps (RestIsShort most) (bytes_taken s)
 bytes_keep most [] a = tt
 bytes_keep most (kinds.Bytes n ∷ s) a = a.1
 bytes_keep most (kinds.Bool ∷ s) a = tt
 bytes_keep most (kinds.Int ∷ s) a = tt
 
-bool_keeps : (most : ℕ) (s : List Kind) → AreShort most s → Keeps (AreShort most) (take_bool s)
+bool_keeps : (most : ℕ) (s : List Kind) → AreShort most s → Keeps (AreShort most) (bool_taken s)
 bool_keeps most [] a = tt
 bool_keeps most (kinds.Bytes n ∷ s) a = tt
 bool_keeps most (kinds.Bool ∷ s) a = a.1
 bool_keeps most (kinds.Int ∷ s) a = tt
 
-int_keeps : (most : ℕ) (s : List Kind) → AreShort most s → Keeps (AreShort most) (take_int s)
+int_keeps : (most : ℕ) (s : List Kind) → AreShort most s → Keeps (AreShort most) (int_taken s)
 int_keeps most [] a = tt
 int_keeps most (kinds.Bytes n ∷ s) a = tt
 int_keeps most (kinds.Bool ∷ s) a = tt

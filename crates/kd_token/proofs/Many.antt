@@ -7,14 +7,14 @@ use Rattle.kd_token.specs.declared.fault.FileFault.TheVariants as faults
 use Rattle.kd_token.specs.declared.token.Token.{Token}
 use Rattle.kd_token.specs.declared.token.Version.{Version}
 use Rattle.kd_token.specs.File.{IsToken, AreTokens}
-use Rattle.kd_token.specs.Reading.{◌>>=◌, Refuses, many_at}
+use Rattle.kd_token.specs.Reading.{◌>>=◌, NothingRead, many_at}
 
 -- these items, and then those that are read
 abbrev pub with_front : {X : Type 0} → List X → Option (List X × List ℕ) → Option (List X × List ℕ)
 with_front front read = read >>= λ x. Some (front ++ x.0, x.1)
 
 -- where nothing is read any fault may come
-pub refuses : {A : Type 0} (fault : FileFault) (read : Option A) → read ≡ None → Refuses fault read
+pub refuses : {A : Type 0} (fault : FileFault) (read : Option A) → read ≡ None → NothingRead fault read
 refuses faults.Magic read e = e
 refuses faults.Version read e = e
 refuses (faults.Cut at) read e = e
@@ -25,7 +25,7 @@ refuses faults.Limit read e = e
 refuses faults.Memory read e = tt
 
 -- a fault comes where nothing is read, or memory ran out
-pub refused : {A B : Type 0} (fault : FileFault) (read : Option A) (next : Option B) → (read ≡ None → next ≡ None) → Refuses fault read → Refuses fault next
+pub refused : {A B : Type 0} (fault : FileFault) (read : Option A) (next : Option B) → (read ≡ None → next ≡ None) → NothingRead fault read → NothingRead fault next
 refused faults.Magic read next f e = f e
 refused faults.Version read next f e = f e
 refused (faults.Cut at) read next f e = f e
@@ -49,8 +49,8 @@ goes_on item front count i bytes x after total less one so_far =
     sym step ∙ so_far
 
 -- an item that is not read
-pub ends : {X : Type 0} (item : ℕ → List ℕ → Option (X × List ℕ)) (fault : FileFault) (front : List X) (count i : ℕ) (bytes : List ℕ) (total : Option (List X × List ℕ)) → i < count → Refuses fault (item (count - (i + 1)) bytes)
-    → with_front front (many_at item (count - i) bytes) ≡ total → Refuses fault total
+pub ends : {X : Type 0} (item : ℕ → List ℕ → Option (X × List ℕ)) (fault : FileFault) (front : List X) (count i : ℕ) (bytes : List ℕ) (total : Option (List X × List ℕ)) → i < count → NothingRead fault (item (count - (i + 1)) bytes)
+    → with_front front (many_at item (count - i) bytes) ≡ total → NothingRead fault total
 unfolding many_at
 ends item fault front count i bytes total less none so_far =
     let k : count - i ≡ suc (count - (i + 1)) = omega arith in

@@ -8,7 +8,7 @@ use Rattle.kd_token.specs.declared.table.Entry.{Entry}
 use Rattle.kd_token.specs.declared.table.Entry.TheVariants.{Unreached, Joined, Clash}
 use Rattle.kd_token.specs.File.{Code}
 use Rattle.kd_token.specs.Shape.{Covers}
-use Rattle.kd_token.specs.Accepts.{Point, Flow, Assignment, flows, leaving, out, origin, IsCovered, IsWithin, IsSound, AreSound}
+use Rattle.kd_token.specs.Accepts.{Point, Flow, Assignment, flows, leaving, out, origin, IsCovered, IsWithin, IsSoundAt, AreSound}
 use Rattle.kd_token.specs.Table.{spread, IsBelow, IsCoveredBy, Arrives, IsPassed, IsPoint}
 use Rattle.kd_token.proofs.Down.{Down}
 use Rattle.kd_token.proofs.FlowsDown.{EachBelow, flows_down}
@@ -107,16 +107,16 @@ sound_on p n entries x fs k is at within = sound where
       let given : x ≡ Some origin = subst Q (k.first e) (subst P e is) in
       there ∙ given
 
-  sound_here : IsSound p some n
+  sound_here : IsSoundAt p some n
   sound_here = record {
     start = begins;
     enter = λ i. enters i (cases_lt i n);
     leave = let P : Option (List Flow) → Type 0 = λ o. MatchOption o ⊥ (AllByRecursion (IsWithin p)) in subst P (sym out_there) within;
   }
 
-  sound_by : (j : ℕ) → j < n + 1 → (j < n) ⊎ (n ≤ j) → IsSound p some j
+  sound_by : (j : ℕ) → j < n + 1 → (j < n) ⊎ (n ≤ j) → IsSoundAt p some j
   sound_by j less (inl before) = sound_changed p k.some n x k.sound j before
-  sound_by j less (inr after) = let e : n ≡ j = omega (arith, less, after) in let P : ℕ → Type 0 = λ m. IsSound p some m in subst P e sound_here
+  sound_by j less (inr after) = let e : n ≡ j = omega (arith, less, after) in let P : ℕ → Type 0 = λ m. IsSoundAt p some m in subst P e sound_here
 
   sound : AreSound p some (n + 1)
   sound j less = sound_by j less (cases_lt j n)
@@ -155,7 +155,7 @@ passed_on p n entries x fs k is at within = record {
   least : (a : Assignment) → AreSound p a (n + 1) → (j : ℕ) → n + 1 ≤ j → (j ≡ 0 → a j ≡ Some origin) → Arrives p a (n + 1) j (IsCovered (a j)) → IsBelow (spread fs entries j) (a j)
   least a s j le start arrive =
       let earlier : AreSound p a n = λ i less. s i (omega (arith, less)) in
-      let here : IsSound p a n = s n (omega arith) in
+      let here : IsSoundAt p a n = s n (omega arith) in
       let below : IsBelow (entries n) (a n) = k.least a earlier n (omega arith) here.start (λ i less. here.enter i) in
       let so_far : IsBelow (entries j) (a j) = k.least a earlier j (omega (arith, le)) start (λ i less. arrive i (omega (arith, less))) in
       spread_least fs entries j (a j) so_far (above_covers (length p.names) (slice_get p.tokens n) n j (entries n) x (a n) (a j) fs is below at (some_leave (AllByRecursion (IsWithin p)) (out p a n) here.leave) (arrive n (omega arith)))

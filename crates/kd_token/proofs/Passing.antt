@@ -10,8 +10,8 @@ use Rattle.kd_token.specs.declared.way.Way.{Way}
 use Rattle.kd_token.specs.declared.way.Way.TheVariants as routes
 use Rattle.kd_token.specs.File.{Code}
 use Rattle.kd_token.specs.Reading.{◌>>=◌}
-use Rattle.kd_token.specs.Shape.{gives, take_bool}
-use Rattle.kd_token.specs.Accepts.{Point, Flow, Assignment, flow_to, way_of, flows_by, leaving, out, IsCovered, IsWithin, IsSound, AreSound}
+use Rattle.kd_token.specs.Shape.{gives, bool_taken}
+use Rattle.kd_token.specs.Accepts.{Point, Flow, Assignment, flow_to, way_of, flows_by, leaving, out, IsCovered, IsWithin, IsSoundAt, AreSound}
 
 -- each flow goes beyond this place
 abbrev AreBeyond : ℕ → List Flow → Type 0
@@ -23,11 +23,11 @@ beyond_by routes.On names token i q = one (gives names token q.shape) where
   one None = tt
   one (Some s) = (omega arith, tt)
 beyond_by (routes.Skip skip) names token i q = (omega arith, tt)
-beyond_by (routes.Fork skip) names token i q = two (take_bool q.shape) where
+beyond_by (routes.Fork skip) names token i q = two (bool_taken q.shape) where
   two : (o : Option (List Kind)) → MatchOption (o >>= λ r. Some (flow_to (i + 1 + skip) q r ∷ flow_to (i + 1) q r ∷ [])) (Unit {0}) (AreBeyond i)
   two None = tt
   two (Some r) = (omega arith, (omega arith, tt))
-beyond_by (routes.Keep stays skip) names token i q = two (take_bool q.shape) where
+beyond_by (routes.Keep stays skip) names token i q = two (bool_taken q.shape) where
   two : (o : Option (List Kind)) → MatchOption (o >>= λ r. Some (flow_to (i + 1 + skip) q (kinds.Bool ∷ r) ∷ flow_to (i + 1) q r ∷ [])) (Unit {0}) (AreBeyond i)
   two None = tt
   two (Some r) = (omega arith, (omega arith, tt))
@@ -56,7 +56,7 @@ changed_else a n x j other = let no : (j == n) ≡ false = ne_eqb j n other in r
 -- the places before the changed one stay sound
 pub sound_changed : (p : Code) (a : Assignment) (n : ℕ) (x : Option Point) → AreSound p a n → AreSound p (changed a n x) n
 sound_changed p a n x sound j less =
-    let s : IsSound p a j = sound j less in
+    let s : IsSoundAt p a j = sound j less in
     let here : changed a n x j ≡ a j = changed_else a n x j (λ e. omega (arith, e, less)) in
     let out_here : out p (changed a n x) j ≡ out p a j = ap (leaving (length p.names) (slice_get p.tokens j) j) here in
     record {

@@ -15,14 +15,14 @@ use Rattle.kd_token.specs.declared.table.Entry.{Entry}
 use Rattle.kd_token.specs.declared.table.Entry.TheVariants.{Unreached, Joined, Clash}
 use Rattle.kd_token.specs.File.{Code, HasFile, AreTokens, IsToken, IsShort}
 use Rattle.kd_token.specs.Reading.{◌>>=◌}
-use Rattle.kd_token.specs.Shape.{AreShort, IsShortKind, gives, take_bool}
-use Rattle.kd_token.specs.Meet.{met_kind, met}
+use Rattle.kd_token.specs.Shape.{AreShort, IsShortKind, gives, bool_taken}
+use Rattle.kd_token.specs.Meet.{met_of_kinds, met}
 use Rattle.kd_token.specs.Accepts.{Point, Flow, flow_to, way_of, flows_by, flows, IsWithin}
 use Rattle.kd_token.specs.Table.{joined_by, arrived, spread, skip_of, IsRoomFor, IsTidy, IsCoveredBy}
 use Rattle.kd_token.proofs.Again.{token_short}
 use Rattle.kd_token.proofs.Arrivals.{spread_covers}
 
-kind_met : (most : ℕ) (k l : Kind) → IsShortKind most k → IsShortKind most l → MatchOption (met_kind k l) (Unit {0}) (IsShortKind most)
+kind_met : (most : ℕ) (k l : Kind) → IsShortKind most k → IsShortKind most l → MatchOption (met_of_kinds k l) (Unit {0}) (IsShortKind most)
 kind_met most kinds.Bool kinds.Bool a b = tt
 kind_met most kinds.Int kinds.Int a b = tt
 kind_met most (kinds.Bytes n) (kinds.Bytes m) a b = omega (arith, a, b)
@@ -38,7 +38,7 @@ met_room : (most : ℕ) (r s : List Kind) → AreShort most r → AreShort most 
 met_room most [] [] a b = (refl, tt)
 met_room most [] (l ∷ s) a b = tt
 met_room most (k ∷ r) [] a b = tt
-met_room most (k ∷ r) (l ∷ s) a b = both (met_kind k l) (met r s) (kind_met most k l a.0 b.0) (met_room most r s a.1 b.1) where
+met_room most (k ∷ r) (l ∷ s) a b = both (met_of_kinds k l) (met r s) (kind_met most k l a.0 b.0) (met_room most r s a.1 b.1) where
   both : (m : Option Kind) (t : Option (List Kind)) → MatchOption m (Unit {0}) (IsShortKind most) → MatchOption t (Unit {0}) (λ t. (length t ≡ length r) × AreShort most t)
       → MatchOption (m >>= λ m. t >>= λ t. Some (m ∷ t)) (Unit {0}) (λ u. (length u ≡ length (k ∷ r)) × AreShort most u)
   both None t c d = tt
@@ -81,11 +81,11 @@ counts_by routes.On names token i q = one (gives names token q.shape) where
   one None = tt
   one (Some s) = (refl, tt)
 counts_by (routes.Skip skip) names token i q = (refl, tt)
-counts_by (routes.Fork skip) names token i q = two (take_bool q.shape) where
+counts_by (routes.Fork skip) names token i q = two (bool_taken q.shape) where
   two : (o : Option (List Kind)) → MatchOption (o >>= λ r. Some (flow_to (i + 1 + skip) q r ∷ flow_to (i + 1) q r ∷ [])) (Unit {0}) (Counts (q.count + 1))
   two None = tt
   two (Some r) = (refl, (refl, tt))
-counts_by (routes.Keep stays skip) names token i q = two (take_bool q.shape) where
+counts_by (routes.Keep stays skip) names token i q = two (bool_taken q.shape) where
   two : (o : Option (List Kind)) → MatchOption (o >>= λ r. Some (flow_to (i + 1 + skip) q (kinds.Bool ∷ r) ∷ flow_to (i + 1) q r ∷ [])) (Unit {0}) (Counts (q.count + 1))
   two None = tt
   two (Some r) = (refl, (refl, tt))
@@ -110,11 +110,11 @@ leads_by routes.On names token i q = one (gives names token q.shape) where
   one None = tt
   one (Some s) = (omega arith, omega arith)
 leads_by (routes.Skip skip) names token i q = (omega arith, omega arith)
-leads_by (routes.Fork skip) names token i q = two (take_bool q.shape) where
+leads_by (routes.Fork skip) names token i q = two (bool_taken q.shape) where
   two : (o : Option (List Kind)) → MatchOption (o >>= λ r. Some (flow_to (i + 1 + skip) q r ∷ flow_to (i + 1) q r ∷ [])) (Unit {0}) (LeadsOn i (i + 1 + skip))
   two None = tt
   two (Some r) = (omega arith, omega arith)
-leads_by (routes.Keep stays skip) names token i q = two (take_bool q.shape) where
+leads_by (routes.Keep stays skip) names token i q = two (bool_taken q.shape) where
   two : (o : Option (List Kind)) → MatchOption (o >>= λ r. Some (flow_to (i + 1 + skip) q (kinds.Bool ∷ r) ∷ flow_to (i + 1) q r ∷ [])) (Unit {0}) (LeadsOn i (i + 1 + skip))
   two None = tt
   two (Some r) = (omega arith, omega arith)

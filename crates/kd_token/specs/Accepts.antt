@@ -12,7 +12,7 @@ use Rattle.kd_token.specs.declared.way.Way.TheVariants as routes
 use Rattle.kd_token.specs.declared.token.Token.TheVariants as tokens
 use Rattle.kd_token.specs.File.{Code}
 use Rattle.kd_token.specs.Reading.{◌>>=◌}
-use Rattle.kd_token.specs.Shape.{Covers, AreShort, gives, take_bool}
+use Rattle.kd_token.specs.Shape.{Covers, AreShort, gives, bool_taken}
 
 -- what is known at a place: the shape of the stack, and how many steps led there at most
 pub record Point : Type 0 where
@@ -49,8 +49,8 @@ way_of token = routes.On
 abbrev pub flows_by : Way → ℕ → Token → ℕ → Point → Option (List Flow)
 flows_by routes.On names token i q = gives names token q.shape >>= λ s. Some (flow_to (i + 1) q s ∷ [])
 flows_by (routes.Skip skip) names token i q = Some (flow_to (i + 1 + skip) q q.shape ∷ [])
-flows_by (routes.Fork skip) names token i q = take_bool q.shape >>= λ r. Some (flow_to (i + 1 + skip) q r ∷ flow_to (i + 1) q r ∷ [])
-flows_by (routes.Keep stays skip) names token i q = take_bool q.shape >>= λ r. Some (flow_to (i + 1 + skip) q (kinds.Bool ∷ r) ∷ flow_to (i + 1) q r ∷ [])
+flows_by (routes.Fork skip) names token i q = bool_taken q.shape >>= λ r. Some (flow_to (i + 1 + skip) q r ∷ flow_to (i + 1) q r ∷ [])
+flows_by (routes.Keep stays skip) names token i q = bool_taken q.shape >>= λ r. Some (flow_to (i + 1 + skip) q (kinds.Bool ∷ r) ∷ flow_to (i + 1) q r ∷ [])
 
 -- the flows of a token at place i; none where it cannot take what it wants
 abbrev pub flows : ℕ → Token → ℕ → Point → Option (List Flow)
@@ -77,14 +77,14 @@ IsWithin p f = (length f.point.shape ≤ p.depth) × AreShort p.bound f.point.sh
 
 -- place j is sound: the first is the origin; each flow to j is covered there; its token can take what it
 -- wants, and what it gives is within what is declared
-pub record IsSound (p : Code) (a : Assignment) (j : ℕ) : Type 0 where
+pub record IsSoundAt (p : Code) (a : Assignment) (j : ℕ) : Type 0 where
   pub start : j ≡ 0 → a j ≡ Some origin
   pub enter : (i : ℕ) → MatchOption (out p a i) (Unit {0}) (AllByRecursion (λ f. f.to ≡ j → IsCovered (a j) f.point))
   pub leave : MatchOption (out p a j) ⊥ (AllByRecursion (IsWithin p))
 
 -- the places before n are sound
 abbrev pub AreSound : Code → Assignment → ℕ → Type 0
-AreSound p a n = (j : ℕ) → j < n → IsSound p a j
+AreSound p a n = (j : ℕ) → j < n → IsSoundAt p a j
 
 -- all places are sound, the end too
 abbrev pub IsSoundThroughout : Code → Assignment → Type 0

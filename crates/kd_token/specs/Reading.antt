@@ -21,14 +21,14 @@ None >>= f = None
 (Some x) >>= f = f x
 
 -- a fault comes only where nothing is read; want of memory may come at any file
-abbrev pub Refuses : {A : Type 0} → FileFault → Option A → Type 0
-Refuses faults.Memory read = Unit {0}
-Refuses fault read = read ≡ None
+abbrev pub NothingRead : {A : Type 0} → FileFault → Option A → Type 0
+NothingRead faults.Memory read = Unit {0}
+NothingRead fault read = read ≡ None
 
 -- what a reader answered, seen so, is what is read, unless memory runs out
-abbrev pub Gives : {X A : Type 0} → (X → A) → Result X FileFault → Option A → Type 0
-Gives view (Ok x) read = read ≡ Some (view x)
-Gives view (Err fault) read = Refuses fault read
+abbrev pub ReaderGives : {X A : Type 0} → (X → A) → Result X FileFault → Option A → Type 0
+ReaderGives view (Ok x) read = read ≡ Some (view x)
+ReaderGives view (Err fault) read = NothingRead fault read
 
 -- so many items, each read with so many behind it
 unfoldable pub many_at : {X : Type 0} → (ℕ → List ℕ → Option (X × List ℕ)) → ℕ → List ℕ → Option (List X × List ℕ)
@@ -40,25 +40,25 @@ abbrev pub front_at : ℕ → List ℕ → Option (List ℕ × List ℕ)
 front_at n bytes = if nat_lt (length bytes) n then None else Some (take n bytes, drop n bytes)
 
 -- a number of n bytes
-abbrev pub number_at : ℕ → List ℕ → Option (ℕ × List ℕ)
-number_at n bytes = if nat_lt (length bytes) n then None else Some (big_number n (take n bytes), drop n bytes)
+abbrev pub number_in_front : ℕ → List ℕ → Option (ℕ × List ℕ)
+number_in_front n bytes = if nat_lt (length bytes) n then None else Some (big_number n (take n bytes), drop n bytes)
 
 -- a number of n bytes that is at most this
 unfoldable pub limited_at : ℕ → ℕ → List ℕ → Option (ℕ × List ℕ)
 limited_at n most bytes = do
-  number ← number_at n bytes
+  number ← number_in_front n bytes
   if nat_lt most number.0 then None else Some number
 
 -- a signed number of four bytes
 unfoldable pub signed_at : List ℕ → Option (ℤ × List ℕ)
 signed_at bytes = do
-  number ← number_at 4 bytes
+  number ← number_in_front 4 bytes
   Some (cast_signed w32 number.0, number.1)
 
 -- the magic number
 unfoldable pub magic_at : List ℕ → Option (List ℕ)
 magic_at bytes = do
-  magic ← number_at 4 bytes
+  magic ← number_in_front 4 bytes
   if magic.0 == 0x4b34544b then Some magic.1 else None
 
 -- the version of a version byte
@@ -68,14 +68,14 @@ version_of byte = if byte == 1 then Some versions.One else if byte == 2 then Som
 -- a version
 unfoldable pub version_at : List ℕ → Option (Version × List ℕ)
 version_at bytes = do
-  byte ← number_at 1 bytes
+  byte ← number_in_front 1 bytes
   version ← version_of byte.0
   Some (version, byte.1)
 
 -- a name behind its length, which is not 0
 unfoldable pub name_at : List ℕ → Option (List ℕ × List ℕ)
 name_at bytes = do
-  size ← number_at 1 bytes
+  size ← number_in_front 1 bytes
   if size.0 == 0 then None else front_at size.0 size.1
 
 -- so many names
@@ -85,12 +85,12 @@ names_at count bytes = many_at (λ behind. name_at) count bytes
 -- a byte string behind its length of two bytes
 unfoldable pub long_at : List ℕ → Option (List ℕ × List ℕ)
 long_at bytes = do
-  size ← number_at 2 bytes
+  size ← number_in_front 2 bytes
   front_at size.0 size.1
 
 -- the field of a number
-unfoldable pub field_of : ℕ → Option Field
-field_of number =
+unfoldable pub field_numbered : ℕ → Option Field
+field_numbered number =
     if number == 0 then Some fields.Mac
     else if number == 1 then Some fields.Hlen
     else if number == 2 then Some fields.Htype
@@ -106,8 +106,8 @@ field_of number =
 -- a field
 unfoldable pub field_at : List ℕ → Option (Field × List ℕ)
 field_at bytes = do
-  number ← number_at 1 bytes
-  field ← field_of number.0
+  number ← number_in_front 1 bytes
+  field ← field_numbered number.0
   Some (field, number.1)
 
 -- a substring's number of bytes behind its mode
@@ -119,7 +119,7 @@ number_of_bytes_at bytes = do
 -- how many bytes a substring has
 unfoldable pub count_at : List ℕ → Option (Option ℤ × List ℕ)
 count_at bytes = do
-  mode ← number_at 1 bytes
+  mode ← number_in_front 1 bytes
   if mode.0 == 1 then Some (None, mode.1) else if mode.0 == 0 then number_of_bytes_at mode.1 else None
 
 -- a substring's start and number of bytes
@@ -135,8 +135,8 @@ skip_at versions.One behind bytes = None
 skip_at versions.Two behind bytes = limited_at 2 behind bytes
 
 -- the token without operands of an opcode
-unfoldable pub plain_of : ℕ → Option Token
-plain_of opcode =
+unfoldable pub plain_token : ℕ → Option Token
+plain_token opcode =
     if opcode == 0x09 then Some tokens.Equal
     else if opcode == 0x0a then Some tokens.Not
     else if opcode == 0x0b then Some tokens.And
@@ -154,24 +154,24 @@ plain_of opcode =
 unfoldable pub operands_at : Version → ℕ → ℕ → List ℕ → Option (Token × List ℕ)
 operands_at version behind opcode bytes =
     if opcode == 0x01 then (long_at bytes >>= λ x. Some (tokens.PushBytes x.0, x.1))
-    else if opcode == 0x02 then (number_at 4 bytes >>= λ x. Some (tokens.PushInt x.0, x.1))
-    else if opcode == 0x03 then (number_at 1 bytes >>= λ x. Some (tokens.PushOption x.0, x.1))
-    else if opcode == 0x04 then (number_at 1 bytes >>= λ x. Some (tokens.PushRelay x.0, x.1))
+    else if opcode == 0x02 then (number_in_front 4 bytes >>= λ x. Some (tokens.PushInt x.0, x.1))
+    else if opcode == 0x03 then (number_in_front 1 bytes >>= λ x. Some (tokens.PushOption x.0, x.1))
+    else if opcode == 0x04 then (number_in_front 1 bytes >>= λ x. Some (tokens.PushRelay x.0, x.1))
     else if opcode == 0x05 then (field_at bytes >>= λ x. Some (tokens.PushField x.0, x.1))
-    else if opcode == 0x06 then (number_at 1 bytes >>= λ x. Some (tokens.OptionExists x.0, x.1))
-    else if opcode == 0x07 then (number_at 1 bytes >>= λ x. Some (tokens.RelayExists x.0, x.1))
-    else if opcode == 0x08 then (number_at 1 bytes >>= λ x. Some (tokens.Member x.0, x.1))
+    else if opcode == 0x06 then (number_in_front 1 bytes >>= λ x. Some (tokens.OptionExists x.0, x.1))
+    else if opcode == 0x07 then (number_in_front 1 bytes >>= λ x. Some (tokens.RelayExists x.0, x.1))
+    else if opcode == 0x08 then (number_in_front 1 bytes >>= λ x. Some (tokens.Member x.0, x.1))
     else if opcode == 0x0e then substring_at bytes
     else if opcode == 0x20 then (skip_at version behind bytes >>= λ x. Some (tokens.Branch x.0, x.1))
     else if opcode == 0x21 then (skip_at version behind bytes >>= λ x. Some (tokens.PopBranchFalse x.0, x.1))
     else if opcode == 0x22 then (skip_at version behind bytes >>= λ x. Some (tokens.BranchFalseElsePop x.0, x.1))
     else if opcode == 0x23 then (skip_at version behind bytes >>= λ x. Some (tokens.BranchTrueElsePop x.0, x.1))
-    else (plain_of opcode >>= λ token. Some (token, bytes))
+    else (plain_token opcode >>= λ token. Some (token, bytes))
 
 -- a token, with so many tokens behind it
 unfoldable pub token_at : Version → ℕ → List ℕ → Option (Token × List ℕ)
 token_at version behind bytes = do
-  opcode ← number_at 1 bytes
+  opcode ← number_in_front 1 bytes
   operands_at version behind opcode.0 opcode.1
 
 -- so many tokens
@@ -197,7 +197,7 @@ program_at bytes = do
   version ← version_at rest
   steps ← limited_at 2 1024 version.1
   depth ← limited_at 1 64 steps.1
-  bound ← number_at 2 depth.1
+  bound ← number_in_front 2 depth.1
   names ← all_names_at bound.1
   tokens ← all_tokens_at version.0 names.1
   if length tokens.1 == 0 then Some (record { version = version.0; steps = steps.0; depth = depth.0; bound = bound.0; names = names.0; tokens = tokens.0 }) else None

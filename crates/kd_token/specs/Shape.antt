@@ -41,25 +41,25 @@ AreShort most [] = Unit {0}
 AreShort most (k ∷ s) = IsShortKind most k × AreShort most s
 
 -- the bound of the byte string on top, and what is below it
-abbrev pub take_bytes : List Kind → Option (ℕ × List Kind)
-take_bytes [] = None
-take_bytes (kinds.Bytes n ∷ s) = Some (n, s)
-take_bytes (kinds.Bool ∷ s) = None
-take_bytes (kinds.Int ∷ s) = None
+abbrev pub bytes_taken : List Kind → Option (ℕ × List Kind)
+bytes_taken [] = None
+bytes_taken (kinds.Bytes n ∷ s) = Some (n, s)
+bytes_taken (kinds.Bool ∷ s) = None
+bytes_taken (kinds.Int ∷ s) = None
 
 -- what is below the truth value on top
-abbrev pub take_bool : List Kind → Option (List Kind)
-take_bool [] = None
-take_bool (kinds.Bool ∷ s) = Some s
-take_bool (kinds.Int ∷ s) = None
-take_bool (kinds.Bytes n ∷ s) = None
+abbrev pub bool_taken : List Kind → Option (List Kind)
+bool_taken [] = None
+bool_taken (kinds.Bool ∷ s) = Some s
+bool_taken (kinds.Int ∷ s) = None
+bool_taken (kinds.Bytes n ∷ s) = None
 
 -- what is below the number on top
-abbrev pub take_int : List Kind → Option (List Kind)
-take_int [] = None
-take_int (kinds.Int ∷ s) = Some s
-take_int (kinds.Bool ∷ s) = None
-take_int (kinds.Bytes n ∷ s) = None
+abbrev pub int_taken : List Kind → Option (List Kind)
+int_taken [] = None
+int_taken (kinds.Int ∷ s) = Some s
+int_taken (kinds.Bool ∷ s) = None
+int_taken (kinds.Bytes n ∷ s) = None
 
 -- the kind of each field
 abbrev pub field_kind : Field → Kind
@@ -75,13 +75,13 @@ field_kind fields.Transaction = kinds.Int
 field_kind fields.Length = kinds.Int
 
 -- how long a substring of at most n bytes is
-abbrev pub substring_bound : ℕ → Option ℤ → ℕ
-substring_bound n None = n
-substring_bound n (Some count) = min n (unsigned_abs count)
+abbrev pub bound_of_substring : ℕ → Option ℤ → ℕ
+bound_of_substring n None = n
+bound_of_substring n (Some count) = min n (unsigned_abs count)
 
 -- how long the hexadecimal text of at most n bytes is, with separators of at most m bytes between them
-abbrev pub hex_bound : ℕ → ℕ → ℕ
-hex_bound n m = if n == 0 then 0 else 2 * n + (n - 1) * m
+abbrev pub bound_of_hex : ℕ → ℕ → ℕ
+bound_of_hex n m = if n == 0 then 0 else 2 * n + (n - 1) * m
 
 -- what a token that goes on makes of a shape, where it can take what it wants; `names` is how many
 -- names the program has. A branch does not go on: what it leaves is its flows' (`flows_by`)
@@ -94,38 +94,38 @@ gives names (tokens.PushField field) s = Some (field_kind field ∷ s)
 gives names (tokens.OptionExists code) s = Some (kinds.Bool ∷ s)
 gives names (tokens.RelayExists code) s = Some (kinds.Bool ∷ s)
 gives names (tokens.Member index) s = if nat_lt index names then Some (kinds.Bool ∷ s) else None
-gives names tokens.Equal s = take_bytes s >>= λ b. take_bytes b.1 >>= λ a. Some (kinds.Bool ∷ a.1)
-gives names tokens.Not s = take_bool s >>= λ r. Some (kinds.Bool ∷ r)
-gives names tokens.And s = take_bool s >>= λ q. take_bool q >>= λ r. Some (kinds.Bool ∷ r)
-gives names tokens.Or s = take_bool s >>= λ q. take_bool q >>= λ r. Some (kinds.Bool ∷ r)
-gives names tokens.IfElse s = take_bytes s >>= λ b. take_bytes b.1 >>= λ a. take_bool a.1 >>= λ r. Some (kinds.Bytes (max a.0 b.0) ∷ r)
-gives names (tokens.Substring start count) s = take_bytes s >>= λ a. Some (kinds.Bytes (substring_bound a.0 count) ∷ a.1)
-gives names tokens.Concat s = take_bytes s >>= λ b. take_bytes b.1 >>= λ a. Some (kinds.Bytes (a.0 + b.0) ∷ a.1)
-gives names tokens.HexString s = take_bytes s >>= λ b. take_bytes b.1 >>= λ a. Some (kinds.Bytes (hex_bound a.0 b.0) ∷ a.1)
-gives names tokens.Lower s = take_bytes s >>= λ a. Some (kinds.Bytes a.0 ∷ a.1)
-gives names tokens.Upper s = take_bytes s >>= λ a. Some (kinds.Bytes a.0 ∷ a.1)
-gives names tokens.IntToText s = take_int s >>= λ r. Some (kinds.Bytes 10 ∷ r)
-gives names tokens.IntBytes s = take_int s >>= λ r. Some (kinds.Bytes 4 ∷ r)
+gives names tokens.Equal s = bytes_taken s >>= λ b. bytes_taken b.1 >>= λ a. Some (kinds.Bool ∷ a.1)
+gives names tokens.Not s = bool_taken s >>= λ r. Some (kinds.Bool ∷ r)
+gives names tokens.And s = bool_taken s >>= λ q. bool_taken q >>= λ r. Some (kinds.Bool ∷ r)
+gives names tokens.Or s = bool_taken s >>= λ q. bool_taken q >>= λ r. Some (kinds.Bool ∷ r)
+gives names tokens.IfElse s = bytes_taken s >>= λ b. bytes_taken b.1 >>= λ a. bool_taken a.1 >>= λ r. Some (kinds.Bytes (max a.0 b.0) ∷ r)
+gives names (tokens.Substring start count) s = bytes_taken s >>= λ a. Some (kinds.Bytes (bound_of_substring a.0 count) ∷ a.1)
+gives names tokens.Concat s = bytes_taken s >>= λ b. bytes_taken b.1 >>= λ a. Some (kinds.Bytes (a.0 + b.0) ∷ a.1)
+gives names tokens.HexString s = bytes_taken s >>= λ b. bytes_taken b.1 >>= λ a. Some (kinds.Bytes (bound_of_hex a.0 b.0) ∷ a.1)
+gives names tokens.Lower s = bytes_taken s >>= λ a. Some (kinds.Bytes a.0 ∷ a.1)
+gives names tokens.Upper s = bytes_taken s >>= λ a. Some (kinds.Bytes a.0 ∷ a.1)
+gives names tokens.IntToText s = int_taken s >>= λ r. Some (kinds.Bytes 10 ∷ r)
+gives names tokens.IntBytes s = int_taken s >>= λ r. Some (kinds.Bytes 4 ∷ r)
 gives names (tokens.Branch skip) s = None
 gives names (tokens.PopBranchFalse skip) s = None
 gives names (tokens.BranchFalseElsePop skip) s = None
 gives names (tokens.BranchTrueElsePop skip) s = None
 
 -- how many values a token takes from the stack
-abbrev pub takes : Token → ℕ
-takes tokens.IfElse = 3
-takes tokens.Equal = 2
-takes tokens.And = 2
-takes tokens.Or = 2
-takes tokens.Concat = 2
-takes tokens.HexString = 2
-takes tokens.Not = 1
-takes (tokens.Substring start count) = 1
-takes tokens.Lower = 1
-takes tokens.Upper = 1
-takes tokens.IntToText = 1
-takes tokens.IntBytes = 1
-takes (tokens.PopBranchFalse skip) = 1
-takes (tokens.BranchFalseElsePop skip) = 1
-takes (tokens.BranchTrueElsePop skip) = 1
-takes token = 0
+abbrev pub taken_count : Token → ℕ
+taken_count tokens.IfElse = 3
+taken_count tokens.Equal = 2
+taken_count tokens.And = 2
+taken_count tokens.Or = 2
+taken_count tokens.Concat = 2
+taken_count tokens.HexString = 2
+taken_count tokens.Not = 1
+taken_count (tokens.Substring start count) = 1
+taken_count tokens.Lower = 1
+taken_count tokens.Upper = 1
+taken_count tokens.IntToText = 1
+taken_count tokens.IntBytes = 1
+taken_count (tokens.PopBranchFalse skip) = 1
+taken_count (tokens.BranchFalseElsePop skip) = 1
+taken_count (tokens.BranchTrueElsePop skip) = 1
+taken_count token = 0

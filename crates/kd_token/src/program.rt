@@ -1,7 +1,7 @@
 ghost use Rattle.std.specs.Prelude.{◌≡◌, ◌≤◌, ◌++◌, length, slice_get, option_copied, IfOk, MatchResult, OnOk};
 ghost use Rattle.std.specs.List.{AllByRecursion};
 ghost use Rattle.kd_token.specs.File.{Code, HasFile, IsFileOf, IsName, IsShort, code, head_bytes, names_bytes, tokens_bytes};
-ghost use Rattle.kd_token.specs.Reading.{Gives, program_at};
+ghost use Rattle.kd_token.specs.Reading.{ReaderGives, program_at};
 ghost use Rattle.kd_token.specs.declared.fault.FileFault.TheVariants.{Memory};
 
 use crate::fault::FileFault;
@@ -143,7 +143,7 @@ impl Program {
 // The program that the whole of the bytes spells.
 #[tactic(auto, unfolding(crate::specs::Reading::program_at))]
 fn whole(alloc: Global, bytes: &[u8]) -> Result<Program, FileFault>
-    ensures read { Gives (λ p. p) result (program_at bytes.now) }
+    ensures read { ReaderGives (λ p. p) result (program_at bytes.now) }
     ensures found { IfOk result (λ p. IsFileOf bytes.now p) }
 {
     let mut reader = Reader::new(bytes);

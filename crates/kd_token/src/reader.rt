@@ -3,7 +3,7 @@ ghost use Rattle.std.specs.Int.RustNames.{FitsSigned};
 ghost use Rattle.std.specs.Int.{w32};
 ghost use Rattle.byteorder.specs.Endian.{big_bytes, big_number};
 ghost use Rattle.kd_token.specs.File.{signed_bytes};
-ghost use Rattle.kd_token.specs.Reading.{Gives, front_at, limited_at, number_at, signed_at};
+ghost use Rattle.kd_token.specs.Reading.{ReaderGives, front_at, limited_at, number_in_front, signed_at};
 
 use crate::fault::FileFault;
 use byteorder::{BigEndian, ByteOrder};
@@ -50,7 +50,7 @@ impl<'a> Reader<'a> {
 
     // The next n bytes, a field of their own.
     pub(crate) fn take(&mut self, n: usize) -> Result<&'a [u8], FileFault>
-        ensures read { Gives (λ b. (b.now, self.new)) result (front_at n self.old) }
+        ensures read { ReaderGives (λ b. (b.now, self.new)) result (front_at n self.old) }
         ensures found { IfOk result (λ b. (self.old ≡ b.now ++ self.new) × (length b.now ≡ n)) }
     {
         if self.left.len() < n {
@@ -62,21 +62,21 @@ impl<'a> Reader<'a> {
     }
 
     pub(crate) fn u8(&mut self) -> Result<u8, FileFault>
-        ensures read { Gives (λ n. (n, self.new)) result (number_at 1 self.old) }
+        ensures read { ReaderGives (λ n. (n, self.new)) result (number_in_front 1 self.old) }
         ensures found { IfOk result (λ n. self.old ≡ n ∷ self.new) }
     {
         Ok(self.take(1)?[0])
     }
 
     pub(crate) fn u16(&mut self) -> Result<u16, FileFault>
-        ensures read { Gives (λ n. (n, self.new)) result (number_at 2 self.old) }
+        ensures read { ReaderGives (λ n. (n, self.new)) result (number_in_front 2 self.old) }
         ensures found { IfOk result (λ n. self.old ≡ big_bytes 2 n ++ self.new) }
     {
         Ok(u16_of(self.take(2)?))
     }
 
     pub(crate) fn u32(&mut self) -> Result<u32, FileFault>
-        ensures read { Gives (λ n. (n, self.new)) result (number_at 4 self.old) }
+        ensures read { ReaderGives (λ n. (n, self.new)) result (number_in_front 4 self.old) }
         ensures found { IfOk result (λ n. self.old ≡ big_bytes 4 n ++ self.new) }
     {
         Ok(u32_of(self.take(4)?))
@@ -85,7 +85,7 @@ impl<'a> Reader<'a> {
     // A signed number of four bytes.
     #[tactic(auto, unfolding(crate::specs::Reading::signed_at), using(crate::proofs::Numbers::signed_back))]
     pub(crate) fn i32(&mut self) -> Result<i32, FileFault>
-        ensures read { Gives (λ n. (n, self.new)) result (signed_at self.old) }
+        ensures read { ReaderGives (λ n. (n, self.new)) result (signed_at self.old) }
         ensures found { IfOk result (λ n. (self.old ≡ signed_bytes n ++ self.new) × FitsSigned w32 n) }
     {
         Ok(self.u32()?.cast_signed())
@@ -94,7 +94,7 @@ impl<'a> Reader<'a> {
     // A number of one byte that is at most this.
     #[tactic(auto, unfolding(crate::specs::Reading::limited_at))]
     pub(crate) fn u8_to(&mut self, most: u8) -> Result<u8, FileFault>
-        ensures read { Gives (λ n. (n, self.new)) result (limited_at 1 most self.old) }
+        ensures read { ReaderGives (λ n. (n, self.new)) result (limited_at 1 most self.old) }
         ensures found { IfOk result (λ n. (self.old ≡ n ∷ self.new) × (n ≤ most)) }
     {
         let number = self.u8()?;
@@ -107,7 +107,7 @@ impl<'a> Reader<'a> {
     // A number of two bytes that is at most this.
     #[tactic(auto, unfolding(crate::specs::Reading::limited_at))]
     pub(crate) fn u16_to(&mut self, most: u16) -> Result<u16, FileFault>
-        ensures read { Gives (λ n. (n, self.new)) result (limited_at 2 most self.old) }
+        ensures read { ReaderGives (λ n. (n, self.new)) result (limited_at 2 most self.old) }
         ensures found { IfOk result (λ n. (self.old ≡ big_bytes 2 n ++ self.new) × (n ≤ most)) }
     {
         let number = self.u16()?;

@@ -4,7 +4,7 @@ ghost use Rattle.std.specs.Int.{w32};
 ghost use Rattle.std.specs.List.{AllByRecursion, flat_map};
 ghost use Rattle.byteorder.specs.Endian.{big_bytes};
 ghost use Rattle.kd_token.specs.File.{AreTokens, IsBranch, IsCount, IsName, IsToken, count_bytes, field_number, long_bytes, name_bytes, signed_bytes, token_bytes, version_number};
-ghost use Rattle.kd_token.specs.Reading.{Gives, all_names_at, all_tokens_at, count_at, field_at, field_of, long_at, magic_at, name_at, names_at, operands_at, plain_of, skip_at, substring_at, token_at, tokens_at, version_at};
+ghost use Rattle.kd_token.specs.Reading.{ReaderGives, all_names_at, all_tokens_at, count_at, field_at, field_numbered, long_at, magic_at, name_at, names_at, operands_at, plain_token, skip_at, substring_at, token_at, tokens_at, version_at};
 ghost use Rattle.kd_token.specs.declared.token.Version.{Version};
 
 use crate::fault::FileFault;
@@ -22,7 +22,7 @@ const MOST_TOKENS: u16 = 1024;
 // Passes the magic number.
 #[tactic(auto, unfolding(crate::specs::Reading::magic_at))]
 pub(crate) fn magic(reader: &mut Reader<'_>) -> Result<(), FileFault>
-    ensures read { Gives (λ _. reader.new) result (magic_at reader.old) }
+    ensures read { ReaderGives (λ _. reader.new) result (magic_at reader.old) }
     ensures found { IfOk result (λ _. reader.old ≡ big_bytes 4 0x4b34544b ++ reader.new) }
 {
     if reader.len() < 4 || reader.u32()? != MAGIC {
@@ -34,7 +34,7 @@ pub(crate) fn magic(reader: &mut Reader<'_>) -> Result<(), FileFault>
 // The version of a version byte.
 #[tactic(auto, unfolding(crate::specs::Reading::version_at))]
 pub(crate) fn version(reader: &mut Reader<'_>) -> Result<Version, FileFault>
-    ensures read { Gives (λ v. (v, reader.new)) result (version_at reader.old) }
+    ensures read { ReaderGives (λ v. (v, reader.new)) result (version_at reader.old) }
     ensures found { IfOk result (λ v. reader.old ≡ version_number v ∷ reader.new) }
 {
     match reader.u8()? {
@@ -47,7 +47,7 @@ pub(crate) fn version(reader: &mut Reader<'_>) -> Result<Version, FileFault>
 // A name behind its length.
 #[tactic(auto, unfolding(crate::specs::Reading::name_at))]
 fn name(alloc: Global, reader: &mut Reader<'_>) -> Result<Bytes, FileFault>
-    ensures read { Gives (λ b. (b, reader.new)) result (name_at reader.old) }
+    ensures read { ReaderGives (λ b. (b, reader.new)) result (name_at reader.old) }
     ensures found { IfOk result (λ b. (reader.old ≡ name_bytes b ++ reader.new) × IsName b) }
 {
     let at = reader.at();
@@ -61,7 +61,7 @@ fn name(alloc: Global, reader: &mut Reader<'_>) -> Result<Bytes, FileFault>
 
 // So many names.
 fn names_of(alloc: Global, reader: &mut Reader<'_>, count: u8) -> Result<Vec<Bytes>, FileFault>
-    ensures read { Gives (λ v. (v.items, reader.new)) result (names_at count reader.old) }
+    ensures read { ReaderGives (λ v. (v.items, reader.new)) result (names_at count reader.old) }
     ensures found { IfOk result (λ v. (reader.old ≡ flat_map name_bytes v.items ++ reader.new)
         × AllByRecursion IsName v.items × (length v.items ≡ count)) }
 {
@@ -76,7 +76,7 @@ fn names_of(alloc: Global, reader: &mut Reader<'_>, count: u8) -> Result<Vec<Byt
 // The names behind their number.
 #[tactic(auto, unfolding(crate::specs::Reading::all_names_at))]
 pub(crate) fn names(alloc: Global, reader: &mut Reader<'_>) -> Result<Vec<Bytes>, FileFault>
-    ensures read { Gives (λ v. (v.items, reader.new)) result (all_names_at reader.old) }
+    ensures read { ReaderGives (λ v. (v.items, reader.new)) result (all_names_at reader.old) }
     ensures found { IfOk result (λ v. (reader.old ≡ length v.items ∷ (flat_map name_bytes v.items ++ reader.new))
         × AllByRecursion IsName v.items × (length v.items ≤ 64)) }
 {
@@ -87,7 +87,7 @@ pub(crate) fn names(alloc: Global, reader: &mut Reader<'_>) -> Result<Vec<Bytes>
 // A byte string behind its length of two bytes.
 #[tactic(auto, unfolding(crate::specs::Reading::long_at))]
 fn long(alloc: Global, reader: &mut Reader<'_>) -> Result<Bytes, FileFault>
-    ensures read { Gives (λ b. (b, reader.new)) result (long_at reader.old) }
+    ensures read { ReaderGives (λ b. (b, reader.new)) result (long_at reader.old) }
     ensures found { IfOk result (λ b. (reader.old ≡ long_bytes b ++ reader.new) × (length b < 2 ^ 16)) }
 {
     let size = reader.u16()?;
@@ -96,9 +96,9 @@ fn long(alloc: Global, reader: &mut Reader<'_>) -> Result<Bytes, FileFault>
 }
 
 // The field of a number.
-#[tactic(auto, unfolding(crate::specs::Reading::field_of))]
+#[tactic(auto, unfolding(crate::specs::Reading::field_numbered))]
 fn field_of(number: u8) -> Option<Field>
-    ensures read { result ≡ field_of number }
+    ensures read { result ≡ field_numbered number }
     ensures found { IfSome result (λ f. field_number f ≡ number) }
 {
     match number {
@@ -119,7 +119,7 @@ fn field_of(number: u8) -> Option<Field>
 // A field.
 #[tactic(auto, unfolding(crate::specs::Reading::field_at))]
 fn field(reader: &mut Reader<'_>) -> Result<Field, FileFault>
-    ensures read { Gives (λ f. (f, reader.new)) result (field_at reader.old) }
+    ensures read { ReaderGives (λ f. (f, reader.new)) result (field_at reader.old) }
     ensures found { IfOk result (λ f. reader.old ≡ field_number f ∷ reader.new) }
 {
     let at = reader.at();
@@ -133,7 +133,7 @@ fn field(reader: &mut Reader<'_>) -> Result<Field, FileFault>
 // How many bytes a substring has.
 #[tactic(auto, unfolding(crate::specs::Reading::count_at, crate::specs::Reading::number_of_bytes_at))]
 fn count(reader: &mut Reader<'_>) -> Result<Option<i32>, FileFault>
-    ensures read { Gives (λ n. (n, reader.new)) result (count_at reader.old) }
+    ensures read { ReaderGives (λ n. (n, reader.new)) result (count_at reader.old) }
     ensures found { IfOk result (λ n. (reader.old ≡ count_bytes n ++ reader.new) × IsCount n) }
 {
     let at = reader.at();
@@ -147,7 +147,7 @@ fn count(reader: &mut Reader<'_>) -> Result<Option<i32>, FileFault>
 // A substring's start and number of bytes.
 #[tactic(auto, unfolding(crate::specs::Reading::substring_at))]
 fn substring(reader: &mut Reader<'_>) -> Result<Token, FileFault>
-    ensures read { Gives (λ t. (t, reader.new)) result (substring_at reader.old) }
+    ensures read { ReaderGives (λ t. (t, reader.new)) result (substring_at reader.old) }
     ensures found { IfOk result (λ t. (0x0e ∷ reader.old ≡ token_bytes t ++ reader.new)
         × ((v : Version) (n : ℕ) → IsToken v n t)) }
 {
@@ -164,7 +164,7 @@ fn skip(
     behind: u16,
     opcode_at: usize,
 ) -> Result<u16, FileFault>
-    ensures read { Gives (λ d. (d, reader.new)) result (skip_at version behind reader.old) }
+    ensures read { ReaderGives (λ d. (d, reader.new)) result (skip_at version behind reader.old) }
     ensures found { IfOk result (λ d. (reader.old ≡ big_bytes 2 d ++ reader.new) × IsBranch version behind d) }
 {
     match version {
@@ -181,9 +181,9 @@ fn skip(
 }
 
 // The token without operands of an opcode.
-#[tactic(auto, unfolding(crate::specs::Reading::plain_of))]
+#[tactic(auto, unfolding(crate::specs::Reading::plain_token))]
 fn plain_of(opcode: u8) -> Option<Token>
-    ensures read { result ≡ plain_of opcode }
+    ensures read { result ≡ plain_token opcode }
     ensures found { IfSome result (λ t. (token_bytes t ≡ opcode ∷ []) × ((v : Version) (n : ℕ) → IsToken v n t)) }
 {
     match opcode {
@@ -212,7 +212,7 @@ fn operands(
     opcode: u8,
     at: usize,
 ) -> Result<Token, FileFault>
-    ensures read { Gives (λ t. (t, reader.new)) result (operands_at version behind opcode reader.old) }
+    ensures read { ReaderGives (λ t. (t, reader.new)) result (operands_at version behind opcode reader.old) }
     ensures found { IfOk result (λ t. (opcode ∷ reader.old ≡ token_bytes t ++ reader.new) × IsToken version behind t) }
 {
     match opcode {
@@ -244,7 +244,7 @@ fn token(
     version: Version,
     behind: u16,
 ) -> Result<Token, FileFault>
-    ensures read { Gives (λ t. (t, reader.new)) result (token_at version behind reader.old) }
+    ensures read { ReaderGives (λ t. (t, reader.new)) result (token_at version behind reader.old) }
     ensures found { IfOk result (λ t. (reader.old ≡ token_bytes t ++ reader.new) × IsToken version behind t) }
 {
     let at = reader.at();
@@ -259,7 +259,7 @@ fn tokens_of(
     version: Version,
     count: u16,
 ) -> Result<Vec<Token>, FileFault>
-    ensures read { Gives (λ v. (v.items, reader.new)) result (tokens_at version count reader.old) }
+    ensures read { ReaderGives (λ v. (v.items, reader.new)) result (tokens_at version count reader.old) }
     ensures found { IfOk result (λ v. (reader.old ≡ flat_map token_bytes v.items ++ reader.new)
         × AreTokens version v.items × (length v.items ≡ count)) }
 {
@@ -278,7 +278,7 @@ pub(crate) fn tokens(
     reader: &mut Reader<'_>,
     version: Version,
 ) -> Result<Vec<Token>, FileFault>
-    ensures read { Gives (λ v. (v.items, reader.new)) result (all_tokens_at version reader.old) }
+    ensures read { ReaderGives (λ v. (v.items, reader.new)) result (all_tokens_at version reader.old) }
     ensures found { IfOk result (λ v. (reader.old ≡ big_bytes 2 (length v.items) ++ (flat_map token_bytes v.items ++ reader.new))
         × AreTokens version v.items × (length v.items ≤ 1024)) }
 {

@@ -1,7 +1,7 @@
 ghost use Rattle.std.specs.Prelude.{◌≡◌, ◌≤◌, ◌<◌, ◌∷◌, [], drop, length, IsTrue, ◌↔◌, MatchOption};
-ghost use Rattle.kd_token.specs.Shape.{AreShort, IsShortKind, field_kind, gives, hex_bound, substring_bound, take_bool, take_bytes, take_int};
+ghost use Rattle.kd_token.specs.Shape.{AreShort, IsShortKind, field_kind, gives, bound_of_hex, bound_of_substring, bool_taken, bytes_taken, int_taken};
 ghost use Rattle.kd_token.specs.File.{IsShort};
-ghost use Rattle.kd_token.specs.Meet.{met, met_kind};
+ghost use Rattle.kd_token.specs.Meet.{met, met_of_kinds};
 ghost use Rattle.kd_token.specs.declared.shape.Kind.TheVariants.{Bool, Int};
 
 use crate::token::{Field, Token};
@@ -109,7 +109,7 @@ impl Shape {
 
     // The bound of the byte string on top, which is taken.
     fn take_bytes(&mut self) -> Option<u32>
-        ensures { MatchOption result (take_bytes self.old ≡ None) (λ n. take_bytes self.old ≡ Some (n, self.new)) }
+        ensures { MatchOption result (bytes_taken self.old ≡ None) (λ n. bytes_taken self.old ≡ Some (n, self.new)) }
     {
         match self.pop() {
             Some(Kind::Bytes(n)) => Some(n),
@@ -119,7 +119,7 @@ impl Shape {
 
     // The truth value on top is taken.
     pub(crate) fn take_bool(&mut self) -> Option<()>
-        ensures taken { MatchOption result (take_bool self.old ≡ None) (λ _. take_bool self.old ≡ Some self.new) }
+        ensures taken { MatchOption result (bool_taken self.old ≡ None) (λ _. bool_taken self.old ≡ Some self.new) }
         ensures top { MatchOption result (Unit {0}) (λ _. self.old ≡ Bool ∷ self.new) }
     {
         match self.pop() {
@@ -130,7 +130,7 @@ impl Shape {
 
     // The number on top is taken.
     fn take_int(&mut self) -> Option<()>
-        ensures { MatchOption result (take_int self.old ≡ None) (λ _. take_int self.old ≡ Some self.new) }
+        ensures { MatchOption result (int_taken self.old ≡ None) (λ _. int_taken self.old ≡ Some self.new) }
     {
         match self.pop() {
             Some(Kind::Int) => Some(()),
@@ -221,7 +221,7 @@ pub(crate) fn is_short(kind: Kind, most: u32) -> bool
 
 // The least kind that covers both, where there is one.
 fn met_kind(first: Kind, second: Kind) -> Option<Kind>
-    ensures { result ≡ met_kind first second }
+    ensures { result ≡ met_of_kinds first second }
 {
     match (first, second) {
         (Kind::Bool, Kind::Bool) => Some(Kind::Bool),
@@ -246,7 +246,7 @@ fn kind_of(field: Field) -> Kind
 
 // How long a substring of at most n bytes is.
 fn bound_of(n: u32, count: Option<i32>) -> u32
-    ensures { result ≡ substring_bound n count }
+    ensures { result ≡ bound_of_substring n count }
 {
     match count {
         None => n,
@@ -258,7 +258,7 @@ fn bound_of(n: u32, count: Option<i32>) -> u32
 fn hex_bound(n: u32, m: u32) -> u32
     requires bytes { n ≤ 65535 }
     requires separator { m ≤ 65535 }
-    ensures { result ≡ hex_bound n m }
+    ensures { result ≡ bound_of_hex n m }
 {
     if n == 0 { 0 } else { 2 * n + (n - 1) * m }
 }

@@ -1,7 +1,7 @@
 ghost use Rattle.std.specs.Prelude.{◌≡◌, ℕ, ◌+◌, ◌<◌, ◌≤◌, [], ◌∷◌, length, slice_get, None, Some, IfErr, IfOk, MatchOption, MatchResult, vec_capacity};
 ghost use Rattle.std.specs.List.{AllByRecursion};
 ghost use Rattle.kd_token.specs.File.{HasFile, IsShort};
-ghost use Rattle.kd_token.specs.Shape.{AreShort, gives, take_bool, takes};
+ghost use Rattle.kd_token.specs.Shape.{AreShort, gives, bool_taken, taken_count};
 ghost use Rattle.kd_token.specs.declared.fault.VerifyFault.TheVariants.{Finish, Memory, Steps};
 ghost use Rattle.kd_token.specs.declared.shape.Kind.TheVariants.{Bool};
 ghost use Rattle.kd_token.specs.declared.table.Entry.TheVariants.{Joined, Unreached};
@@ -156,7 +156,7 @@ fn finish(table: &[Entry], program: &Program) -> Result<(), VerifyFault>
 
 // How many values a token takes.
 fn takes(token: &Token) -> usize
-    ensures { result ≡ takes token.now }
+    ensures { result ≡ taken_count token.now }
 {
     match token {
         Token::IfElse => 3,
@@ -268,7 +268,7 @@ fn settle(
 
 // The truth value on top is taken.
 fn below(shape: &mut Shape, token: &Token, at: usize) -> Result<(), VerifyFault>
-    ensures { MatchResult result (λ _. shape.old ≡ Bool ∷ shape.new) (λ e. (place_of e ≡ Some at) × (take_bool shape.old ≡ None)) }
+    ensures { MatchResult result (λ _. shape.old ≡ Bool ∷ shape.new) (λ e. (place_of e ≡ Some at) × (bool_taken shape.old ≡ None)) }
 {
     let values = shape.len();
     match shape.take_bool() {

@@ -8,7 +8,7 @@ use Rattle.kd_compile.specs.Compiled.{IsCompiled, compile_fault_number, first_ov
 use Rattle.kd_compile.specs.Value.{truth}
 use Rattle.kd_expr.specs.Faults.{expr_fault_number, type_fault_number}
 use Rattle.kd_expr.specs.Grammar.{Parses}
-use Rattle.kd_expr.specs.Size.{nodes}
+use Rattle.kd_expr.specs.Size.{node_count}
 use Rattle.kd_expr.specs.Tree.{Tree}
 use Rattle.kd_expr.specs.Typing.{test_type}
 use Rattle.kd_expr.specs.declared.fault.ExprFault.{ExprFault}
@@ -93,7 +93,7 @@ pub record OfText (says : Tree → Printed → Type 0) (text : List ℕ) (p : Pr
 
 -- the nodes of a class test
 abbrev pub TypesTree : Tree → Printed → Type 0
-TypesTree = OfTest (λ tree p. IsSuccess (nodes_line (nodes tree)) p)
+TypesTree = OfTest (λ tree p. IsSuccess (nodes_line (node_count tree)) p)
 
 -- the same of a text
 abbrev pub TypesText : List ℕ → Printed → Type 0

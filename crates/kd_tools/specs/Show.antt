@@ -24,8 +24,8 @@ dotted (b ∷ []) = decimal b
 dotted (b ∷ c ∷ bytes) = decimal b ++ codes "." ++ dotted (c ∷ bytes)
 
 -- an address: its four bytes in decimal
-abbrev pub address_text : ℕ → List ℕ
-address_text address = dotted (big_bytes 4 address)
+abbrev pub shown_address : ℕ → List ℕ
+shown_address address = dotted (big_bytes 4 address)
 
 -- a line's end
 abbrev pub line_feed : List ℕ
@@ -45,8 +45,8 @@ numbers_line h =
 -- the header's addresses
 abbrev pub addresses_line : Header → List ℕ
 addresses_line h =
-    (codes "ciaddr " ++ address_text h.ciaddr) ++ (codes " yiaddr " ++ address_text h.yiaddr)
-    ++ (codes " siaddr " ++ address_text h.siaddr) ++ (codes " giaddr " ++ address_text h.giaddr) ++ line_feed
+    (codes "ciaddr " ++ shown_address h.ciaddr) ++ (codes " yiaddr " ++ shown_address h.yiaddr)
+    ++ (codes " siaddr " ++ shown_address h.siaddr) ++ (codes " giaddr " ++ shown_address h.giaddr) ++ line_feed
 
 -- the hardware address
 abbrev pub mac_line : Header → List ℕ

@@ -3,7 +3,7 @@ ghost use Rattle.std.specs.Fmt.{decimal};
 ghost use Rattle.std.specs.List.{flat_map};
 ghost use Rattle.kd_options.specs.Relay.{firsts};
 ghost use Rattle.kd_options.specs.RelayWalk.{relay_list};
-ghost use Rattle.kd_tools.specs.Show.{shown, address_text, len_line, numbers_line, addresses_line, mac_line, type_line, option_line, relay_line, entry_line, header_lines, show_text};
+ghost use Rattle.kd_tools.specs.Show.{shown, shown_address, len_line, numbers_line, addresses_line, mac_line, type_line, option_line, relay_line, entry_line, header_lines, show_text};
 
 use kd_options::Message;
 use kd_wire::Header;
@@ -141,7 +141,7 @@ fn put_bytes(alloc: Global, out: &mut String, word: &str, bytes: &[u8]) -> Resul
 
 // A word and an address in decimal.
 fn put_address(out: &mut String, word: &str, address: u32) -> Result<(), AllocError>
-    ensures { OnOk result (string_bytes out.new ≡ string_bytes out.old ++ (word.now ++ address_text address)) }
+    ensures { OnOk result (string_bytes out.new ≡ string_bytes out.old ++ (word.now ++ shown_address address)) }
 {
     let [a, b, c, d] = address.to_be_bytes();
     write!(out, "{word}{a}.{b}.{c}.{d}")

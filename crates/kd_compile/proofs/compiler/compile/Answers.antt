@@ -3,7 +3,7 @@ use Rattle.kd_compile.proofs.Accepting.{accepted}
 use Rattle.kd_compile.proofs.Keeping.{has_measures, keeps_in_limits}
 use Rattle.kd_compile.proofs.Ranges.{few_tokens, depth_le}
 use Rattle.kd_compile.specs.Compiled.{HasMeasures, Keeps, first_over}
-use Rattle.kd_compile.specs.Measures.{tokens, depth}
+use Rattle.kd_compile.specs.Measures.{token_count, stack_depth}
 use Rattle.kd_compile.specs.Tokens.{program_for}
 use Rattle.kd_expr.specs.Tree.{Tree}
 use Rattle.kd_expr.specs.View.{tree_of}
@@ -13,14 +13,14 @@ use Rattle.kd_compile.proofs.compiler.compile.Goals as goal
 pub tokens-requires : goal.tokens-requires
 tokens-requires c =
     let few = few_tokens (tree_of c.args.typed.now) c.tree-tree.ensures.text in
-    let same = ap (λ n. tokens (tree_of n)) c.tree-tree.ensures.same in
+    let same = ap (λ n. token_count (tree_of n)) c.tree-tree.ensures.same in
     omega (arith, few, same)
 
 pub depth-requires : goal.depth-requires
 depth-requires c =
     let few = few_tokens (tree_of c.args.typed.now) c.tree-tree.ensures.text in
     let less = depth_le (tree_of c.args.typed.now) in
-    let same = ap (λ n. depth (tree_of n)) c.tree-tree.ensures.same in
+    let same = ap (λ n. stack_depth (tree_of n)) c.tree-tree.ensures.same in
     omega (arith, few, less, same)
 
 pub returns-in-Ok-clause-measured : goal.returns-in-Ok-clause-measured

@@ -1,7 +1,7 @@
 use Rattle.std.proofs.Common.{◌≡◌, drop}
 use Rattle.std.specs.List.{list_all}
-use Rattle.kd_config.specs.Rules.{is_within}
+use Rattle.kd_config.specs.Rules.{lies_within}
 use Rattle.kd_config.proofs.rules.check_pools.Given as goal
 
 abbrev pub invariant-loop-i : goal.invariant-loop-i
-invariant-loop-i l = list_all (is_within l.prefix) l.pools ≡ list_all (is_within l.prefix) (drop l.i l.pools)
+invariant-loop-i l = list_all (lies_within l.prefix) l.pools ≡ list_all (lies_within l.prefix) (drop l.i l.pools)

@@ -1,5 +1,5 @@
 use Rattle.std.proofs.Common.{◌≡◌, ◌++◌, [], ap, subst}
-use Rattle.kd_lease.specs.Given.{class_options, given, pool_options}
+use Rattle.kd_lease.specs.Given.{class_options, given, options_of_pool}
 use Rattle.kd_lease.specs.Valuing.{HasValues}
 use Rattle.kd_lease.proofs.Giving.{all_given}
 use Rattle.kd_lease.proofs.given.put_given.Goals as goal
@@ -19,7 +19,7 @@ returns c =
     let three = c.put_class_options.ensures (pool ++ own) two in
     let four = c.put_all-3.ensures (pool ++ own ++ classes) three in
     let five = c.put.ensures (pool ++ own ++ classes ++ all) four in
-    let here : pool ≡ pool_options subnet.pools address = c.pool_options.ensures in
+    let here : pool ≡ options_of_pool subnet.pools address = c.pool_options.ensures in
     let held : classes ≡ class_options config.classes names = ap (λ cs. class_options cs names) c.classes.ensures.same in
     c.put_values.ensures
     (given config subnet names address)

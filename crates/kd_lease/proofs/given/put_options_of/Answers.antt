@@ -1,5 +1,5 @@
 use Rattle.std.proofs.Common.{◌≡◌, ◌++◌, ap, sym, ◌∙◌, subst, true}
-use Rattle.kd_machine.specs.World.{is_held}
+use Rattle.kd_machine.specs.Parts.{is_held}
 use Rattle.kd_lease.specs.Valuing.{HasValues}
 use Rattle.kd_lease.proofs.Giving.{one_held}
 use Rattle.kd_lease.proofs.given.put_options_of.Goals as goal

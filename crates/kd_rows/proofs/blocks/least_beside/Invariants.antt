@@ -1,6 +1,6 @@
-use Rattle.kd_rows.specs.Index.{block_of}
+use Rattle.kd_rows.specs.Index.{block_number}
 use Rattle.kd_rows.proofs.Bounds.{IsLeastTo}
 use Rattle.kd_rows.proofs.blocks.least_beside.Given as goal
 
 abbrev pub invariant-loop-place : goal.invariant-loop-place
-invariant-loop-place l = IsLeastTo l.rows.rows (block_of l.address) l.place l.least
+invariant-loop-place l = IsLeastTo l.rows.rows (block_number l.address) l.place l.least

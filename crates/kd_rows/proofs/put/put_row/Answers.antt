@@ -22,5 +22,5 @@ returns-else-eq-clause-indexed c =
 pub returns-in-None-clause-indexed : goal.returns-in-None-clause-indexed
 returns-in-None-clause-indexed c =
     let p = subst (λ (client : List ℕ). IsKeyPlace (key_at c.args.rows.now.rows) c.args.rows.now.index (client, c.args.row.address) c.key_place-key.result) c.as_slice-in-None.ensures c.key_place-key.ensures in
-    let is = new_index c.args.rows.now.rows c.args.row c.args.rows.now.index c.insert.new.self.index c.requires.indexed c.in-None.ensures (c.key_place-key.result, p, c.insert.ensures.index) in
-    subst (λ (rows : List Row). IsIndex rows c.insert.new.self.index) (sym c.insert.ensures.rows) is
+    let is = new_index c.args.rows.now.rows c.args.row c.args.rows.now.index c.insert_row.new.self.index c.requires.indexed c.in-None.ensures (c.key_place-key.result, p, c.insert_row.ensures.index) in
+    subst (λ (rows : List Row). IsIndex rows c.insert_row.new.self.index) (sym c.insert_row.ensures.rows) is

@@ -1,6 +1,6 @@
 use Rattle.std.proofs.Common.{sym, ap, ◌∙◌}
 use Rattle.std.specs.List.{list_any}
-use Rattle.kd_machine.specs.World.{same}
+use Rattle.kd_machine.specs.Parts.{same}
 use Rattle.kd_machine.proofs.Names.{distinct_images, inserted}
 use Rattle.kd_machine.proofs.held.Held.add.Goals as goal
 

@@ -1,4 +1,4 @@
-use Rattle.kd_machine.specs.World.{same}
+use Rattle.kd_machine.specs.Parts.{same}
 use Rattle.kd_machine.proofs.Names.{distinct_images}
 use Rattle.kd_machine.proofs.held.Held.base.Goals as goal
 

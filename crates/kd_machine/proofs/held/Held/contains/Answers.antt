@@ -1,5 +1,5 @@
 use Rattle.std.proofs.Common.{sym, ◌∙◌}
-use Rattle.kd_machine.specs.World.{same}
+use Rattle.kd_machine.specs.Parts.{same}
 use Rattle.kd_machine.proofs.Names.{any_image}
 use Rattle.kd_machine.proofs.held.Held.contains.Goals as goal
 

@@ -1,9 +1,9 @@
 use Rattle.std.proofs.Common.{◌≡◌, ◌≤◌, ◌+◌, ◌-◌, true, None, Bool, ℕ, List, ap, arith, if◌then◌else◌, is_some, subst, sym, ◌∙◌}
 use Rattle.std.specs.List.{All}
 use Rattle.kd_rows.specs.declared.row.Row.{Row}
-use Rattle.kd_rows.specs.Index.{IsBound, IsBounded, IsNow, block_of, bound_row, end_at}
+use Rattle.kd_rows.specs.Index.{IsBound, IsBounded, IsNow, block_number, bound_row, end_at}
 use Rattle.kd_rows.specs.Row.{IsInRange}
-use Rattle.kd_rows.specs.Table.{Rise, Table, latest_of, row_at, spare, with_row}
+use Rattle.kd_rows.specs.Table.{Rise, Table, latest_of, row_at, room_for_row, with_row}
 use Rattle.kd_rows.proofs.Bounds.{bounded_set, enough_after, kept_is, room_for, some_end}
 use Rattle.kd_rows.proofs.Sets.{all-with_row, latest_of-with_row, rise-with_row}
 use Rattle.kd_rows.proofs.rows.Rows.set.Goals as goal
@@ -13,7 +13,7 @@ bound_now-least-requires c = subst Rise (sym c.put_row.ensures.rows) (rise-with_
 
 pub set-requires-clause-room : goal.set-requires-clause-room
 set-requires-clause-room c = λ none.
-    let able = subst (λ (t : Table). spare t c.args.row ≡ true) (sym c.self.view_is) c.requires.spare in
+    let able = subst (λ (t : Table). room_for_row t c.args.row ≡ true) (sym c.self.view_is) c.requires.spare in
     let least = room_for c.self.inside.rows.rows c.self.inside.blocks.rows c.args.row c.self.inside.room c.self.invariant.bounded able (subst (λ block. row_at c.self.inside.blocks.rows block ≡ None) c.block_of-block.ensures none) in
     omega (arith, least, c.self.invariant.enough)
 
@@ -25,7 +25,7 @@ invariant_of-self c =
     let bounds = c.self.inside.blocks.rows in
     let bound : Row = bound_row (record { block = c.block_of-block.result; least = c.bound_now-least.result }) in
     let block = c.block_of-block.ensures in
-    let now = subst (λ (rows : List Row). IsNow rows (block_of c.args.row.address) c.kept_bound-kept.result c.bound_now-least.result) c.put_row.ensures.rows c.bound_now-least.ensures in
+    let now = subst (λ (rows : List Row). IsNow rows (block_number c.args.row.address) c.kept_bound-kept.result c.bound_now-least.result) c.put_row.ensures.rows c.bound_now-least.ensures in
     let held = c.find.ensures ∙ ap (end_at bounds) block in
     let is = subst (λ (n : ℕ). IsBound (with_row c.args.row old) n c.bound_now-least.result) (sym block) (kept_is old bounds c.args.row c.find.result c.kept_bound-kept.result c.bound_now-least.result c.self.invariant.bounded held c.kept_bound-kept.ensures now) in
     record {

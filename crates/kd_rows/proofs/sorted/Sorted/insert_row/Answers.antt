@@ -2,7 +2,7 @@ use Rattle.std.proofs.Common.{◌≡◌, ap, arith, length, ◌∙◌}
 use Rattle.std.specs.List.{insert}
 use Rattle.kd_rows.specs.Index.{Ordered}
 use Rattle.kd_rows.proofs.Slots.{index_more, inserted_now, number_fits, within_more}
-use Rattle.kd_rows.proofs.sorted.Sorted.insert.Goals as goal
+use Rattle.kd_rows.proofs.sorted.Sorted.insert_row.Goals as goal
 
 pub number_of-number-requires : goal.number_of-number-requires
 number_of-number-requires c = λ low.
