@@ -47,7 +47,7 @@ part_value m fields.Msgtype = Number (type_in (value_of 53 m.options))
 part_value m fields.Transid = Number m.header.xid
 part_value m fields.Length = Number m.len
 
--- a sub-option of a message's relay information, where it is present
+-- a sub-option of a message's relay information, where it is present (kd_options `laws::relay_list_is_standard`)
 abbrev pub relay_value : Seen → ℕ → Option (List ℕ)
 relay_value m code = lookup (nat_eq code) (relay_list m.options)
 

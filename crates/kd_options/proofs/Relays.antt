@@ -80,3 +80,19 @@ is_sub_options value = by (are_whole_from 0 value) refl
 pub is_relay_list : (value : Option (List ℕ)) → IsRelayList value (sub_options_in value)
 is_relay_list None = refl
 is_relay_list (Some value) = is_sub_options value
+
+-- the walk over the texts of sub-options gives them back
+walk_back : (list : List Piece) → subs_from 0 (flat_map sub_text list) ≡ list
+walk_back [] = subs_from-none
+walk_back (p ∷ list) = subs_from-front p.0 p.1 (flat_map sub_text list) ∙ ap (λ rest. p ∷ rest) (walk_back list)
+
+-- a value has one list of sub-options
+one_list : (value : List ℕ) (list other : List Piece) → IsSubOptions value list → IsSubOptions value other → list ≡ other
+one_list value list other (inl e) (inl f) = sym (walk_back list) ∙ ap (subs_from 0) (sym e ∙ f) ∙ walk_back other
+one_list value list other (inl e) (inr f) = absurd (f.0 list e)
+one_list value list other (inr e) (inl f) = absurd (e.0 other f)
+one_list value list other (inr e) (inr f) = e.1 ∙ sym f.1
+
+pub one_relay_list : (value : Option (List ℕ)) (list other : List Piece) → IsRelayList value list → IsRelayList value other → list ≡ other
+one_relay_list None list other e f = e ∙ sym f
+one_relay_list (Some value) list other e f = one_list value list other e f

@@ -4,28 +4,14 @@ use Rattle.std.specs.Prelude.{ℕ, ◌++◌, List, [], ◌∷◌, Option, Some, 
 use Rattle.std.specs.Fmt.{decimal}
 use Rattle.std.specs.List.{flat_map}
 use Rattle.byteorder.specs.Endian.{big_bytes}
-use Rattle.hex.specs.Hex.{encode_lower}
 use Rattle.kd_wire.specs.Area.{Piece}
 use Rattle.kd_wire.specs.declared.header.Header.{Header}
 use Rattle.kd_options.specs.Joined.{value_of}
 use Rattle.kd_options.specs.Message.{Seen, mac_of}
 use Rattle.kd_options.specs.Relay.{firsts}
 use Rattle.kd_options.specs.RelayWalk.{relay_list}
-
--- bytes: two hexadecimal digits each, or a dash where there are none
-abbrev pub shown : List ℕ → List ℕ
-shown [] = codes "-"
-shown (b ∷ bytes) = encode_lower (b ∷ bytes)
-
--- numbers with dots between them
-abbrev pub dotted : List ℕ → List ℕ
-dotted [] = []
-dotted (b ∷ []) = decimal b
-dotted (b ∷ c ∷ bytes) = decimal b ++ codes "." ++ dotted (c ∷ bytes)
-
--- an address: its four bytes in decimal
-abbrev pub shown_address : ℕ → List ℕ
-shown_address address = dotted (big_bytes 4 address)
+use Rattle.kd_machine.specs.Parts.{type_in}
+use Rattle.kd_replay.specs.Text.{address_text, bytes_text}
 
 -- a line's end
 abbrev pub line_feed : List ℕ
@@ -39,28 +25,22 @@ len_line len = codes "len " ++ decimal len ++ line_feed
 abbrev pub numbers_line : Header → List ℕ
 numbers_line h =
     (codes "op " ++ decimal h.op) ++ (codes " htype " ++ decimal h.htype) ++ (codes " hlen " ++ decimal h.hlen)
-    ++ (codes " hops " ++ decimal h.hops) ++ (codes " xid " ++ shown (big_bytes 4 h.xid))
-    ++ (codes " secs " ++ decimal h.secs) ++ (codes " flags " ++ shown (big_bytes 2 h.flags)) ++ line_feed
+    ++ (codes " hops " ++ decimal h.hops) ++ (codes " xid " ++ bytes_text (big_bytes 4 h.xid))
+    ++ (codes " secs " ++ decimal h.secs) ++ (codes " flags " ++ bytes_text (big_bytes 2 h.flags)) ++ line_feed
 
 -- the header's addresses
 abbrev pub addresses_line : Header → List ℕ
 addresses_line h =
-    (codes "ciaddr " ++ shown_address h.ciaddr) ++ (codes " yiaddr " ++ shown_address h.yiaddr)
-    ++ (codes " siaddr " ++ shown_address h.siaddr) ++ (codes " giaddr " ++ shown_address h.giaddr) ++ line_feed
+    (codes "ciaddr " ++ address_text h.ciaddr) ++ (codes " yiaddr " ++ address_text h.yiaddr)
+    ++ (codes " siaddr " ++ address_text h.siaddr) ++ (codes " giaddr " ++ address_text h.giaddr) ++ line_feed
 
 -- the hardware address
 abbrev pub mac_line : Header → List ℕ
-mac_line h = (codes "mac " ++ shown (mac_of h)) ++ line_feed
-
--- the number of the message type
-abbrev pub type_number_of : Option (List ℕ) → ℕ
-type_number_of None = 0
-type_number_of (Some []) = 0
-type_number_of (Some (n ∷ bytes)) = n
+mac_line h = (codes "mac " ++ bytes_text (mac_of h)) ++ line_feed
 
 -- the message type
 abbrev pub type_line : List Piece → List ℕ
-type_line options = codes "type " ++ decimal (type_number_of (value_of 53 options)) ++ line_feed
+type_line options = codes "type " ++ decimal (type_in (value_of 53 options)) ++ line_feed
 
 -- the lines of the header and the message type
 unfoldable pub header_lines : Seen → List ℕ
@@ -69,7 +49,7 @@ header_lines m =
 
 -- a word, a code and its value
 abbrev pub entry_line : List ℕ → Piece → List ℕ
-entry_line word p = (word ++ decimal p.0) ++ (codes " " ++ shown p.1) ++ line_feed
+entry_line word p = (word ++ decimal p.0) ++ (codes " " ++ bytes_text p.1) ++ line_feed
 
 -- an option
 abbrev pub option_line : Piece → List ℕ

@@ -3,7 +3,8 @@ ghost use Rattle.std.specs.Fmt.{decimal};
 ghost use Rattle.std.specs.List.{flat_map};
 ghost use Rattle.kd_options.specs.Relay.{firsts};
 ghost use Rattle.kd_options.specs.RelayWalk.{relay_list};
-ghost use Rattle.kd_tools.specs.Show.{shown, shown_address, len_line, numbers_line, addresses_line, mac_line, type_line, option_line, relay_line, entry_line, header_lines, show_text};
+ghost use Rattle.kd_replay.specs.Text.{address_text, bytes_text};
+ghost use Rattle.kd_tools.specs.Show.{len_line, numbers_line, addresses_line, mac_line, type_line, option_line, relay_line, entry_line, header_lines, show_text};
 
 use kd_options::Message;
 use kd_wire::Header;
@@ -129,7 +130,7 @@ fn put_number(out: &mut String, word: &str, number: u16) -> Result<(), AllocErro
 
 // A word and bytes in hexadecimal, or a dash where there are none.
 fn put_bytes(alloc: Global, out: &mut String, word: &str, bytes: &[u8]) -> Result<(), AllocError>
-    ensures { OnOk result (string_bytes out.new ≡ string_bytes out.old ++ (word.now ++ shown bytes.now)) }
+    ensures { OnOk result (string_bytes out.new ≡ string_bytes out.old ++ (word.now ++ bytes_text bytes.now)) }
 {
     out.push_str(word)?;
     if bytes.is_empty() {
@@ -141,7 +142,7 @@ fn put_bytes(alloc: Global, out: &mut String, word: &str, bytes: &[u8]) -> Resul
 
 // A word and an address in decimal.
 fn put_address(out: &mut String, word: &str, address: u32) -> Result<(), AllocError>
-    ensures { OnOk result (string_bytes out.new ≡ string_bytes out.old ++ (word.now ++ shown_address address)) }
+    ensures { OnOk result (string_bytes out.new ≡ string_bytes out.old ++ (word.now ++ address_text address)) }
 {
     let [a, b, c, d] = address.to_be_bytes();
     write!(out, "{word}{a}.{b}.{c}.{d}")
