@@ -4,24 +4,29 @@ use Rattle.std.specs.Prelude.{Option, if◌then◌else◌}
 use Rattle.std.specs.List.{AllByRecursion}
 use Rattle.kd_classes.specs.HeldSet.{HeldSet, IsAccepted, IsAcceptedTest, JoinInOrder, JoinsBy}
 use Rattle.kd_classes.specs.declared.definition.ClassDef.{ClassDef}
-use Rattle.kd_machine.proofs.Ending.{accepted_ends}
 use Rattle.kd_machine.specs.Held.{base_names, with_name}
+use Rattle.kd_machine.specs.Run.{EndsWithin}
 use Rattle.kd_options.specs.Joined.{value_of}
 use Rattle.kd_options.specs.Message.{IsMessage, Seen}
-use Rattle.kd_token.specs.File.{Code}
+use Rattle.kd_token.specs.Accepts.{Accepts}
+use Rattle.kd_token.specs.File.{Code, HasFile}
 
-one_step : (test : Option Code) (message : Seen) (name : List ℕ) (held : List (List ℕ)) → IsMessage message → IsAcceptedTest test → (more : List (List ℕ)) × JoinsBy test message name held more
-one_step None message name held is accepted = (held, refl)
-one_step (Some p) message name held is accepted =
+-- every accepted program ends (kd_machine `laws::accepted_ends`)
+abbrev AcceptedEnds : Type 0
+AcceptedEnds = (p : Code) (message : Seen) (held : List (List ℕ)) → HasFile p → Accepts p → IsMessage message → EndsWithin p message held
+
+one_step : AcceptedEnds → (test : Option Code) (message : Seen) (name : List ℕ) (held : List (List ℕ)) → IsMessage message → IsAcceptedTest test → (more : List (List ℕ)) × JoinsBy test message name held more
+one_step accepted_ends None message name held is accepted = (held, refl)
+one_step accepted_ends (Some p) message name held is accepted =
     let end = accepted_ends p message held accepted.0 accepted.1 is in
     ((if end.0 then with_name name held else held), (end.0, (end.1, end.2, end.3, end.4), refl))
 
-in_order : (defs : List ClassDef) (message : Seen) (held : List (List ℕ)) → IsMessage message → AllByRecursion IsAccepted defs → (names : List (List ℕ)) × JoinInOrder message defs held names
-in_order [] message held is accepted = (held, refl)
-in_order (def ∷ defs) message held is accepted =
-    let first = one_step def.test message def.name held is accepted.0 in
-    let rest = in_order defs message first.0 is accepted.1 in
+in_order : AcceptedEnds → (defs : List ClassDef) (message : Seen) (held : List (List ℕ)) → IsMessage message → AllByRecursion IsAccepted defs → (names : List (List ℕ)) × JoinInOrder message defs held names
+in_order accepted_ends [] message held is accepted = (held, refl)
+in_order accepted_ends (def ∷ defs) message held is accepted =
+    let first = one_step accepted_ends def.test message def.name held is accepted.0 in
+    let rest = in_order accepted_ends defs message first.0 is accepted.1 in
     (rest.0, (first.0, first.1, rest.1))
 
-pub accepted_held : (message : Seen) (defs : List ClassDef) → IsMessage message → AllByRecursion IsAccepted defs → (names : List (List ℕ)) × HeldSet message defs names
-accepted_held message defs is accepted = in_order defs message (base_names (value_of 60 message.options)) is accepted
+pub accepted_held : AcceptedEnds → (message : Seen) (defs : List ClassDef) → IsMessage message → AllByRecursion IsAccepted defs → (names : List (List ℕ)) × HeldSet message defs names
+accepted_held accepted_ends message defs is accepted = in_order accepted_ends defs message (base_names (value_of 60 message.options)) is accepted

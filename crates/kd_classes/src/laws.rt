@@ -20,10 +20,14 @@ pub fn one_fault()
 pub fn accepted_held()
     ensures { (message : Seen) (defs : List ClassDef) → IsMessage message → AllByRecursion IsAccepted defs
         → (names : List (List ℕ)) × HeldSet message defs names }
-{}
+{
+    kd_machine::laws::accepted_ends();
+}
 
 /// Definitions give a message one list of names.
 pub fn one_held()
     ensures { (message : Seen) (defs : List ClassDef) (names others : List (List ℕ)) → HeldSet message defs names → HeldSet message defs others
         → names ≡ others }
-{}
+{
+    kd_machine::laws::one_end();
+}

@@ -15,14 +15,21 @@ use Rattle.kd_expr.specs.Grammar.{HasText}
 use Rattle.kd_expr.specs.Tree.{Tree}
 use Rattle.kd_expr.specs.Typing.{type_of}
 use Rattle.kd_expr.specs.declared.typing.ValueType.TheVariants as types
-use Rattle.kd_machine.proofs.Ending.{accepted_ends}
-use Rattle.kd_machine.proofs.OneEnd.{one_end}
-use Rattle.kd_machine.specs.Run.{Run}
+use Rattle.kd_machine.specs.Run.{EndsWithin, Run}
 use Rattle.kd_machine.specs.Val.{Val, Truth}
 use Rattle.kd_machine.specs.World.{world}
-use Rattle.kd_options.specs.Message.{Seen}
+use Rattle.kd_options.specs.Message.{IsMessage, Seen}
 use Rattle.kd_token.specs.Accepts.{Accepts}
-use Rattle.kd_token.specs.File.{HasFile}
+use Rattle.kd_token.specs.File.{Code, HasFile}
+
+-- every accepted program ends (kd_machine `laws::accepted_ends`)
+abbrev pub AcceptedEnds : Type 0
+AcceptedEnds = (p : Code) (message : Seen) (held : List (List ℕ)) → HasFile p → Accepts p → IsMessage message → EndsWithin p message held
+
+-- a program has one run (kd_machine `laws::one_end`)
+abbrev pub HasOneEnd : Type 0
+HasOneEnd = (p : Code) (message : Seen) (held : List (List ℕ)) (v x : Bool) (n m d e l h : ℕ) → Run p message held v n d l → Run p message held x m e h
+    → (v ≡ x) × (n ≡ m) × (d ≡ e) × (l ≡ h)
 
 -- the program comes from its first place to its end with the test's value
 comes_to_value : (t : Tree) (message : Seen) (held : List (List ℕ)) → type_of t ≡ Ok types.Bool
@@ -37,8 +44,8 @@ comes_to_value t message held typed =
     subst B (truth_is message held t well.0 well.1) (subst A all made)
 
 -- an accepted program of a class test keeps its meaning
-keeps : (t : Tree) → type_of t ≡ Ok types.Bool → HasFile (program_for t) → Accepts (program_for t) → Keeps t (program_for t)
-keeps t typed file accepts message held is =
+keeps : AcceptedEnds → HasOneEnd → (t : Tree) → type_of t ≡ Ok types.Bool → HasFile (program_for t) → Accepts (program_for t) → Keeps t (program_for t)
+keeps accepted_ends one_end t typed file accepts message held is =
     let made = comes_to_value t message held typed in
     let ends = accepted_ends (program_for t) message held file accepts is in
     let same = one_end (program_for t) message held (truth message held t) ends.0 made.0 ends.1 made.1 ends.2 made.2 ends.3 made.3 ends.4 in
@@ -57,5 +64,5 @@ has_measures t = record {
 }
 
 -- a class test that is over no limit has a program that keeps its meaning
-pub keeps_in_limits : (t : Tree) → HasText t → type_of t ≡ Ok types.Bool → first_over t ≡ None → Keeps t (program_for t)
-keeps_in_limits t text typed within = keeps t typed (has_file t text within) (accepted t typed)
+pub keeps_in_limits : AcceptedEnds → HasOneEnd → (t : Tree) → HasText t → type_of t ≡ Ok types.Bool → first_over t ≡ None → Keeps t (program_for t)
+keeps_in_limits accepted_ends one_end t text typed within = keeps accepted_ends one_end t typed (has_file t text within) (accepted t typed)

@@ -49,6 +49,9 @@ pub fn compile(alloc: Global, typed: &Typed) -> Result<Verified, CompileFault>
         return Err(CompileFault::TooManyNames);
     }
     let program = program_of(alloc, tree, bound as u16, names)?;
+    // That an accepted program has a run over every message, and one only.
+    kd_machine::laws::accepted_ends();
+    kd_machine::laws::one_end();
     match verify(alloc, program) {
         Ok(verified) => Ok(verified),
         Err((fault, _)) => match fault {

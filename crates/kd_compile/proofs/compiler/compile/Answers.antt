@@ -34,7 +34,7 @@ returns-in-Ok-clause-keeps c =
     let P : Tree → Type 0 = λ t. first_over t ≡ None in
     let within = subst P same c.in_ok-program.ensures.within in
     let is = c.in-Ok.ensures.accepted ∙ c.in_ok-program.ensures.program ∙ ap program_for same in
-    let kept = keeps_in_limits (tree_of c.args.typed.now) c.tree-tree.ensures.text c.tree-tree.ensures.typed within in
+    let kept = keeps_in_limits c.accepted_ends.ensures c.one_end.ensures (tree_of c.args.typed.now) c.tree-tree.ensures.text c.tree-tree.ensures.typed within in
     subst (Keeps (tree_of c.args.typed.now)) (sym is) kept
 
 pub returns-in-Ok-clause-exact : goal.returns-in-Ok-clause-exact
