@@ -29,7 +29,3 @@ abbrev pub read_or : {A : Type 0} → (Text → Option A) → A → Option Text 
 read_or read standard None = Some standard
 read_or read standard (Some text) = read text
 
-infixl 10 ◌>>=◌
--- the next step, where this one gives something
-abbrev pub ◌>>=◌ : {A B : Type 0} → Option A → (A → Option B) → Option B
-o >>= next = option_and_then next o

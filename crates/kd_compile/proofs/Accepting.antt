@@ -21,7 +21,7 @@ use Rattle.kd_expr.specs.declared.typing.ValueType.TheVariants as types
 use Rattle.kd_token.specs.Accepts.{Accepts, Point, Flow, Assignment, IsSoundAt, flow_to, out, leaving, origin, IsCovered, IsWithin}
 use Rattle.kd_token.specs.File.{Code}
 use Rattle.kd_token.specs.Shape.{IsShortKind, AreShort, bound_of_substring, bound_of_hex, field_kind, gives}
-use Rattle.kd_token.specs.Reading.{◌>>=◌}
+use Rattle.kd_wire.specs.Steps.{◌>>=◌}
 use Rattle.kd_token.specs.Table.{point, IsRoomFor}
 use Rattle.kd_token.specs.declared.shape.Kind.{Kind}
 use Rattle.kd_token.specs.declared.shape.Kind.TheVariants as kinds

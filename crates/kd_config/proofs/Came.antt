@@ -7,7 +7,8 @@ use Rattle.serde_json.specs.Data.{Data, Items, no_items, item}
 use Rattle.serde_json.specs.Events.{items_len}
 use Rattle.serde_json.specs.Find.{as_array}
 use Rattle.kd_config.specs.Lists.{all_of, items_or_none, list_of}
-use Rattle.kd_config.specs.Steps.{◌>>=◌, must, only_if}
+use Rattle.kd_wire.specs.Steps.{◌>>=◌}
+use Rattle.kd_config.specs.Steps.{must, only_if}
 
 -- what an answer came from
 pub record Came {A B : Type 0} (o : Option A) (f : A → Option B) (b : B) : Type 0 where

@@ -6,7 +6,7 @@ use Rattle.kd_expr.specs.Address.{a_digit}
 use Rattle.kd_expr.specs.Lexing as lexing
 use Rattle.kd_expr.specs.Lexing.{behind_of}
 use Rattle.kd_config.specs.declared.prefix.Prefix.{Prefix}
-use Rattle.kd_config.specs.Steps.{◌>>=◌}
+use Rattle.kd_wire.specs.Steps.{◌>>=◌}
 use Rattle.kd_config.specs.declared.range.Range.{Range}
 
 -- the address that a text spells, as a number

@@ -3,7 +3,8 @@ use Rattle.std.specs.Prelude.{ℕ, Bool, ◌&&◌, nat_le, List, [], ◌∷◌, 
 use Rattle.serde_json.specs.Data.{Data}
 use Rattle.serde_json.specs.Find.{as_str, get}
 use Rattle.kd_config.specs.Options.{option_list_in}
-use Rattle.kd_config.specs.Steps.{◌>>=◌, must, only_if}
+use Rattle.kd_wire.specs.Steps.{◌>>=◌}
+use Rattle.kd_config.specs.Steps.{must, only_if}
 use Rattle.kd_config.specs.Values.{has_keys, text_if_given}
 use Rattle.kd_config.specs.declared.class.ClassEntry.{ClassEntry}
 use Rattle.kd_config.specs.declared.class.TestSource.{TestSource}

@@ -5,7 +5,8 @@ use Rattle.serde_json.specs.Data.{Data}
 use Rattle.serde_json.specs.Read as json
 use Rattle.kd_config.specs.Rules.{may_stand}
 use Rattle.kd_config.specs.Settings.{whole_settings}
-use Rattle.kd_config.specs.Steps.{◌>>=◌, must}
+use Rattle.kd_wire.specs.Steps.{◌>>=◌}
+use Rattle.kd_config.specs.Steps.{must}
 use Rattle.kd_config.specs.declared.settings.Settings.{Settings}
 
 -- the value that a text spells

@@ -3,7 +3,8 @@ use Rattle.std.specs.Prelude.{ℕ, nat_le, List, [], ◌∷◌, Option, Some, No
 use Rattle.serde_json.specs.Data.{Data, Items, no_items, item}
 use Rattle.serde_json.specs.Events.{items_len}
 use Rattle.serde_json.specs.Find.{as_array}
-use Rattle.kd_config.specs.Steps.{◌>>=◌, only_if}
+use Rattle.kd_wire.specs.Steps.{◌>>=◌}
+use Rattle.kd_config.specs.Steps.{only_if}
 
 -- the items of a list of at most so many, none where there is no list
 abbrev pub items_or_none : ℕ → Option Data → Option Items

@@ -5,7 +5,8 @@ use Rattle.serde_json.specs.Data.{Data, Items, no_items, item}
 use Rattle.serde_json.specs.Find.{as_bool, get}
 use Rattle.kd_classes.specs.declared.option_list.OptionData.{OptionData}
 use Rattle.kd_config.specs.Lists.{items_or_none}
-use Rattle.kd_config.specs.Steps.{◌>>=◌, must, only_if}
+use Rattle.kd_wire.specs.Steps.{◌>>=◌}
+use Rattle.kd_config.specs.Steps.{must, only_if}
 use Rattle.kd_config.specs.Values.{hex_bytes_in, has_keys, number_within}
 
 -- the keys of option data

@@ -4,7 +4,8 @@ use Rattle.serde_json.specs.Data.{Data}
 use Rattle.serde_json.specs.Find.{as_str, get}
 use Rattle.kd_config.specs.Address.{range_spelled}
 use Rattle.kd_config.specs.Options.{option_list_in}
-use Rattle.kd_config.specs.Steps.{◌>>=◌, must}
+use Rattle.kd_wire.specs.Steps.{◌>>=◌}
+use Rattle.kd_config.specs.Steps.{must}
 use Rattle.kd_config.specs.Values.{has_keys}
 use Rattle.kd_config.specs.declared.pool.Pool.{Pool}
 use Rattle.kd_config.specs.declared.range.Range.{Range}

@@ -5,7 +5,8 @@ use Rattle.serde_json.specs.Find.{get}
 use Rattle.kd_config.specs.Class.{class_of}
 use Rattle.kd_config.specs.Lists.{list_of}
 use Rattle.kd_config.specs.Options.{option_list_in}
-use Rattle.kd_config.specs.Steps.{◌>>=◌, must, only_if}
+use Rattle.kd_wire.specs.Steps.{◌>>=◌}
+use Rattle.kd_config.specs.Steps.{must, only_if}
 use Rattle.kd_config.specs.Subnet.{subnet_of}
 use Rattle.kd_config.specs.Values.{address_given, has_keys, number_if_given}
 use Rattle.kd_config.specs.declared.settings.Settings.{Settings}

@@ -1,11 +1,6 @@
 -- Steps of a definition that may give nothing.
 use Rattle.std.specs.Prelude.{Bool, if◌then◌else◌, Option, Some, None, option_and_then}
 
-infixl 10 ◌>>=◌
--- one step after another, where each may give nothing
-abbrev pub ◌>>=◌ : {A B : Type 0} → Option A → (A → Option B) → Option B
-o >>= f = option_and_then f o
-
 -- go on only where a test holds
 abbrev pub must : Bool → Option (Unit {0})
 must test = if test then Some tt else None

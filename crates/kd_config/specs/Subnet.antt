@@ -7,7 +7,8 @@ use Rattle.kd_config.specs.Lists.{list_of}
 use Rattle.kd_config.specs.Options.{option_list_in}
 use Rattle.kd_config.specs.Pool.{pool_of}
 use Rattle.kd_config.specs.Reservation.{reservation_of}
-use Rattle.kd_config.specs.Steps.{◌>>=◌, must}
+use Rattle.kd_wire.specs.Steps.{◌>>=◌}
+use Rattle.kd_config.specs.Steps.{must}
 use Rattle.kd_config.specs.Values.{has_keys, number_if_given, text_if_given}
 use Rattle.kd_config.specs.declared.prefix.Prefix.{Prefix}
 use Rattle.kd_config.specs.declared.subnet.Subnet.{Subnet}

@@ -5,7 +5,8 @@ use Rattle.serde_json.specs.Data.{Data, Members, no_members, member}
 use Rattle.serde_json.specs.Find.{get, as_number, as_object, as_str, as_u64}
 use Rattle.kd_config.specs.Address as address
 use Rattle.kd_config.specs.HexText as hex
-use Rattle.kd_config.specs.Steps.{◌>>=◌, only_if}
+use Rattle.kd_wire.specs.Steps.{◌>>=◌}
+use Rattle.kd_config.specs.Steps.{only_if}
 
 -- a key is one of these
 abbrev pub is_key : List (List ℕ) → List ℕ → Bool

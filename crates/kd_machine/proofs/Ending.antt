@@ -6,7 +6,7 @@ use Rattle.std.proofs.lemmas.Option.{slice_get_cases}
 use Rattle.kd_options.specs.Message.{Seen, IsMessage}
 use Rattle.kd_token.specs.Accepts.{Accepts, way_of}
 use Rattle.kd_token.specs.File.{Code, HasFile}
-use Rattle.kd_token.specs.Reading.{◌>>=◌}
+use Rattle.kd_wire.specs.Steps.{◌>>=◌}
 use Rattle.kd_token.specs.declared.token.Token.{Token}
 use Rattle.kd_token.specs.declared.way.Way.{Way}
 use Rattle.kd_token.specs.declared.way.Way.TheVariants as routes

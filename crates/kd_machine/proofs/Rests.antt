@@ -3,7 +3,7 @@ use Rattle.std.proofs.Common.{ℕ, ◌+◌, ◌≤◌, Bool, true, false, List, 
 use Rattle.std.specs.Bool.{beq}
 use Rattle.std.specs.Prelude.{if◌then◌else◌, slice_get, MatchOption}
 use Rattle.kd_token.specs.Accepts.{way_of}
-use Rattle.kd_token.specs.Reading.{◌>>=◌}
+use Rattle.kd_wire.specs.Steps.{◌>>=◌}
 use Rattle.kd_token.proofs.Keeps.{Keeps, bind_keeps}
 use Rattle.kd_token.specs.declared.token.Token.{Token}
 use Rattle.kd_token.specs.declared.token.Token.TheVariants as tokens

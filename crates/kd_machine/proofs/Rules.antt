@@ -13,7 +13,7 @@ use Rattle.kd_options.specs.Message.{Seen, IsMessage}
 use Rattle.kd_options.specs.Options.{IsType}
 use Rattle.kd_options.proofs.Sizes.{header_short, len_short, relay_short, value_short}
 use Rattle.kd_token.specs.File.{IsToken}
-use Rattle.kd_token.specs.Reading.{◌>>=◌}
+use Rattle.kd_wire.specs.Steps.{◌>>=◌}
 use Rattle.kd_token.specs.Shape.{bytes_taken, bool_taken, int_taken, field_kind, bound_of_substring, bound_of_hex, gives}
 use Rattle.kd_token.specs.declared.shape.Kind.{Kind}
 use Rattle.kd_token.specs.declared.shape.Kind.TheVariants as kinds

@@ -8,7 +8,7 @@ use Rattle.std.proofs.lemmas.Option.{slice_get_within}
 use Rattle.kd_options.specs.Message.{Seen, IsMessage}
 use Rattle.kd_token.specs.Accepts.{Accepts, Point, Flow, flow_to, way_of, flows_by, flows, leaving, origin, IsCovered, IsWithin}
 use Rattle.kd_token.specs.File.{Code, HasFile}
-use Rattle.kd_token.specs.Reading.{◌>>=◌}
+use Rattle.kd_wire.specs.Steps.{◌>>=◌}
 use Rattle.kd_token.specs.Shape.{Covers, CoversKind, AreShort, IsShortKind, gives, bool_taken}
 use Rattle.kd_token.specs.Table.{skip_of}
 use Rattle.kd_token.specs.declared.shape.Kind.{Kind}

@@ -17,7 +17,8 @@ use Rattle.kd_token.specs.declared.token.Token.TheVariants as tokens
 use Rattle.kd_token.specs.declared.token.Version.{Version}
 use Rattle.kd_token.specs.declared.token.Version.TheVariants as versions
 use Rattle.kd_token.specs.File.{Code, HasFile, IsName, IsToken, IsBranch, IsCount, IsShort, AreTokens, version_number, field_number, long_bytes, signed_bytes, count_bytes, token_bytes, name_bytes, names_bytes, tokens_bytes, file_bytes}
-use Rattle.kd_token.specs.Reading.{◌>>=◌, many_at, front_at, number_in_front, limited_at, signed_at, magic_at, version_at, name_at, names_at, long_at, field_numbered, field_at, number_of_bytes_at, count_at, substring_at, skip_at, plain_token, operands_at, token_at, tokens_at, all_names_at, all_tokens_at, program_at}
+use Rattle.kd_wire.specs.Steps.{◌>>=◌}
+use Rattle.kd_token.specs.Reading.{many_at, front_at, number_in_front, limited_at, signed_at, magic_at, version_at, name_at, names_at, long_at, field_numbered, field_at, number_of_bytes_at, count_at, substring_at, skip_at, plain_token, operands_at, token_at, tokens_at, all_names_at, all_tokens_at, program_at}
 
 -- bytes that stand in front
 front_again : (n : ℕ) (bytes rest : List ℕ) → length bytes ≡ n → front_at n (bytes ++ rest) ≡ Some (bytes, rest)

@@ -7,7 +7,7 @@ use Rattle.kd_token.specs.declared.shape.Kind.{Kind}
 use Rattle.kd_token.specs.declared.shape.Kind.TheVariants as kinds
 use Rattle.kd_token.specs.declared.token.Token.{Token}
 use Rattle.kd_token.specs.declared.token.Token.TheVariants as tokens
-use Rattle.kd_token.specs.Reading.{◌>>=◌}
+use Rattle.kd_wire.specs.Steps.{◌>>=◌}
 use Rattle.kd_token.specs.Shape.{CoversKind, Covers, bytes_taken, bool_taken, int_taken, field_kind, bound_of_substring, bound_of_hex, gives}
 
 -- where the first is there, the second is, and the relation holds of the two

@@ -6,7 +6,7 @@ use Rattle.kd_token.specs.declared.shape.Kind.TheVariants as kinds
 use Rattle.kd_token.specs.declared.token.Token.{Token}
 use Rattle.kd_token.specs.declared.token.Token.TheVariants as tokens
 use Rattle.kd_token.specs.File.{Code}
-use Rattle.kd_token.specs.Reading.{◌>>=◌}
+use Rattle.kd_wire.specs.Steps.{◌>>=◌}
 use Rattle.kd_token.specs.Table.{IsRoomFor}
 use Rattle.kd_token.specs.Shape.{AreShort, IsShortKind, bytes_taken, bool_taken, int_taken, gives}
 

@@ -7,7 +7,8 @@ use Rattle.kd_token.specs.declared.fault.FileFault.TheVariants as faults
 use Rattle.kd_token.specs.declared.token.Token.{Token}
 use Rattle.kd_token.specs.declared.token.Version.{Version}
 use Rattle.kd_token.specs.File.{IsToken, AreTokens}
-use Rattle.kd_token.specs.Reading.{◌>>=◌, NothingRead, many_at}
+use Rattle.kd_wire.specs.Steps.{◌>>=◌}
+use Rattle.kd_token.specs.Reading.{NothingRead, many_at}
 
 -- these items, and then those that are read
 abbrev pub with_front : {X : Type 0} → List X → Option (List X × List ℕ) → Option (List X × List ℕ)

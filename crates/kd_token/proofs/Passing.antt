@@ -9,7 +9,7 @@ use Rattle.kd_token.specs.declared.token.Token.{Token}
 use Rattle.kd_token.specs.declared.way.Way.{Way}
 use Rattle.kd_token.specs.declared.way.Way.TheVariants as routes
 use Rattle.kd_token.specs.File.{Code}
-use Rattle.kd_token.specs.Reading.{◌>>=◌}
+use Rattle.kd_wire.specs.Steps.{◌>>=◌}
 use Rattle.kd_token.specs.Shape.{gives, bool_taken}
 use Rattle.kd_token.specs.Accepts.{Point, Flow, Assignment, flow_to, way_of, flows_by, leaving, out, IsCovered, IsWithin, IsSoundAt, AreSound}
 

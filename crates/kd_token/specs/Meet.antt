@@ -2,7 +2,7 @@
 use Rattle.std.specs.Prelude.{max, List, [], ◌∷◌, Option, Some, None}
 use Rattle.kd_token.specs.declared.shape.Kind.{Kind}
 use Rattle.kd_token.specs.declared.shape.Kind.TheVariants as kinds
-use Rattle.kd_token.specs.Reading.{◌>>=◌}
+use Rattle.kd_wire.specs.Steps.{◌>>=◌}
 
 -- the least kind that covers two, if there is one
 abbrev pub met_of_kinds : Kind → Kind → Option Kind

@@ -13,12 +13,7 @@ use Rattle.kd_token.specs.declared.token.Token.TheVariants as tokens
 use Rattle.kd_token.specs.declared.token.Version.{Version}
 use Rattle.kd_token.specs.declared.token.Version.TheVariants as versions
 use Rattle.kd_token.specs.File.{Code}
-
-infixl 10 ◌>>=◌
--- a step of reading after another
-abbrev pub ◌>>=◌ : {A B : Type 0} → Option A → (A → Option B) → Option B
-None >>= f = None
-(Some x) >>= f = f x
+use Rattle.kd_wire.specs.Steps.{◌>>=◌}
 
 -- a fault comes only where nothing is read; want of memory may come at any file
 abbrev pub NothingRead : {A : Type 0} → FileFault → Option A → Type 0

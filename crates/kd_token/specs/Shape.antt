@@ -8,7 +8,7 @@ use Rattle.kd_token.specs.declared.token.Field.{Field}
 use Rattle.kd_token.specs.declared.token.Field.TheVariants as fields
 use Rattle.kd_token.specs.declared.token.Token.{Token}
 use Rattle.kd_token.specs.declared.token.Token.TheVariants as tokens
-use Rattle.kd_token.specs.Reading.{◌>>=◌}
+use Rattle.kd_wire.specs.Steps.{◌>>=◌}
 
 -- a kind covers another: it is the same, and no length is less
 abbrev pub CoversKind : Kind → Kind → Type 0

@@ -3,3 +3,4 @@ pub mod Header
 pub mod Walk
 pub mod Front
 pub mod Put
+pub mod Steps
