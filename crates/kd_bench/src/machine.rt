@@ -38,8 +38,8 @@ pub(crate) fn short(alloc: Global, rounds: u32) -> Result<u32, AllocError> {
     Ok(ended(alloc, file, datagram.as_slice(), false, rounds))
 }
 
-// A program of 1,024 tokens: whether option 60 is there, and 204 times whether it is not "a" too; and three
-// times the opposite.
+// A program of 1,024 tokens: whether option 60 is there, and 204 times whether it is not "a" too;
+// and three times the opposite.
 pub(crate) fn long(alloc: Global, rounds: u32) -> Result<u32, AllocError> {
     let mut file = Vec::from_slice(alloc, b"K4TK\x01\x04\x00\x03\x10\x00\x00\x04\x00\x06\x3c")?;
     for _ in 0..204 {

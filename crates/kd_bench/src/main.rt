@@ -1,8 +1,8 @@
-//! Does one piece of work many times, so that its time can be taken from outside: `kd_bench discover
-//! 2000000` or `kd_bench pieces 100000` reads a datagram, `kd_bench file 10000` a token file, `kd_bench
-//! verify 10000` verifies what it reads too, `kd_bench short 1000000`, `long` and `digits` run a program,
-//! and `kd_bench strings 1000`, `members` and `choices` compile a class test. It prints how often that was
-//! done, and no time.
+//! Does one piece of work many times, so that its time can be taken from outside: `kd_bench
+//! discover 2000000` or `kd_bench pieces 100000` reads a datagram, `kd_bench file 10000` a token
+//! file, `kd_bench verify 10000` verifies what it reads too, `kd_bench short 1000000`, `long` and
+//! `digits` run a program, and `kd_bench strings 1000`, `members` and `choices` compile a class
+//! test. It prints how often that was done, and no time.
 #![tactic(auto)]
 
 mod compiling;
@@ -109,8 +109,9 @@ fn verify_again(alloc: Global, bytes: &[u8], rounds: u32) -> u32 {
     accepted
 }
 
-// A token file of 1,024 tokens over a stack of up to 64 values, with as many places where two ways meet as
-// a program can have: 62 values, 450 values that a branch over nothing takes, and 62 tokens that join what is left.
+// A token file of 1,024 tokens over a stack of up to 64 values, with as many places where two ways
+// meet as a program can have: 62 values, 450 values that a branch over nothing takes, and 62 tokens
+// that join what is left.
 fn branches(alloc: Global) -> Result<Vec<u8>, AllocError> {
     let mut bytes = Vec::from_slice(alloc, b"K4TK\x02\x04\x00\x40\x00\x00\x00\x04\x00")?;
     for _ in 0..62 {

@@ -5,7 +5,7 @@ use std::alloc::{AllocError, Global};
 pub struct Case {
     /// The command as it stands in the file, with its line's number.
     pub title: String,
-    /// The words behind the program's name.
+    /// The words after the program's name.
     pub words: Vec<String>,
     /// Standard input.
     pub input: String,

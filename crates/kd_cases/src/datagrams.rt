@@ -9,8 +9,8 @@ use std::str::Lines;
 // The address at which there is no socket: 203.0.113.1.
 const NO_ADDRESS: u32 = 0xcb00_7101;
 
-/// A socket that receives the datagrams of lines, each `MOMENT HEX`. Of replies those by broadcast are not sent, unless
-/// they go to another address.
+/// A socket that receives the datagrams of lines, each `MOMENT HEX`. Of replies those by broadcast
+/// are not sent, unless they go to another address.
 #[derive(Drop)]
 pub struct Datagrams<'a> {
     alloc: Global,
@@ -83,7 +83,7 @@ impl Link for Datagrams<'_> {
     }
 }
 
-/// A clock that says the moments of lines, and 0 behind the last.
+/// A clock that says the moments of lines, and 0 after the last.
 #[derive(Drop)]
 pub struct Moments<'a> {
     lines: Lines<'a>,

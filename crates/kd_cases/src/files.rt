@@ -23,7 +23,7 @@ impl Files {
         Ok(())
     }
 
-    /// Puts a line at the end of the latest file, behind a line feed where it is not its first.
+    /// Puts a line at the end of the latest file, after a line feed where it is not its first.
     pub fn put_line(&mut self, line: &str) -> Result<(), AllocError> {
         match self.files.last_mut() {
             Some((_, bytes)) => {
@@ -36,7 +36,8 @@ impl Files {
         }
     }
 
-    /// Puts bytes at the end of the latest file, given by hexadecimal digits with blanks between them.
+    /// Puts bytes at the end of the latest file, given by hexadecimal digits with blanks between
+    /// them.
     pub fn put_bytes(&mut self, alloc: Global, digits: &str) -> Result<(), AllocError> {
         let mut bare = String::new(alloc);
         for part in digits.split(' ') {
@@ -49,8 +50,8 @@ impl Files {
         }
     }
 
-    /// The configuration of a path with the token files of a folder: of files in memory where the path names one, and
-    /// else of files on the disk.
+    /// The configuration of a path with the token files of a folder: of files in memory where the
+    /// path names one, and else of files on the disk.
     pub fn configuration(
         &self,
         rt: &HostRuntime,

@@ -55,7 +55,8 @@ impl<'a> Host for Room<'a> {
         Ok(Volatile::new(self.rt.alloc()))
     }
 
-    // A store for which there is no memory is lost, and the next case that names it finds a new one.
+    // A store for which there is no memory is lost, and the next case that names it finds a new
+    // one.
     fn close(&mut self, path: &str, store: Store<InMemory>) {
         let _kept = self.stores.put(self.rt.alloc(), path, store);
     }

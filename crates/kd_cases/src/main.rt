@@ -1,5 +1,6 @@
-//! Runs console cases: for each file that is named, the sessions in it, each command within this program by the same
-//! public calls that `kdhcp` makes. It prints how many cases came out as written, and each other one with both texts.
+//! Runs console cases: for each file that is named, the sessions in it, each command within this
+//! program by the same public calls that `kdhcp` makes. It prints how many cases came out as
+//! written, and each other one with both texts.
 #![tactic(auto)]
 
 mod case;

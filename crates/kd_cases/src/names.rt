@@ -1,7 +1,8 @@
 use std::alloc::{AllocError, Global};
 use std::collections::BTreeMap;
 
-/// Texts by their names: `${name}` stands for a text, `${name:FROM:COUNT}` for a part of it, in bytes.
+/// Texts by their names: `${name}` stands for a text, `${name:FROM:COUNT}` for a part of it, in
+/// bytes.
 #[derive(Drop)]
 pub struct Names {
     texts: BTreeMap<String, String>,

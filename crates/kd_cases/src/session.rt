@@ -61,7 +61,8 @@ impl Session {
         Ok(())
     }
 
-    // A line outside of the cases: a remark, a file in memory, or a name. Any other is a case that is not as written.
+    // A line outside of the cases: a remark, a file in memory, or a name. Any other is a case that
+    // is not as written.
     fn prepare(&mut self, rt: &HostRuntime, line: &str, text: &str) -> io::Result<()> {
         let alloc = rt.alloc();
         if line.starts_with('#') {
@@ -119,7 +120,7 @@ impl Session {
     }
 }
 
-// A line of a case behind its command.
+// A line of a case after its command.
 fn take_of_case(rt: &HostRuntime, case: &mut Case, text: &str) -> io::Result<()> {
     if let Some(line) = text.strip_prefix("< ") {
         return Ok(put_line(&mut case.input, line)?);

@@ -66,8 +66,8 @@ impl Line<'_> {
     }
 }
 
-/// The words of a line: they stand between blanks, and what stands between `"` is taken as it is but for `\"`, `\\`,
-/// `\n`, `\t` and `\r`. Names have their texts.
+/// The words of a line: they stand between blanks, and what stands between `"` is taken as it is
+/// but for `\"`, `\\`, `\n`, `\t` and `\r`. Names have their texts.
 pub fn words(alloc: Global, names: &Names, text: &str) -> Result<Vec<String>, AllocError> {
     let mut line = Line {
         names,
@@ -82,7 +82,7 @@ pub fn words(alloc: Global, names: &Names, text: &str) -> Result<Vec<String>, Al
     Ok(mem::replace(&mut line.words, Vec::new(alloc)))
 }
 
-// What a sign behind a backslash means.
+// What a sign after a backslash means.
 fn meant(sign: char) -> char {
     match sign {
         'n' => '\n',

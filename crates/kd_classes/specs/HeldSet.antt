@@ -1,5 +1,5 @@
--- The classes that a message is in (Kea Administrator Reference Manual, chapter Client Classification): each
--- definition is tested in order, over the names held before it.
+-- The classes that a message is in (Kea Administrator Reference Manual, chapter Client
+-- Classification): each definition is tested in order, over the names held before it.
 use Rattle.std.specs.Prelude.{◌≡◌, ℕ, Bool, if◌then◌else◌, List, [], ◌∷◌, Option, Some, None}
 use Rattle.kd_classes.specs.declared.definition.ClassDef.{ClassDef}
 use Rattle.kd_machine.specs.Held.{base_names, with_name}
@@ -16,7 +16,9 @@ RunGives program message held v = (n : ℕ) × (d : ℕ) × (l : ℕ) × Run pro
 -- a name joins those held where its test's run gives true; without a test it does not
 abbrev pub JoinsBy : Option Code → Seen → List ℕ → List (List ℕ) → List (List ℕ) → Type 0
 JoinsBy None message name held more = more ≡ held
-JoinsBy (Some program) message name held more = (v : Bool) × RunGives program message held v × (more ≡ (if v then with_name name held else held))
+JoinsBy (Some program) message name held more =
+    (v : Bool) × RunGives program message held v
+    × (more ≡ (if v then with_name name held else held))
 
 -- the names held before and after a definition
 abbrev pub Joins : Seen → ClassDef → List (List ℕ) → List (List ℕ) → Type 0
@@ -25,11 +27,13 @@ Joins message def held more = JoinsBy def.test message def.name held more
 -- the names held before and after definitions, one after another
 abbrev pub JoinInOrder : Seen → List ClassDef → List (List ℕ) → List (List ℕ) → Type 0
 JoinInOrder message [] held names = names ≡ held
-JoinInOrder message (def ∷ defs) held names = (more : List (List ℕ)) × Joins message def held more × JoinInOrder message defs more names
+JoinInOrder message (def ∷ defs) held names =
+    (more : List (List ℕ)) × Joins message def held more × JoinInOrder message defs more names
 
 -- the names of the classes that a message is in, by definitions in order
 abbrev pub HeldSet : Seen → List ClassDef → List (List ℕ) → Type 0
-HeldSet message defs names = JoinInOrder message defs (base_names (value_of 60 message.options)) names
+HeldSet message defs names =
+    JoinInOrder message defs (base_names (value_of 60 message.options)) names
 
 -- a test that is an accepted program, or none
 abbrev pub IsAcceptedTest : Option Code → Type 0

@@ -22,7 +22,7 @@ named_among name defs = list_any (λ def. same name def.name) defs
 abbrev pub built_in : List ℕ → Bool
 built_in name = same name (codes "ALL") || starts_with nat_eq name (codes "VENDOR_CLASS_")
 
--- a name is known behind these definitions
+-- a name is known after these definitions
 abbrev pub known_after : List ClassDef → List ℕ → Bool
 known_after earlier name = built_in name || named_among name earlier
 
@@ -35,24 +35,27 @@ names_of (Some program) = program.names
 abbrev pub asked : ClassDef → List (List ℕ)
 asked def = names_of def.test
 
--- a definition behind these has a name of its own and asks for known names alone
+-- a definition after these has a name of its own and asks for known names alone
 pub record IsInOrder (earlier : List ClassDef) (def : ClassDef) : Type 0 where
   pub own : named_among def.name earlier ≡ false
   pub known : list_all (known_after earlier) (asked def) ≡ true
 
 -- the first so many definitions are in order
 abbrev pub AreInOrderTo : List ClassDef → ℕ → Type 0
-AreInOrderTo defs count = (i : ℕ) (def : ClassDef) → i < count → slice_get defs i ≡ Some def → IsInOrder (take i defs) def
+AreInOrderTo defs count =
+    (i : ℕ) (def : ClassDef) → i < count → slice_get defs i ≡ Some def → IsInOrder (take i defs) def
 
 -- definitions that may stand: at most 256, all in order
 pub record AreInOrder (defs : List ClassDef) : Type 0 where
   pub few : length defs ≤ 256
   pub each : AreInOrderTo defs (length defs)
 
--- what is wrong with definition i, behind these
+-- what is wrong with definition i, after these
 abbrev pub IsFaultOf : ℕ → List ClassDef → ClassDef → ClassFault → Type 0
 IsFaultOf i earlier def (faults.Duplicate at) = (at ≡ i) × (named_among def.name earlier ≡ true)
-IsFaultOf i earlier def (faults.UnknownMember at) = (at ≡ i) × (named_among def.name earlier ≡ false) × (list_all (known_after earlier) (asked def) ≡ false)
+IsFaultOf i earlier def (faults.UnknownMember at) =
+    (at ≡ i) × (named_among def.name earlier ≡ false)
+    × (list_all (known_after earlier) (asked def) ≡ false)
 IsFaultOf i earlier def faults.TooMany = ⊥
 
 -- a fault of definition i, where those before it are in order

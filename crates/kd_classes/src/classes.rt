@@ -10,8 +10,8 @@ use kd_options::Message;
 use std::alloc::{AllocError, Global};
 use std::marker::Model;
 
-/// Definitions of classes in order: at most 256, each with a name of its own, each with a test that asks
-/// for known names alone.
+/// Definitions of classes in order: at most 256, each with a name of its own, each with a test that
+/// asks for known names alone.
 #[derive(Drop)]
 pub struct Classes {
     definitions: Vec<ClassDef>,
@@ -30,13 +30,13 @@ impl Model for Classes {
 }
 
 impl Classes {
-    /// The classes of these definitions, which it keeps: no memory is taken. On an error the definitions
-    /// are dropped.
+    /// The classes of these definitions, which it keeps: no memory is taken. On an error the
+    /// definitions are dropped.
     ///
     /// # Errors
     ///
-    /// `TooMany` over 256 definitions; then the first fault in their order, at one of them `Duplicate`
-    /// before `UnknownMember`.
+    /// `TooMany` over 256 definitions; then the first fault in their order, at one of them
+    /// `Duplicate` before `UnknownMember`.
     pub fn new(definitions: Vec<ClassDef>) -> Result<Classes, ClassFault>
         ensures kept { IfOk result (λ c. c ≡ definitions.items) }
         ensures ordered { IfOk result (λ _. AreInOrder definitions.items) }
@@ -47,9 +47,9 @@ impl Classes {
         Ok(Classes { definitions })
     }
 
-    /// The names of the classes that a message is in: those before any definition, then in order each
-    /// definition's whose test's run over the names held so far ends with true. Takes memory for the names
-    /// and for the values of the runs.
+    /// The names of the classes that a message is in: those before any definition, then in order
+    /// each definition's whose test's run over the names held so far ends with true. Takes memory
+    /// for the names and for the values of the runs.
     ///
     /// # Errors
     ///

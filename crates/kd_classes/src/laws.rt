@@ -8,17 +8,20 @@ ghost use Rattle.kd_options.specs.Message.{IsMessage, Seen};
 
 /// Definitions in order have no fault.
 pub fn no_fault()
-    ensures { (defs : List ClassDef) (fault : ClassFault) → AreInOrder defs → IsFirstClassFault defs fault → ⊥ }
+    ensures { (defs : List ClassDef) (fault : ClassFault) → AreInOrder defs
+        → IsFirstClassFault defs fault → ⊥ }
 {}
 
 /// Definitions have one first fault.
 pub fn one_fault()
-    ensures { (defs : List ClassDef) (fault other : ClassFault) → IsFirstClassFault defs fault → IsFirstClassFault defs other → fault ≡ other }
+    ensures { (defs : List ClassDef) (fault other : ClassFault) → IsFirstClassFault defs fault
+        → IsFirstClassFault defs other → fault ≡ other }
 {}
 
 /// Definitions whose tests are accepted programs give every message the names of its classes.
 pub fn accepted_held()
-    ensures { (message : Seen) (defs : List ClassDef) → IsMessage message → AllByRecursion IsAccepted defs
+    ensures { (message : Seen) (defs : List ClassDef) → IsMessage message
+        → AllByRecursion IsAccepted defs
         → (names : List (List ℕ)) × HeldSet message defs names }
 {
     kd_machine::laws::accepted_ends();
@@ -26,7 +29,8 @@ pub fn accepted_held()
 
 /// Definitions give a message one list of names.
 pub fn one_held()
-    ensures { (message : Seen) (defs : List ClassDef) (names others : List (List ℕ)) → HeldSet message defs names → HeldSet message defs others
+    ensures { (message : Seen) (defs : List ClassDef) (names others : List (List ℕ))
+        → HeldSet message defs names → HeldSet message defs others
         → names ≡ others }
 {
     kd_machine::laws::one_end();

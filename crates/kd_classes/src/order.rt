@@ -20,14 +20,14 @@ fn is_built_in(name: &[u8]) -> bool
     name == b"ALL".as_slice() || name.starts_with(b"VENDOR_CLASS_")
 }
 
-// Whether a name is known behind these definitions.
+// Whether a name is known after these definitions.
 fn is_known(name: &[u8], earlier: &[ClassDef]) -> bool
     ensures { result ≡ known_after earlier.now name.now }
 {
     is_built_in(name) || is_named(name, earlier)
 }
 
-// Whether each name of a program is known behind these definitions.
+// Whether each name of a program is known after these definitions.
 #[tactic(auto, using(crate::proofs::Left::passes_at, crate::proofs::Left::fails_at, crate::proofs::Left::ends_at))]
 fn are_known(program: &Program, earlier: &[ClassDef]) -> bool
     ensures { result ≡ list_all (known_after earlier.now) program.now.names }
@@ -45,7 +45,7 @@ fn are_known(program: &Program, earlier: &[ClassDef]) -> bool
     true
 }
 
-// Whether each name that a definition asks for is known behind these definitions.
+// Whether each name that a definition asks for is known after these definitions.
 fn asks_known(definition: &ClassDef, earlier: &[ClassDef]) -> bool
     ensures { result ≡ list_all (known_after earlier.now) (asked definition.now) }
 {
@@ -58,7 +58,8 @@ fn asks_known(definition: &ClassDef, earlier: &[ClassDef]) -> bool
 // The definition at an index is in order.
 fn check_at(index: usize, definition: &ClassDef, definitions: &[ClassDef]) -> Result<(), ClassFault>
     requires there { slice_get definitions.now index ≡ Some definition.now }
-    ensures { MatchResult result (λ _. IsInOrder (take index definitions.now) definition.now) (λ fault. IsFaultOf index (take index definitions.now) definition.now fault) }
+    ensures { MatchResult result (λ _. IsInOrder (take index definitions.now) definition.now)
+        (λ fault. IsFaultOf index (take index definitions.now) definition.now fault) }
 {
     let earlier = &definitions[..index];
     if is_named(definition.name.as_slice(), earlier) {
@@ -72,7 +73,8 @@ fn check_at(index: usize, definition: &ClassDef, definitions: &[ClassDef]) -> Re
 
 // Whether definitions are in order.
 pub(crate) fn check(definitions: &[ClassDef]) -> Result<(), ClassFault>
-    ensures { MatchResult result (λ _. AreInOrder definitions.now) (λ fault. IsFirstClassFault definitions.now fault) }
+    ensures { MatchResult result (λ _. AreInOrder definitions.now)
+        (λ fault. IsFirstClassFault definitions.now fault) }
 {
     if definitions.len() > 256 {
         return Err(ClassFault::TooMany);

@@ -60,7 +60,7 @@ found_text n os text is = first_is n os ∙ ap (option_map text_of) is ∙ back 
 
 -- ---- what a line gives
 
--- an option's value as what stands behind its name
+-- an option's value as what stands after its name
 abbrev pub wrapped : Text × Option Text → Text × Option Value
 wrapped option = (option.0, option_map (λ v. Some v) option.1)
 
@@ -111,7 +111,7 @@ of_both names flags (o ∷ os) ones = All-cons (λ x. IsOneOf x.0 (names ++ flag
 
 -- ---- a flag among them
 
--- a flag as what stands behind its name
+-- a flag as what stands after its name
 abbrev pub standing : Bool → Option Value
 standing mirror = if mirror then Some None else None
 

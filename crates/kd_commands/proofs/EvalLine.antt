@@ -29,7 +29,7 @@ flags = flags_fail_but (codes "text") flag_built eval_built.rules (λ n. refl) (
 
 -- ---- how far the words are read
 
--- the texts so far, and where the flag stood: before them, between them or behind them
+-- the texts so far, and where the flag stood: before them, between them or after them
 data State : Type 0 where
   nothing : State
   one : Text → State

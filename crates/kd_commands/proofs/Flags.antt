@@ -92,7 +92,7 @@ short_fails c o rest h next (inl e) none = let bad : short_fault c false None re
 short_fails c o rest h next (inr e) none =
     asks c h (neither _ _ (subst (λ x. short_fault c false x rest h next ≡ []) e none)).0
 
--- text behind a hyphen has a first character
+-- text after a hyphen has a first character
 first_char : (x : ℕ) (xs : Text) → IsUtf8 (45 ∷ x ∷ xs) → slice_get (chars (x ∷ xs)) 0 ≡ None → ⊥
 unfolding chars is_utf8 encode_utf8
 first_char x xs text none = go (chars (x ∷ xs)) refl none
@@ -117,7 +117,7 @@ bundle_fails c shorts x xs h start text none = go (slice_get (chars (x ∷ xs)) 
     go None e = first_char x xs text e
     go (Some y) e = short_fails c (arg_by_short c y) _ _ _ (shorts y) (rw (start, e) at none)
 
--- behind a hyphen
+-- after a hyphen
 hyphen_fails : (c : List Rule) → FlagsFail c → (d : ℕ) (rest : Text) (h : Held) → h.skip ≡ 0 → IsUtf8 (45 ∷ d ∷ rest)
     → (if bytes_eq (45 ∷ d ∷ rest) (45 ∷ 45 ∷ []) then [] else flag_word_fault c false (long_of (45 ∷ d ∷ rest)) (45 ∷ d ∷ rest) h) ≡ []
     → (45 ∷ d ∷ rest) ≡ 45 ∷ 45 ∷ []
@@ -188,7 +188,7 @@ flags_fail_but name own c long short bare = record {
     letter false o e = inl e
 
 module _ (name : Text) (own : Rule) (c : List Rule) (fails : FlagsFailBut name own c) where
-  -- what stands behind two hyphens is the flag's name, and no value
+  -- what stands after two hyphens is the flag's name, and no value
   is_name : (text : Text) (h : Held) → long_fault c false (arg_by_long c (name_and_value text).0) (name_and_value text).1 h ≡ [] → text ≡ name
   is_name text h none = go (has_byte 61 text) refl (fails.long (name_and_value text).0)
     where
@@ -204,7 +204,7 @@ module _ (name : Text) (own : Rule) (c : List Rule) (fails : FlagsFailBut name o
           cc
       go false e (inr (inr (is, own_is))) = sym (whole_before text e) ∙ is
 
-  -- behind a hyphen
+  -- after a hyphen
   hyphen_but : (d : ℕ) (rest : Text) (h : Held) → h.skip ≡ 0 → IsUtf8 (45 ∷ d ∷ rest)
       → (if bytes_eq (45 ∷ d ∷ rest) (45 ∷ 45 ∷ []) then [] else flag_word_fault c false (long_of (45 ∷ d ∷ rest)) (45 ∷ d ∷ rest) h) ≡ []
       → ((45 ∷ d ∷ rest) ≡ 45 ∷ 45 ∷ []) ⊎ ((45 ∷ d ∷ rest) ≡ 45 ∷ 45 ∷ name)

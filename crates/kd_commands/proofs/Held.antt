@@ -14,7 +14,7 @@ use Rattle.clap.specs.declared.parser.matches.ValueSource.TheVariants.{CommandLi
 use Rattle.clap.proofs.OnLiterals.{clap_on_literals}
 use Rattle.kd_commands.proofs.Options.{IsOption, built_of, flag_of}
 
--- what stands behind a name: a value, or none behind that of a flag
+-- what stands after a name: a value, or none after that of a flag
 abbrev pub Value : Type 0
 Value = Option Text
 
@@ -42,7 +42,7 @@ rows_of = map row_of
 
 -- ---- one use
 
--- where no row has the name, one more is put behind them
+-- where no row has the name, one more is put after them
 pub at_row_missing : (n : Text) (change : Row → List Row) (missing rows : List Row) → has_row n rows ≡ false → at_row n change missing rows ≡ rows ++ missing
 at_row_missing n change missing [] h = refl
 at_row_missing n change missing (r ∷ rows) h = go (bytes_eq r.id n) refl (at_row_missing n change missing rows)
@@ -111,7 +111,7 @@ opened c n h = record (settled c h) { pending = Some (n, []) }
 abbrev pub raised : List Rule → Text → Held → Held
 raised c n h = reacted c (flag_of n) [] h
 
--- with its value behind it
+-- with its value after it
 abbrev pub filled_in : List Rule → Text → Text → Held → Held
 filled_in c n v h = record (settled c h) { pending = Some (n, v ∷ []) }
 
@@ -181,7 +181,7 @@ unfolding defaults_fault
 defaults_pass [] rows none = refl
 defaults_pass (a ∷ c) rows (e, none) = rw (default_passes rows a e) (defaults_pass c (with_default rows a) none)
 
--- ---- what is found behind a flag's default
+-- ---- what is found after a flag's default
 
 find_behind : (n : Text) (rows : List Row) (r : Row) → bytes_eq r.id n ≡ false
     → find (λ x. bytes_eq x.id n) (rows ++ r ∷ []) ≡ find (λ x. bytes_eq x.id n) rows

@@ -1,4 +1,4 @@
--- The walk of clap over the words behind a subcommand, whichever it is.
+-- The walk of clap over the words after a subcommand, whichever it is.
 use Rattle.std.proofs.Common.{◌≡◌, ◌∙◌, ap, false, true, List, [], ◌∷◌}
 use Rattle.std.specs.Prelude.{fold}
 use Rattle.clap.specs.Words.{App, Kinds, Row, Shape, Text}
@@ -32,7 +32,7 @@ level s w rest = or_else (walk_fault s [] w rest) (after s (fold (walked s.rules
 abbrev pub found : Shape → Walk → List Text → List Row
 found s w rest = finished s.rules (fold (walked s.rules []) w rest).held
 
--- words pass where the first does and those behind it do
+-- words pass where the first does and those after it do
 pub step_down : (s : Shape) (w : Walk) (a : Text) (rest : List Text) → level s w (a ∷ rest) ≡ []
     → (turn_fault s [] w a ≡ []) × (level s (walked s.rules [] w a) rest ≡ [])
 unfolding walk_fault

@@ -35,7 +35,7 @@ walk_with h waiting t = record { held = h; waiting = waiting; position = 1; is_t
 abbrev pub lacks_of : List Text → List (Text × Value) → Bool
 lacks_of wanted os = list_any (λ n. not (is_given n (rows_of os))) wanted
 
--- a value stands behind the name of an option, and none behind that of a flag
+-- a value stands after the name of an option, and none after that of a flag
 abbrev pub Belongs : List Text → List Text → Text → Value → Type 0
 Belongs names flags n (Some v) = IsOneOf n names
 Belongs names flags n None = IsOneOf n flags
@@ -288,7 +288,7 @@ module _ (name : Text) (names flags wanted : List Text) (c : List Rule) (ours : 
       let bad : ArgumentConflict ∷ [] ≡ [] = sym (flag_fails n (settled c h).rows again) ∙ (neither (settle_fault c false h) _ none).1 in
       cc
 
-  -- behind an option's name stands its value
+  -- after an option's name stands its value
   value_then : {A : Type 0} (h : Held) (gs : List (Text × Value)) (n : Text) (rest : List Text) → IsOption c n → IsHeld c h gs → All IsUtf8 rest
       → level shape (walk_with (opened c n h) (option n) false) rest ≡ []
       → ((v : Text) (more : List Text) → rest ≡ v ∷ more → is_flag v ≡ false → level shape (walk_with (filled_in c n v h) idle false) more ≡ [] → A) → A
@@ -352,12 +352,12 @@ module _ (name : Text) (names flags wanted : List Text) (c : List Rule) (ours : 
           let bad : MissingRequiredArgument ∷ [] ≡ [] = sym missing ∙ none in
           cc
 
-  -- what the words behind the first are, from the walk that stands there
+  -- what the words after the first are, from the walk that stands there
   abbrev ReadsOn : List Text → Type 0
   ReadsOn rest = (h : Held) (gs : List (Text × Value)) → IsHeld c h gs → IsDistinct bytes_eq (keys_of gs)
       → level shape (walk_with h idle false) rest ≡ [] → Reads gs rest
 
-  -- the first word, from what the words behind it are
+  -- the first word, from what the words after it are
   by_word : (h : Held) (gs : List (Text × Value)) (x : Text) (rest : List Text) → IsHeld c h gs → IsDistinct bytes_eq (keys_of gs) → All IsUtf8 (x ∷ rest)
       → level shape (walk_with h idle false) (x ∷ rest) ≡ [] → ReadsOn rest
       → ((n v : Text) (more : List Text) → rest ≡ v ∷ more → ReadsOn more) → Reads gs (x ∷ rest)

@@ -49,7 +49,7 @@ pub record IsFlag (c : List Rule) (name : Text) : Type 0 where
   pub alone_is : long_of (alone name) ≡ Some (name, None)
   pub alone_apart : bytes_eq (alone name) (45 ∷ 45 ∷ []) ≡ false
 
--- what a name behind two hyphens may be
+-- what a name after two hyphens may be
 abbrev pub Known : List Text → List Text → Text → Option Rule → Type 0
 Known names flags n o = (o ≡ None) ⊎ ((o ≡ Some help_built) ⊎ ((IsOneOf n names × ((needed : Bool) × (o ≡ Some (built_of needed n))))
     ⊎ (IsOneOf n flags × (o ≡ Some (flag_of n)))))
@@ -105,7 +105,7 @@ known_of names flags (a ∷ c) n (first, more) = go first (known_of names flags 
 
 -- ---- a word
 
--- a text with `=` (61) is what stands before the first, and what stands behind it
+-- a text with `=` (61) is what stands before the first, and what stands after it
 around : (text : Text) → has_byte 61 text ≡ true → text ≡ before_first (λ x. x == 61) text ++ 61 ∷ after_first (λ x. x == 61) text
 around [] h = cc
 around (b ∷ text) h = go (b == 61) refl (around text)
@@ -131,7 +131,7 @@ module _ (names flags wanted : List Text) (c : List Rule) (ours : AreRules names
     is_raised : (n : Text) → IsOneOf n flags → word ≡ alone n → react_fault c false (flag_of n) [] h ≡ [] → IsMet h word
     is_joined : (n value : Text) (needed : Bool) → IsOneOf n names → word ≡ joined n value → option_fault c false (built_of needed n) (Some value) h ≡ [] → IsMet h word
 
-  -- behind two hyphens
+  -- after two hyphens
   long_met : (text : Text) (h : Held) → long_fault c false (arg_by_long c (name_and_value text).0) (name_and_value text).1 h ≡ [] → IsMet h (codes "--" ++ text)
   long_met text h none = go (has_byte 61 text) refl (ours.long (name_and_value text).0)
     where
@@ -159,7 +159,7 @@ module _ (names flags wanted : List Text) (c : List Rule) (ours : AreRules names
           let fault : option_fault c false (built_of needed n) None h ≡ [] = rw e at at_own in
           is_alone n needed is (ap (λ l. codes "--" ++ l) (sym (whole_before text e))) fault
 
-  -- behind a hyphen
+  -- after a hyphen
   hyphen_met : (d : ℕ) (rest : Text) (h : Held) → h.skip ≡ 0 → IsUtf8 (45 ∷ d ∷ rest)
       → (if bytes_eq (45 ∷ d ∷ rest) (45 ∷ 45 ∷ []) then [] else flag_word_fault c false (long_of (45 ∷ d ∷ rest)) (45 ∷ d ∷ rest) h) ≡ []
       → IsMet h (45 ∷ d ∷ rest)

@@ -82,7 +82,7 @@ serve_short x = go (has_short help_built x) (arg_by_short serve_built.rules x) r
     go true o e = inr e
     go false o e = inl e
 
--- the options stand before the flag, and the flag for help behind it
+-- the options stand before the flag, and the flag for help after it
 abbrev options_built : List Rule
 options_built = built_of false (codes "config") ∷ built_of false (codes "token-dir") ∷ built_of false (codes "store") ∷ built_of false (codes "bind") ∷ built_of false (codes "port") ∷ built_of false (codes "client-port") ∷ built_of true (codes "count") ∷ built_of false (codes "broadcast-as") ∷ []
 

@@ -19,7 +19,7 @@ use Rattle.kd_commands.proofs.Top.{IsSub, line_fault, line_found}
 abbrev pub one : Text → Text → Shape
 one name id = leaf (text_line name id)
 
--- behind the text
+-- after the text
 abbrev at_text : Text → Bool → Text → Walk
 at_text id t text = record {
   held = record { rows = []; pending = Some (id, text ∷ []); skip = 0 };
@@ -60,7 +60,7 @@ module _ (name id : Text) where
   unfolding walked
   text_ends a = refl
 
-  -- ---- the words behind the name
+  -- ---- the words after the name
 
   -- a text and nothing more
   text_is_last : (a : Text) (rest : List Text) → level (one name id) (at_text id true a) rest ≡ [] → rest ≡ []
@@ -69,7 +69,7 @@ module _ (name id : Text) where
       let bad : UnknownArgument ∷ [] ≡ [] = (step_down (one name id) (at_text id true a) b rest none).0 in
       cc
 
-  -- a text, and `--` behind it at most
+  -- a text, and `--` after it at most
   behind_text : (a : Text) (rest : List Text) → All IsUtf8 rest → level (one name id) (at_text id false a) rest ≡ [] → AreTexts rest []
   behind_text a [] text none = inl refl
   behind_text a (b ∷ rest) text none =

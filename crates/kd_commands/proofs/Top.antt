@@ -1,5 +1,5 @@
 -- The walk of clap over the words from the first on: which subcommand the first word names, and that a
--- line fails as the words behind the subcommand.
+-- line fails as the words after the subcommand.
 use Rattle.std.proofs.Common.{◌≡◌, ◌⊎◌, ◌∙◌, ◌++◌, sym, ap, ap₂, refl, subst, inl, inr, true, false, Bool, List, [], ◌∷◌, codes, Option, Some, None, append_assoc, is_some, map}
 use Rattle.std.specs.Prelude.{find, fold, option_map}
 use Rattle.std.specs.List.{All}
@@ -47,7 +47,7 @@ pub record IsSub (name : Text) (s : Shape) : Type 0 where
 abbrev stop : Text → List Text → Walk
 stop name rest = record start { stopped = Some (name, rest) }
 
--- the walk over the words behind a subcommand only keeps them
+-- the walk over the words after a subcommand only keeps them
 stopped_walk : (rest : List Text) (p : Text × List Text)
     → fold (walked top.rules names) (stop p.0 p.1) rest ≡ stop p.0 (p.1 ++ rest)
 unfolding walked
@@ -71,7 +71,7 @@ unfolding walk_fault
 passes_by name s rest sub =
     ap₂ or_else (at_stop name s sub) (ap (λ w. walk_fault top names w rest) (to_stop name s sub) ∙ stopped_fault top names start (name, []) rest)
 
--- a line of the subcommand fails as the words behind the name
+-- a line of the subcommand fails as the words after the name
 pub line_fault : (name : Text) (s : Shape) (rest : List Text) → IsSub name s → fault_of command_line (name ∷ rest) ≡ level s start rest
 unfolding defaults_fault
 line_fault name s rest sub =
@@ -121,7 +121,7 @@ turn_by w m = or_else (other_fault top m w nothing_held)
 stray_first : (w : Text) → is_flag w ≡ false → turn_by w None ≡ UnknownArgument ∷ InvalidSubcommand ∷ []
 stray_first w h = rw (no_dashes w h, no_long w h, no_short w h) refl
 
--- `--` first, and no word behind it passes
+-- `--` first, and no word after it passes
 dashes_fail : (rest : List Text) → in_all (walk_fault top names dashed rest) (fold (walked top.rules names) dashed rest) ≡ [] → ⊥
 unfolding walk_fault defaults_fault
 dashes_fail [] none = let bad : MissingSubcommand ∷ [] ≡ [] = none in cc

@@ -1,9 +1,10 @@
--- The lines of the program in plain words: a subcommand and the texts that it wants, as `show HEX` or
--- `eval PROGRAM DATAGRAM`. `--` may stand before any of the texts or behind them, and a text is no flag unless
--- `--` stands before it. The flag of `eval` may stand anywhere but behind `--`. `replay`, `leases` and `serve` have
--- options in any order, which stand once at most, each with a value, as `--config F` or `--config=F`; all may be
--- left out but the moment of `leases`, `--at M`, and the count of `serve`, `--count N`. The flag of `serve`, `--mirror`,
--- stands among its options, once at most and with no value.
+-- The lines of the program in plain words: a subcommand and the texts that it wants, as `show HEX`
+-- or `eval PROGRAM DATAGRAM`. `--` may stand before any of the texts or after them, and a text is
+-- no flag unless `--` stands before it. The flag of `eval` may stand anywhere but behind `--`.
+-- `replay`, `leases` and `serve` have options in any order, which stand once at most, each with a
+-- value, as `--config F` or `--config=F`; all may be left out but the moment of `leases`, `--at M`,
+-- and the count of `serve`, `--count N`. The flag of `serve`, `--mirror`, stands among its options,
+-- once at most and with no value.
 use Rattle.std.specs.Prelude.{◌≡◌, ◌⊎◌, ◌==◌, ℕ, Bool, true, false, List, [], ◌∷◌, ◌++◌, Option, Some, None, codes}
 use Rattle.std.specs.List.Sorted.{IsPermutation}
 use Rattle.clap.specs.Words.{Text}
@@ -11,7 +12,7 @@ use Rattle.kd_commands.specs.Order.{Asked, shows, types, compiles, verifies, eva
 use Rattle.kd_commands.specs.Values.{number_of}
 use Rattle.kd_commands.specs.declared.orders.Listening.{Listening}
 
--- a flag is a hyphen with more behind it
+-- a flag is a hyphen with more after it
 abbrev pub is_flag : Text → Bool
 is_flag [] = false
 is_flag (b ∷ []) = false
@@ -42,14 +43,16 @@ pub record IsFlaggedLine (name : Text) (words texts : List Text) : Type 0 where
   pub no_dashes : IsOneOf (codes "--") before → ⊥
   pub texts_behind : AreTexts (before ++ after) texts
 
--- the words begin with this name: with a value in one word or in two, where a value that is a word is no flag, or alone
+-- the words begin with this name: with a value in one word or in two, where a value that is a word
+-- is no flag, or alone
 abbrev pub BeginWith : Text → Option Text → List Text → List Text → Type 0
 BeginWith name None words behind = words ≡ (codes "--" ++ name) ∷ behind
 BeginWith name (Some value) words behind =
     (words ≡ (codes "--" ++ name ++ codes "=" ++ value) ∷ behind)
     ⊎ ((words ≡ (codes "--" ++ name) ∷ value ∷ behind) × (is_flag value ≡ false))
 
--- the words are these options with their values, and flags with none, in this order, but for `--` behind them
+-- the words are these options with their values, and flags with none, in this order, but for `--`
+-- after them
 abbrev pub AreOptionWords : List Text → List (Text × Option Text) → Type 0
 AreOptionWords words [] = AreTexts words []
 AreOptionWords words (option ∷ options) =
@@ -62,7 +65,8 @@ given_values ((name, None) ∷ options) = given_values options
 given_values ((name, Some value) ∷ options) = (name, Some value) ∷ given_values options
 
 -- the words are this subcommand with these options and flags, in any order
-pub record IsOptionLine (name : Text) (words : List Text) (options : List (Text × Option Text)) : Type 0 where
+pub record IsOptionLine (name : Text) (words : List Text)
+    (options : List (Text × Option Text)) : Type 0 where
   pub behind : List Text
   pub in_order : List (Text × Option Text)
   pub named : words ≡ name ∷ behind
@@ -74,8 +78,10 @@ abbrev pub flag_given : Text → Bool → List (Text × Option Text)
 flag_given name true = (name, None) ∷ []
 flag_given name false = []
 
--- the words are `serve` with texts in its options that say this, and with the flag where replies are mirrored
-pub record IsServeLine (words : List Text) (config token_dir store : Option Text) (listening : Listening) (count : ℕ) : Type 0 where
+-- the words are `serve` with texts in its options that say this, and with the flag where replies
+-- are mirrored
+pub record IsServeLine (words : List Text) (config token_dir store : Option Text)
+    (listening : Listening) (count : ℕ) : Type 0 where
   pub bind : Option Text
   pub port : Option Text
   pub client_port : Option Text
@@ -83,8 +89,10 @@ pub record IsServeLine (words : List Text) (config token_dir store : Option Text
   pub broadcast_as : Option Text
   pub listens : listening_of bind port client_port broadcast_as listening.mirror ≡ Some listening
   pub counts : number_of digits ≡ Some count
-  pub line : IsOptionLine (codes "serve") words (given_values ((codes "config", config) ∷ (codes "token-dir", token_dir)
-      ∷ (codes "store", store) ∷ (codes "bind", bind) ∷ (codes "port", port) ∷ (codes "client-port", client_port)
+  pub line : IsOptionLine (codes "serve") words
+      (given_values ((codes "config", config) ∷ (codes "token-dir", token_dir)
+      ∷ (codes "store", store) ∷ (codes "bind", bind) ∷ (codes "port", port)
+      ∷ (codes "client-port", client_port)
       ∷ (codes "count", Some digits) ∷ (codes "broadcast-as", broadcast_as) ∷ [])
       ++ flag_given (codes "mirror") listening.mirror)
 
@@ -97,16 +105,21 @@ IsLine words (verifies hex) = IsLineOf (codes "verify") words (hex ∷ [])
 IsLine words (evaluates program datagram) = IsLineOf (codes "eval") words (program ∷ datagram ∷ [])
 IsLine words (tests text datagram) = IsFlaggedLine (codes "eval") words (text ∷ datagram ∷ [])
 IsLine words (replays config token_dir store) = IsOptionLine (codes "replay") words
-    (given_values ((codes "config", config) ∷ (codes "token-dir", token_dir) ∷ (codes "store", store) ∷ []))
-IsLine words (lists config token_dir store moment) = (digits : Text) × (number_of digits ≡ Some moment)
-    × IsOptionLine (codes "leases") words (given_values ((codes "config", config) ∷ (codes "token-dir", token_dir)
+    (given_values ((codes "config", config) ∷ (codes "token-dir", token_dir)
+    ∷ (codes "store", store) ∷ []))
+IsLine words (lists config token_dir store moment) =
+    (digits : Text) × (number_of digits ≡ Some moment)
+    × IsOptionLine (codes "leases") words
+    (given_values ((codes "config", config) ∷ (codes "token-dir", token_dir)
     ∷ (codes "store", store) ∷ (codes "at", Some digits) ∷ []))
-IsLine words (serves config token_dir store listening count) = IsServeLine words config token_dir store listening count
+IsLine words (serves config token_dir store listening count) =
+    IsServeLine words config token_dir store listening count
 
 -- the names of the subcommands
 abbrev pub subcommands : List Text
 subcommands =
-    codes "show" ∷ codes "expr" ∷ codes "compile" ∷ codes "verify" ∷ codes "eval" ∷ codes "replay" ∷ codes "leases"
+    codes "show" ∷ codes "expr" ∷ codes "compile" ∷ codes "verify" ∷ codes "eval" ∷ codes "replay"
+    ∷ codes "leases"
     ∷ codes "serve" ∷ []
 
 -- the flag that asks for help

@@ -66,13 +66,15 @@ verify_line = text_line (codes "verify") (codes "HEX")
 -- `eval [--text] PROGRAM DATAGRAM`
 abbrev pub eval_line : App
 eval_line =
-    with_rule (with_rule (with_rule (new_app (codes "eval")) (flag_rule (codes "text"))) (needed_rule (codes "PROGRAM")))
+    with_rule (with_rule (with_rule (new_app (codes "eval")) (flag_rule (codes "text")))
+    (needed_rule (codes "PROGRAM")))
     (needed_rule (codes "DATAGRAM"))
 
 -- a subcommand over files: `NAME [--config F] [--token-dir D] [--store F]`
 abbrev pub files_line : Text → App
 files_line name =
-    with_rule (with_rule (with_rule (new_app name) (value_rule (codes "config"))) (value_rule (codes "token-dir")))
+    with_rule (with_rule (with_rule (new_app name) (value_rule (codes "config")))
+    (value_rule (codes "token-dir")))
     (value_rule (codes "store"))
 
 -- `replay [--config F] [--token-dir D] [--store F]`
@@ -83,11 +85,13 @@ replay_line = files_line (codes "replay")
 abbrev pub leases_line : App
 leases_line = with_rule (files_line (codes "leases")) (needed_value (codes "at"))
 
--- `serve [--config F] [--token-dir D] [--store F] [--bind A] [--port P] [--client-port Q] --count N [--broadcast-as A]
--- [--mirror]`
+-- `serve [--config F] [--token-dir D] [--store F] [--bind A] [--port P] [--client-port Q] --count N
+-- [--broadcast-as A] [--mirror]`
 abbrev pub serve_line : App
 serve_line =
-    with_rule (with_rule (with_rule (with_rule (with_rule (with_rule (files_line (codes "serve")) (value_rule (codes "bind")))
+    with_rule (with_rule
+    (with_rule (with_rule
+    (with_rule (with_rule (files_line (codes "serve")) (value_rule (codes "bind")))
     (value_rule (codes "port"))) (value_rule (codes "client-port"))) (needed_value (codes "count")))
     (value_rule (codes "broadcast-as"))) (flag_rule (codes "mirror"))
 
@@ -99,8 +103,10 @@ program_line = on_top (λ s. record s { no_binary_name = true; subcommand_requir
 -- the whole command line
 abbrev pub command_line : App
 command_line =
-    with_subcommand (with_subcommand (with_subcommand (with_subcommand (with_subcommand (with_subcommand
-    (with_subcommand (with_subcommand program_line show_line.top) expr_line.top) compile_line.top) verify_line.top)
+    with_subcommand (with_subcommand
+    (with_subcommand (with_subcommand (with_subcommand (with_subcommand
+    (with_subcommand (with_subcommand program_line show_line.top) expr_line.top) compile_line.top)
+    verify_line.top)
     eval_line.top) replay_line.top) leases_line.top) serve_line.top
 
 -- ---- what the words ask for
@@ -119,8 +125,8 @@ pub data Asked : Type 0 where
   evaluates : Text → Text → Asked
   -- the run of the program of the class test in the one text over the datagram in the other
   tests : Text → Text → Asked
-  -- the events of standard input, replayed, with the file of the configuration, the folder of the token files
-  -- and the file of the leases, where they are given
+  -- the events of standard input, replayed, with the file of the configuration, the folder of the
+  -- token files and the file of the leases, where they are given
   replays : Option Text → Option Text → Option Text → Asked
   -- the leases of the store at this moment, with the same files
   lists : Option Text → Option Text → Option Text → ℕ → Asked
@@ -134,21 +140,24 @@ flag_is_given value = option_map_or (λ v. bytes_eq v (codes "true")) value fals
 -- what two texts ask `eval` for, where both are there, with the flag's value
 abbrev pub evaluation_of : Option Text → Option Text → Option Text → Option Asked
 evaluation_of value program datagram =
-    option_and_then (λ p. option_map (λ d. if flag_is_given value then tests p d else evaluates p d) datagram) program
+    option_and_then (λ p. option_map
+    (λ d. if flag_is_given value then tests p d else evaluates p d) datagram) program
 
 -- what these files and a text ask `leases` for, where the text is there and is a number
 abbrev pub listing_of : Option Text → Option Text → Option Text → Option Text → Option Asked
 listing_of config token_dir store at =
-    option_map (λ moment. lists config token_dir store moment) (option_and_then (λ text. number_of text) at)
+    option_map (λ moment. lists config token_dir store moment)
+    (option_and_then (λ text. number_of text) at)
 
 -- 127.0.0.1
 abbrev pub loopback : ℕ
 loopback = 127 * 2 ^ 24 + 1
 
--- where the socket is and where replies go, by the texts of the options and with the flag, where each text that is given
--- is in range; without texts the address is 127.0.0.1, the port 67, that of the clients 68, and nothing stands in for
--- 255.255.255.255
-abbrev pub listening_of : Option Text → Option Text → Option Text → Option Text → Bool → Option Listening
+-- where the socket is and where replies go, by the texts of the options and with the flag, where
+-- each text that is given is in range; without texts the address is 127.0.0.1, the port 67, that of
+-- the clients 68, and nothing stands in for 255.255.255.255
+abbrev pub listening_of : Option Text → Option Text → Option Text → Option Text → Bool
+    → Option Listening
 listening_of bind port client_port broadcast_as mirror = do
   address ← read_or address_of loopback bind
   own ← read_or port_of 67 port
@@ -156,7 +165,8 @@ listening_of bind port client_port broadcast_as mirror = do
   everyone ← read_or (λ text. option_map (λ a. Some a) (address_of text)) None broadcast_as
   Some (record { bind = address; port = own; client_port = clients; broadcast_as = everyone; mirror = mirror })
 
--- what these texts of the options ask `serve` for, where each that is given is in range and the count is there
+-- what these texts of the options ask `serve` for, where each that is given is in range and the
+-- count is there
 abbrev pub serving_of : (Text → Option Text) → Option Asked
 serving_of text = do
   listening ← listening_of (text (codes "bind")) (text (codes "port")) (text (codes "client-port"))
@@ -169,16 +179,21 @@ serving_of text = do
 abbrev pub asked_by : Text → List Row → Option Asked
 asked_by name rows =
     if bytes_eq name (codes "show") then option_map (λ hex. shows hex) (first_of (codes "HEX") rows)
-    else (if bytes_eq name (codes "expr") then option_map (λ text. types text) (first_of (codes "TEXT") rows)
-    else (if bytes_eq name (codes "compile") then option_map (λ text. compiles text) (first_of (codes "TEXT") rows)
-    else (if bytes_eq name (codes "verify") then option_map (λ hex. verifies hex) (first_of (codes "HEX") rows)
+    else (if bytes_eq name (codes "expr") then option_map (λ text. types text)
+    (first_of (codes "TEXT") rows)
+    else (if bytes_eq name (codes "compile") then option_map (λ text. compiles text)
+    (first_of (codes "TEXT") rows)
+    else (if bytes_eq name (codes "verify") then option_map (λ hex. verifies hex)
+    (first_of (codes "HEX") rows)
     else (if bytes_eq name (codes "eval")
-    then evaluation_of (first_of (codes "text") rows) (first_of (codes "PROGRAM") rows) (first_of (codes "DATAGRAM") rows)
+    then evaluation_of (first_of (codes "text") rows) (first_of (codes "PROGRAM") rows)
+    (first_of (codes "DATAGRAM") rows)
     else (if bytes_eq name (codes "replay")
     then Some (replays (first_of (codes "config") rows) (first_of (codes "token-dir") rows)
     (first_of (codes "store") rows))
     else (if bytes_eq name (codes "leases")
-    then listing_of (first_of (codes "config") rows) (first_of (codes "token-dir") rows) (first_of (codes "store") rows)
+    then listing_of (first_of (codes "config") rows) (first_of (codes "token-dir") rows)
+    (first_of (codes "store") rows)
     (first_of (codes "at") rows)
     else (if bytes_eq name (codes "serve") then serving_of (λ option. first_of option rows)
     else None)))))))
@@ -196,15 +211,18 @@ pub record Asks (words : List Text) (asked : Asked) : Type 0 where
 abbrev pub IsHelp : List Text → Type 0
 IsHelp words = IsAmong DisplayHelp (fault_of command_line words)
 
--- the words are no mistake for `clap`, but their subcommand asks for nothing: a text is out of range
+-- the words are no mistake for `clap`, but their subcommand asks for nothing: a text is out of
+-- range
 pub record AsksNothing (words : List Text) : Type 0 where
   pub whole : fault_of command_line words ≡ []
   pub entered : asked_of (subcommand_of command_line words) ≡ None
 
--- the first step at which the words fail may be other than a request for help, or the words ask for nothing
+-- the first step at which the words fail may be other than a request for help, or the words ask for
+-- nothing
 abbrev pub IsMistake : List Text → Type 0
 IsMistake words =
-    ((kind : ErrorKind) × IsAmong kind (fault_of command_line words) × (kind ≢ DisplayHelp)) ⊎ AsksNothing words
+    ((kind : ErrorKind) × IsAmong kind (fault_of command_line words) × (kind ≢ DisplayHelp))
+    ⊎ AsksNothing words
 
 -- the words ask for this order
 abbrev pub AsksFor : List Text → Order → Type 0
@@ -213,14 +231,19 @@ AsksFor words (Show hex) = Asks words (shows (string_bytes hex))
 AsksFor words (Expr text) = Asks words (types (string_bytes text))
 AsksFor words (Compile text) = Asks words (compiles (string_bytes text))
 AsksFor words (Verify hex) = Asks words (verifies (string_bytes hex))
-AsksFor words (Eval program datagram) = Asks words (evaluates (string_bytes program) (string_bytes datagram))
-AsksFor words (EvalText text datagram) = Asks words (tests (string_bytes text) (string_bytes datagram))
+AsksFor words (Eval program datagram) =
+    Asks words (evaluates (string_bytes program) (string_bytes datagram))
+AsksFor words (EvalText text datagram) =
+    Asks words (tests (string_bytes text) (string_bytes datagram))
 AsksFor words (Replay config token_dir store) = Asks words
-    (replays (option_map string_bytes config) (option_map string_bytes token_dir) (option_map string_bytes store))
+    (replays (option_map string_bytes config) (option_map string_bytes token_dir)
+    (option_map string_bytes store))
 AsksFor words (Leases config token_dir store at) = Asks words
-    (lists (option_map string_bytes config) (option_map string_bytes token_dir) (option_map string_bytes store) at)
+    (lists (option_map string_bytes config) (option_map string_bytes token_dir)
+    (option_map string_bytes store) at)
 AsksFor words (Serve config token_dir store listening count) = Asks words
-    (serves (option_map string_bytes config) (option_map string_bytes token_dir) (option_map string_bytes store) listening
+    (serves (option_map string_bytes config) (option_map string_bytes token_dir)
+    (option_map string_bytes store) listening
     count)
 
 -- the words have this fault; memory may run out at any words
@@ -238,11 +261,14 @@ given_by (Verify hex) = Some (verifies (string_bytes hex))
 given_by (Eval program datagram) = Some (evaluates (string_bytes program) (string_bytes datagram))
 given_by (EvalText text datagram) = Some (tests (string_bytes text) (string_bytes datagram))
 given_by (Replay config token_dir store) = Some
-    (replays (option_map string_bytes config) (option_map string_bytes token_dir) (option_map string_bytes store))
+    (replays (option_map string_bytes config) (option_map string_bytes token_dir)
+    (option_map string_bytes store))
 given_by (Leases config token_dir store at) = Some
-    (lists (option_map string_bytes config) (option_map string_bytes token_dir) (option_map string_bytes store) at)
+    (lists (option_map string_bytes config) (option_map string_bytes token_dir)
+    (option_map string_bytes store) at)
 given_by (Serve config token_dir store listening count) = Some
-    (serves (option_map string_bytes config) (option_map string_bytes token_dir) (option_map string_bytes store) listening
+    (serves (option_map string_bytes config) (option_map string_bytes token_dir)
+    (option_map string_bytes store) listening
     count)
 
 -- the answer gives what was asked, or memory ran out

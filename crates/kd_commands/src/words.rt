@@ -31,11 +31,12 @@ const SERVER_PORT: u16 = 67;
 // The port of clients.
 const CLIENT_PORT: u16 = 68;
 
-/// The order that the words give, which are those behind the program's name.
+/// The order that the words give, which are those after the program's name.
 ///
 /// # Errors
 ///
-/// `CommandLine` where the words are no command of the program, or the text of an option is out of range, and `Memory`.
+/// `CommandLine` where the words are no command of the program, or the text of an option is out of
+/// range, and `Memory`.
 pub fn order(alloc: Global, words: &[String]) -> Result<Order, LineFault>
     ensures order { IfOk result (AsksFor (map string_bytes words.now)) }
     ensures fault { IfErr result (HasFault (map string_bytes words.now)) }
@@ -266,8 +267,8 @@ fn count<'a>(alloc: Global) -> Arg<'a>
 const SERVE_EXAMPLE: &str =
     "Example: kdhcp serve --config config.json --store leases.db --bind 0.0.0.0 --count 18446744073709551615";
 
-// `serve [--config F] [--token-dir D] [--store F] [--bind A] [--port P] [--client-port Q] --count N [--broadcast-as A]
-// [--mirror]`.
+// `serve [--config F] [--token-dir D] [--store F] [--bind A] [--port P] [--client-port Q] --count N
+// [--broadcast-as A] [--mirror]`.
 fn serve<'a>(alloc: Global) -> Result<Command<'a>, AllocError>
     ensures app { IfOk result (λ c. app_of c ≡ serve_line) }
     ensures local { IfOk result (λ c. (out-Command c).has_globals ≡ false) }
@@ -371,7 +372,8 @@ fn evaluated(alloc: Global, matches: &ArgMatches<'_>) -> Result<Order, LineFault
 
 // The order of `eval`: its first text is a class test or a token file.
 fn evaluation(is_text: bool, program: String, datagram: String) -> Order
-    ensures { given_by result ≡ Some (if is_text then tests (string_bytes program) (string_bytes datagram)
+    ensures { given_by result
+        ≡ Some (if is_text then tests (string_bytes program) (string_bytes datagram)
         else evaluates (string_bytes program) (string_bytes datagram)) }
 {
     if is_text {
@@ -551,7 +553,8 @@ fn number_given(value: Option<&str>) -> Option<u64>
 
 // The text of an argument, where the matches have one.
 fn text_of(alloc: Global, matches: &ArgMatches<'_>, id: &str) -> Result<Option<String>, AllocError>
-    ensures { IfOk result (λ text. option_map string_bytes text ≡ first_value (found_of matches.now) id.now) }
+    ensures { IfOk result
+        (λ text. option_map string_bytes text ≡ first_value (found_of matches.now) id.now) }
 {
     match matches.get_str(id) {
         Some(text) => Ok(Some(String::from_str(alloc, text)?)),

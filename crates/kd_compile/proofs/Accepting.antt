@@ -29,11 +29,11 @@ use Rattle.kd_token.specs.declared.token.Token.{Token}
 use Rattle.kd_token.specs.declared.token.Token.TheVariants as tokens
 use Rattle.kd_token.proofs.Down.{covers_itself}
 
--- the point before the token behind an operand where a byte string is wanted
+-- the point before the token after an operand where a byte string is wanted
 abbrev bytes_points : Tree → List Kind → ℕ → List Point
 bytes_points t s c = if number_tree t then point (kind_of t ∷ s) (c + step_count t) ∷ [] else []
 
--- the point behind an operand where a byte string is wanted
+-- the point after an operand where a byte string is wanted
 abbrev behind : Tree → List Kind → ℕ → Point
 behind t s c = point (kinds.Bytes (bound t) ∷ s) (c + (step_count t + four_more t))
 
@@ -319,7 +319,7 @@ leaves : (p : Code) (a : Assignment) (o : Option (List Flow)) → MatchOption o 
 leaves p a None l = absurd l
 leaves p a (Some fs) l = all_within p a fs l
 
--- behind the last token nothing leaves
+-- after the last token nothing leaves
 leads_end : (p : Code) (a : Assignment) (i : ℕ) → length p.tokens ≤ i → Leads p a i
 leads_end p a i past =
     let none : slice_get p.tokens i ≡ None = slice_get_past p.tokens i past in

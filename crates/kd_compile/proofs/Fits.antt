@@ -107,7 +107,7 @@ adds_one version names a token first last = adds_both version (operand names a) 
 adds_bare : (version : Version) (names : List (List ℕ)) (a : Tree) (token : Token) → Adds version (code_of names a) → ((behind : ℕ) → IsToken version behind token) → Adds version (code_of names a ++ token ∷ [])
 adds_bare version names a token first last = adds_both version (code_of names a) (token ∷ []) first (λ rest r. (last (length rest), r))
 
--- tokens behind a branch that skips no more than them
+-- tokens after a branch that skips no more than them
 adds_behind : (version : Version) (skip : ℕ) (list : List Token) → version ≡ versions.Two → skip ≤ length list → Adds version list → (rest : List Token) → AreTokens version rest → IsBranch version (length (list ++ rest)) skip × AreTokens version (list ++ rest)
 adds_behind version skip list two le a rest r = (branch_fits version (length (list ++ rest)) skip two (omega (arith, length-append list rest, le)), a rest r)
 

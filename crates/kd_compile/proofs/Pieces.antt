@@ -1,4 +1,4 @@
--- Pieces of a program: tokens, the points before them and the point behind them, so that each way from a
+-- Pieces of a program: tokens, the points before them and the point after them, so that each way from a
 -- place of the piece leads to a place that knows what it brings.
 use Rattle.std.proofs.Common.{◌≡◌, ℕ, suc, ◌+◌, ◌≤◌, ◌<◌, List, [], ◌∷◌, ◌++◌, length, Option, Some, None, refl, sym, subst, arith, length-append, inl, inr}
 use Rattle.std.specs.Prelude.{◌⊎◌, slice_get, MatchOption}
@@ -40,7 +40,7 @@ leads_here p a i token q is known goes =
     let Q : Option Point → Type 0 = λ o. MatchOption (leaving (length p.names) (Some token) i o) ⊥ (AllByRecursion (Goes p a)) in
     subst P (sym is) (subst Q (sym known) goes)
 
--- tokens, the points before them, and the point behind them: from the first point on, wherever they stand
+-- tokens, the points before them, and the point after them: from the first point on, wherever they stand
 pub record Piece (p : Code) (q : Point) (ts : List Token) (qs : List Point) (x : Point) : Type 0 where
   pub size : length qs ≡ length ts
   pub room : IsRoomFor p x.shape
@@ -77,7 +77,7 @@ piece_front p q token z x ts qs piece step = record {
       by (cases_lt j (i + 1));
 }
 
--- a piece behind another
+-- a piece after another
 pub piece_then : (p : Code) (q x y : Point) (ts us : List Token) (qs rs : List Point) → Piece p q ts qs x → Piece p x us rs y → Piece p q (ts ++ us) (qs ++ rs) y
 piece_then p q x y ts us qs rs piece next = record {
   size = let one = piece.size in let two = next.size in omega (arith, one, two, length-append ts us, length-append qs rs);

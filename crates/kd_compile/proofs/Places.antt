@@ -37,7 +37,7 @@ Knows names (Lower at a) = Knows names a
 Knows names (Upper at a) = Knows names a
 Knows names (IntToText at a) = Knows names a
 
--- a name keeps its place when more names come behind
+-- a name keeps its place when more names come after
 placed_on : (name : List ℕ) (names more : List (List ℕ)) → IsPlaced names name → IsPlaced (names ++ more) name
 placed_on name [] more e = absurd (cc)
 placed_on name (x ∷ names) more e = by (same name x) (placed_on name names more) e where
@@ -53,7 +53,7 @@ placed_among name (x ∷ names) e = by (same name x) refl (placed_among name nam
   by true told later e = ap Some (sym (same_text name x (sym told)))
   by false told later e = later e
 
--- a name that is not stands at its place behind them
+-- a name that is not stands at its place after them
 placed_behind : (name : List ℕ) (names : List (List ℕ)) → is_held name names ≡ false → IsPlaced (names ++ name ∷ []) name
 placed_behind name [] e = by (same name name) (nat_list_eq_equiv.refl name) where
   by : (b : Bool) → b ≡ true → slice_get (name ∷ []) (if b then 0 else 1) ≡ Some name
@@ -70,7 +70,7 @@ placed_with name names = by (is_held name names) refl where
   by true e = placed_among name names e
   by false e = placed_behind name names e
 
--- more names come behind the first ones
+-- more names come after the first ones
 abbrev Begins : List (List ℕ) → List (List ℕ) → Type 0
 Begins names more = (rest : List (List ℕ)) × (more ≡ names ++ rest)
 

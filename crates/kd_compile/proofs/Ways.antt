@@ -24,19 +24,19 @@ comes_by (suc n) p w i j k s t u d l c g =
     let before = comes_by n p w i j g.0 s t g.1 g.2 g.3 c g.4 in
     (suc before.0, max before.1 (length u), max before.2 (longest u), (g.0, g.1, before.1, before.2, before.3, g.5, refl, refl))
 
--- one way behind another
+-- one way after another
 pub comes_on : (p : Code) (w : World) (i j k : ℕ) (s t u : List Val) → Comes p w i s j t → Comes p w j t k u → Comes p w i s k u
 comes_on p w i j k s t u a b = comes_by b.0 p w i j k s t u b.1 b.2 a b.3
 
 comes_to : (p : Code) (w : World) (i j k : ℕ) (s t : List Val) → j ≡ k → Comes p w i s j t → Comes p w i s k t
 comes_to p w i j k s t e c = let P : ℕ → Type 0 = λ x. Comes p w i s x t in subst P e c
 
--- wherever these tokens stand, a program comes from before them with some values behind them with others
+-- wherever these tokens stand, a program comes from before them with some values after them with others
 abbrev pub Makes : Code → World → List Token → List Val → List Val → Type 0
 Makes p w xs s t = (i : ℕ) → HasAt (slice_get p.tokens) i xs → Comes p w i s (i + length xs) t
 
 module _ (p : Code) (w : World) where
-  -- tokens behind others
+  -- tokens after others
   pub makes_both : (xs ys : List Token) (s t u : List Val) → Makes p w xs s t → Makes p w ys t u → Makes p w (xs ++ ys) s u
   makes_both xs ys s t u a b i h =
       let first = a i (has_front (slice_get p.tokens) i xs ys h) in
@@ -64,6 +64,6 @@ module _ (p : Code) (w : World) where
   pub makes_next : (x : Token) (xs : List Token) (s t u : List Val) → ((i : ℕ) → moves w x i s ≡ Some (i + 1, t)) → Makes p w xs t u → Makes p w (x ∷ xs) s u
   makes_next x xs s t u moved b = makes_both (x ∷ []) xs s t u (makes_one x s t moved) b
 
-  -- a token that leads over all that stand behind it
+  -- a token that leads over all that stand after it
   pub makes_past : (x : Token) (xs : List Token) (s t : List Val) → ((i : ℕ) → moves w x i s ≡ Some (i + 1 + length xs, t)) → Makes p w (x ∷ xs) s t
   makes_past x xs s t moved i h = comes_to p w i (i + 1 + length xs) (i + suc (length xs)) s t (omega arith) (comes_step p w i s (i + 1 + length xs) t (x, h.0, moved i))

@@ -1,4 +1,5 @@
--- What a compiled program owes to its class test: its measures, that it is accepted, and its meaning.
+-- What a compiled program owes to its class test: its measures, that it is accepted, and its
+-- meaning.
 use Rattle.std.specs.Prelude.{◌≡◌, ℕ, nat_lt, if◌then◌else◌, List, length, Option, Some, None}
 use Rattle.kd_compile.specs.Measures.{token_count, step_count, stack_depth, greatest, names, branching}
 use Rattle.kd_compile.specs.Value.{truth}
@@ -20,8 +21,8 @@ compile_fault_number faults.TooLong = 53
 compile_fault_number faults.TooManyNames = 54
 compile_fault_number faults.Memory = 91
 
--- the first limit that an expression's measures are over: 1,024 tokens, a depth of 64, byte strings of
--- 65,535 bytes, 64 names
+-- the first limit that an expression's measures are over: 1,024 tokens, a depth of 64, byte strings
+-- of 65,535 bytes, 64 names
 abbrev pub first_over : Tree → Option CompileFault
 first_over t =
     if nat_lt 1024 (token_count t) then Some faults.TooManyTokens
@@ -34,7 +35,8 @@ first_over t =
 abbrev pub version_for : Tree → Version
 version_for t = if branching t then versions.Two else versions.One
 
--- a program has the measures of an expression: it declares its steps, its depth and its greatest bound
+-- a program has the measures of an expression: it declares its steps, its depth and its greatest
+-- bound
 pub record HasMeasures (t : Tree) (p : Code) : Type 0 where
   pub version : p.version ≡ version_for t
   pub tokens : length p.tokens ≡ token_count t
@@ -43,14 +45,14 @@ pub record HasMeasures (t : Tree) (p : Code) : Type 0 where
   pub depth : p.depth ≡ stack_depth t
   pub bound : p.bound ≡ greatest t
 
--- a program keeps an expression's meaning: over every message and every list of held names it runs, within
--- what it declares, to the expression's truth value
+-- a program keeps an expression's meaning: over every message and every list of held names it runs,
+-- within what it declares, to the expression's truth value
 abbrev pub Keeps : Tree → Code → Type 0
 Keeps t p = (message : Seen) (held : List (List ℕ)) → IsMessage message
     → (n : ℕ) × (d : ℕ) × (l : ℕ) × EndsAs p message held (truth message held t) n d l
 
--- a program that an expression compiles to: it has the expression's measures, is accepted, and keeps its
--- meaning
+-- a program that an expression compiles to: it has the expression's measures, is accepted, and
+-- keeps its meaning
 pub record IsCompiled (t : Tree) (p : Code) : Type 0 where
   pub measures : HasMeasures t p
   pub accepted : Accepts p

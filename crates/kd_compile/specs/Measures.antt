@@ -1,6 +1,6 @@
--- The measures of a class test, by recursion on its tree: how many tokens its program has, how many of them
--- run at most, how many values are on the stack at most, how long its byte strings are at most, and which
--- names it asks for. The numbers have no greatest one.
+-- The measures of a class test, by recursion on its tree: how many tokens its program has, how many
+-- of them run at most, how many values are on the stack at most, how long its byte strings are at
+-- most, and which names it asks for. The numbers have no greatest one.
 use Rattle.std.specs.Prelude.{ℕ, ◌+◌, max, Bool, true, false, ◌||◌, if◌then◌else◌, List, [], length}
 use Rattle.kd_expr.specs.Tree.{Tree, Literal, Int, OptionValue, RelayValue, FieldValue, OptionExists, RelayExists, Member, Equal, Not, And, Or, Group, Concat, IfElse, Substring, HexString, Lower, Upper, IntToText}
 use Rattle.kd_expr.specs.declared.node.Field.{Field}
@@ -47,7 +47,8 @@ token_count (And at a b) = token_count a + 1 + token_count b
 token_count (Or at a b) = token_count a + 1 + token_count b
 token_count (Group at a) = token_count a
 token_count (Concat at a b) = token_count a + four_more a + (token_count b + four_more b) + 1
-token_count (IfElse at t a b) = token_count t + 1 + (token_count a + four_more a) + 1 + (token_count b + four_more b)
+token_count (IfElse at t a b) =
+    token_count t + 1 + (token_count a + four_more a) + 1 + (token_count b + four_more b)
 token_count (Substring at a start count) = token_count a + four_more a + 1
 token_count (HexString at a b) = token_count a + four_more a + (token_count b + four_more b) + 1
 token_count (Lower at a) = token_count a + four_more a + 1
@@ -70,7 +71,8 @@ step_count (And at a b) = step_count a + 1 + step_count b
 step_count (Or at a b) = step_count a + 1 + step_count b
 step_count (Group at a) = step_count a
 step_count (Concat at a b) = step_count a + four_more a + (step_count b + four_more b) + 1
-step_count (IfElse at t a b) = step_count t + 1 + max (step_count a + four_more a + 1) (step_count b + four_more b)
+step_count (IfElse at t a b) =
+    step_count t + 1 + max (step_count a + four_more a + 1) (step_count b + four_more b)
 step_count (Substring at a start count) = step_count a + four_more a + 1
 step_count (HexString at a b) = step_count a + four_more a + (step_count b + four_more b) + 1
 step_count (Lower at a) = step_count a + four_more a + 1

@@ -1,7 +1,7 @@
--- The tokens of a class test, by recursion on its tree: operands from left to right, then the node's own
--- token; the four bytes behind a number where a byte string is wanted; `and`, `or` and `ifelse` by branches
--- over what they may skip. A compiled program is this one; proofs tie it to the expression's value and
--- measures.
+-- The tokens of a class test, by recursion on its tree: operands from left to right, then the
+-- node's own token; the four bytes after a number where a byte string is wanted; `and`, `or` and
+-- `ifelse` by branches over what they may skip. A compiled program is this one; proofs tie it to
+-- the expression's value and measures.
 use Rattle.std.specs.Prelude.{ℕ, suc, ◌+◌, if◌then◌else◌, List, [], ◌∷◌, ◌++◌}
 use Rattle.kd_expr.specs.Tree.{Tree, Literal, Int, OptionValue, RelayValue, FieldValue, OptionExists, RelayExists, Member, Equal, Not, And, Or, Group, Concat, IfElse, Substring, HexString, Lower, Upper, IntToText}
 use Rattle.kd_expr.specs.declared.node.Field.{Field}
@@ -34,7 +34,7 @@ token_field parts.Msgtype = fields.MessageType
 token_field parts.Transid = fields.Transaction
 token_field parts.Length = fields.Length
 
--- the token behind an operand where a byte string is wanted
+-- the token after an operand where a byte string is wanted
 abbrev pub in_bytes : Tree → List Token
 in_bytes t = if number_tree t then tokens.IntBytes ∷ [] else []
 
@@ -48,20 +48,27 @@ code_of names (FieldValue at field) = tokens.PushField (token_field field) ∷ [
 code_of names (OptionExists at code) = tokens.OptionExists code ∷ []
 code_of names (RelayExists at code) = tokens.RelayExists code ∷ []
 code_of names (Member at name) = tokens.Member (index_of name names) ∷ []
-code_of names (Equal at a b) = code_of names a ++ in_bytes a ++ (code_of names b ++ in_bytes b) ++ tokens.Equal ∷ []
+code_of names (Equal at a b) =
+    code_of names a ++ in_bytes a ++ (code_of names b ++ in_bytes b) ++ tokens.Equal ∷ []
 code_of names (Not at a) = code_of names a ++ tokens.Not ∷ []
 code_of names (And at a b) = code_of names a ++ tokens.BranchFalseElsePop (size b) ∷ code_of names b
 code_of names (Or at a b) = code_of names a ++ tokens.BranchTrueElsePop (size b) ∷ code_of names b
 code_of names (Group at a) = code_of names a
-code_of names (Concat at a b) = code_of names a ++ in_bytes a ++ (code_of names b ++ in_bytes b) ++ tokens.Concat ∷ []
+code_of names (Concat at a b) =
+    code_of names a ++ in_bytes a ++ (code_of names b ++ in_bytes b) ++ tokens.Concat ∷ []
 code_of names (IfElse at t a b) =
-    code_of names t ++ tokens.PopBranchFalse (size a + four_more a + 1) ∷ (code_of names a ++ in_bytes a ++ tokens.Branch (size b + four_more b) ∷ (code_of names b ++ in_bytes b))
-code_of names (Substring at a start count) = code_of names a ++ in_bytes a ++ tokens.Substring start count ∷ []
-code_of names (HexString at a b) = code_of names a ++ in_bytes a ++ (code_of names b ++ in_bytes b) ++ tokens.HexString ∷ []
+    code_of names t ++ tokens.PopBranchFalse (size a + four_more a + 1)
+    ∷ (code_of names a ++ in_bytes a ++ tokens.Branch (size b + four_more b)
+    ∷ (code_of names b ++ in_bytes b))
+code_of names (Substring at a start count) =
+    code_of names a ++ in_bytes a ++ tokens.Substring start count ∷ []
+code_of names (HexString at a b) =
+    code_of names a ++ in_bytes a ++ (code_of names b ++ in_bytes b) ++ tokens.HexString ∷ []
 code_of names (Lower at a) = code_of names a ++ in_bytes a ++ tokens.Lower ∷ []
 code_of names (Upper at a) = code_of names a ++ in_bytes a ++ tokens.Upper ∷ []
 code_of names (IntToText at a) = code_of names a ++ tokens.IntToText ∷ []
 
 -- the program of an expression: its tokens, and its measures as what it declares
 abbrev pub program_for : Tree → Code
-program_for t = code (version_for t) (step_count t) (stack_depth t) (greatest t) (names t) (code_of (names t) t)
+program_for t =
+    code (version_for t) (step_count t) (stack_depth t) (greatest t) (names t) (code_of (names t) t)

@@ -1,6 +1,6 @@
 -- The value of a class test (Kea Administrator Reference Manual, chapter Client Classification), by
--- recursion on its tree: a truth value, a number, or a byte string. Where a byte string is wanted, a number
--- stands for its four bytes in network order.
+-- recursion on its tree: a truth value, a number, or a byte string. Where a byte string is wanted,
+-- a number stands for its four bytes in network order.
 use Rattle.std.specs.Prelude.{ℕ, Bool, false, not, ◌&&◌, ◌||◌, is_some, nat_eq, if◌then◌else◌, List, [], ◌++◌, map, Option}
 use Rattle.std.specs.Char.{to_ascii_lowercase, to_ascii_uppercase}
 use Rattle.std.specs.Fmt.{decimal}
@@ -47,7 +47,8 @@ part_value m fields.Msgtype = Number (type_in (value_of 53 m.options))
 part_value m fields.Transid = Number m.header.xid
 part_value m fields.Length = Number m.len
 
--- a sub-option of a message's relay information, where it is present (kd_options `laws::relay_list_is_standard`)
+-- a sub-option of a message's relay information, where it is present (kd_options
+-- `laws::relay_list_is_standard`)
 abbrev pub relay_value : Seen → ℕ → Option (List ℕ)
 relay_value m code = lookup (nat_eq code) (relay_list m.options)
 
@@ -67,9 +68,12 @@ value m held (And at a b) = Truth (truth_in (value m held a) && truth_in (value 
 value m held (Or at a b) = Truth (truth_in (value m held a) || truth_in (value m held b))
 value m held (Group at a) = value m held a
 value m held (Concat at a b) = Text (bytes_in (value m held a) ++ bytes_in (value m held b))
-value m held (IfElse at t a b) = Text (if truth_in (value m held t) then bytes_in (value m held a) else bytes_in (value m held b))
+value m held (IfElse at t a b) =
+    Text (if truth_in (value m held t) then bytes_in (value m held a) else bytes_in
+    (value m held b))
 value m held (Substring at a start count) = Text (substring start count (bytes_in (value m held a)))
-value m held (HexString at a b) = Text (hex_of (bytes_in (value m held b)) (bytes_in (value m held a)))
+value m held (HexString at a b) =
+    Text (hex_of (bytes_in (value m held b)) (bytes_in (value m held a)))
 value m held (Lower at a) = Text (map to_ascii_lowercase (bytes_in (value m held a)))
 value m held (Upper at a) = Text (map to_ascii_uppercase (bytes_in (value m held a)))
 value m held (IntToText at a) = Text (decimal (number_in (value m held a)))

@@ -18,20 +18,21 @@ use kd_token::{Program, Verified, VerifyFault, Version, verify};
 use kd_wire::Bytes;
 use std::alloc::{AllocError, Global};
 
-/// The program of a class test. It is accepted, and its run over every message and every list of held
-/// names ends with the expression's value.
+/// The program of a class test. It is accepted, and its run over every message and every list of
+/// held names ends with the expression's value.
 ///
 /// # Errors
 ///
-/// The first limit that the program would be over: `TooManyTokens` (1,024), `TooDeep` (64), `TooLong`
-/// (65,535 bytes), `TooManyNames` (64). `Memory` where there is none for the program, in place of any other
-/// answer.
+/// The first limit that the program would be over: `TooManyTokens` (1,024), `TooDeep` (64),
+/// `TooLong` (65,535 bytes), `TooManyNames` (64). `Memory` where there is none for the program, in
+/// place of any other answer.
 pub fn compile(alloc: Global, typed: &Typed) -> Result<Verified, CompileFault>
     ensures measured { IfOk result (λ v. HasMeasures (tree_of typed.now) v) }
     ensures accepted { IfOk result (λ v. Accepts v) }
     ensures keeps { IfOk result (λ v. Keeps (tree_of typed.now) v) }
     ensures exact { IfOk result (λ v. v ≡ program_for (tree_of typed.now)) }
-    ensures refused { MatchResult result (λ _. first_over (tree_of typed.now) ≡ None) (λ fault. (fault ≡ Memory) ⊎ (first_over (tree_of typed.now) ≡ Some fault)) }
+    ensures refused { MatchResult result (λ _. first_over (tree_of typed.now) ≡ None)
+        (λ fault. (fault ≡ Memory) ⊎ (first_over (tree_of typed.now) ≡ Some fault)) }
 {
     let tree = typed.tree();
     if tokens(tree) > 1024 {

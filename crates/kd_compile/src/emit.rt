@@ -137,7 +137,9 @@ fn put_bytes(
 ) -> Result<(), AllocError>
     requires few { token_count (tree_of node.now) ≤ 1024 }
     requires named { length names.now ≤ 64 }
-    ensures { OnOk result (out.new.items ≡ out.old.items ++ code_of names.now (tree_of node.now) ++ in_bytes (tree_of node.now)) }
+    ensures { OnOk result
+        (out.new.items ≡ out.old.items ++ code_of names.now (tree_of node.now)
+        ++ in_bytes (tree_of node.now)) }
 {
     put_code(alloc, node, names, out)?;
     if is_number(node) {

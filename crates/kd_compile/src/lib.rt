@@ -1,8 +1,8 @@
-//! The compiler of class tests: from a typed tree to a verified program of tokens (Kea Administrator
-//! Reference Manual, chapter Client Classification, and our own token format).
+//! The compiler of class tests: from a typed tree to a verified program of tokens (Kea
+//! Administrator Reference Manual, chapter Client Classification, and our own token format).
 //!
-//! What this layer promises to the one above: `compile` answers a program that the verifier has accepted,
-//! token for token that of the expression's tree (`specs/Tokens.antt`), with its measures
+//! What this layer promises to the one above: `compile` answers a program that the verifier has
+//! accepted, token for token that of the expression's tree (`specs/Tokens.antt`), with its measures
 //! (`specs/Measures.antt`), whose run over every message and every list of held names ends with the
 //! expression's value (`specs/Value.antt`); or the first limit that these measures are over
 //! (`specs/Compiled.antt`).

@@ -1,10 +1,11 @@
-//! Decides one message many times, so that its time can be taken from outside: `kd_decide_bench new 5000 1000000`
-//! answers a million DISCOVERs of clients without a row, under a configuration of 5,000 reservations, over a table of
-//! 60,000 rows in a pool of 65,536 addresses with gaps. The other works are `read`, which reads the message alone;
-//! `known`, a DISCOVER of a client with a lease; `request`, the REQUEST for its lease; `kept`, a DISCOVER of a client
-//! without a row where the first gaps of the pool are the reserved addresses; `full`, the same in a pool that has a row
-//! at each address; and `past`, in a full pool whose rows have not ended, though an earlier one had. It prints how often
-//! there was a reply, and no time.
+//! Decides one message many times, so that its time can be taken from outside: `kd_decide_bench new
+//! 5000 1000000` answers a million DISCOVERs of clients without a row, under a configuration of
+//! 5,000 reservations, over a table of 60,000 rows in a pool of 65,536 addresses with gaps. The
+//! other works are `read`, which reads the message alone; `known`, a DISCOVER of a client with a
+//! lease; `request`, the REQUEST for its lease; `kept`, a DISCOVER of a client without a row where
+//! the first gaps of the pool are the reserved addresses; `full`, the same in a pool that has a row
+//! at each address; and `past`, in a full pool whose rows have not ended, though an earlier one
+//! had. It prints how often there was a reply, and no time.
 #![tactic(auto)]
 
 mod message;
@@ -35,7 +36,8 @@ fn main(rt: HostRuntime) -> io::Result<()> {
     }
 }
 
-// How often the work gave what it wants, of so many rounds, under a configuration with so many reservations.
+// How often the work gave what it wants, of so many rounds, under a configuration with so many
+// reservations.
 fn worked(alloc: Global, work: &str, count: u32, rounds: u32) -> Result<u32, ConfigFault> {
     let place = match work {
         "kept" => Place::Gaps,

@@ -2,7 +2,8 @@ ghost use Rattle.std.specs.Prelude.{◌<◌};
 
 // The datagrams of clients, of 300 bytes.
 
-// A DISCOVER of the client with a number: its type, its identifier, the greatest message and what it asks for.
+// A DISCOVER of the client with a number: its type, its identifier, the greatest message and what
+// it asks for.
 pub(crate) fn discover(number: u32) -> [u8; 300] {
     let mut bytes = head(number);
     bytes[242] = 1;

@@ -12,8 +12,8 @@ pub(crate) enum Place {
     Gaps,
 }
 
-// The server 10.0.0.1 with a pool of 65,536 addresses and so many reservations, at most 4,096 in its subnet and the
-// others in another.
+// The server 10.0.0.1 with a pool of 65,536 addresses and so many reservations, at most 4,096 in
+// its subnet and the others in another.
 pub(crate) fn config_of(alloc: Global, count: u32, place: Place) -> Result<Config, ConfigFault> {
     let text = text_of(alloc, count, place)?;
     Config::read(alloc, text.as_bytes(), &[])

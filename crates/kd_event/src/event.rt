@@ -14,8 +14,8 @@ pub struct Event {
 /// What was done with one event.
 #[derive(Drop)]
 pub struct Handled {
-    /// The moment at which it counts, in whole seconds: that of the event, or the latest change of a
-    /// lease where that is later.
+    /// The moment at which it counts, in whole seconds: that of the event, or the latest change of
+    /// a lease where that is later.
     pub now: u64,
     /// What is sent, or why nothing is.
     pub response: Response,

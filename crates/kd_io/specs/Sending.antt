@@ -8,7 +8,8 @@ use Rattle.kd_event.specs.declared.destination.Mode.TheVariants as modes
 abbrev pub all_hosts : ℕ
 all_hosts = 0xffffffff
 
--- a reply to a hardware address goes to all hosts, since a socket can not name such an address (RFC 2131 section 4.1)
+-- a reply to a hardware address goes to all hosts, since a socket can not name such an address (RFC
+-- 2131 section 4.1)
 abbrev pub address_by_mode : Mode → ℕ → ℕ
 address_by_mode modes.Hardware address = all_hosts
 address_by_mode mode address = address

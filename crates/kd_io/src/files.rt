@@ -117,12 +117,13 @@ pub fn read_file<R: Files + AllocGlobal>(
     read_whole(rt.alloc(), file, most)
 }
 
-/// The token files of a folder: its plain files, and links to such, whose names are UTF-8 and end in `.k4tk`,
-/// each by its whole name.
+/// The token files of a folder: its plain files, and links to such, whose names are UTF-8 and end
+/// in `.k4tk`, each by its whole name.
 ///
 /// # Errors
 ///
-/// `Read` where the folder or one of these files cannot be read or a file is longer than 16 MiB, and `Memory`.
+/// `Read` where the folder or one of these files cannot be read or a file is longer than 16 MiB,
+/// and `Memory`.
 pub fn token_files<R: Files + AllocGlobal + Clone + Drop>(
     rt: &R,
     folder: &str,

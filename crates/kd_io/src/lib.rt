@@ -1,11 +1,12 @@
 //! The ends of the program: what it reads from its host and writes to it.
 //!
-//! What this layer promises to the one above: a reader is the source of a replay with the reader's bytes, and a writer
-//! a sink with the writer's, each failed once a call of it has failed, and by nothing else. A file is read whole, and
-//! the token files of a folder by their names; what a file system gave, no proof knows. A socket is the link of a server
-//! (`specs/Sending.antt`): what it receives and sends, no proof knows either.
-//! A store of leases is opened in memory, at the empty table, or in a file, at the table of the database that it holds
-//! (`specs/Stores.antt`); on what a crash left, at the table from before the last call or at the one after it.
+//! What this layer promises to the one above: a reader is the source of a replay with the reader's
+//! bytes, and a writer a sink with the writer's, each failed once a call of it has failed, and by
+//! nothing else. A file is read whole, and the token files of a folder by their names; what a file
+//! system gave, no proof knows. A socket is the link of a server (`specs/Sending.antt`): what it
+//! receives and sends, no proof knows either. A store of leases is opened in memory, at the empty
+//! table, or in a file, at the table of the database that it holds (`specs/Stores.antt`); on what a
+//! crash left, at the table from before the last call or at the one after it.
 #![tactic(auto)]
 
 mod files;

@@ -19,8 +19,8 @@ pub struct Sending {
 }
 
 impl Sending {
-    /// The address that a reply is sent to where it is not mirrored, as a number in host order. One to a hardware address
-    /// goes to all hosts of the link (RFC 2131 section 4.1).
+    /// The address that a reply is sent to where it is not mirrored, as a number in host order. One
+    /// to a hardware address goes to all hosts of the link (RFC 2131 section 4.1).
     pub fn address(self, to: Destination) -> u32
         ensures { result ≡ address_for self.broadcast_as to }
     {
@@ -48,8 +48,8 @@ pub struct Socket {
 }
 
 impl Socket {
-    /// A link over a new socket at an address, a number in host order, and a port, which has not failed. It may send to all
-    /// hosts of its link.
+    /// A link over a new socket at an address, a number in host order, and a port, which has not
+    /// failed. It may send to all hosts of its link.
     ///
     /// # Errors
     ///

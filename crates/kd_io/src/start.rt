@@ -92,8 +92,8 @@ pub fn configured(
     }
 }
 
-/// The configuration of the file at a path, with the token files of a folder; the built-in one without a file.
-/// The folder is read first.
+/// The configuration of the file at a path, with the token files of a folder; the built-in one
+/// without a file. The folder is read first.
 ///
 /// # Errors
 ///

@@ -37,13 +37,14 @@ pub fn store_in_memory(alloc: Global) -> Result<Store<InMemory>, StoreFault>
     }
 }
 
-/// The store of leases in the file at a path, a database of SQLite, which is made where there is none. This is
-/// `store_from` for a program: what a clause says of a file's bytes, it says here of an empty one, and there of any.
+/// The store of leases in the file at a path, a database of SQLite, which is made where there is
+/// none. This is `store_from` for a program: what a clause says of a file's bytes, it says here of
+/// an empty one, and there of any.
 ///
 /// # Errors
 ///
-/// `Sql` where the file is not opened or does not answer, and `Schema` where its table `lease` is not ours or has a
-/// row that is out of range.
+/// `Sql` where the file is not opened or does not answer, and `Schema` where its table `lease` is
+/// not ours or has a row that is out of range.
 pub fn store_in_file(rt: &HostRuntime, path: &str) -> Result<Store<InFile>, StoreFault>
     ensures failed { IfOk result (λ store. store.failed ≡ false) }
     ensures held { IfOk result (λ store. StandsAsHeld no_bytes store) }
@@ -53,8 +54,8 @@ pub fn store_in_file(rt: &HostRuntime, path: &str) -> Result<Store<InFile>, Stor
     store_from(rt, path, Unknown)
 }
 
-/// The same, for any bytes of the file and of its log, for which the start stands. That these are the files at the path
-/// no clause says.
+/// The same, for any bytes of the file and of its log, for which the start stands. That these are
+/// the files at the path no clause says.
 ///
 /// # Errors
 ///
@@ -85,11 +86,19 @@ pub fn store_over<S: Alter + Drop>(
     conn: Connection<S>,
 ) -> Result<Store<S>, StoreFault>
     ensures failed { IfOk result (λ store. store.failed ≡ false) }
-    ensures clean { IfOk result (λ store. HasCleanDisk (state S.Store store.conn) → HasCleanDisk (state S.Store conn)) }
-    ensures table { IfOk result (λ store. HasCleanDisk (state S.Store store.conn) → (table : List LeaseRow) → Finds (state S.Store conn) table → Stands (state S.Store store.conn) table) }
-    ensures stands { IfOk result (λ store. HasCleanDisk (state S.Store store.conn) → ((state S.Store conn).now.schema ≡ no_schema) ⊎ ((state S.Store conn).now.schema ≡ lease_schema)
-        → (table : List LeaseRow) × Finds (state S.Store conn) table × Stands (state S.Store store.conn) table) }
-    ensures busy { (state S.Store conn).in_transaction ≡ true → result ≡ Err (StoreFault.Sql Cause.Closed) }
+    ensures clean { IfOk result
+        (λ store. HasCleanDisk (state S.Store store.conn) → HasCleanDisk (state S.Store conn)) }
+    ensures table { IfOk result
+        (λ store. HasCleanDisk (state S.Store store.conn) → (table : List LeaseRow)
+        → Finds (state S.Store conn) table → Stands (state S.Store store.conn) table) }
+    ensures stands { IfOk result
+        (λ store. HasCleanDisk (state S.Store store.conn)
+        → ((state S.Store conn).now.schema ≡ no_schema)
+        ⊎ ((state S.Store conn).now.schema ≡ lease_schema)
+        → (table : List LeaseRow) × Finds (state S.Store conn) table
+        × Stands (state S.Store store.conn) table) }
+    ensures busy { (state S.Store conn).in_transaction ≡ true
+        → result ≡ Err (StoreFault.Sql Cause.Closed) }
 {
     if !conn.is_autocommit() {
         return Err(StoreFault::Sql(Cause::Closed));
@@ -100,8 +109,8 @@ pub fn store_over<S: Alter + Drop>(
     }
 }
 
-/// A store in files on what a crash left of others stands at the table from before the last call on those, or at the
-/// one after it. The function does nothing: its contract is the law.
+/// A store in files on what a crash left of others stands at the table from before the last call on
+/// those, or at the one after it. The function does nothing: its contract is the law.
 pub fn restarts<D: Disk, E: Disk>()
     ensures { Restarts D.Disk E.Disk }
 {}

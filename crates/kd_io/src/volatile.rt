@@ -4,8 +4,8 @@ use kd_keeps::{Cause, Keeps, StoreFault};
 use kd_rows::Row;
 use std::alloc::Global;
 
-/// A store for a server whose leases are in its own rows alone and end with it: it keeps no row. So it can be asked for
-/// its rows only while none was put.
+/// A store for a server whose leases are in its own rows alone and end with it: it keeps no row. So
+/// it can be asked for its rows only while none was put.
 #[derive(Drop)]
 pub struct Volatile {
     alloc: Global,

@@ -28,16 +28,20 @@ pub trait Keeps {
     ///
     /// # Errors
     ///
-    /// The store has failed; it holds the table from before or the one with the row. While it is still
-    /// open it holds the one from before.
+    /// The store has failed; it holds the table from before or the one with the row. While it is
+    /// still open it holds the one from before.
     fn put(&mut self, row: &Row) -> Result<(), StoreFault>
         requires ready { has_failed self.old ≡ false }
         requires range { IsInRange row.now }
         ensures clean { has_clean_disk self.new → has_clean_disk self.old }
-        ensures put { has_clean_disk self.new → (table : List LeaseRow) → stands self.old table → OnOk result (stands self.new (with_row row.now table)) }
-        ensures settled { has_clean_disk self.new → (table : List LeaseRow) → stands self.old table → OnOk result (leaves self.new (with_row row.now table) (with_row row.now table)) }
-        ensures fault { has_clean_disk self.new → (table : List LeaseRow) → stands self.old table → OnErr result (is_open self.new → stands self.new table) }
-        ensures crash { has_clean_disk self.new → (table : List LeaseRow) → stands self.old table → leaves self.new table (with_row row.now table) }
+        ensures put { has_clean_disk self.new → (table : List LeaseRow) → stands self.old table
+            → OnOk result (stands self.new (with_row row.now table)) }
+        ensures settled { has_clean_disk self.new → (table : List LeaseRow) → stands self.old table
+            → OnOk result (leaves self.new (with_row row.now table) (with_row row.now table)) }
+        ensures fault { has_clean_disk self.new → (table : List LeaseRow) → stands self.old table
+            → OnErr result (is_open self.new → stands self.new table) }
+        ensures crash { has_clean_disk self.new → (table : List LeaseRow) → stands self.old table
+            → leaves self.new table (with_row row.now table) }
         ensures failed { has_failed self.new ≡ is_err result };
 
     /// All rows, in rising address, one an address, each in its ranges.
@@ -50,9 +54,12 @@ pub trait Keeps {
         ensures clean { has_clean_disk self.new → has_clean_disk self.old }
         ensures rise { IfOk result (λ rows. Rise rows.items) }
         ensures ranges { IfOk result (λ rows. All IsInRange rows.items) }
-        ensures rows { has_clean_disk self.new → (table : List LeaseRow) → stands self.old table → IfOk result (λ rows. (rows.items ≡ table) × stands self.new table) }
-        ensures fault { has_clean_disk self.new → (table : List LeaseRow) → stands self.old table → OnErr result (is_open self.new → stands self.new table) }
-        ensures crash { has_clean_disk self.new → (table : List LeaseRow) → stands self.old table → leaves self.new table table }
+        ensures rows { has_clean_disk self.new → (table : List LeaseRow) → stands self.old table
+            → IfOk result (λ rows. (rows.items ≡ table) × stands self.new table) }
+        ensures fault { has_clean_disk self.new → (table : List LeaseRow) → stands self.old table
+            → OnErr result (is_open self.new → stands self.new table) }
+        ensures crash { has_clean_disk self.new → (table : List LeaseRow) → stands self.old table
+            → leaves self.new table table }
         ensures failed { has_failed self.new ≡ is_err result };
 
     /// Whether a call has failed.

@@ -1,9 +1,10 @@
 //! What a server asks of the store that keeps its leases, and how a store can fail.
 //!
-//! What this layer promises to the one above: a store that meets the trait `Keeps` stands at a table of
-//! leases, sets one row a call, and says what a crash may leave. Clauses on tables hold where the disk
-//! is clean at the end of a call; the disk was clean then at every call before it, so that a day of many
-//! calls has this one premise. `specs/Fault.antt` has the numbers of the faults.
+//! What this layer promises to the one above: a store that meets the trait `Keeps` stands at a
+//! table of leases, sets one row a call, and says what a crash may leave. Clauses on tables hold
+//! where the disk is clean at the end of a call; the disk was clean then at every call before it,
+//! so that a day of many calls has this one premise. `specs/Fault.antt` has the numbers of the
+//! faults.
 #![tactic(auto)]
 
 mod fault;

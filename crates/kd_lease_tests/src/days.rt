@@ -22,10 +22,12 @@ impl From<AllocError> for Fault {
     }
 }
 
-// A message: the moment, the last byte of its client's hardware address, its options behind the cookie, and ciaddr.
+// A message: the moment, the last byte of its client's hardware address, its options after the
+// cookie, and ciaddr.
 type Sent = (u64, u8, &'static [u8], u32);
 
-// What comes back: the type of a reply, its yiaddr and how it is sent; or the reason for which there is none.
+// What comes back: the type of a reply, its yiaddr and how it is sent; or the reason for which
+// there is none.
 #[derive(Clone, Copy, PartialEq, Eq)]
 enum Got {
     Reply(u8, u32, Mode),
@@ -43,7 +45,8 @@ const DISCOVER: &[u8] = b"\x35\x01\x01\xff";
 // A DISCOVER that asks for 192.0.2.10, and one that asks for .11.
 const DISCOVER_10: &[u8] = b"\x35\x01\x01\x32\x04\xc0\x00\x02\x0a\xff";
 
-// REQUESTs to this server for .10 and .11; to 192.0.2.99; and without a server, for .10 and for 198.51.100.7.
+// REQUESTs to this server for .10 and .11; to 192.0.2.99; and without a server, for .10 and for
+// 198.51.100.7.
 const SELECT_10: &[u8] = b"\x35\x01\x03\x36\x04\xc0\x00\x02\x01\x32\x04\xc0\x00\x02\x0a\xff";
 
 const SELECT_11: &[u8] = b"\x35\x01\x03\x36\x04\xc0\x00\x02\x01\x32\x04\xc0\x00\x02\x0b\xff";
@@ -62,8 +65,8 @@ const DECLINE_10: &[u8] = b"\x35\x01\x04\x32\x04\xc0\x00\x02\x0a\xff";
 
 const INFORM: &[u8] = b"\x35\x01\x08\xff";
 
-// An address is offered while it is free, the next client gets the next one, and a third none; what is not asked for
-// in time goes to the third.
+// An address is offered while it is free, the next client gets the next one, and a third none; what
+// is not asked for in time goes to the third.
 const OFFERS: Day = &[
     (
         (100, 1, DISCOVER, 0),
@@ -105,8 +108,8 @@ const STRANGERS: Day = &[
     ((200, 4, RENEW, 0), Got::Quiet(Reason::NoRequested)),
 ];
 
-// A lease is renewed, also at a moment that goes back, and by its client alone; it is given back once; an address that
-// is declined is held back.
+// A lease is renewed, also at a moment that goes back, and by its client alone; it is given back
+// once; an address that is declined is held back.
 const LEASES: Day = &[
     (
         (990, 1, DISCOVER, 0),
@@ -170,7 +173,7 @@ fn datagram(alloc: Global, message: Sent) -> Result<Vec<u8>, AllocError> {
     )
 }
 
-// The byte at a place, and 0 behind the end.
+// The byte at a place, and 0 after the end.
 fn byte_at(bytes: &[u8], at: usize) -> u8 {
     match bytes.get(at) {
         Some(byte) => *byte,
@@ -244,7 +247,8 @@ fn leases_are_renewed_given_back_and_declined(rt: HostRuntime) -> Result<(), Fai
     Ok(())
 }
 
-// What a server over a store that fails at its second put answers: an offer, the fault, and the same at the next.
+// What a server over a store that fails at its second put answers: an offer, the fault, and the
+// same at the next.
 #[test]
 fn no_reply_is_sent_once_the_store_has_failed(rt: HostRuntime) -> Result<(), Fail> {
     let mut server = opened(rt.alloc(), 2)?;
@@ -258,7 +262,8 @@ fn no_reply_is_sent_once_the_store_has_failed(rt: HostRuntime) -> Result<(), Fai
     Ok(())
 }
 
-// With a refused request for memory the answer is want of it; the same day again gives what it gives with ample memory.
+// With a refused request for memory the answer is want of it; the same day again gives what it
+// gives with ample memory.
 #[test]
 fn want_of_memory_is_answered_as_such(rt: HostRuntime) -> Result<(), Fail> {
     match as_worked_out(rt.alloc(), OFFERS) {

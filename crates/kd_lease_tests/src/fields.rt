@@ -5,7 +5,7 @@ use std::alloc::{AllocError, Global};
 pub(crate) struct Fields<'a> {
     /// The last byte of its hardware address.
     pub(crate) client: u8,
-    /// Its options, behind the cookie.
+    /// Its options, after the cookie.
     pub(crate) options: &'a [u8],
     pub(crate) ciaddr: u32,
     pub(crate) giaddr: u32,

@@ -13,8 +13,8 @@ const PORTS: Ports = Ports {
     client: 68,
 };
 
-// A message's relay, client's address and flags, and the kind of its reply; how that is sent, to which address and
-// port.
+// A message's relay, client's address and flags, and the kind of its reply; how that is sent, to
+// which address and port.
 type Way = (u32, u32, u16, PlanKind, (Mode, u32, u16));
 
 const WAYS: [Way; 6] = [
@@ -89,7 +89,8 @@ fn a_reply_goes_where_the_message_says(rt: HostRuntime) -> Result<(), Fail> {
     Ok(())
 }
 
-// A DISCOVER's relay, and how it is answered: its place is the relay's address, or the server's without one.
+// A DISCOVER's relay, and how it is answered: its place is the relay's address, or the server's
+// without one.
 const RELAYS: [(u32, Result<Mode, Reason>); 3] = [
     (0, Ok(Mode::Hardware)),
     (0xc000_02fe, Ok(Mode::Relay)),

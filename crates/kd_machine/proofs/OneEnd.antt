@@ -49,7 +49,7 @@ goes_on (suc m) n p w i s j t d l less a = by (cases_lt n m) (λ fewer. goes_on 
       let G : ℕ → Type 0 = GoesOn p w i s in
       subst G same (a.0, a.1, a.2, a.3, a.4, (a.5.0, a.5.1))
 
--- a run does not go on behind the end
+-- a run does not go on after the end
 stops : (p : Code) (w : World) (v : Bool) (n m d l j e h : ℕ) (t : List Val) → Segment p w 0 [] n (length p.tokens) (Truth v ∷ []) d l → Segment p w 0 [] m j t e h → n < m → ⊥
 stops p w v n m d l j e h t a b less =
     let more = goes_on m n p w 0 [] j t e h less b in

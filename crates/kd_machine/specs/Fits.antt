@@ -1,5 +1,5 @@
--- A value list fits a shape: the kinds agree place by place, no byte string is longer, and numbers have four
--- bytes.
+-- A value list fits a shape: the kinds agree place by place, no byte string is longer, and numbers
+-- have four bytes.
 use Rattle.std.specs.Prelude.{◌≡◌, ℕ, ◌^◌, ◌<◌, ◌≤◌, List, [], ◌∷◌, length, Some}
 use Rattle.kd_token.specs.Accepts.{Accepts, Point}
 use Rattle.kd_token.specs.File.{Code}
@@ -29,8 +29,8 @@ Fits [] (v ∷ s) = ⊥
 Fits (k ∷ r) [] = ⊥
 Fits (k ∷ r) (v ∷ s) = FitsKind k v × Fits r s
 
--- what stands at place i of an accepted program after n steps: values that fit what an assignment knows
--- there, within what the program declares
+-- what stands at place i of an accepted program after n steps: values that fit what an assignment
+-- knows there, within what the program declares
 pub record StandsAt (p : Code) (i : ℕ) (n : ℕ) (s : List Val) : Type 0 where
   pub assigned : Accepts p
   pub point : Point
@@ -42,7 +42,8 @@ pub record StandsAt (p : Code) (i : ℕ) (n : ℕ) (s : List Val) : Type 0 where
   pub long : longest s ≤ p.bound
 
 -- a run at place i after n steps with values s, its peaks so far d and l
-pub record IsRunning (p : Code) (message : Seen) (held : List (List ℕ)) (i : ℕ) (n : ℕ) (s : List Val) (d : ℕ) (l : ℕ) : Type 0 where
+pub record IsRunning (p : Code) (message : Seen) (held : List (List ℕ)) (i : ℕ) (n : ℕ)
+    (s : List Val) (d : ℕ) (l : ℕ) : Type 0 where
   pub chain : Segment p (world p message held) 0 [] n i s d l
   pub stands : StandsAt p i n s
   pub depth : d ≤ p.depth

@@ -1,4 +1,5 @@
--- What a class test asks: whether byte strings are equal and a name is held, and what stands for an option.
+-- What a class test asks: whether byte strings are equal and a name is held, and what stands for an
+-- option.
 use Rattle.std.specs.Prelude.{ℕ, nat_eq, Bool, List, [], ◌∷◌, Option, Some, None}
 use Rattle.std.specs.Cmp.Lexicographic.{pointwise}
 use Rattle.std.specs.List.{list_any}

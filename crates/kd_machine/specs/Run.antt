@@ -1,5 +1,5 @@
--- A step of a program and a run (our own format): one rule for each token, on lists of values without a
--- greatest depth or length.
+-- A step of a program and a run (our own format): one rule for each token, on lists of values
+-- without a greatest depth or length.
 use Rattle.std.specs.Prelude.{◌≡◌, ℕ, zero, suc, ◌+◌, ◌≤◌, max, Bool, not, ◌&&◌, ◌||◌, if◌then◌else◌, is_some, List, [], ◌∷◌, ◌++◌, map, length, slice_get, Option, Some, None}
 use Rattle.std.specs.Bool.{beq}
 use Rattle.std.specs.Char.{to_ascii_lowercase, to_ascii_uppercase}
@@ -19,8 +19,8 @@ use Rattle.kd_machine.specs.Strings.{substring, hex_of}
 use Rattle.kd_machine.specs.World.{World, world, option_in, relay_in, value_of_field}
 use Rattle.kd_machine.specs.Parts.{same, is_held, or_empty}
 
--- what a token that goes on makes of the values; none where it cannot take what it wants. A branch does not
--- go on: it moves by its way (`moves_by`)
+-- what a token that goes on makes of the values; none where it cannot take what it wants. A branch
+-- does not go on: it moves by its way (`moves_by`)
 unfoldable pub rule : World → Token → List Val → Option (List Val)
 rule w (tokens.PushBytes bytes) s = Some (Text bytes ∷ s)
 rule w (tokens.PushInt number) s = Some (Number number ∷ s)
@@ -29,15 +29,21 @@ rule w (tokens.PushRelay code) s = Some (Text (or_empty (relay_in w code)) ∷ s
 rule w (tokens.PushField field) s = Some (value_of_field w.message field ∷ s)
 rule w (tokens.OptionExists code) s = Some (Truth (is_some (option_in w code)) ∷ s)
 rule w (tokens.RelayExists code) s = Some (Truth (is_some (relay_in w code)) ∷ s)
-rule w (tokens.Member index) s = slice_get w.names index >>= λ name. Some (Truth (is_held name w.held) ∷ s)
-rule w tokens.Equal s = take_text s >>= λ b. take_text b.1 >>= λ a. Some (Truth (same a.0 b.0) ∷ a.1)
+rule w (tokens.Member index) s =
+    slice_get w.names index >>= λ name. Some (Truth (is_held name w.held) ∷ s)
+rule w tokens.Equal s =
+    take_text s >>= λ b. take_text b.1 >>= λ a. Some (Truth (same a.0 b.0) ∷ a.1)
 rule w tokens.Not s = take_truth s >>= λ b. Some (Truth (not b.0) ∷ b.1)
 rule w tokens.And s = take_truth s >>= λ b. take_truth b.1 >>= λ a. Some (Truth (a.0 && b.0) ∷ a.1)
 rule w tokens.Or s = take_truth s >>= λ b. take_truth b.1 >>= λ a. Some (Truth (a.0 || b.0) ∷ a.1)
-rule w tokens.IfElse s = take_text s >>= λ b. take_text b.1 >>= λ a. take_truth a.1 >>= λ c. Some (Text (if c.0 then a.0 else b.0) ∷ c.1)
-rule w (tokens.Substring start count) s = take_text s >>= λ a. Some (Text (substring start count a.0) ∷ a.1)
+rule w tokens.IfElse s =
+    take_text s >>= λ b. take_text b.1 >>= λ a. take_truth a.1 >>= λ c. Some
+    (Text (if c.0 then a.0 else b.0) ∷ c.1)
+rule w (tokens.Substring start count) s =
+    take_text s >>= λ a. Some (Text (substring start count a.0) ∷ a.1)
 rule w tokens.Concat s = take_text s >>= λ b. take_text b.1 >>= λ a. Some (Text (a.0 ++ b.0) ∷ a.1)
-rule w tokens.HexString s = take_text s >>= λ b. take_text b.1 >>= λ a. Some (Text (hex_of b.0 a.0) ∷ a.1)
+rule w tokens.HexString s =
+    take_text s >>= λ b. take_text b.1 >>= λ a. Some (Text (hex_of b.0 a.0) ∷ a.1)
 rule w tokens.Lower s = take_text s >>= λ a. Some (Text (map to_ascii_lowercase a.0) ∷ a.1)
 rule w tokens.Upper s = take_text s >>= λ a. Some (Text (map to_ascii_uppercase a.0) ∷ a.1)
 rule w tokens.IntToText s = take_number s >>= λ a. Some (Text (decimal a.0) ∷ a.1)
@@ -51,8 +57,11 @@ rule w (tokens.BranchTrueElsePop skip) s = None
 abbrev pub moves_by : Way → World → Token → ℕ → List Val → Option (ℕ × List Val)
 moves_by routes.On w token i s = rule w token s >>= λ t. Some (i + 1, t)
 moves_by (routes.Skip skip) w token i s = Some (i + 1 + skip, s)
-moves_by (routes.Fork skip) w token i s = take_truth s >>= λ b. Some (if b.0 then i + 1 else i + 1 + skip, b.1)
-moves_by (routes.Keep stays skip) w token i s = take_truth s >>= λ b. Some (if beq stays b.0 then (i + 1 + skip, Truth b.0 ∷ b.1) else (i + 1, b.1))
+moves_by (routes.Fork skip) w token i s =
+    take_truth s >>= λ b. Some (if b.0 then i + 1 else i + 1 + skip, b.1)
+moves_by (routes.Keep stays skip) w token i s =
+    take_truth s >>= λ b. Some
+    (if beq stays b.0 then (i + 1 + skip, Truth b.0 ∷ b.1) else (i + 1, b.1))
 
 -- where the token at place i leads, and with which values
 abbrev pub moves : World → Token → ℕ → List Val → Option (ℕ × List Val)
@@ -60,18 +69,22 @@ moves w token i s = moves_by (way_of token) w token i s
 
 -- a step: from place i with values s to place j with values t
 abbrev pub Step : Code → World → ℕ → List Val → ℕ → List Val → Type 0
-Step p w i s j t = (token : Token) × (slice_get p.tokens i ≡ Some token) × (moves w token i s ≡ Some (j, t))
+Step p w i s j t =
+    (token : Token) × (slice_get p.tokens i ≡ Some token) × (moves w token i s ≡ Some (j, t))
 
--- n steps from place i with values s to place j with values t; d is the greatest depth on the way and l
--- the length of the longest value
+-- n steps from place i with values s to place j with values t; d is the greatest depth on the way
+-- and l the length of the longest value
 abbrev pub Segment : Code → World → ℕ → List Val → ℕ → ℕ → List Val → ℕ → ℕ → Type 0
 Segment p w i s zero j t d l = (j ≡ i) × (t ≡ s) × (d ≡ length s) × (l ≡ longest s)
-Segment p w i s (suc n) k u d l = (j : ℕ) × (t : List Val) × (e : ℕ) × (h : ℕ) × Segment p w i s n j t e h × Step p w j t k u × (d ≡ max e (length u)) × (l ≡ max h (longest u))
+Segment p w i s (suc n) k u d l =
+    (j : ℕ) × (t : List Val) × (e : ℕ) × (h : ℕ) × Segment p w i s n j t e h × Step p w j t k u
+    × (d ≡ max e (length u)) × (l ≡ max h (longest u))
 
--- a run of a program over a message with names held: n steps from its first place and no values to its end
--- and the one truth value v
+-- a run of a program over a message with names held: n steps from its first place and no values to
+-- its end and the one truth value v
 abbrev pub Run : Code → Seen → List (List ℕ) → Bool → ℕ → ℕ → ℕ → Type 0
-Run p message held v n d l = Segment p (world p message held) 0 [] n (length p.tokens) (Truth v ∷ []) d l
+Run p message held v n d l =
+    Segment p (world p message held) 0 [] n (length p.tokens) (Truth v ∷ []) d l
 
 -- a token that takes no memory
 abbrev pub IsFree : Token → Type 0
@@ -84,8 +97,11 @@ IsFree token = Unit {0}
 
 -- a run to this value in so many steps and with these peaks, within what a program declares
 abbrev pub EndsAs : Code → Seen → List (List ℕ) → Bool → ℕ → ℕ → ℕ → Type 0
-EndsAs p message held v n d l = Run p message held v n d l × (n ≤ p.steps) × (d ≤ p.depth) × (l ≤ p.bound)
+EndsAs p message held v n d l =
+    Run p message held v n d l × (n ≤ p.steps) × (d ≤ p.depth) × (l ≤ p.bound)
 
 -- a run within what a program declares
 abbrev pub EndsWithin : Code → Seen → List (List ℕ) → Type 0
-EndsWithin p message held = (v : Bool) × (n : ℕ) × (d : ℕ) × (l : ℕ) × Run p message held v n d l × (n ≤ p.steps) × (d ≤ p.depth) × (l ≤ p.bound)
+EndsWithin p message held =
+    (v : Bool) × (n : ℕ) × (d : ℕ) × (l : ℕ) × Run p message held v n d l × (n ≤ p.steps)
+    × (d ≤ p.depth) × (l ≤ p.bound)

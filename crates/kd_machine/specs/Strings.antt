@@ -6,18 +6,21 @@ use Rattle.std.specs.List.{flat_map}
 abbrev pub is_negative : ℤ → Bool
 is_negative z = int_lt z (pos 0)
 
--- where a part begins in a string of so many bytes: a negative start counts from the end; nowhere, where
--- it is before the first byte or not before the end
+-- where a part begins in a string of so many bytes: a negative start counts from the end; nowhere,
+-- where it is before the first byte or not before the end
 abbrev pub start_in : ℤ → ℕ → Option ℕ
 start_in start size =
-    if is_negative start then (if nat_le (unsigned_abs start) size then Some (size - unsigned_abs start) else None)
+    if is_negative start then
+    (if nat_le (unsigned_abs start) size then Some (size - unsigned_abs start) else None)
     else (if nat_lt (unsigned_abs start) size then Some (unsigned_abs start) else None)
 
--- the part from a beginning on: so many bytes, or all; a negative number goes towards the front, without
--- the byte at the beginning
+-- the part from a beginning on: so many bytes, or all; a negative number goes towards the front,
+-- without the byte at the beginning
 abbrev pub part : Option ℤ → ℕ → List ℕ → List ℕ
 part None b bytes = drop b bytes
-part (Some count) b bytes = if is_negative count then drop (b - unsigned_abs count) (take b bytes) else take (unsigned_abs count) (drop b bytes)
+part (Some count) b bytes =
+    if is_negative count then drop (b - unsigned_abs count) (take b bytes) else take
+    (unsigned_abs count) (drop b bytes)
 
 -- the part from where it begins; none where it begins nowhere
 abbrev pub part_from : Option ℕ → Option ℤ → List ℕ → List ℕ

@@ -1,4 +1,5 @@
--- A value of a class test, and of the machine that runs it: a truth value, a number, or a byte string.
+-- A value of a class test, and of the machine that runs it: a truth value, a number, or a byte
+-- string.
 use Rattle.std.specs.Prelude.{ℕ, max, Bool, List, [], ◌∷◌, length}
 
 -- a truth value, a number, or a byte string

@@ -25,7 +25,8 @@ world p message held = record { message = message; names = p.names; held = held 
 abbrev pub option_in : World → ℕ → Option (List ℕ)
 option_in w code = value_of code w.message.options
 
--- a sub-option of the message's relay information, where it is present (kd_options `laws::relay_list_is_standard`)
+-- a sub-option of the message's relay information, where it is present (kd_options
+-- `laws::relay_list_is_standard`)
 abbrev pub relay_in : World → ℕ → Option (List ℕ)
 relay_in w code = lookup (nat_eq code) (relay_list w.message.options)
 

@@ -23,7 +23,8 @@ fn beginning(start: i32, size: usize) -> Option<usize>
 fn ends(count: Option<i32>, begin: usize, size: usize) -> (usize, usize)
     requires { begin ≤ size }
     ensures within { (result.0 ≤ result.1) × (result.1 ≤ size) }
-    ensures part { (bytes : List ℕ) → length bytes ≡ size → slice_range bytes result.0 result.1 ≡ part count begin bytes }
+    ensures part { (bytes : List ℕ) → length bytes ≡ size
+        → slice_range bytes result.0 result.1 ≡ part count begin bytes }
 {
     match count {
         None => (begin, size),
@@ -41,7 +42,8 @@ fn ends(count: Option<i32>, begin: usize, size: usize) -> (usize, usize)
 // From where to where a part of a string of so many bytes goes.
 pub(crate) fn bounds(start: i32, count: Option<i32>, size: usize) -> (usize, usize)
     ensures within { (result.0 ≤ result.1) × (result.1 ≤ size) }
-    ensures part { (bytes : List ℕ) → length bytes ≡ size → slice_range bytes result.0 result.1 ≡ substring start count bytes }
+    ensures part { (bytes : List ℕ) → length bytes ≡ size
+        → slice_range bytes result.0 result.1 ≡ substring start count bytes }
 {
     match beginning(start, size) {
         None => (0, 0),

@@ -25,8 +25,8 @@ pub struct Outcome {
     pub peak_length: u32,
 }
 
-/// Runs a verified program over a message, with the names of classes that are held. Takes memory for the
-/// values of `Concat`, `HexString`, `Lower`, `Upper` and `IntToText` alone.
+/// Runs a verified program over a message, with the names of classes that are held. Takes memory
+/// for the values of `Concat`, `HexString`, `Lower`, `Upper` and `IntToText` alone.
 ///
 /// # Errors
 ///
@@ -37,7 +37,8 @@ pub fn eval<'a>(
     message: &'a Message<'_>,
     held: &Held,
 ) -> Result<Outcome, EvalFault>
-    ensures run { IfOk result (λ o. Run verified.now message.now held.now o.value o.steps o.peak_depth o.peak_length) }
+    ensures run { IfOk result
+        (λ o. Run verified.now message.now held.now o.value o.steps o.peak_depth o.peak_length) }
     ensures steps { IfOk result (λ o. o.steps ≤ verified.now.steps) }
     ensures depth { IfOk result (λ o. o.peak_depth ≤ verified.now.depth) }
     ensures length { IfOk result (λ o. o.peak_length ≤ verified.now.bound) }
@@ -63,7 +64,8 @@ fn within<'a, const ROOM: usize>(
 ) -> Result<Outcome, EvalFault>
     requires empty { stack.old ≡ [] }
     requires room { verified.now.depth ≤ ROOM }
-    ensures run { IfOk result (λ o. EndsAs verified.now message.now held.now o.value o.steps o.peak_depth o.peak_length) }
+    ensures run { IfOk result
+        (λ o. EndsAs verified.now message.now held.now o.value o.steps o.peak_depth o.peak_length) }
     ensures free { AllByRecursion IsFree verified.now.tokens → IsOk result }
 {
     let program = verified.program();
@@ -99,8 +101,12 @@ fn advance<'a, const ROOM: usize>(
     held: &Held,
 ) -> Result<usize, AllocError>
     requires near { at < 1024 }
-    requires room { MatchOption (moves (world program.now message.now held.now) token.now at stack.old) ⊥ (λ r. length r.1 ≤ ROOM) }
-    ensures moved { IfOk result (λ j. moves (world program.now message.now held.now) token.now at stack.old ≡ Some (j, stack.new)) }
+    requires room { MatchOption
+        (moves (world program.now message.now held.now) token.now at stack.old) ⊥
+        (λ r. length r.1 ≤ ROOM) }
+    ensures moved { IfOk result
+        (λ j. moves (world program.now message.now held.now) token.now at stack.old
+        ≡ Some (j, stack.new)) }
     ensures free { IsFree token.now → IsOk result }
 {
     let next = at + 1;

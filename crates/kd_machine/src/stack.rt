@@ -74,7 +74,8 @@ impl<'a, const ROOM: usize> Stack<'a, ROOM> {
     #[inline]
     pub(crate) fn two_texts(&self) -> (&[u8], &[u8])
         requires { IsSomeAnd (take_text self.now) (λ b. IsSome (take_text b.1)) }
-        ensures { MatchOption (take_text self.now) ⊥ (λ b. (b.0 ≡ result.1.now) × MatchOption (take_text b.1) ⊥ (λ a. a.0 ≡ result.0.now)) }
+        ensures { MatchOption (take_text self.now) ⊥
+            (λ b. (b.0 ≡ result.1.now) × MatchOption (take_text b.1) ⊥ (λ a. a.0 ≡ result.0.now)) }
     {
         match self.values.as_slice() {
             [.., first, second] => (first.as_slice(), second.as_slice()),
@@ -95,7 +96,8 @@ impl<'a, const ROOM: usize> Stack<'a, ROOM> {
     #[inline]
     pub(crate) fn pop_text(&mut self) -> Value<'a>
         requires { IsSome (take_text self.old) }
-        ensures { MatchOption (take_text self.old) ⊥ (λ r. (stands_for result ≡ Text r.0) × (self.new ≡ r.1)) }
+        ensures { MatchOption (take_text self.old) ⊥
+            (λ r. (stands_for result ≡ Text r.0) × (self.new ≡ r.1)) }
     {
         match self.values.pop() {
             Some(value) => value,

@@ -53,7 +53,8 @@ fn push_relay<'a, const ROOM: usize>(
     code: u8,
 )
     requires { length stack.old < ROOM }
-    ensures { stack.new ≡ Text (or_empty (lookup (nat_eq code) (relay_list message.now.options))) ∷ stack.old }
+    ensures { stack.new ≡ Text (or_empty (lookup (nat_eq code) (relay_list message.now.options)))
+        ∷ stack.old }
 {
     stack.push(Value::Slice(message.relay(code).unwrap_or(&[])));
 }
@@ -68,8 +69,11 @@ pub(crate) fn step<'a, const ROOM: usize>(
     message: &'a Message<'_>,
     held: &Held,
 ) -> Result<(), AllocError>
-    requires room { MatchOption (rule (world program.now message.now held.now) token.now stack.old) ⊥ (λ t. length t ≤ ROOM) }
-    ensures ruled { OnOk result (rule (world program.now message.now held.now) token.now stack.old ≡ Some stack.new) }
+    requires room { MatchOption
+        (rule (world program.now message.now held.now) token.now stack.old) ⊥
+        (λ t. length t ≤ ROOM) }
+    ensures ruled { OnOk result
+        (rule (world program.now message.now held.now) token.now stack.old ≡ Some stack.new) }
     ensures free { IsFree token.now → IsOk result }
 {
     match token {

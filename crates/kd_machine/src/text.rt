@@ -32,9 +32,11 @@ pub(crate) fn hex_text(alloc: Global, bytes: &[u8], separator: &[u8]) -> Result<
     Ok(out)
 }
 
-// Two digits for each byte, each behind a separator.
+// Two digits for each byte, each after a separator.
 fn put_behind(out: &mut Vec<u8>, bytes: &[u8], separator: &[u8]) -> Result<(), AllocError>
-    ensures { OnOk result (out.new.items ≡ out.old.items ++ flat_map (λ b. separator.now ++ byte_digits b) bytes.now) }
+    ensures { OnOk result
+        (out.new.items ≡ out.old.items
+        ++ flat_map (λ b. separator.now ++ byte_digits b) bytes.now) }
 {
     'bytes: for byte in bytes {
         out.extend_from_slice(separator)?;

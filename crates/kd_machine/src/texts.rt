@@ -14,8 +14,13 @@ use std::alloc::{AllocError, Global};
 
 // Of two byte strings the lower one where the truth value below them is true, else the upper one.
 pub(crate) fn choose<const ROOM: usize>(stack: &mut Stack<'_, ROOM>)
-    requires { IsSomeAnd (take_text stack.old) (λ b. IsSomeAnd (take_text b.1) (λ a. IsSomeAnd (take_truth a.1) (λ c. length c.1 < ROOM))) }
-    ensures { MatchOption (take_text stack.old) ⊥ (λ b. MatchOption (take_text b.1) ⊥ (λ a. MatchOption (take_truth a.1) ⊥ (λ c. stack.new ≡ Text (if c.0 then a.0 else b.0) ∷ c.1))) }
+    requires { IsSomeAnd (take_text stack.old)
+        (λ b. IsSomeAnd (take_text b.1)
+        (λ a. IsSomeAnd (take_truth a.1) (λ c. length c.1 < ROOM))) }
+    ensures { MatchOption (take_text stack.old) ⊥
+        (λ b. MatchOption (take_text b.1) ⊥
+        (λ a. MatchOption (take_truth a.1) ⊥
+        (λ c. stack.new ≡ Text (if c.0 then a.0 else b.0) ∷ c.1))) }
 {
     let second = stack.pop_text();
     let first = stack.pop_text();
@@ -29,7 +34,8 @@ pub(crate) fn choose<const ROOM: usize>(stack: &mut Stack<'_, ROOM>)
 // A part of a byte string.
 pub(crate) fn narrow<const ROOM: usize>(stack: &mut Stack<'_, ROOM>, start: i32, count: Option<i32>)
     requires { IsSomeAnd (take_text stack.old) (λ a. length a.1 < ROOM) }
-    ensures { MatchOption (take_text stack.old) ⊥ (λ a. stack.new ≡ Text (substring start count a.0) ∷ a.1) }
+    ensures { MatchOption (take_text stack.old) ⊥
+        (λ a. stack.new ≡ Text (substring start count a.0) ∷ a.1) }
 {
     let mut value = stack.pop_text();
     let (from, to) = bounds(start, count, value.as_slice().len());
@@ -42,8 +48,11 @@ pub(crate) fn concat<const ROOM: usize>(
     alloc: Global,
     stack: &mut Stack<'_, ROOM>,
 ) -> Result<(), AllocError>
-    requires { IsSomeAnd (take_text stack.old) (λ b. IsSomeAnd (take_text b.1) (λ a. length a.1 < ROOM)) }
-    ensures { OnOk result (MatchOption (take_text stack.old) ⊥ (λ b. MatchOption (take_text b.1) ⊥ (λ a. stack.new ≡ Text (a.0 ++ b.0) ∷ a.1))) }
+    requires { IsSomeAnd (take_text stack.old)
+        (λ b. IsSomeAnd (take_text b.1) (λ a. length a.1 < ROOM)) }
+    ensures { OnOk result
+        (MatchOption (take_text stack.old) ⊥
+        (λ b. MatchOption (take_text b.1) ⊥ (λ a. stack.new ≡ Text (a.0 ++ b.0) ∷ a.1))) }
 {
     let (first, second) = stack.two_texts();
     let bytes = joined(alloc, first, second)?;
@@ -58,8 +67,11 @@ pub(crate) fn hex_string<const ROOM: usize>(
     alloc: Global,
     stack: &mut Stack<'_, ROOM>,
 ) -> Result<(), AllocError>
-    requires { IsSomeAnd (take_text stack.old) (λ b. IsSomeAnd (take_text b.1) (λ a. length a.1 < ROOM)) }
-    ensures { OnOk result (MatchOption (take_text stack.old) ⊥ (λ b. MatchOption (take_text b.1) ⊥ (λ a. stack.new ≡ Text (hex_of b.0 a.0) ∷ a.1))) }
+    requires { IsSomeAnd (take_text stack.old)
+        (λ b. IsSomeAnd (take_text b.1) (λ a. length a.1 < ROOM)) }
+    ensures { OnOk result
+        (MatchOption (take_text stack.old) ⊥
+        (λ b. MatchOption (take_text b.1) ⊥ (λ a. stack.new ≡ Text (hex_of b.0 a.0) ∷ a.1))) }
 {
     let (value, separator) = stack.two_texts();
     let bytes = hex_text(alloc, value, separator)?;
@@ -75,7 +87,9 @@ pub(crate) fn lower<const ROOM: usize>(
     stack: &mut Stack<'_, ROOM>,
 ) -> Result<(), AllocError>
     requires { IsSomeAnd (take_text stack.old) (λ a. length a.1 < ROOM) }
-    ensures { OnOk result (MatchOption (take_text stack.old) ⊥ (λ a. stack.new ≡ Text (map to_ascii_lowercase a.0) ∷ a.1)) }
+    ensures { OnOk result
+        (MatchOption (take_text stack.old) ⊥
+        (λ a. stack.new ≡ Text (map to_ascii_lowercase a.0) ∷ a.1)) }
 {
     let bytes = stack.text().to_ascii_lowercase(alloc)?;
     stack.drop_text();
@@ -89,7 +103,9 @@ pub(crate) fn upper<const ROOM: usize>(
     stack: &mut Stack<'_, ROOM>,
 ) -> Result<(), AllocError>
     requires { IsSomeAnd (take_text stack.old) (λ a. length a.1 < ROOM) }
-    ensures { OnOk result (MatchOption (take_text stack.old) ⊥ (λ a. stack.new ≡ Text (map to_ascii_uppercase a.0) ∷ a.1)) }
+    ensures { OnOk result
+        (MatchOption (take_text stack.old) ⊥
+        (λ a. stack.new ≡ Text (map to_ascii_uppercase a.0) ∷ a.1)) }
 {
     let bytes = stack.text().to_ascii_uppercase(alloc)?;
     stack.drop_text();
@@ -103,7 +119,8 @@ pub(crate) fn digits<const ROOM: usize>(
     stack: &mut Stack<'_, ROOM>,
 ) -> Result<(), AllocError>
     requires { IsSomeAnd (take_number stack.old) (λ a. length a.1 < ROOM) }
-    ensures { OnOk result (MatchOption (take_number stack.old) ⊥ (λ a. stack.new ≡ Text (decimal a.0) ∷ a.1)) }
+    ensures { OnOk result
+        (MatchOption (take_number stack.old) ⊥ (λ a. stack.new ≡ Text (decimal a.0) ∷ a.1)) }
 {
     let bytes = decimal_text(alloc, stack.pop_number())?;
     stack.push(Value::owned(alloc, bytes)?);
@@ -112,8 +129,10 @@ pub(crate) fn digits<const ROOM: usize>(
 
 // Whether two byte strings are equal.
 pub(crate) fn equal<const ROOM: usize>(stack: &mut Stack<'_, ROOM>)
-    requires { IsSomeAnd (take_text stack.old) (λ b. IsSomeAnd (take_text b.1) (λ a. length a.1 < ROOM)) }
-    ensures { MatchOption (take_text stack.old) ⊥ (λ b. MatchOption (take_text b.1) ⊥ (λ a. stack.new ≡ Truth (same a.0 b.0) ∷ a.1)) }
+    requires { IsSomeAnd (take_text stack.old)
+        (λ b. IsSomeAnd (take_text b.1) (λ a. length a.1 < ROOM)) }
+    ensures { MatchOption (take_text stack.old) ⊥
+        (λ b. MatchOption (take_text b.1) ⊥ (λ a. stack.new ≡ Truth (same a.0 b.0) ∷ a.1)) }
 {
     let (first, second) = stack.two_texts();
     let equal = first == second;

@@ -5,8 +5,8 @@ ghost use Rattle.kd_machine.specs.Values.{stands_for};
 use std::alloc::{AllocError, Global};
 use std::marker::Model;
 
-// A value on the stack, of three words. A byte string is a part of the message or of the program, four bytes
-// held in place, or bytes of its own behind a pointer.
+// A value on the stack, of three words. A byte string is a part of the message or of the program,
+// four bytes held in place, or bytes of its own behind a pointer.
 #[derive(Drop)]
 pub(crate) enum Value<'a> {
     Bool(bool),
@@ -61,7 +61,8 @@ impl<'a> Value<'a> {
         requires text { IsText (stands_for self.old) }
         requires order { from ≤ to }
         requires within { to ≤ size (stands_for self.old) }
-        ensures { (bytes : List ℕ) → stands_for self.old ≡ Text bytes → stands_for self.new ≡ Text (slice_range bytes from to) }
+        ensures { (bytes : List ℕ) → stands_for self.old ≡ Text bytes
+            → stands_for self.new ≡ Text (slice_range bytes from to) }
     {
         match self {
             Value::Slice(bytes) => *bytes = &bytes[from..to],

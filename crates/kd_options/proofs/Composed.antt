@@ -39,12 +39,12 @@ module _ (bytes : List ℕ) (first : List Piece) where
     pub sname_area : (options : List Piece) (h : HasOptions bytes options) → JoinsPieces h.in_use.field [] first → IsAreaIf sname (sname_field bytes) h.in_use.sname
     sname_area options h joins = let P : Bool → Type 0 = λ used. IsAreaIf used (sname_field bytes) h.in_use.sname in subst P (sym (sname_used h.in_use.field joins)) h.in_use.sname_is
 
-    -- the fault of the file field is the first, behind a whole options field
+    -- the fault of the file field is the first, after a whole options field
     pub file_fault : (fault : AreaFault) → JoinsArea true (options_field bytes) [] first → IsAreaFault file (file_field bytes) 108 fault → IsFirstAreaFault fault bytes
     file_fault (Cut at) a is = inr (inl (record { field = a.pieces; field_is = a.is; used = sym (file_used a.pieces a.joins) ∙ is.0; cut = is.1 }))
     file_fault Memory a is = tt
 
-    -- the fault of the sname field is the first, behind two whole areas
+    -- the fault of the sname field is the first, after two whole areas
     pub sname_fault : (second : List Piece) (fault : AreaFault) → JoinsArea true (options_field bytes) [] first → JoinsArea file (file_field bytes) first second → IsAreaFault sname (sname_field bytes) 44 fault → IsFirstAreaFault fault bytes
     sname_fault second (Cut at) a b is =
         let P : Bool → Type 0 = λ used. IsAreaIf used (file_field bytes) b.pieces in

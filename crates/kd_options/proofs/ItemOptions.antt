@@ -63,7 +63,7 @@ slots_of-items [] = tt
 slots_of-items (x ∷ items) =
     slots_of-one x.code (slice_chunk x.value 255) (range_with_len 0 (piece_count (length x.value))) (flat_map pieces_of items) x.coded (slots_of-items items)
 
--- the bytes of items, an End and anything behind it are an area with the items' pieces
+-- the bytes of items, an End and anything after it are an area with the items' pieces
 pub items_area : (items : List Item) (behind : List ℕ) → IsArea (items_text items ++ 255 ∷ behind) (flat_map pieces_of items)
 items_area items behind =
     let pieces = flat_map pieces_of items in

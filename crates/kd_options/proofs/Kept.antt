@@ -76,6 +76,6 @@ kept_from-within used room (x ∷ items) fits =
         omega (arith, costs, within, length-items_text x (kept_from (used + item_cost x) room items))
     by false false own is same next = omega (arith, costs, same)
 
--- the bytes of the kept items and an End fit behind a header
+-- the bytes of the kept items and an End fit after a header
 pub kept_within : (room : ℕ) (items : List Item) → ItemsFit room items → length (items_text (kept room items)) + 241 ≤ room
 kept_within room items fits = omega (arith, kept_from-within (base_cost items) room items fits)

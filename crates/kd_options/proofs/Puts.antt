@@ -1,4 +1,4 @@
--- Bytes put one behind another, and the pieces of a value.
+-- Bytes put one after another, and the pieces of a value.
 use Rattle.std.proofs.Common.{◌≡◌, ℕ, zero, suc, max, replicate, ◌+◌, ◌*◌, ◌-◌, ◌<◌, ◌≤◌, min, List, [], ◌∷◌, ◌++◌, length, take, drop, sym, ap, ◌∙◌, arith, append_assoc, length-append, length-take, length-drop, drop-drop}
 use Rattle.std.specs.Prelude.{map}
 use Rattle.std.specs.List.{range_with_len}
@@ -81,7 +81,7 @@ length-all_text code value =
     let all : n ≤ 255 * piece_count n = omega arith in
     omega (arith, length-first_text code value (piece_count n), all)
 
--- what is put behind a header of 240 bytes stands behind it
+-- what is put after a header of 240 bytes stands after it
 pub behind_header : (head body old first new : List ℕ) → length head ≡ 240 → first ≡ head ++ drop 240 old → new ≡ with_bytes_at 240 body first → new ≡ (head ++ body) ++ drop (length (head ++ body)) old
 behind_header head body old first new size is put =
     let front : take 240 first ≡ head = ap (take 240) is ∙ take_at head (drop 240 old) 240 size in

@@ -55,7 +55,7 @@ known_op op (inl is) = rw is refl
 known_op op (inr is) = rw is refl
 
 module _ (h : Header) (rest : List ℕ) where
-  -- what stands from each field on, with the cookie and the rest behind them
+  -- what stands from each field on, with the cookie and the rest after them
   abbrev from_cookie : List ℕ
   from_cookie = bytes_high_first 4 cookie ++ rest
 

@@ -43,7 +43,7 @@ unseen-set seen code (q ∷ list) within = by (q.0 == code) refl (unseen-set see
 pub unseen-new : (seen : List Bool) (p : Piece) (list : List Piece) → get_or seen p.0 false ≡ false → p.0 < length seen → unseen seen (firsts (p ∷ list)) ≡ p ∷ unseen (set seen p.0 true) (firsts list)
 unseen-new seen p list new within = rw new (ap (λ x. p ∷ x) (unseen-set seen p.0 (firsts list) within))
 
--- behind the first element
+-- after the first element
 pub slice_get-later : (p : Piece) (list : List Piece) (n : ℕ) → (n ≡ 0 → ⊥) → slice_get (p ∷ list) n ≡ slice_get list (n - 1)
 slice_get-later p list zero ne = absurd (ne refl)
 slice_get-later p list (suc n) ne = let one : suc n - 1 ≡ n = omega arith in rw one refl

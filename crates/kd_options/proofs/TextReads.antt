@@ -41,7 +41,7 @@ module _ (header : Header) (room : ℕ) (items : List Item) (is : IsReply header
   abbrev body : List ℕ
   body = items_text (kept room items)
 
-  -- header and cookie in front, and behind them the kept items, End and zeros
+  -- header and cookie in front, and after them the kept items, End and zeros
   text_is : reply_text header room items ≡ header_bytes header ++ (body ++ 255 ∷ zeros)
   text_is = append_assoc (header_bytes header) (body ++ 255 ∷ []) zeros ∙ ap (λ x. header_bytes header ++ x) (append_assoc body (255 ∷ []) zeros)
 

@@ -1,5 +1,5 @@
--- The faults of the areas of a datagram, as its reader meets them area by area. No public contract cites
--- these but through the first fault of a message.
+-- The faults of the areas of a datagram, as its reader meets them area by area. No public contract
+-- cites these but through the first fault of a message.
 use Rattle.std.specs.Prelude.{◌≡◌, ℕ, Bool, true, List}
 use Rattle.kd_options.specs.Message.{IsCutIn, IsFirstCut}
 use Rattle.kd_options.specs.declared.fault.AreaFault.{AreaFault}

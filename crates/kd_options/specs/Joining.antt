@@ -1,5 +1,5 @@
--- One piece more joined to the options so far. Proofs tie this step to the joined options; no public
--- contract cites it.
+-- One piece more joined to the options so far. Proofs tie this step to the joined options; no
+-- public contract cites it.
 use Rattle.std.specs.Prelude.{◌≡◌, ℕ, Bool, ◌==◌, List, [], ◌∷◌, ◌++◌, if◌then◌else◌, map}
 use Rattle.kd_wire.specs.Area.{Piece}
 use Rattle.kd_options.specs.Joined.{IsAreaIf, options_of}
@@ -15,7 +15,8 @@ bytes_of (Joined content) = content.items
 abbrev pub entries_of : List (ℕ × Value) → List Piece
 entries_of entries = map (λ e. (e.0, bytes_of e.1)) entries
 
--- the options after one piece more: at the end of its code's value, or as a new option behind the others
+-- the options after one piece more: at the end of its code's value, or as a new option after the
+-- others
 abbrev pub joined_into : ℕ → List ℕ → List Piece → List Piece
 joined_into code value [] = (code, value) ∷ []
 joined_into code value (o ∷ options) =
@@ -23,7 +24,8 @@ joined_into code value (o ∷ options) =
 
 -- these pieces were joined to the options of any pieces before
 abbrev pub JoinsPieces : List Piece → List Piece → List Piece → Type 0
-JoinsPieces pieces old new = (before : List Piece) → old ≡ options_of before → new ≡ options_of (before ++ pieces)
+JoinsPieces pieces old new =
+    (before : List Piece) → old ≡ options_of before → new ≡ options_of (before ++ pieces)
 
 -- the pieces of an area, if it is in use, were joined
 pub record JoinsArea (used : Bool) (area : List ℕ) (old new : List Piece) : Type 0 where

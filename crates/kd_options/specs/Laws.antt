@@ -1,5 +1,5 @@
--- What a reply has to be (RFC 2131 section 2, RFC 2132 sections 9.1, 9.6, 9.7), and the message that its
--- text reads back as (RFC 3396 section 7): what the law of replies speaks of.
+-- What a reply has to be (RFC 2131 section 2, RFC 2132 sections 9.1, 9.6, 9.7), and the message
+-- that its text reads back as (RFC 3396 section 7): what the law of replies speaks of.
 use Rattle.std.specs.Prelude.{◌≡◌, ◌≢◌, ◌⊎◌, ℕ, ◌^◌, ◌<◌, ◌≤◌, true, nat_eq, List, [], ◌∷◌, length, map}
 use Rattle.std.specs.List.{AllByRecursion, IsDistinct}
 use Rattle.kd_wire.specs.Area.{Piece}
@@ -31,8 +31,8 @@ pub record IsHeader (header : Header) : Type 0 where
   pub sname : IsField 64 header.sname
   pub file : IsField 128 header.file
 
--- an item of a reply: not option 52, an address where it is option 50 or 54, and its value is bytes; that
--- its code is from 1 to 254 is part of its type
+-- an item of a reply: not option 52, an address where it is option 50 or 54, and its value is
+-- bytes; that its code is from 1 to 254 is part of its type
 pub record IsItem (item : Item) : Type 0 where
   pub plain : item.code ≢ 52
   pub requested : item.code ≡ 50 → IsAddressValue item.value
@@ -48,8 +48,8 @@ BeginsWithType (item ∷ items) = (item.code ≡ 53) × (item.obligatory ≡ tru
 abbrev pub item_codes : List Item → List ℕ
 item_codes items = map (λ item. item.code) items
 
--- a reply and its room: a header of op 1 or 2, items with distinct codes, the message type first, and the
--- room of a datagram of 576 to 1,500 bytes beside 28 for IP and UDP
+-- a reply and its room: a header of op 1 or 2, items with distinct codes, the message type first,
+-- and the room of a datagram of 576 to 1,500 bytes beside 28 for IP and UDP
 pub record IsReply (header : Header) (room : ℕ) (items : List Item) : Type 0 where
   pub fields : IsHeader header
   pub op : (header.op ≡ 1) ⊎ (header.op ≡ 2)

@@ -1,5 +1,5 @@
--- A readable DHCP message (RFC 2131 section 2, RFC 2132, RFC 3396), and the first fault of bytes that
--- are none.
+-- A readable DHCP message (RFC 2131 section 2, RFC 2132, RFC 3396), and the first fault of bytes
+-- that are none.
 use Rattle.std.specs.Prelude.{◌≡◌, ℕ, ◌+◌, ◌<◌, List, length, take, min, Ok, Err, Some, ◌⊎◌, true}
 use Rattle.std.specs.List.{AllByRecursion}
 use Rattle.kd_wire.specs.Area.{Piece, IsArea, IsCutAt}
@@ -56,7 +56,8 @@ pub record IsCutInSname (bytes : List ℕ) (at : ℕ) : Type 0 where
 
 -- where the first area that is cut, in reading order, is cut
 abbrev pub IsFirstCut : List ℕ → ℕ → Type 0
-IsFirstCut bytes at = IsCutIn 240 (options_field bytes) at ⊎ (IsCutInFile bytes at ⊎ IsCutInSname bytes at)
+IsFirstCut bytes at =
+    IsCutIn 240 (options_field bytes) at ⊎ (IsCutInFile bytes at ⊎ IsCutInSname bytes at)
 
 -- bytes with a header and whole areas have options whose first fault is this one
 pub record HasOptionFault (bytes : List ℕ) (fault : ReadFault) : Type 0 where
@@ -66,10 +67,12 @@ pub record HasOptionFault (bytes : List ℕ) (fault : ReadFault) : Type 0 where
   pub options_are : HasOptions bytes options
   pub first : option_fault options ≡ Some fault
 
--- the first fault of a datagram, in the order header, areas, options; want of memory may come once the header is read
+-- the first fault of a datagram, in the order header, areas, options; want of memory may come once
+-- the header is read
 abbrev pub IsFirstFault : ReadFault → List ℕ → Type 0
 IsFirstFault (faults.Header fault) bytes = header_read bytes ≡ Err fault
-IsFirstFault (faults.Cut at) bytes = ((header : Header) × (header_read bytes ≡ Ok header)) × IsFirstCut bytes at
+IsFirstFault (faults.Cut at) bytes =
+    ((header : Header) × (header_read bytes ≡ Ok header)) × IsFirstCut bytes at
 IsFirstFault faults.Memory bytes = (header : Header) × (header_read bytes ≡ Ok header)
 IsFirstFault fault bytes = HasOptionFault bytes fault
 

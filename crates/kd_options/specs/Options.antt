@@ -1,4 +1,5 @@
--- Which options make a message readable, and the first that does not (RFC 2132 sections 9.1, 9.6, 9.7).
+-- Which options make a message readable, and the first that does not (RFC 2132 sections 9.1, 9.6,
+-- 9.7).
 use Rattle.std.specs.Prelude.{◌≡◌, ℕ, ◌≤◌, Bool, true, false, not, ◌&&◌, nat_le, List, [], ◌∷◌, length, Option, Some, None, is_some, IfSome, IsSomeAnd, if◌then◌else◌, ◌==◌}
 use Rattle.kd_wire.specs.Area.{Piece}
 use Rattle.kd_options.specs.Joined.{value_of}
@@ -16,7 +17,8 @@ IsType (n ∷ m ∷ bytes) = ⊥
 abbrev pub IsAddressValue : List ℕ → Type 0
 IsAddressValue value = length value ≡ 4
 
--- a readable message's options: 53 is there and a type; 50 and 54, where they are there, are addresses
+-- a readable message's options: 53 is there and a type; 50 and 54, where they are there, are
+-- addresses
 pub record IsReadable (options : List Piece) : Type 0 where
   pub kind : IsSomeAnd (value_of 53 options) IsType
   pub requested : IfSome (value_of 50 options) IsAddressValue

@@ -1,5 +1,6 @@
--- The sub-options of relay information, computed byte by byte. By the law `relay_list_is_standard` they are those of
--- the definition (`Relay.antt`), and by `one_relay_list` there is one such list only.
+-- The sub-options of relay information, computed byte by byte. By the law `relay_list_is_standard`
+-- they are those of the definition (`Relay.antt`), and by `one_relay_list` there is one such list
+-- only.
 use Rattle.std.specs.Prelude.{ℕ, zero, suc, Bool, true, false, List, [], ◌∷◌, Option, Some, None, if◌then◌else◌, take}
 use Rattle.kd_wire.specs.Area.{Piece}
 use Rattle.kd_options.specs.Joined.{value_of}

@@ -1,5 +1,5 @@
--- The text of a reply: which items are kept (our own profile of RFC 2132 section 9.10 on room), and how
--- they are written (RFC 2131 section 2, RFC 2132 section 2, RFC 3396 section 6).
+-- The text of a reply: which items are kept (our own profile of RFC 2132 section 9.10 on room), and
+-- how they are written (RFC 2131 section 2, RFC 2132 section 2, RFC 3396 section 6).
 use Rattle.std.specs.Prelude.{ℕ, ◌+◌, ◌-◌, ◌*◌, ◌<◌, ◌≤◌, max, nat_le, List, [], ◌∷◌, ◌++◌, length, map, replicate, sum_by, if◌then◌else◌}
 use Rattle.std.specs.Int.{div_ceil}
 use Rattle.std.specs.List.{flat_map, range_with_len}
@@ -35,16 +35,18 @@ optional_cost item = if item.obligatory then 0 else item_cost item
 abbrev pub base_cost : List Item → ℕ
 base_cost items = 240 + sum_by obligatory_cost items
 
--- the items kept where this much is used already: an obligatory one always, another where it fits with
--- an End
+-- the items kept where this much is used already: an obligatory one always, another where it fits
+-- with an End
 abbrev pub kept_from : ℕ → ℕ → List Item → List Item
 kept_from used room [] = []
 kept_from used room (item ∷ items) =
     if item.obligatory then item ∷ kept_from used room items
-    else if nat_le (used + item_cost item + 1) room then item ∷ kept_from (used + item_cost item) room items
+    else if nat_le (used + item_cost item + 1) room then item
+    ∷ kept_from (used + item_cost item) room items
     else kept_from used room items
 
--- the kept items: all obligatory ones, and each other that fits beside them and those kept before it
+-- the kept items: all obligatory ones, and each other that fits beside them and those kept before
+-- it
 abbrev pub kept : ℕ → List Item → List Item
 kept room items = kept_from (base_cost items) room items
 
@@ -84,7 +86,8 @@ unpadded header room items = header_bytes header ++ (items_text (kept room items
 abbrev pub reply_text : Header → ℕ → List Item → List ℕ
 reply_text header room items = padded (unpadded header room items)
 
--- what a fault of writing means: the obligatory items do not fit; want of memory comes only where they do
+-- what a fault of writing means: the obligatory items do not fit; want of memory comes only where
+-- they do
 abbrev pub IsWriteFault : ℕ → List Item → WriteFault → Type 0
 IsWriteFault room items TooLong = room < base_cost items + 1
 IsWriteFault room items Memory = ItemsFit room items

@@ -67,7 +67,8 @@ fn add_area<'a>(
     requires begin { start ≤ 240 }
     requires limit { length area.now ≤ 4096 }
     ensures found { OnOk result
-        (JoinsArea used area.now (entries_of options.old.entries) (entries_of options.new.entries)) }
+        (JoinsArea used area.now (entries_of options.old.entries)
+        (entries_of options.new.entries)) }
     ensures fault { IfErr result (IsAreaFault used area.now start) }
     ensures only { (list : List Piece) → IsAreaIf used area.now list → MatchResult result
         (λ _. JoinsPieces list (entries_of options.old.entries) (entries_of options.new.entries))

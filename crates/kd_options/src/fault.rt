@@ -46,8 +46,8 @@ pub enum ReadFault {
     /// The bytes have no header of a DHCP message.
     #[error("{0}")]
     Header(WireFault),
-    /// An option has no length byte, or fewer bytes left than its length says; the offset of its code
-    /// byte in the datagram.
+    /// An option has no length byte, or fewer bytes left than its length says; the offset of its
+    /// code byte in the datagram.
     #[error("Cut {0}")]
     Cut(usize),
     /// Option 53, the message type, is absent (RFC 2132 section 9.6).

@@ -5,7 +5,8 @@ ghost use Rattle.kd_options.specs.Joining.{bytes_of, entries_of, joined_into};
 use indexmap::IndexMap;
 use std::alloc::{AllocError, Global};
 
-// An option's value: a slice of the datagram where it has one piece, its own bytes where it has more.
+// An option's value: a slice of the datagram where it has one piece, its own bytes where it has
+// more.
 #[derive(Drop)]
 pub(crate) enum Value<'a> {
     Part(&'a [u8]),
@@ -72,7 +73,8 @@ pub(crate) fn entry_in<'m>(
     options: &'m IndexMap<u8, Value<'_>>,
     index: usize,
 ) -> Option<(u8, &'m [u8])>
-    ensures value { option_map (λ p. (p.0, p.1.now)) result ≡ slice_get (entries_of options.now.entries) index }
+    ensures value { option_map (λ p. (p.0, p.1.now)) result
+        ≡ slice_get (entries_of options.now.entries) index }
     ensures within { IsSome result → index + 1 < 2 ^ 64 }
 {
     let _count = options.len();

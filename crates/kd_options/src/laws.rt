@@ -9,22 +9,23 @@ ghost use Rattle.kd_options.specs.RelayWalk.{relay_list};
 ghost use Rattle.kd_options.specs.Reply.{ItemsFit, reply_text};
 ghost use Rattle.kd_options.specs.declared.item.Item.{Item};
 
-/// A reply that fits reads back as the message with its header and its kept items (RFC 2131 section 2,
-/// RFC 3396).
+/// A reply that fits reads back as the message with its header and its kept items (RFC 2131 section
+/// 2, RFC 3396).
 pub fn text_reads()
     ensures { (header : Header) (room : ℕ) (items : List Item) → IsReply header room items
         → ItemsFit room items
         → Reads (reply_text header room items) (read_back header room items) }
 {}
 
-/// The sub-options that `relay`, `relay_at`, class tests and `show` go by are those of the relay information, option 82
-/// (RFC 3046 section 2), over all options.
+/// The sub-options that `relay`, `relay_at`, class tests and `show` go by are those of the relay
+/// information, option 82 (RFC 3046 section 2), over all options.
 pub fn relay_list_is_standard()
     ensures { (options : List Piece) → IsRelayList (value_of 82 options) (relay_list options) }
 {}
 
 /// A value of option 82 has one list of sub-options only (RFC 3046 section 2).
 pub fn one_relay_list()
-    ensures { (value : Option (List ℕ)) (list other : List Piece) → IsRelayList value list → IsRelayList value other
+    ensures { (value : Option (List ℕ)) (list other : List Piece) → IsRelayList value list
+        → IsRelayList value other
         → list ≡ other }
 {}

@@ -19,8 +19,8 @@ use kd_wire::Header;
 use std::alloc::Global;
 use std::marker::Model;
 
-/// A readable DHCP message (RFC 2131 section 2). It borrows its datagram: an option of one piece is a
-/// slice of it, and an option of several pieces is joined (RFC 3396).
+/// A readable DHCP message (RFC 2131 section 2). It borrows its datagram: an option of one piece is
+/// a slice of it, and an option of several pieces is joined (RFC 3396).
 #[derive(Drop)]
 pub struct Message<'a> {
     head: Header,
@@ -36,7 +36,8 @@ impl<'a> Model for Message<'a> {
 
     ghost view = { λ m. record { header = m.head; len = m.size; options = entries_of m.fields.entries } };
 
-    ghost invariant = { λ m. IsMessage (record { header = m.head; len = m.size; options = entries_of m.fields.entries }) };
+    ghost invariant = { λ m. IsMessage (record
+        { header = m.head; len = m.size; options = entries_of m.fields.entries }) };
 }
 
 impl<'a> Message<'a> {

@@ -126,7 +126,8 @@ fn no_codes() -> [bool; 256]
 
 // The sub-option at an index, each code once, in order of first appearance.
 pub(crate) fn sub_option_at(value: &[u8], index: usize) -> Option<(u8, &[u8])>
-    ensures value { option_map (λ p. (p.0, p.1.now)) result ≡ slice_get (firsts (sub_options_of value.now)) index }
+    ensures value { option_map (λ p. (p.0, p.1.now)) result
+        ≡ slice_get (firsts (sub_options_of value.now)) index }
     ensures within { IsSome result → index < 256 }
 {
     let mut seen = no_codes();

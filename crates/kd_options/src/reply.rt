@@ -30,16 +30,17 @@ impl Reply {
         room_left(self.items.as_slice(), usize::from(room)).is_some()
     }
 
-    /// The bytes of the reply: header and cookie, each obligatory option, each other option that fits
-    /// beside them and those before it, End, and zeros up to 300 bytes. A value of more than 255 bytes is
-    /// written in pieces (RFC 3396). Takes memory for the room.
+    /// The bytes of the reply: header and cookie, each obligatory option, each other option that
+    /// fits beside them and those before it, End, and zeros up to 300 bytes. A value of more than
+    /// 255 bytes is written in pieces (RFC 3396). Takes memory for the room.
     ///
     /// # Errors
     ///
     /// `TooLong` exactly where `fits` is false, and `Memory`.
     pub fn write(&self, alloc: Global, room: u16) -> Result<Vec<u8>, WriteFault>
         requires { 300 ≤ room }
-        ensures found { IfOk result (λ bytes. bytes.items ≡ reply_text self.now.header room self.now.items) }
+        ensures found { IfOk result
+            (λ bytes. bytes.items ≡ reply_text self.now.header room self.now.items) }
         ensures within { IfOk result (λ bytes. length bytes.items ≤ room) }
         ensures fits { OnOk result (ItemsFit room self.now.items) }
         ensures fault { IfErr result (IsWriteFault room self.now.items) }
@@ -62,7 +63,7 @@ fn zeros(alloc: Global, len: usize) -> Result<Vec<u8>, AllocError>
     vec![in alloc; 0; len]
 }
 
-// Writes header, cookie, the kept items and End, and answers the place behind them.
+// Writes header, cookie, the kept items and End, and answers the place after them.
 fn write_into(out: &mut [u8], header: &Header, items: &[Item], room_left: usize) -> usize
     requires most { length out.old < 2 ^ 16 }
     requires room { room_left + base_cost items.now + 1 ≡ length out.old }
@@ -79,7 +80,8 @@ fn write_into(out: &mut [u8], header: &Header, items: &[Item], room_left: usize)
 // What is left of the room beside header, cookie, all obligatory options and End.
 fn room_left(items: &[Item], room: usize) -> Option<usize>
     requires { room < 2 ^ 16 }
-    ensures { MatchOption result (room < base_cost items.now + 1) (λ left. left + base_cost items.now + 1 ≡ room) }
+    ensures { MatchOption result (room < base_cost items.now + 1)
+        (λ left. left + base_cost items.now + 1 ≡ room) }
 {
     let mut left = room.checked_sub(241)?;
     for item in items {
@@ -107,12 +109,13 @@ fn pieces(len: usize) -> usize
     len.div_ceil(PIECE).max(1)
 }
 
-// Writes the kept items behind the header, and answers the place behind them. The obligatory items leave
-// this much of the room.
+// Writes the kept items after the header, and answers the place after them. The obligatory items
+// leave this much of the room.
 fn put_items(out: &mut [u8], items: &[Item], room_left: usize) -> usize
     requires most { length out.old < 2 ^ 16 }
     requires room { room_left + base_cost items.now + 1 ≡ length out.old }
-    ensures written { out.new ≡ with_bytes_at 240 (items_text (kept (length out.old) items.now)) out.old }
+    ensures written { out.new
+        ≡ with_bytes_at 240 (items_text (kept (length out.old) items.now)) out.old }
     ensures next { result ≡ 240 + length (items_text (kept (length out.old) items.now)) }
     ensures within { result < length out.old }
 {
@@ -128,7 +131,8 @@ fn put_items(out: &mut [u8], items: &[Item], room_left: usize) -> usize
     at
 }
 
-// What an item leaves of the room that the obligatory ones leave: an obligatory one takes none of it.
+// What an item leaves of the room that the obligatory ones leave: an obligatory one takes none of
+// it.
 fn left_beside(left: usize, item: &Item) -> Option<usize>
     requires { left < 2 ^ 16 }
     ensures { MatchOption result (left < optional_cost item.now)
@@ -141,7 +145,7 @@ fn left_beside(left: usize, item: &Item) -> Option<usize>
     }
 }
 
-// Writes an item's pieces at a place, and answers the place behind them.
+// Writes an item's pieces at a place, and answers the place after them.
 fn put_item(out: &mut [u8], at: usize, item: &Item) -> usize
     requires code { IsCode item.now.code }
     requires few { length item.now.value < 2 ^ 16 }

@@ -34,31 +34,38 @@ use Rattle.kd_program.specs.declared.serving.Work.TheVariants as works
 
 -- the ports of a server: those of its words, and else those of the standard (RFC 2131 section 4.1)
 abbrev pub ports_asked : Work → Ports
-ports_asked (works.Serve listening count) = record { server = listening.port; client = listening.client_port }
+ports_asked (works.Serve listening count) =
+    record { server = listening.port; client = listening.client_port }
 ports_asked other = record { server = 67; client = 68 }
 
 -- how a replay ends: without a fault, or its fault is told
 abbrev pub EndsReplay : Result ℕ ReplayFault → ℕ → Stream → Stream → Type 0
 EndsReplay (Ok count) status old new = (status ≡ 0) × (new ≡ old)
-EndsReplay (Err fault) status old new = TellsWith (replay_fault_number fault) (replay_status_of fault) status old new
+EndsReplay (Err fault) status old new =
+    TellsWith (replay_fault_number fault) (replay_status_of fault) status old new
 
 -- how serving ends: without a fault, or its fault is told
 abbrev pub EndsServe : Result Unit LoopFault → ℕ → Stream → Stream → Type 0
 EndsServe (Ok done) status old new = (status ≡ 0) × (new ≡ old)
-EndsServe (Err fault) status old new = TellsWith (loop_fault_number fault) (serve_status_of fault) status old new
+EndsServe (Err fault) status old new =
+    TellsWith (loop_fault_number fault) (serve_status_of fault) status old new
 
 -- what has come over a link, gone over it, and been written
 abbrev pub traffic : {L : Type 0} → Links L → L → Stream → Traffic
-traffic l link output = record { received = l.received link; sent = l.sent link; written = output.bytes }
+traffic l link output =
+    record { received = l.received link; sent = l.sent link; written = output.bytes }
 
 -- over a link and a store of leases
 module _ {L S : Type 0} (l : Links L) (g : Ghosts S) where
   -- a server serves so many datagrams of a link, whose lines are written to standard output
-  pub record Receives (count : ℕ) (link left : L) (server after : Keeping S) (status : ℕ) (old new : Streams) : Type 0 where
+  pub record Receives (count : ℕ) (link left : L) (server after : Keeping S) (status : ℕ)
+      (old new : Streams) : Type 0 where
     pub result : Result Unit LoopFault
     pub served : MatchResult result
-        (λ done. HasServed (Steps g) count server after (traffic l link old.output) (traffic l left new.output))
-        (λ fault. StopsServing (Steps g) (Refuses g) (l.has_failed left ≡ true) (new.output.failed ≡ true) fault count server after
+        (λ done. HasServed (Steps g) count server after (traffic l link old.output)
+        (traffic l left new.output))
+        (λ fault. StopsServing (Steps g) (Refuses g) (l.has_failed left ≡ true)
+        (new.output.failed ≡ true) fault count server after
         (traffic l link old.output) (traffic l left new.output))
     pub ends : EndsServe result status old.faults new.faults
 
@@ -67,22 +74,29 @@ module _ {S : Type 0} (g : Ghosts S) where
   -- a server replays what is left of standard input, to standard output
   pub record ReplaysInput (server after : Keeping S) (status : ℕ) (old new : Streams) : Type 0 where
     pub result : Result ℕ ReplayFault
-    pub leaves : (input output : List ℕ) → old.input.bytes ≡ Some input → old.output.bytes ≡ Some output
-        → LeavesWritten (Steps g) (Refuses g) (new.input.failed ≡ true) result input server after output new.output.bytes
+    pub leaves : (input output : List ℕ) → old.input.bytes ≡ Some input
+        → old.output.bytes ≡ Some output
+        → LeavesWritten (Steps g) (Refuses g)
+        (new.input.failed ≡ true) result input server after output new.output.bytes
     pub ends : EndsReplay result status old.faults new.faults
 
-  -- a server's leases at a moment are shown, or it is told why there are none; memory may run out for their lines
+  -- a server's leases at a moment are shown, or it is told why there are none; memory may run out
+  -- for their lines
   abbrev pub ListsLeases : ℕ → Keeping S → ℕ → Streams → Streams → Type 0
   ListsLeases at server status old new =
-      ShowsOrBreaks (flat_map lease_line (leases_of_rows at server.rows)) 0 status old.output new.output old.faults new.faults
-      ⊎ (((fault : ServeFault) × IsNoList (g.has_failed server.store) at fault × Tells (serve_fault_number fault) status old new)
+      ShowsOrBreaks (flat_map lease_line (leases_of_rows at server.rows)) 0 status old.output
+      new.output old.faults new.faults
+      ⊎ (((fault : ServeFault) × IsNoList (g.has_failed server.store) at fault
+      × Tells (serve_fault_number fault) status old new)
       ⊎ Starves status old new)
 
--- over a host, its sockets, and a store of leases; a host stands somewhere before and after each answer
+-- over a host, its sockets, and a store of leases; a host stands somewhere before and after each
+-- answer
 module _ {H N U L C S : Type 0} (h : Hosts H N U L C) (l : Links L) (g : Ghosts S) where
-  -- the host gives a socket, which has not failed, and its clock; a line is told of what the server does, and it serves
-  -- datagrams of that socket
-  pub record BeginsServing (listening : Listening) (count : ℕ) (before after : H) (server left : Keeping S) (status : ℕ) (old new : Streams) : Type 0 where
+  -- the host gives a socket, which has not failed, and its clock; a line is told of what the server
+  -- does, and it serves datagrams of that socket
+  pub record BeginsServing (listening : Listening) (count : ℕ) (before after : H)
+      (server left : Keeping S) (status : ℕ) (old new : Streams) : Type 0 where
     pub link : L
     pub bound : H
     pub given : h.binds before listening (Ok link) bound
@@ -93,36 +107,45 @@ module _ {H N U L C S : Type 0} (h : Hosts H N U L C) (l : Links L) (g : Ghosts 
     pub between : Stream
     pub told : Puts line old.faults between
     pub rest : L
-    pub receives : Receives l g count link rest server left status (record { input = old.input; output = old.output; faults = between }) new
+    pub receives : Receives l g count link rest server left status
+        (record { input = old.input; output = old.output; faults = between }) new
 
   -- the host gives no socket, which is told
-  pub record HasNoSocket (listening : Listening) (before after : H) (status : ℕ) (old new : Streams) : Type 0 where
+  pub record HasNoSocket (listening : Listening) (before after : H) (status : ℕ)
+      (old new : Streams) : Type 0 where
     pub failed : EndFailed
     pub given : h.binds before listening (Err failed) after
     pub told : Tells 94 status old new
 
   -- the host gives a socket, and memory runs out for the line
-  pub record HasNoLine (listening : Listening) (before after : H) (status : ℕ) (old new : Streams) : Type 0 where
+  pub record HasNoLine (listening : Listening) (before after : H) (status : ℕ)
+      (old new : Streams) : Type 0 where
     pub link : L
     pub given : h.binds before listening (Ok link) after
     pub told : Starves status old new
 
   -- a server serves datagrams of the host's socket, or stays as it is
-  abbrev pub Listens : Listening → ℕ → H → H → Keeping S → Keeping S → ℕ → Streams → Streams → Type 0
+  abbrev pub Listens : Listening → ℕ → H → H → Keeping S → Keeping S → ℕ → Streams → Streams
+      → Type 0
   Listens listening count before after server left status old new =
       BeginsServing listening count before after server left status old new
-      ⊎ ((left ≡ server) × (HasNoSocket listening before after status old new ⊎ HasNoLine listening before after status old new))
+      ⊎ ((left ≡ server) ×
+      (HasNoSocket listening before after status old new
+      ⊎ HasNoLine listening before after status old new))
 
   -- what a server is opened for
   abbrev pub Works : Work → H → H → Keeping S → Keeping S → ℕ → Streams → Streams → Type 0
-  Works works.Replay before after server left status old new = (after ≡ before) × ReplaysInput g server left status old new
+  Works works.Replay before after server left status old new =
+      (after ≡ before) × ReplaysInput g server left status old new
   Works (works.Leases at) before after server left status old new =
       (after ≡ before) × ((left ≡ server) × ListsLeases g at server status old new)
   Works (works.Serve listening count) before after server left status old new =
       Listens listening count before after server left status old new
 
-  -- a server that goes by a configuration is opened over a store, does its work, and gives back its store
-  pub record IsServed (work : Work) (config : Configuration) (store back : S) (before after : H) (status : ℕ) (old new : Streams) : Type 0 where
+  -- a server that goes by a configuration is opened over a store, does its work, and gives back its
+  -- store
+  pub record IsServed (work : Work) (config : Configuration) (store back : S) (before after : H)
+      (status : ℕ) (old new : Streams) : Type 0 where
     pub server : Keeping S
     pub opened : Opens g (ports_asked work) config store server
     pub left : Keeping S
@@ -130,7 +153,8 @@ module _ {H N U L C S : Type 0} (h : Hosts H N U L C) (l : Links L) (g : Ghosts 
     pub closed : back ≡ left.store
 
   -- no server is opened over a store, which is told
-  pub record IsNotServed (config : Configuration) (store back : S) (before after : H) (status : ℕ) (old new : Streams) : Type 0 where
+  pub record IsNotServed (config : Configuration) (store back : S) (before after : H) (status : ℕ)
+      (old new : Streams) : Type 0 where
     pub fault : ServeFault
     pub same : Configuration
     pub refused : IsUnopened g config store fault same back
@@ -140,12 +164,16 @@ module _ {H N U L C S : Type 0} (h : Hosts H N U L C) (l : Links L) (g : Ghosts 
   -- one of the two
   abbrev pub Serves : Work → Configuration → S → S → H → H → ℕ → Streams → Streams → Type 0
   Serves work config store back before after status old new =
-      IsServed work config store back before after status old new ⊎ IsNotServed config store back before after status old new
+      IsServed work config store back before after status old new
+      ⊎ IsNotServed config store back before after status old new
 
 -- over a host with its two sorts of stores and its sockets
-module _ {H N U L C : Type 0} (h : Hosts H N U L C) (named : Ghosts N) (unnamed : Ghosts U) (l : Links L) where
-  -- a server works over the store that the host opens at a path, which has not failed, and the host gets it back
-  pub record WorksAt (path : List ℕ) (work : Work) (config : Configuration) (before after : H) (status : ℕ) (old new : Streams) : Type 0 where
+module _ {H N U L C : Type 0} (h : Hosts H N U L C) (named : Ghosts N) (unnamed : Ghosts U)
+    (l : Links L) where
+  -- a server works over the store that the host opens at a path, which has not failed, and the host
+  -- gets it back
+  pub record WorksAt (path : List ℕ) (work : Work) (config : Configuration) (before after : H)
+      (status : ℕ) (old new : Streams) : Type 0 where
     pub store : N
     pub opened : H
     pub given : h.opens before path (Ok store) opened
@@ -156,7 +184,8 @@ module _ {H N U L C : Type 0} (h : Hosts H N U L C) (named : Ghosts N) (unnamed 
     pub closed : h.closes left path back after
 
   -- a server works over the store in memory that the host makes, which has not failed
-  pub record WorksInMemory (work : Work) (config : Configuration) (before after : H) (status : ℕ) (old new : Streams) : Type 0 where
+  pub record WorksInMemory (work : Work) (config : Configuration) (before after : H) (status : ℕ)
+      (old new : Streams) : Type 0 where
     pub store : U
     pub made : H
     pub given : h.makes before (Ok store) made
@@ -165,7 +194,8 @@ module _ {H N U L C : Type 0} (h : Hosts H N U L C) (named : Ghosts N) (unnamed 
     pub serves : Serves h l unnamed work config store back made after status old new
 
   -- the host opens no store at a path, which is told
-  pub record HasNoStoreAt (path : List ℕ) (before after : H) (status : ℕ) (old new : Streams) : Type 0 where
+  pub record HasNoStoreAt (path : List ℕ) (before after : H) (status : ℕ)
+      (old new : Streams) : Type 0 where
     pub fault : StoreFault
     pub given : h.opens before path (Err fault) after
     pub told : Tells (store_fault_number fault) status old new
@@ -176,47 +206,63 @@ module _ {H N U L C : Type 0} (h : Hosts H N U L C) (named : Ghosts N) (unnamed 
     pub given : h.makes before (Err fault) after
     pub told : Tells (store_fault_number fault) status old new
 
-  -- a server works over the host's store, with a path or without one, or it is told that there is none
-  abbrev pub WorksOver : Option (List ℕ) → Work → Configuration → H → H → ℕ → Streams → Streams → Type 0
+  -- a server works over the host's store, with a path or without one, or it is told that there is
+  -- none
+  abbrev pub WorksOver : Option (List ℕ) → Work → Configuration → H → H → ℕ → Streams → Streams
+      → Type 0
   WorksOver (Some path) work config before after status old new =
-      WorksAt path work config before after status old new ⊎ HasNoStoreAt path before after status old new
+      WorksAt path work config before after status old new
+      ⊎ HasNoStoreAt path before after status old new
   WorksOver None work config before after status old new =
-      WorksInMemory work config before after status old new ⊎ HasNoStoreInMemory before after status old new
+      WorksInMemory work config before after status old new
+      ⊎ HasNoStoreInMemory before after status old new
 
   -- the host gives the configuration of these files, and a server goes by it
-  pub record HasConfiguration (files : Files) (work : Work) (before after : H) (status : ℕ) (old new : Streams) : Type 0 where
+  pub record HasConfiguration (files : Files) (work : Work) (before after : H) (status : ℕ)
+      (old new : Streams) : Type 0 where
     pub config : Configuration
     pub asked : H
-    pub given : h.configures before (option_map string_bytes files.config) (option_map string_bytes files.token_dir) (Ok config) asked
-    pub works : WorksOver (option_map string_bytes files.store) work config asked after status old new
+    pub given : h.configures before (option_map string_bytes files.config)
+        (option_map string_bytes files.token_dir) (Ok config) asked
+    pub works : WorksOver
+        (option_map string_bytes files.store) work config asked after status old new
 
   -- the host gives no configuration of these files, which is told
-  pub record HasNoConfiguration (files : Files) (before after : H) (status : ℕ) (old new : Streams) : Type 0 where
+  pub record HasNoConfiguration (files : Files) (before after : H) (status : ℕ)
+      (old new : Streams) : Type 0 where
     pub fault : StartFault
-    pub given : h.configures before (option_map string_bytes files.config) (option_map string_bytes files.token_dir) (Err fault) after
+    pub given : h.configures before (option_map string_bytes files.config)
+        (option_map string_bytes files.token_dir) (Err fault) after
     pub told : Tells (start_fault_number fault) status old new
 
   -- one of the two
   abbrev pub Starts : Files → Work → H → H → ℕ → Streams → Streams → Type 0
   Starts files work before after status old new =
-      HasConfiguration files work before after status old new ⊎ HasNoConfiguration files before after status old new
+      HasConfiguration files work before after status old new
+      ⊎ HasNoConfiguration files before after status old new
 
   -- what an order prints that needs nothing but its words; memory may run out for it
   abbrev pub Says : Order → ℕ → Streams → Streams → Type 0
-  Says order status old new = ((printed : Printed) × Answers order printed × Prints printed status old new) ⊎ Starves status old new
+  Says order status old new =
+      ((printed : Printed) × Answers order printed × Prints printed status old new)
+      ⊎ Starves status old new
 
   -- what an order does
   abbrev pub CarriesOut : Order → H → H → ℕ → Streams → Streams → Type 0
   CarriesOut (orders.Replay config token_dir store) before after status old new =
-      Starts (record { config = config; token_dir = token_dir; store = store }) works.Replay before after status old new
+      Starts (record { config = config; token_dir = token_dir; store = store }) works.Replay before
+      after status old new
   CarriesOut (orders.Leases config token_dir store at) before after status old new =
-      Starts (record { config = config; token_dir = token_dir; store = store }) (works.Leases at) before after status old new
+      Starts (record { config = config; token_dir = token_dir; store = store })
+      (works.Leases at) before after status old new
   CarriesOut (orders.Serve config token_dir store listening count) before after status old new =
-      Starts (record { config = config; token_dir = token_dir; store = store }) (works.Serve listening count) before after status old new
+      Starts (record { config = config; token_dir = token_dir; store = store })
+      (works.Serve listening count) before after status old new
   CarriesOut other before after status old new = (after ≡ before) × Says other status old new
 
   -- what words do: the fault that they have is told, or what they ask for is done
   abbrev pub Carries : List (List ℕ) → H → H → ℕ → Streams → Streams → Type 0
   Carries words before after status old new =
-      ((fault : LineFault) × HasFault words fault × (after ≡ before) × Tells (line_fault_number fault) status old new)
+      ((fault : LineFault) × HasFault words fault × (after ≡ before)
+      × Tells (line_fault_number fault) status old new)
       ⊎ ((order : Order) × AsksFor words order × CarriesOut order before after status old new)

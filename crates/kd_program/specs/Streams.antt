@@ -10,7 +10,8 @@ use Rattle.kd_replay.specs.declared.ends.Sink.{Ghosts as Sinks}
 use Rattle.kd_replay.specs.declared.ends.Source.{Ghosts as Sources}
 use Rattle.kd_program.specs.declared.ends.Ends.{Ends}
 
--- a stream: what is left to read of it or stands written on it, where that is known, and whether it has failed
+-- a stream: what is left to read of it or stands written on it, where that is known, and whether it
+-- has failed
 pub record Stream : Type 0 where
   pub bytes : Option (List ℕ)
   pub failed : Bool
@@ -31,9 +32,15 @@ written_to g sink = record { bytes = g.contents sink; failed = g.has_failed sink
 
 -- the three ends of a command as streams
 abbrev pub streams : {R O E : Type 0} → Sources R → Sinks O → Sinks E → Ends R O E → Streams
-streams r o e ends = record { input = read_from r ends.input; output = written_to o ends.output; faults = written_to e ends.faults }
+streams r o e ends =
+    record {
+      input = read_from r ends.input;
+      output = written_to o ends.output;
+      faults = written_to
+          e ends.faults;
+    }
 
--- the line of a fault: its number, its name and the operands behind that
+-- the line of a fault: its number, its name and the operands after that
 abbrev pub fault_line : ℕ → List ℕ → List ℕ
 fault_line number name = codes "fault " ++ decimal number ++ codes " " ++ name ++ line_feed
 
@@ -47,23 +54,29 @@ write_line = codes "fault 95 Write\n"
 
 -- a text is put on a stream, or a front of it where the stream has failed
 abbrev pub Puts : List ℕ → Stream → Stream → Type 0
-Puts text old new = Appends old.bytes new.bytes text ⊎ ((new.failed ≡ true) × WritesPart old.bytes new.bytes text)
+Puts text old new =
+    Appends old.bytes new.bytes text ⊎ ((new.failed ≡ true) × WritesPart old.bytes new.bytes text)
 
 -- the line of a fault with this number is told, or memory runs out for it; with this exit status
 abbrev pub TellsWith : ℕ → ℕ → ℕ → Stream → Stream → Type 0
 TellsWith number wanted status old new =
-    ((name : List ℕ) × (status ≡ wanted) × Puts (fault_line number name) old new) ⊎ ((status ≡ 1) × Puts memory_line old new)
+    ((name : List ℕ) × (status ≡ wanted) × Puts (fault_line number name) old new)
+    ⊎ ((status ≡ 1) × Puts memory_line old new)
 
 -- want of memory is told on standard error, and nothing written on standard output
 abbrev pub Starves : ℕ → Streams → Streams → Type 0
-Starves status old new = (new.output ≡ old.output) × (status ≡ 1) × Puts memory_line old.faults new.faults
+Starves status old new =
+    (new.output ≡ old.output) × (status ≡ 1) × Puts memory_line old.faults new.faults
 
--- a fault with this number is told on standard error, with its exit status, and nothing written on standard output
+-- a fault with this number is told on standard error, with its exit status, and nothing written on
+-- standard output
 abbrev pub Tells : ℕ → ℕ → Streams → Streams → Type 0
-Tells number status old new = (new.output ≡ old.output) × TellsWith number (status_of number) status old.faults new.faults
+Tells number status old new =
+    (new.output ≡ old.output) × TellsWith number (status_of number) status old.faults new.faults
 
 -- a text is shown on standard output, and nothing told
-pub record Shows (text : List ℕ) (wanted status : ℕ) (output said faults told : Stream) : Type 0 where
+pub record Shows (text : List ℕ) (wanted status : ℕ)
+    (output said faults told : Stream) : Type 0 where
   pub is : status ≡ wanted
   pub shown : Appends output.bytes said.bytes text
   pub quiet : told ≡ faults
@@ -77,9 +90,12 @@ pub record Breaks (text : List ℕ) (status : ℕ) (output said faults told : St
 
 -- a text is shown, or standard output fails
 abbrev pub ShowsOrBreaks : List ℕ → ℕ → ℕ → Stream → Stream → Stream → Stream → Type 0
-ShowsOrBreaks text wanted status output said faults told = Shows text wanted status output said faults told ⊎ Breaks text status output said faults told
+ShowsOrBreaks text wanted status output said faults told =
+    Shows text wanted status output said faults told ⊎ Breaks text status output said faults told
 
 -- what an order prints: its text, or the line of its fault alone
 pub record Prints (printed : Printed) (status : ℕ) (old new : Streams) : Type 0 where
-  pub answered : printed.fault ≡ [] → ShowsOrBreaks printed.out printed.status status old.output new.output old.faults new.faults
-  pub refused : printed.fault ≢ [] → (new.output ≡ old.output) × (status ≡ printed.status) × Puts printed.fault old.faults new.faults
+  pub answered : printed.fault ≡ []
+      → ShowsOrBreaks printed.out printed.status status old.output new.output old.faults new.faults
+  pub refused : printed.fault ≢ [] → (new.output ≡ old.output) × (status ≡ printed.status)
+      × Puts printed.fault old.faults new.faults

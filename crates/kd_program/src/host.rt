@@ -26,9 +26,11 @@ pub trait Host {
     /// What says the moment.
     type Clock: Clock + Drop;
 
-    /// The answer to a question for the configuration of a file, with a folder of token files, and where the host stands
-    /// then. So are the others: from where the host stood, to what it answers, to where it stands then.
-    ghost configures: { Self → Option (List ℕ) → Option (List ℕ) → Result Configuration StartFault → Self → Type 0 };
+    /// The answer to a question for the configuration of a file, with a folder of token files, and
+    /// where the host stands then. So are the others: from where the host stood, to what it
+    /// answers, to where it stands then.
+    ghost configures: { Self → Option (List ℕ) → Option (List ℕ) → Result Configuration StartFault
+        → Self → Type 0 };
 
     /// The store at a path.
     ghost opens: { Self → List ℕ → Result Self.Named StoreFault → Self → Type 0 };
@@ -45,8 +47,8 @@ pub trait Host {
     /// The clock.
     ghost tells_time: { Self → Self.Clock → Self → Type 0 };
 
-    /// The configuration of the file at a path, with the token files of a folder; the built-in one without a file. The
-    /// folder is read first.
+    /// The configuration of the file at a path, with the token files of a folder; the built-in one
+    /// without a file. The folder is read first.
     ///
     /// # Errors
     ///

@@ -26,7 +26,8 @@ pub fn tell<E: Sink>(faults: &mut E, text: &[u8])
     }
 }
 
-/// Writes to standard output, and says the exit status: where that fails, `fault 95 Write` and its status.
+/// Writes to standard output, and says the exit status: where that fails, `fault 95 Write` and its
+/// status.
 pub fn show<O: Sink, E: Sink>(output: &mut O, faults: &mut E, text: &[u8], status: u8) -> u8
     ensures { ShowsOrBreaks text.now status result
         (written_to O.Sink output.old) (written_to O.Sink output.new)
@@ -55,7 +56,8 @@ pub fn print<R: Source, O: Sink, E: Sink>(ends: &mut Ends<R, O, E>, printed: &Pr
     printed.status
 }
 
-/// Writes the line of a fault with a number, and says its exit status; want of memory for the line is a fault too.
+/// Writes the line of a fault with a number, and says its exit status; want of memory for the line
+/// is a fault too.
 pub fn refuse<E: Sink, F: Display>(alloc: Global, faults: &mut E, number: u8, fault: &F) -> u8
     ensures { TellsWith number (status_of number) result
         (written_to E.Sink faults.old) (written_to E.Sink faults.new) }
@@ -100,7 +102,7 @@ pub fn refuse_words<E: Sink>(alloc: Global, faults: &mut E, fault: LineFault) ->
     refuse(alloc, faults, fault.number(), &fault)
 }
 
-// `fault NUMBER NAME`, and the operands behind the name.
+// `fault NUMBER NAME`, and the operands after the name.
 fn line_of_fault<F: Display>(alloc: Global, number: u8, fault: &F) -> Result<String, AllocError>
     ensures { IfOk result (λ line. (name : List ℕ) × (string_bytes line ≡ fault_line number name)) }
 {

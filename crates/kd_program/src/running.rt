@@ -11,8 +11,9 @@ use kd_replay::{Sink, Source};
 use kd_tools::answer;
 use std::alloc::Global;
 
-/// Carries out the words behind the program's name, and says the exit status. What is refused has one line on standard
-/// error, `fault NUMBER NAME` with its operands; where standard output fails that is `fault 95 Write`.
+/// Carries out the words after the program's name, and says the exit status. What is refused has
+/// one line on standard error, `fault NUMBER NAME` with its operands; where standard output fails
+/// that is `fault 95 Write`.
 pub fn run<H: Host, R: Source, O: Sink, E: Sink>(
     alloc: Global,
     words: &[String],

@@ -42,8 +42,8 @@ pub enum Work {
     Serve(Listening, u64),
 }
 
-/// Does this work as a server that goes by the configuration of these files and keeps its leases in the store of a path,
-/// or in memory without one; and says the exit status.
+/// Does this work as a server that goes by the configuration of these files and keeps its leases in
+/// the store of a path, or in memory without one; and says the exit status.
 pub fn served<H: Host, R: Source, O: Sink, E: Sink>(
     alloc: Global,
     host: &mut H,

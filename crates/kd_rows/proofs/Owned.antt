@@ -176,7 +176,7 @@ not_again c client x y first second = by (slice_cmp nat_cmp c client) refl where
 pub none_before : (rows : List Row) (index : List ℕ) (client : List ℕ) (start : ℕ) → IsKeyPlace (key_at rows) index (client, 0) start → (i : ℕ) → i < start → owns rows client (get_or index i 0) ≡ false
 none_before rows index client start p i before = ⊎_elim (λ own. absurd (let h = same_client (client_at rows (get_or index i 0)) client (get_or index i 0) 0 ((bytes_decides (client_at rows (get_or index i 0)) client).0 own) (p.below i before) in omega arith)) (λ e. e) (cases_Bool (owns rows client (get_or index i 0)))
 
--- and from there on, where one is not its, none behind is
+-- and from there on, where one is not its, none after is
 pub none_behind : (rows : List Row) (index : List ℕ) (client : List ℕ) (start : ℕ) → Rises (key_at rows) index → IsKeyPlace (key_at rows) index (client, 0) start → (i j : ℕ) → start ≤ i → i < j → j < length index → owns rows client (get_or index i 0) ≡ false → owns rows client (get_or index j 0) ≡ false
 none_behind rows index client start rising p i j from order within out = ⊎_elim (λ own. absurd (false≢true (sym out ∙ (bytes_decides (client_at rows (get_or index i 0)) client).1 (same own)))) (λ e. e) (cases_Bool (owns rows client (get_or index j 0))) where
   same : owns rows client (get_or index j 0) ≡ true → client_at rows (get_or index i 0) ≡ client

@@ -128,7 +128,7 @@ run_has (r ∷ rows) first start low rise within run a from before =
     let here : (d : Row) → (get_or (r ∷ rows) i d).address ≡ a = (λ d. let h = run i d (omega arith) (omega arith) in omega arith) in
     ap is_some ((is_at (r ∷ rows) a i rise (omega arith) here).found r)
 
--- the address behind the run has none
+-- the address after the run has none
 pub run_ends : (rows : List Row) (first start low : ℕ) → IsPlace rows first start → start ≤ low → ((i : ℕ) (d : Row) → start ≤ i → i < low → (get_or rows i d).address ≡ first + (i - start)) → ((i : ℕ) (d : Row) → low ≤ i → i < length rows → first + (i - start) < (get_or rows i d).address) → row_at rows (first + (low - start)) ≡ None
 run_ends rows first start low p order run above = none_at rows (first + (low - start))
     (λ i d within e. ⊎_elim (λ before. let h = p.below i d before in omega arith) (λ after. ⊎_elim (λ inside. let h = run i d after inside in omega arith) (λ beyond. let h = above i d beyond within in omega arith) (cases_lt i low)) (cases_lt i start))

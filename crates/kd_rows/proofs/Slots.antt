@@ -103,7 +103,7 @@ map-insert f xs place x =
     map-append f (take place xs) (x ∷ drop place xs) ∙ ap (λ ys. ys ++ f x ∷ map f (drop place xs)) (sym (take-map f place xs))
     ∙ ap (λ ys. take place (map f xs) ++ f x ∷ ys) (sym (drop-map f place xs))
 
--- the rows of numbers stay where a slot comes behind
+-- the rows of numbers stay where a slot comes after
 kept : (slots : List Row) (numbers : List ℕ) (row : Row) → All (λ n. n < length slots) numbers → rows_in (slots ++ row ∷ []) numbers ≡ rows_in slots numbers
 kept slots [] row within = refl
 kept slots (n ∷ numbers) row within =
@@ -259,7 +259,7 @@ same_addresses slots (m ∷ numbers) n row inside same =
           (λ other. ap (λ (r : Row). r.address) (overwritten slots n m row other))
           (cases_eq m n)
 
--- the addresses of numbers stay where a slot comes behind
+-- the addresses of numbers stay where a slot comes after
 kept_addresses : (slots : List Row) (numbers : List ℕ) (row : Row) → All (λ n. n < length slots) numbers → addresses_in (slots ++ row ∷ []) numbers ≡ addresses_in slots numbers
 kept_addresses slots [] row within = refl
 kept_addresses slots (n ∷ numbers) row within =

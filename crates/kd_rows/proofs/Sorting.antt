@@ -33,7 +33,7 @@ any_of number (x ∷ keys) n = by (number x == n) (any_of number keys n) where
   by true h = refl
   by false h = h
 
--- each key below the next: below all behind
+-- each key below the next: below all after
 rises_by_steps : (f : ℕ → List ℕ × ℕ) (xs : List ℕ) → ((k : ℕ) → k + 1 < length xs → IsKeyBelow (f (get_or xs k 0)) (f (get_or xs (k + 1) 0))) → Rises f xs
 rises_by_steps f xs steps i zero order within = absurd (omega arith)
 rises_by_steps f xs steps i (suc j) order within = ⊎_elim

@@ -34,7 +34,7 @@ below_here rows place a row rise within is less i d after inside =
     let g = read_at rows place row d within is in
     omega arith
 
--- an address that stands below the rows behind a place stands below that place, there, or at no row
+-- an address that stands below the rows after a place stands below that place, there, or at no row
 pub around : (rows : List Row) (place a : ℕ) (row : Row) → Rise rows → place < length rows → row ≡ get_or rows place row → IsBelowFrom rows a (place + 1) → IsBelowFrom rows a place ⊎ ((a ≡ row.address) ⊎ (row_at rows a ≡ None))
 around rows place a row rise within is above = ⊎_elim
     (λ l. inl (below_here rows place a row rise within is l))
@@ -112,7 +112,7 @@ blocks_step rows bounds first last moment place bound b within is here h a row f
   by (inr (inl e)) = here a row from to e found
   by (inr (inr none)) = absurd (nothing has.0 none has.1)
 
--- a block whose bound is behind a moment: none of its rows has ended
+-- a block whose bound is after a moment: none of its rows has ended
 pub block_live : (rows bounds : List Row) (first last moment place : ℕ) (bound : Row) → IsBounded rows bounds → place < length bounds → bound ≡ get_or bounds place bound → moment < bound.ends
     → (a : ℕ) (row : Row) → first ≤ a → a ≤ last → block_number a ≡ bound.address → row_at rows a ≡ Some row → moment < row.ends
 block_live rows bounds first last moment place bound b within is live a row from to at found =

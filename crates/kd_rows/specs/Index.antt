@@ -1,4 +1,5 @@
--- The index of the table, places in it and among the rows, and slots: words of private contracts and invariants alone.
+-- The index of the table, places in it and among the rows, and slots: words of private contracts
+-- and invariants alone.
 use Rattle.std.specs.Prelude.{◌≡◌, ℕ, ◌<◌, ◌≤◌, ◌^◌, Bool, false, ◌||◌, List, [], ◌∷◌, length, Option, Some, None, is_some, slice_index, slice_index_or, ◌==◌, map, nat_lt, ◌/◌, IsSome, option_map}
 use Rattle.std.specs.List.{All, insert, range_with_len, remove}
 use Rattle.std.specs.Cmp.Lexicographic.{slice_cmp}
@@ -34,7 +35,9 @@ key_at rows a = (client_at rows a, a)
 
 -- the addresses stand in the order of their keys
 abbrev pub Rises : (ℕ → List ℕ × ℕ) → List ℕ → Type 0
-Rises key index = (i j : ℕ) → i < j → j < length index → IsKeyBelow (key (slice_index index i)) (key (slice_index index j))
+Rises key index =
+    (i j : ℕ) → i < j → j < length index
+    → IsKeyBelow (key (slice_index index i)) (key (slice_index index j))
 
 -- a list has an address
 abbrev pub lists : List ℕ → ℕ → Bool
@@ -48,7 +51,9 @@ pub record IsIndex (rows : List Row) (index : List ℕ) : Type 0 where
 
 -- the row of a number, and one that is none past the last
 abbrev pub row_in : List Row → ℕ → Row
-row_in slots n = slice_index_or slots n (record { address = 0; client = []; state = Offered; changed = 0; ends = 0 })
+row_in slots n =
+    slice_index_or slots n
+    (record { address = 0; client = []; state = Offered; changed = 0; ends = 0 })
 
 -- the rows of numbers
 abbrev pub rows_in : List Row → List ℕ → List Row
@@ -71,7 +76,8 @@ pub record IsStored (slots : List Row) (by_address by_client : List ℕ) : Type 
   pub sorted : IsByAddress slots by_address
   pub within : All (λ n. n < length slots) by_client
 
--- rows in rising address, their addresses in the order of client and address, and for how many more there is room
+-- rows in rising address, their addresses in the order of client and address, and for how many more
+-- there is room
 pub record Ordered : Type 0 where
   pub rows : List Row
   pub index : List ℕ
@@ -87,7 +93,8 @@ pub record IsByClient (slots : List Row) (numbers : List ℕ) : Type 0 where
   pub rising : Rises (key_in slots) numbers
 
 -- keys with their numbers: the first so many numbers, each with the key of its slot
-pub record AreKeys {X : Type 0} (key : X → List ℕ × ℕ) (number : X → ℕ) (slots : List Row) (count : ℕ) (keys : List X) : Type 0 where
+pub record AreKeys {X : Type 0} (key : X → List ℕ × ℕ) (number : X → ℕ) (slots : List Row)
+    (count : ℕ) (keys : List X) : Type 0 where
   pub numbers : map number keys ≡ range_with_len 0 count
   pub keyed : All (λ x. key x ≡ key_in slots (number x)) keys
 
@@ -97,7 +104,8 @@ block_number a = a / 64
 
 -- a bound as a row: its block for an address, and the bound for an end
 abbrev pub bound_row : Bound → Row
-bound_row bound = record { address = bound.block; client = []; state = Offered; changed = 0; ends = bound.least }
+bound_row bound =
+    record { address = bound.block; client = []; state = Offered; changed = 0; ends = bound.least }
 
 -- bounds as rows, and for how many more there is room
 pub record Bounds : Type 0 where
@@ -116,7 +124,8 @@ IsBound rows block least = All (λ row. block_number row.address ≡ block → l
 pub record IsBounded (rows bounds : List Row) : Type 0 where
   pub rise : Rise bounds
   pub has : All (λ row. IsSome (row_at bounds (block_number row.address))) rows
-  pub least : (block : ℕ) (bound : Row) → row_at bounds block ≡ Some bound → IsBound rows block bound.ends
+  pub least : (block : ℕ) (bound : Row) → row_at bounds block ≡ Some bound
+      → IsBound rows block bound.ends
 
 -- what is left of a bound is at most that bound, and at most the end of the row that is set
 abbrev pub IsLower : Option ℕ → ℕ → Option ℕ → Type 0
@@ -130,7 +139,8 @@ IsNow rows block None least = IsBound rows block least
 IsNow rows block (Some kept) least = least ≡ kept
 
 -- what is true of the fields of a table
-pub record IsKept (rows : List Row) (latest least : ℕ) (index : List ℕ) (bounds : List Row) (room most : ℕ) : Type 0 where
+pub record IsKept (rows : List Row) (latest least : ℕ) (index : List ℕ) (bounds : List Row)
+    (room most : ℕ) : Type 0 where
   pub rise : Rise rows
   pub ranged : All IsInRange rows
   pub newest : latest ≡ latest_of rows
@@ -143,7 +153,8 @@ pub record IsKept (rows : List Row) (latest least : ℕ) (index : List ℕ) (bou
 pub record IsPlace (rows : List Row) (a place : ℕ) : Type 0 where
   pub in_range : place ≤ length rows
   pub below : (i : ℕ) (d : Row) → i < place → (slice_index_or rows i d).address < a
-  pub above : (i : ℕ) (d : Row) → place ≤ i → i < length rows → a ≤ (slice_index_or rows i d).address
+  pub above : (i : ℕ) (d : Row) → place ≤ i → i < length rows
+      → a ≤ (slice_index_or rows i d).address
 
 -- a place is that of the row of an address
 pub record IsRowPlace (rows : List Row) (a place : ℕ) : Type 0 where
@@ -158,7 +169,8 @@ IsFound rows a None = row_at rows a ≡ None
 IsFound rows a (Some place) = IsRowPlace rows a place
 
 -- the addresses before a place have keys below k, and those from it on do not
-pub record IsKeyPlace (key : ℕ → List ℕ × ℕ) (index : List ℕ) (k : List ℕ × ℕ) (place : ℕ) : Type 0 where
+pub record IsKeyPlace (key : ℕ → List ℕ × ℕ) (index : List ℕ) (k : List ℕ × ℕ)
+    (place : ℕ) : Type 0 where
   pub in_range : place ≤ length index
   pub below : (i : ℕ) → i < place → IsKeyBelow (key (slice_index index i)) k
   pub above : (i : ℕ) → place ≤ i → i < length index → IsKeyBelow (key (slice_index index i)) k → ⊥
@@ -169,7 +181,8 @@ PutsAt key old k new = (place : ℕ) × IsKeyPlace key old k place × (new ≡ i
 
 -- an address is taken from its place
 abbrev pub Takes : List ℕ → ℕ → List ℕ → Type 0
-Takes old a new = (place : ℕ) × (place < length old) × (slice_index old place ≡ a) × (new ≡ remove old place)
+Takes old a new =
+    (place : ℕ) × (place < length old) × (slice_index old place ≡ a) × (new ≡ remove old place)
 
 -- an address is taken from its place, and put at that of another key
 abbrev pub Moves : (ℕ → List ℕ × ℕ) → List ℕ → List ℕ × ℕ → List ℕ → Type 0

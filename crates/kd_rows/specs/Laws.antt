@@ -13,16 +13,23 @@ map_of rows = from_entries (map (λ (row : Row). (row.address, row)) rows)
 abbrev pub RowsAreAMap : Type 0
 RowsAreAMap =
     ((rows : List Row) (a : ℕ) → get (map_of rows) a ≡ row_at rows a)
-    × ((row : Row) (rows : List Row) → map_of (with_row row rows) ≡ insert (map_of rows) row.address row)
+    × ((row : Row) (rows : List Row)
+    → map_of (with_row row rows) ≡ insert (map_of rows) row.address row)
 
 -- after a row is set its address has it, and each other what it had
 abbrev pub GetOfSet : Type 0
-GetOfSet = (row : Row) (rows : List Row) (a : ℕ) → row_at (with_row row rows) a ≡ (if row.address == a then Some row else row_at rows a)
+GetOfSet =
+    (row : Row) (rows : List Row) (a : ℕ)
+    → row_at (with_row row rows) a ≡ (if row.address == a then Some row else row_at rows a)
 
 -- rows that rise from an address on still do after one is set there or above
 abbrev pub RiseOfSet : Type 0
-RiseOfSet = (row : Row) (n : ℕ) (rows : List Row) → n ≤ row.address → RiseFrom n rows → RiseFrom n (with_row row rows)
+RiseOfSet =
+    (row : Row) (n : ℕ) (rows : List Row) → n ≤ row.address → RiseFrom n rows
+    → RiseFrom n (with_row row rows)
 
 -- a row that is set no earlier than the others were is the latest
 abbrev pub LatestOfSet : Type 0
-LatestOfSet = (row : Row) (rows : List Row) → latest_of rows ≤ row.changed → latest_of (with_row row rows) ≡ row.changed
+LatestOfSet =
+    (row : Row) (rows : List Row) → latest_of rows ≤ row.changed
+    → latest_of (with_row row rows) ≡ row.changed

@@ -4,7 +4,8 @@ use Rattle.std.specs.List.{filter}
 use Rattle.std.specs.Cmp.Lexicographic.{pointwise}
 use Rattle.kd_rows.specs.declared.row.Row.{Row}
 
--- the rows, a moment before which none of them ends, and for how many new addresses, at least, there is memory
+-- the rows, a moment before which none of them ends, and for how many new addresses, at least,
+-- there is memory
 pub record Table : Type 0 where
   pub rows : List Row
   pub least : ℕ
@@ -28,7 +29,8 @@ row_at (row ∷ rows) a = if row.address == a then Some row else row_at rows a
 abbrev pub with_row : Row → List Row → List Row
 with_row row [] = row ∷ []
 with_row row (r ∷ rows) =
-    if nat_lt row.address r.address then row ∷ r ∷ rows else if r.address == row.address then row ∷ rows else r ∷ with_row row rows
+    if nat_lt row.address r.address then row ∷ r ∷ rows else if r.address == row.address then row
+    ∷ rows else r ∷ with_row row rows
 
 -- the greatest moment at which a row was set, 0 without rows
 abbrev pub latest_of : List Row → ℕ
@@ -56,17 +58,22 @@ room_for_row table row = is_some (row_at table.rows row.address) || nat_lt 0 tab
 abbrev pub IsFirstGap : List Row → ℕ → ℕ → Option ℕ → Type 0
 IsFirstGap rows first last None = (a : ℕ) → first ≤ a → a ≤ last → IsSome (row_at rows a)
 IsFirstGap rows first last (Some gap) =
-    (first ≤ gap) × (gap ≤ last) × (row_at rows gap ≡ None) × ((a : ℕ) → first ≤ a → a < gap → IsSome (row_at rows a))
+    (first ≤ gap) × (gap ≤ last) × (row_at rows gap ≡ None)
+    × ((a : ℕ) → first ≤ a → a < gap → IsSome (row_at rows a))
 
 -- the row of the least address from a on, or that there is none
 abbrev pub IsNext : List Row → ℕ → Option Row → Type 0
 IsNext rows a None = (b : ℕ) → a ≤ b → row_at rows b ≡ None
 IsNext rows a (Some row) =
-    (row_at rows row.address ≡ Some row) × (a ≤ row.address) × ((b : ℕ) → a ≤ b → b < row.address → row_at rows b ≡ None)
+    (row_at rows row.address ≡ Some row) × (a ≤ row.address)
+    × ((b : ℕ) → a ≤ b → b < row.address → row_at rows b ≡ None)
 
 -- the row of the least address from first to last that has ended by a moment, or that there is none
 abbrev pub IsNextEnded : List Row → ℕ → ℕ → ℕ → Option Row → Type 0
-IsNextEnded rows first last moment None = (a : ℕ) (row : Row) → first ≤ a → a ≤ last → row_at rows a ≡ Some row → moment < row.ends
+IsNextEnded rows first last moment None =
+    (a : ℕ) (row : Row) → first ≤ a → a ≤ last → row_at rows a ≡ Some row → moment < row.ends
 IsNextEnded rows first last moment (Some row) =
-    (row_at rows row.address ≡ Some row) × (first ≤ row.address) × (row.address ≤ last) × (row.ends ≤ moment)
-    × ((a : ℕ) (other : Row) → first ≤ a → a < row.address → row_at rows a ≡ Some other → moment < other.ends)
+    (row_at rows row.address ≡ Some row) × (first ≤ row.address) × (row.address ≤ last)
+    × (row.ends ≤ moment)
+    × ((a : ℕ) (other : Row) → first ≤ a → a < row.address → row_at rows a ≡ Some other
+    → moment < other.ends)

@@ -35,7 +35,11 @@ impl Model for Blocks {
 
     ghost Value = { Bounds };
 
-    ghost view = { λ s. record { rows = map bound_row s.bounds.items; room = vec_capacity s.bounds - vec_len s.bounds } };
+    ghost view = { λ s. record {
+      rows = map bound_row s.bounds.items;
+      room = vec_capacity s.bounds - vec_len
+          s.bounds;
+    } };
 }
 
 impl Blocks {
@@ -114,7 +118,8 @@ impl Blocks {
         requires rise { Rise self.old.rows }
         requires room { row_at self.old.rows bound.block ≡ None → 0 < self.old.room }
         ensures rows { self.new.rows ≡ with_row (bound_row bound) self.old.rows }
-        ensures room { self.new.room + (if is_some (row_at self.old.rows bound.block) then 0 else 1) ≡ self.old.room }
+        ensures room { self.new.room + (if is_some (row_at self.old.rows bound.block) then 0 else 1)
+            ≡ self.old.room }
     {
         let place = self.place_of(bound.block);
         if place < self.len() && self.at(place).block == bound.block {

@@ -46,7 +46,9 @@ fn key_of(row: &Row, number: usize) -> (&[u8], u32, u32)
 // The keys of rows, each with the number of its row.
 fn keys_of(rows: &Vec<Row>) -> Result<Vec<(&[u8], u32, u32)>, AllocError>
     requires { Rise rows.now.items }
-    ensures { IfOk result (λ keys. AreKeys (λ x. (x.0.now, x.1)) (λ x. x.2) rows.now.items (length rows.now.items) keys.items) }
+    ensures { IfOk result
+        (λ keys. AreKeys (λ x. (x.0.now, x.1)) (λ x. x.2) rows.now.items
+        (length rows.now.items) keys.items) }
 {
     let mut keys = Vec::new(*rows.allocator());
     keys.reserve_exact(rows.len())?;

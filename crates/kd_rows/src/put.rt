@@ -14,7 +14,8 @@ pub(crate) fn put_row(rows: &mut Sorted, row: Row)
     requires room { row_at rows.old.rows row.address ≡ None → 0 < rows.old.room }
     ensures rows { rows.new.rows ≡ with_row row rows.old.rows }
     ensures indexed { IsIndex rows.new.rows rows.new.index }
-    ensures room { rows.new.room + (if is_some (row_at rows.old.rows row.address) then 0 else 1) ≡ rows.old.room }
+    ensures room { rows.new.room + (if is_some (row_at rows.old.rows row.address) then 0 else 1)
+        ≡ rows.old.room }
 {
     match find(rows, row.address) {
         Some(place) => {
@@ -37,7 +38,8 @@ fn give_client(rows: &mut Sorted, place: usize, client: &[u8], address: u32)
     requires indexed { IsIndex rows.old.rows rows.old.index }
     requires at { IsRowPlace rows.old.rows address place }
     ensures rows { rows.new.rows ≡ rows.old.rows }
-    ensures moved { Moves (key_at rows.old.rows) rows.old.index (client.now, address) rows.new.index }
+    ensures moved { Moves (key_at rows.old.rows) rows.old.index
+        (client.now, address) rows.new.index }
     ensures room { rows.new.room ≡ rows.old.room }
 {
     let from = key_place(rows, rows.row(place).client.as_slice(), address);

@@ -32,7 +32,8 @@ impl State {
 
     /// The state that a number stands for.
     pub fn of_number(number: u8) -> Option<State>
-        ensures { MatchOption result ((s : State) → state_number s ≢ number) (λ s. state_number s ≡ number) }
+        ensures { MatchOption result ((s : State) → state_number s ≢ number)
+            (λ s. state_number s ≡ number) }
     {
         match number {
             1 => Some(State::Offered),

@@ -36,7 +36,8 @@ impl Model for Rows {
 
     ghost view = { λ t. record { rows = t.rows.rows; least = t.least; room = t.room } };
 
-    ghost invariant = { λ t. IsKept t.rows.rows t.latest t.least t.rows.index t.blocks.rows t.room (min t.rows.room t.blocks.room) };
+    ghost invariant = { λ t. IsKept t.rows.rows t.latest t.least t.rows.index t.blocks.rows t.room
+        (min t.rows.room t.blocks.room) };
 }
 
 impl Rows {
@@ -124,7 +125,8 @@ impl Rows {
         self.latest
     }
 
-    /// A moment before which no row ends: of the rows at first, and of each that was set, the least end.
+    /// A moment before which no row ends: of the rows at first, and of each that was set, the least
+    /// end.
     pub fn least_end(&self) -> u64
         ensures least { result ≡ self.now.least }
         ensures bound { All (λ row. result ≤ row.ends) self.now.rows }
@@ -198,7 +200,8 @@ impl Rows {
         requires range { IsInRange row }
         ensures rows { self.new.rows ≡ with_row row self.old.rows }
         ensures least { self.new.least ≡ min self.old.least row.ends }
-        ensures room { self.new.room ≡ self.old.room - (if is_some (row_at self.old.rows row.address) then 0 else 1) }
+        ensures room { self.new.room
+            ≡ self.old.room - (if is_some (row_at self.old.rows row.address) then 0 else 1) }
     {
         let address = row.address;
         let block = block_of(address);

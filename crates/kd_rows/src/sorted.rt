@@ -26,7 +26,14 @@ impl Model for Sorted {
 
     ghost Value = { Ordered };
 
-    ghost view = { λ s. record { rows = rows_in s.slots.items s.by_address.items; index = addresses_in s.slots.items s.by_client.items; room = min (vec_capacity s.slots - vec_len s.slots) (min (vec_capacity s.by_address - vec_len s.by_address) (vec_capacity s.by_client - vec_len s.by_client)) } };
+    ghost view = { λ s. record {
+      rows = rows_in s.slots.items s.by_address.items;
+      index = addresses_in
+          s.slots.items s.by_client.items;
+      room = min (vec_capacity s.slots - vec_len s.slots)
+          (min (vec_capacity s.by_address - vec_len s.by_address)
+          (vec_capacity s.by_client - vec_len s.by_client));
+    } };
 
     ghost invariant = { λ s. IsStored s.slots.items s.by_address.items s.by_client.items };
 }
@@ -143,7 +150,8 @@ impl Sorted {
         requires from { from < length self.old.index }
         requires to { to < length self.old.index }
         ensures rows { self.new.rows ≡ self.old.rows }
-        ensures index { self.new.index ≡ insert (remove self.old.index from) to (slice_index self.old.index from) }
+        ensures index { self.new.index
+            ≡ insert (remove self.old.index from) to (slice_index self.old.index from) }
         ensures room { self.new.room ≡ self.old.room }
     {
         let number = self.by_client.remove(from);

@@ -1,7 +1,8 @@
 use kd_event::Reason;
 use kd_rows::State;
 
-/// A message: the moment, the last byte of its client's hardware address, its options behind the cookie, and ciaddr.
+/// A message: the moment, the last byte of its client's hardware address, its options after the
+/// cookie, and ciaddr.
 pub(crate) type Sent = (u64, u8, &'static [u8], u32);
 
 /// What comes back: the type of a reply and its yiaddr; or the reason for which there is none.
@@ -11,10 +12,11 @@ pub(crate) enum Got {
     Quiet(Reason),
 }
 
-/// A row: its address, the last byte of its client's hardware address, its state, when it was set, when it ends.
+/// A row: its address, the last byte of its client's hardware address, its state, when it was set,
+/// when it ends.
 pub(crate) type Lease = (u32, u8, State, u64, u64);
 
-/// A message, what comes back for it, and the table behind it.
+/// A message, what comes back for it, and the table after it.
 pub(crate) type Step = (Sent, Got, &'static [Lease]);
 
 /// A day: the configuration of its server, and its steps.
@@ -34,7 +36,8 @@ const OF_ONE: &[u8] =
     b"{\"Dhcp4\":{\"server-address\":\"192.0.2.1\",\"valid-lifetime\":3600,\"subnet4\":[\
     {\"subnet\":\"192.0.2.0/24\",\"pools\":[{\"pool\":\"192.0.2.10 - 192.0.2.10\"}]}]}}";
 
-// Options of a message. A REQUEST that selects .10 of this server, or that says nothing but that it is one.
+// Options of a message. A REQUEST that selects .10 of this server, or that says nothing but that it
+// is one.
 const DISCOVER: &[u8] = b"\x35\x01\x01\xff";
 
 const SELECT: &[u8] = b"\x35\x01\x03\x36\x04\xc0\x00\x02\x01\x32\x04\xc0\x00\x02\x0a\xff";
@@ -129,7 +132,7 @@ pub(crate) const SHARED: Day = (
     ],
 );
 
-/// A lease that was acknowledged before the stop, and another client behind it.
+/// A lease that was acknowledged before the stop, and another client after it.
 pub(crate) const NEXT: Day = (
     OF_TWO,
     &[

@@ -21,8 +21,8 @@ pub(crate) enum Loss {
     Nothing,
     /// None of them.
     All,
-    /// Those of every second sector, the first of them left: writes are torn, and a later one is there without an
-    /// earlier one.
+    /// Those of every second sector, the first of them left: writes are torn, and a later one is
+    /// there without an earlier one.
     OddSectors,
     /// The same, the second of them left.
     EvenSectors,
@@ -95,7 +95,7 @@ pub(crate) fn left_of(alloc: Global, files: Files<Device>) -> Result<Left, Alloc
     })
 }
 
-// The byte at a place, and 0 behind the end.
+// The byte at a place, and 0 after the end.
 fn byte_at(bytes: &[u8], at: usize) -> u8 {
     match bytes.get(at) {
         Some(byte) => *byte,

@@ -1,6 +1,7 @@
-//! Tests of a whole server over files whose device stops: short days of a few clients, stopped at each call of the log
-//! and of the database, upwards until there is no stop. Each stop is followed by what it may leave of the writes that
-//! were not synced, a server that is opened on that, and the rest of the day.
+//! Tests of a whole server over files whose device stops: short days of a few clients, stopped at
+//! each call of the log and of the database, upwards until there is no stop. Each stop is followed
+//! by what it may leave of the writes that were not synced, a server that is opened on that, and
+//! the rest of the day.
 //!
 //! They are a crate of their own since a crate is proved once more with its tests.
 #![tactic(auto)]

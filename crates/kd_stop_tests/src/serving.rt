@@ -18,8 +18,8 @@ const PORTS: Ports = Ports {
     client: 68,
 };
 
-// How the database is kept: with few pages in memory, and a log that goes into the database file after each few
-// commits, so that this one is written too.
+// How the database is kept: with few pages in memory, and a log that goes into the database file
+// after each few commits, so that this one is written too.
 fn options() -> Options {
     Options {
         cache_pages: 8,
@@ -105,7 +105,7 @@ fn datagram(alloc: Global, message: Sent) -> Result<Vec<u8>, AllocError> {
     Ok(bytes)
 }
 
-// The byte at a place, and 0 behind the end.
+// The byte at a place, and 0 after the end.
 fn byte_at(bytes: &[u8], at: usize) -> u8 {
     match bytes.get(at) {
         Some(byte) => *byte,
@@ -113,7 +113,8 @@ fn byte_at(bytes: &[u8], at: usize) -> u8 {
     }
 }
 
-// What a response is: of a reply its type, the byte behind the cookie and two more, and yiaddr, its bytes 16 to 19.
+// What a response is: of a reply its type, the byte after the cookie and two more, and yiaddr, its
+// bytes 16 to 19.
 fn received(response: &Response) -> Got {
     match response {
         Response::Quiet(reason) => Got::Quiet(*reason),

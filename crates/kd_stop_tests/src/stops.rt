@@ -15,7 +15,7 @@ enum End {
     Unopened,
     // At the step with this number, which was not answered.
     At(usize),
-    // Behind its last step.
+    // After its last step.
     Whole,
 }
 
@@ -34,13 +34,14 @@ fn answered(stopped: Stopped, calls: u64) -> (u64, u64) {
     }
 }
 
-// What comes back is what was worked out. A RELEASE that is sent again may have done its work before.
+// What comes back is what was worked out. A RELEASE that is sent again may have done its work
+// before.
 fn is_right(got: Got, want: Got, again: bool) -> bool {
     got == want
         || (again && want == Got::Quiet(Reason::Released) && got == Got::Quiet(Reason::NotHeld))
 }
 
-// It is a fault of the store, and Failed is all that comes behind it.
+// It is a fault of the store, and Failed is all that comes after it.
 fn is_stop(alloc: Global, server: &mut Serving, fault: ServeFault) -> bool {
     matches!(fault, ServeFault::Store(_))
         && matches!(sent(alloc, server, INFORMED), Err(ServeFault::Failed))
@@ -66,7 +67,8 @@ fn is_answered(alloc: Global, server: &mut Serving, step: Step, again: bool) -> 
     }
 }
 
-// Sends the steps of a day from one on, which may have been sent before, up to the first that stops.
+// Sends the steps of a day from one on, which may have been sent before, up to the first that
+// stops.
 fn sent_from(
     alloc: Global,
     server: &mut Serving,
@@ -81,7 +83,8 @@ fn sent_from(
     Ok(End::Whole)
 }
 
-// The steps of a day from one on, over files, up to the first that stops: where that is, and the files.
+// The steps of a day from one on, over files, up to the first that stops: where that is, and the
+// files.
 fn day_over(
     alloc: Global,
     day: Day,
@@ -115,8 +118,8 @@ fn table_before(steps: &[Step], at: usize) -> &'static [Lease] {
     steps[at - 1].2
 }
 
-// The server stands at the table from before the step that stopped, or at the one behind it. In the table from before
-// stands the row of each reply that was handed out.
+// The server stands at the table from before the step that stopped, or at the one after it. In the
+// table from before stands the row of each reply that was handed out.
 fn is_beside(server: &Serving, steps: &[Step], end: End) -> Result<bool, Fail> {
     let next = next_of(end, steps);
     if stands_at(server, table_before(steps, next))? {
@@ -125,7 +128,8 @@ fn is_beside(server: &Serving, steps: &[Step], end: End) -> Result<bool, Fail> {
     Ok(end == End::At(next) && next < steps.len() && stands_at(server, steps[next].2)?)
 }
 
-// With what a loss leaves of the files, the day goes on from the step that stopped, and ends as it was worked out.
+// With what a loss leaves of the files, the day goes on from the step that stopped, and ends as it
+// was worked out.
 fn goes_on(alloc: Global, day: Day, left: &Left, loss: Loss, end: End) -> Result<(), Fail> {
     let (config, steps) = day;
     let files = files_left(alloc, left, loss, (u64::MAX, u64::MAX))?;
@@ -141,7 +145,8 @@ fn goes_on(alloc: Global, day: Day, left: &Left, loss: Loss, end: End) -> Result
     Ok(())
 }
 
-// Stops a file at each call, upwards until the day is whole: how many stops there were, and at how many places.
+// Stops a file at each call, upwards until the day is whole: how many stops there were, and at how
+// many places.
 fn stops(alloc: Global, day: Day, stopped: Stopped) -> Result<(u64, usize), Fail> {
     let (mut last, mut places) = (End::Whole, 0usize);
     for calls in 0..1000u64 {
@@ -194,7 +199,8 @@ fn a_stop_of_the_database_leaves_the_table_before_or_behind(rt: HostRuntime) -> 
     Ok(())
 }
 
-// What is left of a day that stopped is opened on a device that stops again, at each call, and the day goes on.
+// What is left of a day that stopped is opened on a device that stops again, at each call, and the
+// day goes on.
 fn stops_again(alloc: Global, day: Day, left: &Left, end: End) -> Result<u64, Fail> {
     let from = next_of(end, day.1);
     for calls in 0..1000u64 {

@@ -10,4 +10,6 @@ pub record Kept (S : Type 0) : Type 0 where
 
 -- the same as a pair, by which the toolchain stores it
 abbrev pub kept_code : {S : Type 0} → Coded S → Coded (Kept S)
-kept_code {S} store = code_by (Held S × Bool) (coded× (held_code store) coded_bool) (λ k. (k.conn, k.failed)) (λ p. record { conn = p.0; failed = p.1 }) (λ _. refl)
+kept_code {S} store =
+    code_by (Held S × Bool) (coded× (held_code store) coded_bool) (λ k. (k.conn, k.failed))
+    (λ p. record { conn = p.0; failed = p.1 }) (λ _. refl)

@@ -13,11 +13,13 @@ use Rattle.kd_rows.specs.Row.{state_number}
 
 -- makes the table where there is none
 abbrev pub make_text : List ℕ
-make_text = codes "CREATE TABLE IF NOT EXISTS lease (address INTEGER PRIMARY KEY CHECK (address BETWEEN 0 AND 4294967295), client BLOB NOT NULL, state INTEGER NOT NULL CHECK (state BETWEEN 1 AND 4), changed INTEGER NOT NULL CHECK (changed BETWEEN 0 AND 1099511627775), ends INTEGER NOT NULL CHECK (ends BETWEEN changed AND changed + 2147483647)) STRICT"
+make_text =
+    codes "CREATE TABLE IF NOT EXISTS lease (address INTEGER PRIMARY KEY CHECK (address BETWEEN 0 AND 4294967295), client BLOB NOT NULL, state INTEGER NOT NULL CHECK (state BETWEEN 1 AND 4), changed INTEGER NOT NULL CHECK (changed BETWEEN 0 AND 1099511627775), ends INTEGER NOT NULL CHECK (ends BETWEEN changed AND changed + 2147483647)) STRICT"
 
 -- sets a row, in place of the one of its address or as a new one
 abbrev pub put_text : List ℕ
-put_text = codes "INSERT INTO lease (address, client, state, changed, ends) VALUES (?1, ?2, ?3, ?4, ?5) ON CONFLICT (address) DO UPDATE SET client = excluded.client, state = excluded.state, changed = excluded.changed, ends = excluded.ends"
+put_text =
+    codes "INSERT INTO lease (address, client, state, changed, ends) VALUES (?1, ?2, ?3, ?4, ?5) ON CONFLICT (address) DO UPDATE SET client = excluded.client, state = excluded.state, changed = excluded.changed, ends = excluded.ends"
 
 -- all rows, in rising address
 abbrev pub rows_text : List ℕ
@@ -37,11 +39,50 @@ abbrev pub lease : Table
 lease = record {
   name = codes "lease";
   tree = 0;
-  columns = (record { name = codes "address"; kind = Integer; is_strict = true; not_null = false; default = Null; collation = Binary })
-      ∷ (record { name = codes "client"; kind = Blob; is_strict = true; not_null = true; default = Null; collation = Binary })
-      ∷ (record { name = codes "state"; kind = Integer; is_strict = true; not_null = true; default = Null; collation = Binary })
-      ∷ (record { name = codes "changed"; kind = Integer; is_strict = true; not_null = true; default = Null; collation = Binary })
-      ∷ (record { name = codes "ends"; kind = Integer; is_strict = true; not_null = true; default = Null; collation = Binary }) ∷ [];
+  columns =
+      (record {
+        name = codes "address";
+        kind = Integer;
+        is_strict = true;
+        not_null = false;
+        default = Null;
+        collation = Binary;
+      })
+      ∷ (record {
+        name = codes "client";
+        kind = Blob;
+        is_strict = true;
+        not_null = true;
+        default =
+            Null;
+        collation = Binary;
+      })
+      ∷ (record {
+        name = codes "state";
+        kind = Integer;
+        is_strict = true;
+        not_null = true;
+        default =
+            Null;
+        collation = Binary;
+      })
+      ∷ (record {
+        name = codes "changed";
+        kind = Integer;
+        is_strict = true;
+        not_null = true;
+        default = Null;
+        collation = Binary;
+      })
+      ∷ (record {
+        name = codes "ends";
+        kind = Integer;
+        is_strict = true;
+        not_null = true;
+        default =
+            Null;
+        collation = Binary;
+      }) ∷ [];
   key = Some 0;
   primary = 0 ∷ [];
   uniques = [];
@@ -63,4 +104,6 @@ no_schema = record { tables = []; indexes = []; views = [] }
 
 -- the columns of a row: address, client, state, changed, ends
 abbrev pub columns_of : Row → Columns
-columns_of row = Int (pos row.address) ∷ Bytes row.client ∷ Int (pos (state_number row.state)) ∷ Int (pos row.changed) ∷ Int (pos row.ends) ∷ []
+columns_of row =
+    Int (pos row.address) ∷ Bytes row.client ∷ Int (pos (state_number row.state))
+    ∷ Int (pos row.changed) ∷ Int (pos row.ends) ∷ []

@@ -1,4 +1,5 @@
--- The columns of a row that a query shows, why it is not read, what reading the rows one at a time gives, and a connection that is ready for a query: words of private contracts alone.
+-- The columns of a row that a query shows, why it is not read, what reading the rows one at a time
+-- gives, and a connection that is ready for a query: words of private contracts alone.
 use Rattle.std.specs.Prelude.{◌≡◌, ◌⊎◌, false, List, [], ◌∷◌, ◌++◌, map, Option, Some, None, IsTrue}
 use Rattle.sqlite.specs.Order.{Row as Columns, column}
 use Rattle.sqlite.specs.State.{State, IsUnchanged, Shown, FailsToQuery}
@@ -22,20 +23,26 @@ first_five c = column c 0 ∷ column c 1 ∷ column c 2 ∷ column c 3 ∷ colum
 abbrev pub IsUnreadRow : StoreFault → Type 0
 IsUnreadRow fault = (fault ≡ Schema) ⊎ (fault ≡ Sql OutOfMemory)
 
--- why rows are not read: one of them is not, and nothing has changed, or the query failed with the error of that fault
+-- why rows are not read: one of them is not, and nothing has changed, or the query failed with the
+-- error of that fault
 abbrev pub AreUnread : State → State → StoreFault → Type 0
 AreUnread old new fault =
-    (IsUnreadRow fault × IsUnchanged old new) ⊎ ((error : Error) × (fault ≡ store_fault error) × FailsToQuery rows_text [] old new error)
+    (IsUnreadRow fault × IsUnchanged old new)
+    ⊎ ((error : Error) × (fault ≡ store_fault error) × FailsToQuery rows_text [] old new error)
 
 -- after the rows that it gave, the query gives one more, which is read, or those were its answer
 abbrev pub GoesOn : {S : Type 0} → Ghosts S → Held S → Held S → List Columns → Option Row → Type 0
 GoesOn g old new given (Some row) =
-    (shown : Columns) × (columns_of row ≡ first_five shown) × HasGiven g rows_text [] new (given ++ shown ∷ []) × IsUnchanged (state g old) (state g new)
+    (shown : Columns) × (columns_of row ≡ first_five shown)
+    × HasGiven g rows_text [] new (given ++ shown ∷ [])
+    × IsUnchanged (state g old) (state g new)
 GoesOn g old new given None = Shown rows_text [] (state g old) (state g new) given
 
 -- the query's answer is the columns of these rows
 abbrev pub AreShown : State → State → List Row → Type 0
-AreShown old new rows = (shown : List Columns) × Shown rows_text [] old new shown × (map columns_of rows ≡ map first_five shown)
+AreShown old new rows =
+    (shown : List Columns) × Shown rows_text [] old new shown
+    × (map columns_of rows ≡ map first_five shown)
 
 -- a connection is open, in no transaction, and what it has committed is a database with our schema
 pub record IsReady (s : State) : Type 0 where

@@ -28,15 +28,18 @@ pub fn put_both<S: Alter>(store: &mut Store<S>, first: &Row, second: &Row) -> Re
     requires ready { store.old.failed ≡ false }
     requires first { IsInRange first.now }
     requires second { IsInRange second.now }
-    ensures put { HasCleanDisk (state S.Store store.new.conn) → (table : List LeaseRow) → Stands (state S.Store store.old.conn) table → OnOk result (Stands (state S.Store store.new.conn) (with_row second.now (with_row first.now table))) }
+    ensures put { HasCleanDisk (state S.Store store.new.conn) → (table : List LeaseRow)
+        → Stands (state S.Store store.old.conn) table
+        → OnOk result (Stands (state S.Store store.new.conn)
+        (with_row second.now (with_row first.now table))) }
     ensures failed { store.new.failed ≡ is_err result }
 {
     store.put(first)?;
     store.put(second)
 }
 
-/// Two rows in a new database in memory, read back. There the disk is clean by itself, so that nothing
-/// is supposed.
+/// Two rows in a new database in memory, read back. There the disk is clean by itself, so that
+/// nothing is supposed.
 ///
 /// # Errors
 ///
@@ -59,14 +62,15 @@ pub fn in_memory(alloc: Global, first: &Row, second: &Row) -> Result<Vec<Row>, S
 
 /// What a connection is over, let go: a crash leaves of it what it leaves of the connection.
 pub fn let_go<S: Alter + Drop>(conn: Connection<S>) -> S
-    ensures { IsClean (S.Store.view result) → (before after : List LeaseRow) → Leaves (state S.Store conn) before after → LetGo S.Store result before after }
+    ensures { IsClean (S.Store.view result) → (before after : List LeaseRow)
+        → Leaves (state S.Store conn) before after → LetGo S.Store result before after }
 {
     conn.into_store()
 }
 
-/// A connection that is opened on what a crash left of a file has our schema, so that a store stands at
-/// the table that it finds; and that is the table from before the last call or the one after it, and no
-/// other. The function does nothing: its contract is the law.
+/// A connection that is opened on what a crash left of a file has our schema, so that a store
+/// stands at the table that it finds; and that is the table from before the last call or the one
+/// after it, and no other. The function does nothing: its contract is the law.
 pub fn reopens<D: Disk, E: Disk>()
     ensures { Reopens D.Disk E.Disk }
 {}
@@ -76,8 +80,8 @@ pub fn stands_once<E: Disk>()
     ensures { StandsOnce E.Disk }
 {}
 
-/// The store over a connection. Where that was opened on what a crash left of such a file, the store stands at
-/// the table from before the last call or at the one after it.
+/// The store over a connection. Where that was opened on what a crash left of such a file, the
+/// store stands at the table from before the last call or at the one after it.
 ///
 /// # Errors
 ///

@@ -30,17 +30,34 @@ const PUT: &str =
 
 const ROWS: &str = "SELECT address, client, state, changed, ends FROM lease ORDER BY address";
 
-// Makes the table where there is none. The two questions before it tell what the connection keeps true
-// of itself: the database obeys its schema, and what it shows outside a transaction is committed.
+// Makes the table where there is none. The two questions before it tell what the connection keeps
+// true of itself: the database obeys its schema, and what it shows outside a transaction is
+// committed.
 pub(crate) fn make<S: Alter>(conn: &mut Connection<S>) -> Result<(), StoreFault>
     requires { (state S.Store conn.old).in_transaction ≡ false }
-    ensures clean { doubt (state S.Store conn.old).is_clean ≤ doubt (state S.Store conn.new).is_clean }
-    ensures made { HasCleanDisk (state S.Store conn.new) → (state S.Store conn.old).now.schema ≡ no_schema → OnOk result (Stands (state S.Store conn.new) []) }
-    ensures same { HasCleanDisk (state S.Store conn.new) → (state S.Store conn.old).now.schema ≡ lease_schema → OnOk result (IsReady (state S.Store conn.new) × IsUnchanged (state S.Store conn.old) (state S.Store conn.new)) }
-    ensures table { HasCleanDisk (state S.Store conn.new) → (table : List LeaseRow) → Finds (state S.Store conn.old) table → OnOk result (Stands (state S.Store conn.new) table) }
-    ensures fault { HasCleanDisk (state S.Store conn.new) → (table : List LeaseRow) → Finds (state S.Store conn.old) table → OnErr result (IsTrue (state S.Store conn.new).is_open → Finds (state S.Store conn.new) table) }
-    ensures told { HasCleanDisk (state S.Store conn.new) → IfErr result (λ fault. (error : Error) × (fault ≡ store_fault error) × Executes make_text [] (state S.Store conn.old) (state S.Store conn.new) (Err error)) }
-    ensures crash { HasCleanDisk (state S.Store conn.new) → (table : List LeaseRow) → Finds (state S.Store conn.old) table → (db : Trees) → (state S.Store conn.new).may_leave db → (state S.Store conn.old).may_leave db ⊎ Holds db table }
+    ensures clean { doubt (state S.Store conn.old).is_clean
+        ≤ doubt (state S.Store conn.new).is_clean }
+    ensures made { HasCleanDisk (state S.Store conn.new)
+        → (state S.Store conn.old).now.schema ≡ no_schema
+        → OnOk result (Stands (state S.Store conn.new) []) }
+    ensures same { HasCleanDisk (state S.Store conn.new)
+        → (state S.Store conn.old).now.schema ≡ lease_schema
+        → OnOk result (IsReady (state S.Store conn.new)
+        × IsUnchanged (state S.Store conn.old) (state S.Store conn.new)) }
+    ensures table { HasCleanDisk (state S.Store conn.new) → (table : List LeaseRow)
+        → Finds (state S.Store conn.old) table
+        → OnOk result (Stands (state S.Store conn.new) table) }
+    ensures fault { HasCleanDisk (state S.Store conn.new) → (table : List LeaseRow)
+        → Finds (state S.Store conn.old) table
+        → OnErr result (IsTrue (state S.Store conn.new).is_open
+        → Finds (state S.Store conn.new) table) }
+    ensures told { HasCleanDisk (state S.Store conn.new)
+        → IfErr result (λ fault. (error : Error) × (fault ≡ store_fault error)
+        × Executes make_text [] (state S.Store conn.old) (state S.Store conn.new) (Err error)) }
+    ensures crash { HasCleanDisk (state S.Store conn.new) → (table : List LeaseRow)
+        → Finds (state S.Store conn.old) table → (db : Trees)
+        → (state S.Store conn.new).may_leave db → (state S.Store conn.old).may_leave db
+        ⊎ Holds db table }
 {
     let _idle = conn.is_autocommit();
     let _schema = conn.schema();
@@ -61,8 +78,11 @@ fn signed(n: u64) -> i64
 // The statement that sets a row, with its parameters.
 fn execute_put<S: Alter>(conn: &mut Connection<S>, row: &Row) -> Result<usize, Error>
     requires { IsInRange row.now }
-    ensures runs { HasCleanDisk (state S.Store conn.new) → Executes put_text (columns_of row.now) (state S.Store conn.old) (state S.Store conn.new) result }
-    ensures survives { Survives (state S.Store conn.old) (state S.Store conn.new) (CommitsBy put_text (columns_of row.now) (state S.Store conn.old)) }
+    ensures runs { HasCleanDisk (state S.Store conn.new)
+        → Executes put_text (columns_of row.now) (state S.Store conn.old)
+        (state S.Store conn.new) result }
+    ensures survives { Survives (state S.Store conn.old) (state S.Store conn.new)
+        (CommitsBy put_text (columns_of row.now) (state S.Store conn.old)) }
 {
     let number = u32::from(row.state.number());
     let changed = signed(row.changed);
@@ -76,11 +96,22 @@ fn execute_put<S: Alter>(conn: &mut Connection<S>, row: &Row) -> Result<usize, E
 // Sets a row, in one statement and one commit.
 pub(crate) fn put<S: Alter>(conn: &mut Connection<S>, row: &Row) -> Result<(), StoreFault>
     requires { IsInRange row.now }
-    ensures clean { doubt (state S.Store conn.old).is_clean ≤ doubt (state S.Store conn.new).is_clean }
-    ensures put { HasCleanDisk (state S.Store conn.new) → (table : List LeaseRow) → Stands (state S.Store conn.old) table → OnOk result (Stands (state S.Store conn.new) (with_row row.now table)) }
-    ensures fault { HasCleanDisk (state S.Store conn.new) → (table : List LeaseRow) → Stands (state S.Store conn.old) table → OnErr result (IsTrue (state S.Store conn.new).is_open → Stands (state S.Store conn.new) table) }
-    ensures told { HasCleanDisk (state S.Store conn.new) → IfErr result (λ fault. (error : Error) × (fault ≡ store_fault error) × Executes put_text (columns_of row.now) (state S.Store conn.old) (state S.Store conn.new) (Err error)) }
-    ensures crash { HasCleanDisk (state S.Store conn.new) → (table : List LeaseRow) → Stands (state S.Store conn.old) table → Leaves (state S.Store conn.new) table (with_row row.now table) }
+    ensures clean { doubt (state S.Store conn.old).is_clean
+        ≤ doubt (state S.Store conn.new).is_clean }
+    ensures put { HasCleanDisk (state S.Store conn.new) → (table : List LeaseRow)
+        → Stands (state S.Store conn.old) table
+        → OnOk result (Stands (state S.Store conn.new) (with_row row.now table)) }
+    ensures fault { HasCleanDisk (state S.Store conn.new) → (table : List LeaseRow)
+        → Stands (state S.Store conn.old) table
+        → OnErr result (IsTrue (state S.Store conn.new).is_open
+        → Stands (state S.Store conn.new) table) }
+    ensures told { HasCleanDisk (state S.Store conn.new)
+        → IfErr result (λ fault. (error : Error) × (fault ≡ store_fault error)
+        × Executes put_text (columns_of row.now) (state S.Store conn.old)
+        (state S.Store conn.new) (Err error)) }
+    ensures crash { HasCleanDisk (state S.Store conn.new) → (table : List LeaseRow)
+        → Stands (state S.Store conn.old) table
+        → Leaves (state S.Store conn.new) table (with_row row.now table) }
 {
     match execute_put(conn, row) {
         Ok(_) => Ok(()),
@@ -91,11 +122,15 @@ pub(crate) fn put<S: Alter>(conn: &mut Connection<S>, row: &Row) -> Result<(), S
 // The next row that the query shows, or none at its end.
 fn next<S: Alter>(shown: &mut Rows<'_, S>) -> Result<Option<Row>, StoreFault>
     ensures same_reference { shown.new.conn.ghost_name ≡ shown.old.conn.ghost_name }
-    ensures survives { Survives (state S.Store shown.old.conn.now) (state S.Store shown.new.conn.now) (λ _. ⊥) }
-    ensures row { HasCleanDisk (state S.Store shown.new.conn.now) → (given : List Columns) → HasGiven S.Store rows_text [] shown.old.conn.now given
+    ensures survives { Survives (state S.Store shown.old.conn.now)
+        (state S.Store shown.new.conn.now) (λ _. ⊥) }
+    ensures row { HasCleanDisk (state S.Store shown.new.conn.now) → (given : List Columns)
+        → HasGiven S.Store rows_text [] shown.old.conn.now given
         → IfOk result (GoesOn S.Store shown.old.conn.now shown.new.conn.now given) }
-    ensures fault { HasCleanDisk (state S.Store shown.new.conn.now) → (given : List Columns) → HasGiven S.Store rows_text [] shown.old.conn.now given
-        → IfErr result (AreUnread (state S.Store shown.old.conn.now) (state S.Store shown.new.conn.now)) }
+    ensures fault { HasCleanDisk (state S.Store shown.new.conn.now) → (given : List Columns)
+        → HasGiven S.Store rows_text [] shown.old.conn.now given
+        → IfErr result (AreUnread (state S.Store shown.old.conn.now)
+        (state S.Store shown.new.conn.now)) }
     ensures range { IfOk result (λ row. IfSome row IsInRange) }
 {
     if let Err(error) = shown.advance() {
@@ -113,11 +148,18 @@ fn next<S: Alter>(shown: &mut Rows<'_, S>) -> Result<Option<Row>, StoreFault>
 // The rows that the query shows, where they rise in address and are in range.
 fn gather<S: Alter>(alloc: Global, shown: &mut Rows<'_, S>) -> Result<Vec<Row>, StoreFault>
     ensures same_reference { shown.new.conn.ghost_name ≡ shown.old.conn.ghost_name }
-    ensures survives { Survives (state S.Store shown.old.conn.now) (state S.Store shown.new.conn.now) (λ _. ⊥) }
-    ensures shown { HasCleanDisk (state S.Store shown.new.conn.now) → HasGiven S.Store rows_text [] shown.old.conn.now [] → IsTrue (state S.Store shown.old.conn.now).is_open
-        → IfOk result (λ rows. AreShown (state S.Store shown.old.conn.now) (state S.Store shown.new.conn.now) rows.items) }
-    ensures fault { HasCleanDisk (state S.Store shown.new.conn.now) → HasGiven S.Store rows_text [] shown.old.conn.now [] → IsTrue (state S.Store shown.old.conn.now).is_open
-        → IfErr result (AreUnread (state S.Store shown.old.conn.now) (state S.Store shown.new.conn.now)) }
+    ensures survives { Survives (state S.Store shown.old.conn.now)
+        (state S.Store shown.new.conn.now) (λ _. ⊥) }
+    ensures shown { HasCleanDisk (state S.Store shown.new.conn.now)
+        → HasGiven S.Store rows_text [] shown.old.conn.now []
+        → IsTrue (state S.Store shown.old.conn.now).is_open
+        → IfOk result (λ rows. AreShown (state S.Store shown.old.conn.now)
+        (state S.Store shown.new.conn.now) rows.items) }
+    ensures fault { HasCleanDisk (state S.Store shown.new.conn.now)
+        → HasGiven S.Store rows_text [] shown.old.conn.now []
+        → IsTrue (state S.Store shown.old.conn.now).is_open
+        → IfErr result (AreUnread (state S.Store shown.old.conn.now)
+        (state S.Store shown.new.conn.now)) }
     ensures rise { IfOk result (λ rows. Rise rows.items) }
     ensures ranges { IfOk result (λ rows. All IsInRange rows.items) }
 {
@@ -146,14 +188,27 @@ pub(crate) fn read<S: Alter>(
     alloc: Global,
     conn: &mut Connection<S>,
 ) -> Result<Vec<Row>, StoreFault>
-    ensures clean { doubt (state S.Store conn.old).is_clean ≤ doubt (state S.Store conn.new).is_clean }
+    ensures clean { doubt (state S.Store conn.old).is_clean
+        ≤ doubt (state S.Store conn.new).is_clean }
     ensures rise { IfOk result (λ rows. Rise rows.items) }
     ensures ranges { IfOk result (λ rows. All IsInRange rows.items) }
-    ensures found { HasCleanDisk (state S.Store conn.new) → IsReady (state S.Store conn.old) → IfOk result (λ rows. Stands (state S.Store conn.old) rows.items × Stands (state S.Store conn.new) rows.items) }
-    ensures rows { HasCleanDisk (state S.Store conn.new) → (table : List LeaseRow) → Stands (state S.Store conn.old) table → IfOk result (λ rows. (rows.items ≡ table) × Stands (state S.Store conn.new) table) }
-    ensures fault { HasCleanDisk (state S.Store conn.new) → (table : List LeaseRow) → Stands (state S.Store conn.old) table → OnErr result (IsTrue (state S.Store conn.new).is_open → Stands (state S.Store conn.new) table) }
-    ensures told { HasCleanDisk (state S.Store conn.new) → IfErr result (λ fault. IsUnreadRow fault ⊎ ((error : Error) × (fault ≡ store_fault error) × FailsToQuery rows_text [] (state S.Store conn.old) (state S.Store conn.new) error)) }
-    ensures crash { HasCleanDisk (state S.Store conn.new) → (table : List LeaseRow) → Stands (state S.Store conn.old) table → Leaves (state S.Store conn.new) table table }
+    ensures found { HasCleanDisk (state S.Store conn.new) → IsReady (state S.Store conn.old)
+        → IfOk result (λ rows. Stands (state S.Store conn.old) rows.items
+        × Stands (state S.Store conn.new) rows.items) }
+    ensures rows { HasCleanDisk (state S.Store conn.new) → (table : List LeaseRow)
+        → Stands (state S.Store conn.old) table
+        → IfOk result (λ rows. (rows.items ≡ table) × Stands (state S.Store conn.new) table) }
+    ensures fault { HasCleanDisk (state S.Store conn.new) → (table : List LeaseRow)
+        → Stands (state S.Store conn.old) table
+        → OnErr result (IsTrue (state S.Store conn.new).is_open
+        → Stands (state S.Store conn.new) table) }
+    ensures told { HasCleanDisk (state S.Store conn.new)
+        → IfErr result (λ fault. IsUnreadRow fault
+        ⊎ ((error : Error) × (fault ≡ store_fault error)
+        × FailsToQuery rows_text [] (state S.Store conn.old)
+        (state S.Store conn.new) error)) }
+    ensures crash { HasCleanDisk (state S.Store conn.new) → (table : List LeaseRow)
+        → Stands (state S.Store conn.old) table → Leaves (state S.Store conn.new) table table }
 {
     match conn.query(ROWS, &[]) {
         Ok(mut shown) => gather(alloc, &mut shown),

@@ -14,8 +14,8 @@ use sqlite::{Alter, Connection};
 use std::alloc::Global;
 use std::marker::Model;
 
-/// The table of leases in a database, over its connection. In a contract a store is a record: `conn`,
-/// what the connection shows, and `failed`.
+/// The table of leases in a database, over its connection. In a contract a store is a record:
+/// `conn`, what the connection shows, and `failed`.
 pub struct Store<S: Alter> {
     conn: Connection<S>,
     failed: bool,
@@ -44,26 +44,40 @@ impl<S: Alter> Model for Store<S> {
 }
 
 impl<S: Alter> Store<S> {
-    /// The store over a connection, at the table that its database holds. Where there is no table yet
-    /// an empty one is made, and a table that is there is never made anew.
+    /// The store over a connection, at the table that its database holds. Where there is no table
+    /// yet an empty one is made, and a table that is there is never made anew.
     ///
     /// # Errors
     ///
-    /// The database has a table `lease` that is not ours or a row out of range (`Schema`), or does not
-    /// answer (`Sql`). The connection comes back; while it is open it finds the table that it found
-    /// before. A table that was not there may have been made.
+    /// The database has a table `lease` that is not ours or a row out of range (`Schema`), or does
+    /// not answer (`Sql`). The connection comes back; while it is open it finds the table that it
+    /// found before. A table that was not there may have been made.
     pub fn open(
         alloc: Global,
         mut conn: Connection<S>,
     ) -> Result<Store<S>, (StoreFault, Connection<S>)>
         requires ready { (state S.Store conn).in_transaction ≡ false }
-        ensures clean { IfOk result (λ store. HasCleanDisk (state S.Store store.conn) → HasCleanDisk (state S.Store conn)) }
-        ensures err_clean { IfErr result (λ e. HasCleanDisk (state S.Store e.1) → HasCleanDisk (state S.Store conn)) }
-        ensures table { IfOk result (λ store. HasCleanDisk (state S.Store store.conn) → (table : List LeaseRow) → Finds (state S.Store conn) table → Stands (state S.Store store.conn) table) }
-        ensures stands { IfOk result (λ store. HasCleanDisk (state S.Store store.conn) → ((state S.Store conn).now.schema ≡ no_schema) ⊎ ((state S.Store conn).now.schema ≡ lease_schema)
-            → (table : List LeaseRow) × Finds (state S.Store conn) table × Stands (state S.Store store.conn) table) }
-        ensures fault { IfErr result (λ e. HasCleanDisk (state S.Store e.1) → (table : List LeaseRow) → Finds (state S.Store conn) table → IsTrue (state S.Store e.1).is_open → Finds (state S.Store e.1) table) }
-        ensures crash { IfErr result (λ e. HasCleanDisk (state S.Store e.1) → (table : List LeaseRow) → Finds (state S.Store conn) table → (db : Trees) → (state S.Store e.1).may_leave db → (state S.Store conn).may_leave db ⊎ Holds db table) }
+        ensures clean { IfOk result
+            (λ store. HasCleanDisk (state S.Store store.conn) → HasCleanDisk (state S.Store conn)) }
+        ensures err_clean { IfErr result
+            (λ e. HasCleanDisk (state S.Store e.1) → HasCleanDisk (state S.Store conn)) }
+        ensures table { IfOk result
+            (λ store. HasCleanDisk (state S.Store store.conn) → (table : List LeaseRow)
+            → Finds (state S.Store conn) table → Stands (state S.Store store.conn) table) }
+        ensures stands { IfOk result
+            (λ store. HasCleanDisk (state S.Store store.conn)
+            → ((state S.Store conn).now.schema ≡ no_schema)
+            ⊎ ((state S.Store conn).now.schema ≡ lease_schema)
+            → (table : List LeaseRow) × Finds (state S.Store conn) table
+            × Stands (state S.Store store.conn) table) }
+        ensures fault { IfErr result
+            (λ e. HasCleanDisk (state S.Store e.1) → (table : List LeaseRow)
+            → Finds (state S.Store conn) table → IsTrue (state S.Store e.1).is_open
+            → Finds (state S.Store e.1) table) }
+        ensures crash { IfErr result
+            (λ e. HasCleanDisk (state S.Store e.1) → (table : List LeaseRow)
+            → Finds (state S.Store conn) table → (db : Trees) → (state S.Store e.1).may_leave db
+            → (state S.Store conn).may_leave db ⊎ Holds db table) }
         ensures failed { IfOk result (λ store. store.failed ≡ false) }
     {
         if let Err(fault) = make(&mut conn) {

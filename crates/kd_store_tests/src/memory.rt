@@ -123,7 +123,8 @@ fn count(conn: &mut Connection<MemStore>) -> Result<i64, Error> {
     conn.query_row("SELECT count(*) FROM lease", &[])?.get(0)
 }
 
-// The fault with which a connection is refused, and how many rows the table has over the connection that comes back.
+// The fault with which a connection is refused, and how many rows the table has over the connection
+// that comes back.
 fn refused(alloc: Global, conn: Connection<MemStore>) -> Result<(StoreFault, i64), Fail> {
     if !conn.is_autocommit() {
         return Err("the connection is in a transaction".into());
@@ -172,8 +173,8 @@ fn two(alloc: Global) -> Result<usize, StoreFault> {
     Ok(in_memory(alloc, &first, &second)?.len())
 }
 
-// With a refused request for memory the answer is want of it; the same calls made again give what they give with
-// ample memory.
+// With a refused request for memory the answer is want of it; the same calls made again give what
+// they give with ample memory.
 #[test]
 fn want_of_memory_is_answered_as_such(rt: HostRuntime) -> Result<(), Fail> {
     match two(rt.alloc()) {

@@ -81,7 +81,8 @@ fn are_read(store: &mut Stored) -> bool {
     store.rows().is_ok()
 }
 
-// How many calls are answered up to the first fault, with the one that opened the store: puts and reads twice.
+// How many calls are answered up to the first fault, with the one that opened the store: puts and
+// reads twice.
 fn answered(alloc: Global, store: &mut Stored) -> Result<usize, Fail> {
     if !is_put(alloc, store, FIRST)? {
         return Ok(1);
@@ -111,7 +112,8 @@ fn stopped(alloc: Global, files: Files<Device>) -> Result<(Files<Device>, usize)
 // Of so many answered calls, the numbers of the tables before and after the next.
 const LEFT: [(usize, usize); 6] = [(0, 0), (0, 1), (1, 1), (1, 2), (2, 2), (2, 2)];
 
-// After a crash the store in the files is at the table before the next call, or at the one after it.
+// After a crash the store in the files is at the table before the next call, or at the one after
+// it.
 fn is_left(alloc: Global, mut files: Files<Device>, answered: usize) -> Result<bool, Fail> {
     files.log.crash();
     files.db.crash();

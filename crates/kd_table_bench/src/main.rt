@@ -1,8 +1,8 @@
-//! Does one piece of work on a table of leases many times, so that its time can be taken from outside:
-//! `kd_table_bench get 60000 1000000` makes a table of 60,000 rows and reads a row of it a million times. The
-//! other works are `open`, which makes the table alone, `client`, which finds a client's address, `gap`, which finds
-//! the first free address, `renew`, which sets a row anew, and `add`, which sets one at a new address. It prints how
-//! often that was done, and no time.
+//! Does one piece of work on a table of leases many times, so that its time can be taken from
+//! outside: `kd_table_bench get 60000 1000000` makes a table of 60,000 rows and reads a row of it a
+//! million times. The other works are `open`, which makes the table alone, `client`, which finds a
+//! client's address, `gap`, which finds the first free address, `renew`, which sets a row anew, and
+//! `add`, which sets one at a new address. It prints how often that was done, and no time.
 #![tactic(auto)]
 
 use kd_rows::{Row, Rows, State};

@@ -9,7 +9,8 @@ use kd_wire::Bytes;
 use std::alloc::{AllocError, Global};
 use std::marker::Model;
 
-/// A store in memory that fails once its fuse has burnt down, for tests of what stands upon a store.
+/// A store in memory that fails once its fuse has burnt down, for tests of what stands upon a
+/// store.
 #[derive(Drop)]
 pub struct Fused {
     rows: Rows,

@@ -202,7 +202,8 @@ fn a_row_that_is_there_changes_nothing(rt: HostRuntime) -> Result<(), Fail> {
 // The names of ten clients.
 const TEN: [&[u8]; 10] = [b"0", b"1", b"2", b"3", b"4", b"5", b"6", b"7", b"8", b"9"];
 
-// A table of a thousand addresses, set in mixed order; the client of each is the one of its last digit.
+// A table of a thousand addresses, set in mixed order; the client of each is the one of its last
+// digit.
 fn thousand(alloc: Global) -> Result<Rows, Fault> {
     let mut rows = table(alloc, &[])?;
     for i in 0..1000u32 {
@@ -317,8 +318,8 @@ fn two(alloc: Global) -> Result<(usize, Option<u32>), Fault> {
     Ok((rows.len(), rows.of_client(b"B", 0)))
 }
 
-// With a refused request for memory the answer is want of it; the same calls made again give what they give with
-// ample memory.
+// With a refused request for memory the answer is want of it; the same calls made again give what
+// they give with ample memory.
 #[test]
 fn want_of_memory_is_answered_as_such(rt: HostRuntime) -> Result<(), Fail> {
     match two(rt.alloc()) {

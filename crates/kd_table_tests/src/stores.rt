@@ -16,7 +16,8 @@ fn lease(alloc: Global, address: u32) -> Result<Row, AllocError> {
     })
 }
 
-// What the third call of a store with a fuse for two answers: a row is put, the rows are read, and another is put.
+// What the third call of a store with a fuse for two answers: a row is put, the rows are read, and
+// another is put.
 fn third(alloc: Global, store: &mut Fused) -> Result<Result<(), StoreFault>, Fail> {
     let first = lease(alloc, 10)?;
     let second = lease(alloc, 11)?;

@@ -24,7 +24,8 @@ fn texts_of(order: &Order) -> (&str, &str, &str) {
     }
 }
 
-// Words, and the order that they give. What is printed of them is that of a mistake, since they are not hexadecimal.
+// Words, and the order that they give. What is printed of them is that of a mistake, since they are
+// not hexadecimal.
 const HANDED_ON: [(&[&str], (&str, &str, &str)); 17] = [
     (
         &["show", "not hexadecimal"],
@@ -70,7 +71,8 @@ fn words_are_handed_on_as_they_are(rt: HostRuntime) -> Result<(), Fail> {
     Ok(())
 }
 
-// Those that no case tells: of faults of the store, of memory and of the output, and of those within Serve.
+// Those that no case tells: of faults of the store, of memory and of the output, and of those
+// within Serve.
 #[test]
 fn each_fault_has_its_exit_status(rt: HostRuntime) {
     for (number, status) in [
@@ -201,7 +203,7 @@ fn prints_again(alloc: Global, words: &[&str], out: &str, fault: &str) -> Result
     print_again(alloc, &owned(alloc, words)?, out, fault)
 }
 
-// The same of words and a datagram of these options behind them.
+// The same of words and a datagram of these options after them.
 fn prints_with(
     alloc: Global,
     words: &[&str],

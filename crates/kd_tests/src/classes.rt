@@ -28,7 +28,8 @@ fn define(
     Ok(())
 }
 
-// Four definitions: option 60 in lower case and a `1` are `kd1`; no test; member of A and not of B; member of C.
+// Four definitions: option 60 in lower case and a `1` are `kd1`; no test; member of A and not of B;
+// member of C.
 fn classes(alloc: Global) -> Result<Classes, Fault> {
     let mut list = Vec::new(alloc);
     let lower = b"\x03\x3c\x11\x01\x00\x011\x0f\x01\x00\x03kd1\x09";
@@ -76,8 +77,8 @@ fn are(held: &Held, names: &[&[u8]]) -> bool {
     held.name_at(names.len()).is_none()
 }
 
-// Names join in the order of their definitions. With a refused request for memory the answer is want of it; the same
-// call made again gives what it gives with ample memory.
+// Names join in the order of their definitions. With a refused request for memory the answer is
+// want of it; the same call made again gives what it gives with ample memory.
 #[test]
 fn want_of_memory_is_answered_as_such(rt: HostRuntime) -> Result<(), Fail> {
     let names: [&[u8]; 5] = [b"ALL", b"VENDOR_CLASS_kd", b"A", b"C", b""];
@@ -115,7 +116,8 @@ fn there_are_at_most_256_definitions(rt: HostRuntime) -> Result<(), Fail> {
     Ok(())
 }
 
-// A configuration prints the names of these faults within another's, without their numbers, and the last not at all.
+// A configuration prints the names of these faults within another's, without their numbers, and the
+// last not at all.
 #[test]
 fn faults_have_their_numbers(rt: HostRuntime) -> Result<(), Fail> {
     assert!(rt; ClassFault::Duplicate(7).number() == 60);

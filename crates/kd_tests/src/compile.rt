@@ -6,7 +6,8 @@ use kd_options::Message;
 use std::alloc::Global;
 use std::test::Fail;
 
-// What a class test gives over a datagram, with the names that the message has before any definition.
+// What a class test gives over a datagram, with the names that the message has before any
+// definition.
 fn outcome(alloc: Global, text: &[u8], bytes: &[u8]) -> Result<Outcome, Fault> {
     let message = Message::read(alloc, bytes)?;
     let held = Held::base(alloc, &message)?;
@@ -20,8 +21,8 @@ fn outcome(alloc: Global, text: &[u8], bytes: &[u8]) -> Result<Outcome, Fault> {
 const LONG: &[u8] =
     b"member('A') and (member('B') or ifelse(option[60].exists, lcase(option[60].hex), 'x') + 1 == hexstring(substring('k', 0, all), ':')) or not pkt4.mac == 0x0a0000000001 or member('ALL')";
 
-// With a refused request for memory the answer is want of it; the same call made again gives what it gives
-// with ample memory.
+// With a refused request for memory the answer is want of it; the same call made again gives what
+// it gives with ample memory.
 #[test]
 fn want_of_memory_is_answered_as_such(rt: HostRuntime) -> Result<(), Fail> {
     let bytes = datagram(rt.alloc(), DISCOVER)?;

@@ -385,8 +385,8 @@ fn number_of(alloc: Global, text: &str, files: &[TokenFile]) -> Option<u8> {
     }
 }
 
-// With a refused request for memory the answer is want of it; the same call made again gives what it gives with ample
-// memory.
+// With a refused request for memory the answer is want of it; the same call made again gives what
+// it gives with ample memory.
 #[test]
 fn want_of_memory_is_answered_as_such(rt: HostRuntime) -> Result<(), Fail> {
     let files = [file(rt.alloc(), b"t", HAS_CLIENT)?];

@@ -4,7 +4,7 @@ ghost use Rattle.std.specs.Prelude.{◌≡◌, ◌<◌, false};
 use kd_replay::{EndFailed, Sink, Source};
 use std::alloc::Global;
 
-/// Gives at most so many bytes a call; behind them it ends, or fails.
+/// Gives at most so many bytes a call; after them it ends, or fails.
 #[derive(Drop)]
 pub(crate) struct Giving<'a> {
     rest: &'a [u8],

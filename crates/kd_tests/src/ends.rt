@@ -157,7 +157,8 @@ fn token_files_are_those_of_the_name(rt: HostRuntime) -> Result<(), Fail> {
     Ok(())
 }
 
-// How many token files a folder has where there is one of so many bytes, or none where one is too long.
+// How many token files a folder has where there is one of so many bytes, or none where one is too
+// long.
 fn files_of(rt: &HostRuntime, folder: &str, length: u32) -> Result<Option<usize>, Fail> {
     let path = within(rt, folder, "large.k4tk")?;
     fs::create(rt, path.as_str())?.set_len(u64::from(length))?;

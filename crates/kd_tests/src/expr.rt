@@ -45,7 +45,7 @@ fn put_number(
     out.extend_from_slice(after)
 }
 
-// An operand behind a part of a text.
+// An operand after a part of a text.
 #[cycle(printing)]
 fn put_behind(out: &mut Vec<u8>, before: &[u8], operand: &Node) -> Result<(), AllocError> {
     out.extend_from_slice(before)?;
@@ -239,8 +239,8 @@ const TESTS: [(&[u8], u32); 35] = [
     (b"member('a') or member('b') and member('c')", 5),
 ];
 
-// Class tests as the printer writes them, with the places of their nodes: a node's own, and then those of its
-// operands from left to right.
+// Class tests as the printer writes them, with the places of their nodes: a node's own, and then
+// those of its operands from left to right.
 const TREES: [(&[u8], &[usize]); 24] = [
     (b"'' == 0x61", &[0, 0, 6]),
     (b"0xc000020a == 4294967295", &[0, 0, 14]),
@@ -351,7 +351,8 @@ fn is_printed(alloc: Global, text: &[u8], want: &[u8]) -> Result<bool, Fail> {
     Ok(printed(alloc, text)?.0.as_slice() == want)
 }
 
-// Whether a text's tree has so many nodes, and what is printed of it a tree of as many, which is printed alike.
+// Whether a text's tree has so many nodes, and what is printed of it a tree of as many, which is
+// printed alike.
 fn reads_again(alloc: Global, text: &[u8], nodes: u32) -> Result<bool, Fail> {
     let (once, first) = printed(alloc, text)?;
     let (twice, second) = printed(alloc, &once)?;
@@ -378,7 +379,8 @@ fn other_spellings_have_the_same_tree(rt: HostRuntime) -> Result<(), Fail> {
     Ok(())
 }
 
-// Texts that are no word of a command line, since they are no UTF-8 or have a zero, with the place of the fault.
+// Texts that are no word of a command line, since they are no UTF-8 or have a zero, with the place
+// of the fault.
 #[test]
 fn bytes_that_no_word_has_are_bad(rt: HostRuntime) {
     let rows: [(&[u8], usize); 5] = [

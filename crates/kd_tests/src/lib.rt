@@ -1,7 +1,9 @@
-//! Tests of the libraries by what a value alone can show: an allocator that refuses, sources and sinks that fail in
-//! mid-stream, laws, and readers that no command of the program reaches. All else is data: `kd_cases/data`.
+//! Tests of the libraries by what a value alone can show: an allocator that refuses, sources and
+//! sinks that fail in mid-stream, laws, and readers that no command of the program reaches. All
+//! else is data: `kd_cases/data`.
 //!
-//! They are a crate of their own since a crate is proved once more with its tests: so these are proved alone.
+//! They are a crate of their own since a crate is proved once more with its tests: so these are
+//! proved alone.
 #![tactic(auto)]
 
 #[cfg(test)]

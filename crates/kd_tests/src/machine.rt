@@ -46,7 +46,8 @@ fn a_name_is_added_once_and_last(rt: HostRuntime) -> Result<(), Fault> {
     Ok(())
 }
 
-// The digits of two joined literals, in lower case, are compared with `61:62`: 8 tokens, at most 2 values.
+// The digits of two joined literals, in lower case, are compared with `61:62`: 8 tokens, at most 2
+// values.
 const DIGITS: &[u8] = b"\x01\x00\x01a\x01\x00\x01b\x0f\x01\x00\x01:\x10\x11\x01\x00\x0561:62\x09";
 
 // The outcome of that program over a DISCOVER.
@@ -58,8 +59,8 @@ fn outcome(alloc: Global) -> Result<Outcome, Fault> {
     Ok(eval(alloc, &verified, &message, &held)?)
 }
 
-// With a refused request for memory the answer is want of it; the same call made again gives what it gives with
-// ample memory.
+// With a refused request for memory the answer is want of it; the same call made again gives what
+// it gives with ample memory.
 #[test]
 fn want_of_memory_is_answered_as_such(rt: HostRuntime) -> Result<(), Fail> {
     let want = Ok(Outcome {

@@ -61,7 +61,8 @@ fn is_joined(alloc: Global) -> Result<bool, Fault> {
     Ok(is(message.option(61), b"\x01\xaa\xbb\xcc"))
 }
 
-// Where an allocation is refused the answer is Memory, and the same call made again gives the message.
+// Where an allocation is refused the answer is Memory, and the same call made again gives the
+// message.
 #[test]
 fn want_of_memory_is_answered_as_such(rt: HostRuntime) -> Result<(), Fail> {
     let first = is_joined(rt.alloc());

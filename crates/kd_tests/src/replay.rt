@@ -6,11 +6,11 @@ use kd_server::replay;
 use std::alloc::{AllocError, Global};
 use std::test::Fail;
 
-// How a replay reads and writes: the source gives at most so many bytes a call, and fails behind them or ends; the
-// sink takes as many a call, up to a limit at which it fails.
+// How a replay reads and writes: the source gives at most so many bytes a call, and fails after
+// them or ends; the sink takes as many a call, up to a limit at which it fails.
 type Ends = (usize, bool, usize);
 
-// What a replay of this input by the built-in configuration answers, and the sink behind it.
+// What a replay of this input by the built-in configuration answers, and the sink after it.
 fn replayed(
     alloc: Global,
     input: &str,
@@ -160,8 +160,8 @@ fn is_right(replayed: Result<(Result<u64, ReplayFault>, Keeping), AllocError>) -
     }
 }
 
-// With a refused request for memory a replay answers want of memory, or the sink has failed for want of it; the same
-// replay made again gives what it gives with ample memory.
+// With a refused request for memory a replay answers want of memory, or the sink has failed for
+// want of it; the same replay made again gives what it gives with ample memory.
 #[test]
 fn want_of_memory_is_answered_as_such(rt: HostRuntime) -> Result<(), Fail> {
     assert!(rt; is_right(replayed(rt.alloc(), "5 \n6 00\n", (1000, false, 1000))));

@@ -107,7 +107,8 @@ fn events(alloc: Global, moments: &[u64]) -> Result<Vec<Event>, AllocError> {
     Ok(events)
 }
 
-// Events that are run give what they give one by one; a fault ends the list, and nothing is left out.
+// Events that are run give what they give one by one; a fault ends the list, and nothing is left
+// out.
 #[test]
 fn a_run_ends_at_the_first_fault(rt: HostRuntime) -> Result<(), Fail> {
     let mut server = server(rt.alloc())?;
@@ -126,8 +127,8 @@ fn is_answered(alloc: Global, server: &mut Server<Fused>) -> Result<bool, Fail> 
     }
 }
 
-// With a refused request for memory a run and an event answer want of memory, and the same call made again gives what
-// it gives with ample memory.
+// With a refused request for memory a run and an event answer want of memory, and the same call
+// made again gives what it gives with ample memory.
 #[test]
 fn want_of_memory_is_answered_as_such(rt: HostRuntime) -> Result<(), Fail> {
     let mut server = server(rt.alloc())?;

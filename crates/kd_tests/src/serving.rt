@@ -97,7 +97,8 @@ fn two_datagrams_are_served_over_a_socket(rt: HostRuntime) -> Result<(), Fail> {
     Ok(())
 }
 
-// A link that gives a DISCOVER so many times and then fails, and keeps the last reply; none is sent where it loses them.
+// A link that gives a DISCOVER so many times and then fails, and keeps the last reply; none is sent
+// where it loses them.
 #[derive(Drop)]
 struct Wired {
     discover: Vec<u8>,
@@ -150,7 +151,8 @@ impl Link for Wired {
     }
 }
 
-// How serving three datagrams ends where two come, with what was written up to so many bytes, and the last reply.
+// How serving three datagrams ends where two come, with what was written up to so many bytes, and
+// the last reply.
 fn served(
     alloc: Global,
     loses: bool,

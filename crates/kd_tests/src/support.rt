@@ -72,7 +72,8 @@ pub(crate) const COOKIE: [u8; 4] = [99, 130, 83, 99];
 /// The options of a DISCOVER of vendor class `kd`.
 pub(crate) const DISCOVER: &[u8] = b"\x35\x01\x01\x3c\x02kd\xff";
 
-/// A datagram with these options: of op 1, htype 1, hlen 6, xid 1 and the hardware address 0a0000000001, and zeros.
+/// A datagram with these options: of op 1, htype 1, hlen 6, xid 1 and the hardware address
+/// 0a0000000001, and zeros.
 pub(crate) fn datagram(alloc: Global, options: &[u8]) -> Result<Vec<u8>, AllocError> {
     datagram_over(alloc, b"", b"", options)
 }
@@ -97,8 +98,8 @@ pub(crate) fn datagram_over(
     Ok(bytes)
 }
 
-/// The token file of so many tokens, which declares all that a program may, and has these names, in their spelling
-/// with the count before them.
+/// The token file of so many tokens, which declares all that a program may, and has these names, in
+/// their spelling with the count before them.
 pub(crate) fn token_file(
     alloc: Global,
     names: &[u8],

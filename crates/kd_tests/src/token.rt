@@ -107,8 +107,8 @@ fn answer(alloc: Global, file: &[u8]) -> Result<(Option<VerifyFault>, bool), Fil
     }
 }
 
-// With a refused request for memory the answer is want of it, with the program; the same call made again gives what
-// it gives with ample memory.
+// With a refused request for memory the answer is want of it, with the program; the same call made
+// again gives what it gives with ample memory.
 #[test]
 fn want_of_memory_is_answered_as_such(rt: HostRuntime) -> Result<(), Fail> {
     let first = answer(rt.alloc(), CHOICE);

@@ -2,7 +2,7 @@ use crate::support::COOKIE;
 use kd_wire::{Bytes, Cut, Header, pieces, put_end, put_piece, write_header};
 use std::test::Fail;
 
-// Each byte behind op is its own offset.
+// Each byte after op is its own offset.
 #[test]
 fn a_header_stands_at_its_offsets_and_is_written_there(rt: HostRuntime) -> Result<(), Fail> {
     let mut bytes = Vec::from_slice(rt.alloc(), &[2])?;

@@ -77,7 +77,9 @@ nodes_line number = codes "bool " ++ decimal number ++ line_feed
 
 -- what is said of a tree that is a class test, and else the first fault of its type
 abbrev pub OfTest : (Tree → Printed → Type 0) → Tree → Printed → Type 0
-OfTest says tree p = MatchResult (test_type tree) (λ done. says tree p) (λ fault. IsRefusal (type_fault_number fault) p)
+OfTest says tree p =
+    MatchResult (test_type tree) (λ done. says tree p)
+    (λ fault. IsRefusal (type_fault_number fault) p)
 
 -- a text is refused for a fault of its reading, which is not want of memory
 pub record IsUnread (text : List ℕ) (p : Printed) : Type 0 where
@@ -86,7 +88,8 @@ pub record IsUnread (text : List ℕ) (p : Printed) : Type 0 where
   pub ours : fault ≢ reading.Memory
   pub line : IsRefusal (expr_fault_number fault) p
 
--- what is said of the tree that a text spells, where it spells one, and else the fault of its reading
+-- what is said of the tree that a text spells, where it spells one, and else the fault of its
+-- reading
 pub record OfText (says : Tree → Printed → Type 0) (text : List ℕ) (p : Printed) : Type 0 where
   pub readable : (tree : Tree) → Parses text tree → says tree p
   pub refused : ((tree : Tree) → Parses text tree → ⊥) → IsUnread text p
@@ -99,9 +102,11 @@ TypesTree = OfTest (λ tree p. IsSuccess (nodes_line (node_count tree)) p)
 abbrev pub TypesText : List ℕ → Printed → Type 0
 TypesText = OfText TypesTree
 
--- what is said of a class test that is over no limit of programs, and else the first that it is over
+-- what is said of a class test that is over no limit of programs, and else the first that it is
+-- over
 abbrev pub OfCompiled : (Tree → Printed → Type 0) → Tree → Printed → Type 0
-OfCompiled says tree p = MatchOption (first_over tree) (says tree p) (λ fault. IsRefusal (compile_fault_number fault) p)
+OfCompiled says tree p =
+    MatchOption (first_over tree) (says tree p) (λ fault. IsRefusal (compile_fault_number fault) p)
 
 -- the token file of a program that a class test compiles to, in hexadecimal digits
 pub record PrintsFile (tree : Tree) (p : Printed) : Type 0 where
@@ -122,7 +127,8 @@ CompilesText = OfText CompilesTree
 -- an accepted program's line: what it declares, and the number of its tokens
 abbrev pub accepted_line : Code → List ℕ
 accepted_line c =
-    codes "accepted steps " ++ decimal c.steps ++ codes " depth " ++ decimal c.depth ++ codes " length " ++ decimal c.bound
+    codes "accepted steps " ++ decimal c.steps ++ codes " depth " ++ decimal c.depth
+    ++ codes " length " ++ decimal c.bound
     ++ codes " tokens " ++ decimal (length c.tokens) ++ line_feed
 
 -- a program is refused for a fault that it has, which is not want of memory
@@ -143,7 +149,8 @@ pub record IsNoFile (p : Printed) : Type 0 where
   pub ours : fault ≢ file.Memory
   pub line : IsRefusal (file_fault_number fault) p
 
--- what is said of the program of a token file, where the bytes are one, and else the fault of their reading
+-- what is said of the program of a token file, where the bytes are one, and else the fault of their
+-- reading
 pub record OfFile (says : Code → Printed → Type 0) (bytes : List ℕ) (p : Printed) : Type 0 where
   pub readable : (c : Code) → IsFileOf bytes c → says c p
   pub refused : ((c : Code) → IsFileOf bytes c → ⊥) → IsNoFile p
@@ -167,7 +174,8 @@ truth_text value = if value then codes "true" else codes "false"
 -- a run's line: its truth value, its steps, its greatest depth and the length of its longest value
 abbrev pub run_line : Bool → ℕ → ℕ → ℕ → List ℕ
 run_line value steps depth longest =
-    truth_text value ++ codes " steps " ++ decimal steps ++ codes " depth " ++ decimal depth ++ codes " length "
+    truth_text value ++ codes " steps " ++ decimal steps ++ codes " depth " ++ decimal depth
+    ++ codes " length "
     ++ decimal longest ++ line_feed
 
 -- the line of a program's run over a message with the names that it has before any definition
@@ -184,19 +192,24 @@ abbrev pub RunsProgram : List ℕ → Code → Printed → Type 0
 RunsProgram datagram = OfAccepted (λ c p. OfDatagram (RunsOver c) datagram p)
 
 -- the same of two words, for a token file and a datagram
-abbrev pub RunsDecoded : Result (List ℕ) FromHexError → Result (List ℕ) FromHexError → Printed → Type 0
-RunsDecoded program datagram = OfDecoded (λ file p. OfDecoded (λ bytes q. OfFile (RunsProgram bytes) file q) datagram p) program
+abbrev pub RunsDecoded : Result (List ℕ) FromHexError → Result (List ℕ) FromHexError → Printed
+    → Type 0
+RunsDecoded program datagram =
+    OfDecoded (λ file p. OfDecoded (λ bytes q. OfFile (RunsProgram bytes) file q) datagram p)
+    program
 
--- the line of the run of a program that a class test compiles to, whose truth value is the test's, over a
--- message with the names that it has before any definition
+-- the line of the run of a program that a class test compiles to, whose truth value is the test's,
+-- over a message with the names that it has before any definition
 pub record TestsOver (tree : Tree) (m : Seen) (p : Printed) : Type 0 where
   pub program : Code
   pub compiled : IsCompiled tree program
   pub steps : ℕ
   pub depth : ℕ
   pub longest : ℕ
-  pub run : Run program m (base_names (value_of 60 m.options)) (truth m (base_names (value_of 60 m.options)) tree) steps depth longest
-  pub line : IsSuccess (run_line (truth m (base_names (value_of 60 m.options)) tree) steps depth longest) p
+  pub run : Run program m (base_names (value_of 60 m.options))
+      (truth m (base_names (value_of 60 m.options)) tree) steps depth longest
+  pub line : IsSuccess
+      (run_line (truth m (base_names (value_of 60 m.options)) tree) steps depth longest) p
 
 -- the same over the message of a datagram
 abbrev pub TestsDatagram : List ℕ → Tree → Printed → Type 0
@@ -230,8 +243,10 @@ Answers (Show hex) p = ShowsDecoded (decode_of (string_bytes hex)) p
 Answers (Expr text) p = TypesText (string_bytes text) p
 Answers (Compile text) p = CompilesText (string_bytes text) p
 Answers (Verify hex) p = VerifiesDecoded (decode_of (string_bytes hex)) p
-Answers (Eval program datagram) p = RunsDecoded (decode_of (string_bytes program)) (decode_of (string_bytes datagram)) p
-Answers (EvalText text datagram) p = TestsDecoded (string_bytes text) (decode_of (string_bytes datagram)) p
+Answers (Eval program datagram) p =
+    RunsDecoded (decode_of (string_bytes program)) (decode_of (string_bytes datagram)) p
+Answers (EvalText text datagram) p =
+    TestsDecoded (string_bytes text) (decode_of (string_bytes datagram)) p
 Answers (Replay config token_dir store) p = ⊥
 Answers (Leases config token_dir store moment) p = ⊥
 Answers (Serve config token_dir store listening count) p = ⊥

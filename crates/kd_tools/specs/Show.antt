@@ -24,15 +24,18 @@ len_line len = codes "len " ++ decimal len ++ line_feed
 -- the numbers at the header's front
 abbrev pub numbers_line : Header → List ℕ
 numbers_line h =
-    (codes "op " ++ decimal h.op) ++ (codes " htype " ++ decimal h.htype) ++ (codes " hlen " ++ decimal h.hlen)
+    (codes "op " ++ decimal h.op) ++ (codes " htype " ++ decimal h.htype)
+    ++ (codes " hlen " ++ decimal h.hlen)
     ++ (codes " hops " ++ decimal h.hops) ++ (codes " xid " ++ bytes_text (big_bytes 4 h.xid))
-    ++ (codes " secs " ++ decimal h.secs) ++ (codes " flags " ++ bytes_text (big_bytes 2 h.flags)) ++ line_feed
+    ++ (codes " secs " ++ decimal h.secs) ++ (codes " flags " ++ bytes_text (big_bytes 2 h.flags))
+    ++ line_feed
 
 -- the header's addresses
 abbrev pub addresses_line : Header → List ℕ
 addresses_line h =
     (codes "ciaddr " ++ address_text h.ciaddr) ++ (codes " yiaddr " ++ address_text h.yiaddr)
-    ++ (codes " siaddr " ++ address_text h.siaddr) ++ (codes " giaddr " ++ address_text h.giaddr) ++ line_feed
+    ++ (codes " siaddr " ++ address_text h.siaddr) ++ (codes " giaddr " ++ address_text h.giaddr)
+    ++ line_feed
 
 -- the hardware address
 abbrev pub mac_line : Header → List ℕ
@@ -45,7 +48,8 @@ type_line options = codes "type " ++ decimal (type_in (value_of 53 options)) ++ 
 -- the lines of the header and the message type
 unfoldable pub header_lines : Seen → List ℕ
 header_lines m =
-    len_line m.len ++ numbers_line m.header ++ addresses_line m.header ++ mac_line m.header ++ type_line m.options
+    len_line m.len ++ numbers_line m.header ++ addresses_line m.header ++ mac_line m.header
+    ++ type_line m.options
 
 -- a word, a code and its value
 abbrev pub entry_line : List ℕ → Piece → List ℕ
@@ -62,4 +66,5 @@ relay_line p = entry_line (codes "relay ") p
 -- all lines of a message: options and sub-options in order of first appearance, each code once
 abbrev pub show_text : Seen → List ℕ
 show_text m =
-    header_lines m ++ flat_map option_line m.options ++ flat_map relay_line (firsts (relay_list m.options))
+    header_lines m ++ flat_map option_line m.options
+    ++ flat_map relay_line (firsts (relay_list m.options))

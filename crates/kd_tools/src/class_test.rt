@@ -44,7 +44,8 @@ pub fn answer_compile(alloc: Global, word: &str) -> Result<Printed, AllocError>
     }
 }
 
-// The token file of the program of an expression that is a class test, or the first fault of its type.
+// The token file of the program of an expression that is a class test, or the first fault of its
+// type.
 fn compile_expr(alloc: Global, expr: Expr) -> Result<Printed, AllocError>
     ensures { IfOk result (CompilesTree (tree_of expr)) }
 {

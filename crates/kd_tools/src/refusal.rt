@@ -107,7 +107,7 @@ fn refusal<F: Display>(alloc: Global, number: u8, fault: &F) -> Result<Printed, 
     })
 }
 
-// `fault NUMBER NAME`, and the operands behind the name.
+// `fault NUMBER NAME`, and the operands after the name.
 fn fault_line(alloc: Global, number: u8, name: &str) -> Result<String, AllocError>
     ensures { IfOk result (λ line. string_bytes line
         ≡ codes "fault " ++ decimal number ++ codes " " ++ name.now ++ line_feed) }

@@ -11,8 +11,8 @@ use kd_wire::Header;
 use std::alloc::{AllocError, Global};
 use std::fmt::Write;
 
-/// The lines of a message: its header, its options in order of first appearance, and the sub-options of
-/// its relay information.
+/// The lines of a message: its header, its options in order of first appearance, and the
+/// sub-options of its relay information.
 pub fn show(alloc: Global, message: &Message<'_>) -> Result<String, AllocError>
     ensures { IfOk result (λ text. string_bytes text ≡ show_text message.now) }
 {
@@ -25,7 +25,8 @@ pub fn show(alloc: Global, message: &Message<'_>) -> Result<String, AllocError>
 
 // The lines of the header and the message type.
 fn put_header(alloc: Global, out: &mut String, message: &Message<'_>) -> Result<(), AllocError>
-    ensures { OnOk result (string_bytes out.new ≡ string_bytes out.old ++ header_lines message.now) }
+    ensures { OnOk result
+        (string_bytes out.new ≡ string_bytes out.old ++ header_lines message.now) }
 {
     let header = message.header();
     put_len(out, message.len())?;
@@ -57,7 +58,8 @@ fn put_numbers(alloc: Global, out: &mut String, header: &Header) -> Result<(), A
 }
 
 fn put_addresses(out: &mut String, header: &Header) -> Result<(), AllocError>
-    ensures { OnOk result (string_bytes out.new ≡ string_bytes out.old ++ addresses_line header.now) }
+    ensures { OnOk result
+        (string_bytes out.new ≡ string_bytes out.old ++ addresses_line header.now) }
 {
     put_address(out, "ciaddr ", header.ciaddr)?;
     put_address(out, " yiaddr ", header.yiaddr)?;
@@ -68,7 +70,8 @@ fn put_addresses(out: &mut String, header: &Header) -> Result<(), AllocError>
 }
 
 fn put_mac(alloc: Global, out: &mut String, message: &Message<'_>) -> Result<(), AllocError>
-    ensures { OnOk result (string_bytes out.new ≡ string_bytes out.old ++ mac_line message.now.header) }
+    ensures { OnOk result
+        (string_bytes out.new ≡ string_bytes out.old ++ mac_line message.now.header) }
 {
     put_bytes(alloc, out, "mac ", message.mac())?;
     out.push_str("\n")?;
@@ -76,14 +79,16 @@ fn put_mac(alloc: Global, out: &mut String, message: &Message<'_>) -> Result<(),
 }
 
 fn put_type(out: &mut String, message: &Message<'_>) -> Result<(), AllocError>
-    ensures { OnOk result (string_bytes out.new ≡ string_bytes out.old ++ type_line message.now.options) }
+    ensures { OnOk result
+        (string_bytes out.new ≡ string_bytes out.old ++ type_line message.now.options) }
 {
     let number = message.kind().number();
     writeln!(out, "type {number}")
 }
 
 fn put_options(alloc: Global, out: &mut String, message: &Message<'_>) -> Result<(), AllocError>
-    ensures { OnOk result (string_bytes out.new ≡ string_bytes out.old ++ flat_map option_line message.now.options) }
+    ensures { OnOk result
+        (string_bytes out.new ≡ string_bytes out.old ++ flat_map option_line message.now.options) }
 {
     let mut index = 0;
     while let Some((code, value)) = message.option_at(index) {
@@ -113,7 +118,8 @@ fn put_entry(
     code: u8,
     value: &[u8],
 ) -> Result<(), AllocError>
-    ensures { OnOk result (string_bytes out.new ≡ string_bytes out.old ++ entry_line word.now (code, value.now)) }
+    ensures { OnOk result
+        (string_bytes out.new ≡ string_bytes out.old ++ entry_line word.now (code, value.now)) }
 {
     put_number(out, word, u16::from(code))?;
     put_bytes(alloc, out, " ", value)?;
@@ -123,14 +129,16 @@ fn put_entry(
 
 // A word and a number in decimal.
 fn put_number(out: &mut String, word: &str, number: u16) -> Result<(), AllocError>
-    ensures { OnOk result (string_bytes out.new ≡ string_bytes out.old ++ (word.now ++ decimal number)) }
+    ensures { OnOk result
+        (string_bytes out.new ≡ string_bytes out.old ++ (word.now ++ decimal number)) }
 {
     write!(out, "{word}{number}")
 }
 
 // A word and bytes in hexadecimal, or a dash where there are none.
 fn put_bytes(alloc: Global, out: &mut String, word: &str, bytes: &[u8]) -> Result<(), AllocError>
-    ensures { OnOk result (string_bytes out.new ≡ string_bytes out.old ++ (word.now ++ bytes_text bytes.now)) }
+    ensures { OnOk result
+        (string_bytes out.new ≡ string_bytes out.old ++ (word.now ++ bytes_text bytes.now)) }
 {
     out.push_str(word)?;
     if bytes.is_empty() {
@@ -142,7 +150,8 @@ fn put_bytes(alloc: Global, out: &mut String, word: &str, bytes: &[u8]) -> Resul
 
 // A word and an address in decimal.
 fn put_address(out: &mut String, word: &str, address: u32) -> Result<(), AllocError>
-    ensures { OnOk result (string_bytes out.new ≡ string_bytes out.old ++ (word.now ++ address_text address)) }
+    ensures { OnOk result
+        (string_bytes out.new ≡ string_bytes out.old ++ (word.now ++ address_text address)) }
 {
     let [a, b, c, d] = address.to_be_bytes();
     write!(out, "{word}{a}.{b}.{c}.{d}")

@@ -3,8 +3,8 @@ ghost use Rattle.kd_tools.specs.Status.{replay_status_of, serve_status_of, statu
 
 use kd_replay::{LoopFault, ReplayFault};
 
-/// The exit status of the fault with this number: 1 for want of memory and for a failed end, 2 for a
-/// mistake on the command line, 4 for the store, 3 for every other.
+/// The exit status of the fault with this number: 1 for want of memory and for a failed end, 2 for
+/// a mistake on the command line, 4 for the store, 3 for every other.
 pub fn exit_status(number: u8) -> u8
     ensures { result ≡ status_of number }
 {

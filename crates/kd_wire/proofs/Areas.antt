@@ -8,7 +8,7 @@ use Rattle.std.proofs.Math.Seq.{take-append_seam}
 use Rattle.std.proofs.lemmas.Bool.{ne_eqb, false≢true}
 use Rattle.kd_wire.specs.Walk.{pieces_from, is_whole_from}
 
--- what a walk keeps: it has passed whole slots, and stands behind them
+-- what a walk keeps: it has passed whole slots, and stands after them
 pub record Passed (bytes left : List ℕ) (at : ℕ) : Type 0 where
   pub slots : List Slot
   pub begins : Begins bytes slots left
@@ -36,7 +36,7 @@ passed_more bytes left rest at n slot p is e size = record {
   place = rw (spelled-append p.slots slot, length-append, p.place, size) refl;
 }
 
--- a walk that skips a value is behind it
+-- a walk that skips a value is after it
 pieces_from-skip : (value rest : List ℕ) → pieces_from (length value) (value ++ rest) ≡ pieces_from 0 rest
 unfolding pieces_from
 pieces_from-skip [] rest = refl
@@ -137,7 +137,7 @@ cut_is_not_whole bytes at a =
 pub not_cut : (bytes : List ℕ) (at : ℕ) (list : List Piece) → IsCutAt bytes at → IsArea bytes list → ⊥
 not_cut bytes at list c a = false≢true (sym (cut_is_not_whole bytes at c) ∙ whole_area bytes list a)
 
--- the area behind whole slots ends: its pieces are those of the walk
+-- the area after whole slots ends: its pieces are those of the walk
 pub area_of_passed : (bytes left : List ℕ) (at : ℕ) → Passed bytes left at → IsEnd left → IsArea bytes (pieces_from 0 bytes)
 area_of_passed bytes left at p ends =
     let a : IsArea bytes (flat_map piece_of p.slots) = record { slots = p.slots; after = left; begins = p.begins; ends = ends; pieces = refl } in

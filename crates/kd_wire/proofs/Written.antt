@@ -1,4 +1,4 @@
--- Writes one behind another from the front on: what stands in front is their text.
+-- Writes one after another from the front on: what stands in front is their text.
 use Rattle.std.proofs.Common.{◌≡◌, ℕ, ◌+◌, List, [], ◌++◌, length, take, drop, refl, sym, ap, ◌∙◌, length-append, drop-drop}
 use Rattle.std.proofs.lemmas.List.{take_at, drop_at}
 use Rattle.kd_wire.specs.Put.{with_bytes_at}

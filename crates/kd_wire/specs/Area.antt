@@ -54,7 +54,7 @@ pub record IsArea (bytes : List ℕ) (list : List Piece) : Type 0 where
   pub ends : IsEnd after
   pub pieces : list ≡ flat_map piece_of slots
 
--- where an area is cut: behind whole slots stands an option that is cut off
+-- where an area is cut: after whole slots stands an option that is cut off
 pub record IsCutAt (bytes : List ℕ) (at : ℕ) : Type 0 where
   pub slots : List Slot
   pub after : List ℕ

@@ -1,4 +1,5 @@
--- The header of a DHCP message (RFC 2131 section 2): its fields and their offsets, and what is refused.
+-- The header of a DHCP message (RFC 2131 section 2): its fields and their offsets, and what is
+-- refused.
 use Rattle.std.specs.Prelude.{ℕ, ◌+◌, List, [], ◌∷◌, ◌++◌, length, Result, Ok, Err, if◌then◌else◌, not, ◌==◌, ◌||◌, nat_lt, slice_index}
 use Rattle.std.specs.List.{slice_range}
 use Rattle.byteorder.specs.Endian.{big_number, big_bytes}
@@ -56,6 +57,7 @@ fault_number BadOp = 4
 -- the bytes of a header and the cookie
 unfoldable pub header_bytes : Header → List ℕ
 header_bytes h =
-    h.op ∷ h.htype ∷ h.hlen ∷ h.hops ∷ [] ++ big_bytes 4 h.xid ++ big_bytes 2 h.secs ++ big_bytes 2 h.flags
+    h.op ∷ h.htype ∷ h.hlen ∷ h.hops ∷ [] ++ big_bytes 4 h.xid ++ big_bytes 2 h.secs
+    ++ big_bytes 2 h.flags
     ++ big_bytes 4 h.ciaddr ++ big_bytes 4 h.yiaddr ++ big_bytes 4 h.siaddr ++ big_bytes 4 h.giaddr
     ++ h.chaddr ++ h.sname ++ h.file ++ big_bytes 4 cookie

@@ -1,5 +1,6 @@
--- The pieces of an area, computed byte by byte: what the iterator still has to give. Proofs tie these
--- two functions to the definition of an area's pieces; no contract but the iterator's own cites them.
+-- The pieces of an area, computed byte by byte: what the iterator still has to give. Proofs tie
+-- these two functions to the definition of an area's pieces; no contract but the iterator's own
+-- cites them.
 use Rattle.std.specs.Prelude.{ℕ, zero, suc, Bool, true, false, List, [], ◌∷◌, ◌==◌, if◌then◌else◌, take}
 use Rattle.kd_wire.specs.Area.{Piece}
 

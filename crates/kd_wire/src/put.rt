@@ -27,7 +27,7 @@ pub fn write_header(out: &mut [u8], header: &Header)
     put_u32(out, 236, COOKIE);
 }
 
-/// Writes a piece of an option, code, length and value, at a place, and answers the place behind it
+/// Writes a piece of an option, code, length and value, at a place, and answers the place after it
 /// (RFC 2132 section 2).
 pub fn put_piece(out: &mut [u8], at: usize, code: u8, value: &[u8]) -> usize
     requires code { IsCode code }
@@ -41,7 +41,7 @@ pub fn put_piece(out: &mut [u8], at: usize, code: u8, value: &[u8]) -> usize
     at + 2 + value.len()
 }
 
-/// Writes an End at a place, and answers the place behind it (RFC 2132 section 3.2).
+/// Writes an End at a place, and answers the place after it (RFC 2132 section 3.2).
 pub fn put_end(out: &mut [u8], at: usize) -> usize
     requires { at < length out.old }
     ensures written { out.new ≡ with_bytes_at at (255 ∷ []) out.old }

@@ -5,8 +5,8 @@ ghost use Rattle.kd_wire.specs.Walk.{pieces_from, is_whole_from};
 
 use std::marker::Model;
 
-/// The pieces of an area that has no option cut off: the code from 1 to 254 and the value, of at most
-/// 255 bytes, of each.
+/// The pieces of an area that has no option cut off: the code from 1 to 254 and the value, of at
+/// most 255 bytes, of each.
 #[derive(Drop)]
 pub struct Pieces<'a> {
     left: &'a [u8],

@@ -1,4 +1,4 @@
-//! The program `kdhcp`: the words behind its name are carried out over this machine (`kd_program`).
+//! The program `kdhcp`: the words after its name are carried out over this machine (`kd_program`).
 #![tactic(auto)]
 
 mod machine;
@@ -24,7 +24,7 @@ fn main(rt: HostRuntime) -> ExitCode {
     ExitCode::from(status)
 }
 
-// The words behind the program's name.
+// The words after the program's name.
 fn words(rt: &HostRuntime) -> Result<Vec<String>, LineFault> {
     match std::env::args(rt) {
         Ok(all) => Ok(all.skip(1).collect(rt.alloc())?),
