@@ -1,5 +1,7 @@
 -- Definitions of entries, one after another.
 use Rattle.std.proofs.Common.{◌≡◌, List, [], ◌∷◌, ◌++◌, refl, sym, ap, subst, ◌∙◌}
+use Rattle.std.specs.List.{AllByRecursion}
+use Rattle.kd_classes.specs.HeldSet.{IsAccepted}
 use Rattle.kd_classes.specs.declared.definition.ClassDef.{ClassDef}
 use Rattle.kd_config.proofs.Alike.{alike_behind}
 use Rattle.kd_config.specs.Alike.{AskAlike, AsksAlike}
@@ -31,6 +33,12 @@ defined_behind files [] entry [] def h k = (k, tt)
 defined_behind files [] entry (d ∷ defs) def h k = absurd h
 defined_behind files (e ∷ entries) entry [] def h k = absurd h
 defined_behind files (e ∷ entries) entry (d ∷ defs) def h k = (h.0, defined_behind files entries entry defs def h.1 k)
+
+-- one definition more with an accepted test
+pub accepted_behind : (defs : List ClassDef) (def : ClassDef) → AllByRecursion IsAccepted defs
+    → IsAccepted def → AllByRecursion IsAccepted (defs ++ def ∷ [])
+accepted_behind [] def h k = (k, tt)
+accepted_behind (d ∷ defs) def h k = (h.0, accepted_behind defs def h.1 k)
 
 none_behind : (files : List TokenFile) (defs : List ClassDef) → AreDefinitions files [] defs → defs ≡ []
 none_behind files [] h = refl

@@ -14,3 +14,7 @@ pub mod Sounds
 pub mod SoundSettings
 pub mod SoundBuiltin
 pub mod Shared
+pub mod FirstFaults
+pub mod PoolPlaces
+pub mod ReservationPlaces
+pub mod AcceptedTests

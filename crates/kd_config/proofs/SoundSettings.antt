@@ -3,6 +3,7 @@ use Rattle.std.proofs.Common.{◌≡◌, ℕ, zero, suc, ◌≤◌, true, not, �
 use Rattle.std.specs.List.{AllByRecursion}
 use Rattle.std.specs.Prelude.{option_and_then, option_map}
 use borrow.Author.Tests.{leb-true}
+use Rattle.kd_classes.specs.HeldSet.{IsAccepted}
 use Rattle.kd_classes.specs.Order.{AreInOrder}
 use Rattle.kd_classes.specs.declared.definition.ClassDef.{ClassDef}
 use Rattle.kd_config.proofs.Came.{came_from, passed, passed_only, some_is, both_passed, few_meant, each_meant}
@@ -180,20 +181,25 @@ unfolding settings_spelled
 written_sound text s e = let value = came_from (value_spelled text) whole_settings s e in root_sound value.first s value.gives
 
 -- the definitions of classes as they are written
-classes_sound : (files : List TokenFile) (entries : List ClassEntry) (defs : List ClassDef) → AllByRecursion IsEntry entries → AreDefinitions files entries defs → AllByRecursion IsClass defs
-classes_sound files [] [] h k = tt
-classes_sound files [] (def ∷ defs) h k = absurd k
-classes_sound files (entry ∷ entries) [] h k = absurd k
-classes_sound files (entry ∷ entries) (def ∷ defs) h k = (
-  record { name = subst (λ name. IsFrom 1 255 (length name)) (sym k.0.name) h.0.name; options = subst AreOptions (sym k.0.options) h.0.options },
-  classes_sound files entries defs h.1 k.1,
+classes_sound : (files : List TokenFile) (entries : List ClassEntry) (defs : List ClassDef) → AllByRecursion IsEntry entries
+    → AreDefinitions files entries defs → AllByRecursion IsAccepted defs → AllByRecursion IsClass defs
+classes_sound files [] [] h k accepted = tt
+classes_sound files [] (def ∷ defs) h k accepted = absurd k
+classes_sound files (entry ∷ entries) [] h k accepted = absurd k
+classes_sound files (entry ∷ entries) (def ∷ defs) h k accepted = (
+  record {
+    name = subst (λ name. IsFrom 1 255 (length name)) (sym k.0.name) h.0.name;
+    test = accepted.0;
+    options = subst AreOptions (sym k.0.options) h.0.options;
+  },
+  classes_sound files entries defs h.1 k.1 accepted.1,
 )
 
 -- the configuration of settings and of definitions of their classes
 pub sound : (text : List ℕ) (files : List TokenFile) (s : Settings) (defs : List ClassDef) → accepted_settings text ≡ Some s → AreDefinitions files s.classes defs → AreInOrder defs
-    → IsSound (record { server = s.server; times = s.times; options = s.options; classes = defs; subnets = s.subnets })
+    → AllByRecursion IsAccepted defs → IsSound (record { server = s.server; times = s.times; options = s.options; classes = defs; subnets = s.subnets })
 unfolding accepted_settings
-sound text files s defs e h order =
+sound text files s defs e h order accepted =
     let written = came_from (settings_spelled text) _ s e in
     let stand = passed (may_stand written.first.subnets) _ s written.gives in
     let same = some_is written.first s stand.1 in
@@ -202,6 +208,6 @@ sound text files s defs e h order =
       server = known.server;
       times = known.times;
       options = known.options;
-      classes = record { each = classes_sound files s.classes defs known.classes h; ordered = order };
+      classes = record { each = classes_sound files s.classes defs known.classes h accepted; ordered = order };
       subnets = record { few = known.few; each = known.subnets; together = subst (λ x. may_stand x.subnets ≡ true) same stand.0 };
     }

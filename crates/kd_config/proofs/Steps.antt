@@ -28,7 +28,7 @@ none_shares : (r : Range) (rs : List Range) → AllByRecursion (λ y. share_one 
 none_shares r [] h = refl
 none_shares r (x ∷ rs) h = ap (λ b. b || list_any (share_one r) rs) h.0 ∙ none_shares r rs h.1
 
-or_false : (a b : Bool) → (a || b) ≡ false → (a ≡ false) × (b ≡ false)
+pub or_false : (a b : Bool) → (a || b) ≡ false → (a ≡ false) × (b ≡ false)
 or_false true b e = absurd (cc)
 or_false false b e = (refl, e)
 
@@ -41,7 +41,7 @@ distinct_is [] h = refl
 distinct_is (r ∷ rs) h =
     ap (λ b. not b && lie_apart rs) (none_shares r rs (IsDistinct-head share_one r rs h)) ∙ distinct_is rs (IsDistinct-tail share_one r rs h)
 
-not_and : (a b : Bool) → (not a && b) ≡ true → (a ≡ false) × (b ≡ true)
+pub not_and : (a b : Bool) → (not a && b) ≡ true → (a ≡ false) × (b ≡ true)
 not_and true b e = absurd (cc)
 not_and false b e = (refl, e)
 

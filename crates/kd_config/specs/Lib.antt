@@ -1,7 +1,6 @@
 pub mod Steps
 pub mod Address
 pub mod HexText
-pub mod Parts
 pub mod Gives
 pub mod Faults
 pub mod Values
@@ -15,7 +14,9 @@ pub mod Settings
 pub mod Document
 pub mod Apart
 pub mod Rules
+pub mod Parts
 pub mod Configuration
 pub mod Configured
 pub mod Alike
 pub mod Sound
+pub mod Laws

@@ -2,6 +2,7 @@
 -- the rules over the whole hold.
 use Rattle.std.specs.Prelude.{◌≡◌, ℕ, ◌+◌, ◌-◌, ◌^◌, ◌<◌, ◌≤◌, nat_eq, true, false, List, [], ◌∷◌, length}
 use Rattle.std.specs.List.{AllByRecursion, list_any}
+use Rattle.kd_classes.specs.HeldSet.{IsAccepted}
 use Rattle.kd_classes.specs.Order.{AreInOrder}
 use Rattle.kd_classes.specs.declared.definition.ClassDef.{ClassDef}
 use Rattle.kd_classes.specs.declared.option_list.OptionData.{OptionData}
@@ -48,9 +49,10 @@ pub record AreTimes (times : Times) : Type 0 where
   pub offer_hold : IsFrom 1 86400 times.offer_hold
   pub decline_hold : IsFrom 1 31536000 times.decline_hold
 
--- a class: its test's names are left to the order of classes
+-- a class: its test is an accepted program, whose names are left to the order of classes
 pub record IsClass (def : ClassDef) : Type 0 where
   pub name : IsFrom 1 255 (length def.name)
+  pub test : IsAccepted def
   pub options : AreOptions def.options
 
 -- a prefix: its address has no bits behind its length, and its addresses end within 32 bits

@@ -1,4 +1,6 @@
 ghost use Rattle.std.specs.Prelude.{◌≡◌, ◌≢◌, IfErr, IfOk, List};
+ghost use Rattle.std.specs.List.{AllByRecursion};
+ghost use Rattle.kd_classes.specs.HeldSet.{IsAccepted};
 ghost use Rattle.kd_classes.specs.Order.{AreInOrder};
 ghost use Rattle.kd_classes.specs.declared.definition.ClassDef.{ClassDef};
 ghost use Rattle.kd_config.specs.Alike.{AskAlike, AsksAlike};
@@ -20,6 +22,7 @@ pub(crate) fn classes_in(
 ) -> Result<Classes, ConfigFault>
     ensures found { IfOk result (λ classes. AreDefinitions files.now entries.items classes) }
     ensures ordered { IfOk result (λ classes. AreInOrder classes) }
+    ensures accepted { IfOk result (λ classes. AllByRecursion IsAccepted classes) }
     ensures refused { IfErr result (λ fault. fault ≢ Memory → (defs : List ClassDef) → AreDefinitions files.now entries.items defs → AreInOrder defs → ⊥) }
 {
     let definitions = definitions_of(alloc, entries, files)?;
@@ -37,6 +40,7 @@ fn definitions_of(
 ) -> Result<Vec<ClassDef>, ConfigFault>
     ensures found { IfOk result (λ defs. AreDefinitions files.now entries.items defs.items) }
     ensures same { IfOk result (λ defs. (others : List ClassDef) → AreDefinitions files.now entries.items others → AskAlike others defs.items) }
+    ensures accepted { IfOk result (λ defs. AllByRecursion IsAccepted defs.items) }
     ensures refused { IfErr result (λ fault. fault ≢ Memory → (defs : List ClassDef) → AreDefinitions files.now entries.items defs → ⊥) }
 {
     let mut definitions = Vec::new(alloc);
@@ -56,6 +60,7 @@ fn definition_of(
 ) -> Result<ClassDef, ConfigFault>
     ensures found { IfOk result (λ def. IsDefinition files.now entry def) }
     ensures same { IfOk result (λ def. (other : ClassDef) → IsDefinition files.now entry other → AsksAlike other def) }
+    ensures accepted { IfOk result (λ def. IsAccepted def) }
     ensures refused { IfErr result (λ fault. fault ≢ Memory → (def : ClassDef) → IsDefinition files.now entry def → ⊥) }
 {
     let ClassEntry {

@@ -19,6 +19,7 @@ mod document;
 mod entries;
 mod fault;
 mod hex_text;
+pub mod laws;
 mod lists;
 mod options;
 mod place;

@@ -1,4 +1,5 @@
 ghost use Rattle.std.specs.Prelude.{◌≡◌, ◌≢◌, IfErr, IfOk, Ok, Option};
+ghost use Rattle.kd_classes.specs.HeldSet.{IsAcceptedTest};
 ghost use Rattle.kd_classes.specs.Order.{names_of};
 ghost use Rattle.kd_compile.specs.declared.fault.CompileFault.TheVariants as compiling;
 ghost use Rattle.kd_config.specs.Configured.{IsFileTest, IsProgramOf, IsTest, IsTextTest};
@@ -7,7 +8,7 @@ ghost use Rattle.kd_expr.specs.Typing.{test_type};
 ghost use Rattle.kd_expr.specs.View.{tree_of};
 ghost use Rattle.kd_expr.specs.declared.fault.ExprFault.TheVariants as reading;
 ghost use Rattle.kd_token.specs.Accepts.{Accepts};
-ghost use Rattle.kd_token.specs.File.{Code, IsFileOf};
+ghost use Rattle.kd_token.specs.File.{Code, HasFile, IsFileOf};
 ghost use Rattle.kd_token.specs.declared.fault.FileFault.TheVariants as file_faults;
 ghost use Rattle.kd_token.specs.declared.fault.VerifyFault.TheVariants as verifying;
 
@@ -28,6 +29,7 @@ pub(crate) fn test_of(
 ) -> Result<Option<Verified>, ConfigFault>
     ensures found { IfOk result (λ test. IsTest files.now source.now test) }
     ensures same { IfOk result (λ test. (other : Option Code) → IsTest files.now source.now other → names_of other ≡ names_of test) }
+    ensures accepted { IfOk result (λ test. IsAcceptedTest test) }
     ensures refused { IfErr result (λ fault. fault ≢ Memory → (test : Option Code) → IsTest files.now source.now test → ⊥) }
 {
     match source {
@@ -42,6 +44,7 @@ pub(crate) fn test_of(
 // The program of a class test's text.
 fn program_of(alloc: Global, number: usize, text: &[u8]) -> Result<Verified, ConfigFault>
     ensures found { IfOk result (λ program. IsTextTest text.now program) }
+    ensures limits { IfOk result (λ program. HasFile program) }
     ensures same { IfOk result (λ program. (other : Code) → IsTextTest text.now other → other.names ≡ program.names) }
     ensures refused { IfErr result (λ fault. fault ≢ Memory → (program : Code) → IsTextTest text.now program → ⊥) }
 {
@@ -64,6 +67,7 @@ fn unread(number: usize, fault: ExprFault) -> ConfigFault
 // The program of an expression.
 fn program_of_expr(alloc: Global, number: usize, expr: Expr) -> Result<Verified, ConfigFault>
     ensures found { IfOk result (λ program. IsProgramOf (tree_of expr) program) }
+    ensures limits { IfOk result (λ program. HasFile program) }
     ensures refused { IfErr result (λ fault. fault ≢ Memory → (program : Code) → IsProgramOf (tree_of expr) program → ⊥) }
 {
     match kd_expr::type_of(expr) {
@@ -76,10 +80,15 @@ fn program_of_expr(alloc: Global, number: usize, expr: Expr) -> Result<Verified,
 fn program_of_test(alloc: Global, number: usize, test: &Typed) -> Result<Verified, ConfigFault>
     requires { test_type (tree_of test.now) ≡ Ok tt }
     ensures found { IfOk result (λ program. IsProgramOf (tree_of test.now) program) }
+    ensures limits { IfOk result (λ program. HasFile program) }
     ensures refused { IfErr result (λ fault. fault ≢ Memory → (program : Code) → IsProgramOf (tree_of test.now) program → ⊥) }
 {
     match compile(alloc, test) {
-        Ok(program) => Ok(program),
+        Ok(program) => {
+            // that the program is within the limits of a file comes with it
+            let _tokens = program.program().tokens();
+            Ok(program)
+        }
         Err(fault) => Err(uncompiled(number, fault)),
     }
 }

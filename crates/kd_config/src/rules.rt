@@ -1,11 +1,14 @@
-ghost use Rattle.std.specs.Prelude.{◌≡◌, ◌<◌, ◌≤◌, ◌-◌, ◌++◌, ◌∷◌, ◌&&◌, [], IfOk, OnOk, false, length, map};
-ghost use Rattle.std.specs.List.{list_all};
+ghost use Rattle.std.specs.Prelude.{◌≡◌, ◌≢◌, ◌<◌, ◌+◌, ◌-◌, ◌++◌, ◌∷◌, ◌&&◌, [], IfErr, IfOk, OnOk, false, if◌then◌else◌, length, map, nat_le, take, true};
+ghost use Rattle.std.specs.List.{list_all, prefix_len};
 ghost use Rattle.indexmap.specs.IndexSet.{keys};
 ghost use Rattle.kd_config.specs.Apart.{lie_apart};
-ghost use Rattle.kd_config.specs.Gives.{Means};
-ghost use Rattle.kd_config.specs.Parts.{client_by};
-ghost use Rattle.kd_config.specs.Rules.{all_obey, pool_ranges, is_new, lies_within, may_all_reserve, may_reserve, may_stand, obeys, ranges_in, reserved};
+ghost use Rattle.kd_config.specs.Address.{has_address};
+ghost use Rattle.kd_config.specs.Faults.{config_fault_number};
+ghost use Rattle.kd_config.specs.Gives.{Means, GivesAs};
+ghost use Rattle.kd_config.specs.Parts.{before_outside, client_by, obey_within};
+ghost use Rattle.kd_config.specs.Rules.{pool_ranges, is_new, lies_within, may_all_reserve, may_reserve, may_stand, obeys, ranges_in, reserved};
 ghost use Rattle.kd_config.specs.Steps.{must};
+ghost use Rattle.kd_config.specs.declared.fault.ConfigFault.TheVariants.{Memory};
 
 use crate::apart::are_apart;
 use crate::fault::ConfigFault;
@@ -17,7 +20,6 @@ use crate::reservation::{Identity, Reservation};
 use crate::subnet::Subnet;
 use indexmap::IndexSet;
 use std::alloc::{AllocError, Global};
-use std::convert::Infallible;
 
 // The subnets may stand together.
 #[tactic(auto, unfolding(crate::specs::Rules::may_stand))]
@@ -29,93 +31,40 @@ pub(crate) fn check_rules(
     ensures { Means result (must (may_stand subnets.now)) }
 {
     let ranges = all_ranges(alloc, subnets)?;
-    if are_apart(alloc, &ranges)? {
-        check_each(alloc, subnets, at)
-    } else {
-        Err(first_fault(alloc, subnets, &ranges, at))
-    }
+    let apart = first_overlap(alloc, &ranges)?;
+    check_each(alloc, subnets, apart, at)
 }
 
-// The subnets obey the rules, one after another.
-fn check_each(alloc: Global, subnets: &[Subnet], at: &Place<'_>) -> Result<(), ConfigFault>
-    ensures { Means result (must (all_obey [] subnets.now)) }
+// The subnets obey the rules, one after another, and have no pool behind so many.
+fn check_each(
+    alloc: Global,
+    subnets: &[Subnet],
+    apart: usize,
+    at: &Place<'_>,
+) -> Result<(), ConfigFault>
+    ensures { Means result (must (obey_within apart [] subnets.now)) }
 {
+    let mut left = apart;
     let mut earlier = IndexSet::new(alloc);
     for i in 0..subnets.len() {
-        check_subnet(alloc, &subnets[i], &Place::Item(&*at, i), &mut earlier)?;
+        let place = Place::Item(&*at, i);
+        left = check_subnet(alloc, &subnets[i], left, &place, &mut earlier)?;
     }
     Ok(())
 }
 
-// The first fault of subnets of which two pools share an address.
-fn first_fault(alloc: Global, subnets: &[Subnet], ranges: &[Range], at: &Place<'_>) -> ConfigFault
-    requires all { ranges.now ≡ pool_ranges subnets.now }
-    requires shared { lie_apart ranges.now ≡ false }
-{
-    match check_to_overlap(alloc, subnets, ranges, at) {
-        Ok(never) => match never {},
-        Err(fault) => fault,
-    }
-}
-
-// The rules in their order, up to the first pool that shares an address with an earlier one.
-#[tactic(auto, using(crate::proofs::Shared::some_ranges, crate::proofs::Shared::left_behind))]
-fn check_to_overlap(
-    alloc: Global,
-    subnets: &[Subnet],
-    ranges: &[Range],
-    at: &Place<'_>,
-) -> Result<Infallible, ConfigFault>
-    requires all { ranges.now ≡ pool_ranges subnets.now }
-    requires shared { lie_apart ranges.now ≡ false }
-{
-    let mut left = first_overlap(alloc, ranges)?;
-    let mut earlier = IndexSet::new(alloc);
-    for i in 0..subnets.len() {
-        let place = Place::Item(&*at, i);
-        left = check_to_pool(alloc, &subnets[i], left, &place, &mut earlier)?;
-    }
-    // the pool is one of theirs
-    unreachable!()
-}
-
-// The pool with this number, counted from a subnet on, is of a later subnet, and the subnet obeys its rules:
-// the pool's number from the next subnet on.
-fn check_to_pool(
-    alloc: Global,
-    subnet: &Subnet,
-    left: usize,
-    at: &Place<'_>,
-    earlier: &mut IndexSet<u32>,
-) -> Result<usize, ConfigFault>
-    ensures behind { IfOk result (λ _. length subnet.now.pools ≤ left) }
-    ensures fewer { IfOk result (λ fewer. fewer ≡ left - length subnet.now.pools) }
-{
-    let count = subnet.pools.as_slice().len();
-    if left < count {
-        return Err(pool_fault(alloc, subnet, left, at));
-    }
-    check_subnet(alloc, subnet, at, earlier)?;
-    Ok(left - count)
-}
-
-// The first fault of a subnet's pools up to the one with this number, which shares an address with an earlier one.
-fn pool_fault(alloc: Global, subnet: &Subnet, number: usize, at: &Place<'_>) -> ConfigFault
-    requires { number < length subnet.now.pools }
-{
-    let place = Place::Key(&*at, "pools");
-    let pools = subnet.pools.as_slice();
-    match check_pools(alloc, subnet.prefix, &pools[..number + 1], &place) {
-        Ok(()) => overlap(alloc, &Place::Item(&place, number), "pool"),
-        Err(fault) => fault,
-    }
-}
-
-// How many ranges stand before the first that shares an address with one of them.
+// How many ranges stand before the first that shares an address with one of them: all, where none
+// does.
+#[tactic(auto, using(crate::proofs::Shared::some_ranges))]
 fn first_overlap(alloc: Global, ranges: &[Range]) -> Result<usize, AllocError>
-    requires { 0 < length ranges.now }
-    ensures { IfOk result (λ number. number < length ranges.now) }
+    ensures all { IfOk result (λ number. nat_le (length ranges.now) number ≡ lie_apart ranges.now) }
+    ensures apart { IfOk result (λ number. lie_apart (take number ranges.now) ≡ true) }
+    ensures first { IfOk result (λ number. number < length ranges.now
+        → lie_apart (take (number + 1) ranges.now) ≡ false) }
 {
+    if are_apart(alloc, ranges)? {
+        return Ok(ranges.len());
+    }
     let mut apart = 0;
     let mut not_apart = ranges.len();
     while not_apart - apart > 1 {
@@ -150,47 +99,72 @@ fn push_ranges(ranges: &mut Vec<Range>, pools: &[Pool]) -> Result<(), AllocError
     Ok(())
 }
 
-// A subnet obeys its rules; its addresses join those that are reserved.
+// A subnet obeys its rules and has at most so many pools, of which the rest is left; its addresses
+// join those that are reserved.
 #[tactic(auto, unfolding(crate::specs::Rules::obeys))]
 fn check_subnet(
     alloc: Global,
     subnet: &Subnet,
+    apart: usize,
     at: &Place<'_>,
     earlier: &mut IndexSet<u32>,
-) -> Result<(), ConfigFault>
+) -> Result<usize, ConfigFault>
+    ensures left { IfOk result (λ left. left ≡ apart - length subnet.now.pools) }
     ensures joined { IfOk result (λ _. keys earlier.new ≡ keys earlier.old ++ reserved subnet.now.reservations) }
-    ensures checked { Means result (must (obeys (keys earlier.old) subnet.now)) }
+    ensures checked { GivesAs (λ _. tt) result
+        (must (nat_le (length subnet.now.pools) apart && obeys (keys earlier.old) subnet.now)) }
 {
-    let pools = Place::Key(&*at, "pools");
-    check_pools(alloc, subnet.prefix, subnet.pools.as_slice(), &pools)?;
+    let pools = subnet.pools.as_slice();
+    check_pools(
+        alloc,
+        subnet.prefix,
+        pools,
+        apart,
+        &Place::Key(&*at, "pools"),
+    )?;
     let reservations = Place::Key(&*at, "reservations");
     let list = subnet.reservations.as_slice();
-    check_reservations(alloc, subnet.prefix, list, &reservations, earlier)
+    check_reservations(alloc, subnet.prefix, list, &reservations, earlier)?;
+    Ok(apart - pools.len())
 }
 
-// Pools lie in their subnet's prefix.
+// Pools lie in their subnet's prefix, and there are at most so many.
 fn check_pools(
     alloc: Global,
     prefix: Prefix,
     pools: &[Pool],
+    apart: usize,
     at: &Place<'_>,
 ) -> Result<(), ConfigFault>
-    ensures { Means result (must (list_all (lies_within prefix) pools.now)) }
+    ensures checked { Means result
+        (must (nat_le (length pools.now) apart && list_all (lies_within prefix) pools.now)) }
+    ensures kind { IfErr result (λ fault. fault ≢ Memory → config_fault_number fault
+        ≡ (if nat_le (prefix_len (lies_within prefix) pools.now) apart then 74 else 75)) }
 {
     for (i, pool) in pools.iter().enumerate() {
-        check_pool(alloc, prefix, pool, &Place::Item(&*at, i))?;
+        check_pool(alloc, prefix, pool, i < apart, &Place::Item(&*at, i))?;
     }
     Ok(())
 }
 
-// A pool lies in its subnet's prefix.
-fn check_pool(alloc: Global, prefix: Prefix, pool: &Pool, at: &Place<'_>) -> Result<(), ConfigFault>
-    ensures { Means result (must (lies_within prefix pool.now)) }
+// A pool lies in its subnet's prefix, and shares no address with an earlier one.
+fn check_pool(
+    alloc: Global,
+    prefix: Prefix,
+    pool: &Pool,
+    is_apart: bool,
+    at: &Place<'_>,
+) -> Result<(), ConfigFault>
+    ensures checked { Means result (must (lies_within prefix pool.now && is_apart)) }
+    ensures kind { IfErr result (λ fault. fault ≢ Memory
+        → config_fault_number fault ≡ (if lies_within prefix pool.now then 75 else 74)) }
 {
-    if is_within(prefix, pool) {
-        Ok(())
-    } else {
+    if !is_within(prefix, pool) {
         Err(outside(alloc, at, "pool"))
+    } else if !is_apart {
+        Err(overlap(alloc, at, "pool"))
+    } else {
+        Ok(())
     }
 }
 
@@ -211,6 +185,9 @@ fn check_reservations(
 ) -> Result<(), ConfigFault>
     ensures joined { IfOk result (λ _. keys earlier.new ≡ keys earlier.old ++ reserved reservations.now) }
     ensures checked { Means result (must (may_all_reserve prefix (keys earlier.old) [] reservations.now)) }
+    ensures kind { IfErr result (λ fault. fault ≢ Memory → config_fault_number fault
+        ≡ (if may_all_reserve prefix (keys earlier.old) [] (before_outside prefix reservations.now)
+        then 74 else 76)) }
 {
     let mut clients = IndexSet::new(alloc);
     for i in 0..reservations.len() {
@@ -228,6 +205,7 @@ fn check_reservations(
 }
 
 // A reservation has an address and a client that no earlier one has; they join these.
+#[tactic(auto, using(crate::proofs::FirstFaults::is_inside))]
 fn check_reservation<'a>(
     alloc: Global,
     prefix: Prefix,
@@ -239,6 +217,8 @@ fn check_reservation<'a>(
     ensures reserved { IfOk result (λ _. keys earlier.new ≡ keys earlier.old ++ reservation.now.address ∷ []) }
     ensures known { IfOk result (λ _. map client_by (keys clients.new) ≡ map client_by (keys clients.old) ++ reservation.now.identity ∷ []) }
     ensures checked { Means result (must (may_reserve prefix (keys earlier.old) reservation.now && is_new (map client_by (keys clients.old)) reservation.now.identity)) }
+    ensures kind { IfErr result (λ fault. fault ≢ Memory → config_fault_number fault
+        ≡ (if has_address prefix reservation.now.address then 76 else 74)) }
 {
     check_address(alloc, prefix, reservation, at, earlier)?;
     check_client(alloc, &reservation.identity, at, clients)
@@ -254,6 +234,8 @@ fn check_address(
 ) -> Result<(), ConfigFault>
     ensures joined { IfOk result (λ _. keys earlier.new ≡ keys earlier.old ++ reservation.now.address ∷ []) }
     ensures checked { Means result (must (may_reserve prefix (keys earlier.old) reservation.now)) }
+    ensures kind { IfErr result (λ fault. fault ≢ Memory → config_fault_number fault
+        ≡ (if has_address prefix reservation.now.address then 76 else 74)) }
 {
     if !prefix.contains(reservation.address) {
         return Err(outside(alloc, at, "ip-address"));
@@ -274,6 +256,7 @@ fn check_client<'a>(
 ) -> Result<(), ConfigFault>
     ensures joined { IfOk result (λ _. map client_by (keys earlier.new) ≡ map client_by (keys earlier.old) ++ identity.now ∷ []) }
     ensures checked { Means result (must (is_new (map client_by (keys earlier.old)) identity.now)) }
+    ensures kind { IfErr result (λ fault. fault ≢ Memory → config_fault_number fault ≡ 76) }
 {
     if earlier.insert(key_of(identity))? {
         return Ok(());
@@ -295,7 +278,9 @@ fn key_of(identity: &Identity) -> (bool, &[u8])
 }
 
 // The fault of an address outside its subnet's prefix.
-fn outside(alloc: Global, at: &Place<'_>, key: &str) -> ConfigFault {
+fn outside(alloc: Global, at: &Place<'_>, key: &str) -> ConfigFault
+    ensures { result ≢ Memory → config_fault_number result ≡ 74 }
+{
     match path_of_key(alloc, at, key) {
         Ok(path) => ConfigFault::PoolOutside(path),
         Err(_) => ConfigFault::Memory,
@@ -303,7 +288,9 @@ fn outside(alloc: Global, at: &Place<'_>, key: &str) -> ConfigFault {
 }
 
 // The fault of a pool that shares an address with an earlier one.
-fn overlap(alloc: Global, at: &Place<'_>, key: &str) -> ConfigFault {
+fn overlap(alloc: Global, at: &Place<'_>, key: &str) -> ConfigFault
+    ensures { result ≢ Memory → config_fault_number result ≡ 75 }
+{
     match path_of_key(alloc, at, key) {
         Ok(path) => ConfigFault::Overlap(path),
         Err(_) => ConfigFault::Memory,
@@ -311,7 +298,9 @@ fn overlap(alloc: Global, at: &Place<'_>, key: &str) -> ConfigFault {
 }
 
 // The fault of a reservation that repeats an earlier one.
-fn repeated(alloc: Global, at: &Place<'_>, key: &str) -> ConfigFault {
+fn repeated(alloc: Global, at: &Place<'_>, key: &str) -> ConfigFault
+    ensures { result ≢ Memory → config_fault_number result ≡ 76 }
+{
     match path_of_key(alloc, at, key) {
         Ok(path) => ConfigFault::DuplicateReservation(path),
         Err(_) => ConfigFault::Memory,

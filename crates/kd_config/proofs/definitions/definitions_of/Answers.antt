@@ -1,7 +1,7 @@
 use Rattle.std.proofs.Common.{[], ◌∷◌, ◌∙◌, append_assoc}
 use Rattle.std.proofs.lemmas.Result.{err_from_is_err_and}
 use Rattle.std.specs.Vec.Iter.{into_iter_items}
-use Rattle.kd_config.proofs.Defined.{alike_defined, defined_behind, undefined_with}
+use Rattle.kd_config.proofs.Defined.{accepted_behind, alike_defined, defined_behind, undefined_with}
 use Rattle.kd_config.proofs.definitions.definitions_of.Goals as goal
 
 pub returns-in_err-definition-clause-refused : goal.returns-in_err-definition-clause-refused
@@ -22,4 +22,7 @@ loop-entry-preserved c =
       left = append_assoc at.yielded (entry ∷ []) _ ∙ rw (← steps) at.invariant.left;
       found = rw c.in_ok-push.ensures.items (defined_behind c.args.files.now at.yielded entry at.definitions.items made.definition at.invariant.found made.ensures.found);
       same = rw c.in_ok-push.ensures.items (alike_defined c.args.files.now at.yielded entry at.definitions.items made.definition at.invariant.same made.ensures.same);
+      accepted = rw c.in_ok-push.ensures.items
+          (accepted_behind at.definitions.items made.definition at.invariant.accepted
+          made.ensures.accepted);
     }

@@ -1,0 +1,271 @@
+-- Two reservations of one address, or of one subnet for one client, stand at one place.
+use Rattle.std.proofs.Common.{◌≡◌, ℕ, zero, suc, Bool, true, false, not, ◌&&◌, List, [], ◌∷◌, ◌++◌, refl, sym, ap, subst, ◌∙◌}
+use Rattle.std.proofs.lemmas.Bool.{eq-eqb, false≢true, not-true}
+use Rattle.std.proofs.lemmas.List.Folds.{list_any-append}
+use Rattle.std.proofs.lemmas.Slice.Eq.{bytes_eq-Decides}
+use Rattle.std.specs.List.{list_all, list_any}
+use Rattle.std.specs.Prelude.{Some, nat_eq, slice_get, ◌||◌}
+use Rattle.kd_config.proofs.Came.{both_passed, some_is}
+use Rattle.kd_config.proofs.Steps.{or_false}
+use Rattle.kd_config.specs.Address.{has_address}
+use Rattle.kd_config.specs.Apart.{lie_apart}
+use Rattle.kd_config.specs.Laws.{AddressHasOneReservation, ClientHasOneReservation}
+use Rattle.kd_config.specs.Rules.{all_obey, pool_ranges, is_new, lies_within, may_all_reserve, may_reserve, may_stand, obeys, reserved, same_identity}
+use Rattle.kd_config.specs.declared.prefix.Prefix.{Prefix}
+use Rattle.kd_config.specs.declared.reservation.Identity.{Identity}
+use Rattle.kd_config.specs.declared.reservation.Identity.TheVariants.{Hardware, ClientId}
+use Rattle.kd_config.specs.declared.reservation.Reservation.{Reservation}
+use Rattle.kd_config.specs.declared.subnet.Subnet.{Subnet}
+
+-- an address is not among these
+abbrev IsNotOf : ℕ → List ℕ → Type 0
+IsNotOf a earlier = list_any (nat_eq a) earlier ≡ false
+
+-- a client is not among these
+abbrev IsNotAmong : Identity → List Identity → Type 0
+IsNotAmong identity clients = list_any (same_identity identity) clients ≡ false
+
+-- what the first of reservations says
+record First (prefix : Prefix) (earlier : List ℕ) (clients : List Identity) (r : Reservation)
+    (rs : List Reservation) : Type 0 where
+  address : IsNotOf r.address earlier
+  client : IsNotAmong r.identity clients
+  later : may_all_reserve prefix (earlier ++ r.address ∷ []) (clients ++ r.identity ∷ []) rs ≡ true
+
+first_of_all : (prefix : Prefix) (earlier : List ℕ) (clients : List Identity) (r : Reservation)
+    (rs : List Reservation)
+    → may_all_reserve prefix earlier clients (r ∷ rs) ≡ true → First prefix earlier clients r rs
+first_of_all prefix earlier clients r rs h =
+    let more = may_all_reserve prefix (earlier ++ r.address ∷ []) (clients ++ r.identity ∷ []) rs in
+    let both = both_passed (may_reserve prefix earlier r) (is_new clients r.identity && more) h in
+    let rest = both_passed (is_new clients r.identity) more both.1 in
+    let this = both_passed (has_address prefix r.address)
+    (not (list_any (nat_eq r.address) earlier)) both.0 in
+    record {
+      address = not-true (list_any (nat_eq r.address) earlier) this.1;
+      client = not-true (list_any (same_identity r.identity) clients) rest.0;
+      later = rest.1;
+    }
+
+-- neither of those before nor this one
+not_of_both : (a : ℕ) (xs ys : List ℕ) → IsNotOf a (xs ++ ys) → IsNotOf a xs × IsNotOf a ys
+not_of_both a xs ys e = or_false (list_any (nat_eq a) xs) (list_any (nat_eq a) ys)
+    (sym (list_any-append (nat_eq a) xs ys) ∙ e)
+
+not_among_both : (i : Identity) (xs ys : List Identity) → IsNotAmong i (xs ++ ys) → IsNotAmong i xs
+    × IsNotAmong i ys
+not_among_both i xs ys e =
+    or_false (list_any (same_identity i) xs) (list_any (same_identity i) ys)
+    (sym (list_any-append (same_identity i) xs ys) ∙ e)
+
+-- each reservation has an address and a client that are none of the earlier ones
+record IsNewcomer (earlier : List ℕ) (clients : List Identity) (r : Reservation) : Type 0 where
+  address : IsNotOf r.address earlier
+  client : IsNotAmong r.identity clients
+
+newcomer : (prefix : Prefix) (earlier : List ℕ) (clients : List Identity) (rs : List Reservation)
+    (j : ℕ) (r : Reservation)
+    → may_all_reserve prefix earlier clients rs ≡ true → slice_get rs j ≡ Some r
+    → IsNewcomer earlier clients r
+newcomer prefix earlier clients [] j r h e = absurd (cc)
+newcomer prefix earlier clients (x ∷ rs) zero r h e =
+    let first = first_of_all prefix earlier clients x rs h in
+    subst (λ (y : Reservation). IsNewcomer earlier clients y) (some_is x r e)
+    (record { address = first.address; client = first.client })
+newcomer prefix earlier clients (x ∷ rs) (suc j) r h e =
+    let first = first_of_all prefix earlier clients x rs h in
+    let more = newcomer prefix (earlier ++ x.address ∷ [])
+    (clients ++ x.identity ∷ []) rs j r first.later e in
+    record {
+      address = (not_of_both r.address earlier (x.address ∷ []) more.address).0;
+      client = (not_among_both r.identity clients (x.identity ∷ []) more.client).0;
+    }
+
+-- a client is itself
+same_client : (i : Identity) → same_identity i i ≡ true
+same_client (Hardware bytes) = (bytes_eq-Decides bytes bytes).1 refl
+same_client (ClientId bytes) = (bytes_eq-Decides bytes bytes).1 refl
+
+-- an address and an equal one that is none of it
+other_address : (a b : ℕ) → a ≡ b → IsNotOf b (a ∷ []) → ⊥
+other_address a b same e =
+    let this : nat_eq b a ≡ false = (or_false (nat_eq b a) false e).0 in
+    false≢true (sym (subst (λ (n : ℕ). nat_eq b n ≡ false) same this) ∙ eq-eqb b b refl)
+
+other_client : (a b : Identity) → a ≡ b → IsNotAmong b (a ∷ []) → ⊥
+other_client a b same e =
+    let this : same_identity b a ≡ false = (or_false (same_identity b a) false e).0 in
+    false≢true (sym (subst (λ (n : Identity). same_identity b n ≡ false) same this) ∙ same_client b)
+
+-- the first of reservations and a later one have neither one address nor one client
+record AreOthers (x r : Reservation) : Type 0 where
+  address : x.address ≡ r.address → ⊥
+  client : x.identity ≡ r.identity → ⊥
+
+first_and_later : (prefix : Prefix) (earlier : List ℕ) (clients : List Identity) (x : Reservation)
+    (rs : List Reservation) (l : ℕ) (p q : Reservation)
+    → may_all_reserve prefix earlier clients (x ∷ rs) ≡ true → Some x ≡ Some p
+    → slice_get rs l ≡ Some q → AreOthers p q
+first_and_later prefix earlier clients x rs l p q h e f =
+    let first = first_of_all prefix earlier clients x rs h in
+    let more = newcomer prefix (earlier ++ x.address ∷ [])
+    (clients ++ x.identity ∷ []) rs l q first.later f in
+    subst (λ (y : Reservation). AreOthers y q) (some_is x p e) (record {
+      address = λ same. other_address x.address q.address same
+          (not_of_both q.address earlier (x.address ∷ []) more.address).1;
+      client = λ same. other_client x.identity q.identity same
+          (not_among_both q.identity clients (x.identity ∷ []) more.client).1;
+    })
+
+-- two reservations of a subnet
+record IsOnePlace (j l : ℕ) (p q : Reservation) : Type 0 where
+  address : p.address ≡ q.address → j ≡ l
+  client : p.identity ≡ q.identity → j ≡ l
+
+within : (prefix : Prefix) (earlier : List ℕ) (clients : List Identity) (rs : List Reservation)
+    (j l : ℕ) (p q : Reservation)
+    → may_all_reserve prefix earlier clients rs ≡ true → slice_get rs j ≡ Some p
+    → slice_get rs l ≡ Some q → IsOnePlace j l p q
+within prefix earlier clients [] j l p q h e f = absurd (cc)
+within prefix earlier clients (x ∷ rs) zero zero p q h e f =
+    record { address = λ same. refl; client = λ same. refl }
+within prefix earlier clients (x ∷ rs) zero (suc l) p q h e f =
+    let others = first_and_later prefix earlier clients x rs l p q h e f in
+    record {
+      address = λ same. absurd (others.address same);
+      client =
+          λ same. absurd (others.client same);
+    }
+within prefix earlier clients (x ∷ rs) (suc j) zero p q h e f =
+    let others = first_and_later prefix earlier clients x rs j q p h f e in
+    record {
+      address = λ same. absurd (others.address (sym same));
+      client =
+          λ same. absurd (others.client (sym same));
+    }
+within prefix earlier clients (x ∷ rs) (suc j) (suc l) p q h e f =
+    let first = first_of_all prefix earlier clients x rs h in
+    let one = within prefix (earlier ++ x.address ∷ [])
+    (clients ++ x.identity ∷ []) rs j l p q first.later e f in
+    record {
+      address = λ same. ap suc (one.address same);
+      client =
+          λ same. ap suc (one.client same);
+    }
+
+reserves : (earlier : List ℕ) (s : Subnet) → obeys earlier s ≡ true
+    → may_all_reserve s.prefix earlier [] s.reservations ≡ true
+unfolding obeys
+reserves earlier s h =
+    (both_passed (list_all (lies_within s.prefix) s.pools)
+    (may_all_reserve s.prefix earlier [] s.reservations) h).1
+
+-- the rules of the first subnet, and of the later ones
+first_subnet : (earlier : List ℕ) (s : Subnet) (subnets : List Subnet)
+    → all_obey earlier (s ∷ subnets) ≡ true
+    → (may_all_reserve s.prefix earlier [] s.reservations ≡ true)
+    × (all_obey (earlier ++ reserved s.reservations) subnets ≡ true)
+first_subnet earlier s subnets h =
+    let both = both_passed (obeys earlier s) (all_obey (earlier ++ reserved s.reservations) subnets)
+    h in
+    (reserves earlier s both.0, both.1)
+
+-- each reserved address is none of the earlier ones
+new_address : (earlier : List ℕ) (subnets : List Subnet) (i j : ℕ) (s : Subnet) (r : Reservation)
+    → all_obey earlier subnets ≡ true
+    → slice_get subnets i ≡ Some s → slice_get s.reservations j ≡ Some r → IsNotOf r.address earlier
+new_address earlier [] i j s r h e f = absurd (cc)
+new_address earlier (x ∷ subnets) zero j s r h e f =
+    let rules = first_subnet earlier x subnets h in
+    let here : slice_get x.reservations j ≡ Some r =
+    subst (λ (y : Subnet). slice_get y.reservations j ≡ Some r) (sym (some_is x s e)) f in
+    (newcomer x.prefix earlier [] x.reservations j r rules.0 here).address
+new_address earlier (x ∷ subnets) (suc i) j s r h e f =
+    let rules = first_subnet earlier x subnets h in
+    (not_of_both r.address earlier (reserved x.reservations)
+    (new_address (earlier ++ reserved x.reservations) subnets i j s r rules.1 e f)).0
+
+-- an address that is none of those reserved is not this one
+not_this : (a : ℕ) (rs : List Reservation) (j : ℕ) (r : Reservation) → IsNotOf a (reserved rs)
+    → slice_get rs j ≡ Some r → r.address ≡ a → ⊥
+not_this a [] j r none e same = absurd (cc)
+not_this a (x ∷ rs) zero r none e same =
+    other_address x.address a (ap (λ (y : Reservation). y.address) (some_is x r e) ∙ same)
+    (ap (λ (b : Bool). b || false)
+    (or_false (nat_eq a x.address) (list_any (nat_eq a) (reserved rs)) none).0)
+not_this a (x ∷ rs) (suc j) r none e same =
+    not_this a rs j r (or_false (nat_eq a x.address) (list_any (nat_eq a) (reserved rs)) none).1 e
+    same
+
+-- a reservation of a subnet, and one of a later subnet
+across : (earlier : List ℕ) (x : Subnet) (subnets : List Subnet) (j k l : ℕ) (s t : Subnet)
+    (p q : Reservation)
+    → all_obey earlier (x ∷ subnets) ≡ true → Some x ≡ Some s → slice_get s.reservations j ≡ Some p
+    → slice_get subnets k ≡ Some t → slice_get t.reservations l ≡ Some q → p.address ≡ q.address → ⊥
+across earlier x subnets j k l s t p q h e f g u same =
+    let rules = first_subnet earlier x subnets h in
+    let new = new_address (earlier ++ reserved x.reservations) subnets k l t q rules.1 g u in
+    let here : slice_get x.reservations j ≡ Some p =
+    subst (λ (y : Subnet). slice_get y.reservations j ≡ Some p) (sym (some_is x s e)) f in
+    not_this q.address x.reservations j p
+    (not_of_both q.address earlier (reserved x.reservations) new).1 here same
+
+-- two reservations of the first subnet
+within_first : (earlier : List ℕ) (x : Subnet) (subnets : List Subnet) (j l : ℕ) (s t : Subnet)
+    (p q : Reservation)
+    → all_obey earlier (x ∷ subnets) ≡ true → Some x ≡ Some s → slice_get s.reservations j ≡ Some p
+    → Some x ≡ Some t → slice_get t.reservations l ≡ Some q → IsOnePlace j l p q
+within_first earlier x subnets j l s t p q h e f g u =
+    let this : slice_get x.reservations j ≡ Some p =
+    subst (λ (y : Subnet). slice_get y.reservations j ≡ Some p) (sym (some_is x s e)) f in
+    let that : slice_get x.reservations l ≡ Some q =
+    subst (λ (y : Subnet). slice_get y.reservations l ≡ Some q) (sym (some_is x t g)) u in
+    within x.prefix earlier [] x.reservations j l p q (first_subnet earlier x subnets h).0 this that
+
+-- two reservations of one address
+one_place : (earlier : List ℕ) (subnets : List Subnet) (i j k l : ℕ) (s t : Subnet)
+    (p q : Reservation) → all_obey earlier subnets ≡ true
+    → slice_get subnets i ≡ Some s → slice_get s.reservations j ≡ Some p
+    → slice_get subnets k ≡ Some t
+    → slice_get t.reservations l ≡ Some q → p.address ≡ q.address → (i ≡ k) × (j ≡ l)
+one_place earlier [] i j k l s t p q h e f g u same = absurd (cc)
+one_place earlier (x ∷ subnets) zero j zero l s t p q h e f g u same =
+    (refl, (within_first earlier x subnets j l s t p q h e f g u).address same)
+one_place earlier (x ∷ subnets) zero j (suc k) l s t p q h e f g u same =
+    absurd (across earlier x subnets j k l s t p q h e f g u same)
+one_place earlier (x ∷ subnets) (suc i) j zero l s t p q h e f g u same =
+    absurd (across earlier x subnets l i j t s q p h g u e f (sym same))
+one_place earlier (x ∷ subnets) (suc i) j (suc k) l s t p q h e f g u same =
+    let rules = first_subnet earlier x subnets h in
+    let one = one_place (earlier ++ reserved x.reservations) subnets i j k l s t p q rules.1 e f g u
+    same in
+    (ap suc one.0, one.1)
+
+-- two reservations of one subnet for one client
+one_of_client : (earlier : List ℕ) (subnets : List Subnet) (i j l : ℕ) (s t : Subnet)
+    (p q : Reservation) → all_obey earlier subnets ≡ true
+    → slice_get subnets i ≡ Some s → slice_get s.reservations j ≡ Some p
+    → slice_get subnets i ≡ Some t
+    → slice_get t.reservations l ≡ Some q → p.identity ≡ q.identity → j ≡ l
+one_of_client earlier [] i j l s t p q h e f g u same = absurd (cc)
+one_of_client earlier (x ∷ subnets) zero j l s t p q h e f g u same =
+    (within_first earlier x subnets j l s t p q h e f g u).client same
+one_of_client earlier (x ∷ subnets) (suc i) j l s t p q h e f g u same =
+    one_of_client (earlier ++ reserved x.reservations) subnets i j l s t p q
+    (first_subnet earlier x subnets h).1 e f g u same
+
+obey_from : (subnets : List Subnet) → may_stand subnets ≡ true → all_obey [] subnets ≡ true
+unfolding may_stand
+obey_from subnets h = (both_passed (lie_apart (pool_ranges subnets)) (all_obey [] subnets) h).1
+
+pub one_of_address : AddressHasOneReservation
+one_of_address c i j k l p q sound this that same =
+    one_place [] c.subnets i j k l this.subnet that.subnet p q
+    (obey_from c.subnets sound.subnets.together)
+    this.subnet_at this.reservation_at that.subnet_at that.reservation_at same
+
+pub one_of_identity : ClientHasOneReservation
+one_of_identity c i j l p q sound this that same =
+    one_of_client [] c.subnets i j l this.subnet that.subnet p q
+    (obey_from c.subnets sound.subnets.together)
+    this.subnet_at this.reservation_at that.subnet_at that.reservation_at same
