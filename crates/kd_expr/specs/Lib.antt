@@ -10,3 +10,4 @@ pub mod Size
 pub mod Typing
 pub mod Gives
 pub mod View
+pub mod Refusals

@@ -6,6 +6,8 @@ use Rattle.kd_expr.specs.Tree.{Tree, Literal, Int, OptionValue, RelayValue, Fiel
 use Rattle.kd_expr.specs.declared.node.Node.{Node}
 use Rattle.kd_expr.specs.declared.node.Node.TheVariants as nodes
 use Rattle.kd_expr.specs.declared.token.Token.{Token}
+use Rattle.kd_expr.specs.declared.token.Sign.{Sign}
+use Rattle.kd_expr.specs.declared.token.Sign.TheVariants as signs
 use Rattle.kd_expr.specs.declared.token.Kind.{Kind}
 use Rattle.kd_expr.specs.declared.token.Kind.TheVariants as kinds
 
@@ -32,6 +34,17 @@ tree_of (nodes.Lower' at p a) = Lower at (tree_of a)
 tree_of (nodes.Upper' at p a) = Upper at (tree_of a)
 tree_of (nodes.IntToText' at p a) = IntToText at (tree_of a)
 
+-- the byte of a sign, the first of the two of an equality
+abbrev pub sign_byte : Sign → ℕ
+sign_byte signs.Open = 40
+sign_byte signs.Close = 41
+sign_byte signs.Left = 91
+sign_byte signs.Right = 93
+sign_byte signs.Comma = 44
+sign_byte signs.Dot = 46
+sign_byte signs.Plus = 43
+sign_byte signs.Equals = 61
+
 -- the lexeme of a kind of token at a place
 abbrev pub lexeme_at : ℕ → Kind → Lexeme
 lexeme_at at (kinds.Text bytes) = StringAt at bytes.now
@@ -40,7 +53,7 @@ lexeme_at at (kinds.Address a b c d) = AddressAt at (a ∷ b ∷ c ∷ d ∷ [])
 lexeme_at at (kinds.Number digits) = NumberAt at (decimal digits.now)
 lexeme_at at (kinds.Minus digits) = MinusAt at (decimal digits.now)
 lexeme_at at (kinds.Name name) = NameAt at name.now
-lexeme_at at (kinds.Sign b) = SignAt at b
+lexeme_at at (kinds.Sign s) = SignAt at (sign_byte s)
 lexeme_at at kinds.Bad = BadAt at
 
 -- the lexeme that a token is seen as

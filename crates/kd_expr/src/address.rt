@@ -35,7 +35,7 @@ fn next_part(text: &[u8]) -> Option<(u8, &[u8])>
     ensures { option_map (λ x. (x.0, x.1.now)) result ≡ part_after_dot text.now }
 {
     match text {
-        [b, rest @ ..] if *b == 46 => part(rest),
+        [b, rest @ ..] if *b == b'.' => part(rest),
         _ => None,
     }
 }

@@ -1,8 +1,11 @@
-ghost use Rattle.std.specs.Prelude.{◌≡◌, ◌≤◌, length};
+ghost use Rattle.std.specs.Prelude.{◌≡◌, ◌≤◌, length, true, false, MatchOption};
 ghost use Rattle.std.specs.List.{prefix_len};
 ghost use Rattle.kd_expr.specs.Address.{a_digit};
 ghost use Rattle.kd_expr.specs.Lexical.{a_blank, a_letter, a_sign};
 ghost use Rattle.kd_expr.specs.Lexing.{class_test, front_of, behind_of, all_pass};
+ghost use Rattle.kd_expr.specs.View.{sign_byte};
+
+use crate::token::Sign;
 
 // A class of bytes that words are made of.
 #[derive(Clone, Copy)]
@@ -20,10 +23,10 @@ fn is_of(class: Class, b: u8) -> bool
 {
     match class {
         Class::Digit => is_digit(b),
-        Class::HexDigit => is_digit(b) || (65 <= b && b <= 70) || (97 <= b && b <= 102),
-        Class::InRun => is_digit(b) || is_letter(b) || b == 46,
-        Class::InName => is_letter(b) || is_digit(b) || b == 95 || b == 45,
-        Class::InString => !(b == 39 || b == 10),
+        Class::HexDigit => is_digit(b) || (b'A' <= b && b <= b'F') || (b'a' <= b && b <= b'f'),
+        Class::InRun => is_digit(b) || is_letter(b) || b == b'.',
+        Class::InName => is_letter(b) || is_digit(b) || b == b'_' || b == b'-',
+        Class::InString => !(b == b'\'' || b == b'\n'),
     }
 }
 
@@ -31,28 +34,37 @@ fn is_of(class: Class, b: u8) -> bool
 pub(crate) fn is_digit(b: u8) -> bool
     ensures { result ≡ a_digit b }
 {
-    48 <= b && b <= 57
+    b'0' <= b && b <= b'9'
 }
 
 // A letter of ASCII.
 pub(crate) fn is_letter(b: u8) -> bool
     ensures { result ≡ a_letter b }
 {
-    (65 <= b && b <= 90) || (97 <= b && b <= 122)
+    (b'A' <= b && b <= b'Z') || (b'a' <= b && b <= b'z')
 }
 
 // A space, tab, carriage return or line feed.
 pub(crate) fn is_blank(b: u8) -> bool
     ensures { result ≡ a_blank b }
 {
-    b == 32 || b == 9 || b == 13 || b == 10
+    b == b' ' || b == b'\t' || b == b'\r' || b == b'\n'
 }
 
-// A bracket, comma, dot or plus.
-pub(crate) fn is_sign(b: u8) -> bool
-    ensures { result ≡ a_sign b }
+// The sign of one byte: a bracket, comma, dot or plus.
+pub(crate) fn sign_of(b: u8) -> Option<Sign>
+    ensures { MatchOption result (a_sign b ≡ false) (λ s. (a_sign b ≡ true) × (sign_byte s ≡ b)) }
 {
-    b == 40 || b == 41 || b == 43 || b == 44 || b == 46 || b == 91 || b == 93
+    match b {
+        b'(' => Some(Sign::Open),
+        b')' => Some(Sign::Close),
+        b'[' => Some(Sign::Left),
+        b']' => Some(Sign::Right),
+        b',' => Some(Sign::Comma),
+        b'.' => Some(Sign::Dot),
+        b'+' => Some(Sign::Plus),
+        _ => None,
+    }
 }
 
 // How many bytes at the front are of the class.

@@ -1,14 +1,14 @@
 ghost use Rattle.std.specs.Prelude.{◌≡◌, ◌≤◌, IfOk, length, codes, bytes_eq};
 ghost use Rattle.kd_expr.specs.Gives.{ReadsAs};
 ghost use Rattle.kd_expr.specs.Reading.{below, named_at, form_at, operand_then, operand_in_brackets, operands_in_brackets, ifelse_at, substring_after};
-ghost use Rattle.kd_expr.specs.View.{lexemes, tree_of};
+ghost use Rattle.kd_expr.specs.View.{lexemes, sign_byte, tree_of};
 
 use crate::fault::SyntaxFault;
 use crate::names::{field_of, length_of, member_of, option_of, packet_of, relay_of, signed_of};
 use crate::node::Node;
 use crate::parser::{Source, any_deeper};
 use crate::take::expect_sign;
-use crate::token::Token;
+use crate::token::{Sign, Token};
 
 // What the name at a place begins, of which the tokens behind the name are given.
 #[cycle(parser)]
@@ -90,9 +90,9 @@ pub(crate) fn operand_before<'t, 'a>(
     tokens: &'t [Token<'a>],
     depth: u8,
     open: usize,
-    wanted: u8,
+    wanted: Sign,
 ) -> Result<(Box<Node>, &'t [Token<'a>]), SyntaxFault>
-    ensures reads { ReadsAs (λ x. (tree_of x.0.value, lexemes x.1.now)) result (operand_then (below depth) wanted (lexemes tokens.now)) }
+    ensures reads { ReadsAs (λ x. (tree_of x.0.value, lexemes x.1.now)) result (operand_then (below depth) (sign_byte wanted) (lexemes tokens.now)) }
     ensures shorter { IfOk result (λ x. length x.1.now ≤ length tokens.now) }
 {
     let (operand, rest) = any_deeper(source, tokens, depth, open)?;
@@ -111,8 +111,8 @@ fn one_operand<'t, 'a>(
     ensures reads { ReadsAs (λ x. (tree_of x.0.value, lexemes x.1.now)) result (operand_in_brackets (below depth) (lexemes tokens.now)) }
     ensures shorter { IfOk result (λ x. length x.1.now ≤ length tokens.now) }
 {
-    let (open, rest) = expect_sign(tokens, b'(', source.end)?;
-    operand_before(source, rest, depth, open, b')')
+    let (open, rest) = expect_sign(tokens, Sign::Open, source.end)?;
+    operand_before(source, rest, depth, open, Sign::Close)
 }
 
 // Two operands in brackets.
@@ -126,9 +126,9 @@ fn two_operands<'t, 'a>(
     ensures reads { ReadsAs (λ x. ((tree_of x.0.value, tree_of x.1.value), lexemes x.2.now)) result (operands_in_brackets (below depth) (lexemes tokens.now)) }
     ensures shorter { IfOk result (λ x. length x.2.now ≤ length tokens.now) }
 {
-    let (open, rest) = expect_sign(tokens, b'(', source.end)?;
-    let (first, rest) = operand_before(source, rest, depth, open, b',')?;
-    let (second, rest) = operand_before(source, rest, depth, open, b')')?;
+    let (open, rest) = expect_sign(tokens, Sign::Open, source.end)?;
+    let (first, rest) = operand_before(source, rest, depth, open, Sign::Comma)?;
+    let (second, rest) = operand_before(source, rest, depth, open, Sign::Close)?;
     Ok((first, second, rest))
 }
 
@@ -144,10 +144,10 @@ fn ifelse_of<'t, 'a>(
     ensures reads { ReadsAs (λ x. (tree_of x.0, lexemes x.1.now)) result (ifelse_at (below depth) at (lexemes tokens.now)) }
     ensures shorter { IfOk result (λ x. length x.1.now ≤ length tokens.now) }
 {
-    let (open, rest) = expect_sign(tokens, b'(', source.end)?;
-    let (test, rest) = operand_before(source, rest, depth, open, b',')?;
-    let (yes, rest) = operand_before(source, rest, depth, open, b',')?;
-    let (no, rest) = operand_before(source, rest, depth, open, b')')?;
+    let (open, rest) = expect_sign(tokens, Sign::Open, source.end)?;
+    let (test, rest) = operand_before(source, rest, depth, open, Sign::Comma)?;
+    let (yes, rest) = operand_before(source, rest, depth, open, Sign::Comma)?;
+    let (no, rest) = operand_before(source, rest, depth, open, Sign::Close)?;
     Ok((Node::IfElse { at, test, yes, no }, rest))
 }
 
@@ -163,12 +163,12 @@ fn substring_of<'t, 'a>(
     ensures reads { ReadsAs (λ x. (tree_of x.0, lexemes x.1.now)) result (substring_after (below depth) at (lexemes tokens.now)) }
     ensures shorter { IfOk result (λ x. length x.1.now ≤ length tokens.now) }
 {
-    let (open, rest) = expect_sign(tokens, b'(', source.end)?;
-    let (operand, rest) = operand_before(source, rest, depth, open, b',')?;
+    let (open, rest) = expect_sign(tokens, Sign::Open, source.end)?;
+    let (operand, rest) = operand_before(source, rest, depth, open, Sign::Comma)?;
     let (start, rest) = signed_of(rest, source.end)?;
-    let (_, rest) = expect_sign(rest, b',', source.end)?;
+    let (_, rest) = expect_sign(rest, Sign::Comma, source.end)?;
     let (length, rest) = length_of(rest, source.end)?;
-    let (_, rest) = expect_sign(rest, b')', source.end)?;
+    let (_, rest) = expect_sign(rest, Sign::Close, source.end)?;
     Ok((
         Node::Substring {
             at,

@@ -3,8 +3,8 @@ ghost use Rattle.kd_expr.specs.Lexing.{digits_after_0x, token_of_run, run_cut, s
 ghost use Rattle.kd_expr.specs.View.{lexemes, lexeme_of};
 
 use crate::address::address_of;
-use crate::class::{Class, all_of, is_blank, is_digit, is_letter, is_sign, split};
-use crate::token::{Kind, Token};
+use crate::class::{Class, all_of, is_blank, is_digit, is_letter, sign_of, split};
+use crate::token::{Kind, Sign, Token};
 use std::alloc::{AllocError, Global};
 
 // The tokens of a text. The last is bad where no word stands, and nothing behind it is looked at.
@@ -47,26 +47,25 @@ fn word_at<'a>(at: usize, bytes: &'a [u8]) -> Option<(Token<'a>, &'a [u8])>
         return None;
     };
     let b = *first;
-    if b == 39 {
+    if b == b'\'' {
         string_at(at, rest)
     } else if is_digit(b) {
         run_at(at, bytes)
-    } else if b == 45 {
+    } else if b == b'-' {
         minus_at(at, rest)
     } else if is_letter(b) {
         name_at(at, bytes)
-    } else if b == 61 {
+    } else if b == b'=' {
         equal_at(at, rest)
-    } else if is_sign(b) {
+    } else {
+        let sign = sign_of(b)?;
         Some((
             Token {
                 at,
-                kind: Kind::Sign(b),
+                kind: Kind::Sign(sign),
             },
             rest,
         ))
-    } else {
-        None
     }
 }
 
@@ -77,7 +76,7 @@ fn string_at<'a>(at: usize, bytes: &'a [u8]) -> Option<(Token<'a>, &'a [u8])>
 {
     let (text, behind) = split(Class::InString, bytes);
     match behind {
-        [b, rest @ ..] if *b == 39 => Some((
+        [b, rest @ ..] if *b == b'\'' => Some((
             Token {
                 at,
                 kind: Kind::Text(text),
@@ -130,8 +129,8 @@ fn hex_digits(run: &[u8]) -> Option<&[u8]>
     let [zero, x, digits @ ..] = run else {
         return None;
     };
-    if *zero == 48
-        && (*x == 120 || *x == 88)
+    if *zero == b'0'
+        && (*x == b'x' || *x == b'X')
         && digits.len() >= 1
         && all_of(Class::HexDigit, digits)
     {
@@ -181,10 +180,10 @@ fn equal_at<'a>(at: usize, bytes: &'a [u8]) -> Option<(Token<'a>, &'a [u8])>
     ensures { option_map (λ x. (lexeme_of x.0, x.1.now)) result ≡ equal_cut at bytes.now }
 {
     match bytes {
-        [b, rest @ ..] if *b == 61 => Some((
+        [b, rest @ ..] if *b == b'=' => Some((
             Token {
                 at,
-                kind: Kind::Sign(61),
+                kind: Kind::Sign(Sign::Equals),
             },
             rest,
         )),

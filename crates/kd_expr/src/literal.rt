@@ -44,9 +44,9 @@ fn hex_digit(d: u8) -> u8
     ensures small { result < 16 }
 {
     match d {
-        b'0'..=b'9' => d - 48,
-        b'A'..=b'F' => d - 55,
-        b'a'..=b'f' => d - 87,
+        b'0'..=b'9' => d - b'0',
+        b'A'..=b'F' => d - b'A' + 10,
+        b'a'..=b'f' => d - b'a' + 10,
         _ => 0,
     }
 }

@@ -1,8 +1,10 @@
-ghost use Rattle.std.specs.Prelude.{◌≡◌, ◌≤◌, ◌<◌, IfOk, length, codes, bytes_eq};
+ghost use Rattle.std.specs.Prelude.{◌≡◌, ◌≤◌, ◌<◌, ◌==◌, if◌then◌else◌, IfErr, IfOk, length, codes, bytes_eq};
 ghost use Rattle.kd_expr.specs.Gives.{ReadsAs};
 ghost use Rattle.kd_expr.specs.Names.{code_by_name, field_by_name};
 ghost use Rattle.kd_expr.specs.Reading.{below, one, bracketed, code_of_option, code_of_relay, suffix_of, field_of, signed, length_of_part, class_name, option_at, relay_at, field_after, packet_at, member_at};
+ghost use Rattle.kd_expr.specs.Refusals.{code_refusal, option_refusal, refused_at, signed_refusal, unexpected_at};
 ghost use Rattle.kd_expr.specs.View.{lexemes, tree_of};
+ghost use Rattle.kd_expr.specs.declared.fault.SyntaxFault.TheVariants.{TooNested};
 
 use crate::fault::SyntaxFault;
 use crate::literal::bytes_of;
@@ -10,7 +12,7 @@ use crate::node::{Field, Node};
 use crate::number::number;
 use crate::parser::Source;
 use crate::take::{expect_sign, expect_word, unexpected};
-use crate::token::{Kind, Token};
+use crate::token::{Kind, Sign, Token};
 
 // What stands behind `option`.
 #[tactic(auto, unfolding(crate::specs::Reading::option_at))]
@@ -22,10 +24,10 @@ pub(crate) fn option_of<'t, 'a>(
     ensures reads { ReadsAs (λ x. (tree_of x.0, lexemes x.1.now)) result (option_at at (lexemes tokens.now)) }
     ensures shorter { IfOk result (λ x. length x.1.now ≤ length tokens.now) }
 {
-    let (_, rest) = expect_sign(tokens, b'[', source.end)?;
+    let (_, rest) = expect_sign(tokens, Sign::Left, source.end)?;
     let (code, rest) = option_code(rest, source.end)?;
-    let (_, rest) = expect_sign(rest, b']', source.end)?;
-    let (_, rest) = expect_sign(rest, b'.', source.end)?;
+    let (_, rest) = expect_sign(rest, Sign::Right, source.end)?;
+    let (_, rest) = expect_sign(rest, Sign::Dot, source.end)?;
     let (exists, rest) = suffix(rest, source.end)?;
     if exists {
         Ok((Node::OptionExists { at, code }, rest))
@@ -44,10 +46,10 @@ pub(crate) fn relay_of<'t, 'a>(
     ensures reads { ReadsAs (λ x. (tree_of x.0, lexemes x.1.now)) result (relay_at at (lexemes tokens.now)) }
     ensures shorter { IfOk result (λ x. length x.1.now ≤ length tokens.now) }
 {
-    let (_, rest) = expect_sign(tokens, b'[', source.end)?;
+    let (_, rest) = expect_sign(tokens, Sign::Left, source.end)?;
     let (code, rest) = relay_code(rest, source.end)?;
-    let (_, rest) = expect_sign(rest, b']', source.end)?;
-    let (_, rest) = expect_sign(rest, b'.', source.end)?;
+    let (_, rest) = expect_sign(rest, Sign::Right, source.end)?;
+    let (_, rest) = expect_sign(rest, Sign::Dot, source.end)?;
     let (exists, rest) = suffix(rest, source.end)?;
     if exists {
         Ok((Node::RelayExists { at, code }, rest))
@@ -66,7 +68,7 @@ pub(crate) fn field_of<'t, 'a>(
     ensures reads { ReadsAs (λ x. (tree_of x.0, lexemes x.1.now)) result (field_after at (lexemes tokens.now)) }
     ensures shorter { IfOk result (λ x. length x.1.now ≤ length tokens.now) }
 {
-    let (_, rest) = expect_sign(tokens, b'.', source.end)?;
+    let (_, rest) = expect_sign(tokens, Sign::Dot, source.end)?;
     let (field, rest) = field(rest, source.end)?;
     Ok((Node::Field { at, field }, rest))
 }
@@ -81,7 +83,7 @@ pub(crate) fn packet_of<'t, 'a>(
     ensures reads { ReadsAs (λ x. (tree_of x.0, lexemes x.1.now)) result (packet_at at (lexemes tokens.now)) }
     ensures shorter { IfOk result (λ x. length x.1.now ≤ length tokens.now) }
 {
-    let (_, rest) = expect_sign(tokens, b'.', source.end)?;
+    let (_, rest) = expect_sign(tokens, Sign::Dot, source.end)?;
     let (_, rest) = expect_word(rest, b"len", source.end)?;
     Ok((
         Node::Field {
@@ -103,9 +105,9 @@ pub(crate) fn member_of<'t, 'a>(
     ensures reads { ReadsAs (λ x. (tree_of x.0, lexemes x.1.now)) result (member_at (below depth) at (lexemes tokens.now)) }
     ensures shorter { IfOk result (λ x. length x.1.now ≤ length tokens.now) }
 {
-    let (open, rest) = expect_sign(tokens, b'(', source.end)?;
+    let (open, rest) = expect_sign(tokens, Sign::Open, source.end)?;
     let (name, rest) = name_deeper(rest, depth, open, source.end)?;
-    let (_, rest) = expect_sign(rest, b')', source.end)?;
+    let (_, rest) = expect_sign(rest, Sign::Close, source.end)?;
     let name = bytes_of(source.alloc, name)?;
     Ok((Node::Member { at, name }, rest))
 }
@@ -120,6 +122,8 @@ fn name_deeper<'t, 'a>(
 ) -> Result<(&'a [u8], &'t [Token<'a>]), SyntaxFault>
     ensures reads { ReadsAs (λ x. (x.0.now, lexemes x.1.now)) result ((below depth).name (lexemes tokens.now)) }
     ensures shorter { IfOk result (λ x. length x.1.now ≤ length tokens.now) }
+    ensures fault { IfErr result (λ e. e ≡ (if depth == 0 then TooNested at
+        else unexpected_at (lexemes tokens.now) end)) }
 {
     if depth == 0 {
         return Err(SyntaxFault::TooNested(at));
@@ -141,6 +145,7 @@ fn option_code<'t, 'a>(
 ) -> Result<(u8, &'t [Token<'a>]), SyntaxFault>
     ensures reads { ReadsAs (λ x. (x.0, lexemes x.1.now)) result (one code_of_option (lexemes tokens.now)) }
     ensures shorter { IfOk result (λ x. length x.1.now < length tokens.now) }
+    ensures fault { IfErr result (λ e. e ≡ refused_at option_refusal (lexemes tokens.now) end) }
 {
     let [first, rest @ ..] = tokens else {
         return Err(SyntaxFault::Expected(end));
@@ -166,6 +171,7 @@ fn relay_code<'t, 'a>(
 ) -> Result<(u8, &'t [Token<'a>]), SyntaxFault>
     ensures reads { ReadsAs (λ x. (x.0, lexemes x.1.now)) result (one code_of_relay (lexemes tokens.now)) }
     ensures shorter { IfOk result (λ x. length x.1.now < length tokens.now) }
+    ensures fault { IfErr result (λ e. e ≡ refused_at code_refusal (lexemes tokens.now) end) }
 {
     let [first, rest @ ..] = tokens else {
         return Err(SyntaxFault::Expected(end));
@@ -187,6 +193,7 @@ fn suffix<'t, 'a>(
 ) -> Result<(bool, &'t [Token<'a>]), SyntaxFault>
     ensures reads { ReadsAs (λ x. (x.0, lexemes x.1.now)) result (one suffix_of (lexemes tokens.now)) }
     ensures shorter { IfOk result (λ x. length x.1.now < length tokens.now) }
+    ensures fault { IfErr result (λ e. e ≡ unexpected_at (lexemes tokens.now) end) }
 {
     let [first, rest @ ..] = tokens else {
         return Err(SyntaxFault::Expected(end));
@@ -206,6 +213,7 @@ fn field<'t, 'a>(
 ) -> Result<(Field, &'t [Token<'a>]), SyntaxFault>
     ensures reads { ReadsAs (λ x. (x.0, lexemes x.1.now)) result (one field_of (lexemes tokens.now)) }
     ensures shorter { IfOk result (λ x. length x.1.now < length tokens.now) }
+    ensures fault { IfErr result (λ e. e ≡ unexpected_at (lexemes tokens.now) end) }
 {
     let [first, rest @ ..] = tokens else {
         return Err(SyntaxFault::Expected(end));
@@ -227,6 +235,7 @@ pub(crate) fn signed_of<'t, 'a>(
 ) -> Result<(i32, &'t [Token<'a>]), SyntaxFault>
     ensures reads { ReadsAs (λ x. (x.0, lexemes x.1.now)) result (one signed (lexemes tokens.now)) }
     ensures shorter { IfOk result (λ x. length x.1.now < length tokens.now) }
+    ensures fault { IfErr result (λ e. e ≡ refused_at signed_refusal (lexemes tokens.now) end) }
 {
     let [first, rest @ ..] = tokens else {
         return Err(SyntaxFault::Expected(end));
@@ -253,6 +262,7 @@ pub(crate) fn length_of<'t, 'a>(
 ) -> Result<(Option<i32>, &'t [Token<'a>]), SyntaxFault>
     ensures reads { ReadsAs (λ x. (x.0, lexemes x.1.now)) result (one length_of_part (lexemes tokens.now)) }
     ensures shorter { IfOk result (λ x. length x.1.now < length tokens.now) }
+    ensures fault { IfErr result (λ e. e ≡ refused_at signed_refusal (lexemes tokens.now) end) }
 {
     let [first, rest @ ..] = tokens else {
         return Err(SyntaxFault::Expected(end));

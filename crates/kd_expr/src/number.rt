@@ -7,7 +7,7 @@ pub(crate) fn number(digits: &[u8]) -> Option<u32>
 {
     let mut n: u64 = 0;
     for d in digits {
-        n = 10 * n + u64::from(d.saturating_sub(48));
+        n = 10 * n + u64::from(d.saturating_sub(b'0'));
         if n >= 1 << 32 {
             return None;
         }

@@ -1,7 +1,8 @@
-ghost use Rattle.std.specs.Prelude.{◌≡◌, ◌≤◌, ◌<◌, IfOk, MatchResult, length, codes, bytes_eq};
+ghost use Rattle.std.specs.Prelude.{◌≡◌, ◌≤◌, ◌<◌, IfErr, IfOk, MatchResult, length, codes, bytes_eq};
 ghost use Rattle.kd_expr.specs.Gives.{ReadsAs};
 ghost use Rattle.kd_expr.specs.Reading.{below, or_at, and_at, not_at, compare_at, sum_at, primary_at, group_at};
 ghost use Rattle.kd_expr.specs.Reading as reading;
+ghost use Rattle.kd_expr.specs.Refusals.{IsNumberRefused};
 ghost use Rattle.kd_expr.specs.Tree.{Equal, Not, at_of};
 ghost use Rattle.kd_expr.specs.View.{lexemes, tree_of};
 ghost use Rattle.kd_expr.specs.declared.fault.SyntaxFault.TheVariants as faults;
@@ -12,7 +13,7 @@ use crate::literal::{bytes_of, hex_bytes_of};
 use crate::node::Node;
 use crate::number::number;
 use crate::take::{expect_sign, sign, unexpected, word};
-use crate::token::{Kind, Token};
+use crate::token::{Kind, Sign, Token};
 use std::alloc::Global;
 
 // What a parse knows besides its tokens: where memory comes from, and where the text ends.
@@ -149,7 +150,7 @@ fn compare_of<'t, 'a>(
     ensures shorter { IfOk result (λ x. length x.1.now ≤ length tokens.now) }
 {
     let (first, rest) = sum_of(source, tokens, depth)?;
-    match sign(rest, b'=') {
+    match sign(rest, Sign::Equals) {
         Some((_, after)) => {
             let (second, behind) = sum_of(source, after, depth)?;
             Ok((equality(source.alloc, first, second)?, behind))
@@ -170,7 +171,7 @@ fn sum_of<'t, 'a>(
     ensures shorter { IfOk result (λ x. length x.1.now ≤ length tokens.now) }
 {
     let (mut first, mut rest) = primary_of(source, tokens, depth)?;
-    while let Some((_, after)) = sign(rest, b'+') {
+    while let Some((_, after)) = sign(rest, Sign::Plus) {
         let (next, behind) = primary_of(source, after, depth)?;
         first = concatenation(source.alloc, first, next)?;
         rest = behind;
@@ -188,6 +189,7 @@ fn primary_of<'t, 'a>(
 ) -> Result<(Node, &'t [Token<'a>]), SyntaxFault>
     ensures reads { ReadsAs (λ x. (tree_of x.0, lexemes x.1.now)) result (primary_at (below depth) (lexemes tokens.now)) }
     ensures shorter { IfOk result (λ x. length x.1.now ≤ length tokens.now) }
+    ensures number { IfErr result (IsNumberRefused (lexemes tokens.now)) }
 {
     let [token, rest @ ..] = tokens else {
         return Err(SyntaxFault::Expected(source.end));
@@ -227,8 +229,8 @@ fn group_of<'t, 'a>(
     ensures reads { ReadsAs (λ x. (tree_of x.0, lexemes x.1.now)) result (group_at (below depth) (lexemes tokens.now)) }
     ensures shorter { IfOk result (λ x. length x.1.now ≤ length tokens.now) }
 {
-    let (at, rest) = expect_sign(tokens, b'(', source.end)?;
-    let (operand, rest) = operand_before(source, rest, depth, at, b')')?;
+    let (at, rest) = expect_sign(tokens, Sign::Open, source.end)?;
+    let (operand, rest) = operand_before(source, rest, depth, at, Sign::Close)?;
     Ok((Node::Group { at, operand }, rest))
 }
 

@@ -1,18 +1,20 @@
-ghost use Rattle.std.specs.Prelude.{◌≡◌, ◌≢◌, ◌≤◌, ◌^◌, ◌<◌, IfOk, IfSome, length, option_map, option_copied, bytes_eq, codes};
+ghost use Rattle.std.specs.Prelude.{◌≡◌, ◌≢◌, ◌≤◌, ◌^◌, ◌<◌, IfErr, IfOk, IfSome, length, option_map, option_copied, bytes_eq, codes};
 ghost use Rattle.kd_expr.specs.Gives.{ReadsAs};
 ghost use Rattle.kd_expr.specs.Names.{code_by_name, field_by_name};
 ghost use Rattle.kd_expr.specs.Reading.{one, sign_here, word_here, code_of_option, code_of_relay, suffix_of, field_of, signed, length_of_part, class_name};
-ghost use Rattle.kd_expr.specs.View.{lexemes, lexeme_at};
+ghost use Rattle.kd_expr.specs.Refusals.{unexpected_at};
+ghost use Rattle.kd_expr.specs.View.{lexemes, lexeme_at, sign_byte};
 ghost use Rattle.kd_expr.specs.declared.fault.SyntaxFault.TheVariants as faults;
 
 use crate::fault::SyntaxFault;
 use crate::node::Field;
 use crate::number::number;
-use crate::token::{Kind, Token};
+use crate::token::{Kind, Sign, Token};
 
 // The fault of the first token, which cannot stand there; at the end of the text where none is left.
 pub(crate) fn unexpected(tokens: &[Token<'_>], end: usize) -> SyntaxFault
-    ensures { result ≢ faults.Memory }
+    ensures fault { result ≢ faults.Memory }
+    ensures exact { result ≡ unexpected_at (lexemes tokens.now) end }
 {
     let [first, ..] = tokens else {
         return SyntaxFault::Expected(end);
@@ -25,8 +27,11 @@ pub(crate) fn unexpected(tokens: &[Token<'_>], end: usize) -> SyntaxFault
 }
 
 // The place of this sign, and what follows it.
-pub(crate) fn sign<'t, 'a>(tokens: &'t [Token<'a>], wanted: u8) -> Option<(usize, &'t [Token<'a>])>
-    ensures reads { option_map (λ x. (x.0, lexemes x.1.now)) result ≡ sign_here wanted (lexemes tokens.now) }
+pub(crate) fn sign<'t, 'a>(
+    tokens: &'t [Token<'a>],
+    wanted: Sign,
+) -> Option<(usize, &'t [Token<'a>])>
+    ensures reads { option_map (λ x. (x.0, lexemes x.1.now)) result ≡ sign_here (sign_byte wanted) (lexemes tokens.now) }
     ensures shorter { IfSome result (λ x. length x.1.now < length tokens.now) }
 {
     let [first, rest @ ..] = tokens else {
@@ -34,7 +39,7 @@ pub(crate) fn sign<'t, 'a>(tokens: &'t [Token<'a>], wanted: u8) -> Option<(usize
     };
     let token = *first;
     match token.kind {
-        Kind::Sign(b) if b == wanted => Some((token.at, rest)),
+        Kind::Sign(found) if found.byte() == wanted.byte() => Some((token.at, rest)),
         _ => None,
     }
 }
@@ -60,11 +65,12 @@ pub(crate) fn word<'t, 'a>(
 // This sign, which has to stand there.
 pub(crate) fn expect_sign<'t, 'a>(
     tokens: &'t [Token<'a>],
-    wanted: u8,
+    wanted: Sign,
     end: usize,
 ) -> Result<(usize, &'t [Token<'a>]), SyntaxFault>
-    ensures reads { ReadsAs (λ x. (x.0, lexemes x.1.now)) result (sign_here wanted (lexemes tokens.now)) }
+    ensures reads { ReadsAs (λ x. (x.0, lexemes x.1.now)) result (sign_here (sign_byte wanted) (lexemes tokens.now)) }
     ensures shorter { IfOk result (λ x. length x.1.now < length tokens.now) }
+    ensures fault { IfErr result (λ e. e ≡ unexpected_at (lexemes tokens.now) end) }
 {
     match sign(tokens, wanted) {
         Some(found) => Ok(found),
@@ -80,6 +86,7 @@ pub(crate) fn expect_word<'t, 'a>(
 ) -> Result<(usize, &'t [Token<'a>]), SyntaxFault>
     ensures reads { ReadsAs (λ x. (x.0, lexemes x.1.now)) result (word_here wanted.now (lexemes tokens.now)) }
     ensures shorter { IfOk result (λ x. length x.1.now < length tokens.now) }
+    ensures fault { IfErr result (λ e. e ≡ unexpected_at (lexemes tokens.now) end) }
 {
     match word(tokens, wanted) {
         Some(found) => Ok(found),

@@ -1,3 +1,45 @@
+ghost use Rattle.std.specs.Prelude.{◌≡◌};
+ghost use Rattle.kd_expr.specs.View.{sign_byte};
+
+// A sign of the language.
+#[derive(Clone, Copy)]
+pub(crate) enum Sign {
+    // `(`
+    Open,
+    // `)`
+    Close,
+    // `[`
+    Left,
+    // `]`
+    Right,
+    // `,`
+    Comma,
+    // `.`
+    Dot,
+    // `+`
+    Plus,
+    // `==`
+    Equals,
+}
+
+impl Sign {
+    // The sign's byte, the first of the two of `==`.
+    pub(crate) fn byte(self) -> u8
+        ensures { result ≡ sign_byte self }
+    {
+        match self {
+            Sign::Open => b'(',
+            Sign::Close => b')',
+            Sign::Left => b'[',
+            Sign::Right => b']',
+            Sign::Comma => b',',
+            Sign::Dot => b'.',
+            Sign::Plus => b'+',
+            Sign::Equals => b'=',
+        }
+    }
+}
+
 // A word of a text with the offset of its first byte.
 #[derive(Clone, Copy)]
 pub(crate) struct Token<'a> {
@@ -19,8 +61,7 @@ pub(crate) enum Kind<'a> {
     // Decimal digits after a minus.
     Minus(&'a [u8]),
     Name(&'a [u8]),
-    // A bracket, comma, dot or plus by its byte; `==` by the byte of `=`.
-    Sign(u8),
+    Sign(Sign),
     // No word begins here.
     Bad,
 }

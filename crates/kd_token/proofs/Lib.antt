@@ -4,6 +4,7 @@ pub mod Again
 pub mod Read
 pub mod Down
 pub mod Meets
+pub mod Pairwise
 pub mod Passing
 pub mod FlowsDown
 pub mod Arrivals
@@ -12,3 +13,4 @@ pub mod Keeps
 pub mod Tidy
 pub mod Ends
 pub mod Visits
+pub mod Firsts

@@ -8,7 +8,7 @@ use Rattle.kd_token.specs.declared.table.Entry.{Entry}
 use Rattle.kd_token.specs.declared.table.Entry.TheVariants.{Unreached, Joined, Clash}
 use Rattle.kd_token.specs.File.{Code}
 use Rattle.kd_token.specs.Shape.{Covers}
-use Rattle.kd_token.specs.Accepts.{Point, Flow, Assignment, flows, leaving, out, origin, IsCovered, IsWithin, IsSoundAt, AreSound}
+use Rattle.kd_token.specs.Accepts.{Point, Flow, Assignment, flows, leaving, out, origin, IsCovered, IsEntered, IsWithin, IsSoundAt, AreSound}
 use Rattle.kd_token.specs.Table.{spread, IsBelow, IsCoveredBy, Arrives, IsPassed, IsPoint}
 use Rattle.kd_token.proofs.Down.{Down}
 use Rattle.kd_token.proofs.FlowsDown.{EachBelow, flows_down}
@@ -78,17 +78,14 @@ some_leave : (P : List Flow → Type 0) (o : Option (List Flow)) → MatchOption
 some_leave P None l = absurd l
 some_leave P (Some gs) l = tt
 
--- the assignment goes on to the point that has arrived, where its flows are within what is declared
-pub sound_on : (p : Code) (n : ℕ) (entries : ℕ → Entry) (x : Option Point) (fs : List Flow) (k : IsPassed p n entries) → IsPoint (entries n) x → leaving (length p.names) (slice_get p.tokens n) n x ≡ Some fs → AllByRecursion (IsWithin p) fs → AreSound p (changed k.some n x) (n + 1)
-sound_on p n entries x fs k is at within = sound where
+-- what is known at a place that has been reached is enough there
+pub entered_on : (p : Code) (n : ℕ) (entries : ℕ → Entry) (x : Option Point) (k : IsPassed p n entries) → IsPoint (entries n) x → IsEntered p (changed k.some n x) n
+entered_on p n entries x k is = record { start = begins; enter = λ i. enters i (cases_lt i n) } where
   some : Assignment
   some = changed k.some n x
 
   there : some n ≡ x
   there = changed_there k.some n x
-
-  out_there : out p some n ≡ Some fs
-  out_there = ap (leaving (length p.names) (slice_get p.tokens n) n) there ∙ at
 
   before_is : (i : ℕ) → i < n → out p k.some i ≡ out p some i
   before_is i less = ap (leaving (length p.names) (slice_get p.tokens i) i) (sym (changed_else k.some n x i (λ e. omega (arith, e, less))))
@@ -107,10 +104,25 @@ sound_on p n entries x fs k is at within = sound where
       let given : x ≡ Some origin = subst Q (k.first e) (subst P e is) in
       there ∙ given
 
+-- the assignment goes on to the point that has arrived, where its flows are within what is declared
+pub sound_on : (p : Code) (n : ℕ) (entries : ℕ → Entry) (x : Option Point) (fs : List Flow) (k : IsPassed p n entries) → IsPoint (entries n) x → leaving (length p.names) (slice_get p.tokens n) n x ≡ Some fs → AllByRecursion (IsWithin p) fs → AreSound p (changed k.some n x) (n + 1)
+sound_on p n entries x fs k is at within = sound where
+  some : Assignment
+  some = changed k.some n x
+
+  there : some n ≡ x
+  there = changed_there k.some n x
+
+  out_there : out p some n ≡ Some fs
+  out_there = ap (leaving (length p.names) (slice_get p.tokens n) n) there ∙ at
+
+  entered : IsEntered p some n
+  entered = entered_on p n entries x k is
+
   sound_here : IsSoundAt p some n
   sound_here = record {
-    start = begins;
-    enter = λ i. enters i (cases_lt i n);
+    start = entered.start;
+    enter = entered.enter;
     leave = let P : Option (List Flow) → Type 0 = λ o. MatchOption o ⊥ (AllByRecursion (IsWithin p)) in subst P (sym out_there) within;
   }
 

@@ -1,6 +1,6 @@
 -- Accepted programs (our own format): there is an assignment of a shape and a count of steps to the
 -- places of a program that holds along each way through it.
-use Rattle.std.specs.Prelude.{◌≡◌, ℕ, ◌+◌, ◌<◌, ◌≤◌, List, [], ◌∷◌, length, slice_get, ◌⊎◌, true, false, Option, Some, None, MatchOption}
+use Rattle.std.specs.Prelude.{◌≡◌, ℕ, ◌+◌, ◌<◌, ◌≤◌, nat_lt, List, [], ◌∷◌, length, slice_get, ◌⊎◌, if◌then◌else◌, true, false, Option, Some, None, MatchOption}
 use Rattle.std.specs.List.{AllByRecursion}
 use Rattle.kd_token.specs.declared.fault.VerifyFault.{VerifyFault}
 use Rattle.kd_token.specs.declared.fault.VerifyFault.TheVariants as faults
@@ -12,7 +12,7 @@ use Rattle.kd_token.specs.declared.way.Way.TheVariants as routes
 use Rattle.kd_token.specs.declared.token.Token.TheVariants as tokens
 use Rattle.kd_token.specs.File.{Code}
 use Rattle.kd_wire.specs.Steps.{◌>>=◌}
-use Rattle.kd_token.specs.Shape.{Covers, AreShort, gives, bool_taken}
+use Rattle.kd_token.specs.Shape.{Covers, AreShort, gives, bool_taken, taken_count}
 
 -- what is known at a place: the shape of the stack, and how many steps led there at most
 pub record Point : Type 0 where
@@ -143,3 +143,69 @@ IsInPlaceOf wanted fault = (fault ≡ wanted) ⊎ (fault ≡ faults.Memory)
 -- the fault names this place, or there was no memory to find it
 abbrev pub IsPlaceOf : ℕ → VerifyFault → Type 0
 IsPlaceOf at fault = (place_of fault ≡ Some at) ⊎ (fault ≡ faults.Memory)
+
+-- what a token leaves on the stack; a branch that keeps its truth value leaves it
+abbrev pub leaves : Way → ℕ → Token → List Kind → Option (List Kind)
+leaves routes.On names token s = gives names token s
+leaves (routes.Skip skip) names token s = Some s
+leaves (routes.Fork skip) names token s = bool_taken s
+leaves (routes.Keep stays skip) names token s = bool_taken s >>= λ r. Some (kinds.Bool ∷ r)
+
+-- the fault of a token that cannot take what it wants from so many values: a name that is not
+-- there, else too few values, else another kind
+abbrev pub misfit_of : Token → ℕ → ℕ → VerifyFault
+misfit_of (tokens.Member index) values at = faults.Name at
+misfit_of token values at = if nat_lt values (taken_count token) then faults.Short at else faults.Kind at
+
+-- how long the value on top is, where it is a byte string
+abbrev pub top_length : List Kind → ℕ
+top_length [] = 0
+top_length (kinds.Bytes n ∷ s) = n
+top_length (kinds.Bool ∷ s) = 0
+top_length (kinds.Int ∷ s) = 0
+
+-- the fault of what is left: more values than declared, else a longer one on top than declared
+abbrev pub excess : Code → ℕ → List Kind → Option VerifyFault
+excess p at s =
+    if nat_lt p.depth (length s) then Some (faults.Deep at)
+    else if nat_lt p.bound (top_length s) then Some (faults.Long at)
+    else None
+
+-- the fault of a token that finds so many values and leaves this
+abbrev pub fault_by : Code → ℕ → Token → ℕ → Option (List Kind) → Option VerifyFault
+fault_by p at token values None = Some (misfit_of token values at)
+fault_by p at token values (Some s) = excess p at s
+
+-- the fault of a token at this place before a shape, if it is at fault
+abbrev pub token_fault : Code → ℕ → Token → List Kind → Option VerifyFault
+token_fault p at token s =
+    fault_by p at token (length s) (leaves (way_of token) (length p.names) token s)
+
+-- what is known at place j is enough: the origin at the first, and what each flow to it brings
+pub record IsEntered (p : Code) (a : Assignment) (j : ℕ) : Type 0 where
+  pub start : j ≡ 0 → a j ≡ Some origin
+  pub enter : (i : ℕ) → MatchOption (out p a i) (Unit {0})
+      (AllByRecursion (λ f. f.to ≡ j → IsCovered (a j) f.point))
+
+-- the least shape that can stand at place j, where those before it are sound
+pub record IsLeastShape (p : Code) (j : ℕ) (s : List Kind) : Type 0 where
+  pub some : Assignment
+  pub sound : AreSound p some j
+  pub entered : IsEntered p some j
+  pub shape : MatchOption (some j) ⊥ (λ q. q.shape ≡ s)
+  pub least : (a : Assignment) → AreSound p a j → IsEntered p a j
+      → MatchOption (a j) ⊥ (λ q. Covers q.shape s)
+
+-- no shape can stand at place j: the ways to it bring different ones
+abbrev pub IsClash : Code → ℕ → Type 0
+IsClash p j = (a : Assignment) → AreSound p a j → IsEntered p a j → ⊥
+
+-- the fault at a place: Kind where no shape can stand there, else that of its token with the least
+abbrev pub IsFaultThere : Code → VerifyFault → ℕ → Type 0
+IsFaultThere p fault at = (IsClash p at × (fault ≡ faults.Kind at))
+    ⊎ ((token : Token) × (s : List Kind) × (slice_get p.tokens at ≡ Some token)
+    × IsLeastShape p at s × (token_fault p at token s ≡ Some fault))
+
+-- a fault that names a place is the one there
+abbrev pub IsRightFault : Code → VerifyFault → Type 0
+IsRightFault p fault = MatchOption (place_of fault) (Unit {0}) (IsFaultThere p fault)

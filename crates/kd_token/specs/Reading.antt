@@ -1,7 +1,7 @@
 -- Token files read from left to right, computed: what each field is and what follows it, or none where a
 -- fault comes. Proofs tie these functions to the definition of a file; no public contract cites those that
 -- read. `◌>>=◌` is also how the shapes, the flows and a run's rules are written.
-use Rattle.std.specs.Prelude.{◌≡◌, ℕ, ℤ, zero, suc, nat_lt, List, [], ◌∷◌, length, take, drop, Option, Some, None, Result, Ok, Err, if◌then◌else◌, ◌==◌}
+use Rattle.std.specs.Prelude.{◌≡◌, ◌≤◌, ◌-◌, ℕ, ℤ, zero, suc, nat_lt, List, [], ◌∷◌, length, take, drop, Option, Some, None, Result, Ok, Err, if◌then◌else◌, ◌==◌}
 use Rattle.std.specs.Int.{w32, cast_signed}
 use Rattle.byteorder.specs.Endian.{big_number}
 use Rattle.kd_token.specs.declared.fault.FileFault.{FileFault}
@@ -24,6 +24,37 @@ NothingRead fault read = read ≡ None
 abbrev pub ReaderGives : {X A : Type 0} → (X → A) → Result X FileFault → Option A → Type 0
 ReaderGives view (Ok x) read = read ≡ Some (view x)
 ReaderGives view (Err fault) read = NothingRead fault read
+
+-- what a reader of a file knows: the whole file, and what is left of it
+pub record Rest : Type 0 where
+  pub whole : List ℕ
+  pub left : List ℕ
+
+-- these bytes are left of the whole
+abbrev pub rest : List ℕ → List ℕ → Rest
+rest whole left = record { whole = whole; left = left }
+
+-- the bytes left are the last of the whole
+pub record IsRest (r : Rest) : Type 0 where
+  pub within : length r.left ≤ length r.whole
+  pub last : drop (length r.whole - length r.left) r.whole ≡ r.left
+
+-- the file ends within the field that comes next
+abbrev pub IsCutFault : Rest → FileFault → Type 0
+IsCutFault r fault = fault ≡ faults.Cut (length r.whole - length r.left)
+
+-- the operand that comes next is refused
+abbrev pub IsOperandFault : Rest → FileFault → Type 0
+IsOperandFault r fault = fault ≡ faults.Operand (length r.whole - length r.left)
+
+-- the opcode of a branch
+abbrev pub IsBranchOpcode : ℕ → Type 0
+IsBranchOpcode opcode = (0x20 ≤ opcode) × (opcode ≤ 0x23)
+
+-- the opcode of a branch comes next
+abbrev pub IsBranchNext : List ℕ → Type 0
+IsBranchNext [] = ⊥
+IsBranchNext (opcode ∷ bytes) = IsBranchOpcode opcode
 
 -- so many items, each read with so many behind it
 unfoldable pub many_at : {X : Type 0} → (ℕ → List ℕ → Option (X × List ℕ)) → ℕ → List ℕ → Option (List X × List ℕ)

@@ -1,4 +1,4 @@
-ghost use Rattle.std.specs.Prelude.{◌≡◌, ◌≤◌, ◌<◌, ◌∷◌, [], drop, length, IsTrue, ◌↔◌, MatchOption};
+ghost use Rattle.std.specs.Prelude.{◌≡◌, ◌≤◌, ◌<◌, ◌∷◌, [], drop, length, reverse, None, Some, IsTrue, ◌↔◌, MatchOption};
 ghost use Rattle.kd_token.specs.Shape.{AreShort, IsShortKind, field_kind, gives, bound_of_hex, bound_of_substring, bool_taken, bytes_taken, int_taken};
 ghost use Rattle.kd_token.specs.File.{IsShort};
 ghost use Rattle.kd_token.specs.Meet.{met, met_of_kinds};
@@ -90,21 +90,15 @@ impl Shape {
     }
 
     // Meets another shape: becomes the least one that covers both, where there is one.
-    pub(crate) fn meet(&mut self, other: &mut Shape) -> Option<()>
-        requires few { length other.old ≤ 64 }
-        ensures met { MatchOption result (met self.old other.old ≡ None) (λ _. met self.old other.old ≡ Some self.new) }
-        ensures few { MatchOption result (Unit {0}) (λ _. length self.new ≤ length other.old) }
+    pub(crate) fn meet(&mut self, other: &Shape) -> Option<()>
+        ensures met { MatchOption result (met self.old other.now ≡ None)
+            (λ _. met self.old other.now ≡ Some self.new) }
+        ensures few { MatchOption result (Unit {0}) (λ _. length self.new ≤ length other.now) }
     {
-        match (self.pop(), other.pop()) {
-            (None, None) => Some(()),
-            (Some(first), Some(second)) => {
-                let kind = met_kind(first, second)?;
-                self.meet(other)?;
-                self.push(kind);
-                Some(())
-            }
-            _ => None,
+        if self.len() != other.len() {
+            return None;
         }
+        meet_kinds(self.kinds.as_mut_slice(), other.kinds.as_slice())
     }
 
     // The bound of the byte string on top, which is taken.
@@ -217,6 +211,19 @@ pub(crate) fn is_short(kind: Kind, most: u32) -> bool
         Kind::Bytes(n) => n <= most,
         _ => true,
     }
+}
+
+// Meets as many other kinds, each with its own.
+fn meet_kinds(known: &mut [Kind], others: &[Kind]) -> Option<()>
+    requires same { length known.old ≡ length others.now }
+    ensures length { length known.new ≡ length known.old }
+    ensures met { MatchOption result (met (reverse known.old) (reverse others.now) ≡ None)
+        (λ _. met (reverse known.old) (reverse others.now) ≡ Some (reverse known.new)) }
+{
+    'kinds: for (i, kind) in others.iter().enumerate() {
+        known[i] = met_kind(known[i], *kind)?;
+    }
+    Some(())
 }
 
 // The least kind that covers both, where there is one.

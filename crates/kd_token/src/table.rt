@@ -18,10 +18,9 @@ impl Entry {
         requires few { length shape ≤ 64 }
         ensures { self.new ≡ arrived (point shape count) self.old }
     {
-        let mut shape = shape;
         match self {
             Entry::Unreached => *self = Entry::Joined(shape, count),
-            Entry::Joined(known, most) => match known.meet(&mut shape) {
+            Entry::Joined(known, most) => match known.meet(&shape) {
                 Some(()) => *most = (*most).max(count),
                 None => *self = Entry::Clash,
             },

@@ -5,7 +5,7 @@ ghost use Rattle.kd_token.specs.Shape.{AreShort, gives, bool_taken, taken_count}
 ghost use Rattle.kd_token.specs.declared.fault.VerifyFault.TheVariants.{Finish, Memory, Steps};
 ghost use Rattle.kd_token.specs.declared.shape.Kind.TheVariants.{Bool};
 ghost use Rattle.kd_token.specs.declared.table.Entry.TheVariants.{Joined, Unreached};
-ghost use Rattle.kd_token.specs.Accepts.{Accepts, IsFaultAt, IsInPlaceOf, IsNoFinish, IsPlaceOf, IsTooManySteps, IsVerifyFault, IsWithin, flows, way_of, place_of};
+ghost use Rattle.kd_token.specs.Accepts.{Accepts, IsFaultAt, IsInPlaceOf, IsNoFinish, IsPlaceOf, IsTooManySteps, IsRightFault, IsVerifyFault, IsWithin, fault_by, flows, misfit_of, way_of, place_of, token_fault};
 ghost use Rattle.kd_token.specs.Table.{IsAt, IsRoomFor, entry_at, point, skip_of, spread};
 
 use crate::fault::VerifyFault;
@@ -58,6 +58,7 @@ impl Verified {
 pub fn verify(alloc: Global, program: Program) -> Result<Verified, (VerifyFault, Program)>
     ensures accepted { IfOk result (λ v. v ≡ program) }
     ensures refused { IfErr result (λ e. (e.1 ≡ program) × IsVerifyFault program e.0) }
+    ensures right { IfErr result (λ e. IsRightFault program e.0) }
     ensures only { Accepts program → IfErr result (λ e. e.0 ≡ Memory) }
     ensures place { (at : ℕ) → IsFaultAt program at → MatchResult result (λ _. ⊥) (λ e. IsPlaceOf at e.0) }
     ensures steps { IsTooManySteps program → MatchResult result (λ _. ⊥) (λ e. IsInPlaceOf Steps e.0) }
@@ -71,7 +72,9 @@ pub fn verify(alloc: Global, program: Program) -> Result<Verified, (VerifyFault,
 
 // Whether the program is accepted.
 fn check(alloc: Global, program: &Program) -> Result<(), VerifyFault>
-    ensures { MatchResult result (λ _. Accepts program.now) (λ fault. IsVerifyFault program.now fault) }
+    ensures judged { MatchResult result (λ _. Accepts program.now)
+        (λ fault. IsVerifyFault program.now fault) }
+    ensures right { IfErr result (IsRightFault program.now) }
 {
     let mut table = begin(alloc, program.tokens().len())?;
     pass(&mut table, program)?;
@@ -105,7 +108,10 @@ fn begin(alloc: Global, tokens: usize) -> Result<Vec<Entry>, AllocError>
 // All tokens are passed.
 fn pass(table: &mut [Entry], program: &Program) -> Result<(), VerifyFault>
     requires { IsAt program.now 0 table.old }
-    ensures { MatchResult result (λ _. IsAt program.now (length program.now.tokens) table.new) (λ fault. IsVerifyFault program.now fault) }
+    ensures passed { MatchResult result
+        (λ _. IsAt program.now (length program.now.tokens) table.new)
+        (λ fault. IsVerifyFault program.now fault) }
+    ensures right { IfErr result (IsRightFault program.now) }
 {
     'tokens: for (at, token) in program.tokens().iter().enumerate() {
         visit(table, at, token, program)?;
@@ -123,7 +129,9 @@ fn visit(
     requires limits { HasFile program.now }
     requires there { slice_get program.now.tokens at ≡ Some token.now }
     requires before { IsAt program.now at table.old }
-    ensures { MatchResult result (λ _. IsAt program.now (at + 1) table.new) (λ fault. IsVerifyFault program.now fault) }
+    ensures passed { MatchResult result (λ _. IsAt program.now (at + 1) table.new)
+        (λ fault. IsVerifyFault program.now fault) }
+    ensures right { IfErr result (IsRightFault program.now) }
 {
     match mem::replace(&mut table[at], Entry::Unreached) {
         Entry::Unreached => Ok(()),
@@ -136,7 +144,9 @@ fn visit(
 fn finish(table: &[Entry], program: &Program) -> Result<(), VerifyFault>
     requires limits { HasFile program.now }
     requires passed { IsAt program.now (length program.now.tokens) table.now }
-    ensures { MatchResult result (λ _. Accepts program.now) (λ fault. IsVerifyFault program.now fault) }
+    ensures judged { MatchResult result (λ _. Accepts program.now)
+        (λ fault. IsVerifyFault program.now fault) }
+    ensures right { IfErr result (IsRightFault program.now) }
 {
     let end = program.tokens().len();
     match &table[end] {
@@ -184,7 +194,8 @@ fn takes(token: &Token) -> usize
 
 // Why a token cannot take what it wants from a stack of so many values.
 fn misfit(token: &Token, values: usize, at: usize) -> VerifyFault
-    ensures { place_of result ≡ Some at }
+    ensures place { place_of result ≡ Some at }
+    ensures exact { result ≡ misfit_of token.now values at }
 {
     match token {
         Token::Member(_) => VerifyFault::Name(at),
@@ -204,9 +215,11 @@ fn advance(
     requires limits { HasFile program.now }
     requires short { AreShort program.now.bound shape.old }
     requires literal { IsShort token.now }
-    ensures { MatchResult result
+    ensures given { MatchResult result
         (λ _. MatchOption (gives (length program.now.names) token.now shape.old) ⊥ (λ s. (s ≡ shape.new) × IsRoomFor program.now s))
         (λ e. (place_of e ≡ Some at) × MatchOption (gives (length program.now.names) token.now shape.old) (Unit {0}) (λ s. IsRoomFor program.now s → ⊥)) }
+    ensures fault { IfErr result (λ e. Some e ≡ fault_by program.now at token.now (length shape.old)
+        (gives (length program.now.names) token.now shape.old)) }
 {
     let values = shape.len();
     let Some(()) = shape.pass(token, program.names()) else {
@@ -242,6 +255,7 @@ fn settle(
         (λ _. MatchOption (flows (length program.now.names) token.now at (point shape count)) ⊥ (λ fs. AllByRecursion (IsWithin program.now) fs
         × ((j : ℕ) → entry_at table.new j ≡ spread fs (entry_at table.old) j)))
         (λ e. (place_of e ≡ Some at) × MatchOption (flows (length program.now.names) token.now at (point shape count)) (Unit {0}) (λ fs. AllByRecursion (IsWithin program.now) fs → ⊥)) }
+    ensures fault { IfErr result (λ e. token_fault program.now at token.now shape ≡ Some e) }
 {
     let next = at + 1;
     let steps = count + 1;
@@ -268,7 +282,9 @@ fn settle(
 
 // The truth value on top is taken.
 fn below(shape: &mut Shape, token: &Token, at: usize) -> Result<(), VerifyFault>
-    ensures { MatchResult result (λ _. shape.old ≡ Bool ∷ shape.new) (λ e. (place_of e ≡ Some at) × (bool_taken shape.old ≡ None)) }
+    ensures taken { MatchResult result (λ _. shape.old ≡ Bool ∷ shape.new)
+        (λ e. (place_of e ≡ Some at) × (bool_taken shape.old ≡ None)) }
+    ensures fault { IfErr result (λ e. e ≡ misfit_of token.now (length shape.old) at) }
 {
     let values = shape.len();
     match shape.take_bool() {
