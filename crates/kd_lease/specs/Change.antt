@@ -49,7 +49,8 @@ pub record AnswersTo (q : Asking) (set : Option Row) (got : Outcome) : Type 0 wh
   pub row : Option Row
   pub plan : Planned
   pub does : Does q row plan
-  pub replies : WhereFits (fits_in (reply_room q.message) (outcome_for q plan)) row (outcome_for q plan) set got
+  pub replies : WhereFits (fits_in (reply_room q.message) (outcome_for q plan)) row
+      (outcome_for q plan) set got
 
 -- nothing is done and there is no answer, for this reason, where it applies
 abbrev pub Unless : Bool → Reason → (Option Row → Outcome → Type 0) → Option Row → Outcome → Type 0
@@ -57,7 +58,8 @@ Unless true reason Done set got = (set ≡ None) × (got ≡ quiet reason)
 Unless false reason Done set got = Done set got
 
 -- what is done for a client by its identity; nothing where there is none
-abbrev pub ForClient : Option (List ℕ) → (List ℕ → Option Row → Outcome → Type 0) → Option Row → Outcome → Type 0
+abbrev pub ForClient : Option (List ℕ) → (List ℕ → Option Row → Outcome → Type 0) → Option Row
+    → Outcome → Type 0
 ForClient None Done set got = (set ≡ None) × (got ≡ quiet reasons.NoIdentity)
 ForClient (Some client) Done set got = Done client set got
 
@@ -68,10 +70,13 @@ asked_for config rows names m now client =
 
 -- what a message sets and gets whose classes have these names: only clients' messages with an identity are
 -- answered, and none of the class DROP
-abbrev pub Decides : Configuration → List Row → List (List ℕ) → Seen → ℕ → Option Row → Outcome → Type 0
+abbrev pub Decides : Configuration → List Row → List (List ℕ) → Seen → ℕ → Option Row → Outcome
+    → Type 0
 Decides config rows names m now set got =
     Unless (server_message m) reasons.NotRequest
-    (ForClient (client_identity m) (λ client. Unless (is_held (codes "DROP") names) reasons.DropClass (AnswersTo (asked_for config rows names m now client)))) set got
+    (ForClient (client_identity m)
+    (λ client. Unless (is_held (codes "DROP") names) reasons.DropClass
+    (AnswersTo (asked_for config rows names m now client)))) set got
 
 -- the rows after one is set, or none
 abbrev pub after : List Row → Option Row → List Row
@@ -79,7 +84,8 @@ after rows None = rows
 after rows (Some row) = with_row row rows
 
 -- a message at a moment changes the table to this one, and gets this, by the classes that it is in
-pub record Changes (config : Configuration) (old : List Row) (m : Seen) (now : ℕ) (new : List Row) (outcome : Outcome) : Type 0 where
+pub record Changes (config : Configuration) (old : List Row) (m : Seen) (now : ℕ) (new : List Row)
+    (outcome : Outcome) : Type 0 where
   pub names : List (List ℕ)
   pub held : HeldSet m config.classes names
   pub set : Option Row

@@ -66,7 +66,8 @@ pooled s a = list_any (λ pool. has pool.range a) s.pools
 
 -- an address fits: it is in a pool of the subnet and reserved for nobody, or reserved for the client
 abbrev pub fitting_for : Asking → Subnet → ℕ → Bool
-fitting_for q s a = (pooled s a && not (reserved_anywhere q.config a)) || same_address (address_reserved q.message s) a
+fitting_for q s a =
+    (pooled s a && not (reserved_anywhere q.config a)) || same_address (address_reserved q.message s) a
 
 -- a row is there, and is such a one
 abbrev pub has_such : (Row → Bool) → Option Row → Bool
@@ -143,7 +144,8 @@ has_rank q s own a = has_such (held_row q) (row_at q.rows a) && fitting_for q s 
 has_rank q s past a = has_such (past_row q) (row_at q.rows a) && fitting_for q s a
 has_rank q s asked a = same_address (requested_address q.message) a && usable q s a
 has_rank q s fresh a = pooled s a && (is_none (row_at q.rows a) && fitting_for q s a)
-has_rank q s expired a = pooled s a && (has_such (λ row. not (live_row q.now row)) (row_at q.rows a) && fitting_for q s a)
+has_rank q s expired a =
+    pooled s a && (has_such (λ row. not (live_row q.now row)) (row_at q.rows a) && fitting_for q s a)
 
 -- the moment at which a row was set, 0 where there is none
 abbrev pub changed_in : Option Row → ℕ
@@ -192,8 +194,3 @@ pub record Choice (q : Asking) (s : Subnet) (a : ℕ) : Type 0 where
 -- no address has a rank
 abbrev pub NoChoice : Asking → Subnet → Type 0
 NoChoice q s = (rank : Rank) (a : ℕ) → has_rank q s rank a ≡ false
-
--- what is found is the address for the client, or nothing where there is none
-abbrev pub IsChosen : Asking → Subnet → Option ℕ → Type 0
-IsChosen q s None = NoChoice q s
-IsChosen q s (Some a) = Choice q s a

@@ -32,7 +32,8 @@ identity_by (Some (b ∷ bytes)) hardware = Some (1 ∷ b ∷ bytes)
 
 -- who the client is: by option 61, else by its hardware
 abbrev pub client_identity : Seen → Option (List ℕ)
-client_identity m = identity_by (value_of 61 m.options) (identity_by_hardware m.header.htype (mac_of m.header))
+client_identity m =
+    identity_by (value_of 61 m.options) (identity_by_hardware m.header.htype (mac_of m.header))
 
 -- a code is asked for: it stands in option 55, or that is absent
 abbrev pub is_asked_in : ℕ → Option (List ℕ) → Bool

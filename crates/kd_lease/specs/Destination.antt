@@ -20,8 +20,12 @@ asks_for_broadcast h = nat_le 0x8000 h.flags
 -- the client asks for it; else to its hardware, with its new address
 unfoldable pub destination_of : Header → PlanKind → ℕ → Ports → Destination
 destination_of h kind yiaddr ports =
-    if not (h.giaddr == 0) then record { mode = modes.Relay; address = h.giaddr; port = ports.server }
-    else if is_nak kind then record { mode = modes.Broadcast; address = 0xffffffff; port = ports.client }
-    else if not (h.ciaddr == 0) then record { mode = modes.Unicast; address = h.ciaddr; port = ports.client }
-    else if asks_for_broadcast h then record { mode = modes.Broadcast; address = 0xffffffff; port = ports.client }
+    if not (h.giaddr == 0)
+    then record { mode = modes.Relay; address = h.giaddr; port = ports.server }
+    else if is_nak kind
+    then record { mode = modes.Broadcast; address = 0xffffffff; port = ports.client }
+    else if not (h.ciaddr == 0)
+    then record { mode = modes.Unicast; address = h.ciaddr; port = ports.client }
+    else if asks_for_broadcast h
+    then record { mode = modes.Broadcast; address = 0xffffffff; port = ports.client }
     else record { mode = modes.Hardware; address = yiaddr; port = ports.client }

@@ -28,7 +28,8 @@ options_of_pool pools address = options_in (find (λ pool. has pool.range addres
 
 -- the options of the classes whose names are held, in order
 abbrev pub class_options : List ClassDef → List (List ℕ) → List OptionData
-class_options classes names = flat_map (λ class. class.options) (filter (λ class. is_held class.name names) classes)
+class_options classes names =
+    flat_map (λ class. class.options) (filter (λ class. is_held class.name names) classes)
 
 -- the mask of a prefix (RFC 2132 section 3.3): ones, as many as its length, and zeros, in network order
 abbrev pub prefix_mask : Prefix → List ℕ
@@ -41,11 +42,13 @@ mask_option prefix = record { code = 1; value = prefix_mask prefix }
 -- the options given at an address of a subnet to the holder of these names, the first of a code before others
 unfoldable pub given : Configuration → Subnet → List (List ℕ) → ℕ → List OptionData
 given config subnet names address =
-    options_of_pool subnet.pools address ++ subnet.options ++ class_options config.classes names ++ config.options ++ mask_option subnet.prefix ∷ []
+    options_of_pool subnet.pools address ++ subnet.options ++ class_options config.classes names
+    ++ config.options ++ mask_option subnet.prefix ∷ []
 
 -- the value of a code: that of the first option that has it
 abbrev pub value_in : ℕ → List OptionData → Option (List ℕ)
-value_in code options = option_map (λ option. option.value) (find (λ option. option.code == code) options)
+value_in code options =
+    option_map (λ option. option.value) (find (λ option. option.code == code) options)
 
 -- an option that is sent where there is room
 abbrev pub optional : ℕ → List ℕ → List ReplyOption

@@ -4,18 +4,21 @@ use Rattle.kd_config.specs.declared.subnet.Subnet.{Subnet}
 use Rattle.kd_options.specs.declared.kind.MessageType.{MessageType}
 use Rattle.kd_rows.specs.Table.{belongs_to, row_at}
 use Rattle.kd_rows.specs.declared.row.Row.{Row}
-use Rattle.kd_lease.specs.Choice.{Asking, Rank, has_rank, live_row}
-use Rattle.kd_lease.specs.Rules.{Sets}
+use Rattle.kd_lease.specs.Choice.{Asking, Rank, has_rank, live_row, usable}
+use Rattle.kd_lease.specs.Rules.{Sets, renewable}
 use Rattle.kd_lease.specs.declared.planned.Planned.{Planned}
 use Rattle.kd_lease.specs.declared.planned.Planned.TheVariants as plans
 
 -- a row that is set was changed now
 abbrev pub SetsNow : Type 0
-SetsNow = (q : Asking) (type : MessageType) (row : Row) (planned : Planned) → Sets q type (Some row) planned → row.changed ≡ q.now
+SetsNow =
+    (q : Asking) (type : MessageType) (row : Row) (planned : Planned)
+    → Sets q type (Some row) planned → row.changed ≡ q.now
 
 -- a NAK sets no row
 abbrev pub NakSetsNone : Type 0
-NakSetsNone = (q : Asking) (type : MessageType) (set : Option Row) → Sets q type set plans.Nak → set ≡ None
+NakSetsNone =
+    (q : Asking) (type : MessageType) (set : Option Row) → Sets q type set plans.Nak → set ≡ None
 
 -- a row of another client that has not ended, whatever its state
 pub record IsAnothers (q : Asking) (a : ℕ) (row : Row) : Type 0 where
@@ -25,9 +28,18 @@ pub record IsAnothers (q : Asking) (a : ℕ) (row : Row) : Type 0 where
 
 -- an address that has such a row has no rank
 abbrev pub HeldHasNoRank : Type 0
-HeldHasNoRank = (q : Asking) (s : Subnet) (rank : Rank) (a : ℕ) (row : Row) → IsAnothers q a row → has_rank q s rank a ≡ false
+HeldHasNoRank =
+    (q : Asking) (s : Subnet) (rank : Rank) (a : ℕ) (row : Row) → IsAnothers q a row
+    → has_rank q s rank a ≡ false
 
--- so it is neither offered nor leased
+-- so a client can neither ask for it nor renew it
+abbrev pub HeldIsNotUsable : Type 0
+HeldIsNotUsable =
+    (q : Asking) (s : Subnet) (a : ℕ) (row : Row) → IsAnothers q a row
+    → (usable q s a ≡ false) × (renewable q s a ≡ false)
+
+-- and it is neither offered nor leased
 abbrev pub HeldIsNotGiven : Type 0
-HeldIsNotGiven = (q : Asking) (type : MessageType) (set : Option Row) (a : ℕ) (row : Row) → IsAnothers q a row
+HeldIsNotGiven =
+    (q : Asking) (type : MessageType) (set : Option Row) (a : ℕ) (row : Row) → IsAnothers q a row
     → Sets q type set (plans.Offer a) ⊎ Sets q type set (plans.Ack a) → ⊥

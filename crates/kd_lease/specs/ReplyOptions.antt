@@ -23,7 +23,8 @@ plan_type kinds.Nak = 6
 -- the times of a lease: how long it lasts, and when to renew and to rebind it
 abbrev pub lease_times : Times → List ReplyOption
 lease_times times =
-    obligatory 51 (big_bytes 4 times.lifetime) ++ obligatory 58 (big_bytes 4 times.renew) ++ obligatory 59 (big_bytes 4 times.rebind)
+    obligatory 51 (big_bytes 4 times.lifetime) ++ obligatory 58 (big_bytes 4 times.renew)
+    ++ obligatory 59 (big_bytes 4 times.rebind)
 
 -- the times in a reply: only an address that is given has them
 abbrev pub times_in : PlanKind → Times → List ReplyOption
@@ -48,5 +49,7 @@ configured_for q kinds.Nak yiaddr = []
 -- configured ones, the relay's information as it came
 unfoldable pub reply_options : Asking → PlanKind → ℕ → List ReplyOption
 reply_options q kind yiaddr =
-    obligatory 53 (plan_type kind ∷ []) ++ obligatory 54 (big_bytes 4 q.config.server) ++ times_in kind q.config.times
-    ++ returned 61 (value_of 61 q.message.options) ++ configured_for q kind yiaddr ++ returned 82 (value_of 82 q.message.options)
+    obligatory 53 (plan_type kind ∷ []) ++ obligatory 54 (big_bytes 4 q.config.server)
+    ++ times_in kind q.config.times
+    ++ returned 61 (value_of 61 q.message.options) ++ configured_for q kind yiaddr
+    ++ returned 82 (value_of 82 q.message.options)

@@ -36,7 +36,8 @@ asking question = record {
 
 -- a row of the client, set now
 abbrev pub row_set_now : Asking → ℕ → State → ℕ → Row
-row_set_now q a state ends = record { address = a; client = q.client; state = state; changed = q.now; ends = ends }
+row_set_now q a state ends =
+    record { address = a; client = q.client; state = state; changed = q.now; ends = ends }
 
 -- the row of an address that is offered
 abbrev pub offered_row : Asking → ℕ → Row
@@ -52,7 +53,14 @@ released_row q a = row_set_now q a states.Released q.now
 
 -- the row of an address that is in use by another host: it is no client's
 abbrev pub declined_row : Asking → ℕ → Row
-declined_row q a = record { address = a; client = []; state = states.Declined; changed = q.now; ends = q.now + q.config.times.decline_hold }
+declined_row q a =
+    record {
+      address = a;
+      client = [];
+      state = states.Declined;
+      changed = q.now;
+      ends = q.now + q.config.times.decline_hold;
+    }
 
 -- a state of leases
 abbrev pub bound_state : State → Bool
@@ -66,11 +74,15 @@ offered_state other = false
 
 -- the client leases an address: its row is the client's, live and bound
 abbrev pub leased_to : Asking → ℕ → Bool
-leased_to q a = has_such (λ row. live_row q.now row && (belongs_to q.client row && bound_state row.state)) (row_at q.rows a)
+leased_to q a =
+    has_such (λ row. live_row q.now row && (belongs_to q.client row && bound_state row.state))
+    (row_at q.rows a)
 
 -- an address is offered to the client: its row is the client's, live and offered
 abbrev pub offered_to : Asking → ℕ → Bool
-offered_to q a = has_such (λ row. live_row q.now row && (belongs_to q.client row && offered_state row.state)) (row_at q.rows a)
+offered_to q a =
+    has_such (λ row. live_row q.now row && (belongs_to q.client row && offered_state row.state))
+    (row_at q.rows a)
 
 -- the client holds an address: its row is the client's, live, and offered or bound
 abbrev pub held_at : Asking → ℕ → Bool
@@ -91,7 +103,8 @@ renewable q s a = client_has q a && fitting_for q s a
 -- the newest of the addresses of a kind, or that there is none
 abbrev pub IsNewest : List Row → (ℕ → Bool) → Option ℕ → Type 0
 IsNewest rows such None = (a : ℕ) → such a ≡ false
-IsNewest rows such (Some a) = (such a ≡ true) × ((b : ℕ) → such b ≡ true → set_later rows b a ≡ false)
+IsNewest rows such (Some a) =
+    (such a ≡ true) × ((b : ℕ) → such b ≡ true → set_later rows b a ≡ false)
 
 -- no row is set, and there is no answer, for this reason
 abbrev pub IsQuiet : Reason → Option Row → Planned → Type 0
@@ -102,12 +115,14 @@ abbrev pub serving_subnet : Asking → Option Subnet
 serving_subnet q = subnet_serving q.config q.names q.message.header
 
 -- what is done in a subnet; nothing where there is none
-abbrev pub InSubnet : Option Subnet → (Subnet → Option Row → Planned → Type 0) → Option Row → Planned → Type 0
+abbrev pub InSubnet : Option Subnet → (Subnet → Option Row → Planned → Type 0) → Option Row
+    → Planned → Type 0
 InSubnet None Does set planned = IsQuiet reasons.NoSubnet set planned
 InSubnet (Some s) Does set planned = Does s set planned
 
 -- what is done with the address that is asked for; nothing where there is none
-abbrev pub WithAsked : Option ℕ → (ℕ → Option Row → Planned → Type 0) → Option Row → Planned → Type 0
+abbrev pub WithAsked : Option ℕ → (ℕ → Option Row → Planned → Type 0) → Option Row → Planned
+    → Type 0
 WithAsked None Does set planned = IsQuiet reasons.NoRequested set planned
 WithAsked (Some a) Does set planned = Does a set planned
 
@@ -129,27 +144,34 @@ OnDiscover q s set other = ⊥
 -- a REQUEST to this server for an address (section 4.3.2, SELECTING): it is leased where the client may be
 -- given it
 abbrev pub OnSelect : Asking → Subnet → ℕ → Option Row → Planned → Type 0
-OnSelect q s asked set (plans.Ack a) = (a ≡ asked) × (usable q s a ≡ true) × (set ≡ Some (leased_row q a))
+OnSelect q s asked set (plans.Ack a) =
+    (a ≡ asked) × (usable q s a ≡ true) × (set ≡ Some (leased_row q a))
 OnSelect q s asked set plans.Nak = (usable q s asked ≡ false) × (set ≡ None)
 OnSelect q s asked set other = ⊥
 
 -- a REQUEST to another server: the newest offer to the client, where there is one, is given back
 abbrev pub OnOther : Asking → Option Row → Planned → Type 0
 OnOther q set planned =
-    ((offer : Option ℕ) × IsNewest q.rows (offered_to q) offer × (set ≡ option_map (released_row q) offer)) × (planned ≡ plans.Quiet reasons.OtherServer)
+    ((offer : Option ℕ) × IsNewest q.rows (offered_to q) offer
+    × (set ≡ option_map (released_row q) offer)) × (planned ≡ plans.Quiet reasons.OtherServer)
 
 -- why a REQUEST that names no server is refused: the address is outside the subnet's prefix; or the client has
 -- a row there, but may not renew this one
 abbrev pub IsRenewalRefused : Asking → Subnet → ℕ → Type 0
-IsRenewalRefused q s a = (has_address s.prefix a ≡ false) ⊎ (((b : ℕ) × (is_record q s b ≡ true)) × (renewable q s a ≡ false))
+IsRenewalRefused q s a =
+    (has_address s.prefix a ≡ false)
+    ⊎ (((b : ℕ) × (is_record q s b ≡ true)) × (renewable q s a ≡ false))
 
 -- a REQUEST that names no server (section 4.3.2, INIT-REBOOT, RENEWING and REBINDING): a client that the
 -- server knows in the subnet may renew its lease there
 abbrev pub OnRenew : Asking → Subnet → ℕ → Option Row → Planned → Type 0
-OnRenew q s asked set (plans.Ack a) = (a ≡ asked) × (has_address s.prefix a ≡ true) × (renewable q s a ≡ true) × (set ≡ Some (leased_row q a))
+OnRenew q s asked set (plans.Ack a) =
+    (a ≡ asked) × (has_address s.prefix a ≡ true) × (renewable q s a ≡ true)
+    × (set ≡ Some (leased_row q a))
 OnRenew q s asked set plans.Nak = IsRenewalRefused q s asked × (set ≡ None)
 OnRenew q s asked set (plans.Quiet reason) =
-    (has_address s.prefix asked ≡ true) × ((b : ℕ) → is_record q s b ≡ false) × (set ≡ None) × (reason ≡ reasons.NoRecord)
+    (has_address s.prefix asked ≡ true) × ((b : ℕ) → is_record q s b ≡ false) × (set ≡ None)
+    × (reason ≡ reasons.NoRecord)
 OnRenew q s asked set other = ⊥
 
 -- the server that a message names, option 54
@@ -167,12 +189,15 @@ renewed_address m = if m.header.ciaddr == 0 then requested_address m else Some m
 
 -- a REQUEST that names a server, this one or another
 abbrev pub OnNamed : Asking → Bool → Option Row → Planned → Type 0
-OnNamed q true set planned = WithAsked (requested_address q.message) (λ a. InSubnet (serving_subnet q) (λ s. OnSelect q s a)) set planned
+OnNamed q true set planned =
+    WithAsked (requested_address q.message)
+    (λ a. InSubnet (serving_subnet q) (λ s. OnSelect q s a)) set planned
 OnNamed q false set planned = OnOther q set planned
 
 -- a REQUEST, by the server that it names (section 4.3.2)
 abbrev pub OnRequest : Asking → Option ℕ → Option Row → Planned → Type 0
-OnRequest q None set planned = WithAsked (renewed_address q.message) (λ a. InSubnet (serving_subnet q) (λ s. OnRenew q s a)) set planned
+OnRequest q None set planned =
+    WithAsked (renewed_address q.message) (λ a. InSubnet (serving_subnet q) (λ s. OnRenew q s a)) set planned
 OnRequest q (Some server) set planned = OnNamed q (server == q.config.server) set planned
 
 -- a lease or an offer that the client gives up: where it holds it, this row is set
@@ -188,13 +213,16 @@ UnlessOther false Does set planned = Does set planned
 -- a DECLINE (section 4.3.3): the address that it names is held back
 abbrev pub OnDecline : Asking → Option Row → Planned → Type 0
 OnDecline q set planned =
-    UnlessOther (other_server q.config.server (named_server q.message)) (WithAsked (requested_address q.message) (λ a. GivesUpLease (held_at q a) (declined_row q a) reasons.Declined)) set planned
+    UnlessOther (other_server q.config.server (named_server q.message))
+    (WithAsked (requested_address q.message)
+    (λ a. GivesUpLease (held_at q a) (declined_row q a) reasons.Declined)) set planned
 
 -- a RELEASE (section 4.3.4): the client's address is given back
 abbrev pub OnRelease : Asking → Option Row → Planned → Type 0
 OnRelease q set planned =
     let a = q.message.header.ciaddr in
-    UnlessOther (other_server q.config.server (named_server q.message)) (WithCiaddr (a == 0) (GivesUpLease (held_at q a) (released_row q a) reasons.Released)) set planned
+    UnlessOther (other_server q.config.server (named_server q.message))
+    (WithCiaddr (a == 0) (GivesUpLease (held_at q a) (released_row q a) reasons.Released)) set planned
 
 -- an answer to an INFORM sets no row
 abbrev pub Informs : Subnet → Option Row → Planned → Type 0
@@ -202,7 +230,8 @@ Informs s set planned = (set ≡ None) × (planned ≡ plans.Inform)
 
 -- an INFORM (section 4.3.5), in its subnet
 abbrev pub OnInform : Asking → Option Row → Planned → Type 0
-OnInform q set planned = WithCiaddr (q.message.header.ciaddr == 0) (InSubnet (serving_subnet q) Informs) set planned
+OnInform q set planned =
+    WithCiaddr (q.message.header.ciaddr == 0) (InSubnet (serving_subnet q) Informs) set planned
 
 -- what a message of this type does; those that servers send do nothing
 abbrev pub Sets : Asking → MessageType → Option Row → Planned → Type 0

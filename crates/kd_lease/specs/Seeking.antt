@@ -7,7 +7,7 @@ use Rattle.kd_config.specs.declared.reservation.Identity.{Identity}
 use Rattle.kd_config.specs.declared.reservation.Identity.TheVariants.{Hardware, ClientId}
 use Rattle.kd_config.specs.declared.subnet.Subnet.{Subnet}
 use Rattle.kd_rows.specs.Table.{row_at}
-use Rattle.kd_lease.specs.Choice.{Asking, IsFirstOf, Rank, fitting_for, has_rank, has_such, live_row, set_later, past_row, reserved_in, same_value}
+use Rattle.kd_lease.specs.Choice.{Asking, Choice, IsFirstOf, NoChoice, Rank, fitting_for, has_rank, has_such, live_row, set_later, past_row, reserved_in, same_value}
 use Rattle.kd_lease.specs.Choice.Rank.{own, past, fresh, expired}
 use Rattle.kd_lease.specs.Rules.{offered_to, is_record}
 use Rattle.kd_lease.specs.declared.seeking.Sought.{Sought}
@@ -34,6 +34,11 @@ abbrev pub IsRanked : Asking → Subnet → Rank → Option ℕ → Type 0
 IsRanked q s rank None = (b : ℕ) → has_rank q s rank b ≡ false
 IsRanked q s rank (Some a) = IsFirstOf q s rank a
 
+-- what is found is the address for the client, or nothing where there is none
+abbrev pub IsChosen : Asking → Subnet → Option ℕ → Type 0
+IsChosen q s None = NoChoice q s
+IsChosen q s (Some a) = Choice q s a
+
 -- the rank of pools that is looked for: addresses that nobody had yet, or those whose rows have ended
 abbrev pub pool_rank : Bool → Rank
 pool_rank true = fresh
@@ -57,4 +62,5 @@ is_open q s false a = has_such (λ row. not (live_row q.now row)) (row_at q.rows
 abbrev pub IsLeastOpen : Asking → Subnet → Bool → ℕ → ℕ → Option ℕ → Type 0
 IsLeastOpen q s new first last None = (a : ℕ) → first ≤ a → a ≤ last → is_open q s new a ≡ false
 IsLeastOpen q s new first last (Some found) =
-    (first ≤ found) × (found ≤ last) × (is_open q s new found ≡ true) × ((a : ℕ) → first ≤ a → a < found → is_open q s new a ≡ false)
+    (first ≤ found) × (found ≤ last) × (is_open q s new found ≡ true)
+    × ((a : ℕ) → first ≤ a → a < found → is_open q s new a ≡ false)

@@ -10,7 +10,8 @@ use Rattle.kd_wire.specs.declared.header.Header.{Header}
 
 -- where a message comes from: its relay, else the address that its client has, else the server's link
 abbrev pub message_place : ℕ → Header → ℕ
-message_place server h = if not (h.giaddr == 0) then h.giaddr else if not (h.ciaddr == 0) then h.ciaddr else server
+message_place server h =
+    if not (h.giaddr == 0) then h.giaddr else if not (h.ciaddr == 0) then h.ciaddr else server
 
 -- the class that a subnet asks for is held, or it asks for none
 abbrev pub class_admits : Option (List ℕ) → List (List ℕ) → Bool

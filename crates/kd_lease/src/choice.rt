@@ -1,8 +1,7 @@
 ghost use Rattle.std.specs.Prelude.{◌≡◌};
-ghost use Rattle.kd_lease.specs.Choice.{IsChosen};
 ghost use Rattle.kd_lease.specs.Choice.Rank.{asked, own, past, reserved};
 ghost use Rattle.kd_lease.specs.Rules.{asking};
-ghost use Rattle.kd_lease.specs.Seeking.{IsRanked};
+ghost use Rattle.kd_lease.specs.Seeking.{IsChosen, IsRanked};
 
 use crate::fitting::{is_free, is_usable, requested_of};
 use crate::pooling::pooled;

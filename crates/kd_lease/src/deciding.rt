@@ -35,7 +35,9 @@ pub fn decide(
     moment: u64,
 ) -> Result<Decision, AllocError>
     requires { moment < 2 ^ 40 }
-    ensures decides { IfOk result (λ d. Decides config.now rows.now.rows names.now message.now moment d.row (outcome_in d.answer)) }
+    ensures decides { IfOk result
+        (λ d. Decides config.now rows.now.rows names.now message.now moment d.row
+        (outcome_in d.answer)) }
     ensures replies { IfOk result (λ d. IsAnswerTo message.now d.answer) }
     ensures set { IfOk result (λ d. IfSome d.row (IsSetAt moment)) }
 {
@@ -90,10 +92,13 @@ fn replied(
     kind: PlanKind,
     yiaddr: u32,
 ) -> Result<Decision, AllocError>
-    ensures answers { IfOk result (λ d. WhereFits (fits_in (reply_room question.now.message.now) (reply_in (asking question.now) kind yiaddr))
+    ensures answers { IfOk result
+        (λ d. WhereFits (fits_in (reply_room question.now.message.now)
+        (reply_in (asking question.now) kind yiaddr))
         row (reply_in (asking question.now) kind yiaddr) d.row (outcome_in d.answer)) }
     ensures replies { IfOk result (λ d. IsAnswerTo question.now.message.now d.answer) }
-    ensures set { (moment : ℕ) → IfSome row (IsSetAt moment) → IfOk result (λ d. IfSome d.row (IsSetAt moment)) }
+    ensures set { (moment : ℕ) → IfSome row (IsSetAt moment)
+        → IfOk result (λ d. IfSome d.row (IsSetAt moment)) }
 {
     let room = room_of(question.message);
     let reply = Reply {

@@ -60,7 +60,9 @@ fn effect_by_type(alloc: Global, question: &Question<'_>) -> Result<Effect, Allo
 // A DISCOVER (RFC 2131 section 4.3.1).
 fn discover(alloc: Global, question: &Question<'_>) -> Result<Effect, AllocError>
     requires { question.now.moment < 2 ^ 40 }
-    ensures { IfOk result (λ effect. InSubnet (serving_subnet (asking question.now)) (OnDiscover (asking question.now)) effect.row effect.planned) }
+    ensures { IfOk result
+        (λ effect. InSubnet (serving_subnet (asking question.now))
+        (OnDiscover (asking question.now)) effect.row effect.planned) }
 {
     match subnet_for(question) {
         Some(subnet) => discover_in(alloc, question, subnet),
@@ -75,7 +77,8 @@ fn discover_in(
     subnet: &Subnet,
 ) -> Result<Effect, AllocError>
     requires { question.now.moment < 2 ^ 40 }
-    ensures { IfOk result (λ effect. OnDiscover (asking question.now) subnet.now effect.row effect.planned) }
+    ensures { IfOk result
+        (λ effect. OnDiscover (asking question.now) subnet.now effect.row effect.planned) }
 {
     match choose(question, subnet) {
         Some(address) => Ok(Effect {
@@ -89,7 +92,9 @@ fn discover_in(
 // A REQUEST, by the server that it names (RFC 2131 section 4.3.2).
 fn request(alloc: Global, question: &Question<'_>) -> Result<Effect, AllocError>
     requires { question.now.moment < 2 ^ 40 }
-    ensures { IfOk result (λ effect. OnRequest (asking question.now) (named_server question.now.message.now) effect.row effect.planned) }
+    ensures { IfOk result
+        (λ effect. OnRequest (asking question.now)
+        (named_server question.now.message.now) effect.row effect.planned) }
 {
     match server_of(question.message) {
         Some(server) => {
@@ -107,7 +112,8 @@ fn request(alloc: Global, question: &Question<'_>) -> Result<Effect, AllocError>
 fn select(alloc: Global, question: &Question<'_>) -> Result<Effect, AllocError>
     requires { question.now.moment < 2 ^ 40 }
     ensures { IfOk result (λ effect. WithAsked (requested_address question.now.message.now)
-        (λ a. InSubnet (serving_subnet (asking question.now)) (λ s. OnSelect (asking question.now) s a)) effect.row effect.planned) }
+        (λ a. InSubnet (serving_subnet (asking question.now))
+        (λ s. OnSelect (asking question.now) s a)) effect.row effect.planned) }
 {
     let Some(address) = requested_of(question.message) else {
         return Ok(quiet(Reason::NoRequested));
@@ -126,7 +132,8 @@ fn select_in(
     address: u32,
 ) -> Result<Effect, AllocError>
     requires { question.now.moment < 2 ^ 40 }
-    ensures { IfOk result (λ effect. OnSelect (asking question.now) subnet.now address effect.row effect.planned) }
+    ensures { IfOk result
+        (λ effect. OnSelect (asking question.now) subnet.now address effect.row effect.planned) }
 {
     if is_usable(question, subnet, address) {
         lease(alloc, question, address)
@@ -152,7 +159,8 @@ fn other(alloc: Global, question: &Question<'_>) -> Result<Effect, AllocError>
 fn renew(alloc: Global, question: &Question<'_>) -> Result<Effect, AllocError>
     requires { question.now.moment < 2 ^ 40 }
     ensures { IfOk result (λ effect. WithAsked (renewed_address question.now.message.now)
-        (λ a. InSubnet (serving_subnet (asking question.now)) (λ s. OnRenew (asking question.now) s a)) effect.row effect.planned) }
+        (λ a. InSubnet (serving_subnet (asking question.now))
+        (λ s. OnRenew (asking question.now) s a)) effect.row effect.planned) }
 {
     let Some(address) = renewed_of(question.message) else {
         return Ok(quiet(Reason::NoRequested));
@@ -171,7 +179,8 @@ fn renew_in(
     address: u32,
 ) -> Result<Effect, AllocError>
     requires { question.now.moment < 2 ^ 40 }
-    ensures { IfOk result (λ effect. OnRenew (asking question.now) subnet.now address effect.row effect.planned) }
+    ensures { IfOk result
+        (λ effect. OnRenew (asking question.now) subnet.now address effect.row effect.planned) }
 {
     if !subnet.prefix.contains(address) {
         return Ok(nak());
@@ -256,7 +265,9 @@ fn inform(question: &Question<'_>) -> Effect
 // An address is leased to the client.
 fn lease(alloc: Global, question: &Question<'_>, address: u32) -> Result<Effect, AllocError>
     requires { question.now.moment < 2 ^ 40 }
-    ensures { IfOk result (λ effect. effect ≡ record { row = Some (leased_row (asking question.now) address); planned = plans.Ack address }) }
+    ensures { IfOk result
+        (λ effect. effect
+        ≡ record { row = Some (leased_row (asking question.now) address); planned = plans.Ack address }) }
 {
     Ok(Effect {
         row: Some(leased(alloc, question, address)?),

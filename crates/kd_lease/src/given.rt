@@ -90,7 +90,8 @@ fn put_configured(
 ) -> Result<(), AllocError>
     requires { IsCode code }
     ensures { OnOk result (map option_of_item list.new.items
-        ≡ map option_of_item list.old.items ++ configured (wants_option code message.now) code (option_copied value.entry)) }
+        ≡ map option_of_item list.old.items
+        ++ configured (wants_option code message.now) code (option_copied value.entry)) }
 {
     match value {
         Some(value) if asks_for(message, code) => put_optional(alloc, list, code, value),

@@ -23,7 +23,8 @@ pub(crate) fn reply_items(
     kind: PlanKind,
     yiaddr: u32,
 ) -> Result<Items, AllocError>
-    ensures { IfOk result (λ items. map option_of_item items ≡ reply_options (asking question.now) kind yiaddr) }
+    ensures { IfOk result
+        (λ items. map option_of_item items ≡ reply_options (asking question.now) kind yiaddr) }
 {
     let message = question.message;
     let server = question.config.server().to_be_bytes();
@@ -56,7 +57,8 @@ fn put_times(
     kind: PlanKind,
     times: Times,
 ) -> Result<(), AllocError>
-    ensures { OnOk result (map option_of_item list.new.items ≡ map option_of_item list.old.items ++ times_in kind times) }
+    ensures { OnOk result (map option_of_item list.new.items ≡ map option_of_item list.old.items
+        ++ times_in kind times) }
 {
     match kind {
         PlanKind::Offer => put_lease_times(alloc, list, times),
@@ -68,7 +70,8 @@ fn put_times(
 
 // Puts how long a lease lasts, and when to renew and to rebind it.
 fn put_lease_times(alloc: Global, list: &mut Vec<Item>, times: Times) -> Result<(), AllocError>
-    ensures { OnOk result (map option_of_item list.new.items ≡ map option_of_item list.old.items ++ lease_times times) }
+    ensures { OnOk result (map option_of_item list.new.items ≡ map option_of_item list.old.items
+        ++ lease_times times) }
 {
     put_obligatory(alloc, list, 51, &times.lifetime.to_be_bytes())?;
     put_obligatory(alloc, list, 58, &times.renew.to_be_bytes())?;
@@ -83,7 +86,8 @@ fn put_configured_for(
     kind: PlanKind,
     yiaddr: u32,
 ) -> Result<(), AllocError>
-    ensures { OnOk result (map option_of_item list.new.items ≡ map option_of_item list.old.items ++ configured_for (asking question.now) kind yiaddr) }
+    ensures { OnOk result (map option_of_item list.new.items ≡ map option_of_item list.old.items
+        ++ configured_for (asking question.now) kind yiaddr) }
 {
     match kind {
         PlanKind::Offer => put_configured_at(alloc, list, question, yiaddr),

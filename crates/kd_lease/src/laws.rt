@@ -1,6 +1,6 @@
 //! What is true of the rules, whatever the program does: each law is the contract of a function that
 //! does nothing.
-ghost use Rattle.kd_lease.specs.Laws.{HeldHasNoRank, HeldIsNotGiven, NakSetsNone, SetsNow};
+ghost use Rattle.kd_lease.specs.Laws.{HeldHasNoRank, HeldIsNotGiven, HeldIsNotUsable, NakSetsNone, SetsNow};
 
 /// A row that is set was changed now.
 pub fn sets_now()
@@ -16,6 +16,11 @@ pub fn nak_sets_none()
 /// no rank: it is the choice for nobody else.
 pub fn held_has_no_rank()
     ensures { HeldHasNoRank }
+{}
+
+/// Nobody else can ask for such an address in a REQUEST, or renew it.
+pub fn held_is_not_usable()
+    ensures { HeldIsNotUsable }
 {}
 
 /// Such an address is neither offered nor leased to anybody else.

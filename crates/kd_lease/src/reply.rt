@@ -71,7 +71,8 @@ pub(crate) fn put_obligatory(
     value: &[u8],
 ) -> Result<(), AllocError>
     requires { IsCode code }
-    ensures { OnOk result (map option_of_item list.new.items ≡ map option_of_item list.old.items ++ obligatory code value.now) }
+    ensures { OnOk result (map option_of_item list.new.items ≡ map option_of_item list.old.items
+        ++ obligatory code value.now) }
 {
     put_option(alloc, list, code, value, true)
 }
@@ -101,7 +102,8 @@ pub(crate) fn put_optional(
     value: &[u8],
 ) -> Result<(), AllocError>
     requires { IsCode code }
-    ensures { OnOk result (map option_of_item list.new.items ≡ map option_of_item list.old.items ++ optional code value.now) }
+    ensures { OnOk result (map option_of_item list.new.items ≡ map option_of_item list.old.items
+        ++ optional code value.now) }
 {
     put_option(alloc, list, code, value, false)
 }

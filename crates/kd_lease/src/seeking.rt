@@ -24,7 +24,8 @@ pub(crate) enum Sought<'a> {
 
 // The newest of the client's addresses that are sought.
 pub(crate) fn newest(question: &Question<'_>, sought: &Sought<'_>) -> Option<u32>
-    ensures { IsNewest (asking question.now).rows (sought_at (asking question.now) sought.now) result }
+    ensures { IsNewest (asking question.now).rows
+        (sought_at (asking question.now) sought.now) result }
 {
     let mut best = None;
     for i in 0..question.rows.len() {

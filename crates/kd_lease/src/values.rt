@@ -23,7 +23,8 @@ impl<'a> Values<'a> {
     // Puts a value behind those of other options.
     pub(crate) fn put(&mut self, code: u8, value: &'a [u8])
         ensures { (options : List OptionData) → HasValues self.old.by_code options
-            → HasValues self.new.by_code (options ++ record { code = code; value = value.now } ∷ []) }
+            → HasValues self.new.by_code (options ++ record { code = code; value = value.now }
+            ∷ []) }
     {
         let place = usize::from(code);
         match self.by_code[place] {

@@ -1,7 +1,8 @@
 -- The line of what a server answers fits into the room that a replay grows for it.
 use Rattle.std.proofs.Common.{◌^◌, ◌<◌, ◌≤◌, length}
+use Rattle.kd_replay.specs.Handling.{line_room}
 use Rattle.kd_replay.proofs.Texts.{line_fits, quiet_length, reply_length}
-use Rattle.kd_replay.specs.Text.{IsSmall, line_of, line_room, response_text}
+use Rattle.kd_replay.specs.Text.{IsSmall, line_of, response_text}
 use Rattle.kd_event.specs.declared.event.Handled.{Handled}
 use Rattle.kd_event.specs.declared.event.Response.{Response}
 use Rattle.kd_event.specs.declared.event.Response.TheVariants as responses

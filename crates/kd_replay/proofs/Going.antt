@@ -4,9 +4,9 @@ use Rattle.std.specs.Prelude.{Option, Ok, Err}
 use Rattle.std.specs.Io.KnownBytes.{Appends, prepend_known}
 use Rattle.std.proofs.lemmas.List.{append-nil, flat_map_more}
 use Rattle.kd_replay.specs.Handling.{EndsEvent, HandlesEvent}
-use Rattle.kd_replay.specs.Lines.{IsEventLine, lines_of}
-use Rattle.kd_replay.specs.Parts.{FindsIn}
-use Rattle.kd_replay.specs.Replay.{Did, Ends, Handles, IsNoEvent, LeavesWritten, most_lines}
+use Rattle.kd_replay.specs.Lines.{HasMoment, IsEventLine, line_feeds, lines_of}
+use Rattle.kd_replay.specs.Finding.{FailsIn, FindsIn}
+use Rattle.kd_replay.specs.Replay.{Did, Ends, Handles, HandlesWhole, FirstLineIs, IsNoEvent, LeavesWritten, most_lines}
 use Rattle.kd_replay.specs.Text.{line_of}
 use Rattle.kd_event.specs.declared.event.Event.{Event}
 use Rattle.kd_event.specs.declared.event.Handled.{Handled}
@@ -15,6 +15,7 @@ use Rattle.kd_replay.specs.declared.fault.ReplayFault.TheVariants as faults
 use Rattle.kd_replay.specs.declared.fault.ServeFault.{ServeFault}
 use Rattle.kd_replay.specs.declared.lines.Found.TheVariants as found
 use Rattle.kd_replay.proofs.Histories.{more_events, more_history}
+use Rattle.kd_replay.proofs.Looking.{feeds_append, feeds_plain}
 
 appended : (old new : Option (List ℕ)) (text out : List ℕ) → Appends old new text → old ≡ Some out → new ≡ Some (out ++ text)
 appended None new text out p e = absurd (cc)
@@ -50,12 +51,16 @@ module _ {H : Type 0} (gives : H → Event → Handled → H → Type 0) where
     written = ap (λ o. o ++ line_of handled) did.written ∙ flat_map_more line_of old did.list handled;
   }
 
-  -- so many lines of the input are handled, what is left holds the others, and the sink holds their text
+  -- so many lines of the input are handled, what is left holds the others, and the sink holds their text; of what
+  -- was used each line feed is that of a handled line
   pub record Going (input : List ℕ) (server : H) (old : List ℕ) (number : ℕ) (mid : H) (left contents : Option (List ℕ)) : Type 0 where
     pub before : List (List ℕ)
+    pub used : List ℕ
     pub rest : List ℕ
     pub out : List ℕ
     pub known : left ≡ Some rest
+    pub split : input ≡ used ++ rest
+    pub feeds : line_feeds used ≤ length before
     pub lines : lines_of input ≡ before ++ lines_of rest
     pub count : length before ≡ number
     pub told : contents ≡ Some out
@@ -63,21 +68,51 @@ module _ {H : Type 0} (gives : H → Event → Handled → H → Type 0) where
 
   pub going_none : (input : List ℕ) (server : H) (old : List ℕ) (left contents : Option (List ℕ)) → left ≡ Some input → contents ≡ Some old → Going input server old 0 server left contents
   going_none input server old left contents known told =
-      record { before = []; rest = input; out = old; known = known; lines = refl; count = refl; told = told; did = did_none server old }
+      record { before = []; used = []; rest = input; out = old; known = known; split = refl; feeds = omega arith; lines = refl; count = refl; told = told; did = did_none server old }
 
   pub going_line : (input : List ℕ) (server : H) (old : List ℕ) (number : ℕ) (mid : H) (left contents : Option (List ℕ)) (g : Going input server old number mid left contents)
       (left' : Option (List ℕ)) (text : List ℕ) (event : Event) (new : H) (contents' : Option (List ℕ)) → FindsIn found.Line g.rest left' text → IsEventLine text event
       → HandlesEvent gives event mid new contents contents' → Going input server old (number + 1) new left' contents'
   going_line input server old number mid left contents g left' text event new contents' f is h = record {
     before = g.before ++ text ∷ [];
+    used = g.used ++ f.taken;
     rest = f.rest;
     out = g.out ++ line_of h.handled;
     known = f.known;
+    split = g.split ∙ ap (λ r. g.used ++ r) f.whole ∙ sym (append_assoc g.used f.taken f.rest);
+    feeds = omega (arith, feeds_append g.used f.taken, f.one, g.feeds, length-append g.before (text ∷ []));
     lines = g.lines ∙ ap (λ r. g.before ++ r) f.finds.0 ∙ sym (append_assoc g.before (text ∷ []) (lines_of f.rest));
     count = omega (arith, length-append g.before (text ∷ []), g.count);
     told = appended contents contents' (line_of h.handled) g.out h.appended g.told;
     did = did_more g.before server mid old g.out text event h.handled new g.did is h.given;
   }
+
+module _ {H : Type 0} (gives : H → Event → Handled → H → Type 0) (input : List ℕ) (server : H) (old : List ℕ) (number : ℕ) (mid : H) (left contents : Option (List ℕ)) (g : Going gives input server old number mid left contents) where
+  -- the source has failed within a line
+  pub whole_read : (left' : Option (List ℕ)) → FailsIn g.rest left' → HandlesWhole gives input left' server mid old contents
+  whole_read left' f = record {
+    given = g.used ++ f.part;
+    rest = f.rest;
+    out = g.out;
+    before = g.before;
+    after = lines_of g.rest;
+    all = g.split ∙ ap (λ r. g.used ++ r) f.whole ∙ sym (append_assoc g.used f.part f.rest);
+    known = f.known;
+    told = g.told;
+    lines = g.lines;
+    whole = omega (arith, feeds_append g.used f.part, feeds_plain f.part f.plain, g.feeds);
+    did = g.did;
+  }
+
+has_moment : (line : List ℕ) (event : Event) → IsEventLine line event → HasMoment line
+has_moment line event is = record {
+  digits = is.digits;
+  text = is.hex;
+  moment = event.moment;
+  short = is.short;
+  whole = is.whole;
+  spells = is.moment;
+}
 
 module _ {H : Type 0} (gives : H → Event → Handled → H → Type 0) (fails : H → Event → ServeFault → H → Type 0) where
   module _ (source_failed : Type 0) (input : List ℕ) (server : H) (old : List ℕ) (number : ℕ) (mid : H) (left contents : Option (List ℕ)) (g : Going gives input server old number mid left contents) (few : number ≤ most_lines) where
@@ -97,8 +132,13 @@ module _ {H : Type 0} (gives : H → Event → Handled → H → Type 0) (fails 
     pub leaves_read : source_failed → LeavesWritten gives fails source_failed (Err faults.Read) input server mid old contents
     leaves_read failed = stopped faults.Read mid g.out contents g.told (inl refl) (inl failed, refl, refl)
 
-    pub leaves_memory : number < most_lines → LeavesWritten gives fails source_failed (Err faults.Memory) input server mid old contents
-    leaves_memory early = stopped faults.Memory mid g.out contents g.told (inr early) (refl, refl)
+    pub leaves_memory : number < most_lines → (number + 1 ≡ 1) ⊎ FirstLineIs HasMoment (lines_of g.rest)
+        → LeavesWritten gives fails source_failed (Err faults.Memory) input server mid old contents
+    leaves_memory early where_is = stopped faults.Memory mid g.out contents g.told (inr early) (where_is, refl, refl)
+
+    pub leaves_memory_at : number < most_lines → (left' : Option (List ℕ)) (text : List ℕ) → FindsIn found.Line g.rest left' text
+        → HasMoment text → LeavesWritten gives fails source_failed (Err faults.Memory) input server mid old contents
+    leaves_memory_at early left' text f has = leaves_memory early (rw f.finds.0 (inr has))
 
     pub leaves_too_long : number < most_lines → (left' : Option (List ℕ)) (text : List ℕ) → FindsIn found.TooLong g.rest left' text → LeavesWritten gives fails source_failed (Err (faults.BadLine (number + 1))) input server mid old contents
     leaves_too_long early left' text f =
@@ -118,7 +158,8 @@ module _ {H : Type 0} (gives : H → Event → Handled → H → Type 0) (fails 
         stopped faults.Write new (g.out ++ e.cut.part) contents' (appended contents contents' e.cut.part g.out e.cut.written g.told) (inr early)
         (rw f.finds.0 (record { event = event; handled = e.handled; part = e.cut.part; more = e.cut.more; spelled = is; given = e.given; cut = e.cut.cut; written = refl }))
     leaves_event early left' text event faults.Read new contents' f is e = absurd e
-    leaves_event early left' text event faults.Memory new contents' f is e = stopped faults.Memory new g.out contents' (e.1 ∙ g.told) (inr early) (e.0, refl)
+    leaves_event early left' text event faults.Memory new contents' f is e =
+        stopped faults.Memory new g.out contents' (e.1 ∙ g.told) (inr early) (rw f.finds.0 (inr (has_moment text event is)), e.0, refl)
 
     -- there is one line too many
     module _ (all : number ≡ most_lines) where

@@ -1,13 +1,13 @@
 -- Lines found in the bytes of an input.
 use Rattle.std.proofs.Common.{◌≡◌, ◌≢◌, ℕ, zero, suc, ◌+◌, ◌-◌, ◌<◌, ◌≤◌, Bool, true, false, List, [], ◌∷◌, ◌++◌, Option, Some, None, refl, sym, ap, ◌∙◌, arith, append_assoc, length, take, drop, get_or, length-append, length-take, length-drop}
-use Rattle.std.specs.Prelude.{◌==◌}
+use Rattle.std.specs.Prelude.{◌==◌, if◌then◌else◌, OnErr, Result, Ok, Err}
 use Rattle.std.specs.List.{slice_range}
-use Rattle.std.specs.Io.KnownBytes.{Consumes, IsAtEnd, prepend_known}
+use Rattle.std.specs.Io.KnownBytes.{Consumes, IsAtEnd, Keeps, prepend_known}
 use Rattle.std.proofs.lemmas.Bool.{eqb-false, eqb-true}
 use Rattle.std.proofs.lemmas.List.{append-nil, drop-drop, drop_more, drop-take, take-append-drop, take_all}
 use Rattle.memchr.specs.Find.{IsFirstByte, Nowhere, Passes, is_byte}
-use Rattle.kd_replay.specs.Lines.{line_limit, lines_of, with_front}
-use Rattle.kd_replay.specs.Parts.{FindsIn, FindsTooLong, HasNo, TakesAll, TakesLast, TakesTooLong}
+use Rattle.kd_replay.specs.Lines.{line_feeds, line_limit, lines_of, with_front}
+use Rattle.kd_replay.specs.Finding.{FailsIn, FindsIn, FindsTooLong, HasNo, TakesAll, TakesLast, TakesTooLong}
 use Rattle.kd_replay.specs.declared.lines.Found.TheVariants as found
 
 is_false : (t : Bool) → (t ≡ true → ⊥) → t ≡ false
@@ -125,6 +125,45 @@ begun_all {all} {ahead} {left} {line} {ahead'} {new} p t = record {
   plain = rw t.put (plain_append 10 line ahead p.plain t.plain);
 }
 
+-- what holds anyhow holds where there is a fault
+pub on_err : {T E P : Type 0} (r : Result T E) → P → OnErr r P
+on_err (Ok value) p = tt
+on_err (Err fault) p = p
+
+-- the source has failed while a line had begun, and nothing was ahead
+pub fails_in : {all ahead : List ℕ} {left : Option (List ℕ)} {line : List ℕ} (left' : Option (List ℕ)) → Begun all ahead left line → ahead ≡ [] → Keeps left left' → FailsIn all left'
+fails_in {all} {ahead} {left} {line} left' p none kept =
+    let kept' : Keeps (Some p.rest) left' = rw p.known at kept in
+    by left' kept'
+  where
+    by : (left' : Option (List ℕ)) → Keeps (Some p.rest) left' → FailsIn all left'
+    by None h = absurd h
+    by (Some rest) h = record {
+      part = line;
+      rest = rest;
+      known = refl;
+      whole = p.whole ∙ ap (λ a. line ++ (a ++ p.rest)) none ∙ ap (λ r. line ++ r) (sym h);
+      plain = p.plain;
+    }
+
+pub feeds_append : (xs ys : List ℕ) → line_feeds (xs ++ ys) ≡ line_feeds xs + line_feeds ys
+feeds_append [] ys = omega arith
+feeds_append (b ∷ xs) ys = by (b == 10) (feeds_append xs ys)
+  where
+    by : (t : Bool) → line_feeds (xs ++ ys) ≡ line_feeds xs + line_feeds ys
+        → (if t then line_feeds (xs ++ ys) + 1 else line_feeds (xs ++ ys)) ≡ (if t then line_feeds xs + 1 else line_feeds xs) + line_feeds ys
+    by true e = omega (arith, e)
+    by false e = e
+
+pub feeds_plain : (text : List ℕ) → HasNo 10 text → line_feeds text ≡ 0
+feeds_plain [] plain = refl
+feeds_plain (b ∷ text) plain = rw plain.0 (feeds_plain text plain.1)
+
+feeds_line : (text : List ℕ) → HasNo 10 text → line_feeds (text ++ 10 ∷ []) ≤ 1
+feeds_line text plain =
+    let one : line_feeds (10 ∷ []) ≡ 1 = refl in
+    omega (arith, feeds_append text (10 ∷ []), feeds_plain text plain, one)
+
 lines_line : (text rest : List ℕ) → HasNo 10 text → lines_of (text ++ 10 ∷ rest) ≡ text ∷ lines_of rest
 lines_line [] rest plain = refl
 lines_line (b ∷ text) rest plain = rw (plain.0, lines_line text rest plain.1) refl
@@ -157,8 +196,11 @@ finds_line {all} {ahead} {left} {line} {ahead'} {new} p t short =
     ∙ sym (append_assoc line t.rest (10 ∷ (ahead' ++ p.rest))) ∙ ap (λ r. r ++ 10 ∷ (ahead' ++ p.rest)) (sym t.put) in
     let plain : HasNo 10 new = rw t.put (plain_append 10 line t.rest p.plain t.plain) in
     record {
+      taken = new ++ 10 ∷ [];
       rest = ahead' ++ p.rest;
       known = ap (prepend_known ahead') p.known;
+      whole = whole ∙ sym (append_assoc new (10 ∷ []) (ahead' ++ p.rest));
+      one = feeds_line new plain;
       finds = (ap lines_of whole ∙ lines_line new (ahead' ++ p.rest) plain, short);
     }
 
@@ -169,8 +211,11 @@ finds_too_long {all} {ahead} {left} {line} {ahead'} new p t =
     p.whole ∙ ap (λ a. line ++ (a ++ p.rest)) t.whole ∙ ap (λ r. line ++ r) (append_assoc t.front t.more p.rest) ∙ sym (append_assoc line t.front (t.more ++ p.rest)) in
     let long = long_text (line ++ t.front) (t.more ++ p.rest) (plain_append 10 line t.front p.plain t.plain) (omega (arith, length-append line t.front, t.long)) in
     record {
+      taken = line;
       rest = ahead' ++ p.rest;
       known = ap (prepend_known ahead') p.known;
+      whole = p.whole ∙ ap (λ a. line ++ (a ++ p.rest)) (sym t.same);
+      one = omega (arith, feeds_plain line p.plain);
       finds = (let P : List ℕ → Type 0 = λ a. FindsTooLong (lines_of a) in rw whole long);
     }
 
@@ -193,14 +238,28 @@ ended {all} {ahead} {left} {line} ahead' new p none none' same end =
     }
 
 pub finds_end : {all : List ℕ} {left : Option (List ℕ)} {line : List ℕ} → Ended all left line → length line ≡ 0 → FindsIn found.End all left line
-finds_end {all} {left} {line} p none = record { rest = []; known = p.known; finds = ap lines_of (p.whole ∙ empty line none) }
+finds_end {all} {left} {line} p none = record {
+  taken = [];
+  rest = [];
+  known = p.known;
+  whole = p.whole ∙ empty line none;
+  one = omega arith;
+  finds = ap lines_of (p.whole ∙ empty line none);
+}
   where
     empty : (text : List ℕ) → length text ≡ 0 → text ≡ []
     empty [] e = refl
     empty (b ∷ text) e = absurd (omega (arith, e))
 
 pub finds_last : {all : List ℕ} {left : Option (List ℕ)} {line : List ℕ} → Ended all left line → 0 < length line → length line ≤ line_limit → FindsIn found.Line all left line
-finds_last {all} {left} {line} p some short = record { rest = []; known = p.known; finds = (ap lines_of p.whole ∙ last line p.plain some, short) }
+finds_last {all} {left} {line} p some short = record {
+  taken = line;
+  rest = [];
+  known = p.known;
+  whole = p.whole ∙ sym (append-nil line);
+  one = omega (arith, feeds_plain line p.plain);
+  finds = (ap lines_of p.whole ∙ last line p.plain some, short);
+}
   where
     last : (text : List ℕ) → HasNo 10 text → 0 < length text → lines_of text ≡ text ∷ []
     last [] plain some = absurd (omega arith)

@@ -7,7 +7,7 @@ use Rattle.std.proofs.lemmas.List.{take_all}
 use Rattle.hex.specs.Hex.{decode_of}
 use Rattle.memchr.specs.Find.{IsFirstByte, is_byte}
 use Rattle.kd_replay.specs.Lines.{IsEventLine, IsMoment, number_after}
-use Rattle.kd_replay.specs.Parts.{HasNo}
+use Rattle.kd_replay.specs.Finding.{HasNo}
 use Rattle.kd_event.specs.declared.event.Event.{Event}
 use Rattle.kd_replay.proofs.Looking.{plain_front, split_first}
 

@@ -5,7 +5,8 @@ use Rattle.std.proofs.lemmas.Fmt.{length-decimal-le}
 use Rattle.hex.specs.Hex.{encode_lower, lower_digits}
 use Rattle.hex.proofs.HexLemmas.{length-encode_with}
 use Rattle.kd_event.specs.Reason.{reason_name, reason_number}
-use Rattle.kd_replay.specs.Text.{address_text, bytes_text, line_of, line_room, mode_word, quiet_line, reply_line, response_text}
+use Rattle.kd_replay.specs.Handling.{line_room}
+use Rattle.kd_replay.specs.Text.{address_text, bytes_text, line_of, mode_word, quiet_line, reply_line, response_text}
 use Rattle.kd_event.specs.declared.destination.Destination.{Destination}
 use Rattle.kd_event.specs.declared.destination.Mode.{Mode}
 use Rattle.kd_event.specs.declared.destination.Mode.TheVariants as modes

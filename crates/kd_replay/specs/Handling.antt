@@ -1,4 +1,4 @@
--- What the private functions that handle an event leave: for the proofs, no promise names it.
+-- Words of private contracts alone: the room for a line, and what is left where an event is handled and written.
 use Rattle.std.specs.Prelude.{◌≡◌, ◌≢◌, ℕ, List, Option}
 use Rattle.std.specs.Io.KnownBytes.{Appends}
 use Rattle.kd_replay.specs.Parts.{WritesPart}
@@ -10,24 +10,33 @@ use Rattle.kd_replay.specs.declared.fault.ReplayFault.TheVariants as faults
 use Rattle.kd_replay.specs.declared.fault.ServeFault.{ServeFault}
 use Rattle.kd_replay.specs.declared.fault.ServeFault.TheVariants as serving
 
+-- the most bytes that a written line has, with its line feed
+abbrev pub line_room : ℕ
+line_room = 4096
+
 module _ {H : Type 0} (gives : H → Event → Handled → H → Type 0) where
   -- an event is handled, and its text is written
-  pub record HandlesEvent (event : Event) (server new : H) (contents written : Option (List ℕ)) : Type 0 where
+  pub record HandlesEvent (event : Event) (server new : H)
+      (contents written : Option (List ℕ)) : Type 0 where
     pub handled : Handled
     pub given : gives server event handled new
     pub appended : Appends contents written (line_of handled)
 
   -- an event is handled, and a front of its text is written
-  pub record CutsEvent (event : Event) (server new : H) (contents written : Option (List ℕ)) : Type 0 where
+  pub record CutsEvent (event : Event) (server new : H)
+      (contents written : Option (List ℕ)) : Type 0 where
     pub handled : Handled
     pub given : gives server event handled new
     pub cut : WritesPart contents written (line_of handled)
 
-module _ {H : Type 0} (gives : H → Event → Handled → H → Type 0) (fails : H → Event → ServeFault → H → Type 0) where
+module _ {H : Type 0} (gives : H → Event → Handled → H → Type 0)
+    (fails : H → Event → ServeFault → H → Type 0) where
   -- what a fault of handling an event and of writing its text leaves
   abbrev pub EndsEvent : ReplayFault → Event → H → H → Option (List ℕ) → Option (List ℕ) → Type 0
   EndsEvent faults.Memory event server new contents written = (new ≡ server) × (written ≡ contents)
-  EndsEvent (faults.Serve fault) event server new contents written = fails server event fault new × (fault ≢ serving.Memory) × (written ≡ contents)
-  EndsEvent faults.Write event server new contents written = CutsEvent gives event server new contents written
+  EndsEvent (faults.Serve fault) event server new contents written =
+      fails server event fault new × (fault ≢ serving.Memory) × (written ≡ contents)
+  EndsEvent faults.Write event server new contents written =
+      CutsEvent gives event server new contents written
   EndsEvent faults.Read event server new contents written = ⊥
   EndsEvent (faults.BadLine number) event server new contents written = ⊥

@@ -11,12 +11,14 @@ module _ {H : Type 0} (gives : H → Event → Handled → H → Type 0) where
   -- what was done with each event of a list, from the old server to the new one
   abbrev pub History : H → List Event → List Handled → H → Type 0
   History old [] [] new = new ≡ old
-  History old (event ∷ events) (handled ∷ list) new = (mid : H) × gives old event handled mid × History mid events list new
+  History old (event ∷ events) (handled ∷ list) new =
+      (mid : H) × gives old event handled mid × History mid events list new
   History old [] (handled ∷ list) new = ⊥
   History old (event ∷ events) [] new = ⊥
 
 -- there is no memory for the list, and nothing is handled
-pub record NoMemory {H : Type 0} (fault : ServeFault) (list : List Handled) (old new : H) : Type 0 where
+pub record NoMemory {H : Type 0} (fault : ServeFault) (list : List Handled)
+    (old new : H) : Type 0 where
   pub want : fault ≡ faults.Memory
   pub none : list ≡ []
   pub same : new ≡ old
@@ -29,11 +31,14 @@ module _ {H : Type 0} (fails : H → Event → ServeFault → H → Type 0) wher
   Halts None [] list mid new = new ≡ mid
   Halts None (event ∷ events) list mid new = ⊥
   Halts (Some fault) [] list mid new = NoMemory fault list mid new
-  Halts (Some fault) (event ∷ events) list mid new = fails mid event fault new ⊎ NoMemory fault list mid new
+  Halts (Some fault) (event ∷ events) list mid new =
+      fails mid event fault new ⊎ NoMemory fault list mid new
 
-module _ {H : Type 0} (gives : H → Event → Handled → H → Type 0) (fails : H → Event → ServeFault → H → Type 0) where
+module _ {H : Type 0} (gives : H → Event → Handled → H → Type 0)
+    (fails : H → Event → ServeFault → H → Type 0) where
   -- a run: the first events have a history, and it ends behind them
-  pub record Runs (events : List Event) (list : List Handled) (fault : Option ServeFault) (old new : H) : Type 0 where
+  pub record Runs (events : List Event) (list : List Handled) (fault : Option ServeFault)
+      (old new : H) : Type 0 where
     pub done : List Event
     pub after : List Event
     pub mid : H

@@ -1,5 +1,6 @@
 pub mod Answering
 pub mod Faults
+pub mod Finding
 pub mod Handling
 pub mod History
 pub mod Lines

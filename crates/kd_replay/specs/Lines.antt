@@ -18,17 +18,32 @@ abbrev pub lines_of : List ℕ → List (List ℕ)
 lines_of [] = []
 lines_of (b ∷ bytes) = if b == 10 then [] ∷ lines_of bytes else with_front (b ∷ []) (lines_of bytes)
 
+-- how many line feeds there are
+abbrev pub line_feeds : List ℕ → ℕ
+line_feeds [] = 0
+line_feeds (b ∷ bytes) = if b == 10 then line_feeds bytes + 1 else line_feeds bytes
+
 -- a number with more decimal digits behind it, as long as it is below 2 ^ 64
 abbrev pub number_after : ℕ → List ℕ → Option ℕ
 number_after n [] = Some n
 number_after n (d ∷ digits) =
-    if is_ascii_digit d && nat_lt (n * 10 + (d - 48)) (2 ^ 64) then number_after (n * 10 + (d - 48)) digits else None
+    if is_ascii_digit d && nat_lt (n * 10 + (d - 48)) (2 ^ 64)
+    then number_after (n * 10 + (d - 48)) digits else None
 
 -- a moment in decimal: 1 to 20 digits, and less than 2 ^ 64
 pub record IsMoment (digits : List ℕ) (moment : ℕ) : Type 0 where
   pub some : 0 < length digits
   pub few : length digits ≤ 20
   pub number : number_after 0 digits ≡ Some moment
+
+-- a line that begins as an event: a moment, and one space
+pub record HasMoment (line : List ℕ) : Type 0 where
+  pub digits : List ℕ
+  pub text : List ℕ
+  pub moment : ℕ
+  pub short : length line ≤ line_limit
+  pub whole : line ≡ digits ++ 32 ∷ text
+  pub spells : IsMoment digits moment
 
 -- a line that is an event: its moment, one space, and its bytes in hexadecimal of either case
 pub record IsEventLine (line : List ℕ) (event : Event) : Type 0 where

@@ -2,7 +2,7 @@
 use Rattle.std.specs.Prelude.{◌≡◌, ◌≢◌, ℕ, ◌+◌, ◌<◌, ◌≤◌, List, [], ◌∷◌, ◌++◌, ◌⊎◌, Option, Some, Result, Ok, Err, length}
 use Rattle.std.specs.List.{flat_map}
 use Rattle.kd_replay.specs.History.{History}
-use Rattle.kd_replay.specs.Lines.{IsEventLine, lines_of}
+use Rattle.kd_replay.specs.Lines.{HasMoment, IsEventLine, line_feeds, lines_of}
 use Rattle.kd_replay.specs.Text.{line_of}
 use Rattle.kd_event.specs.declared.event.Event.{Event}
 use Rattle.kd_event.specs.declared.event.Handled.{Handled}
@@ -48,6 +48,22 @@ module _ {H : Type 0} (gives : H → Event → Handled → H → Type 0) where
     pub history : History gives server events list new
     pub written : out ≡ old ++ flat_map line_of list
 
+  -- the lines that a source gave whole before it failed, each with its line feed, are handled, and what is written is
+  -- the text of the lines that are handled
+  pub record HandlesWhole (input : List ℕ) (left : Option (List ℕ)) (server new : H) (old : List ℕ)
+      (contents : Option (List ℕ)) : Type 0 where
+    pub given : List ℕ
+    pub rest : List ℕ
+    pub out : List ℕ
+    pub before : List (List ℕ)
+    pub after : List (List ℕ)
+    pub all : input ≡ given ++ rest
+    pub known : left ≡ Some rest
+    pub told : contents ≡ Some out
+    pub lines : lines_of input ≡ before ++ after
+    pub whole : line_feeds given ≤ length before
+    pub did : Did before server new old out
+
   -- a line's event is handled, and what is written is a front of its text
   pub record Cuts (line : List ℕ) (server new : H) (old out : List ℕ) : Type 0 where
     pub event : Event
@@ -68,21 +84,28 @@ module _ {H : Type 0} (fails : H → Event → ServeFault → H → Type 0) wher
     pub failed : fails server event fault new
     pub other : fault ≢ serving.Memory
 
-module _ {H : Type 0} (gives : H → Event → Handled → H → Type 0) (fails : H → Event → ServeFault → H → Type 0) where
+module _ {H : Type 0} (gives : H → Event → Handled → H → Type 0)
+    (fails : H → Event → ServeFault → H → Type 0) where
   -- how a replay ends at the line with a number, the first of those that are left: at a line that is no
   -- event, at a fault of its event, while its text is written, where the source has failed or it is one
-  -- line too many, or for want of memory
+  -- line too many, or for want of memory: that comes at the start, or at a line whose moment can be read
   abbrev pub Ends : Type 0 → ReplayFault → ℕ → List (List ℕ) → H → H → List ℕ → List ℕ → Type 0
-  Ends source_failed (faults.BadLine k) number lines server new old out = (k ≡ number) × FirstLineIs IsNoEvent lines × (new ≡ server) × (out ≡ old)
-  Ends source_failed (faults.Serve fault) number lines server new old out = FirstLineIs (λ line. LineFails fails fault line server new) lines × (out ≡ old)
-  Ends source_failed faults.Write number lines server new old out = FirstLineIs (λ line. Cuts gives line server new old out) lines
+  Ends source_failed (faults.BadLine k) number lines server new old out =
+      (k ≡ number) × FirstLineIs IsNoEvent lines × (new ≡ server) × (out ≡ old)
+  Ends source_failed (faults.Serve fault) number lines server new old out =
+      FirstLineIs (λ line. LineFails fails fault line server new) lines × (out ≡ old)
+  Ends source_failed faults.Write number lines server new old out =
+      FirstLineIs (λ line. Cuts gives line server new old out) lines
   Ends source_failed faults.Read number lines server new old out =
-      (source_failed ⊎ ((number ≡ most_lines + 1) × (0 < length lines))) × (new ≡ server) × (out ≡ old)
-  Ends source_failed faults.Memory number lines server new old out = (new ≡ server) × (out ≡ old)
+      (source_failed ⊎ ((number ≡ most_lines + 1) × (0 < length lines))) × (new ≡ server)
+      × (out ≡ old)
+  Ends source_failed faults.Memory number lines server new old out =
+      ((number ≡ 1) ⊎ FirstLineIs HasMoment lines) × (new ≡ server) × (out ≡ old)
 
   -- a replay stops: the lines before are handled, and it ends at the next, which is one of the first 1,000,000 but where
   -- the source has failed or there is one line too many
-  pub record Stops (source_failed : Type 0) (fault : ReplayFault) (lines : List (List ℕ)) (server new : H) (old out : List ℕ) : Type 0 where
+  pub record Stops (source_failed : Type 0) (fault : ReplayFault) (lines : List (List ℕ))
+      (server new : H) (old out : List ℕ) : Type 0 where
     pub before : List (List ℕ)
     pub after : List (List ℕ)
     pub mid : H
@@ -94,12 +117,16 @@ module _ {H : Type 0} (gives : H → Event → Handled → H → Type 0) (fails 
     pub ends : Ends source_failed fault (length before + 1) after mid new between out
 
   -- a replay: all lines are handled, as many as it says and 1,000,000 at most, or it stops with its fault
-  abbrev pub Replays : Type 0 → Result ℕ ReplayFault → List (List ℕ) → H → H → List ℕ → List ℕ → Type 0
-  Replays source_failed (Ok count) lines server new old out = (count ≡ length lines) × (count ≤ most_lines) × Did gives lines server new old out
-  Replays source_failed (Err fault) lines server new old out = Stops source_failed fault lines server new old out
+  abbrev pub Replays : Type 0 → Result ℕ ReplayFault → List (List ℕ) → H → H → List ℕ → List ℕ
+      → Type 0
+  Replays source_failed (Ok count) lines server new old out =
+      (count ≡ length lines) × (count ≤ most_lines) × Did gives lines server new old out
+  Replays source_failed (Err fault) lines server new old out =
+      Stops source_failed fault lines server new old out
 
   -- what a replay of an input leaves in the sink, whose contents are known
-  pub record LeavesWritten (source_failed : Type 0) (result : Result ℕ ReplayFault) (input : List ℕ) (server new : H) (old : List ℕ) (contents : Option (List ℕ)) : Type 0 where
+  pub record LeavesWritten (source_failed : Type 0) (result : Result ℕ ReplayFault) (input : List ℕ)
+      (server new : H) (old : List ℕ) (contents : Option (List ℕ)) : Type 0 where
     pub out : List ℕ
     pub told : contents ≡ Some out
     pub replays : Replays source_failed result (lines_of input) server new old out

@@ -28,7 +28,8 @@ Grows (Some old) new more = new ≡ Some (old ++ more)
 
 -- what is handed over for a response, by whether it was sent
 abbrev pub packets_in : Bool → Response → List Packet
-packets_in sent (responses.Reply destination bytes) = record { destination = destination; bytes = bytes; sent = sent } ∷ []
+packets_in sent (responses.Reply destination bytes) =
+    record { destination = destination; bytes = bytes; sent = sent } ∷ []
 packets_in sent (responses.Quiet reason) = []
 
 -- the line that says that a reply could not be sent
@@ -93,17 +94,23 @@ module _ {H : Type 0} (fails : H → Event → ServeFault → H → Type 0) wher
     pub sent : out.sent ≡ old.sent
     pub written : out.written ≡ old.written
 
-module _ {H : Type 0} (gives : H → Event → Handled → H → Type 0) (fails : H → Event → ServeFault → H → Type 0) where
+module _ {H : Type 0} (gives : H → Event → Handled → H → Type 0)
+    (fails : H → Event → ServeFault → H → Type 0) where
   -- how serving ends before its count: nothing could be received; for want of memory, with nothing sent or written for
   -- the last datagram; at a fault of the server; or where a text could not be written
   abbrev pub EndsServing : Type 0 → Type 0 → LoopFault → H → H → Traffic → Traffic → Type 0
-  EndsServing not_received not_written faults.Read server new old out = not_received × (new ≡ server) × (out ≡ old)
-  EndsServing not_received not_written faults.Memory server new old out = (new ≡ server) × (out.sent ≡ old.sent) × (out.written ≡ old.written)
-  EndsServing not_received not_written (faults.Serve fault) server new old out = HasFailed fails fault server new old out
-  EndsServing not_received not_written faults.Write server new old out = not_written × HasCut gives server new old out
+  EndsServing not_received not_written faults.Read server new old out =
+      not_received × (new ≡ server) × (out ≡ old)
+  EndsServing not_received not_written faults.Memory server new old out =
+      (new ≡ server) × (out.sent ≡ old.sent) × (out.written ≡ old.written)
+  EndsServing not_received not_written (faults.Serve fault) server new old out =
+      HasFailed fails fault server new old out
+  EndsServing not_received not_written faults.Write server new old out =
+      not_written × HasCut gives server new old out
 
   -- serving stops before its count: some datagrams were served, and it ends at the next
-  pub record StopsServing (not_received not_written : Type 0) (fault : LoopFault) (count : ℕ) (server new : H) (old out : Traffic) : Type 0 where
+  pub record StopsServing (not_received not_written : Type 0) (fault : LoopFault) (count : ℕ)
+      (server new : H) (old out : Traffic) : Type 0 where
     pub done : ℕ
     pub mid : H
     pub between : Traffic

@@ -19,11 +19,13 @@ mode_word modes.Hardware = codes "hardware"
 -- an address: its four bytes in decimal, with dots between them
 abbrev pub address_text : ℕ → List ℕ
 address_text a =
-    decimal (a / 2 ^ 24) ++ codes "." ++ decimal (a / 2 ^ 16 % 256) ++ codes "." ++ decimal (a / 2 ^ 8 % 256) ++ codes "." ++ decimal (a % 256)
+    decimal (a / 2 ^ 24) ++ codes "." ++ decimal (a / 2 ^ 16 % 256) ++ codes "."
+    ++ decimal (a / 2 ^ 8 % 256) ++ codes "." ++ decimal (a % 256)
 
 -- a destination: how it is sent, a space, the address, a colon, the port
 abbrev pub destination_text : Destination → List ℕ
-destination_text d = mode_word d.mode ++ codes " " ++ address_text d.address ++ codes ":" ++ decimal d.port
+destination_text d =
+    mode_word d.mode ++ codes " " ++ address_text d.address ++ codes ":" ++ decimal d.port
 
 -- bytes in hexadecimal, in lower case; no bytes are a dash
 abbrev pub bytes_text : List ℕ → List ℕ
@@ -32,7 +34,8 @@ bytes_text (b ∷ bytes) = encode_lower (b ∷ bytes)
 
 -- a reply: its destination and its bytes
 abbrev pub reply_line : Destination → List ℕ → List ℕ
-reply_line destination bytes = codes "reply " ++ destination_text destination ++ codes " " ++ bytes_text bytes
+reply_line destination bytes =
+    codes "reply " ++ destination_text destination ++ codes " " ++ bytes_text bytes
 
 -- no reply: the number and the name of the reason
 abbrev pub quiet_line : ℕ → List ℕ → List ℕ
@@ -46,10 +49,6 @@ response_text (responses.Quiet reason) = quiet_line (reason_number reason) (reas
 -- the line of a handled event, with its line feed: the moment at which it counts, and the response
 unfoldable pub line_of : Handled → List ℕ
 line_of handled = decimal handled.now ++ codes " " ++ response_text handled.response ++ codes "\n"
-
--- the most bytes that a line has, with its line feed
-abbrev pub line_room : ℕ
-line_room = 4096
 
 -- what is sent has at most 1,472 bytes, and goes to an address and a port
 abbrev pub IsSmall : Response → Type 0

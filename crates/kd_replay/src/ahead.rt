@@ -1,7 +1,7 @@
 ghost use Rattle.std.specs.Prelude.{◌≡◌, ◌↔◌, IsTrue, ◌+◌, ◌<◌, ◌≤◌, [], IfOk, OnOk, OnErr, length, slice_range, true, vec_capacity};
-ghost use Rattle.std.specs.Io.KnownBytes.{Consumes, IsAtEnd, prepend_known};
+ghost use Rattle.std.specs.Io.KnownBytes.{Consumes, IsAtEnd, Keeps, prepend_known};
 ghost use Rattle.kd_replay.specs.Lines.{line_limit};
-ghost use Rattle.kd_replay.specs.Parts.{TakesPart};
+ghost use Rattle.kd_replay.specs.Finding.{TakesPart};
 
 use crate::ends::{EndFailed, Source};
 use crate::lines::LINE_LIMIT;
@@ -27,7 +27,8 @@ impl Model for Ahead {
 
     ghost view = { λ a. slice_range a.buffer.items a.from a.to };
 
-    ghost invariant = { λ a. (a.from ≤ a.to) × (a.to ≤ length a.buffer.items) × (0 < length a.buffer.items) };
+    ghost invariant = { λ a. (a.from ≤ a.to) × (a.to ≤ length a.buffer.items)
+        × (0 < length a.buffer.items) };
 }
 
 // What was taken of the bytes ahead.
@@ -64,9 +65,11 @@ impl Ahead {
 
     // Reads bytes in place of those that are there.
     fn fill<S: Source>(&mut self, source: &mut S) -> Result<(), EndFailed>
-        ensures read { OnOk result (Consumes (S.remaining source.old) (S.remaining source.new) self.new) }
+        ensures read { OnOk result
+            (Consumes (S.remaining source.old) (S.remaining source.new) self.new) }
         ensures end { OnOk result (self.new ≡ [] → IsAtEnd (S.remaining source.new)) }
         ensures failed { OnErr result (S.has_failed source.new ≡ true) }
+        ensures kept { OnErr result (Keeps (S.remaining source.old) (S.remaining source.new)) }
     {
         self.from = 0;
         self.to = 0;
@@ -80,6 +83,8 @@ impl Ahead {
             (prepend_known self.new (S.remaining source.new)) []) }
         ensures end { OnOk result (self.new ≡ [] → IsAtEnd (S.remaining source.new)) }
         ensures failed { OnErr result (S.has_failed source.new ≡ true) }
+        ensures none { OnErr result (self.old ≡ []) }
+        ensures kept { OnErr result (Keeps (S.remaining source.old) (S.remaining source.new)) }
     {
         if !self.is_empty() {
             return Ok(());

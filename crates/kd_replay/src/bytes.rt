@@ -67,7 +67,8 @@ pub fn replay_bytes<H: Serves>(
     input: &[u8],
     server: &mut H,
 ) -> (Vec<u8>, Result<u64, ReplayFault>)
-    ensures { Replays H.gives H.fails ⊥ result.1 (lines_of input.now) server.old server.new [] result.0.items }
+    ensures { Replays H.gives H.fails ⊥ result.1
+        (lines_of input.now) server.old server.new [] result.0.items }
 {
     let mut source = Held { rest: input };
     let mut sink = Kept {

@@ -1,8 +1,8 @@
-ghost use Rattle.std.specs.Prelude.{◌≡◌, ℕ, ◌+◌, ◌-◌, ◌*◌, ◌^◌, ◌<◌, ◌≤◌, ◌&&◌, ◌++◌, ◌∷◌, List, Some, None, Ok, IfOk, MatchOption, length, nat_lt, if◌then◌else◌};
+ghost use Rattle.std.specs.Prelude.{◌≡◌, ℕ, ◌+◌, ◌-◌, ◌*◌, ◌^◌, ◌<◌, ◌≤◌, ◌&&◌, ◌++◌, ◌∷◌, List, Some, None, Ok, IfOk, MatchOption, OnErr, length, nat_lt, if◌then◌else◌};
 ghost use Rattle.std.specs.Char.{is_ascii_digit};
 ghost use Rattle.hex.specs.Hex.{decode_of};
-ghost use Rattle.kd_replay.specs.Lines.{IsEventLine, IsMoment, line_limit};
-ghost use Rattle.kd_replay.specs.Parts.{HasNo};
+ghost use Rattle.kd_replay.specs.Lines.{HasMoment, IsEventLine, IsMoment, line_limit};
+ghost use Rattle.kd_replay.specs.Finding.{HasNo};
 ghost use Rattle.kd_event.specs.declared.event.Event.{Event};
 
 use hex::FromHexError;
@@ -13,11 +13,12 @@ use std::alloc::{AllocError, Global};
 
 const MOST_DIGITS: usize = 20;
 
-// The event of a line, if the line is one.
+// The event of a line, if the line is one. Memory is taken for its bytes alone.
 pub(crate) fn event_in(alloc: Global, line: &[u8]) -> Result<Option<Event>, AllocError>
     requires { length line.now ≤ line_limit }
-    ensures { IfOk result (λ found. MatchOption found
+    ensures found { IfOk result (λ found. MatchOption found
         ((event : Event) → ¬ IsEventLine line.now event) (λ event. IsEventLine line.now event)) }
+    ensures memory { OnErr result (HasMoment line.now) }
 {
     let Some((digits, text)) = at_space(line) else {
         return Ok(None);
@@ -71,7 +72,8 @@ fn with_digit(number: u64, digit: u8) -> Option<u64>
 // The bytes that a text spells in hexadecimal, if it does.
 fn bytes_in(alloc: Global, text: &[u8]) -> Result<Option<Bytes>, AllocError>
     ensures { IfOk result (λ found. MatchOption found
-        ((bytes : List ℕ) → ¬ (decode_of text.now ≡ Ok bytes)) (λ bytes. decode_of text.now ≡ Ok bytes)) }
+        ((bytes : List ℕ) → ¬ (decode_of text.now ≡ Ok bytes))
+        (λ bytes. decode_of text.now ≡ Ok bytes)) }
 {
     match hex::decode(alloc, text) {
         Ok(bytes) => Ok(Some(Bytes::own(bytes))),

@@ -1,7 +1,7 @@
 ghost use Rattle.std.specs.Prelude.{◌≡◌, ◌+◌, ◌≤◌, ℕ, List, Some, IfOk, OnErr, OnOk, length, true, vec_capacity};
 ghost use Rattle.std.specs.Io.KnownBytes.{prepend_known};
 ghost use Rattle.kd_replay.specs.Lines.{line_limit};
-ghost use Rattle.kd_replay.specs.Parts.{FindsIn};
+ghost use Rattle.kd_replay.specs.Finding.{FailsIn, FindsIn};
 
 use crate::ahead::{Ahead, Part};
 use crate::ends::{EndFailed, Source};
@@ -24,11 +24,15 @@ pub(crate) fn next_line<S: Source>(
     line: &mut Vec<u8>,
 ) -> Result<Found, EndFailed>
     requires { line_limit ≤ vec_capacity line.old }
-    ensures found { IfOk result (λ found. (all : List ℕ) → prepend_known ahead.old (S.remaining source.old) ≡ Some all
+    ensures found { IfOk result (λ found. (all : List ℕ)
+        → prepend_known ahead.old (S.remaining source.old) ≡ Some all
         → FindsIn found all (prepend_known ahead.new (S.remaining source.new)) line.new.items) }
     ensures short { length line.new.items ≤ line_limit }
     ensures room { vec_capacity line.old ≤ vec_capacity line.new }
     ensures failed { OnErr result (S.has_failed source.new ≡ true) }
+    ensures cut { OnErr result ((all : List ℕ)
+        → prepend_known ahead.old (S.remaining source.old) ≡ Some all
+        → FailsIn all (S.remaining source.new)) }
 {
     line.clear();
     for _ in 0..=LINE_LIMIT {

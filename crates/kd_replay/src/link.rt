@@ -22,7 +22,8 @@ pub trait Link {
     /// Nothing can be received.
     fn receive(&mut self, buf: &mut [u8]) -> Result<usize, EndFailed>
         ensures count { IfOk result (λ n. n ≤ length buf.new) }
-        ensures received { IfOk result (λ n. Grows (received self.old) (received self.new) (take n buf.new ∷ [])) }
+        ensures received { IfOk result
+            (λ n. Grows (received self.old) (received self.new) (take n buf.new ∷ [])) }
         ensures none { OnErr result (received self.new ≡ received self.old) }
         ensures sent { sent self.new ≡ sent self.old }
         ensures failed { has_failed self.new ≡ (has_failed self.old || is_err result) };
@@ -33,7 +34,8 @@ pub trait Link {
     ///
     /// It was not sent.
     fn send(&mut self, bytes: &[u8], to: Destination) -> Result<(), EndFailed>
-        ensures sent { Grows (sent self.old) (sent self.new) (record { destination = to; bytes = bytes.now; sent = is_ok result } ∷ []) }
+        ensures sent { Grows (sent self.old) (sent self.new)
+            (record { destination = to; bytes = bytes.now; sent = is_ok result } ∷ []) }
         ensures received { received self.new ≡ received self.old }
         ensures failed { has_failed self.new ≡ has_failed self.old };
 }

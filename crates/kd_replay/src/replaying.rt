@@ -1,11 +1,11 @@
 ghost use Rattle.std.specs.Prelude.{◌≡◌, ◌+◌, ◌≤◌, ◌⊎◌, List, [], Some, IfErr, IfOk, MatchResult, OnErr, OnOk, ℕ, false, true, length, vec_capacity};
 ghost use Rattle.std.specs.Io.KnownBytes.{Appends};
 ghost use Rattle.std.specs.Result.{IsErrOf};
-ghost use Rattle.kd_replay.specs.Handling.{EndsEvent, HandlesEvent};
+ghost use Rattle.kd_replay.specs.Handling.{EndsEvent, HandlesEvent, line_room};
 ghost use Rattle.kd_replay.specs.Lines.{line_limit};
 ghost use Rattle.kd_replay.specs.Parts.{WritesPart};
-ghost use Rattle.kd_replay.specs.Replay.{Handles, LeavesWritten, most_lines};
-ghost use Rattle.kd_replay.specs.Text.{line_of, line_room};
+ghost use Rattle.kd_replay.specs.Replay.{Handles, HandlesWhole, LeavesWritten, most_lines};
+ghost use Rattle.kd_replay.specs.Text.{line_of};
 ghost use Rattle.kd_replay.specs.declared.fault.ReplayFault.TheVariants as faults;
 
 use crate::ahead::Ahead;
@@ -59,11 +59,19 @@ pub fn replay_with<R: Source, W: Sink, H: Serves>(
 ) -> Result<u64, ReplayFault>
     requires source { R.has_failed source.old ≡ false }
     requires sink { W.has_failed sink.old ≡ false }
-    ensures replayed { (input old : List ℕ) → R.remaining source.old ≡ Some input → W.contents sink.old ≡ Some old
-        → LeavesWritten H.gives H.fails (R.has_failed source.new ≡ true) result input server.old server.new old (W.contents sink.new) }
+    ensures replayed { (input old : List ℕ) → R.remaining source.old ≡ Some input
+        → W.contents sink.old ≡ Some old
+        → LeavesWritten H.gives H.fails (R.has_failed source.new ≡ true) result input
+        server.old server.new old (W.contents sink.new) }
     ensures counted { IfOk result (λ count. Handles H.gives count server.old server.new) }
     ensures read { IsErrOf result faults.Read
         → (R.has_failed source.new ≡ true) ⊎ Handles H.gives most_lines server.old server.new }
+    ensures whole { IsErrOf result faults.Read
+        → (input old : List ℕ) → R.remaining source.old ≡ Some input
+        → W.contents sink.old ≡ Some old
+        → HandlesWhole H.gives input (R.remaining source.new)
+        server.old server.new old (W.contents sink.new)
+        ⊎ Handles H.gives most_lines server.old server.new }
     ensures write { IsErrOf result faults.Write → W.has_failed sink.new ≡ true }
 {
     let mut work = Work::new(alloc)?;
@@ -98,9 +106,11 @@ fn replay_event<W: Sink, H: Serves>(
 ) -> Result<(), ReplayFault>
     requires { line_room ≤ vec_capacity room.old }
     ensures handled { OnOk result
-        (HandlesEvent H.gives event.now server.old server.new (W.contents sink.old) (W.contents sink.new)) }
+        (HandlesEvent H.gives event.now server.old server.new (W.contents sink.old)
+        (W.contents sink.new)) }
     ensures ended { IfErr result (λ fault.
-        EndsEvent H.gives H.fails fault event.now server.old server.new (W.contents sink.old) (W.contents sink.new)) }
+        EndsEvent H.gives H.fails fault event.now server.old server.new (W.contents sink.old)
+        (W.contents sink.new)) }
     ensures write { IsErrOf result faults.Write → W.has_failed sink.new ≡ true }
     ensures room { vec_capacity room.old ≤ vec_capacity room.new }
 {

@@ -1,7 +1,8 @@
 ghost use Rattle.std.specs.Prelude.{◌≡◌, ◌+◌, ◌≤◌, ◌++◌, IfErr, IfOk, MatchResult, OnErr, OnOk, false, length, true, vec_capacity};
+ghost use Rattle.kd_replay.specs.Handling.{line_room};
 ghost use Rattle.kd_replay.specs.Answering.{IsTold, IsCut};
 ghost use Rattle.kd_replay.specs.Serving.{EndsServing, Grows, HasServed, StopsServing, behind_line, packets_in, text_of};
-ghost use Rattle.kd_replay.specs.Text.{line_of, line_room};
+ghost use Rattle.kd_replay.specs.Text.{line_of};
 ghost use Rattle.kd_replay.specs.declared.fault.LoopFault.TheVariants as faults;
 
 use crate::ends::Sink;
@@ -56,11 +57,29 @@ pub fn serve_with<L: Link, C: Clock, W: Sink, H: Serves>(
     requires link { L.has_failed link.old ≡ false }
     requires sink { W.has_failed sink.old ≡ false }
     ensures served { OnOk result (HasServed H.gives count server.old server.new
-        (record { received = L.received link.old; sent = L.sent link.old; written = W.contents sink.old })
-        (record { received = L.received link.new; sent = L.sent link.new; written = W.contents sink.new })) }
-    ensures stopped { IfErr result (λ fault. StopsServing H.gives H.fails (L.has_failed link.new ≡ true) (W.has_failed sink.new ≡ true) fault count server.old server.new
-        (record { received = L.received link.old; sent = L.sent link.old; written = W.contents sink.old })
-        (record { received = L.received link.new; sent = L.sent link.new; written = W.contents sink.new })) }
+        (record {
+          received = L.received link.old;
+          sent = L.sent link.old;
+          written = W.contents sink.old;
+        })
+        (record {
+          received = L.received link.new;
+          sent = L.sent link.new;
+          written = W.contents sink.new;
+        })) }
+    ensures stopped { IfErr result
+        (λ fault. StopsServing H.gives H.fails (L.has_failed link.new ≡ true)
+        (W.has_failed sink.new ≡ true) fault count server.old server.new
+        (record {
+          received = L.received link.old;
+          sent = L.sent link.old;
+          written = W.contents sink.old;
+        })
+        (record {
+          received = L.received link.new;
+          sent = L.sent link.new;
+          written = W.contents sink.new;
+        })) }
 {
     let mut work = Work::new(alloc)?;
     for number in 0..count {
@@ -88,11 +107,29 @@ fn serve_one<L: Link, C: Clock, W: Sink, H: Serves>(
 ) -> Result<(), LoopFault>
     requires { line_room + 14 ≤ vec_capacity room.old }
     ensures served { OnOk result (HasServed H.gives 1 server.old server.new
-        (record { received = L.received link.old; sent = L.sent link.old; written = W.contents sink.old })
-        (record { received = L.received link.new; sent = L.sent link.new; written = W.contents sink.new })) }
-    ensures ended { IfErr result (λ fault. EndsServing H.gives H.fails (L.has_failed link.new ≡ true) (W.has_failed sink.new ≡ true) fault server.old server.new
-        (record { received = L.received link.old; sent = L.sent link.old; written = W.contents sink.old })
-        (record { received = L.received link.new; sent = L.sent link.new; written = W.contents sink.new })) }
+        (record {
+          received = L.received link.old;
+          sent = L.sent link.old;
+          written = W.contents sink.old;
+        })
+        (record {
+          received = L.received link.new;
+          sent = L.sent link.new;
+          written = W.contents sink.new;
+        })) }
+    ensures ended { IfErr result
+        (λ fault. EndsServing H.gives H.fails (L.has_failed link.new ≡ true)
+        (W.has_failed sink.new ≡ true) fault server.old server.new
+        (record {
+          received = L.received link.old;
+          sent = L.sent link.old;
+          written = W.contents sink.old;
+        })
+        (record {
+          received = L.received link.new;
+          sent = L.sent link.new;
+          written = W.contents sink.new;
+        })) }
     ensures room { vec_capacity room.old ≤ vec_capacity room.new }
 {
     let Ok(len) = link.receive(buf) else {
@@ -116,8 +153,11 @@ fn answer<L: Link, W: Sink>(
     requires line { length (line_of handled.now) ≤ line_room }
     requires room { line_room + 14 ≤ vec_capacity room.old }
     ensures answered { MatchResult result
-        (λ _. IsTold handled.entry.now (L.sent link.old) (L.sent link.new) (W.contents sink.old) (W.contents sink.new))
-        (λ fault. (fault ≡ faults.Write) × IsCut handled.entry.now (L.sent link.old) (L.sent link.new) (W.contents sink.old) (W.contents sink.new)) }
+        (λ _. IsTold handled.entry.now (L.sent link.old) (L.sent link.new) (W.contents sink.old)
+        (W.contents sink.new))
+        (λ fault. (fault ≡ faults.Write)
+        × IsCut handled.entry.now (L.sent link.old) (L.sent link.new) (W.contents sink.old)
+        (W.contents sink.new)) }
     ensures received { L.received link.new ≡ L.received link.old }
     ensures failed { OnErr result (W.has_failed sink.new ≡ true) }
     ensures room { vec_capacity room.old ≤ vec_capacity room.new }

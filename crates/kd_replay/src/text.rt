@@ -53,7 +53,8 @@ fn put_response(room: &mut Vec<u8>, response: &Response)
 }
 
 fn put_reply(room: &mut Vec<u8>, destination: Destination, bytes: &[u8])
-    requires { length room.old.items + length (reply_line destination bytes.now) ≤ vec_capacity room.old }
+    requires { length room.old.items + length (reply_line destination bytes.now)
+        ≤ vec_capacity room.old }
     ensures items { room.new.items ≡ room.old.items ++ reply_line destination bytes.now }
     ensures capacity { vec_capacity room.old ≤ vec_capacity room.new }
 {
@@ -64,8 +65,10 @@ fn put_reply(room: &mut Vec<u8>, destination: Destination, bytes: &[u8])
 }
 
 fn put_quiet(room: &mut Vec<u8>, reason: Reason)
-    requires { length room.old.items + length (quiet_line (reason_number reason) (reason_name reason)) ≤ vec_capacity room.old }
-    ensures items { room.new.items ≡ room.old.items ++ quiet_line (reason_number reason) (reason_name reason) }
+    requires { length room.old.items + length (quiet_line (reason_number reason) (reason_name reason))
+        ≤ vec_capacity room.old }
+    ensures items { room.new.items ≡ room.old.items
+        ++ quiet_line (reason_number reason) (reason_name reason) }
     ensures capacity { vec_capacity room.old ≤ vec_capacity room.new }
 {
     put(room, b"quiet ");
@@ -75,7 +78,8 @@ fn put_quiet(room: &mut Vec<u8>, reason: Reason)
 }
 
 fn put_destination(room: &mut Vec<u8>, destination: Destination)
-    requires { length room.old.items + length (destination_text destination) ≤ vec_capacity room.old }
+    requires { length room.old.items + length (destination_text destination)
+        ≤ vec_capacity room.old }
     ensures items { room.new.items ≡ room.old.items ++ destination_text destination }
     ensures capacity { vec_capacity room.old ≤ vec_capacity room.new }
 {

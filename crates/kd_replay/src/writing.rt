@@ -10,7 +10,8 @@ use crate::ends::{EndFailed, Sink};
 ///
 /// The sink has failed.
 pub fn write_all<W: Sink>(sink: &mut W, bytes: &[u8]) -> Result<(), EndFailed>
-    ensures written { MatchResult result (λ _. Appends (W.contents sink.old) (W.contents sink.new) bytes.now)
+    ensures written { MatchResult result
+        (λ _. Appends (W.contents sink.old) (W.contents sink.new) bytes.now)
         (λ _. WritesPart (W.contents sink.old) (W.contents sink.new) bytes.now) }
     ensures failed { OnErr result (W.has_failed sink.new ≡ true) }
 {

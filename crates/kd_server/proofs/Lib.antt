@@ -1,3 +1,4 @@
+pub mod Headed
 pub mod LiveLeases
 pub mod Lives
 pub mod Overlap

@@ -6,9 +6,8 @@ use Rattle.std.proofs.lemmas.Option.{none-some}
 use Rattle.kd_config.specs.declared.subnet.Subnet.{Subnet}
 use Rattle.kd_event.specs.declared.reason.Reason.{Reason}
 use Rattle.kd_event.specs.declared.reason.Reason.TheVariants as reasons
-use Rattle.kd_lease.proofs.Held.{no_rank, not_renewed, not_usable}
 use Rattle.kd_lease.specs.Choice.{Asking, has_such, held_row, holding_state, live_row, requested_address}
-use Rattle.kd_lease.specs.Laws.{IsAnothers}
+use Rattle.kd_lease.specs.Laws.{HeldHasNoRank, HeldIsNotUsable, IsAnothers}
 use Rattle.kd_lease.specs.Rules.{GivesUpLease, InSubnet, Informs, IsNewest, IsQuiet, OnDiscover, OnNamed, OnOther, OnRenew, OnRequest, OnSelect, Sets, UnlessOther, WithAsked, WithCiaddr, declined_row, bound_state, held_at, leased_to, offered_to, offered_state, leased_row, other_server, offered_row, released_row, renewed_address, named_server, serving_subnet}
 use Rattle.kd_lease.specs.declared.planned.Planned.{Planned}
 use Rattle.kd_lease.specs.declared.planned.Planned.TheVariants as plans
@@ -102,52 +101,11 @@ gives_up : (P : Type 0) (b : Bool) (row : Row) (done : Reason) (set : Option Row
 gives_up P true row done set planned quiet each h = each refl h.0 h.1
 gives_up P false row done set planned quiet each h = quiet _ h
 
-discovered : (q : Asking) (s : Subnet) (set : Option Row) (planned : Planned) → OnDiscover q s set planned → MaySetIt q types.Discover set
-discovered q s set (plans.Offer a) h = by (leased_to q a) refl h.1 where
-  fair : (held : Row) → IsAnothers q a held → ⊥
-  fair held other = false≢true (sym (no_rank q s h.0.rank a held other) ∙ h.0.first.ranked)
-
-  by : (b : Bool) → leased_to q a ≡ b → set ≡ (if b then None else Some (offered_row q a)) → MaySetIt q types.Discover set
-  by true not e = none_set q types.Discover set e
-  by false not e = one_set q types.Discover set (offered_row q a) e (offers q types.Discover a fair not)
-discovered q s set (plans.Ack a) h = absurd h
-discovered q s set plans.Nak h = absurd h
-discovered q s set plans.Inform h = absurd h
-discovered q s set (plans.Quiet reason) h = none_set q types.Discover set h.1
-
-selected : (q : Asking) (s : Subnet) (asked : ℕ) (set : Option Row) (planned : Planned) → OnSelect q s asked set planned → MaySetIt q types.Request set
-selected q s asked set (plans.Offer a) h = absurd h
-selected q s asked set (plans.Ack a) h =
-    one_set q types.Request set (leased_row q a) h.2 (leases q types.Request a (λ held other. false≢true (sym (not_usable q s a held other) ∙ h.1)))
-selected q s asked set plans.Nak h = none_set q types.Request set h.1
-selected q s asked set plans.Inform h = absurd h
-selected q s asked set (plans.Quiet reason) h = absurd h
-
-renewed : (q : Asking) (s : Subnet) (asked : ℕ) (set : Option Row) (planned : Planned) → OnRenew q s asked set planned → MaySetIt q types.Request set
-renewed q s asked set (plans.Offer a) h = absurd h
-renewed q s asked set (plans.Ack a) h =
-    one_set q types.Request set (leased_row q a) h.3 (leases q types.Request a (λ held other. false≢true (sym (not_renewed q s a held other) ∙ h.2)))
-renewed q s asked set plans.Nak h = none_set q types.Request set h.1
-renewed q s asked set plans.Inform h = absurd h
-renewed q s asked set (plans.Quiet reason) h = none_set q types.Request set h.2
-
 given_back : (q : Asking) (set : Option Row) (planned : Planned) → OnOther q set planned → MaySetIt q types.Request set
 given_back q set planned h = by h.0.0 h.0.1 h.0.2 where
   by : (offer : Option ℕ) → IsNewest q.rows (offered_to q) offer → set ≡ option_map (released_row q) offer → MaySetIt q types.Request set
   by None newest e = none_set q types.Request set e
   by (Some a) newest e = one_set q types.Request set (released_row q a) e (λ held l. absurd (offer_unbound q a held newest.0 l))
-
-named : (q : Asking) (b : Bool) (set : Option Row) (planned : Planned) → OnNamed q b set planned → MaySetIt q types.Request set
-named q true set planned h =
-    with_asked (MaySetIt q types.Request set) (requested_address q.message) (λ a. InSubnet (serving_subnet q) (λ s. OnSelect q s a)) set planned (λ reason g. none_set q types.Request set g.0)
-    (λ a g. in_subnet (MaySetIt q types.Request set) (serving_subnet q) (λ s. OnSelect q s a) set planned (λ reason f. none_set q types.Request set f.0) (λ s f. selected q s a set planned f) g) h
-named q false set planned h = given_back q set planned h
-
-requested : (q : Asking) (server : Option ℕ) (set : Option Row) (planned : Planned) → OnRequest q server set planned → MaySetIt q types.Request set
-requested q None set planned h =
-    with_asked (MaySetIt q types.Request set) (renewed_address q.message) (λ a. InSubnet (serving_subnet q) (λ s. OnRenew q s a)) set planned (λ reason g. none_set q types.Request set g.0)
-    (λ a g. in_subnet (MaySetIt q types.Request set) (serving_subnet q) (λ s. OnRenew q s a) set planned (λ reason f. none_set q types.Request set f.0) (λ s f. renewed q s a set planned f) g) h
-requested q (Some server) set planned h = named q _ set planned h
 
 given_up : (q : Asking) (type : MessageType) (a : ℕ) (row : Row) (done : Reason) (set : Option Row) (planned : Planned) → IsGivingUp type → row.address ≡ a → bound_state row.state ≡ false
     → GivesUpLease (held_at q a) row done set planned → MaySetIt q type set
@@ -155,26 +113,69 @@ given_up q type a row done set planned giving at unbound h =
     gives_up (MaySetIt q type set) (held_at q a) row done set planned (λ reason g. none_set q type set g.0)
     (λ holds is quiet. one_set q type set row is (λ held l. record { own = held_own q a held holds (ap (row_at q.rows) (sym at) ∙ l.there); how = inr (giving, unbound) })) h
 
--- the row that a message sets may be set, whatever lease stands at its address
-pub may_set : (q : Asking) (type : MessageType) (set : Option Row) (planned : Planned) → Sets q type set planned → MaySetIt q type set
-may_set q types.Discover set planned h =
-    in_subnet (MaySetIt q types.Discover set) (serving_subnet q) (OnDiscover q) set planned (λ reason g. none_set q types.Discover set g.0) (λ s g. discovered q s set planned g) h
-may_set q types.Offer set planned h = none_set q types.Offer set h.0
-may_set q types.Request set planned h = requested q (named_server q.message) set planned h
-may_set q types.Decline set planned h =
-    unless_other (MaySetIt q types.Decline set) (other_server q.config.server (named_server q.message)) (WithAsked (requested_address q.message) (λ a. GivesUpLease (held_at q a) (declined_row q a) reasons.Declined)) set planned (λ reason g. none_set q types.Decline set g.0)
-    (λ g. with_asked (MaySetIt q types.Decline set) (requested_address q.message) (λ a. GivesUpLease (held_at q a) (declined_row q a) reasons.Declined) set planned (λ reason f. none_set q types.Decline set f.0)
-    (λ a f. given_up q types.Decline a (declined_row q a) reasons.Declined set planned (inr refl) refl refl f) g) h
-may_set q types.Ack set planned h = none_set q types.Ack set h.0
-may_set q types.Nak set planned h = none_set q types.Nak set h.0
-may_set q types.Release set planned h =
-    let a = q.message.header.ciaddr in
-    unless_other (MaySetIt q types.Release set) (other_server q.config.server (named_server q.message)) (WithCiaddr (a == 0) (GivesUpLease (held_at q a) (released_row q a) reasons.Released)) set planned (λ reason g. none_set q types.Release set g.0)
-    (λ g. with_ciaddr (MaySetIt q types.Release set) (a == 0) (GivesUpLease (held_at q a) (released_row q a) reasons.Released) set planned (λ reason f. none_set q types.Release set f.0)
-    (λ f. given_up q types.Release a (released_row q a) reasons.Released set planned (inl refl) refl refl f) g) h
-may_set q types.Inform set planned h =
-    with_ciaddr (MaySetIt q types.Inform set) (q.message.header.ciaddr == 0) (InSubnet (serving_subnet q) Informs) set planned (λ reason g. none_set q types.Inform set g.0)
-    (λ g. in_subnet (MaySetIt q types.Inform set) (serving_subnet q) Informs set planned (λ reason f. none_set q types.Inform set f.0) (λ s f. none_set q types.Inform set f.0) g) h
+-- over the laws of an address that another client holds
+module _ (no_rank : HeldHasNoRank) (not_usable : HeldIsNotUsable) where
+  discovered : (q : Asking) (s : Subnet) (set : Option Row) (planned : Planned) → OnDiscover q s set planned → MaySetIt q types.Discover set
+  discovered q s set (plans.Offer a) h = by (leased_to q a) refl h.1 where
+    fair : (held : Row) → IsAnothers q a held → ⊥
+    fair held other = false≢true (sym (no_rank q s h.0.rank a held other) ∙ h.0.first.ranked)
+
+    by : (b : Bool) → leased_to q a ≡ b → set ≡ (if b then None else Some (offered_row q a)) → MaySetIt q types.Discover set
+    by true not e = none_set q types.Discover set e
+    by false not e = one_set q types.Discover set (offered_row q a) e (offers q types.Discover a fair not)
+  discovered q s set (plans.Ack a) h = absurd h
+  discovered q s set plans.Nak h = absurd h
+  discovered q s set plans.Inform h = absurd h
+  discovered q s set (plans.Quiet reason) h = none_set q types.Discover set h.1
+
+  selected : (q : Asking) (s : Subnet) (asked : ℕ) (set : Option Row) (planned : Planned) → OnSelect q s asked set planned → MaySetIt q types.Request set
+  selected q s asked set (plans.Offer a) h = absurd h
+  selected q s asked set (plans.Ack a) h =
+      one_set q types.Request set (leased_row q a) h.2 (leases q types.Request a (λ held other. false≢true (sym (not_usable q s a held other).0 ∙ h.1)))
+  selected q s asked set plans.Nak h = none_set q types.Request set h.1
+  selected q s asked set plans.Inform h = absurd h
+  selected q s asked set (plans.Quiet reason) h = absurd h
+
+  renewed : (q : Asking) (s : Subnet) (asked : ℕ) (set : Option Row) (planned : Planned) → OnRenew q s asked set planned → MaySetIt q types.Request set
+  renewed q s asked set (plans.Offer a) h = absurd h
+  renewed q s asked set (plans.Ack a) h =
+      one_set q types.Request set (leased_row q a) h.3 (leases q types.Request a (λ held other. false≢true (sym (not_usable q s a held other).1 ∙ h.2)))
+  renewed q s asked set plans.Nak h = none_set q types.Request set h.1
+  renewed q s asked set plans.Inform h = absurd h
+  renewed q s asked set (plans.Quiet reason) h = none_set q types.Request set h.2
+
+  named : (q : Asking) (b : Bool) (set : Option Row) (planned : Planned) → OnNamed q b set planned → MaySetIt q types.Request set
+  named q true set planned h =
+      with_asked (MaySetIt q types.Request set) (requested_address q.message) (λ a. InSubnet (serving_subnet q) (λ s. OnSelect q s a)) set planned (λ reason g. none_set q types.Request set g.0)
+      (λ a g. in_subnet (MaySetIt q types.Request set) (serving_subnet q) (λ s. OnSelect q s a) set planned (λ reason f. none_set q types.Request set f.0) (λ s f. selected q s a set planned f) g) h
+  named q false set planned h = given_back q set planned h
+
+  requested : (q : Asking) (server : Option ℕ) (set : Option Row) (planned : Planned) → OnRequest q server set planned → MaySetIt q types.Request set
+  requested q None set planned h =
+      with_asked (MaySetIt q types.Request set) (renewed_address q.message) (λ a. InSubnet (serving_subnet q) (λ s. OnRenew q s a)) set planned (λ reason g. none_set q types.Request set g.0)
+      (λ a g. in_subnet (MaySetIt q types.Request set) (serving_subnet q) (λ s. OnRenew q s a) set planned (λ reason f. none_set q types.Request set f.0) (λ s f. renewed q s a set planned f) g) h
+  requested q (Some server) set planned h = named q _ set planned h
+
+  -- the row that a message sets may be set, whatever lease stands at its address
+  pub may_set : (q : Asking) (type : MessageType) (set : Option Row) (planned : Planned) → Sets q type set planned → MaySetIt q type set
+  may_set q types.Discover set planned h =
+      in_subnet (MaySetIt q types.Discover set) (serving_subnet q) (OnDiscover q) set planned (λ reason g. none_set q types.Discover set g.0) (λ s g. discovered q s set planned g) h
+  may_set q types.Offer set planned h = none_set q types.Offer set h.0
+  may_set q types.Request set planned h = requested q (named_server q.message) set planned h
+  may_set q types.Decline set planned h =
+      unless_other (MaySetIt q types.Decline set) (other_server q.config.server (named_server q.message)) (WithAsked (requested_address q.message) (λ a. GivesUpLease (held_at q a) (declined_row q a) reasons.Declined)) set planned (λ reason g. none_set q types.Decline set g.0)
+      (λ g. with_asked (MaySetIt q types.Decline set) (requested_address q.message) (λ a. GivesUpLease (held_at q a) (declined_row q a) reasons.Declined) set planned (λ reason f. none_set q types.Decline set f.0)
+      (λ a f. given_up q types.Decline a (declined_row q a) reasons.Declined set planned (inr refl) refl refl f) g) h
+  may_set q types.Ack set planned h = none_set q types.Ack set h.0
+  may_set q types.Nak set planned h = none_set q types.Nak set h.0
+  may_set q types.Release set planned h =
+      let a = q.message.header.ciaddr in
+      unless_other (MaySetIt q types.Release set) (other_server q.config.server (named_server q.message)) (WithCiaddr (a == 0) (GivesUpLease (held_at q a) (released_row q a) reasons.Released)) set planned (λ reason g. none_set q types.Release set g.0)
+      (λ g. with_ciaddr (MaySetIt q types.Release set) (a == 0) (GivesUpLease (held_at q a) (released_row q a) reasons.Released) set planned (λ reason f. none_set q types.Release set f.0)
+      (λ f. given_up q types.Release a (released_row q a) reasons.Released set planned (inl refl) refl refl f) g) h
+  may_set q types.Inform set planned h =
+      with_ciaddr (MaySetIt q types.Inform set) (q.message.header.ciaddr == 0) (InSubnet (serving_subnet q) Informs) set planned (λ reason g. none_set q types.Inform set g.0)
+      (λ g. in_subnet (MaySetIt q types.Inform set) (serving_subnet q) Informs set planned (λ reason f. none_set q types.Inform set f.0) (λ s f. none_set q types.Inform set f.0) g) h
 
 -- what is planned is an ACK, and so not quiet
 not_quiet : (P : Type 0) (a : ℕ) (set : Option Row) (reason : Reason) → IsQuiet reason set (plans.Ack a) → P

@@ -47,7 +47,7 @@ module _ {S : Type 0} (g : Ghosts S) where
       → g.has_clean_disk new.store → g.has_clean_disk old.store
   clean_before old new event (Ok handled) a clean = a.store.clean clean
   clean_before old new event (Err faults.MomentTooLarge) a clean = subst (λ (s : Keeping S). g.has_clean_disk s.store) a.2 clean
-  clean_before old new event (Err faults.Memory) a clean = subst (λ (s : Keeping S). g.has_clean_disk s.store) a.2 clean
+  clean_before old new event (Err faults.Memory) a clean = subst (λ (s : Keeping S). g.has_clean_disk s.store) a.3 clean
   clean_before old new event (Err (faults.Store fault)) a clean = a.store.clean clean
   clean_before old new event (Err faults.Failed) a clean = subst (λ (s : Keeping S). g.has_clean_disk s.store) a.1 clean
 
@@ -150,8 +150,8 @@ module _ {S : Type 0} (g : Ghosts S) where
       unchanged old mid new (record { event = event; answer = Err faults.MomentTooLarge }) calls tt a.2
       (tells (subst (λ (s : Keeping S). StoreHolds g s.store s.rows) (sym a.2) holds))
   one old mid new event (Err faults.Memory) calls a later clean holds tells =
-      unchanged old mid new (record { event = event; answer = Err faults.Memory }) calls tt a.2
-      (tells (subst (λ (s : Keeping S). StoreHolds g s.store s.rows) (sym a.2) holds))
+      unchanged old mid new (record { event = event; answer = Err faults.Memory }) calls tt a.3
+      (tells (subst (λ (s : Keeping S). StoreHolds g s.store s.rows) (sym a.3) holds))
   one old mid new event (Err (faults.Store fault)) calls a later clean holds tells = λ last found.
       let rest = stuck_all old.ports calls mid new a.store.failed later in
       stopped old mid new event a calls rest.0 rest.1 clean holds last found (record { event = event; answer = Err (faults.Store fault) }) refl (λ e none. none)

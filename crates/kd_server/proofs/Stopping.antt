@@ -1,17 +1,20 @@
 -- An event whose row is not kept.
-use Rattle.std.proofs.Common.{◌≡◌, ℕ, ◌^◌, ◌<◌, inl, inr, IfErr, List, Option, Result, Ok, Err, false, max, refl, sym, ap, subst}
+use Rattle.std.proofs.Common.{◌≡◌, ◌≢◌, ℕ, ◌^◌, ◌<◌, inl, inr, IfErr, List, Option, Result, Ok, Err, false, max, refl, sym, ap, subst}
+use Rattle.kd_config.specs.Configuration.{Configuration}
 use Rattle.kd_event.specs.declared.event.Event.{Event}
 use Rattle.kd_event.specs.declared.event.Handled.{Handled}
 use Rattle.kd_event.specs.declared.event.Response.{Response}
+use Rattle.kd_event.specs.declared.ports.Ports.{Ports}
 use Rattle.kd_keeps.specs.declared.keeps.Keeps.{Ghosts}
 use Rattle.kd_lease.specs.Change.{after}
 use Rattle.kd_replay.specs.declared.fault.ServeFault.{ServeFault}
 use Rattle.kd_replay.specs.declared.fault.ServeFault.TheVariants as faults
 use Rattle.kd_rows.specs.Table.{latest_of}
 use Rattle.kd_rows.specs.declared.row.Row.{Row}
-use Rattle.kd_server.specs.Keeping.{Keeping, Refuses, StepsTo}
+use Rattle.kd_server.specs.Keeping.{HasHeader, Keeping, Refuses, StepsTo}
 use Rattle.kd_server.specs.Turn.{IsTurn}
 use Rattle.kd_server.specs.Unkept.{IsUnkept}
+use Rattle.kd_server.proofs.Headed.{message_headed}
 
 -- what a datagram does is one event of the history
 stepped : {S : Type 0} (old : Keeping S) (event : Event) (row : Option Row) (response : Response) (now : ℕ) → event.moment < 2 ^ 40
@@ -31,6 +34,12 @@ stepped old event row response now early is (inr t) = record {
   });
 }
 
+-- a datagram that sets a row which changes the rows has a header
+headed : (config : Configuration) (ports : Ports) (rows : List Row) (now : ℕ) (bytes : List ℕ) (row : Option Row) (response : Response)
+    → IsTurn config ports rows now bytes row response → after rows row ≢ rows → HasHeader bytes
+headed config ports rows now bytes row response (inl t) changed = absurd (changed (ap (after rows) t.none))
+headed config ports rows now bytes row response (inr t) changed = message_headed bytes t.message t.reads
+
 -- a row that is not kept refuses the event
 pub refused : {S : Type 0} (g : Ghosts S) (old : Keeping S) (event : Event) (row : Option Row) (response : Response) (now : ℕ) (fault : ServeFault) (rows : List Row) (store : S)
     → g.has_failed old.store ≡ false → event.moment < 2 ^ 40 → now ≡ max event.moment (latest_of old.rows)
@@ -40,6 +49,7 @@ refused g old event row response now faults.MomentTooLarge rows store works earl
 refused g old event row response now faults.Memory rows store works early is turn unkept = (
   works,
   early,
+  headed old.config old.ports old.rows now event.bytes row response turn unkept.2,
   subst (λ (r : List Row). record { ports = old.ports; config = old.config; rows = r; store = store } ≡ old) (sym unkept.0)
       (ap (λ s. record { ports = old.ports; config = old.config; rows = old.rows; store = s }) unkept.1),
 )

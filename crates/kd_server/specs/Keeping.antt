@@ -1,6 +1,6 @@
 -- What a server with leases stands at, over any store that keeps them, and what it does with an event: it answers
 -- and changes its rows as the history says, and the store keeps those rows.
-use Rattle.std.specs.Prelude.{◌≡◌, ◌≢◌, ◌^◌, ◌≤◌, ◌<◌, Bool, true, false, List}
+use Rattle.std.specs.Prelude.{◌≡◌, ◌≢◌, ℕ, ◌^◌, ◌≤◌, ◌<◌, Bool, true, false, List, Ok}
 use Rattle.kd_config.specs.Configuration.{Configuration}
 use Rattle.kd_event.specs.declared.event.Event.{Event}
 use Rattle.kd_event.specs.declared.event.Handled.{Handled}
@@ -12,6 +12,8 @@ use Rattle.kd_replay.specs.declared.fault.ServeFault.TheVariants as faults
 use Rattle.kd_rows.specs.Table.{latest_of}
 use Rattle.kd_rows.specs.declared.row.Row.{Row}
 use Rattle.kd_server.specs.Step.{IsStep}
+use Rattle.kd_wire.specs.Header.{header_read}
+use Rattle.kd_wire.specs.declared.header.Header.{Header}
 
 -- what contracts see of a server: its ports, the configuration that it goes by, its rows, and its store
 pub record Keeping (S : Type 0) : Type 0 where
@@ -22,7 +24,12 @@ pub record Keeping (S : Type 0) : Type 0 where
 
 -- one event of the history, from rows to rows
 abbrev pub StepsTo : Configuration → Ports → List Row → Event → Handled → List Row → Type 0
-StepsTo config ports rows event handled new = IsStep latest_of (Changes config) ports rows event handled new
+StepsTo config ports rows event handled new =
+    IsStep latest_of (Changes config) ports rows event handled new
+
+-- a datagram has a header that can be read
+abbrev pub HasHeader : List ℕ → Type 0
+HasHeader bytes = (header : Header) × (header_read bytes ≡ Ok header)
 
 -- why no server was opened: memory ran out, or the store has failed
 abbrev pub IsOpenFault : ServeFault → Bool → Type 0
@@ -58,7 +65,8 @@ module _ {S : Type 0} (g : Ghosts S) where
     pub rows : new.rows ≡ old.rows
 
   -- the server's step: the history's, from rows to rows, and the store keeps the new ones
-  pub record Steps (old : Keeping S) (event : Event) (handled : Handled) (new : Keeping S) : Type 0 where
+  pub record Steps (old : Keeping S) (event : Event) (handled : Handled)
+      (new : Keeping S) : Type 0 where
     pub worked : g.has_failed old.store ≡ false
     pub ports : new.ports ≡ old.ports
     pub config : new.config ≡ old.config
@@ -74,27 +82,34 @@ module _ {S : Type 0} (g : Ghosts S) where
     pub step : StepsTo old.config old.ports old.rows event handled after
     pub store : Loses old.store new.store old.rows after
 
-  -- why an event is not handled, and what stands then: want of memory, a moment of 2^40 or more and a store that
-  -- has failed before change nothing; else the store has failed at this event
+  -- why an event is not handled, and what stands then: want of memory, which may come once the header is read, a
+  -- moment of 2^40 or more and a store that has failed before change nothing; else the store has failed at this event
   abbrev pub Refuses : Keeping S → Event → ServeFault → Keeping S → Type 0
-  Refuses old event faults.MomentTooLarge new = (g.has_failed old.store ≡ false) × (2 ^ 40 ≤ event.moment) × (new ≡ old)
-  Refuses old event faults.Memory new = (g.has_failed old.store ≡ false) × (event.moment < 2 ^ 40) × (new ≡ old)
+  Refuses old event faults.MomentTooLarge new =
+      (g.has_failed old.store ≡ false) × (2 ^ 40 ≤ event.moment) × (new ≡ old)
+  Refuses old event faults.Memory new =
+      (g.has_failed old.store ≡ false) × (event.moment < 2 ^ 40) × HasHeader event.bytes
+      × (new ≡ old)
   Refuses old event (faults.Store fault) new = IsStopped old event new
   Refuses old event faults.Failed new = (g.has_failed old.store ≡ true) × (new ≡ old)
 
   -- a server that was opened over a store: where the store stood at a table, its rows are that table, and the store
   -- holds them
-  pub record Opens (ports : Ports) (config : Configuration) (store : S) (server : Keeping S) : Type 0 where
+  pub record Opens (ports : Ports) (config : Configuration) (store : S)
+      (server : Keeping S) : Type 0 where
     pub ports_are : server.ports ≡ ports
     pub config_is : server.config ≡ config
     pub works : g.has_failed server.store ≡ false
     pub clean : g.has_clean_disk server.store → g.has_clean_disk store
-    pub holds : g.has_clean_disk server.store → (table : List Row) → g.stands store table → (server.rows ≡ table) × StoreHolds server.store table
+    pub holds : g.has_clean_disk server.store → (table : List Row) → g.stands store table
+        → (server.rows ≡ table) × StoreHolds server.store table
 
   -- no server was opened: the configuration and the store come back, and a crash leaves the table that the store
   -- stood at
-  pub record IsUnopened (config : Configuration) (store : S) (fault : ServeFault) (same : Configuration) (back : S) : Type 0 where
+  pub record IsUnopened (config : Configuration) (store : S) (fault : ServeFault)
+      (same : Configuration) (back : S) : Type 0 where
     pub config_is : same ≡ config
     pub why : IsOpenFault fault (g.has_failed back)
     pub clean : g.has_clean_disk back → g.has_clean_disk store
-    pub left : g.has_clean_disk back → (table : List Row) → g.stands store table → g.leaves back table table
+    pub left : g.has_clean_disk back → (table : List Row) → g.stands store table
+        → g.leaves back table table

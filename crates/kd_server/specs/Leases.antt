@@ -40,5 +40,7 @@ word_of_live false = codes "past"
 -- it is live
 unfoldable pub lease_line : Lease → List ℕ
 lease_line lease =
-    address_text lease.row.address ++ codes " " ++ word_of_state lease.row.state ++ codes " " ++ bytes_text lease.row.client
-    ++ codes " changed " ++ decimal lease.row.changed ++ codes " ends " ++ decimal lease.row.ends ++ codes " " ++ word_of_live lease.live ++ codes "\n"
+    address_text lease.row.address ++ codes " " ++ word_of_state lease.row.state ++ codes " "
+    ++ bytes_text lease.row.client
+    ++ codes " changed " ++ decimal lease.row.changed ++ codes " ends " ++ decimal lease.row.ends
+    ++ codes " " ++ word_of_live lease.live ++ codes "\n"

@@ -39,7 +39,8 @@ module _ {S : Type 0} (g : Ghosts S) where
   -- calls one after another, each on the server that the one before it left
   abbrev pub Called : Keeping S → List Call → Keeping S → Type 0
   Called old [] new = new ≡ old
-  Called old (call ∷ calls) new = (mid : Keeping S) × CallAnswers old call.event call.answer mid × Called mid calls new
+  Called old (call ∷ calls) new =
+      (mid : Keeping S) × CallAnswers old call.event call.answer mid × Called mid calls new
 
   -- a server is opened and called, and its store is left
   pub record IsRun (config : Configuration) (o : Opening S) : Type 0 where
@@ -63,7 +64,8 @@ module _ {S : Type 0} (g : Ghosts S) where
 
   -- of the two tables that a crash of the store may leave this is one
   abbrev pub IsLeft : S → List Row → Type 0
-  IsLeft store rows = (before after : List Row) → g.leaves store before after → (rows ≡ before) ⊎ (rows ≡ after)
+  IsLeft store rows =
+      (before after : List Row) → g.leaves store before after → (rows ≡ before) ⊎ (rows ≡ after)
 
   -- openings one after another, each at rows that a crash of the one before it leaves
   abbrev pub Life : Configuration → List (Opening S) → Type 0
@@ -74,7 +76,8 @@ module _ {S : Type 0} (g : Ghosts S) where
 -- the calls of a run: the events with what was done with them, and the next event with the fault, where there is one
 abbrev pub calls_of : List Event → List Handled → Option ServeFault → List Call
 calls_of [] list fault = []
-calls_of (event ∷ events) (handled ∷ list) fault = record { event = event; answer = Ok handled } ∷ calls_of events list fault
+calls_of (event ∷ events) (handled ∷ list) fault =
+    record { event = event; answer = Ok handled } ∷ calls_of events list fault
 calls_of (event ∷ events) [] None = []
 calls_of (event ∷ events) [] (Some fault) = record { event = event; answer = Err fault } ∷ []
 
@@ -95,7 +98,8 @@ IsIdle event (Err fault) = Unit {0}
 -- step was stopped
 abbrev pub IsAnswerOf : Ports → LeaseStep → Result Handled ServeFault → Type 0
 IsAnswerOf ports e (Ok handled) =
-    (handled.now ≡ now_of e) × ((outcome : Outcome) × (e.outcome ≡ Some outcome) × Responds ports e.message outcome handled.response)
+    (handled.now ≡ now_of e) × ((outcome : Outcome) × (e.outcome ≡ Some outcome)
+    × Responds ports e.message outcome handled.response)
 IsAnswerOf ports e (Err (faults.Store fault)) = e.outcome ≡ None
 IsAnswerOf ports e (Err fault) = ⊥
 
@@ -110,13 +114,15 @@ abbrev pub AreSteps : Ports → List Call → List LeaseStep → Type 0
 AreSteps ports [] es = es ≡ []
 AreSteps ports (call ∷ calls) [] = IsIdle call.event call.answer × AreSteps ports calls []
 AreSteps ports (call ∷ calls) (e ∷ es) =
-    (IsIdle call.event call.answer × AreSteps ports calls (e ∷ es)) ⊎ (IsStepOf ports call e × AreSteps ports calls es)
+    (IsIdle call.event call.answer × AreSteps ports calls (e ∷ es))
+    ⊎ (IsStepOf ports call e × AreSteps ports calls es)
 
 -- the same of the calls of openings
 abbrev pub AreStepsOfAll : {S : Type 0} → List (Opening S) → List LeaseStep → Type 0
 AreStepsOfAll [] es = es ≡ []
 AreStepsOfAll (o ∷ os) es =
-    (mine : List LeaseStep) × (later : List LeaseStep) × (es ≡ mine ++ later) × AreSteps o.ports o.calls mine × AreStepsOfAll os later
+    (mine : List LeaseStep) × (later : List LeaseStep) × (es ≡ mine ++ later) × AreSteps o.ports o.calls mine
+    × AreStepsOfAll os later
 
 -- the rows at which a life begins; without an opening there are none
 abbrev pub first_rows : {S : Type 0} → List (Opening S) → List Row

@@ -40,7 +40,8 @@ Happens config e None = (e.after ≡ e.before) ⊎ ((outcome : Outcome) × Chang
 -- steps from these rows, each from the rows that the one before it left
 abbrev pub LeaseHistory : Configuration → List Row → List LeaseStep → Type 0
 LeaseHistory config rows [] = Unit {0}
-LeaseHistory config rows (e ∷ es) = (e.before ≡ rows) × Happens config e e.outcome × LeaseHistory config e.after es
+LeaseHistory config rows (e ∷ es) =
+    (e.before ≡ rows) × Happens config e e.outcome × LeaseHistory config e.after es
 
 -- a step leases an address to a client: the ACK of a REQUEST
 pub record Leases (e : LeaseStep) (client : List ℕ) (a : ℕ) : Type 0 where
@@ -62,7 +63,8 @@ GivesTo e client a = Offers e client a ⊎ Leases e client a
 -- the client gives up an address in a step: its RELEASE or DECLINE changed the row of the address
 pub record GivesUp (e : LeaseStep) (client : List ℕ) (a : ℕ) : Type 0 where
   pub by : client_identity e.message ≡ Some client
-  pub kind : (kind_of e.message ≡ type_number types.Release) ⊎ (kind_of e.message ≡ type_number types.Decline)
+  pub kind : (kind_of e.message ≡ type_number types.Release)
+      ⊎ (kind_of e.message ≡ type_number types.Decline)
   pub changed : row_at e.after a ≢ row_at e.before a
 
 -- between two places of a history there is a step in which the client gives up the address
@@ -79,6 +81,7 @@ pub record GivesUpBetween (es : List LeaseStep) (i j : ℕ) (client : List ℕ) 
 abbrev pub NoOverlap : Type 0
 NoOverlap =
     (config : Configuration) (rows : List Row) (es : List LeaseStep) → LeaseHistory config rows es
-    → (i j : ℕ) (e f : LeaseStep) (client other : List ℕ) (a : ℕ) → i < j → slice_get es i ≡ Some e → slice_get es j ≡ Some f
+    → (i j : ℕ) (e f : LeaseStep) (client other : List ℕ) (a : ℕ) → i < j → slice_get es i ≡ Some e
+    → slice_get es j ≡ Some f
     → Leases e client a → GivesTo f other a → other ≢ client
     → (now_of e + config.times.lifetime ≤ now_of f) ⊎ GivesUpBetween es i j client a

@@ -22,15 +22,18 @@ Responds ports m (planned kind yiaddr options) (responses.Reply destination text
     (destination ≡ destination_of m.header kind yiaddr ports)
     × IsReplyText (header_of_reply kind yiaddr m.header) (reply_room m) options text
 
-module _ {Table : Type 0} (latest : Table → ℕ) (Changes : Table → Seen → ℕ → Table → Outcome → Type 0) (ports : Ports) where
+module _ {Table : Type 0} (latest : Table → ℕ)
+    (Changes : Table → Seen → ℕ → Table → Outcome → Type 0) (ports : Ports) where
   -- the datagram reads as no message: nothing is sent, and nothing changes
-  pub record IsUnreadable (old : Table) (event : Event) (response : Response) (new : Table) : Type 0 where
+  pub record IsUnreadable (old : Table) (event : Event) (response : Response)
+      (new : Table) : Type 0 where
     pub unreadable : (m : Seen) → Reads event.bytes m → ⊥
     pub quiet : response ≡ responses.Quiet reasons.Unreadable
     pub table : new ≡ old
 
   -- the datagram reads as a message, which changes the table, and gets what is sent
-  pub record IsAnswered (old : Table) (event : Event) (now : ℕ) (response : Response) (new : Table) : Type 0 where
+  pub record IsAnswered (old : Table) (event : Event) (now : ℕ) (response : Response)
+      (new : Table) : Type 0 where
     pub message : Seen
     pub reads : Reads event.bytes message
     pub outcome : Outcome

@@ -24,7 +24,8 @@ IsSent ports m plan (responses.Reply destination text) =
     × (text ≡ reply_text plan.reply.header plan.room plan.reply.items)
 
 -- a message sets this row, and this is sent
-pub record Turns (config : Configuration) (ports : Ports) (rows : List Row) (now : ℕ) (m : Seen) (row : Option Row) (response : Response) : Type 0 where
+pub record Turns (config : Configuration) (ports : Ports) (rows : List Row) (now : ℕ) (m : Seen)
+    (row : Option Row) (response : Response) : Type 0 where
   pub names : List (List ℕ)
   pub held : HeldSet m config.classes names
   pub outcome : Outcome
@@ -32,7 +33,8 @@ pub record Turns (config : Configuration) (ports : Ports) (rows : List Row) (now
   pub responds : Responds ports m outcome response
 
 -- a datagram reads as a message, which sets this row, and this is sent
-pub record TurnsAs (config : Configuration) (ports : Ports) (rows : List Row) (now : ℕ) (bytes : List ℕ) (row : Option Row) (response : Response) : Type 0 where
+pub record TurnsAs (config : Configuration) (ports : Ports) (rows : List Row) (now : ℕ)
+    (bytes : List ℕ) (row : Option Row) (response : Response) : Type 0 where
   pub message : Seen
   pub reads : Reads bytes message
   pub turns : Turns config ports rows now message row response
@@ -45,4 +47,5 @@ pub record IsNoTurn (bytes : List ℕ) (row : Option Row) (response : Response) 
 
 -- which row a datagram sets, and what is sent
 abbrev pub IsTurn : Configuration → Ports → List Row → ℕ → List ℕ → Option Row → Response → Type 0
-IsTurn config ports rows now bytes row response = IsNoTurn bytes row response ⊎ TurnsAs config ports rows now bytes row response
+IsTurn config ports rows now bytes row response =
+    IsNoTurn bytes row response ⊎ TurnsAs config ports rows now bytes row response

@@ -1,6 +1,6 @@
 -- The steps in which a server keeps a row. Proofs tie these to the history's one event; no public contract cites
 -- them.
-use Rattle.std.specs.Prelude.{◌≡◌, ◌≤◌, List}
+use Rattle.std.specs.Prelude.{◌≡◌, ◌≢◌, ◌≤◌, List}
 use Rattle.kd_keeps.specs.declared.keeps.Keeps.{Ghosts}
 use Rattle.kd_replay.specs.declared.fault.ServeFault.{ServeFault}
 use Rattle.kd_replay.specs.declared.fault.ServeFault.TheVariants as faults
@@ -15,9 +15,12 @@ pub record IsSettable (rows : List Row) (row : Row) : Type 0 where
   pub in_range : IsInRange row
 
 module _ {S : Type 0} (g : Ghosts S) where
-  -- a row is not kept: memory ran out, and nothing changed; or the store failed, and the rows stay
+  -- a row that changes the rows is not kept: memory ran out, and nothing changed; or the store failed, and the
+  -- rows stay
   abbrev pub IsUnkept : List Row → List Row → S → S → List Row → ServeFault → Type 0
   IsUnkept before rows old new after faults.MomentTooLarge = ⊥
-  IsUnkept before rows old new after faults.Memory = (rows ≡ before) × (new ≡ old)
-  IsUnkept before rows old new after (faults.Store fault) = (rows ≡ before) × Loses g old new before after
+  IsUnkept before rows old new after faults.Memory =
+      (rows ≡ before) × (new ≡ old) × (after ≢ before)
+  IsUnkept before rows old new after (faults.Store fault) =
+      (rows ≡ before) × Loses g old new before after
   IsUnkept before rows old new after faults.Failed = ⊥

@@ -1,5 +1,5 @@
 //! What is true of every history, whatever the program does: each law is the contract of a function
-//! that does nothing.
+//! that does nothing but name the laws it rests on.
 ghost use Rattle.kd_server.specs.Lives.{LivesAreHistories, RunsAreCalls};
 ghost use Rattle.kd_server.specs.NoOverlap.{NoOverlap};
 
@@ -11,7 +11,14 @@ use kd_keeps::Keeps;
 /// history of one configuration, from any table, stopped events included.
 pub fn no_overlap()
     ensures { NoOverlap }
-{}
+{
+    kd_rows::laws::get_of_set();
+    kd_rows::laws::latest_of_set();
+    kd_lease::laws::sets_now();
+    kd_lease::laws::held_has_no_rank();
+    kd_lease::laws::held_is_not_usable();
+    kd_lease::laws::held_is_not_given();
+}
 
 /// A server that is opened over a store, called, stopped and opened again on what a crash left of its store, as often
 /// as one likes, has one history with stops, of which `no_overlap` speaks: each step is a call of `Server::handle`, and

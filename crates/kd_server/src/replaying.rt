@@ -1,6 +1,6 @@
 ghost use Rattle.std.specs.Prelude.{◌≡◌, ◌⊎◌, ℕ, List, Some, true, false, IfOk};
 ghost use Rattle.std.specs.Result.{IsErrOf};
-ghost use Rattle.kd_replay.specs.Replay.{Handles, LeavesWritten, most_lines};
+ghost use Rattle.kd_replay.specs.Replay.{Handles, HandlesWhole, LeavesWritten, most_lines};
 ghost use Rattle.kd_replay.specs.declared.fault.ReplayFault.TheVariants as faults;
 ghost use Rattle.kd_server.specs.Keeping.{Refuses, Steps};
 
@@ -26,11 +26,20 @@ pub fn replay<R: Source, W: Sink, S: Keeps>(
 ) -> Result<u64, ReplayFault>
     requires source { R.has_failed source.old ≡ false }
     requires sink { W.has_failed sink.old ≡ false }
-    ensures replayed { (input old : List ℕ) → R.remaining source.old ≡ Some input → W.contents sink.old ≡ Some old
-        → LeavesWritten (Steps S.Keeps) (Refuses S.Keeps) (R.has_failed source.new ≡ true) result input server.old server.new old (W.contents sink.new) }
+    ensures replayed { (input old : List ℕ) → R.remaining source.old ≡ Some input
+        → W.contents sink.old ≡ Some old
+        → LeavesWritten (Steps S.Keeps) (Refuses S.Keeps) (R.has_failed source.new ≡ true) result input
+        server.old server.new old (W.contents sink.new) }
     ensures counted { IfOk result (λ count. Handles (Steps S.Keeps) count server.old server.new) }
     ensures read { IsErrOf result faults.Read
-        → (R.has_failed source.new ≡ true) ⊎ Handles (Steps S.Keeps) most_lines server.old server.new }
+        → (R.has_failed source.new ≡ true)
+        ⊎ Handles (Steps S.Keeps) most_lines server.old server.new }
+    ensures whole { IsErrOf result faults.Read
+        → (input old : List ℕ) → R.remaining source.old ≡ Some input
+        → W.contents sink.old ≡ Some old
+        → HandlesWhole (Steps S.Keeps) input (R.remaining source.new)
+        server.old server.new old (W.contents sink.new)
+        ⊎ Handles (Steps S.Keeps) most_lines server.old server.new }
     ensures write { IsErrOf result faults.Write → W.has_failed sink.new ≡ true }
 {
     replay_with(alloc, source, sink, server)

@@ -33,7 +33,8 @@ impl<S: Keeps> Model for Server<S> {
 
     ghost Value = { Keeping S };
 
-    ghost view = { λ s. record { ports = s.ports; config = s.config; rows = s.rows.rows; store = s.store } };
+    ghost view = { λ s.
+        record { ports = s.ports; config = s.config; rows = s.rows.rows; store = s.store } };
 }
 
 // Moments are below this, 2^40 seconds.
@@ -53,7 +54,8 @@ impl<S: Keeps> Server<S> {
     ) -> Result<Server<S>, (ServeFault, Config, S)>
         requires { S.has_failed store ≡ false }
         ensures opened { IfOk result (Opens S.Keeps ports config store) }
-        ensures refused { IfErr result (λ back. IsUnopened S.Keeps config store back.0 back.1 back.2) }
+        ensures refused { IfErr result
+            (λ back. IsUnopened S.Keeps config store back.0 back.1 back.2) }
     {
         match store.rows() {
             Ok(list) => match Rows::new(list) {
@@ -93,7 +95,8 @@ impl<S: Keeps> Server<S> {
     /// `Failed` where the store has failed, `MomentTooLarge` where the moment is not below 2^40, and `Memory`.
     pub fn leases(&self, moment: u64) -> Result<Vec<Lease>, ServeFault>
         ensures leases { IfOk result (λ list. list.items ≡ leases_of_rows moment self.now.rows) }
-        ensures works { IfOk result (λ list. (S.has_failed self.now.store ≡ false) × (moment < 2 ^ 40)) }
+        ensures works { IfOk result (λ list. (S.has_failed self.now.store ≡ false)
+            × (moment < 2 ^ 40)) }
         ensures failed { IfErr result (IsNoList (S.has_failed self.now.store) moment) }
     {
         leases_at(self.alloc, &self.rows, self.store.failed(), moment)
@@ -105,7 +108,8 @@ impl<S: Keeps> Server<S> {
     ///
     /// Beside the list of what was handled, the fault of the next event; or `Memory` before the first.
     pub fn run(&mut self, events: &[Event]) -> (Vec<Handled>, Option<ServeFault>)
-        ensures { Runs (Steps S.Keeps) (Refuses S.Keeps) events.now result.0.items result.1 self.old self.new }
+        ensures { Runs (Steps S.Keeps) (Refuses S.Keeps)
+            events.now result.0.items result.1 self.old self.new }
     {
         run_with(self.alloc, self, events)
     }
@@ -120,10 +124,12 @@ impl<S: Keeps> Server<S> {
     /// before, and the store holds these or those with the row.
     pub fn handle(&mut self, moment: u64, bytes: &[u8]) -> Result<Handled, ServeFault>
         ensures handled { IfOk result (λ handled.
-            Steps S.Keeps self.old (record { moment = moment; bytes = bytes.now }) handled self.new) }
+            Steps S.Keeps self.old
+            (record { moment = moment; bytes = bytes.now }) handled self.new) }
         ensures small { IfOk result (λ handled. IsSmall handled.response) }
         ensures failed { IfErr result (λ fault.
-            Refuses S.Keeps self.old (record { moment = moment; bytes = bytes.now }) fault self.new) }
+            Refuses S.Keeps self.old
+            (record { moment = moment; bytes = bytes.now }) fault self.new) }
     {
         if self.store.failed() {
             return Err(ServeFault::Failed);
@@ -158,10 +164,14 @@ fn settle<S: Keeps>(
 ) -> Result<Handled, ServeFault>
     requires works { S.has_failed store.old ≡ false }
     requires set { IfSome turn.row (IsSettable rows.old.rows) }
-    ensures handled { IfOk result (λ handled. handled ≡ record { now = now; response = turn.response }) }
+    ensures handled { IfOk result
+        (λ handled. handled ≡ record { now = now; response = turn.response }) }
     ensures rows { OnOk result (rows.new.rows ≡ after rows.old.rows turn.row) }
-    ensures store { OnOk result (StillHolds S.Keeps store.old store.new rows.old.rows rows.new.rows) }
-    ensures failed { IfErr result (IsUnkept S.Keeps rows.old.rows rows.new.rows store.old store.new (after rows.old.rows turn.row)) }
+    ensures store { OnOk result
+        (StillHolds S.Keeps store.old store.new rows.old.rows rows.new.rows) }
+    ensures failed { IfErr result
+        (IsUnkept S.Keeps rows.old.rows rows.new.rows store.old store.new
+        (after rows.old.rows turn.row)) }
 {
     let Turn { row, response } = turn;
     keep(rows, store, row)?;
@@ -173,8 +183,11 @@ fn keep<S: Keeps>(rows: &mut Rows, store: &mut S, row: Option<Row>) -> Result<()
     requires works { S.has_failed store.old ≡ false }
     requires set { IfSome row (IsSettable rows.old.rows) }
     ensures rows { OnOk result (rows.new.rows ≡ after rows.old.rows row) }
-    ensures store { OnOk result (StillHolds S.Keeps store.old store.new rows.old.rows rows.new.rows) }
-    ensures failed { IfErr result (IsUnkept S.Keeps rows.old.rows rows.new.rows store.old store.new (after rows.old.rows row)) }
+    ensures store { OnOk result
+        (StillHolds S.Keeps store.old store.new rows.old.rows rows.new.rows) }
+    ensures failed { IfErr result
+        (IsUnkept S.Keeps rows.old.rows rows.new.rows store.old store.new
+        (after rows.old.rows row)) }
 {
     match row {
         Some(row) => keep_row(rows, store, row),
@@ -187,8 +200,11 @@ fn keep_row<S: Keeps>(rows: &mut Rows, store: &mut S, row: Row) -> Result<(), Se
     requires works { S.has_failed store.old ≡ false }
     requires set { IsSettable rows.old.rows row }
     ensures rows { OnOk result (rows.new.rows ≡ with_row row rows.old.rows) }
-    ensures store { OnOk result (StillHolds S.Keeps store.old store.new rows.old.rows rows.new.rows) }
-    ensures failed { IfErr result (IsUnkept S.Keeps rows.old.rows rows.new.rows store.old store.new (with_row row rows.old.rows)) }
+    ensures store { OnOk result
+        (StillHolds S.Keeps store.old store.new rows.old.rows rows.new.rows) }
+    ensures failed { IfErr result
+        (IsUnkept S.Keeps rows.old.rows rows.new.rows store.old store.new
+        (with_row row rows.old.rows)) }
 {
     if rows.has(&row) {
         return Ok(());

@@ -26,12 +26,29 @@ pub fn serve<L: Link, C: Clock, W: Sink, S: Keeps>(
     requires link { L.has_failed link.old ≡ false }
     requires sink { W.has_failed sink.old ≡ false }
     ensures served { OnOk result (HasServed (Steps S.Keeps) count server.old server.new
-        (record { received = L.received link.old; sent = L.sent link.old; written = W.contents sink.old })
-        (record { received = L.received link.new; sent = L.sent link.new; written = W.contents sink.new })) }
+        (record {
+          received = L.received link.old;
+          sent = L.sent link.old;
+          written = W.contents sink.old;
+        })
+        (record {
+          received = L.received link.new;
+          sent = L.sent link.new;
+          written = W.contents sink.new;
+        })) }
     ensures stopped { IfErr result (λ fault.
-        StopsServing (Steps S.Keeps) (Refuses S.Keeps) (L.has_failed link.new ≡ true) (W.has_failed sink.new ≡ true) fault count server.old server.new
-        (record { received = L.received link.old; sent = L.sent link.old; written = W.contents sink.old })
-        (record { received = L.received link.new; sent = L.sent link.new; written = W.contents sink.new })) }
+        StopsServing (Steps S.Keeps) (Refuses S.Keeps) (L.has_failed link.new ≡ true)
+        (W.has_failed sink.new ≡ true) fault count server.old server.new
+        (record {
+          received = L.received link.old;
+          sent = L.sent link.old;
+          written = W.contents sink.old;
+        })
+        (record {
+          received = L.received link.new;
+          sent = L.sent link.new;
+          written = W.contents sink.new;
+        })) }
 {
     serve_with(alloc, link, clock, sink, server, count)
 }

@@ -1,8 +1,9 @@
-ghost use Rattle.std.specs.Prelude.{◌≡◌, ◌≤◌, ◌<◌, ◌^◌, IfOk, IfSome};
+ghost use Rattle.std.specs.Prelude.{◌≡◌, ◌≤◌, ◌<◌, ◌^◌, IfOk, IfSome, OnErr};
 ghost use Rattle.kd_lease.specs.Decided.{IsAnswerTo, outcome_in};
 ghost use Rattle.kd_lease.specs.Rules.{IsSetAt};
 ghost use Rattle.kd_options.specs.Reply.{ItemsFit};
 ghost use Rattle.kd_replay.specs.Text.{IsSmall};
+ghost use Rattle.kd_server.specs.Keeping.{HasHeader};
 ghost use Rattle.kd_server.specs.Step.{Responds};
 ghost use Rattle.kd_server.specs.Turn.{IsSent, IsTurn, Turns};
 
@@ -22,7 +23,8 @@ pub(crate) struct Turn {
     pub(crate) response: Response,
 }
 
-// What a datagram does at a moment.
+// What a datagram does at a moment. No memory is taken before its header is read.
+#[tactic(auto, using(crate::proofs::Headed::message_headed))]
 pub(crate) fn turn_at(
     alloc: Global,
     ports: Ports,
@@ -32,9 +34,11 @@ pub(crate) fn turn_at(
     bytes: &[u8],
 ) -> Result<Turn, AllocError>
     requires { moment < 2 ^ 40 }
-    ensures found { IfOk result (λ t. IsTurn config.now ports rows.now.rows moment bytes.now t.row t.response) }
+    ensures found { IfOk result
+        (λ t. IsTurn config.now ports rows.now.rows moment bytes.now t.row t.response) }
     ensures small { IfOk result (λ t. IsSmall t.response) }
     ensures set { IfOk result (λ t. IfSome t.row (IsSetAt moment)) }
+    ensures memory { OnErr result (HasHeader bytes.now) }
 {
     match Message::read(alloc, bytes) {
         Ok(message) => turn_of(alloc, ports, config, rows, moment, &message),
@@ -56,7 +60,8 @@ fn turn_of(
     message: &Message<'_>,
 ) -> Result<Turn, AllocError>
     requires { moment < 2 ^ 40 }
-    ensures found { IfOk result (λ t. Turns config.now ports rows.now.rows moment message.now t.row t.response) }
+    ensures found { IfOk result
+        (λ t. Turns config.now ports rows.now.rows moment message.now t.row t.response) }
     ensures small { IfOk result (λ t. IsSmall t.response) }
     ensures set { IfOk result (λ t. IfSome t.row (IsSetAt moment)) }
 {

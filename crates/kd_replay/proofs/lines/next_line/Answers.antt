@@ -1,5 +1,5 @@
 use Rattle.std.proofs.Common.{◌≡◌, ◌<◌, ap, arith, length, length-append, vec_len}
-use Rattle.kd_replay.proofs.Looking.{begun_all, begun_read, ended, finds_end, finds_last, finds_line, finds_too_long, is_some, is_zero}
+use Rattle.kd_replay.proofs.Looking.{begun_all, begun_read, ended, fails_in, finds_end, finds_last, finds_line, finds_too_long, is_some, is_zero, on_err}
 use Rattle.kd_replay.proofs.lines.next_line.Goals as goal
 
 pub returns-in-Last-clause-found : goal.returns-in-Last-clause-found
@@ -25,6 +25,10 @@ returns-in-None-2-clause-found g c = λ all e.
 pub returns-in-TooLong-clause-found : goal.returns-in-TooLong-clause-found
 returns-in-TooLong-clause-found g c = λ all e.
     finds_too_long _ (begun_read _ _ (c.loop.invariant.begun all e) c.in_ok-more.ensures.read) c.in-TooLong.ensures.takes
+
+pub returns-in_err-more-clause-cut : goal.returns-in_err-more-clause-cut
+returns-in_err-more-clause-cut g c =
+    on_err c.from_residual.result (λ all e. fails_in _ (c.loop.invariant.begun all e) c.in_err-more.ensures.none c.in_err-more.ensures.kept)
 
 pub loop-preserved : goal.loop-preserved
 loop-preserved g c =

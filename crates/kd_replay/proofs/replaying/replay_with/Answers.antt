@@ -1,13 +1,14 @@
-use Rattle.std.proofs.Common.{◌≡◌, arith}
+use Rattle.std.proofs.Common.{◌≡◌, arith, inl, inr, refl, subst}
 use Rattle.std.proofs.lemmas.Result.{err_from_is_err_and}
-use Rattle.kd_replay.specs.Replay.{most_lines}
-use Rattle.kd_replay.proofs.Going.{going_line, going_none, handles_more, handles_none, leaves_bad, leaves_end, leaves_event, leaves_memory, leaves_more, leaves_more_long, leaves_read, leaves_too_long, none_ahead}
+use Rattle.kd_replay.specs.Replay.{Handles, most_lines}
+use Rattle.kd_replay.proofs.Going.{going_line, going_none, handles_more, handles_none, leaves_bad, leaves_end, leaves_event, leaves_memory, leaves_memory_at, leaves_more, leaves_more_long, leaves_read, leaves_too_long, none_ahead, whole_read}
 use Rattle.kd_replay.proofs.replaying.replay_with.Goals as goal
 
 pub returns-in_err-work-clause-replayed : goal.returns-in_err-work-clause-replayed
 returns-in_err-work-clause-replayed g c = λ input old known told.
     let p = err_from_is_err_and c.from_residual.result c.from_residual.ensures.1 in
-    rw (p.1, p.2) (leaves_memory g.H.Serves.gives g.H.Serves.fails _ _ _ _ _ _ _ _ (going_none g.H.Serves.gives input c.args.server.now old _ _ known told) (omega arith) (omega arith))
+    rw (p.1, p.2) (leaves_memory g.H.Serves.gives g.H.Serves.fails _ _ _ _ _ _ _ _
+    (going_none g.H.Serves.gives input c.args.server.now old _ _ known told) (omega arith) (omega arith) (inl refl))
 
 pub loop-number-init : goal.loop-number-init
 loop-number-init g c = record {
@@ -63,13 +64,16 @@ returns-clause-replayed g c = λ input old known told.
 pub returns-in_err-event-in-Ok-Line-clause-replayed : goal.returns-in_err-event-in-Ok-Line-clause-replayed
 returns-in_err-event-in-Ok-Line-clause-replayed g c = λ input old known told.
     let p = err_from_is_err_and c.from_residual-in_err-event-in-Ok-Line.result c.from_residual-in_err-event-in-Ok-Line.ensures.1 in
-    rw (p.1, p.2) (leaves_memory g.H.Serves.gives g.H.Serves.fails _ _ _ _ _ _ _ _ (c.loop-number.invariant.going input old known told) (omega arith) (omega arith))
+    let going = c.loop-number.invariant.going input old known told in
+    let found = rw c.in-Ok-Line.field-0-is at (c.in-Ok-Line.ensures.found going.rest going.known) in
+    let has = rw c.deref.ensures.value at c.in_err-event-in-Ok-Line.ensures.memory in
+    rw (p.1, p.2) (leaves_memory_at g.H.Serves.gives g.H.Serves.fails _ _ _ _ _ _ _ _ going (omega arith) (omega arith) _ _ found has)
 
 pub returns-in_default-clause-replayed : goal.returns-in_default-clause-replayed
 returns-in_default-clause-replayed g c = λ input old known told.
     let going = c.loop-number.invariant.going input old known told in
     let found = rw c.in-Ok-Line.field-0-is at (c.in-Ok-Line.ensures.found going.rest going.known) in
-    let none = rw (c.in_default.is, c.deref.ensures.value) at c.in_ok-event-in-Ok-Line.ensures in
+    let none = rw (c.in_default.is, c.deref.ensures.value) at c.in_ok-event-in-Ok-Line.ensures.found in
     leaves_bad g.H.Serves.gives g.H.Serves.fails _ _ _ _ _ _ _ _ going (omega arith) (omega arith) _ _ found none
 
 pub returns-in_err-replay_event-in-Ok-Line-clause-replayed : goal.returns-in_err-replay_event-in-Ok-Line-clause-replayed
@@ -77,7 +81,7 @@ returns-in_err-replay_event-in-Ok-Line-clause-replayed g c = λ input old known 
     let p = err_from_is_err_and c.from_residual-in_err-replay_event-in-Ok-Line.result c.from_residual-in_err-replay_event-in-Ok-Line.ensures.1 in
     let going = c.loop-number.invariant.going input old known told in
     let found = rw c.in-Ok-Line.field-0-is at (c.in-Ok-Line.ensures.found going.rest going.known) in
-    let is = rw (c.in-Some.is, c.deref.ensures.value) at c.in_ok-event-in-Ok-Line.ensures in
+    let is = rw (c.in-Some.is, c.deref.ensures.value) at c.in_ok-event-in-Ok-Line.ensures.found in
     rw (p.1, p.2) (leaves_event g.H.Serves.gives g.H.Serves.fails _ _ _ _ _ _ _ _ going (omega arith) (omega arith) _ _ _ _ _ _ found is c.in_err-replay_event-in-Ok-Line.ensures.ended)
 
 pub loop-number-preserved : goal.loop-number-preserved
@@ -88,6 +92,27 @@ loop-number-preserved g c = record {
   going = λ input old known told.
       let going = c.loop-number.invariant.going input old known told in
       let found = rw c.in-Ok-Line.field-0-is at (c.in-Ok-Line.ensures.found going.rest going.known) in
-      let is = rw (c.in-Some.is, c.deref.ensures.value) at c.in_ok-event-in-Ok-Line.ensures in
+      let is = rw (c.in-Some.is, c.deref.ensures.value) at c.in_ok-event-in-Ok-Line.ensures.found in
       going_line g.H.Serves.gives _ _ _ _ _ _ _ going _ _ _ _ _ found is c.in_ok-replay_event-in-Ok-Line.ensures.handled;
 }
+
+pub returns-in-Err-clause-whole : goal.returns-in-Err-clause-whole
+returns-in-Err-clause-whole g c = λ is input old known told.
+    let going = c.loop-number.invariant.going input old known told in
+    inl (whole_read g.H.Serves.gives _ _ _ _ _ _ _ going _ (c.in-Err.ensures.cut going.rest going.known))
+
+pub returns-clause-whole : goal.returns-clause-whole
+returns-clause-whole g c = λ is input old known told.
+    let going = c.loop-number.invariant.going input old known told in
+    inl (whole_read g.H.Serves.gives _ _ _ _ _ _ _ going _ (c.in-Err-next_line.ensures.cut going.rest going.known))
+
+pub returns-in-Ok-Line-next_line-clause-whole : goal.returns-in-Ok-Line-next_line-clause-whole
+returns-in-Ok-Line-next_line-clause-whole g c = λ is input old known told.
+    let all : c.loop-number.number ≡ most_lines = omega arith in
+    inr (subst (λ n. Handles g.H.Serves.gives n c.args.server.now c.loop-number.server) all c.loop-number.invariant.handled)
+
+pub returns-in-Ok-TooLong-next_line-clause-whole :
+    goal.returns-in-Ok-TooLong-next_line-clause-whole
+returns-in-Ok-TooLong-next_line-clause-whole g c = λ is input old known told.
+    let all : c.loop-number.number ≡ most_lines = omega arith in
+    inr (subst (λ n. Handles g.H.Serves.gives n c.args.server.now c.loop-number.server) all c.loop-number.invariant.handled)

@@ -1,8 +1,8 @@
 use Rattle.std.proofs.Common.{◌≡◌, ◌≤◌, ℕ, List, Some, vec_capacity}
 use Rattle.std.specs.Io.KnownBytes.{prepend_known}
+use Rattle.kd_replay.specs.Handling.{line_room}
 use Rattle.kd_replay.specs.Lines.{line_limit}
 use Rattle.kd_replay.specs.Replay.{Handles}
-use Rattle.kd_replay.specs.Text.{line_room}
 use Rattle.kd_replay.proofs.Going.{Going}
 use Rattle.kd_replay.proofs.replaying.replay_with.Given as goal
 

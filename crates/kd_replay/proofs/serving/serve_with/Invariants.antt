@@ -1,6 +1,6 @@
 use Rattle.std.proofs.Common.{◌+◌, ◌≤◌, vec_capacity}
+use Rattle.kd_replay.specs.Handling.{line_room}
 use Rattle.kd_replay.specs.Serving.{HasServed}
-use Rattle.kd_replay.specs.Text.{line_room}
 use Rattle.kd_replay.proofs.serving.serve_with.Given as goal
 
 abbrev pub invariant-loop-number : goal.invariant-loop-number
