@@ -1,4 +1,3 @@
-pub mod Addresses
 pub mod Apart
 pub mod Commands
 pub mod Entries

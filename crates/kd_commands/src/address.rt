@@ -4,7 +4,6 @@ ghost use Rattle.kd_commands.specs.Values.{address_of};
 use kd_expr::read_address;
 
 // The address of a text, in host order, where it is one.
-#[tactic(auto, using(crate::proofs::Addresses::read_is))]
 pub(crate) fn address_in(text: &str) -> Option<u32>
     ensures { result ≡ address_of text.now }
 {

@@ -31,7 +31,7 @@ alike_named name (a ∷ xs) (b ∷ ys) h =
     ap (λ n. named_among name (record { name = n; test = a.test; options = a.options } ∷ xs)) h.0.name
     ∙ or_alike _ (named_among name xs) (named_among name ys) (alike_named name xs ys h.1)
 
--- the same names are known behind them
+-- the same names are known after them
 alike_known : (names : List (List ℕ)) (xs ys : List ClassDef) → AskAlike xs ys → list_all (known_after xs) names ≡ list_all (known_after ys) names
 alike_known [] xs ys h = refl
 alike_known (n ∷ names) xs ys h =

@@ -9,7 +9,7 @@ use Rattle.kd_config.specs.Configured.{AreDefinitions, IsDefinition}
 use Rattle.kd_config.specs.declared.class.ClassEntry.{ClassEntry}
 use Rattle.kd_config.specs.declared.token_file.TokenFile.{TokenFile}
 
--- definitions of entries and of one behind them
+-- definitions of entries and of one after them
 record AreParts (files : List TokenFile) (entries : List ClassEntry) (entry : ClassEntry) (rest : List ClassEntry) (defs : List ClassDef) : Type 0 where
   before : List ClassDef
   def : ClassDef

@@ -91,7 +91,7 @@ inside_failed prefix earlier clients rs i r n below is e kind =
           kind ∙ (ap (λ (b : Bool). if b then 76 else 74) h
           ∙ sym (ap (λ (b : Bool). if b then 74 else 76) all))
 
--- how many pools stand before the first outside the prefix, by those behind a pool
+-- how many pools stand before the first outside the prefix, by those after a pool
 within_at : (prefix : Prefix) (pools : List Pool) (i : ℕ) (pool : Pool) (b : Bool)
     → i < length pools → pool ≡ get_or pools i pool → lies_within prefix pool ≡ b
     → prefix_len (lies_within prefix) (drop i pools)

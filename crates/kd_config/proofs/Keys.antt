@@ -15,12 +15,12 @@ one_of_is : (known : List (Bor (List ℕ))) (key : List ℕ) → is_key (map (λ
 one_of_is [] key = refl
 one_of_is (k ∷ known) key = rw (one_of_is known key) refl
 
--- nothing is found: this is not, and nothing behind it is
+-- nothing is found: this is not, and nothing after it is
 none_here : {A : Type 0} (b : Bool) (x : A) (rest : Option A) → None ≡ cond (not b) (Some x) rest → (b ≡ true) × (None ≡ rest)
 none_here true x rest e = (refl, e)
 none_here false x rest e = absurd (cc)
 
--- something is found: it is this, or stands behind it
+-- something is found: it is this, or stands after it
 some_here : {A : Type 0} (b : Bool) (x k : A) (rest : Option A) → Some k ≡ cond (not b) (Some x) rest → (b ≡ false) ⊎ (Some k ≡ rest)
 some_here true x k rest e = inr e
 some_here false x k rest e = inl refl

@@ -1,4 +1,3 @@
-pub mod Addresses
 pub mod Blocks
 pub mod Keys
 pub mod Left

@@ -96,7 +96,7 @@ within (x ∷ pools) more a (suc j) (suc l) p q apart e f h k =
     ap suc (within pools more a j l p q
     (not_and (list_any (share_one x.range) all) (lie_apart all) apart).1 e f h k)
 
--- ranges behind others
+-- ranges after others
 apart_behind : (xs ys : List Range) → lie_apart (xs ++ ys) ≡ true → lie_apart ys ≡ true
 apart_behind [] ys h = h
 apart_behind (x ∷ xs) ys h = apart_behind xs ys

@@ -40,7 +40,7 @@ exchanged true true c d = refl
 exchanged true false true d = refl
 exchanged true false false d = refl
 
--- the first of subnets, and those behind it
+-- the first of subnets, and those after it
 one_more : (apart : ℕ) (earlier : List ℕ) (s : Subnet) (subnets : List Subnet)
     → obey_within apart earlier (s ∷ subnets)
     ≡ ((nat_le (length s.pools) apart && obeys earlier s)
@@ -56,7 +56,7 @@ one_more apart earlier s subnets =
     ∙ exchanged (nat_le (length s.pools) apart) (nat_le (length later) (apart - length s.pools))
     (obeys earlier s) (all_obey (earlier ++ reserved s.reservations) subnets))
 
--- the subnet at a place, and those behind it
+-- the subnet at a place, and those after it
 at_place : (apart i : ℕ) (earlier : List ℕ) (subnets : List Subnet) (s : Subnet)
     → i < length subnets
     → s ≡ get_or subnets i s → obey_within apart earlier (drop i subnets)
@@ -92,7 +92,7 @@ subnet_failed apart i earlier subnets s below is e =
     (earlier ++ reserved s.reservations) (drop (i + 1) subnets))
     (must_failed (nat_le (length s.pools) apart && obeys earlier s) e)
 
--- the pool at a place, and those behind it
+-- the pool at a place, and those after it
 pools_at : (prefix : Prefix) (pools : List Pool) (i : ℕ) (pool : Pool) → i < length pools
     → pool ≡ get_or pools i pool
     → list_all (lies_within prefix) (drop i pools) ≡

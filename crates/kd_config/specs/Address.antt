@@ -13,10 +13,11 @@ use Rattle.kd_config.specs.declared.range.Range.{Range}
 unfoldable pub address_spelled : List ℕ → Option ℕ
 address_spelled text = option_map (from_be_bytes w32) (lexing.address_read text)
 
--- what stands before and behind the first of this byte
+-- what stands before and after the first of this byte
 abbrev pub parts_at : ℕ → List ℕ → Option (List ℕ × List ℕ)
 parts_at b [] = None
-parts_at b (c ∷ text) = if c == b then Some ([], text) else option_map (λ x. (c ∷ x.0, x.1)) (parts_at b text)
+parts_at b (c ∷ text) =
+    if c == b then Some ([], text) else option_map (λ x. (c ∷ x.0, x.1)) (parts_at b text)
 
 -- a text without the spaces at its front
 abbrev pub after_spaces : List ℕ → List ℕ
@@ -29,7 +30,8 @@ before_spaces text = reverse (after_spaces (reverse text))
 -- the number of one or two decimal digits
 abbrev pub short_decimal : List ℕ → Option ℕ
 short_decimal (a ∷ []) = if a_digit a then Some (a - 48) else None
-short_decimal (a ∷ b ∷ []) = if a_digit a && a_digit b then Some ((a - 48) * 10 + (b - 48)) else None
+short_decimal (a ∷ b ∷ []) =
+    if a_digit a && a_digit b then Some ((a - 48) * 10 + (b - 48)) else None
 short_decimal _ = None
 
 -- the length of a prefix: at most 32, in one or two digits
@@ -42,13 +44,14 @@ length_spelled text = do
 abbrev pub prefix_size : ℕ → ℕ
 prefix_size length = 2 ^ (32 - length)
 
--- an address without the bits behind a prefix of this length
+-- an address without the bits after a prefix of this length
 abbrev pub network_address : ℕ → ℕ → ℕ
 network_address address length = address / prefix_size length * prefix_size length
 
 -- a prefix has this address
 abbrev pub has_address : Prefix → ℕ → Bool
-has_address prefix address = nat_le prefix.address address && nat_lt address (prefix.address + prefix_size prefix.length)
+has_address prefix address =
+    nat_le prefix.address address && nat_lt address (prefix.address + prefix_size prefix.length)
 
 -- the prefix that a text spells
 unfoldable pub prefix_spelled : List ℕ → Option Prefix
@@ -60,7 +63,9 @@ prefix_spelled text = do
 
 -- the addresses from the first to the last: at least one, at most 65,536
 abbrev pub range_from : ℕ → ℕ → Option Range
-range_from first last = if nat_le first last && nat_lt (last - first) 65536 then Some (record { first = first; last = last }) else None
+range_from first last =
+    if nat_le first last
+    && nat_lt (last - first) 65536 then Some (record { first = first; last = last }) else None
 
 -- the addresses of a prefix
 abbrev pub prefix_range : Prefix → Option Range

@@ -1,5 +1,5 @@
--- Words of private clauses: definitions of classes that differ in nothing which decides whether they may
--- stand.
+-- Words of private clauses: definitions of classes that differ in nothing which decides whether
+-- they may stand.
 use Rattle.std.specs.Prelude.{◌≡◌, List, [], ◌∷◌}
 use Rattle.kd_classes.specs.Order.{asked}
 use Rattle.kd_classes.specs.declared.definition.ClassDef.{ClassDef}

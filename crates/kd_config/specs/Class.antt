@@ -12,7 +12,9 @@ use Rattle.kd_config.specs.declared.class.TestSource.TheVariants.{Nothing, Expre
 
 -- a value is an object with the keys of a class
 unfoldable pub has_class_keys : Data → Bool
-has_class_keys d = has_keys (codes "name" ∷ codes "test" ∷ codes "tokens" ∷ codes "option-data" ∷ []) (codes "name" ∷ []) d
+has_class_keys d =
+    has_keys (codes "name" ∷ codes "test" ∷ codes "tokens" ∷ codes "option-data" ∷ [])
+    (codes "name" ∷ []) d
 
 -- a name of a class: 1 to 255 bytes
 unfoldable pub class_name_in : Data → Option (List ℕ)

@@ -16,7 +16,8 @@ pub record Configuration : Type 0 where
 
 -- the times of the built-in configuration
 abbrev pub times_built_in : Times
-times_built_in = record { lifetime = 3600; renew = 1800; rebind = 3150; offer_hold = 60; decline_hold = 600 }
+times_built_in =
+    record { lifetime = 3600; renew = 1800; rebind = 3150; offer_hold = 60; decline_hold = 600 }
 
 -- its pool, 192.0.2.10 and 192.0.2.11
 abbrev pub builtin_pool : Pool
@@ -34,4 +35,12 @@ subnet_built_in = record {
 
 -- the built-in configuration: the server is 192.0.2.1
 abbrev pub builtin_config : Configuration
-builtin_config = record { server = 0xc0000201; times = times_built_in; options = []; classes = []; subnets = subnet_built_in ∷ [] }
+builtin_config =
+    record {
+      server = 0xc0000201;
+      times = times_built_in;
+      options = [];
+      classes =
+          [];
+      subnets = subnet_built_in ∷ [];
+    }

@@ -1,5 +1,5 @@
--- The configuration that a text means with token files (our own format): its settings, and for each class's
--- test a program, which its text compiles to or which its token file spells.
+-- The configuration that a text means with token files (our own format): its settings, and for each
+-- class's test a program, which its text compiles to or which its token file spells.
 use Rattle.std.specs.Prelude.{◌≡◌, ℕ, List, [], ◌∷◌, bytes_eq, Option, Some, None, option_map, Ok}
 use Rattle.std.specs.List.{find}
 use Rattle.kd_classes.specs.Order.{AreInOrder}
@@ -18,7 +18,8 @@ use Rattle.kd_expr.specs.Typing.{test_type}
 use Rattle.kd_token.specs.Accepts.{Accepts}
 use Rattle.kd_token.specs.File.{Code, IsFileOf}
 
--- a program of a class test: the tree is a truth value and over no limit, and compiles to the program
+-- a program of a class test: the tree is a truth value and over no limit, and compiles to the
+-- program
 pub record IsProgramOf (tree : Tree) (program : Code) : Type 0 where
   pub typed : test_type tree ≡ Ok tt
   pub within : first_over tree ≡ None
@@ -32,7 +33,8 @@ pub record IsTextTest (text : List ℕ) (program : Code) : Type 0 where
 
 -- the bytes of the first of these files with a name
 abbrev pub file_by_name : List ℕ → List TokenFile → Option (List ℕ)
-file_by_name name files = option_map (λ file. file.bytes) (find (λ file. bytes_eq name file.name) files)
+file_by_name name files =
+    option_map (λ file. file.bytes) (find (λ file. bytes_eq name file.name) files)
 
 -- the program of a token file: the first file of this name spells it, and it is accepted
 pub record IsFileTest (files : List TokenFile) (name : List ℕ) (program : Code) : Type 0 where
@@ -51,7 +53,8 @@ IsTest files (sources.TokenFile name) None = ⊥
 IsTest files (sources.TokenFile name) (Some program) = IsFileTest files name program
 
 -- a definition of a class as it is written: its name, its options, and a program of its test
-pub record IsDefinition (files : List TokenFile) (entry : ClassEntry) (def : ClassDef) : Type 0 where
+pub record IsDefinition (files : List TokenFile) (entry : ClassEntry)
+    (def : ClassDef) : Type 0 where
   pub name : def.name ≡ entry.name
   pub test : IsTest files entry.source def.test
   pub options : def.options ≡ entry.options
@@ -61,7 +64,8 @@ abbrev pub AreDefinitions : List TokenFile → List ClassEntry → List ClassDef
 AreDefinitions files [] [] = Unit {0}
 AreDefinitions files [] (def ∷ defs) = ⊥
 AreDefinitions files (entry ∷ entries) [] = ⊥
-AreDefinitions files (entry ∷ entries) (def ∷ defs) = IsDefinition files entry def × AreDefinitions files entries defs
+AreDefinitions files (entry ∷ entries) (def ∷ defs) =
+    IsDefinition files entry def × AreDefinitions files entries defs
 
 -- the configuration that a text means with token files
 pub record IsConfigured (text : List ℕ) (files : List TokenFile) (c : Configuration) : Type 0 where

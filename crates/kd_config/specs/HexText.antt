@@ -10,7 +10,8 @@ counts b = not (b == 32 || b == 58)
 
 -- digits without a prefix 0x
 abbrev pub digits_after_prefix : List ℕ → List ℕ
-digits_after_prefix (a ∷ b ∷ digits) = if a == 48 && (b == 120 || b == 88) then digits else a ∷ b ∷ digits
+digits_after_prefix (a ∷ b ∷ digits) =
+    if a == 48 && (b == 120 || b == 88) then digits else a ∷ b ∷ digits
 digits_after_prefix text = text
 
 -- the bytes that a hexadecimal text spells

@@ -1,5 +1,6 @@
--- What is true of each configuration that is sound: an address is of one pool and of one reservation,
--- a client has one reservation of a subnet, and the tests of classes are accepted programs.
+-- What is true of each configuration that is sound: an address is of one pool and of one
+-- reservation, a client has one reservation of a subnet, and the tests of classes are accepted
+-- programs.
 use Rattle.std.specs.Prelude.{◌≡◌, ℕ, true, slice_get, Some}
 use Rattle.std.specs.List.{AllByRecursion}
 use Rattle.kd_classes.specs.HeldSet.{IsAccepted}

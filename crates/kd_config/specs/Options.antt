@@ -31,7 +31,7 @@ code_given d = do
 abbrev pub code_among : ℕ → List OptionData → Bool
 code_among code options = list_any (λ option. option.code == code) options
 
--- the option that a value means behind the options before it
+-- the option that a value means after the options before it
 unfoldable pub option_after : List OptionData → Data → Option OptionData
 option_after earlier d = do
   _ ← must (has_option_keys d)

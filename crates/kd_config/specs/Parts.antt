@@ -25,7 +25,7 @@ is_there d key = is_some (get key.now d)
 abbrev pub client_by : Bool × Bor (List ℕ) → Identity
 client_by key = if key.0 then Hardware key.1.now else ClientId key.1.now
 
--- subnets obey the rules behind reserved addresses, and have no pool behind so many
+-- subnets obey the rules after reserved addresses, and have no pool after so many
 abbrev pub obey_within : ℕ → List ℕ → List Subnet → Bool
 obey_within apart earlier subnets =
     nat_le (length (pool_ranges subnets)) apart && all_obey earlier subnets

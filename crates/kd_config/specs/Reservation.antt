@@ -11,7 +11,9 @@ use Rattle.kd_config.specs.declared.reservation.Reservation.{Reservation}
 
 -- a value is an object with the keys of a reservation
 unfoldable pub has_reservation_keys : Data → Bool
-has_reservation_keys d = has_keys (codes "hw-address" ∷ codes "client-id" ∷ codes "ip-address" ∷ []) (codes "ip-address" ∷ []) d
+has_reservation_keys d =
+    has_keys (codes "hw-address" ∷ codes "client-id" ∷ codes "ip-address" ∷ [])
+    (codes "ip-address" ∷ []) d
 
 -- one of the two, and not both
 abbrev pub one_identity : Option (List ℕ) → Option (List ℕ) → Option Identity

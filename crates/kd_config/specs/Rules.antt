@@ -1,5 +1,6 @@
--- Rules over a whole configuration: pools and reserved addresses lie in their subnet's prefix, no two pools
--- share an address, no address is reserved twice, and no client has two reservations in one subnet.
+-- Rules over a whole configuration: pools and reserved addresses lie in their subnet's prefix, no
+-- two pools share an address, no address is reserved twice, and no client has two reservations in
+-- one subnet.
 use Rattle.std.specs.Prelude.{ℕ, Bool, true, false, not, ◌&&◌, nat_eq, bytes_eq, List, [], ◌∷◌, ◌++◌, map}
 use Rattle.std.specs.List.{list_all, list_any}
 use Rattle.kd_config.specs.Address.{has_address}
@@ -28,26 +29,32 @@ same_identity _ _ = false
 
 -- a reservation has an address of the prefix that is none of the earlier ones
 abbrev pub may_reserve : Prefix → List ℕ → Reservation → Bool
-may_reserve prefix earlier reservation = has_address prefix reservation.address && not (list_any (nat_eq reservation.address) earlier)
+may_reserve prefix earlier reservation =
+    has_address prefix reservation.address && not (list_any (nat_eq reservation.address) earlier)
 
 -- a client is none of the earlier ones
 abbrev pub is_new : List Identity → Identity → Bool
 is_new earlier identity = not (list_any (same_identity identity) earlier)
 
--- the reservations of a subnet, behind the addresses and the clients that are reserved before them
+-- the reservations of a subnet, after the addresses and the clients that are reserved before them
 abbrev pub may_all_reserve : Prefix → List ℕ → List Identity → List Reservation → Bool
 may_all_reserve prefix earlier clients [] = true
 may_all_reserve prefix earlier clients (r ∷ rs) =
-    may_reserve prefix earlier r && (is_new clients r.identity && may_all_reserve prefix (earlier ++ r.address ∷ []) (clients ++ r.identity ∷ []) rs)
+    may_reserve prefix earlier r
+    && (is_new clients r.identity
+    && may_all_reserve prefix (earlier ++ r.address ∷ []) (clients ++ r.identity ∷ []) rs)
 
--- the rules of one subnet, behind the addresses that are reserved before it
+-- the rules of one subnet, after the addresses that are reserved before it
 unfoldable pub obeys : List ℕ → Subnet → Bool
-obeys earlier subnet = list_all (lies_within subnet.prefix) subnet.pools && may_all_reserve subnet.prefix earlier [] subnet.reservations
+obeys earlier subnet =
+    list_all (lies_within subnet.prefix) subnet.pools
+    && may_all_reserve subnet.prefix earlier [] subnet.reservations
 
 -- the rules of subnets, one after another
 abbrev pub all_obey : List ℕ → List Subnet → Bool
 all_obey earlier [] = true
-all_obey earlier (subnet ∷ subnets) = obeys earlier subnet && all_obey (earlier ++ reserved subnet.reservations) subnets
+all_obey earlier (subnet ∷ subnets) =
+    obeys earlier subnet && all_obey (earlier ++ reserved subnet.reservations) subnets
 
 -- the addresses of the pools of a subnet
 abbrev pub ranges_in : List Pool → List Range

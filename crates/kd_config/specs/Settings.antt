@@ -15,7 +15,8 @@ use Rattle.kd_config.specs.declared.times.Times.{Times}
 -- the keys of `Dhcp4`
 abbrev pub dhcp4_keys : List (List ℕ)
 dhcp4_keys =
-    codes "server-address" ∷ codes "valid-lifetime" ∷ codes "renew-timer" ∷ codes "rebind-timer" ∷ codes "offer-hold" ∷ codes "decline-hold"
+    codes "server-address" ∷ codes "valid-lifetime" ∷ codes "renew-timer" ∷ codes "rebind-timer"
+    ∷ codes "offer-hold" ∷ codes "decline-hold"
     ∷ codes "option-data" ∷ codes "client-classes" ∷ codes "subnet4" ∷ []
 
 -- a value is an object with the keys of `Dhcp4`

@@ -1,5 +1,5 @@
--- What a configuration obeys (our own format): each value is in its range, each list within its limit, and
--- the rules over the whole hold.
+-- What a configuration obeys (our own format): each value is in its range, each list within its
+-- limit, and the rules over the whole hold.
 use Rattle.std.specs.Prelude.{◌≡◌, ℕ, ◌+◌, ◌-◌, ◌^◌, ◌<◌, ◌≤◌, nat_eq, true, false, List, [], ◌∷◌, length}
 use Rattle.std.specs.List.{AllByRecursion, list_any}
 use Rattle.kd_classes.specs.HeldSet.{IsAccepted}
@@ -55,7 +55,7 @@ pub record IsClass (def : ClassDef) : Type 0 where
   pub test : IsAccepted def
   pub options : AreOptions def.options
 
--- a prefix: its address has no bits behind its length, and its addresses end within 32 bits
+-- a prefix: its address has no bits after its length, and its addresses end within 32 bits
 pub record IsPrefix (prefix : Prefix) : Type 0 where
   pub length : prefix.length ≤ 32
   pub clear : network_address prefix.address prefix.length ≡ prefix.address
@@ -82,7 +82,8 @@ pub record IsSubnet (subnet : Subnet) : Type 0 where
   pub few_pools : length subnet.pools ≤ 64
   pub pools : AllByRecursion IsPool subnet.pools
   pub few_reservations : length subnet.reservations ≤ 4096
-  pub reservations : AllByRecursion (λ reservation. IsIdentity reservation.identity) subnet.reservations
+  pub reservations : AllByRecursion
+      (λ reservation. IsIdentity reservation.identity) subnet.reservations
   pub options : AreOptions subnet.options
 
 -- subnets, which may stand together

@@ -16,7 +16,8 @@ use Rattle.kd_config.specs.declared.subnet.Subnet.{Subnet}
 -- a value is an object with the keys of a subnet
 unfoldable pub has_subnet_keys : Data → Bool
 has_subnet_keys d =
-    has_keys (codes "id" ∷ codes "subnet" ∷ codes "client-class" ∷ codes "pools" ∷ codes "reservations" ∷ codes "option-data" ∷ []) (codes "subnet" ∷ []) d
+    has_keys (codes "id" ∷ codes "subnet" ∷ codes "client-class" ∷ codes "pools"
+    ∷ codes "reservations" ∷ codes "option-data" ∷ []) (codes "subnet" ∷ []) d
 
 -- the prefix of a subnet
 unfoldable pub subnet_prefix : Data → Option Prefix

@@ -24,7 +24,8 @@ is_object_of known (Some members) = are_known known members
 
 -- a value is an object with known keys alone, and with the required ones
 unfoldable pub has_keys : List (List ℕ) → List (List ℕ) → Data → Bool
-has_keys known required d = is_object_of known (as_object d) && list_all (λ key. is_some (get key d)) required
+has_keys known required d =
+    is_object_of known (as_object d) && list_all (λ key. is_some (get key d)) required
 
 -- a whole number in a range
 unfoldable pub number_within : ℕ → ℕ → Data → Option ℕ

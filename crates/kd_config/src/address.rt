@@ -4,7 +4,7 @@ ghost use Rattle.kd_config.specs.Address.{address_spelled, parts_at, after_space
 use kd_expr::read_address;
 
 // The address that a text spells.
-#[tactic(auto, using(crate::proofs::Addresses::read_is))]
+#[tactic(auto, unfolding(crate::specs::Address::address_spelled))]
 pub(crate) fn address_of(text: &[u8]) -> Option<u32>
     ensures { result ≡ address_spelled text.now }
 {
@@ -14,7 +14,7 @@ pub(crate) fn address_of(text: &[u8]) -> Option<u32>
     }
 }
 
-// What stands before and behind the first of this byte.
+// What stands before and after the first of this byte.
 pub(crate) fn cut_at(byte: u8, text: &[u8]) -> Option<(&[u8], &[u8])>
     ensures { option_map (λ x. (x.0.now, x.1.now)) result ≡ parts_at byte text.now }
 {

@@ -12,8 +12,8 @@ use kd_classes::{Classes, OptionList};
 use std::alloc::{AllocError, Global};
 
 impl Config {
-    /// The built-in configuration: the server is 192.0.2.1, its one subnet 192.0.2.0/24 with the pool
-    /// 192.0.2.10 - 192.0.2.11, and a lease lasts an hour.
+    /// The built-in configuration: the server is 192.0.2.1, its one subnet 192.0.2.0/24 with the
+    /// pool 192.0.2.10 - 192.0.2.11, and a lease lasts an hour.
     ///
     /// # Errors
     ///

@@ -7,8 +7,8 @@ use crate::times::Times;
 use kd_classes::{Classes, OptionData, OptionList};
 use std::marker::Model;
 
-/// A configuration: what a server goes by. Each of its values is in its range, each list within its limit,
-/// and its subnets and its classes may stand (`specs/Sound.antt`).
+/// A configuration: what a server goes by. Each of its values is in its range, each list within its
+/// limit, and its subnets and its classes may stand (`specs/Sound.antt`).
 #[derive(Drop)]
 pub struct Config {
     pub(crate) server: u32,
@@ -74,8 +74,8 @@ impl Config {
         &self.classes
     }
 
-    /// The subnets, in order; at most 256. Pools and reservations lie in their subnet's prefix, no two pools
-    /// share an address, and no address is reserved twice.
+    /// The subnets, in order; at most 256. Pools and reservations lie in their subnet's prefix, no
+    /// two pools share an address, and no address is reserved twice.
     pub fn subnets(&self) -> &[Subnet]
         ensures same { result.now ≡ self.now.subnets }
         ensures sound { IsSound self.now }

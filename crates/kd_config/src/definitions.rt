@@ -23,7 +23,9 @@ pub(crate) fn classes_in(
     ensures found { IfOk result (λ classes. AreDefinitions files.now entries.items classes) }
     ensures ordered { IfOk result (λ classes. AreInOrder classes) }
     ensures accepted { IfOk result (λ classes. AllByRecursion IsAccepted classes) }
-    ensures refused { IfErr result (λ fault. fault ≢ Memory → (defs : List ClassDef) → AreDefinitions files.now entries.items defs → AreInOrder defs → ⊥) }
+    ensures refused { IfErr result
+        (λ fault. fault ≢ Memory → (defs : List ClassDef)
+        → AreDefinitions files.now entries.items defs → AreInOrder defs → ⊥) }
 {
     let definitions = definitions_of(alloc, entries, files)?;
     match Classes::new(definitions) {
@@ -39,9 +41,13 @@ fn definitions_of(
     files: &[TokenFile],
 ) -> Result<Vec<ClassDef>, ConfigFault>
     ensures found { IfOk result (λ defs. AreDefinitions files.now entries.items defs.items) }
-    ensures same { IfOk result (λ defs. (others : List ClassDef) → AreDefinitions files.now entries.items others → AskAlike others defs.items) }
+    ensures same { IfOk result
+        (λ defs. (others : List ClassDef) → AreDefinitions files.now entries.items others
+        → AskAlike others defs.items) }
     ensures accepted { IfOk result (λ defs. AllByRecursion IsAccepted defs.items) }
-    ensures refused { IfErr result (λ fault. fault ≢ Memory → (defs : List ClassDef) → AreDefinitions files.now entries.items defs → ⊥) }
+    ensures refused { IfErr result
+        (λ fault. fault ≢ Memory → (defs : List ClassDef)
+        → AreDefinitions files.now entries.items defs → ⊥) }
 {
     let mut definitions = Vec::new(alloc);
     for entry in entries {
@@ -59,9 +65,11 @@ fn definition_of(
     files: &[TokenFile],
 ) -> Result<ClassDef, ConfigFault>
     ensures found { IfOk result (λ def. IsDefinition files.now entry def) }
-    ensures same { IfOk result (λ def. (other : ClassDef) → IsDefinition files.now entry other → AsksAlike other def) }
+    ensures same { IfOk result
+        (λ def. (other : ClassDef) → IsDefinition files.now entry other → AsksAlike other def) }
     ensures accepted { IfOk result (λ def. IsAccepted def) }
-    ensures refused { IfErr result (λ fault. fault ≢ Memory → (def : ClassDef) → IsDefinition files.now entry def → ⊥) }
+    ensures refused { IfErr result
+        (λ fault. fault ≢ Memory → (def : ClassDef) → IsDefinition files.now entry def → ⊥) }
 {
     let ClassEntry {
         name,

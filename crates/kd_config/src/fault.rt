@@ -49,7 +49,8 @@ impl fmt::Debug for FileTestFault {
     }
 }
 
-/// Why a text is no configuration. A path is the keys and list numbers from the root, each after `/`.
+/// Why a text is no configuration. A path is the keys and list numbers from the root, each after
+/// `/`.
 #[derive(PartialEq, Eq, Drop, Error)]
 pub enum ConfigFault {
     /// The text is no JSON.
@@ -70,8 +71,8 @@ pub enum ConfigFault {
     /// A pool has an address of an earlier pool; its path.
     #[error("Overlap {0}")]
     Overlap(String),
-    /// A reservation has the address of an earlier one, or the identity of an earlier one of its subnet;
-    /// the path of what is repeated.
+    /// A reservation has the address of an earlier one, or the identity of an earlier one of its
+    /// subnet; the path of what is repeated.
     #[error("DuplicateReservation {0}")]
     DuplicateReservation(String),
     /// The text of a class's test has no program; the number of the class from 0, and why.

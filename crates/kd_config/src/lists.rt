@@ -20,7 +20,8 @@ pub(crate) fn list_at<'a>(
     key: &'static str,
     most: usize,
 ) -> Result<&'a [Value], ConfigFault>
-    ensures { GivesAs (λ values. items_view values.now) result (items_or_none most (get key.now (view object.now))) }
+    ensures { GivesAs (λ values. items_view values.now) result
+        (items_or_none most (get key.now (view object.now))) }
 {
     let Some(value) = object.get(key) else {
         return Ok(&[]);

@@ -41,7 +41,7 @@ fn options_in(alloc: Global, values: &[Value], at: &Place<'_>) -> Result<OptionL
     Ok(OptionList::own(list))
 }
 
-// The option that a value means behind the options before it.
+// The option that a value means after the options before it.
 #[tactic(auto, unfolding(crate::specs::Options::option_after))]
 fn option_behind(
     alloc: Global,

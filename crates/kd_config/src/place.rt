@@ -61,7 +61,7 @@ fn path_of_unknown(alloc: Global, at: &Place<'_>, key: &str) -> Result<String, A
     Ok(path)
 }
 
-// Writes a character behind a text, and a control character as its number.
+// Writes a character after a text, and a control character as its number.
 fn push_on_one_line(alloc: Global, text: &mut String, c: char) -> Result<(), AllocError> {
     if c.is_ascii_control() {
         let number = format!(in alloc; "\\x{:02x}", u32::from(c))?;
@@ -81,7 +81,7 @@ fn path_of(alloc: Global, at: &Place<'_>) -> Result<String, AllocError> {
     Ok(path)
 }
 
-// Writes the path of a place behind a text.
+// Writes the path of a place after a text.
 fn push_path(alloc: Global, path: &mut String, at: &Place<'_>) -> Result<(), AllocError> {
     match at {
         Place::Root => Ok(()),

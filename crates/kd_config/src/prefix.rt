@@ -35,7 +35,7 @@ fn size_of(length: u8) -> u64
     1 << 32u8.saturating_sub(length)
 }
 
-// An address without the bits behind a prefix of this length.
+// An address without the bits after a prefix of this length.
 fn cleared(address: u32, length: u8) -> u32
     ensures cleared { result ≡ network_address address length }
     ensures within { result + prefix_size length ≤ 2 ^ 32 }

@@ -28,9 +28,12 @@ pub(crate) fn test_of(
     files: &[TokenFile],
 ) -> Result<Option<Verified>, ConfigFault>
     ensures found { IfOk result (λ test. IsTest files.now source.now test) }
-    ensures same { IfOk result (λ test. (other : Option Code) → IsTest files.now source.now other → names_of other ≡ names_of test) }
+    ensures same { IfOk result
+        (λ test. (other : Option Code) → IsTest files.now source.now other
+        → names_of other ≡ names_of test) }
     ensures accepted { IfOk result (λ test. IsAcceptedTest test) }
-    ensures refused { IfErr result (λ fault. fault ≢ Memory → (test : Option Code) → IsTest files.now source.now test → ⊥) }
+    ensures refused { IfErr result
+        (λ fault. fault ≢ Memory → (test : Option Code) → IsTest files.now source.now test → ⊥) }
 {
     match source {
         TestSource::Nothing => Ok(None),
@@ -45,8 +48,10 @@ pub(crate) fn test_of(
 fn program_of(alloc: Global, number: usize, text: &[u8]) -> Result<Verified, ConfigFault>
     ensures found { IfOk result (λ program. IsTextTest text.now program) }
     ensures limits { IfOk result (λ program. HasFile program) }
-    ensures same { IfOk result (λ program. (other : Code) → IsTextTest text.now other → other.names ≡ program.names) }
-    ensures refused { IfErr result (λ fault. fault ≢ Memory → (program : Code) → IsTextTest text.now program → ⊥) }
+    ensures same { IfOk result
+        (λ program. (other : Code) → IsTextTest text.now other → other.names ≡ program.names) }
+    ensures refused { IfErr result
+        (λ fault. fault ≢ Memory → (program : Code) → IsTextTest text.now program → ⊥) }
 {
     match kd_expr::read(alloc, text) {
         Ok(expr) => program_of_expr(alloc, number, expr),
@@ -68,7 +73,8 @@ fn unread(number: usize, fault: ExprFault) -> ConfigFault
 fn program_of_expr(alloc: Global, number: usize, expr: Expr) -> Result<Verified, ConfigFault>
     ensures found { IfOk result (λ program. IsProgramOf (tree_of expr) program) }
     ensures limits { IfOk result (λ program. HasFile program) }
-    ensures refused { IfErr result (λ fault. fault ≢ Memory → (program : Code) → IsProgramOf (tree_of expr) program → ⊥) }
+    ensures refused { IfErr result
+        (λ fault. fault ≢ Memory → (program : Code) → IsProgramOf (tree_of expr) program → ⊥) }
 {
     match kd_expr::type_of(expr) {
         Ok(test) => program_of_test(alloc, number, &test),
@@ -81,7 +87,8 @@ fn program_of_test(alloc: Global, number: usize, test: &Typed) -> Result<Verifie
     requires { test_type (tree_of test.now) ≡ Ok tt }
     ensures found { IfOk result (λ program. IsProgramOf (tree_of test.now) program) }
     ensures limits { IfOk result (λ program. HasFile program) }
-    ensures refused { IfErr result (λ fault. fault ≢ Memory → (program : Code) → IsProgramOf (tree_of test.now) program → ⊥) }
+    ensures refused { IfErr result
+        (λ fault. fault ≢ Memory → (program : Code) → IsProgramOf (tree_of test.now) program → ⊥) }
 {
     match compile(alloc, test) {
         Ok(program) => {
@@ -111,8 +118,10 @@ fn program_named(
     files: &[TokenFile],
 ) -> Result<Verified, ConfigFault>
     ensures found { IfOk result (λ program. IsFileTest files.now name.now program) }
-    ensures same { IfOk result (λ program. (other : Code) → IsFileTest files.now name.now other → other ≡ program) }
-    ensures refused { IfErr result (λ fault. fault ≢ Memory → (program : Code) → IsFileTest files.now name.now program → ⊥) }
+    ensures same { IfOk result
+        (λ program. (other : Code) → IsFileTest files.now name.now other → other ≡ program) }
+    ensures refused { IfErr result
+        (λ fault. fault ≢ Memory → (program : Code) → IsFileTest files.now name.now program → ⊥) }
 {
     match file_named(name, files) {
         Some(bytes) => program_in(alloc, number, bytes),
@@ -123,8 +132,11 @@ fn program_named(
 // The program of a token file's bytes, where it is accepted.
 fn program_in(alloc: Global, number: usize, bytes: &[u8]) -> Result<Verified, ConfigFault>
     ensures found { IfOk result (λ program. IsFileOf bytes.now program × Accepts program) }
-    ensures same { IfOk result (λ program. (other : Code) → IsFileOf bytes.now other → other ≡ program) }
-    ensures refused { IfErr result (λ fault. fault ≢ Memory → (program : Code) → IsFileOf bytes.now program → Accepts program → ⊥) }
+    ensures same { IfOk result
+        (λ program. (other : Code) → IsFileOf bytes.now other → other ≡ program) }
+    ensures refused { IfErr result
+        (λ fault. fault ≢ Memory → (program : Code) → IsFileOf bytes.now program → Accepts program
+        → ⊥) }
 {
     match Program::read(alloc, bytes) {
         Ok(program) => verified(alloc, number, program),

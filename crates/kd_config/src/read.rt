@@ -12,17 +12,20 @@ use crate::token_file::TokenFile;
 use std::alloc::Global;
 
 impl Config {
-    /// The configuration that a text means: JSON in UTF-8 with the settings of the server, where the tests
-    /// of its classes are texts or in token files. Of files with equal names the first counts.
+    /// The configuration that a text means: JSON in UTF-8 with the settings of the server, where
+    /// the tests of its classes are texts or in token files. Of files with equal names the first
+    /// counts.
     ///
     /// # Errors
     ///
-    /// The first fault: `Json`; then from the root on `Missing`, `Unknown` or `BadValue`; then subnet by
-    /// subnet `PoolOutside`, `Overlap` or `DuplicateReservation`; then class by class `Expression` or
-    /// `Tokens`; then `Class`. `Memory` in place of any answer.
+    /// The first fault: `Json`; then from the root on `Missing`, `Unknown` or `BadValue`; then
+    /// subnet by subnet `PoolOutside`, `Overlap` or `DuplicateReservation`; then class by class
+    /// `Expression` or `Tokens`; then `Class`. `Memory` in place of any answer.
     pub fn read(alloc: Global, text: &[u8], files: &[TokenFile]) -> Result<Config, ConfigFault>
         ensures found { IfOk result (λ c. IsConfigured text.now files.now c) }
-        ensures refused { IfErr result (λ fault. fault ≢ Memory → (c : Configuration) → IsConfigured text.now files.now c → ⊥) }
+        ensures refused { IfErr result
+            (λ fault. fault ≢ Memory → (c : Configuration) → IsConfigured text.now files.now c
+            → ⊥) }
     {
         let Settings {
             server,

@@ -35,7 +35,7 @@ pub(crate) fn check_rules(
     check_each(alloc, subnets, apart, at)
 }
 
-// The subnets obey the rules, one after another, and have no pool behind so many.
+// The subnets obey the rules, one after another, and have no pool after so many.
 fn check_each(
     alloc: Global,
     subnets: &[Subnet],
@@ -89,7 +89,7 @@ fn all_ranges(alloc: Global, subnets: &[Subnet]) -> Result<Vec<Range>, AllocErro
     Ok(ranges)
 }
 
-// Puts the addresses of pools behind others.
+// Puts the addresses of pools after others.
 fn push_ranges(ranges: &mut Vec<Range>, pools: &[Pool]) -> Result<(), AllocError>
     ensures { OnOk result (ranges.new.items ≡ ranges.old.items ++ ranges_in pools.now) }
 {
@@ -110,7 +110,8 @@ fn check_subnet(
     earlier: &mut IndexSet<u32>,
 ) -> Result<usize, ConfigFault>
     ensures left { IfOk result (λ left. left ≡ apart - length subnet.now.pools) }
-    ensures joined { IfOk result (λ _. keys earlier.new ≡ keys earlier.old ++ reserved subnet.now.reservations) }
+    ensures joined { IfOk result
+        (λ _. keys earlier.new ≡ keys earlier.old ++ reserved subnet.now.reservations) }
     ensures checked { GivesAs (λ _. tt) result
         (must (nat_le (length subnet.now.pools) apart && obeys (keys earlier.old) subnet.now)) }
 {
@@ -183,8 +184,10 @@ fn check_reservations(
     at: &Place<'_>,
     earlier: &mut IndexSet<u32>,
 ) -> Result<(), ConfigFault>
-    ensures joined { IfOk result (λ _. keys earlier.new ≡ keys earlier.old ++ reserved reservations.now) }
-    ensures checked { Means result (must (may_all_reserve prefix (keys earlier.old) [] reservations.now)) }
+    ensures joined { IfOk result
+        (λ _. keys earlier.new ≡ keys earlier.old ++ reserved reservations.now) }
+    ensures checked { Means result
+        (must (may_all_reserve prefix (keys earlier.old) [] reservations.now)) }
     ensures kind { IfErr result (λ fault. fault ≢ Memory → config_fault_number fault
         ≡ (if may_all_reserve prefix (keys earlier.old) [] (before_outside prefix reservations.now)
         then 74 else 76)) }
@@ -214,9 +217,14 @@ fn check_reservation<'a>(
     earlier: &mut IndexSet<u32>,
     clients: &mut IndexSet<(bool, &'a [u8])>,
 ) -> Result<(), ConfigFault>
-    ensures reserved { IfOk result (λ _. keys earlier.new ≡ keys earlier.old ++ reservation.now.address ∷ []) }
-    ensures known { IfOk result (λ _. map client_by (keys clients.new) ≡ map client_by (keys clients.old) ++ reservation.now.identity ∷ []) }
-    ensures checked { Means result (must (may_reserve prefix (keys earlier.old) reservation.now && is_new (map client_by (keys clients.old)) reservation.now.identity)) }
+    ensures reserved { IfOk result
+        (λ _. keys earlier.new ≡ keys earlier.old ++ reservation.now.address ∷ []) }
+    ensures known { IfOk result
+        (λ _. map client_by (keys clients.new) ≡ map client_by (keys clients.old)
+        ++ reservation.now.identity ∷ []) }
+    ensures checked { Means result
+        (must (may_reserve prefix (keys earlier.old) reservation.now
+        && is_new (map client_by (keys clients.old)) reservation.now.identity)) }
     ensures kind { IfErr result (λ fault. fault ≢ Memory → config_fault_number fault
         ≡ (if has_address prefix reservation.now.address then 76 else 74)) }
 {
@@ -232,7 +240,8 @@ fn check_address(
     at: &Place<'_>,
     earlier: &mut IndexSet<u32>,
 ) -> Result<(), ConfigFault>
-    ensures joined { IfOk result (λ _. keys earlier.new ≡ keys earlier.old ++ reservation.now.address ∷ []) }
+    ensures joined { IfOk result
+        (λ _. keys earlier.new ≡ keys earlier.old ++ reservation.now.address ∷ []) }
     ensures checked { Means result (must (may_reserve prefix (keys earlier.old) reservation.now)) }
     ensures kind { IfErr result (λ fault. fault ≢ Memory → config_fault_number fault
         ≡ (if has_address prefix reservation.now.address then 76 else 74)) }
@@ -254,7 +263,9 @@ fn check_client<'a>(
     at: &Place<'_>,
     earlier: &mut IndexSet<(bool, &'a [u8])>,
 ) -> Result<(), ConfigFault>
-    ensures joined { IfOk result (λ _. map client_by (keys earlier.new) ≡ map client_by (keys earlier.old) ++ identity.now ∷ []) }
+    ensures joined { IfOk result
+        (λ _. map client_by (keys earlier.new) ≡ map client_by (keys earlier.old) ++ identity.now
+        ∷ []) }
     ensures checked { Means result (must (is_new (map client_by (keys earlier.old)) identity.now)) }
     ensures kind { IfErr result (λ fault. fault ≢ Memory → config_fault_number fault ≡ 76) }
 {

@@ -24,7 +24,9 @@ pub(crate) fn check_keys(
     known: &[&str],
     required: &[&str],
 ) -> Result<(), ConfigFault>
-    ensures { Means result (must (has_keys (map (λ k. k.now) known.now) (map (λ k. k.now) required.now) (view value.now))) }
+    ensures { Means result
+        (must (has_keys (map (λ k. k.now) known.now) (map (λ k. k.now) required.now)
+        (view value.now))) }
 {
     let Some(members) = value.as_object() else {
         return Err(bad_place(alloc, at));
@@ -40,7 +42,9 @@ pub(crate) fn check_keys(
 
 // The least key that is not known.
 fn unknown_key<'a>(members: &'a Map<String, Value>, known: &[&str]) -> Option<&'a String>
-    ensures { option_map (λ k. k.now) result ≡ find (λ k. not (is_one_of known.now (string_bytes k))) (map (λ m. m.0) members.now.entries) }
+    ensures { option_map (λ k. k.now) result
+        ≡ find (λ k. not (is_one_of known.now (string_bytes k)))
+        (map (λ m. m.0) members.now.entries) }
 {
     members.keys().find(|key| !is_key(key.as_str(), known))
 }

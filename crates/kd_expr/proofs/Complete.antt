@@ -14,7 +14,7 @@ Answers {A} o a rest = ◌≡◌ {A = Option (A × List Lexeme)} o (Some (a, res
 abbrev pub Refuses : {A : Type 0} → Option (A × List Lexeme) → Type 0
 Refuses {A} o = ◌≡◌ {A = Option (A × List Lexeme)} o None
 
--- a chain's loop stands behind the tokens, with this in hand
+-- a chain's loop stands after the tokens, with this in hand
 pub record InHand (r : Reader Tree) (next : Reader ℕ) (operand : Reader Tree) (join : Tree → Tree → Tree) (ts rest : List Lexeme) (t : Tree) : Type 0 where
   pub count : ℕ
   pub enough : length rest ≤ count
@@ -59,7 +59,7 @@ pub record Stops (rest : List Lexeme) : Type 0 where
   pub no_and : Refuses (word_here (codes "and") rest)
   pub no_or : Refuses (word_here (codes "or") rest)
 
--- a whole expression's loop stands behind it, where nothing of an operand follows
+-- a whole expression's loop stands after it, where nothing of an operand follows
 pub record ReadsAny (n : ℕ) (us : List Lexeme) (t : Tree) : Type 0 where
   pub reads : (rest : List Lexeme) → StopsCompare rest → Refuses (word_here (codes "and") rest) → InHand (or_at (reading.below n)) (word_here (codes "or")) (and_at (reading.below n)) or_of (us ++ rest) rest t
 

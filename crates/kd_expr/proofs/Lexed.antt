@@ -37,7 +37,7 @@ string_sound at bytes x rest e =
 pub digit_in_run : (b : ℕ) → a_digit b ≡ true → in_run b ≡ true
 digit_in_run b h = rw h refl
 
--- the digits behind a prefix
+-- the digits after a prefix
 record IsHex (run digits : List ℕ) : Type 0 where
   x : ℕ
   is : run ≡ 48 ∷ x ∷ digits

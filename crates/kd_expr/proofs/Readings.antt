@@ -42,7 +42,7 @@ pub record DeeperIsSound (m : ℕ) (deeper : Deeper) : Type 0 where
   pub operand : IsSound (Inner not_level m) deeper.operand
   pub name : IsSound (InnerName m) deeper.name
 
--- what may stand behind a name at a place
+-- what may stand after a name at a place
 abbrev Behind : ℕ → ℕ → List ℕ → List Lexeme → Tree → Type 0
 Behind m at name us t = Spells primary_level m (NameAt at name ∷ us) t
 

@@ -100,7 +100,7 @@ scans_word at bytes x rest ts c s =
     let place : at + (length bytes - length rest) ≡ at + length c.word = omega (arith, size, length-append c.word rest) in
     subst (λ v. Scans at v (x ∷ ts)) (sym c.is) (token c.word rest c.spelled (subst (λ v. Scans v rest ts) place s))
 
--- the tokens behind a cut
+-- the tokens after a cut
 abbrev after_cut : ℕ → ℕ → List ℕ → Option (Lexeme × List ℕ) → List Lexeme
 after_cut k at bytes None = BadAt at ∷ []
 after_cut k at bytes (Some x) = x.0 ∷ tokens_from k (at + (length bytes - length x.1)) x.1

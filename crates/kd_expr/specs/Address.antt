@@ -11,7 +11,7 @@ abbrev pub Each : (ℕ → Bool) → List ℕ → Type 0
 Each p [] = Unit {0}
 Each p (b ∷ bytes) = (p b ≡ true) × Each p bytes
 
--- the number of decimal digits that stand behind digits of this number
+-- the number of decimal digits that stand after digits of this number
 abbrev pub decimal_behind : ℕ → List ℕ → ℕ
 decimal_behind n [] = n
 decimal_behind n (d ∷ digits) = decimal_behind (10 * n + (d - 48)) digits
@@ -30,4 +30,5 @@ pub record IsPart (text : List ℕ) (value : ℕ) : Type 0 where
 
 -- an address: four parts with dots between them, and its four bytes
 pub data IsAddress : List ℕ → List ℕ → Type 0 where
-  four : (s t u v : List ℕ) {a b c d : ℕ} → IsPart s a → IsPart t b → IsPart u c → IsPart v d → IsAddress (s ++ 46 ∷ (t ++ 46 ∷ (u ++ 46 ∷ v))) (a ∷ b ∷ c ∷ d ∷ [])
+  four : (s t u v : List ℕ) {a b c d : ℕ} → IsPart s a → IsPart t b → IsPart u c → IsPart v d
+      → IsAddress (s ++ 46 ∷ (t ++ 46 ∷ (u ++ 46 ∷ v))) (a ∷ b ∷ c ∷ d ∷ [])

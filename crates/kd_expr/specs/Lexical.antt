@@ -1,6 +1,6 @@
--- The words of a class test (Kea Administrator Reference Manual, chapter Client Classification): which
--- bytes spell which token, and how blanks and words make up a text. Bytes are ASCII codes, and a word
--- is the longest that stands at its place.
+-- The words of a class test (Kea Administrator Reference Manual, chapter Client Classification):
+-- which bytes spell which token, and how blanks and words make up a text. Bytes are ASCII codes,
+-- and a word is the longest that stands at its place.
 use Rattle.std.specs.Prelude.{◌≡◌, ℕ, ◌+◌, Bool, true, false, not, ◌&&◌, ◌||◌, ◌==◌, nat_le, List, [], ◌∷◌, ◌++◌, length}
 use Rattle.kd_expr.specs.Address.{a_digit, Each, decimal, IsAddress}
 
@@ -54,17 +54,25 @@ WordEnds p (b ∷ bytes) = p b ≡ false
 
 -- a word: its place, its bytes, what follows them, and the token that they spell
 pub data Word : ℕ → List ℕ → List ℕ → Lexeme → Type 0 where
-  string_word : {at : ℕ} {s rest : List ℕ} → Each in_string s → Word at (39 ∷ (s ++ 39 ∷ [])) rest (StringAt at s)
-  hex_word : {at x d : ℕ} {ds rest : List ℕ} → is_x x ≡ true → Each is_hex_digit (d ∷ ds) → WordEnds in_run rest → Word at (48 ∷ x ∷ d ∷ ds) rest (HexAt at (d ∷ ds))
-  address_word : {at : ℕ} {text a rest : List ℕ} → IsAddress text a → WordEnds in_run rest → Word at text rest (AddressAt at a)
-  number_word : {at d : ℕ} {ds rest : List ℕ} → Each a_digit (d ∷ ds) → WordEnds in_run rest → Word at (d ∷ ds) rest (NumberAt at (decimal (d ∷ ds)))
-  minus_word : {at d : ℕ} {ds rest : List ℕ} → Each a_digit (d ∷ ds) → WordEnds in_run rest → Word at (45 ∷ d ∷ ds) rest (MinusAt at (decimal (d ∷ ds)))
-  name_word : {at c : ℕ} {cs rest : List ℕ} → a_letter c ≡ true → Each in_name cs → WordEnds in_name rest → Word at (c ∷ cs) rest (NameAt at (c ∷ cs))
+  string_word : {at : ℕ} {s rest : List ℕ} → Each in_string s
+      → Word at (39 ∷ (s ++ 39 ∷ [])) rest (StringAt at s)
+  hex_word : {at x d : ℕ} {ds rest : List ℕ} → is_x x ≡ true → Each is_hex_digit (d ∷ ds)
+      → WordEnds in_run rest → Word at (48 ∷ x ∷ d ∷ ds) rest (HexAt at (d ∷ ds))
+  address_word : {at : ℕ} {text a rest : List ℕ} → IsAddress text a → WordEnds in_run rest
+      → Word at text rest (AddressAt at a)
+  number_word : {at d : ℕ} {ds rest : List ℕ} → Each a_digit (d ∷ ds) → WordEnds in_run rest
+      → Word at (d ∷ ds) rest (NumberAt at (decimal (d ∷ ds)))
+  minus_word : {at d : ℕ} {ds rest : List ℕ} → Each a_digit (d ∷ ds) → WordEnds in_run rest
+      → Word at (45 ∷ d ∷ ds) rest (MinusAt at (decimal (d ∷ ds)))
+  name_word : {at c : ℕ} {cs rest : List ℕ} → a_letter c ≡ true → Each in_name cs
+      → WordEnds in_name rest → Word at (c ∷ cs) rest (NameAt at (c ∷ cs))
   sign_word : {at b : ℕ} {rest : List ℕ} → a_sign b ≡ true → Word at (b ∷ []) rest (SignAt at b)
   equal_word : {at : ℕ} {rest : List ℕ} → Word at (61 ∷ 61 ∷ []) rest (SignAt at 61)
 
 -- a text from a place on: blanks and words, and the tokens of the words
 pub data Scans : ℕ → List ℕ → List Lexeme → Type 0 where
   finished : {at : ℕ} → Scans at [] []
-  blank : {at b : ℕ} {bytes : List ℕ} {ts : List Lexeme} → a_blank b ≡ true → Scans (at + 1) bytes ts → Scans at (b ∷ bytes) ts
-  token : {at : ℕ} (word rest : List ℕ) {x : Lexeme} {ts : List Lexeme} → Word at word rest x → Scans (at + length word) rest ts → Scans at (word ++ rest) (x ∷ ts)
+  blank : {at b : ℕ} {bytes : List ℕ} {ts : List Lexeme} → a_blank b ≡ true
+      → Scans (at + 1) bytes ts → Scans at (b ∷ bytes) ts
+  token : {at : ℕ} (word rest : List ℕ) {x : Lexeme} {ts : List Lexeme} → Word at word rest x
+      → Scans (at + length word) rest ts → Scans at (word ++ rest) (x ∷ ts)

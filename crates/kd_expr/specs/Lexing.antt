@@ -1,6 +1,7 @@
--- The lexer, computed: which word stands at the front of bytes, and which tokens a text has. Proofs tie
--- it to the definition of words. No public contract of this crate cites it; kd_config and kd_commands say by
--- its `address_of` which text spells an address, and kd_config by its `behind_of` what follows blanks.
+-- The lexer, computed: which word stands at the front of bytes, and which tokens a text has. Proofs
+-- tie it to the definition of words. Of it public contracts cite `address_read`, the address that a
+-- text spells: by the clauses of `read_address` it is the one of `IsAddress` (`Address.antt`), where
+-- there is one, and none else. kd_config says by `behind_of` what follows blanks.
 use Rattle.std.specs.Prelude.{ℕ, zero, suc, ◌+◌, ◌-◌, Bool, true, false, ◌&&◌, ◌==◌, nat_le, List, [], ◌∷◌, length, Option, Some, None, if◌then◌else◌}
 use Rattle.kd_expr.specs.Address.{a_digit, decimal}
 use Rattle.kd_expr.specs.Lexical.{Lexeme, StringAt, HexAt, AddressAt, NumberAt, MinusAt, NameAt, SignAt, BadAt, a_blank, a_letter, is_hex_digit, a_sign, is_x, in_string, in_run, in_name}
@@ -38,11 +39,12 @@ all_pass p bytes = is_empty (behind_of p bytes)
 -- the number of the digits at the front, as a part of an address, and what follows
 unfoldable pub part_at_front : List ℕ → Option (ℕ × List ℕ)
 part_at_front text =
-    if nat_le 1 (length (front_of a_digit text)) && nat_le (length (front_of a_digit text)) 3 && nat_le (decimal (front_of a_digit text)) 255
+    if nat_le 1 (length (front_of a_digit text)) && nat_le (length (front_of a_digit text)) 3
+    && nat_le (decimal (front_of a_digit text)) 255
     then Some (decimal (front_of a_digit text), behind_of a_digit text)
     else None
 
--- the same behind a dot
+-- the same after a dot
 unfoldable pub part_after_dot : List ℕ → Option (ℕ × List ℕ)
 part_after_dot [] = None
 part_after_dot (b ∷ text) = if b == 46 then part_at_front text else None
@@ -50,47 +52,55 @@ part_after_dot (b ∷ text) = if b == 46 then part_at_front text else None
 -- the four bytes of an address
 unfoldable pub address_read : List ℕ → Option (List ℕ)
 address_read text =
-    and_then (part_at_front text) (λ a. and_then (part_after_dot a.1) (λ b. and_then (part_after_dot b.1) (λ c. and_then (part_after_dot c.1) (λ d.
+    and_then (part_at_front text)
+    (λ a. and_then (part_after_dot a.1)
+    (λ b. and_then (part_after_dot b.1) (λ c. and_then (part_after_dot c.1) (λ d.
     if is_empty d.1 then Some (a.0 ∷ b.0 ∷ c.0 ∷ d.0 ∷ []) else None))))
 
--- the digits behind a hexadecimal prefix
+-- the digits after a hexadecimal prefix
 unfoldable pub digits_after_0x : List ℕ → Option (List ℕ)
 digits_after_0x [] = None
 digits_after_0x (z ∷ []) = None
-digits_after_0x (z ∷ x ∷ ds) = if (z == 48 && is_x x) && (nat_le 1 (length ds) && all_pass is_hex_digit ds) then Some ds else None
+digits_after_0x (z ∷ x ∷ ds) =
+    if (z == 48 && is_x x)
+    && (nat_le 1 (length ds) && all_pass is_hex_digit ds) then Some ds else None
 
 -- the token of a run
 unfoldable pub token_of_run : ℕ → List ℕ → Option Lexeme
 token_of_run at run =
     if all_pass a_digit run then Some (NumberAt at (decimal run))
-    else or_else (digits_after_0x run) (λ digits. Some (HexAt at digits)) (and_then (address_read run) (λ a. Some (AddressAt at a)))
+    else or_else (digits_after_0x run) (λ digits. Some (HexAt at digits))
+    (and_then (address_read run) (λ a. Some (AddressAt at a)))
 
 -- a run and what follows it
 unfoldable pub run_cut : ℕ → List ℕ → Option (Lexeme × List ℕ)
-run_cut at bytes = and_then (token_of_run at (front_of in_run bytes)) (λ x. Some (x, behind_of in_run bytes))
+run_cut at bytes =
+    and_then (token_of_run at (front_of in_run bytes)) (λ x. Some (x, behind_of in_run bytes))
 
 -- a string of these bytes, where an apostrophe follows them
 abbrev pub closed : ℕ → List ℕ → List ℕ → Option (Lexeme × List ℕ)
 closed at s [] = None
 closed at s (b ∷ rest) = if b == 39 then Some (StringAt at s, rest) else None
 
--- a string behind its apostrophe, and what follows it
+-- a string after its apostrophe, and what follows it
 unfoldable pub string_cut : ℕ → List ℕ → Option (Lexeme × List ℕ)
 string_cut at bytes = closed at (front_of in_string bytes) (behind_of in_string bytes)
 
--- the token of a run behind a minus
+-- the token of a run after a minus
 abbrev pub minus_token : ℕ → List ℕ → Option Lexeme
-minus_token at run = if nat_le 1 (length run) && all_pass a_digit run then Some (MinusAt at (decimal run)) else None
+minus_token at run =
+    if nat_le 1 (length run) && all_pass a_digit run then Some (MinusAt at (decimal run)) else None
 
--- a number behind its minus, and what follows it
+-- a number after its minus, and what follows it
 unfoldable pub minus_cut : ℕ → List ℕ → Option (Lexeme × List ℕ)
-minus_cut at bytes = and_then (minus_token at (front_of in_run bytes)) (λ x. Some (x, behind_of in_run bytes))
+minus_cut at bytes =
+    and_then (minus_token at (front_of in_run bytes)) (λ x. Some (x, behind_of in_run bytes))
 
 -- a name, of which the first letter is known, and what follows it
 unfoldable pub name_cut : ℕ → List ℕ → Option (Lexeme × List ℕ)
 name_cut at bytes = Some (NameAt at (front_of in_name bytes), behind_of in_name bytes)
 
--- an equality sign behind its first byte, and what follows it
+-- an equality sign after its first byte, and what follows it
 unfoldable pub equal_cut : ℕ → List ℕ → Option (Lexeme × List ℕ)
 equal_cut at [] = None
 equal_cut at (b ∷ rest) = if b == 61 then Some (SignAt at 61, rest) else None

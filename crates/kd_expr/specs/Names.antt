@@ -1,5 +1,5 @@
--- The names of options and of message fields in a class test (Kea Administrator Reference Manual, chapter
--- Client Classification), in lower case as written here.
+-- The names of options and of message fields in a class test (Kea Administrator Reference Manual,
+-- chapter Client Classification), in lower case as written here.
 use Rattle.std.specs.Prelude.{ℕ, List, codes, bytes_eq, Option, Some, None, if◌then◌else◌}
 use Rattle.kd_expr.specs.declared.node.Field.{Field}
 use Rattle.kd_expr.specs.declared.node.Field.TheVariants.{Mac, Hlen, Htype, Ciaddr, Giaddr, Yiaddr, Siaddr, Msgtype, Transid}

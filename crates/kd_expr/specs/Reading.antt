@@ -1,5 +1,5 @@
--- The reader of tokens, computed: which tree stands at the front of tokens, and what is left behind it.
--- Proofs tie it to the grammar; no public contract cites it.
+-- The reader of tokens, computed: which tree stands at the front of tokens, and what is left behind
+-- it. Proofs tie it to the grammar; no public contract cites it.
 use Rattle.std.specs.Prelude.{ℕ, zero, suc, ◌^◌, ℤ, pos, Bool, true, false, ◌&&◌, ◌==◌, nat_lt, nat_le, List, [], ◌∷◌, length, codes, bytes_eq, Option, Some, None, if◌then◌else◌}
 use Rattle.kd_expr.specs.Grammar.{hex_bytes, minus}
 use Rattle.kd_expr.specs.Lexical.{Lexeme, StringAt, HexAt, AddressAt, NumberAt, MinusAt, NameAt, SignAt, BadAt}
@@ -99,7 +99,8 @@ abbrev pub class_name : Lexeme → Option (List ℕ)
 class_name (StringAt at s) = if nat_le 1 (length s) && nat_le (length s) 255 then Some s else None
 class_name _ = None
 
--- the readers one nesting deeper: of a whole expression, of an operand of `not`, and of a class's name
+-- the readers one nesting deeper: of a whole expression, of an operand of `not`, and of a class's
+-- name
 pub record Deeper : Type 0 where
   pub any : Reader Tree
   pub operand : Reader Tree
@@ -113,11 +114,15 @@ bracketed code =
 
 -- what stands behind `option`
 unfoldable pub option_at : ℕ → Reader Tree
-option_at at = seq (bracketed code_of_option) (λ c. done (if c.1 then OptionExists at c.0 else OptionValue at c.0))
+option_at at =
+    seq (bracketed code_of_option)
+    (λ c. done (if c.1 then OptionExists at c.0 else OptionValue at c.0))
 
 -- what stands behind `relay4`
 unfoldable pub relay_at : ℕ → Reader Tree
-relay_at at = seq (bracketed code_of_relay) (λ c. done (if c.1 then RelayExists at c.0 else RelayValue at c.0))
+relay_at at =
+    seq (bracketed code_of_relay)
+    (λ c. done (if c.1 then RelayExists at c.0 else RelayValue at c.0))
 
 -- what stands behind `pkt4`
 unfoldable pub field_after : ℕ → Reader Tree
@@ -125,13 +130,15 @@ field_after at = seq (sign_here 46) (λ _. seq (one field_of) (λ part. done (Fi
 
 -- what stands behind `pkt`
 unfoldable pub packet_at : ℕ → Reader Tree
-packet_at at = seq (sign_here 46) (λ _. seq (word_here (codes "len")) (λ _. done (FieldValue at Length)))
+packet_at at =
+    seq (sign_here 46) (λ _. seq (word_here (codes "len")) (λ _. done (FieldValue at Length)))
 
 -- what stands behind `member`
 unfoldable pub member_at : Deeper → ℕ → Reader Tree
-member_at deeper at = seq (sign_here 40) (λ _. seq deeper.name (λ s. seq (sign_here 41) (λ _. done (Member at s))))
+member_at deeper at =
+    seq (sign_here 40) (λ _. seq deeper.name (λ s. seq (sign_here 41) (λ _. done (Member at s))))
 
--- an operand, and this sign behind it
+-- an operand, and this sign after it
 unfoldable pub operand_then : Deeper → ℕ → Reader Tree
 operand_then deeper b = seq deeper.any (λ a. seq (sign_here b) (λ _. done a))
 
@@ -146,7 +153,8 @@ group_at deeper = seq (sign_here 40) (λ at. seq (operand_then deeper 41) (λ a.
 -- two operands in brackets
 unfoldable pub operands_in_brackets : Deeper → Reader (Tree × Tree)
 operands_in_brackets deeper =
-    seq (sign_here 40) (λ _. seq (operand_then deeper 44) (λ a. seq (operand_then deeper 41) (λ b. done (a, b))))
+    seq (sign_here 40) (λ _. seq (operand_then deeper 44)
+    (λ a. seq (operand_then deeper 41) (λ b. done (a, b))))
 
 -- what stands behind `ifelse`
 unfoldable pub ifelse_at : Deeper → ℕ → Reader Tree
@@ -158,21 +166,27 @@ ifelse_at deeper at =
 unfoldable pub substring_after : Deeper → ℕ → Reader Tree
 substring_after deeper at =
     seq (sign_here 40) (λ _. seq (operand_then deeper 44) (λ a. seq (one signed) (λ start.
-    seq (sign_here 44) (λ _. seq (one length_of_part) (λ len. seq (sign_here 41) (λ _. done (Substring at a start len)))))))
+    seq (sign_here 44) (λ _. seq (one length_of_part)
+    (λ len. seq (sign_here 41) (λ _. done (Substring at a start len)))))))
 
--- what stands behind the name of a form with operands
+-- what stands after the name of a form with operands
 unfoldable pub form_at : Deeper → ℕ → List ℕ → Reader Tree
 form_at deeper at name =
     if bytes_eq name (codes "substring") then substring_after deeper at
     else if bytes_eq name (codes "ifelse") then ifelse_at deeper at
-    else if bytes_eq name (codes "concat") then seq (operands_in_brackets deeper) (λ x. done (Concat at x.0 x.1))
-    else if bytes_eq name (codes "hexstring") then seq (operands_in_brackets deeper) (λ x. done (HexString at x.0 x.1))
-    else if bytes_eq name (codes "lcase") then seq (operand_in_brackets deeper) (λ a. done (Lower at a))
-    else if bytes_eq name (codes "ucase") then seq (operand_in_brackets deeper) (λ a. done (Upper at a))
-    else if bytes_eq name (codes "uint32totext") then seq (operand_in_brackets deeper) (λ a. done (IntToText at a))
+    else if bytes_eq name (codes "concat") then seq (operands_in_brackets deeper)
+    (λ x. done (Concat at x.0 x.1))
+    else if bytes_eq name (codes "hexstring") then seq (operands_in_brackets deeper)
+    (λ x. done (HexString at x.0 x.1))
+    else if bytes_eq name (codes "lcase") then seq (operand_in_brackets deeper)
+    (λ a. done (Lower at a))
+    else if bytes_eq name (codes "ucase") then seq (operand_in_brackets deeper)
+    (λ a. done (Upper at a))
+    else if bytes_eq name (codes "uint32totext") then seq (operand_in_brackets deeper)
+    (λ a. done (IntToText at a))
     else (λ ts. None)
 
--- what stands behind a name
+-- what stands after a name
 unfoldable pub named_at : Deeper → ℕ → List ℕ → Reader Tree
 named_at deeper at name =
     if bytes_eq name (codes "option") then option_at at
@@ -194,15 +208,18 @@ primary_at deeper (NameAt at name ∷ ts) = named_at deeper at name ts
 primary_at deeper (SignAt at b ∷ ts) = group_at deeper (SignAt at b ∷ ts)
 primary_at deeper (BadAt at ∷ ts) = None
 
--- at most k further operands behind the first, grouped to the left
-unfoldable pub operands_joined : Reader ℕ → Reader Tree → (Tree → Tree → Tree) → ℕ → Tree → Reader Tree
+-- at most k further operands after the first, grouped to the left
+unfoldable pub operands_joined : Reader ℕ → Reader Tree → (Tree → Tree → Tree) → ℕ → Tree
+    → Reader Tree
 operands_joined next operand join zero first = done first
 operands_joined next operand join (suc k) first =
-    either next (λ _. seq operand (λ b. operands_joined next operand join k (join first b))) (done first)
+    either next (λ _. seq operand (λ b. operands_joined next operand join k (join first b)))
+    (done first)
 
 -- an operand and all further ones
 unfoldable pub chain : Reader ℕ → Reader Tree → (Tree → Tree → Tree) → Reader Tree
-chain next operand join ts = and_then (operand ts) (λ a. operands_joined next operand join (length a.1) a.0 a.1)
+chain next operand join ts =
+    and_then (operand ts) (λ a. operands_joined next operand join (length a.1) a.0 a.1)
 
 -- the left operand's place is the node's
 abbrev pub sum_of : Tree → Tree → Tree
@@ -223,12 +240,14 @@ sum_at deeper = chain (sign_here 43) (primary_at deeper) sum_of
 -- a comparison, or a sum alone
 unfoldable pub compare_at : Deeper → Reader Tree
 compare_at deeper =
-    seq (sum_at deeper) (λ a. either (sign_here 61) (λ _. seq (sum_at deeper) (λ b. done (Equal (at_of a) a b))) (done a))
+    seq (sum_at deeper) (λ a. either (sign_here 61)
+    (λ _. seq (sum_at deeper) (λ b. done (Equal (at_of a) a b))) (done a))
 
 -- a negation, or a comparison
 unfoldable pub not_at : Deeper → Reader Tree
 not_at deeper =
-    either (word_here (codes "not")) (λ at. seq deeper.operand (λ a. done (Not at a))) (compare_at deeper)
+    either (word_here (codes "not")) (λ at. seq deeper.operand (λ a. done (Not at a)))
+    (compare_at deeper)
 
 -- a conjunction
 unfoldable pub and_at : Deeper → Reader Tree

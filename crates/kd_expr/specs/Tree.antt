@@ -1,5 +1,5 @@
--- The tree of a class test (Kea Administrator Reference Manual, chapter Client Classification), without
--- memory. Each node begins with the place of its first byte.
+-- The tree of a class test (Kea Administrator Reference Manual, chapter Client Classification),
+-- without memory. Each node begins with the place of its first byte.
 use Rattle.std.specs.Prelude.{ℕ, ℤ, List, Option}
 use Rattle.kd_expr.specs.declared.node.Field.{Field}
 

@@ -1,6 +1,6 @@
--- The types of class tests (Kea Administrator Reference Manual, chapter Client Classification): the type
--- of an expression, or its first fault. Operands are taken from left to right; each is typed wholly and
--- then checked against what is wanted, where a number stands for its four bytes.
+-- The types of class tests (Kea Administrator Reference Manual, chapter Client Classification): the
+-- type of an expression, or its first fault. Operands are taken from left to right; each is typed
+-- wholly and then checked against what is wanted, where a number stands for its four bytes.
 use Rattle.std.specs.Prelude.{ℕ, Result, Ok, Err}
 use Rattle.kd_expr.specs.Tree.{Tree, Literal, Int, OptionValue, RelayValue, FieldValue, OptionExists, RelayExists, Member, Equal, Not, And, Or, Group, Concat, IfElse, Substring, HexString, Lower, Upper, IntToText, at_of}
 use Rattle.kd_expr.specs.declared.fault.TypeFault.{TypeFault}
@@ -45,7 +45,8 @@ want_int at (Ok types.Bytes) = Err (WantsInt at)
 want_int at (Err fault) = Err fault
 
 -- the first fault, or else the second answer
-abbrev pub andthen : {A : Type 0} → Result (Unit {0}) TypeFault → Result A TypeFault → Result A TypeFault
+abbrev pub andthen : {A : Type 0} → Result (Unit {0}) TypeFault → Result A TypeFault
+    → Result A TypeFault
 andthen (Ok done) answer = answer
 andthen (Err fault) answer = Err fault
 
@@ -59,15 +60,28 @@ type_of (FieldValue at field) = Ok (field_type field)
 type_of (OptionExists at code) = Ok types.Bool
 type_of (RelayExists at code) = Ok types.Bool
 type_of (Member at name) = Ok types.Bool
-type_of (Equal at a b) = andthen (want_bytes (at_of a) (type_of a)) (andthen (want_bytes (at_of b) (type_of b)) (Ok types.Bool))
+type_of (Equal at a b) =
+    andthen (want_bytes (at_of a) (type_of a))
+    (andthen (want_bytes (at_of b) (type_of b)) (Ok types.Bool))
 type_of (Not at a) = andthen (want_bool (at_of a) (type_of a)) (Ok types.Bool)
-type_of (And at a b) = andthen (want_bool (at_of a) (type_of a)) (andthen (want_bool (at_of b) (type_of b)) (Ok types.Bool))
-type_of (Or at a b) = andthen (want_bool (at_of a) (type_of a)) (andthen (want_bool (at_of b) (type_of b)) (Ok types.Bool))
+type_of (And at a b) =
+    andthen (want_bool (at_of a) (type_of a))
+    (andthen (want_bool (at_of b) (type_of b)) (Ok types.Bool))
+type_of (Or at a b) =
+    andthen (want_bool (at_of a) (type_of a))
+    (andthen (want_bool (at_of b) (type_of b)) (Ok types.Bool))
 type_of (Group at a) = andthen (want_bool (at_of a) (type_of a)) (Ok types.Bool)
-type_of (Concat at a b) = andthen (want_bytes (at_of a) (type_of a)) (andthen (want_bytes (at_of b) (type_of b)) (Ok types.Bytes))
-type_of (IfElse at t a b) = andthen (want_bool (at_of t) (type_of t)) (andthen (want_bytes (at_of a) (type_of a)) (andthen (want_bytes (at_of b) (type_of b)) (Ok types.Bytes)))
+type_of (Concat at a b) =
+    andthen (want_bytes (at_of a) (type_of a))
+    (andthen (want_bytes (at_of b) (type_of b)) (Ok types.Bytes))
+type_of (IfElse at t a b) =
+    andthen (want_bool (at_of t) (type_of t))
+    (andthen (want_bytes (at_of a) (type_of a))
+    (andthen (want_bytes (at_of b) (type_of b)) (Ok types.Bytes)))
 type_of (Substring at a start len) = andthen (want_bytes (at_of a) (type_of a)) (Ok types.Bytes)
-type_of (HexString at a b) = andthen (want_bytes (at_of a) (type_of a)) (andthen (want_bytes (at_of b) (type_of b)) (Ok types.Bytes))
+type_of (HexString at a b) =
+    andthen (want_bytes (at_of a) (type_of a))
+    (andthen (want_bytes (at_of b) (type_of b)) (Ok types.Bytes))
 type_of (Lower at a) = andthen (want_bytes (at_of a) (type_of a)) (Ok types.Bytes)
 type_of (Upper at a) = andthen (want_bytes (at_of a) (type_of a)) (Ok types.Bytes)
 type_of (IntToText at a) = andthen (want_int (at_of a) (type_of a)) (Ok types.Bytes)

@@ -10,6 +10,7 @@ use crate::number::number;
 pub fn read_address(text: &[u8]) -> Option<[u8; 4]>
     ensures found { IfSome result (λ address. IsAddress text.now address) }
     ensures only { (address : List ℕ) → IsAddress text.now address → result ≡ Some address }
+    ensures spelled { result ≡ address_read text.now }
 {
     address_of(text)
 }
@@ -29,7 +30,7 @@ pub(crate) fn address_of(text: &[u8]) -> Option<[u8; 4]>
     }
 }
 
-// The part behind a dot.
+// The part after a dot.
 #[tactic(auto, unfolding(crate::specs::Lexing::part_after_dot))]
 fn next_part(text: &[u8]) -> Option<(u8, &[u8])>
     ensures { option_map (λ x. (x.0, x.1.now)) result ≡ part_after_dot text.now }

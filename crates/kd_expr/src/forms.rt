@@ -10,7 +10,7 @@ use crate::parser::{Source, any_deeper};
 use crate::take::expect_sign;
 use crate::token::{Sign, Token};
 
-// What the name at a place begins, of which the tokens behind the name are given.
+// What the name at a place begins, of which the tokens after the name are given.
 #[cycle(parser)]
 #[tactic(auto, unfolding(crate::specs::Reading::named_at))]
 pub(crate) fn named_of<'t, 'a>(
@@ -20,7 +20,8 @@ pub(crate) fn named_of<'t, 'a>(
     tokens: &'t [Token<'a>],
     depth: u8,
 ) -> Result<(Node, &'t [Token<'a>]), SyntaxFault>
-    ensures reads { ReadsAs (λ x. (tree_of x.0, lexemes x.1.now)) result (named_at (below depth) at name.now (lexemes tokens.now)) }
+    ensures reads { ReadsAs (λ x. (tree_of x.0, lexemes x.1.now)) result
+        (named_at (below depth) at name.now (lexemes tokens.now)) }
     ensures shorter { IfOk result (λ x. length x.1.now ≤ length tokens.now) }
 {
     if name == b"option".as_slice() {
@@ -48,7 +49,8 @@ fn form_of<'t, 'a>(
     tokens: &'t [Token<'a>],
     depth: u8,
 ) -> Result<(Node, &'t [Token<'a>]), SyntaxFault>
-    ensures reads { ReadsAs (λ x. (tree_of x.0, lexemes x.1.now)) result (form_at (below depth) at name.now (lexemes tokens.now)) }
+    ensures reads { ReadsAs (λ x. (tree_of x.0, lexemes x.1.now)) result
+        (form_at (below depth) at name.now (lexemes tokens.now)) }
     ensures shorter { IfOk result (λ x. length x.1.now ≤ length tokens.now) }
 {
     if name == b"substring".as_slice() {
@@ -82,7 +84,7 @@ fn form_of<'t, 'a>(
     }
 }
 
-// An operand behind the bracket at this place, and the sign that has to follow it.
+// An operand after the bracket at this place, and the sign that has to follow it.
 #[cycle(parser)]
 #[tactic(auto, unfolding(crate::specs::Reading::operand_then))]
 pub(crate) fn operand_before<'t, 'a>(
@@ -92,7 +94,8 @@ pub(crate) fn operand_before<'t, 'a>(
     open: usize,
     wanted: Sign,
 ) -> Result<(Box<Node>, &'t [Token<'a>]), SyntaxFault>
-    ensures reads { ReadsAs (λ x. (tree_of x.0.value, lexemes x.1.now)) result (operand_then (below depth) (sign_byte wanted) (lexemes tokens.now)) }
+    ensures reads { ReadsAs (λ x. (tree_of x.0.value, lexemes x.1.now)) result
+        (operand_then (below depth) (sign_byte wanted) (lexemes tokens.now)) }
     ensures shorter { IfOk result (λ x. length x.1.now ≤ length tokens.now) }
 {
     let (operand, rest) = any_deeper(source, tokens, depth, open)?;
@@ -108,7 +111,8 @@ fn one_operand<'t, 'a>(
     tokens: &'t [Token<'a>],
     depth: u8,
 ) -> Result<(Box<Node>, &'t [Token<'a>]), SyntaxFault>
-    ensures reads { ReadsAs (λ x. (tree_of x.0.value, lexemes x.1.now)) result (operand_in_brackets (below depth) (lexemes tokens.now)) }
+    ensures reads { ReadsAs (λ x. (tree_of x.0.value, lexemes x.1.now)) result
+        (operand_in_brackets (below depth) (lexemes tokens.now)) }
     ensures shorter { IfOk result (λ x. length x.1.now ≤ length tokens.now) }
 {
     let (open, rest) = expect_sign(tokens, Sign::Open, source.end)?;
@@ -123,7 +127,8 @@ fn two_operands<'t, 'a>(
     tokens: &'t [Token<'a>],
     depth: u8,
 ) -> Result<(Box<Node>, Box<Node>, &'t [Token<'a>]), SyntaxFault>
-    ensures reads { ReadsAs (λ x. ((tree_of x.0.value, tree_of x.1.value), lexemes x.2.now)) result (operands_in_brackets (below depth) (lexemes tokens.now)) }
+    ensures reads { ReadsAs (λ x. ((tree_of x.0.value, tree_of x.1.value), lexemes x.2.now)) result
+        (operands_in_brackets (below depth) (lexemes tokens.now)) }
     ensures shorter { IfOk result (λ x. length x.2.now ≤ length tokens.now) }
 {
     let (open, rest) = expect_sign(tokens, Sign::Open, source.end)?;
@@ -141,7 +146,8 @@ fn ifelse_of<'t, 'a>(
     tokens: &'t [Token<'a>],
     depth: u8,
 ) -> Result<(Node, &'t [Token<'a>]), SyntaxFault>
-    ensures reads { ReadsAs (λ x. (tree_of x.0, lexemes x.1.now)) result (ifelse_at (below depth) at (lexemes tokens.now)) }
+    ensures reads { ReadsAs (λ x. (tree_of x.0, lexemes x.1.now)) result
+        (ifelse_at (below depth) at (lexemes tokens.now)) }
     ensures shorter { IfOk result (λ x. length x.1.now ≤ length tokens.now) }
 {
     let (open, rest) = expect_sign(tokens, Sign::Open, source.end)?;
@@ -160,7 +166,8 @@ fn substring_of<'t, 'a>(
     tokens: &'t [Token<'a>],
     depth: u8,
 ) -> Result<(Node, &'t [Token<'a>]), SyntaxFault>
-    ensures reads { ReadsAs (λ x. (tree_of x.0, lexemes x.1.now)) result (substring_after (below depth) at (lexemes tokens.now)) }
+    ensures reads { ReadsAs (λ x. (tree_of x.0, lexemes x.1.now)) result
+        (substring_after (below depth) at (lexemes tokens.now)) }
     ensures shorter { IfOk result (λ x. length x.1.now ≤ length tokens.now) }
 {
     let (open, rest) = expect_sign(tokens, Sign::Open, source.end)?;

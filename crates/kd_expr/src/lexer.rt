@@ -7,9 +7,10 @@ use crate::class::{Class, all_of, is_blank, is_digit, is_letter, sign_of, split}
 use crate::token::{Kind, Sign, Token};
 use std::alloc::{AllocError, Global};
 
-// The tokens of a text. The last is bad where no word stands, and nothing behind it is looked at.
+// The tokens of a text. The last is bad where no word stands, and nothing after it is looked at.
 pub(crate) fn tokens_of<'a>(alloc: Global, text: &'a [u8]) -> Result<Vec<Token<'a>>, AllocError>
-    ensures { IfOk result (λ tokens. lexemes tokens.items ≡ tokens_from (length text.now) 0 text.now) }
+    ensures { IfOk result
+        (λ tokens. lexemes tokens.items ≡ tokens_from (length text.now) 0 text.now) }
 {
     let mut tokens = Vec::new(alloc);
     let mut rest = text;
@@ -69,7 +70,7 @@ fn word_at<'a>(at: usize, bytes: &'a [u8]) -> Option<(Token<'a>, &'a [u8])>
     }
 }
 
-// A string, behind its apostrophe.
+// A string, after its apostrophe.
 #[tactic(auto, unfolding(crate::specs::Lexing::string_cut))]
 fn string_at<'a>(at: usize, bytes: &'a [u8]) -> Option<(Token<'a>, &'a [u8])>
     ensures { option_map (λ x. (lexeme_of x.0, x.1.now)) result ≡ string_cut at bytes.now }
@@ -121,7 +122,7 @@ fn run_token<'a>(at: usize, run: &'a [u8]) -> Option<Token<'a>>
     })
 }
 
-// The digits behind a hexadecimal prefix.
+// The digits after a hexadecimal prefix.
 #[tactic(auto, unfolding(crate::specs::Lexing::digits_after_0x))]
 fn hex_digits(run: &[u8]) -> Option<&[u8]>
     ensures { option_copied result ≡ digits_after_0x run.now }
@@ -140,7 +141,7 @@ fn hex_digits(run: &[u8]) -> Option<&[u8]>
     }
 }
 
-// A number, behind its minus.
+// A number, after its minus.
 #[tactic(auto, unfolding(crate::specs::Lexing::minus_cut))]
 fn minus_at<'a>(at: usize, bytes: &'a [u8]) -> Option<(Token<'a>, &'a [u8])>
     ensures { option_map (λ x. (lexeme_of x.0, x.1.now)) result ≡ minus_cut at bytes.now }
@@ -174,7 +175,7 @@ fn name_at<'a>(at: usize, bytes: &'a [u8]) -> Option<(Token<'a>, &'a [u8])>
     ))
 }
 
-// An equality sign, behind its first byte.
+// An equality sign, after its first byte.
 #[tactic(auto, unfolding(crate::specs::Lexing::equal_cut))]
 fn equal_at<'a>(at: usize, bytes: &'a [u8]) -> Option<(Token<'a>, &'a [u8])>
     ensures { option_map (λ x. (lexeme_of x.0, x.1.now)) result ≡ equal_cut at bytes.now }

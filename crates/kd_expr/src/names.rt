@@ -21,7 +21,8 @@ pub(crate) fn option_of<'t, 'a>(
     at: usize,
     tokens: &'t [Token<'a>],
 ) -> Result<(Node, &'t [Token<'a>]), SyntaxFault>
-    ensures reads { ReadsAs (λ x. (tree_of x.0, lexemes x.1.now)) result (option_at at (lexemes tokens.now)) }
+    ensures reads { ReadsAs (λ x. (tree_of x.0, lexemes x.1.now)) result
+        (option_at at (lexemes tokens.now)) }
     ensures shorter { IfOk result (λ x. length x.1.now ≤ length tokens.now) }
 {
     let (_, rest) = expect_sign(tokens, Sign::Left, source.end)?;
@@ -43,7 +44,8 @@ pub(crate) fn relay_of<'t, 'a>(
     at: usize,
     tokens: &'t [Token<'a>],
 ) -> Result<(Node, &'t [Token<'a>]), SyntaxFault>
-    ensures reads { ReadsAs (λ x. (tree_of x.0, lexemes x.1.now)) result (relay_at at (lexemes tokens.now)) }
+    ensures reads { ReadsAs (λ x. (tree_of x.0, lexemes x.1.now)) result
+        (relay_at at (lexemes tokens.now)) }
     ensures shorter { IfOk result (λ x. length x.1.now ≤ length tokens.now) }
 {
     let (_, rest) = expect_sign(tokens, Sign::Left, source.end)?;
@@ -65,7 +67,8 @@ pub(crate) fn field_of<'t, 'a>(
     at: usize,
     tokens: &'t [Token<'a>],
 ) -> Result<(Node, &'t [Token<'a>]), SyntaxFault>
-    ensures reads { ReadsAs (λ x. (tree_of x.0, lexemes x.1.now)) result (field_after at (lexemes tokens.now)) }
+    ensures reads { ReadsAs (λ x. (tree_of x.0, lexemes x.1.now)) result
+        (field_after at (lexemes tokens.now)) }
     ensures shorter { IfOk result (λ x. length x.1.now ≤ length tokens.now) }
 {
     let (_, rest) = expect_sign(tokens, Sign::Dot, source.end)?;
@@ -80,7 +83,8 @@ pub(crate) fn packet_of<'t, 'a>(
     at: usize,
     tokens: &'t [Token<'a>],
 ) -> Result<(Node, &'t [Token<'a>]), SyntaxFault>
-    ensures reads { ReadsAs (λ x. (tree_of x.0, lexemes x.1.now)) result (packet_at at (lexemes tokens.now)) }
+    ensures reads { ReadsAs (λ x. (tree_of x.0, lexemes x.1.now)) result
+        (packet_at at (lexemes tokens.now)) }
     ensures shorter { IfOk result (λ x. length x.1.now ≤ length tokens.now) }
 {
     let (_, rest) = expect_sign(tokens, Sign::Dot, source.end)?;
@@ -102,7 +106,8 @@ pub(crate) fn member_of<'t, 'a>(
     tokens: &'t [Token<'a>],
     depth: u8,
 ) -> Result<(Node, &'t [Token<'a>]), SyntaxFault>
-    ensures reads { ReadsAs (λ x. (tree_of x.0, lexemes x.1.now)) result (member_at (below depth) at (lexemes tokens.now)) }
+    ensures reads { ReadsAs (λ x. (tree_of x.0, lexemes x.1.now)) result
+        (member_at (below depth) at (lexemes tokens.now)) }
     ensures shorter { IfOk result (λ x. length x.1.now ≤ length tokens.now) }
 {
     let (open, rest) = expect_sign(tokens, Sign::Open, source.end)?;
@@ -112,7 +117,7 @@ pub(crate) fn member_of<'t, 'a>(
     Ok((Node::Member { at, name }, rest))
 }
 
-// A class's name of 1 to 255 bytes, behind the bracket at this place.
+// A class's name of 1 to 255 bytes, after the bracket at this place.
 #[tactic(auto, unfolding(crate::specs::Reading::below))]
 fn name_deeper<'t, 'a>(
     tokens: &'t [Token<'a>],
@@ -120,7 +125,8 @@ fn name_deeper<'t, 'a>(
     at: usize,
     end: usize,
 ) -> Result<(&'a [u8], &'t [Token<'a>]), SyntaxFault>
-    ensures reads { ReadsAs (λ x. (x.0.now, lexemes x.1.now)) result ((below depth).name (lexemes tokens.now)) }
+    ensures reads { ReadsAs (λ x. (x.0.now, lexemes x.1.now)) result
+        ((below depth).name (lexemes tokens.now)) }
     ensures shorter { IfOk result (λ x. length x.1.now ≤ length tokens.now) }
     ensures fault { IfErr result (λ e. e ≡ (if depth == 0 then TooNested at
         else unexpected_at (lexemes tokens.now) end)) }
@@ -143,7 +149,8 @@ fn option_code<'t, 'a>(
     tokens: &'t [Token<'a>],
     end: usize,
 ) -> Result<(u8, &'t [Token<'a>]), SyntaxFault>
-    ensures reads { ReadsAs (λ x. (x.0, lexemes x.1.now)) result (one code_of_option (lexemes tokens.now)) }
+    ensures reads { ReadsAs (λ x. (x.0, lexemes x.1.now)) result
+        (one code_of_option (lexemes tokens.now)) }
     ensures shorter { IfOk result (λ x. length x.1.now < length tokens.now) }
     ensures fault { IfErr result (λ e. e ≡ refused_at option_refusal (lexemes tokens.now) end) }
 {
@@ -169,7 +176,8 @@ fn relay_code<'t, 'a>(
     tokens: &'t [Token<'a>],
     end: usize,
 ) -> Result<(u8, &'t [Token<'a>]), SyntaxFault>
-    ensures reads { ReadsAs (λ x. (x.0, lexemes x.1.now)) result (one code_of_relay (lexemes tokens.now)) }
+    ensures reads { ReadsAs (λ x. (x.0, lexemes x.1.now)) result
+        (one code_of_relay (lexemes tokens.now)) }
     ensures shorter { IfOk result (λ x. length x.1.now < length tokens.now) }
     ensures fault { IfErr result (λ e. e ≡ refused_at code_refusal (lexemes tokens.now) end) }
 {
@@ -191,7 +199,8 @@ fn suffix<'t, 'a>(
     tokens: &'t [Token<'a>],
     end: usize,
 ) -> Result<(bool, &'t [Token<'a>]), SyntaxFault>
-    ensures reads { ReadsAs (λ x. (x.0, lexemes x.1.now)) result (one suffix_of (lexemes tokens.now)) }
+    ensures reads { ReadsAs (λ x. (x.0, lexemes x.1.now)) result
+        (one suffix_of (lexemes tokens.now)) }
     ensures shorter { IfOk result (λ x. length x.1.now < length tokens.now) }
     ensures fault { IfErr result (λ e. e ≡ unexpected_at (lexemes tokens.now) end) }
 {
@@ -211,7 +220,8 @@ fn field<'t, 'a>(
     tokens: &'t [Token<'a>],
     end: usize,
 ) -> Result<(Field, &'t [Token<'a>]), SyntaxFault>
-    ensures reads { ReadsAs (λ x. (x.0, lexemes x.1.now)) result (one field_of (lexemes tokens.now)) }
+    ensures reads { ReadsAs (λ x. (x.0, lexemes x.1.now)) result
+        (one field_of (lexemes tokens.now)) }
     ensures shorter { IfOk result (λ x. length x.1.now < length tokens.now) }
     ensures fault { IfErr result (λ e. e ≡ unexpected_at (lexemes tokens.now) end) }
 {
@@ -260,7 +270,8 @@ pub(crate) fn length_of<'t, 'a>(
     tokens: &'t [Token<'a>],
     end: usize,
 ) -> Result<(Option<i32>, &'t [Token<'a>]), SyntaxFault>
-    ensures reads { ReadsAs (λ x. (x.0, lexemes x.1.now)) result (one length_of_part (lexemes tokens.now)) }
+    ensures reads { ReadsAs (λ x. (x.0, lexemes x.1.now)) result
+        (one length_of_part (lexemes tokens.now)) }
     ensures shorter { IfOk result (λ x. length x.1.now < length tokens.now) }
     ensures fault { IfErr result (λ e. e ≡ refused_at signed_refusal (lexemes tokens.now) end) }
 {

@@ -3,7 +3,8 @@ ghost use Rattle.kd_expr.specs.Address.{decimal};
 
 // The number of decimal digits, where it has 32 bits.
 pub(crate) fn number(digits: &[u8]) -> Option<u32>
-    ensures { result ≡ (if nat_lt (decimal digits.now) (2 ^ 32) then Some (decimal digits.now) else None) }
+    ensures { result ≡ (if nat_lt (decimal digits.now) (2 ^ 32) then Some
+        (decimal digits.now) else None) }
 {
     let mut n: u64 = 0;
     for d in digits {

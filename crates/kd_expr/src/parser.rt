@@ -40,7 +40,9 @@ fn boxed(
 
 // A disjunction of two operands.
 fn disjunction(alloc: Global, left: Node, right: Node) -> Result<Node, SyntaxFault>
-    ensures { MatchResult result (λ node. tree_of node ≡ reading.or_of (tree_of left) (tree_of right)) (λ fault. fault ≡ faults.Memory) }
+    ensures { MatchResult result
+        (λ node. tree_of node ≡ reading.or_of (tree_of left) (tree_of right))
+        (λ fault. fault ≡ faults.Memory) }
 {
     let (at, left, right) = boxed(alloc, left, right)?;
     Ok(Node::Or { at, left, right })
@@ -48,7 +50,9 @@ fn disjunction(alloc: Global, left: Node, right: Node) -> Result<Node, SyntaxFau
 
 // A conjunction of two operands.
 fn conjunction(alloc: Global, left: Node, right: Node) -> Result<Node, SyntaxFault>
-    ensures { MatchResult result (λ node. tree_of node ≡ reading.and_of (tree_of left) (tree_of right)) (λ fault. fault ≡ faults.Memory) }
+    ensures { MatchResult result
+        (λ node. tree_of node ≡ reading.and_of (tree_of left) (tree_of right))
+        (λ fault. fault ≡ faults.Memory) }
 {
     let (at, left, right) = boxed(alloc, left, right)?;
     Ok(Node::And { at, left, right })
@@ -56,7 +60,9 @@ fn conjunction(alloc: Global, left: Node, right: Node) -> Result<Node, SyntaxFau
 
 // A sum of two operands.
 fn concatenation(alloc: Global, left: Node, right: Node) -> Result<Node, SyntaxFault>
-    ensures { MatchResult result (λ node. tree_of node ≡ reading.sum_of (tree_of left) (tree_of right)) (λ fault. fault ≡ faults.Memory) }
+    ensures { MatchResult result
+        (λ node. tree_of node ≡ reading.sum_of (tree_of left) (tree_of right))
+        (λ fault. fault ≡ faults.Memory) }
 {
     let (at, left, right) = boxed(alloc, left, right)?;
     Ok(Node::Concat { at, left, right })
@@ -64,7 +70,9 @@ fn concatenation(alloc: Global, left: Node, right: Node) -> Result<Node, SyntaxF
 
 // A comparison of two operands.
 fn equality(alloc: Global, left: Node, right: Node) -> Result<Node, SyntaxFault>
-    ensures { MatchResult result (λ node. tree_of node ≡ Equal (at_of (tree_of left)) (tree_of left) (tree_of right)) (λ fault. fault ≡ faults.Memory) }
+    ensures { MatchResult result
+        (λ node. tree_of node ≡ Equal (at_of (tree_of left)) (tree_of left) (tree_of right))
+        (λ fault. fault ≡ faults.Memory) }
 {
     let (at, left, right) = boxed(alloc, left, right)?;
     Ok(Node::Equal { at, left, right })
@@ -72,7 +80,8 @@ fn equality(alloc: Global, left: Node, right: Node) -> Result<Node, SyntaxFault>
 
 // The negation at a place of an operand.
 fn negation(alloc: Global, at: usize, operand: Node) -> Result<Node, SyntaxFault>
-    ensures { MatchResult result (λ node. tree_of node ≡ Not at (tree_of operand)) (λ fault. fault ≡ faults.Memory) }
+    ensures { MatchResult result (λ node. tree_of node ≡ Not at (tree_of operand))
+        (λ fault. fault ≡ faults.Memory) }
 {
     let operand = Box::new(alloc, operand)?;
     Ok(Node::Not { at, operand })
@@ -86,7 +95,8 @@ pub(crate) fn or_of<'t, 'a>(
     tokens: &'t [Token<'a>],
     depth: u8,
 ) -> Result<(Node, &'t [Token<'a>]), SyntaxFault>
-    ensures reads { ReadsAs (λ x. (tree_of x.0, lexemes x.1.now)) result (or_at (below depth) (lexemes tokens.now)) }
+    ensures reads { ReadsAs (λ x. (tree_of x.0, lexemes x.1.now)) result
+        (or_at (below depth) (lexemes tokens.now)) }
     ensures shorter { IfOk result (λ x. length x.1.now ≤ length tokens.now) }
 {
     let (mut first, mut rest) = and_of(source, tokens, depth)?;
@@ -106,7 +116,8 @@ fn and_of<'t, 'a>(
     tokens: &'t [Token<'a>],
     depth: u8,
 ) -> Result<(Node, &'t [Token<'a>]), SyntaxFault>
-    ensures reads { ReadsAs (λ x. (tree_of x.0, lexemes x.1.now)) result (and_at (below depth) (lexemes tokens.now)) }
+    ensures reads { ReadsAs (λ x. (tree_of x.0, lexemes x.1.now)) result
+        (and_at (below depth) (lexemes tokens.now)) }
     ensures shorter { IfOk result (λ x. length x.1.now ≤ length tokens.now) }
 {
     let (mut first, mut rest) = not_of(source, tokens, depth)?;
@@ -126,7 +137,8 @@ fn not_of<'t, 'a>(
     tokens: &'t [Token<'a>],
     depth: u8,
 ) -> Result<(Node, &'t [Token<'a>]), SyntaxFault>
-    ensures reads { ReadsAs (λ x. (tree_of x.0, lexemes x.1.now)) result (not_at (below depth) (lexemes tokens.now)) }
+    ensures reads { ReadsAs (λ x. (tree_of x.0, lexemes x.1.now)) result
+        (not_at (below depth) (lexemes tokens.now)) }
     ensures shorter { IfOk result (λ x. length x.1.now ≤ length tokens.now) }
 {
     match word(tokens, b"not") {
@@ -146,7 +158,8 @@ fn compare_of<'t, 'a>(
     tokens: &'t [Token<'a>],
     depth: u8,
 ) -> Result<(Node, &'t [Token<'a>]), SyntaxFault>
-    ensures reads { ReadsAs (λ x. (tree_of x.0, lexemes x.1.now)) result (compare_at (below depth) (lexemes tokens.now)) }
+    ensures reads { ReadsAs (λ x. (tree_of x.0, lexemes x.1.now)) result
+        (compare_at (below depth) (lexemes tokens.now)) }
     ensures shorter { IfOk result (λ x. length x.1.now ≤ length tokens.now) }
 {
     let (first, rest) = sum_of(source, tokens, depth)?;
@@ -167,7 +180,8 @@ fn sum_of<'t, 'a>(
     tokens: &'t [Token<'a>],
     depth: u8,
 ) -> Result<(Node, &'t [Token<'a>]), SyntaxFault>
-    ensures reads { ReadsAs (λ x. (tree_of x.0, lexemes x.1.now)) result (sum_at (below depth) (lexemes tokens.now)) }
+    ensures reads { ReadsAs (λ x. (tree_of x.0, lexemes x.1.now)) result
+        (sum_at (below depth) (lexemes tokens.now)) }
     ensures shorter { IfOk result (λ x. length x.1.now ≤ length tokens.now) }
 {
     let (mut first, mut rest) = primary_of(source, tokens, depth)?;
@@ -187,7 +201,8 @@ fn primary_of<'t, 'a>(
     tokens: &'t [Token<'a>],
     depth: u8,
 ) -> Result<(Node, &'t [Token<'a>]), SyntaxFault>
-    ensures reads { ReadsAs (λ x. (tree_of x.0, lexemes x.1.now)) result (primary_at (below depth) (lexemes tokens.now)) }
+    ensures reads { ReadsAs (λ x. (tree_of x.0, lexemes x.1.now)) result
+        (primary_at (below depth) (lexemes tokens.now)) }
     ensures shorter { IfOk result (λ x. length x.1.now ≤ length tokens.now) }
     ensures number { IfErr result (IsNumberRefused (lexemes tokens.now)) }
 {
@@ -226,7 +241,8 @@ fn group_of<'t, 'a>(
     tokens: &'t [Token<'a>],
     depth: u8,
 ) -> Result<(Node, &'t [Token<'a>]), SyntaxFault>
-    ensures reads { ReadsAs (λ x. (tree_of x.0, lexemes x.1.now)) result (group_at (below depth) (lexemes tokens.now)) }
+    ensures reads { ReadsAs (λ x. (tree_of x.0, lexemes x.1.now)) result
+        (group_at (below depth) (lexemes tokens.now)) }
     ensures shorter { IfOk result (λ x. length x.1.now ≤ length tokens.now) }
 {
     let (at, rest) = expect_sign(tokens, Sign::Open, source.end)?;
@@ -234,7 +250,7 @@ fn group_of<'t, 'a>(
     Ok((Node::Group { at, operand }, rest))
 }
 
-// An expression behind the bracket at this place, which nests it one deeper.
+// An expression after the bracket at this place, which nests it one deeper.
 #[cycle(parser)]
 #[tactic(auto, unfolding(crate::specs::Reading::below))]
 pub(crate) fn any_deeper<'t, 'a>(
@@ -243,7 +259,8 @@ pub(crate) fn any_deeper<'t, 'a>(
     depth: u8,
     at: usize,
 ) -> Result<(Node, &'t [Token<'a>]), SyntaxFault>
-    ensures reads { ReadsAs (λ x. (tree_of x.0, lexemes x.1.now)) result ((below depth).any (lexemes tokens.now)) }
+    ensures reads { ReadsAs (λ x. (tree_of x.0, lexemes x.1.now)) result
+        ((below depth).any (lexemes tokens.now)) }
     ensures shorter { IfOk result (λ x. length x.1.now ≤ length tokens.now) }
 {
     if depth == 0 {
@@ -261,7 +278,8 @@ fn operand_deeper<'t, 'a>(
     depth: u8,
     at: usize,
 ) -> Result<(Node, &'t [Token<'a>]), SyntaxFault>
-    ensures reads { ReadsAs (λ x. (tree_of x.0, lexemes x.1.now)) result ((below depth).operand (lexemes tokens.now)) }
+    ensures reads { ReadsAs (λ x. (tree_of x.0, lexemes x.1.now)) result
+        ((below depth).operand (lexemes tokens.now)) }
     ensures shorter { IfOk result (λ x. length x.1.now ≤ length tokens.now) }
 {
     if depth == 0 {

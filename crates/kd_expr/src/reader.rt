@@ -19,13 +19,14 @@ const LONGEST_TEXT: usize = 4096;
 
 const DEEPEST_NESTING: u8 = 64;
 
-/// The expression that a text of at most 4,096 bytes spells. Memory is taken for its tokens and its tree.
+/// The expression that a text of at most 4,096 bytes spells. Memory is taken for its tokens and its
+/// tree.
 ///
 /// # Errors
 ///
-/// `TooLong`; otherwise the fault at the first token with which the text so far begins no expression: the
-/// first of `BadToken`, `Expected`, `NumberTooLarge`, `UnknownName` and `TooNested` that applies there; or
-/// `Memory` in place of any of these but `TooLong`.
+/// `TooLong`; otherwise the fault at the first token with which the text so far begins no
+/// expression: the first of `BadToken`, `Expected`, `NumberTooLarge`, `UnknownName` and `TooNested`
+/// that applies there; or `Memory` in place of any of these but `TooLong`.
 pub fn read(alloc: Global, text: &[u8]) -> Result<Expr, ExprFault>
     ensures found { IfOk result (λ expr. Parses text.now (tree_of expr)) }
     ensures only { (tree : Tree) → Parses text.now tree

@@ -11,7 +11,8 @@ use crate::node::Field;
 use crate::number::number;
 use crate::token::{Kind, Sign, Token};
 
-// The fault of the first token, which cannot stand there; at the end of the text where none is left.
+// The fault of the first token, which cannot stand there; at the end of the text where none is
+// left.
 pub(crate) fn unexpected(tokens: &[Token<'_>], end: usize) -> SyntaxFault
     ensures fault { result ≢ faults.Memory }
     ensures exact { result ≡ unexpected_at (lexemes tokens.now) end }
@@ -31,7 +32,8 @@ pub(crate) fn sign<'t, 'a>(
     tokens: &'t [Token<'a>],
     wanted: Sign,
 ) -> Option<(usize, &'t [Token<'a>])>
-    ensures reads { option_map (λ x. (x.0, lexemes x.1.now)) result ≡ sign_here (sign_byte wanted) (lexemes tokens.now) }
+    ensures reads { option_map (λ x. (x.0, lexemes x.1.now)) result
+        ≡ sign_here (sign_byte wanted) (lexemes tokens.now) }
     ensures shorter { IfSome result (λ x. length x.1.now < length tokens.now) }
 {
     let [first, rest @ ..] = tokens else {
@@ -49,7 +51,8 @@ pub(crate) fn word<'t, 'a>(
     tokens: &'t [Token<'a>],
     wanted: &[u8],
 ) -> Option<(usize, &'t [Token<'a>])>
-    ensures reads { option_map (λ x. (x.0, lexemes x.1.now)) result ≡ word_here wanted.now (lexemes tokens.now) }
+    ensures reads { option_map (λ x. (x.0, lexemes x.1.now)) result
+        ≡ word_here wanted.now (lexemes tokens.now) }
     ensures shorter { IfSome result (λ x. length x.1.now < length tokens.now) }
 {
     let [first, rest @ ..] = tokens else {
@@ -68,7 +71,8 @@ pub(crate) fn expect_sign<'t, 'a>(
     wanted: Sign,
     end: usize,
 ) -> Result<(usize, &'t [Token<'a>]), SyntaxFault>
-    ensures reads { ReadsAs (λ x. (x.0, lexemes x.1.now)) result (sign_here (sign_byte wanted) (lexemes tokens.now)) }
+    ensures reads { ReadsAs (λ x. (x.0, lexemes x.1.now)) result
+        (sign_here (sign_byte wanted) (lexemes tokens.now)) }
     ensures shorter { IfOk result (λ x. length x.1.now < length tokens.now) }
     ensures fault { IfErr result (λ e. e ≡ unexpected_at (lexemes tokens.now) end) }
 {
@@ -84,7 +88,8 @@ pub(crate) fn expect_word<'t, 'a>(
     wanted: &[u8],
     end: usize,
 ) -> Result<(usize, &'t [Token<'a>]), SyntaxFault>
-    ensures reads { ReadsAs (λ x. (x.0, lexemes x.1.now)) result (word_here wanted.now (lexemes tokens.now)) }
+    ensures reads { ReadsAs (λ x. (x.0, lexemes x.1.now)) result
+        (word_here wanted.now (lexemes tokens.now)) }
     ensures shorter { IfOk result (λ x. length x.1.now < length tokens.now) }
     ensures fault { IfErr result (λ e. e ≡ unexpected_at (lexemes tokens.now) end) }
 {

@@ -111,6 +111,6 @@ pub better_is : (q : Asking) (sought : Sought) (best : Option ℕ) (a : ℕ) →
 better_is q sought None a = refl
 better_is q sought (Some b) a = refl
 
--- no address stands behind the last
+-- no address stands after the last
 pub get_past : (xs : List ℕ) (i : ℕ) → slice_get xs i ≡ None → length xs ≤ i
 get_past xs i h = ⊎_elim (λ (x, less, is, at). absurd (none-some x (sym h ∙ is))) (λ p. p.0) (slice_get_cases xs i).1

@@ -59,7 +59,7 @@ keep_at table options o v some h code small (inl t) =
     there ∙ sym (keeps code options o v.now (sym (h.each code small) ∙ there))
 keep_at table options o v some h code small (inr f) = h.each code small ∙ sym (past code options o f.0)
 
--- an option behind those that give its code a value
+-- an option after those that give its code a value
 pub keep_value : (table : List (Option (Bor (List ℕ)))) (options : List OptionData) (o : OptionData) (v : Bor (List ℕ)) (place : ℕ)
     → place ≡ o.code → get_or table place None ≡ Some v → HasValues table options → HasValues table (options ++ o ∷ [])
 keep_value table options o v place is some h =
@@ -78,7 +78,7 @@ put_at table options o v none less is h code small (inl t) =
 put_at table options o v none less is h code small (inr f) =
     ap option_copied (get_or-set_other table o.code code (Some v) None (λ e. f.1 (sym e))) ∙ h.each code small ∙ sym (past code options o f.0)
 
--- an option behind those that give its code no value
+-- an option after those that give its code no value
 pub put_value : (table : List (Option (Bor (List ℕ)))) (options : List OptionData) (o : OptionData) (v : Bor (List ℕ)) (place : ℕ)
     → place ≡ o.code → get_or table place None ≡ None → place < 256 → o.value ≡ v.now → HasValues table options
     → HasValues (set table place (Some v)) (options ++ o ∷ [])

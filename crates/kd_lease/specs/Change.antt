@@ -1,6 +1,6 @@
--- What a message changes (RFC 2131 section 4.3): the row that is set in the table of leases, or none, and what
--- the message gets. The rules say both; a reply whose obligatory options do not fit is not sent, and then no
--- row is set (the choice is ours).
+-- What a message changes (RFC 2131 section 4.3): the row that is set in the table of leases, or
+-- none, and what the message gets. The rules say both; a reply whose obligatory options do not fit
+-- is not sent, and then no row is set (the choice is ours).
 use Rattle.std.specs.Prelude.{◌≡◌, ℕ, Bool, true, false, List, Option, Some, None, codes}
 use Rattle.kd_classes.specs.HeldSet.{HeldSet}
 use Rattle.kd_config.specs.Configuration.{Configuration}
@@ -68,8 +68,8 @@ abbrev pub asked_for : Configuration → List Row → List (List ℕ) → Seen �
 asked_for config rows names m now client =
     record { config = config; rows = rows; names = names; message = m; client = client; now = now }
 
--- what a message sets and gets whose classes have these names: only clients' messages with an identity are
--- answered, and none of the class DROP
+-- what a message sets and gets whose classes have these names: only clients' messages with an
+-- identity are answered, and none of the class DROP
 abbrev pub Decides : Configuration → List Row → List (List ℕ) → Seen → ℕ → Option Row → Outcome
     → Type 0
 Decides config rows names m now set got =

@@ -1,6 +1,7 @@
--- The address that a client is offered (RFC 2131 section 4.3.1): which addresses it may have, what speaks for
--- each of them, and which comes first. Reservations are those of the Kea Administrator Reference Manual,
--- section Host Reservations in DHCPv4; the order of pools and the use of option 50 are those of RFC 2131.
+-- The address that a client is offered (RFC 2131 section 4.3.1): which addresses it may have, what
+-- speaks for each of them, and which comes first. Reservations are those of the Kea Administrator
+-- Reference Manual, section Host Reservations in DHCPv4; the order of pools and the use of option
+-- 50 are those of RFC 2131.
 use Rattle.std.specs.Prelude.{◌≡◌, ℕ, ◌+◌, ◌≤◌, Bool, true, false, not, ◌&&◌, ◌||◌, ◌==◌, nat_lt, is_none, List, [], ◌∷◌, Option, Some, None, option_map, if◌then◌else◌}
 use Rattle.std.specs.Int.{from_be_bytes, w32}
 use Rattle.std.specs.List.{find, list_any}
@@ -19,8 +20,8 @@ use Rattle.kd_rows.specs.declared.row.Row.{Row}
 use Rattle.kd_rows.specs.declared.row.State.{State}
 use Rattle.kd_rows.specs.declared.row.State.TheVariants.{Offered, Bound, Released, Declined}
 
--- what the rules are asked over: a configuration, the rows of leases, the names of the held classes, the
--- message, its client's identity, and the moment
+-- what the rules are asked over: a configuration, the rows of leases, the names of the held
+-- classes, the message, its client's identity, and the moment
 pub record Asking : Type 0 where
   pub config : Configuration
   pub rows : List Row
@@ -64,10 +65,12 @@ same_address (Some b) a = b == a
 abbrev pub pooled : Subnet → ℕ → Bool
 pooled s a = list_any (λ pool. has pool.range a) s.pools
 
--- an address fits: it is in a pool of the subnet and reserved for nobody, or reserved for the client
+-- an address fits: it is in a pool of the subnet and reserved for nobody, or reserved for the
+-- client
 abbrev pub fitting_for : Asking → Subnet → ℕ → Bool
 fitting_for q s a =
-    (pooled s a && not (reserved_anywhere q.config a)) || same_address (address_reserved q.message s) a
+    (pooled s a && not (reserved_anywhere q.config a))
+    || same_address (address_reserved q.message s) a
 
 -- a row is there, and is such a one
 abbrev pub has_such : (Row → Bool) → Option Row → Bool
@@ -118,8 +121,8 @@ address_of_value other = None
 abbrev pub requested_address : Seen → Option ℕ
 requested_address m = address_of_value (value_of 50 m.options)
 
--- what speaks for an address, the strongest first: it is reserved for the client, it is the client's, it was
--- the client's, the client asks for it, nobody had it yet, its row has ended
+-- what speaks for an address, the strongest first: it is reserved for the client, it is the
+-- client's, it was the client's, the client asks for it, nobody had it yet, its row has ended
 pub data Rank : Type 0 where
   reserved : Rank
   own : Rank
@@ -145,14 +148,16 @@ has_rank q s past a = has_such (past_row q) (row_at q.rows a) && fitting_for q s
 has_rank q s asked a = same_address (requested_address q.message) a && usable q s a
 has_rank q s fresh a = pooled s a && (is_none (row_at q.rows a) && fitting_for q s a)
 has_rank q s expired a =
-    pooled s a && (has_such (λ row. not (live_row q.now row)) (row_at q.rows a) && fitting_for q s a)
+    pooled s a && (has_such (λ row. not (live_row q.now row)) (row_at q.rows a)
+    && fitting_for q s a)
 
 -- the moment at which a row was set, 0 where there is none
 abbrev pub changed_in : Option Row → ℕ
 changed_in None = 0
 changed_in (Some row) = row.changed
 
--- of two addresses the first is newer: its row was set later, or at one moment and it is the lesser address
+-- of two addresses the first is newer: its row was set later, or at one moment and it is the lesser
+-- address
 abbrev pub set_later : List Row → ℕ → ℕ → Bool
 set_later rows a b =
     let m = changed_in (row_at rows a) in
@@ -164,7 +169,8 @@ abbrev pub pool_place : List Pool → ℕ → ℕ
 pool_place [] a = 0
 pool_place (pool ∷ pools) a = if has pool.range a then 0 else pool_place pools a + 1
 
--- of two addresses the first is earlier: in an earlier pool, or in one pool and it is the lesser address
+-- of two addresses the first is earlier: in an earlier pool, or in one pool and it is the lesser
+-- address
 abbrev pub is_earlier : List Pool → ℕ → ℕ → Bool
 is_earlier pools a b =
     let m = pool_place pools a in

@@ -1,5 +1,5 @@
--- What a message says of its client (RFC 2131 sections 2 and 4.2, RFC 2132 sections 9.6, 9.8, 9.10 and
--- 9.14): its type, who the client is, which options it asks for, and how long a reply may be.
+-- What a message says of its client (RFC 2131 sections 2 and 4.2, RFC 2132 sections 9.6, 9.8, 9.10
+-- and 9.14): its type, who the client is, which options it asks for, and how long a reply may be.
 use Rattle.std.specs.Prelude.{ℕ, ◌+◌, ◌-◌, ◌*◌, max, min, Bool, true, ◌||◌, ◌==◌, List, [], ◌∷◌, Option, Some, None}
 use Rattle.std.specs.List.{list_any}
 use Rattle.kd_options.specs.Joined.{value_of}
@@ -19,7 +19,8 @@ kind_of m = first_byte (value_of 53 m.options)
 abbrev pub server_message : Seen → Bool
 server_message m = m.header.op == 2 || kind_of m == 2 || kind_of m == 5 || kind_of m == 6
 
--- the identity that the hardware gives: 0, the kind of link layer, and the address, where there is one
+-- the identity that the hardware gives: 0, the kind of link layer, and the address, where there is
+-- one
 abbrev pub identity_by_hardware : ℕ → List ℕ → Option (List ℕ)
 identity_by_hardware htype [] = None
 identity_by_hardware htype (b ∷ mac) = Some (0 ∷ htype ∷ b ∷ mac)
@@ -49,6 +50,7 @@ abbrev pub greatest_by : Option (List ℕ) → ℕ
 greatest_by (Some (a ∷ b ∷ [])) = a * 256 + b
 greatest_by other = 576
 
--- the room for a reply: what is left of that behind the headers of IP and UDP, from 548 to 1472 bytes
+-- the room for a reply: what is left of that after the headers of IP and UDP, from 548 to 1472
+-- bytes
 abbrev pub reply_room : Seen → ℕ
 reply_room m = min 1472 (max 576 (greatest_by (value_of 57 m.options)) - 28)

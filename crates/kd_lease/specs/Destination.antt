@@ -16,8 +16,8 @@ is_nak other = false
 abbrev pub asks_for_broadcast : Header → Bool
 asks_for_broadcast h = nat_le 0x8000 h.flags
 
--- the destination of a reply: to the relay; a NAK to all; to the address that the client has; to all where
--- the client asks for it; else to its hardware, with its new address
+-- the destination of a reply: to the relay; a NAK to all; to the address that the client has; to
+-- all where the client asks for it; else to its hardware, with its new address
 unfoldable pub destination_of : Header → PlanKind → ℕ → Ports → Destination
 destination_of h kind yiaddr ports =
     if not (h.giaddr == 0)

@@ -1,6 +1,6 @@
--- The options that a configuration gives to a client (RFC 2132; Kea Administrator Reference Manual, chapters
--- DHCPv4 Server Configuration and Client Classification): where they come from, in order of precedence, and
--- which of them a reply sends (RFC 2132 section 9.8).
+-- The options that a configuration gives to a client (RFC 2132; Kea Administrator Reference Manual,
+-- chapters DHCPv4 Server Configuration and Client Classification): where they come from, in order
+-- of precedence, and which of them a reply sends (RFC 2132 section 9.8).
 use Rattle.std.specs.Prelude.{ℕ, ◌-◌, ◌^◌, Bool, false, ◌==◌, List, [], ◌∷◌, ◌++◌, filter, Option, Some, None, option_map, if◌then◌else◌}
 use Rattle.std.specs.List.{find, flat_map, range_with_len}
 use Rattle.byteorder.specs.Endian.{big_bytes}
@@ -31,7 +31,8 @@ abbrev pub class_options : List ClassDef → List (List ℕ) → List OptionData
 class_options classes names =
     flat_map (λ class. class.options) (filter (λ class. is_held class.name names) classes)
 
--- the mask of a prefix (RFC 2132 section 3.3): ones, as many as its length, and zeros, in network order
+-- the mask of a prefix (RFC 2132 section 3.3): ones, as many as its length, and zeros, in network
+-- order
 abbrev pub prefix_mask : Prefix → List ℕ
 prefix_mask prefix = big_bytes 4 (2 ^ 32 - prefix_size prefix.length)
 
@@ -39,7 +40,8 @@ prefix_mask prefix = big_bytes 4 (2 ^ 32 - prefix_size prefix.length)
 abbrev pub mask_option : Prefix → OptionData
 mask_option prefix = record { code = 1; value = prefix_mask prefix }
 
--- the options given at an address of a subnet to the holder of these names, the first of a code before others
+-- the options given at an address of a subnet to the holder of these names, the first of a code
+-- before others
 unfoldable pub given : Configuration → Subnet → List (List ℕ) → ℕ → List OptionData
 given config subnet names address =
     options_of_pool subnet.pools address ++ subnet.options ++ class_options config.classes names

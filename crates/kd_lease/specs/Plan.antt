@@ -14,8 +14,8 @@ pub record ReplyOption : Type 0 where
 abbrev pub option_of_item : Item → ReplyOption
 option_of_item item = record { code = item.code; value = item.value; obligatory = item.obligatory }
 
--- what a message gets: a reply of this kind, with the client's new address or zero, and these options; or
--- nothing, for a reason
+-- what a message gets: a reply of this kind, with the client's new address or zero, and these
+-- options; or nothing, for a reason
 pub data Outcome : Type 0 where
   planned : PlanKind → ℕ → List ReplyOption → Outcome
   quiet : Reason → Outcome

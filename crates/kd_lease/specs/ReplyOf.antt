@@ -1,5 +1,5 @@
--- The reply to a message: its header, whether its options fit, and its text (RFC 2131 sections 4.1 and
--- 4.3, table 3).
+-- The reply to a message: its header, whether its options fit, and its text (RFC 2131 sections 4.1
+-- and 4.3, table 3).
 use Rattle.std.specs.Prelude.{◌≡◌, ℕ, ◌+◌, Bool, true, ◌==◌, List, [], ◌∷◌, Option, Some, None, map, replicate, length, nat_le, sum_by, bit_or, if◌then◌else◌}
 use Rattle.kd_options.specs.Reply.{cost_of, reply_text}
 use Rattle.kd_options.specs.declared.item.Item.{Item}
@@ -59,4 +59,5 @@ within_room room options = nat_le (240 + sum_by needed options + 1) room
 -- the text of a reply with these options
 abbrev pub IsReplyText : Header → ℕ → List ReplyOption → List ℕ → Type 0
 IsReplyText header room options text =
-    (items : List Item) × (map option_of_item items ≡ options) × (text ≡ reply_text header room items)
+    (items : List Item) × (map option_of_item items ≡ options)
+    × (text ≡ reply_text header room items)

@@ -1,5 +1,6 @@
--- The options of a reply (RFC 2131 section 4.3.1, table 3; RFC 2132 sections 9.2, 9.6, 9.7, 9.11 and 9.12;
--- RFC 6842 section 3; RFC 3046 section 2.2): which stand in a reply of each kind, and in which order.
+-- The options of a reply (RFC 2131 section 4.3.1, table 3; RFC 2132 sections 9.2, 9.6, 9.7, 9.11
+-- and 9.12; RFC 6842 section 3; RFC 3046 section 2.2): which stand in a reply of each kind, and in
+-- which order.
 use Rattle.std.specs.Prelude.{ℕ, List, [], ◌∷◌, ◌++◌, Option, Some, None}
 use Rattle.byteorder.specs.Endian.{big_bytes}
 use Rattle.kd_config.specs.declared.subnet.Subnet.{Subnet}
@@ -38,15 +39,16 @@ abbrev pub configured_in : Asking → Option Subnet → ℕ → List ReplyOption
 configured_in q None address = []
 configured_in q (Some s) address = configured_options q.message (given q.config s q.names address)
 
--- the configured options of a reply: at the address that it gives, or that the client has; a NAK has none
+-- the configured options of a reply: at the address that it gives, or that the client has; a NAK
+-- has none
 abbrev pub configured_for : Asking → PlanKind → ℕ → List ReplyOption
 configured_for q kinds.Offer yiaddr = configured_in q (serving_subnet q) yiaddr
 configured_for q kinds.Ack yiaddr = configured_in q (serving_subnet q) yiaddr
 configured_for q kinds.InformAck yiaddr = configured_in q (serving_subnet q) q.message.header.ciaddr
 configured_for q kinds.Nak yiaddr = []
 
--- the options of a reply: type and server, the times of a lease, the client identifier as it came, the
--- configured ones, the relay's information as it came
+-- the options of a reply: type and server, the times of a lease, the client identifier as it came,
+-- the configured ones, the relay's information as it came
 unfoldable pub reply_options : Asking → PlanKind → ℕ → List ReplyOption
 reply_options q kind yiaddr =
     obligatory 53 (plan_type kind ∷ []) ++ obligatory 54 (big_bytes 4 q.config.server)

@@ -1,6 +1,6 @@
--- What each message of a client does (RFC 2131 section 4.3): which row of the table is set, or none, and what
--- is planned for it. The rows, their states and the times for which an offer and a declined address are held
--- are ours.
+-- What each message of a client does (RFC 2131 section 4.3): which row of the table is set, or
+-- none, and what is planned for it. The rows, their states and the times for which an offer and a
+-- declined address are held are ours.
 use Rattle.std.specs.Prelude.{◌≡◌, ℕ, ◌+◌, Bool, true, false, not, ◌&&◌, ◌==◌, ◌⊎◌, List, [], Option, Some, None, option_map, if◌then◌else◌}
 use Rattle.kd_config.specs.Address.{has_address}
 use Rattle.kd_config.specs.declared.subnet.Subnet.{Subnet}
@@ -141,8 +141,8 @@ OnDiscover q s set (plans.Offer a) = Choice q s a × (set ≡ row_of_offer q a)
 OnDiscover q s set (plans.Quiet reason) = NoChoice q s × (set ≡ None) × (reason ≡ reasons.NoAddress)
 OnDiscover q s set other = ⊥
 
--- a REQUEST to this server for an address (section 4.3.2, SELECTING): it is leased where the client may be
--- given it
+-- a REQUEST to this server for an address (section 4.3.2, SELECTING): it is leased where the client
+-- may be given it
 abbrev pub OnSelect : Asking → Subnet → ℕ → Option Row → Planned → Type 0
 OnSelect q s asked set (plans.Ack a) =
     (a ≡ asked) × (usable q s a ≡ true) × (set ≡ Some (leased_row q a))
@@ -155,15 +155,15 @@ OnOther q set planned =
     ((offer : Option ℕ) × IsNewest q.rows (offered_to q) offer
     × (set ≡ option_map (released_row q) offer)) × (planned ≡ plans.Quiet reasons.OtherServer)
 
--- why a REQUEST that names no server is refused: the address is outside the subnet's prefix; or the client has
--- a row there, but may not renew this one
+-- why a REQUEST that names no server is refused: the address is outside the subnet's prefix; or the
+-- client has a row there, but may not renew this one
 abbrev pub IsRenewalRefused : Asking → Subnet → ℕ → Type 0
 IsRenewalRefused q s a =
     (has_address s.prefix a ≡ false)
     ⊎ (((b : ℕ) × (is_record q s b ≡ true)) × (renewable q s a ≡ false))
 
--- a REQUEST that names no server (section 4.3.2, INIT-REBOOT, RENEWING and REBINDING): a client that the
--- server knows in the subnet may renew its lease there
+-- a REQUEST that names no server (section 4.3.2, INIT-REBOOT, RENEWING and REBINDING): a client
+-- that the server knows in the subnet may renew its lease there
 abbrev pub OnRenew : Asking → Subnet → ℕ → Option Row → Planned → Type 0
 OnRenew q s asked set (plans.Ack a) =
     (a ≡ asked) × (has_address s.prefix a ≡ true) × (renewable q s a ≡ true)
@@ -183,7 +183,8 @@ abbrev pub other_server : ℕ → Option ℕ → Bool
 other_server server None = false
 other_server server (Some named) = not (named == server)
 
--- the address of a REQUEST that names no server: the one that the client has, else the one that it asks for
+-- the address of a REQUEST that names no server: the one that the client has, else the one that it
+-- asks for
 abbrev pub renewed_address : Seen → Option ℕ
 renewed_address m = if m.header.ciaddr == 0 then requested_address m else Some m.header.ciaddr
 
@@ -197,7 +198,8 @@ OnNamed q false set planned = OnOther q set planned
 -- a REQUEST, by the server that it names (section 4.3.2)
 abbrev pub OnRequest : Asking → Option ℕ → Option Row → Planned → Type 0
 OnRequest q None set planned =
-    WithAsked (renewed_address q.message) (λ a. InSubnet (serving_subnet q) (λ s. OnRenew q s a)) set planned
+    WithAsked (renewed_address q.message)
+    (λ a. InSubnet (serving_subnet q) (λ s. OnRenew q s a)) set planned
 OnRequest q (Some server) set planned = OnNamed q (server == q.config.server) set planned
 
 -- a lease or an offer that the client gives up: where it holds it, this row is set
@@ -222,7 +224,8 @@ abbrev pub OnRelease : Asking → Option Row → Planned → Type 0
 OnRelease q set planned =
     let a = q.message.header.ciaddr in
     UnlessOther (other_server q.config.server (named_server q.message))
-    (WithCiaddr (a == 0) (GivesUpLease (held_at q a) (released_row q a) reasons.Released)) set planned
+    (WithCiaddr (a == 0) (GivesUpLease (held_at q a) (released_row q a) reasons.Released)) set
+    planned
 
 -- an answer to an INFORM sets no row
 abbrev pub Informs : Subnet → Option Row → Planned → Type 0

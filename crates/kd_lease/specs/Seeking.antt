@@ -1,5 +1,5 @@
--- Words of private contracts alone: what the rules are asked over as the code holds it, what is sought among
--- a client's addresses and in pools, and the first of one rank.
+-- Words of private contracts alone: what the rules are asked over as the code holds it, what is
+-- sought among a client's addresses and in pools, and the first of one rank.
 use Rattle.std.specs.Prelude.{◌≡◌, ℕ, ◌<◌, ◌≤◌, Bool, true, false, not, ◌&&◌, is_none, List, Option, Some, None, if◌then◌else◌}
 use Rattle.std.specs.Str.{bytes_eq}
 use Rattle.kd_config.specs.Address.{has_address}
@@ -27,7 +27,8 @@ sought_at q (seeks.Record s) a = is_record q s.now a
 -- the newer of what was found and an address that is sought
 abbrev pub newer_of : Asking → Sought → Option ℕ → ℕ → Option ℕ
 newer_of q sought None a = if sought_at q sought a then Some a else None
-newer_of q sought (Some b) a = if sought_at q sought a && set_later q.rows a b then Some a else Some b
+newer_of q sought (Some b) a =
+    if sought_at q sought a && set_later q.rows a b then Some a else Some b
 
 -- what is found is the first of a rank, or nothing where no address has it
 abbrev pub IsRanked : Asking → Subnet → Rank → Option ℕ → Type 0
@@ -39,7 +40,8 @@ abbrev pub IsChosen : Asking → Subnet → Option ℕ → Type 0
 IsChosen q s None = NoChoice q s
 IsChosen q s (Some a) = Choice q s a
 
--- the rank of pools that is looked for: addresses that nobody had yet, or those whose rows have ended
+-- the rank of pools that is looked for: addresses that nobody had yet, or those whose rows have
+-- ended
 abbrev pub pool_rank : Bool → Rank
 pool_rank true = fresh
 pool_rank false = expired
@@ -56,7 +58,8 @@ reserves a s = has_address s.prefix a && reserved_in a s
 -- an address, where it is in a pool, has that rank
 abbrev pub is_open : Asking → Subnet → Bool → ℕ → Bool
 is_open q s true a = is_none (row_at q.rows a) && fitting_for q s a
-is_open q s false a = has_such (λ row. not (live_row q.now row)) (row_at q.rows a) && fitting_for q s a
+is_open q s false a =
+    has_such (λ row. not (live_row q.now row)) (row_at q.rows a) && fitting_for q s a
 
 -- the least address from first to last that is open, or that none is
 abbrev pub IsLeastOpen : Asking → Subnet → Bool → ℕ → ℕ → Option ℕ → Type 0

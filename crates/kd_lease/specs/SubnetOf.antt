@@ -1,5 +1,5 @@
--- The subnet that serves a message (RFC 2131 section 4.3.1; Kea Administrator Reference Manual, section How
--- the DHCPv4 Server Selects a Subnet for the Client).
+-- The subnet that serves a message (RFC 2131 section 4.3.1; Kea Administrator Reference Manual,
+-- section How the DHCPv4 Server Selects a Subnet for the Client).
 use Rattle.std.specs.Prelude.{ℕ, Bool, true, not, ◌&&◌, ◌==◌, List, Option, Some, None, if◌then◌else◌}
 use Rattle.std.specs.List.{find}
 use Rattle.kd_config.specs.Address.{has_address}
@@ -8,7 +8,8 @@ use Rattle.kd_config.specs.declared.subnet.Subnet.{Subnet}
 use Rattle.kd_machine.specs.Parts.{is_held}
 use Rattle.kd_wire.specs.declared.header.Header.{Header}
 
--- where a message comes from: its relay, else the address that its client has, else the server's link
+-- where a message comes from: its relay, else the address that its client has, else the server's
+-- link
 abbrev pub message_place : ℕ → Header → ℕ
 message_place server h =
     if not (h.giaddr == 0) then h.giaddr else if not (h.ciaddr == 0) then h.ciaddr else server
@@ -24,4 +25,5 @@ served_by place names subnet = has_address subnet.prefix place && class_admits s
 
 -- the first subnet of the configuration that serves a message whose classes have these names
 unfoldable pub subnet_serving : Configuration → List (List ℕ) → Header → Option Subnet
-subnet_serving config names h = find (served_by (message_place config.server h) names) config.subnets
+subnet_serving config names h =
+    find (served_by (message_place config.server h) names) config.subnets

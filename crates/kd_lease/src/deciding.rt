@@ -20,8 +20,9 @@ use kd_options::{Message, Reply};
 use kd_rows::{Row, Rows};
 use std::alloc::{AllocError, Global};
 
-/// What a message whose classes have these names changes and gets at a moment, in seconds (RFC 2131 section 4.3): the
-/// row that is set in the table, or none, and the reply that is sent, or the reason for which there is none.
+/// What a message whose classes have these names changes and gets at a moment, in seconds (RFC 2131
+/// section 4.3): the row that is set in the table, or none, and the reply that is sent, or the
+/// reason for which there is none.
 ///
 /// # Errors
 ///
@@ -66,7 +67,8 @@ pub fn decide(
 // What a client's message changes and gets, by its rule.
 fn answer_for(alloc: Global, question: &Question<'_>) -> Result<Decision, AllocError>
     requires { question.now.moment < 2 ^ 40 }
-    ensures answers { IfOk result (λ d. AnswersTo (asking question.now) d.row (outcome_in d.answer)) }
+    ensures answers { IfOk result
+        (λ d. AnswersTo (asking question.now) d.row (outcome_in d.answer)) }
     ensures replies { IfOk result (λ d. IsAnswerTo question.now.message.now d.answer) }
     ensures set { IfOk result (λ d. IfSome d.row (IsSetAt question.now.moment)) }
 {
@@ -83,8 +85,8 @@ fn answer_for(alloc: Global, question: &Question<'_>) -> Result<Decision, AllocE
     }
 }
 
-// The reply of a kind, which gives an address or none, with the row that it sets; neither where its obligatory options
-// do not fit.
+// The reply of a kind, which gives an address or none, with the row that it sets; neither where its
+// obligatory options do not fit.
 fn replied(
     alloc: Global,
     question: &Question<'_>,

@@ -17,8 +17,9 @@ use kd_event::Reason;
 use kd_options::{Message, MessageType};
 use std::alloc::{AllocError, Global};
 
-/// What a message does (RFC 2131 section 4.3): the row of the table that is set, or none, and what is planned for it,
-/// which is all but its reply. The checks that come before its type are not made here.
+/// What a message does (RFC 2131 section 4.3): the row of the table that is set, or none, and what
+/// is planned for it, which is all but its reply. The checks that come before its type are not made
+/// here.
 ///
 /// # Errors
 ///
@@ -267,7 +268,11 @@ fn lease(alloc: Global, question: &Question<'_>, address: u32) -> Result<Effect,
     requires { question.now.moment < 2 ^ 40 }
     ensures { IfOk result
         (λ effect. effect
-        ≡ record { row = Some (leased_row (asking question.now) address); planned = plans.Ack address }) }
+        ≡ record {
+          row = Some
+              (leased_row (asking question.now) address);
+          planned = plans.Ack address;
+        }) }
 {
     Ok(Effect {
         row: Some(leased(alloc, question, address)?),
@@ -319,7 +324,8 @@ fn names_other(server: u32, named: Option<u32>) -> bool
     }
 }
 
-// The address of a REQUEST that names no server: the one that the client has, else the one that it asks for.
+// The address of a REQUEST that names no server: the one that the client has, else the one that it
+// asks for.
 fn renewed_of(message: &Message<'_>) -> Option<u32>
     ensures { result ≡ renewed_address message.now }
 {

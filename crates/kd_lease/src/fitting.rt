@@ -10,7 +10,8 @@ use kd_config::Subnet;
 use kd_options::Message;
 use kd_rows::{Row, State};
 
-// An address fits: it is in a pool of the subnet and reserved for nobody, or reserved for the client.
+// An address fits: it is in a pool of the subnet and reserved for nobody, or reserved for the
+// client.
 pub(crate) fn fits(question: &Question<'_>, subnet: &Subnet, address: u32) -> bool
     ensures { result ≡ fitting_for (asking question.now) subnet.now address }
 {

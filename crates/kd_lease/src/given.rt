@@ -16,8 +16,8 @@ use kd_machine::Held;
 use kd_options::{Item, Message};
 use std::alloc::{AllocError, Global};
 
-// Puts the options that the configuration gives at an address of a subnet to the holder of these names, as
-// far as the client asks for them, behind the others.
+// Puts the options that the configuration gives at an address of a subnet to the holder of these
+// names, as far as the client asks for them, after the others.
 pub(crate) fn put_given(
     alloc: Global,
     list: &mut Vec<Item>,
@@ -40,7 +40,7 @@ pub(crate) fn put_given(
     put_values(alloc, list, message, &values)
 }
 
-// Puts the options of the classes whose names are held behind those of others.
+// Puts the options of the classes whose names are held after those of others.
 fn put_class_options<'a>(values: &mut Values<'a>, classes: &'a Classes, names: &Held)
     ensures { (before : List OptionData) → HasValues values.old.by_code before
         → HasValues values.new.by_code (before ++ class_options classes.now names.now) }
@@ -53,7 +53,7 @@ fn put_class_options<'a>(values: &mut Values<'a>, classes: &'a Classes, names: &
     }
 }
 
-// Puts the options of a class whose name is held behind those of others.
+// Puts the options of a class whose name is held after those of others.
 fn put_options_of<'a>(values: &mut Values<'a>, class: &'a ClassDef, names: &Held)
     ensures { (before : List OptionData) → HasValues values.old.by_code before
         → HasValues values.new.by_code (before ++ class_options (class.now ∷ []) names.now) }

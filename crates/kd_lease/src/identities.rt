@@ -5,8 +5,9 @@ use kd_options::Message;
 use kd_wire::Bytes;
 use std::alloc::{AllocError, Global};
 
-/// Who the client of a message is (RFC 2131 section 4.2, RFC 2132 section 9.14): 1 and its identifier where it sends
-/// one that is not empty, else 0, the kind of its hardware and its hardware address; none where it has neither.
+/// Who the client of a message is (RFC 2131 section 4.2, RFC 2132 section 9.14): 1 and its
+/// identifier where it sends one that is not empty, else 0, the kind of its hardware and its
+/// hardware address; none where it has neither.
 ///
 /// # Errors
 ///
@@ -30,7 +31,7 @@ fn hardware_identity(alloc: Global, htype: u8, mac: &[u8]) -> Result<Option<Byte
     }
 }
 
-// Bytes, one list behind another.
+// Bytes, one list after another.
 fn joined(alloc: Global, front: &[u8], back: &[u8]) -> Result<Bytes, AllocError>
     ensures { IfOk result (λ bytes. bytes ≡ front.now ++ back.now) }
 {

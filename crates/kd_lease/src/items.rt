@@ -50,7 +50,7 @@ fn reply_type(kind: PlanKind) -> u8
     }
 }
 
-// Puts the times of a lease behind the others, where an address is given.
+// Puts the times of a lease after the others, where an address is given.
 fn put_times(
     alloc: Global,
     list: &mut Vec<Item>,
@@ -78,7 +78,8 @@ fn put_lease_times(alloc: Global, list: &mut Vec<Item>, times: Times) -> Result<
     put_obligatory(alloc, list, 59, &times.rebind.to_be_bytes())
 }
 
-// Puts the configured options of a reply behind the others: at the address that it gives, or that the client has.
+// Puts the configured options of a reply after the others: at the address that it gives, or that
+// the client has.
 fn put_configured_for(
     alloc: Global,
     list: &mut Vec<Item>,

@@ -1,5 +1,5 @@
-//! What is true of the rules, whatever the program does: each law is the contract of a function that
-//! does nothing.
+//! What is true of the rules, whatever the program does: each law is the contract of a function
+//! that does nothing.
 ghost use Rattle.kd_lease.specs.Laws.{HeldHasNoRank, HeldIsNotGiven, HeldIsNotUsable, NakSetsNone, SetsNow};
 
 /// A row that is set was changed now.
@@ -12,8 +12,8 @@ pub fn nak_sets_none()
     ensures { NakSetsNone }
 {}
 
-/// An address whose row is another client's and has not ended, be it offered, bound or declined, has
-/// no rank: it is the choice for nobody else.
+/// An address whose row is another client's and has not ended, be it offered, bound or declined,
+/// has no rank: it is the choice for nobody else.
 pub fn held_has_no_rank()
     ensures { HeldHasNoRank }
 {}

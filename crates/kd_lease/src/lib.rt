@@ -1,11 +1,12 @@
 //! The rules of leases: what each message of a client gets, and where the reply goes.
 //!
-//! What this layer promises to the one above: a message gets what the rules say over the configuration, by the
-//! classes that it is in (`specs/Change.antt`), in the subnet that serves it (`specs/SubnetOf.antt`); what it does
-//! to the table of leases is that of `specs/Rules.antt`, and the address that a client is offered that of
-//! `specs/Choice.antt`; what is true of these rules over every table is in `specs/Laws.antt`; a reply's
-//! configured options are those that the configuration gives to the client (`specs/Given.antt`); its header and
-//! its destination are those of `specs/ReplyOf.antt` and `specs/Destination.antt`.
+//! What this layer promises to the one above: a message gets what the rules say over the
+//! configuration, by the classes that it is in (`specs/Change.antt`), in the subnet that serves it
+//! (`specs/SubnetOf.antt`); what it does to the table of leases is that of `specs/Rules.antt`, and
+//! the address that a client is offered that of `specs/Choice.antt`; what is true of these rules
+//! over every table is in `specs/Laws.antt`; a reply's configured options are those that the
+//! configuration gives to the client (`specs/Given.antt`); its header and its destination are those
+//! of `specs/ReplyOf.antt` and `specs/Destination.antt`.
 #![tactic(auto)]
 
 mod choice;

@@ -6,7 +6,8 @@ use crate::fitting::fits;
 use crate::question::Question;
 use kd_config::{Range, Subnet};
 
-// The first address in pool order that fits, where it has no row (`new`), or where its row has ended.
+// The first address in pool order that fits, where it has no row (`new`), or where its row has
+// ended.
 pub(crate) fn pooled(question: &Question<'_>, subnet: &Subnet, new: bool) -> Option<u32>
     ensures { IsRanked (asking question.now) subnet.now (pool_rank new) result }
 {

@@ -63,7 +63,7 @@ pub(crate) fn fits_room(reply: &Reply, room: u16) -> bool
     reply.fits(room)
 }
 
-// Puts an option that is always written behind the others.
+// Puts an option that is always written after the others.
 pub(crate) fn put_obligatory(
     alloc: Global,
     list: &mut Vec<Item>,

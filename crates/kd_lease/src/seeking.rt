@@ -75,7 +75,8 @@ fn is_sought(question: &Question<'_>, sought: &Sought<'_>, address: u32) -> bool
     }
 }
 
-// Of two addresses the first is newer: its row was set later, or at one moment and it is the lesser address.
+// Of two addresses the first is newer: its row was set later, or at one moment and it is the lesser
+// address.
 fn is_newer(rows: &Rows, a: u32, b: u32) -> bool
     ensures { result ≡ set_later rows.now.rows a b }
 {

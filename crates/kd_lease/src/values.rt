@@ -20,7 +20,7 @@ impl<'a> Values<'a> {
         Values { by_code }
     }
 
-    // Puts a value behind those of other options.
+    // Puts a value after those of other options.
     pub(crate) fn put(&mut self, code: u8, value: &'a [u8])
         ensures { (options : List OptionData) → HasValues self.old.by_code options
             → HasValues self.new.by_code (options ++ record { code = code; value = value.now }
@@ -33,7 +33,7 @@ impl<'a> Values<'a> {
         }
     }
 
-    // Puts the values of options behind those of others.
+    // Puts the values of options after those of others.
     pub(crate) fn put_all(&mut self, options: &'a [OptionData])
         ensures { (before : List OptionData) → HasValues self.old.by_code before
             → HasValues self.new.by_code (before ++ options.now) }

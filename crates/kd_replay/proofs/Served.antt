@@ -25,7 +25,7 @@ grows_trans {X} (Some old) mid new a b first then =
     subst (λ (m : Option (List X)). Grows m new b → new ≡ Some (old ++ (a ++ b))) (sym first) (λ t. t ∙ ap Some (append_assoc old a b)) then
 
 module _ {H : Type 0} (gives : H → Event → Handled → H → Type 0) where
-  -- a history, and one behind it
+  -- a history, and one after it
   history_then : (events more : List Event) (list behind : List Handled) (old mid new : H)
       → History gives old events list mid → History gives mid more behind new → History gives old (events ++ more) (list ++ behind) new
   history_then [] more [] behind old mid new same h = subst (λ (s : H). History gives s more behind new) same h

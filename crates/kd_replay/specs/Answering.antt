@@ -1,5 +1,5 @@
--- Words of private contracts alone: a handled datagram is answered, its reply handed over to be sent and its text
--- written.
+-- Words of private contracts alone: a handled datagram is answered, its reply handed over to be
+-- sent and its text written.
 use Rattle.std.specs.Prelude.{ℕ, Bool, List, Option}
 use Rattle.std.specs.Io.KnownBytes.{Appends}
 use Rattle.kd_event.specs.declared.event.Handled.{Handled}

@@ -1,4 +1,5 @@
--- Words of private contracts alone: what is taken of the bytes ahead, and which line is found in an input.
+-- Words of private contracts alone: what is taken of the bytes ahead, and which line is found in an
+-- input.
 use Rattle.std.specs.Prelude.{◌≡◌, ℕ, ◌+◌, ◌<◌, ◌≤◌, ◌==◌, false, List, [], ◌∷◌, ◌++◌, Option, Some, length}
 use Rattle.kd_replay.specs.Lines.{line_feeds, line_limit, lines_of}
 use Rattle.kd_replay.specs.declared.ahead.Part.{Part}
@@ -48,7 +49,7 @@ pub record FindsTooLong (lines : List (List ℕ)) : Type 0 where
   pub all : lines ≡ first ∷ later
   pub long : line_limit < length first
 
--- the next of the lines, and the lines behind it
+-- the next of the lines, and the lines after it
 abbrev pub FindsLine : Found → List (List ℕ) → List ℕ → List (List ℕ) → Type 0
 FindsLine found.Line lines text more = (lines ≡ text ∷ more) × (length text ≤ line_limit)
 FindsLine found.TooLong lines text more = FindsTooLong lines

@@ -1,4 +1,5 @@
--- Words of private contracts alone: the room for a line, and what is left where an event is handled and written.
+-- Words of private contracts alone: the room for a line, and what is left where an event is handled
+-- and written.
 use Rattle.std.specs.Prelude.{◌≡◌, ◌≢◌, ℕ, List, Option}
 use Rattle.std.specs.Io.KnownBytes.{Appends}
 use Rattle.kd_replay.specs.Parts.{WritesPart}

@@ -5,8 +5,8 @@ use Rattle.kd_event.specs.declared.event.Handled.{Handled}
 use Rattle.kd_replay.specs.declared.fault.ServeFault.{ServeFault}
 use Rattle.kd_replay.specs.declared.fault.ServeFault.TheVariants as faults
 
--- the relation that says what one event gives: the server before it, the event, what was done with it,
--- the server after it
+-- the relation that says what one event gives: the server before it, the event, what was done with
+-- it, the server after it
 module _ {H : Type 0} (gives : H → Event → Handled → H → Type 0) where
   -- what was done with each event of a list, from the old server to the new one
   abbrev pub History : H → List Event → List Handled → H → Type 0
@@ -23,8 +23,8 @@ pub record NoMemory {H : Type 0} (fault : ServeFault) (list : List Handled)
   pub none : list ≡ []
   pub same : new ≡ old
 
--- the relation that says what a fault leaves: the server before the event, the event, the fault, the
--- server after it
+-- the relation that says what a fault leaves: the server before the event, the event, the fault,
+-- the server after it
 module _ {H : Type 0} (fails : H → Event → ServeFault → H → Type 0) where
   -- how a run ends: without a fault at the end of the events, or with the fault of the next event
   abbrev pub Halts : Option ServeFault → List Event → List Handled → H → H → Type 0
@@ -36,7 +36,7 @@ module _ {H : Type 0} (fails : H → Event → ServeFault → H → Type 0) wher
 
 module _ {H : Type 0} (gives : H → Event → Handled → H → Type 0)
     (fails : H → Event → ServeFault → H → Type 0) where
-  -- a run: the first events have a history, and it ends behind them
+  -- a run: the first events have a history, and it ends after them
   pub record Runs (events : List Event) (list : List Handled) (fault : Option ServeFault)
       (old new : H) : Type 0 where
     pub done : List Event

@@ -23,7 +23,7 @@ abbrev pub line_feeds : List ℕ → ℕ
 line_feeds [] = 0
 line_feeds (b ∷ bytes) = if b == 10 then line_feeds bytes + 1 else line_feeds bytes
 
--- a number with more decimal digits behind it, as long as it is below 2 ^ 64
+-- a number with more decimal digits after it, as long as it is below 2 ^ 64
 abbrev pub number_after : ℕ → List ℕ → Option ℕ
 number_after n [] = Some n
 number_after n (d ∷ digits) =

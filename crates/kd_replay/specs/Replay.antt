@@ -48,8 +48,8 @@ module _ {H : Type 0} (gives : H → Event → Handled → H → Type 0) where
     pub history : History gives server events list new
     pub written : out ≡ old ++ flat_map line_of list
 
-  -- the lines that a source gave whole before it failed, each with its line feed, are handled, and what is written is
-  -- the text of the lines that are handled
+  -- the lines that a source gave whole before it failed, each with its line feed, are handled, and
+  -- what is written is the text of the lines that are handled
   pub record HandlesWhole (input : List ℕ) (left : Option (List ℕ)) (server new : H) (old : List ℕ)
       (contents : Option (List ℕ)) : Type 0 where
     pub given : List ℕ
@@ -86,9 +86,10 @@ module _ {H : Type 0} (fails : H → Event → ServeFault → H → Type 0) wher
 
 module _ {H : Type 0} (gives : H → Event → Handled → H → Type 0)
     (fails : H → Event → ServeFault → H → Type 0) where
-  -- how a replay ends at the line with a number, the first of those that are left: at a line that is no
-  -- event, at a fault of its event, while its text is written, where the source has failed or it is one
-  -- line too many, or for want of memory: that comes at the start, or at a line whose moment can be read
+  -- how a replay ends at the line with a number, the first of those that are left: at a line that
+  -- is no event, at a fault of its event, while its text is written, where the source has failed or
+  -- it is one line too many, or for want of memory: that comes at the start, or at a line whose
+  -- moment can be read
   abbrev pub Ends : Type 0 → ReplayFault → ℕ → List (List ℕ) → H → H → List ℕ → List ℕ → Type 0
   Ends source_failed (faults.BadLine k) number lines server new old out =
       (k ≡ number) × FirstLineIs IsNoEvent lines × (new ≡ server) × (out ≡ old)
@@ -102,8 +103,8 @@ module _ {H : Type 0} (gives : H → Event → Handled → H → Type 0)
   Ends source_failed faults.Memory number lines server new old out =
       ((number ≡ 1) ⊎ FirstLineIs HasMoment lines) × (new ≡ server) × (out ≡ old)
 
-  -- a replay stops: the lines before are handled, and it ends at the next, which is one of the first 1,000,000 but where
-  -- the source has failed or there is one line too many
+  -- a replay stops: the lines before are handled, and it ends at the next, which is one of the
+  -- first 1,000,000 but where the source has failed or there is one line too many
   pub record Stops (source_failed : Type 0) (fault : ReplayFault) (lines : List (List ℕ))
       (server new : H) (old out : List ℕ) : Type 0 where
     pub before : List (List ℕ)
@@ -116,7 +117,8 @@ module _ {H : Type 0} (gives : H → Event → Handled → H → Type 0)
     pub did : Did gives before server mid old between
     pub ends : Ends source_failed fault (length before + 1) after mid new between out
 
-  -- a replay: all lines are handled, as many as it says and 1,000,000 at most, or it stops with its fault
+  -- a replay: all lines are handled, as many as it says and 1,000,000 at most, or it stops with its
+  -- fault
   abbrev pub Replays : Type 0 → Result ℕ ReplayFault → List (List ℕ) → H → H → List ℕ → List ℕ
       → Type 0
   Replays source_failed (Ok count) lines server new old out =

@@ -1,4 +1,5 @@
--- Datagrams that are served one after another as they are received: what is handled, sent and written.
+-- Datagrams that are served one after another as they are received: what is handled, sent and
+-- written.
 use Rattle.std.specs.Prelude.{◌≡◌, ◌≢◌, ℕ, ◌≤◌, Bool, true, false, List, [], ◌∷◌, ◌++◌, Option, None, Some, codes, length, map}
 use Rattle.std.specs.List.{flat_map}
 use Rattle.std.specs.Io.KnownBytes.{Appends}
@@ -36,7 +37,7 @@ packets_in sent (responses.Quiet reason) = []
 abbrev pub send_fault : List ℕ
 send_fault = codes "fault 99 Send\n"
 
--- what is written behind the line of a datagram: where its reply was not sent, the line that says so
+-- what is written after the line of a datagram: where its reply was not sent, the line that says so
 abbrev pub behind_line : Bool → Response → List ℕ
 behind_line false (responses.Reply destination bytes) = send_fault
 behind_line false (responses.Quiet reason) = []
@@ -55,8 +56,8 @@ packets_of answered = packets_in answered.sent answered.handled.response
 abbrev pub text_of : Answered → List ℕ
 text_of answered = line_of answered.handled ++ behind_line answered.sent answered.handled.response
 
--- what has come and gone so far, where it is known: the datagrams received, those handed over to be sent, and the bytes
--- written
+-- what has come and gone so far, where it is known: the datagrams received, those handed over to be
+-- sent, and the bytes written
 pub record Traffic : Type 0 where
   pub received : Option (List (List ℕ))
   pub sent : Option (List Packet)
@@ -64,8 +65,8 @@ pub record Traffic : Type 0 where
 
 -- the relation that says what one event gives
 module _ {H : Type 0} (gives : H → Event → Handled → H → Type 0) where
-  -- so many datagrams were served: they are events that have a history, their replies were handed over to be sent, and
-  -- what was written is their texts, in that order
+  -- so many datagrams were served: they are events that have a history, their replies were handed
+  -- over to be sent, and what was written is their texts, in that order
   pub record HasServed (count : ℕ) (server new : H) (old out : Traffic) : Type 0 where
     pub events : List Event
     pub list : List Answered
@@ -85,7 +86,8 @@ module _ {H : Type 0} (gives : H → Event → Handled → H → Type 0) where
     pub cut : WritesPart old.written out.written (text_of answered)
 
 module _ {H : Type 0} (fails : H → Event → ServeFault → H → Type 0) where
-  -- one datagram was received and has a fault, which is not want of memory; nothing was sent or written for it
+  -- one datagram was received and has a fault, which is not want of memory; nothing was sent or
+  -- written for it
   pub record HasFailed (fault : ServeFault) (server new : H) (old out : Traffic) : Type 0 where
     pub event : Event
     pub failed : fails server event fault new
@@ -96,8 +98,9 @@ module _ {H : Type 0} (fails : H → Event → ServeFault → H → Type 0) wher
 
 module _ {H : Type 0} (gives : H → Event → Handled → H → Type 0)
     (fails : H → Event → ServeFault → H → Type 0) where
-  -- how serving ends before its count: nothing could be received; for want of memory, with nothing sent or written for
-  -- the last datagram; at a fault of the server; or where a text could not be written
+  -- how serving ends before its count: nothing could be received; for want of memory, with nothing
+  -- sent or written for the last datagram; at a fault of the server; or where a text could not be
+  -- written
   abbrev pub EndsServing : Type 0 → Type 0 → LoopFault → H → H → Traffic → Traffic → Type 0
   EndsServing not_received not_written faults.Read server new old out =
       not_received × (new ≡ server) × (out ≡ old)

@@ -55,13 +55,13 @@ impl Sink for Kept {
     }
 }
 
-/// Replays the events of an input in memory, and gives what is written beside how the replay ends. What it says has no
-/// premise on its ends.
+/// Replays the events of an input in memory, and gives what is written beside how the replay ends.
+/// What it says has no premise on its ends.
 ///
 /// # Errors
 ///
-/// Those of `replay_with`: `Read` where the input has more than 1,000,000 lines, and `Write` where there is no memory
-/// for what is written.
+/// Those of `replay_with`: `Read` where the input has more than 1,000,000 lines, and `Write` where
+/// there is no memory for what is written.
 pub fn replay_bytes<H: Serves>(
     alloc: Global,
     input: &[u8],

@@ -23,8 +23,8 @@ pub trait Source {
     /// Whether a read has failed.
     ghost has_failed: { Self → Bool };
 
-    /// Reads some bytes to the front of the buffer, and says how many: none only at the end, or with
-    /// no room.
+    /// Reads some bytes to the front of the buffer, and says how many: none only at the end, or
+    /// with no room.
     fn read(&mut self, buf: &mut [u8]) -> Result<usize, EndFailed>
         ensures count { IfOk result (λ n. n ≤ length buf.new) }
         ensures bytes { ReadConsumes (remaining self.old) (remaining self.new) result buf.new }

@@ -15,8 +15,8 @@ pub enum ServeFault {
     /// There is no memory for the event.
     #[error("Memory")]
     Memory,
-    /// The store of leases has failed at this event: no reply is sent, and the store holds the rows from
-    /// before or those with the event's change.
+    /// The store of leases has failed at this event: no reply is sent, and the store holds the rows
+    /// from before or those with the event's change.
     #[error("Store {0}")]
     Store(StoreFault),
     /// The store of leases has failed at an earlier event and was not opened again.

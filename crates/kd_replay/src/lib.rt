@@ -1,9 +1,9 @@
 //! Events in, a history out: the lines of a day, and what any server makes of them.
 //!
-//! What this layer promises to the one above: whatever a server does with an event (`Serves`), a run gives the history
-//! of its events (`specs/History.antt`), and a replay reads lines and writes the text of exactly that history
-//! (`specs/Lines.antt`, `specs/Replay.antt`, `specs/Text.antt`), up to the first fault (`specs/Faults.antt`). The line
-//! of one event alone is `event_line`.
+//! What this layer promises to the one above: whatever a server does with an event (`Serves`), a
+//! run gives the history of its events (`specs/History.antt`), and a replay reads lines and writes
+//! the text of exactly that history (`specs/Lines.antt`, `specs/Replay.antt`, `specs/Text.antt`),
+//! up to the first fault (`specs/Faults.antt`). The line of one event alone is `event_line`.
 #![tactic(auto)]
 
 mod ahead;

@@ -32,7 +32,7 @@ pub(crate) fn event_in(alloc: Global, line: &[u8]) -> Result<Option<Event>, Allo
     Ok(Some(Event { moment, bytes }))
 }
 
-// What stands before and behind the first space.
+// What stands before and after the first space.
 fn at_space(line: &[u8]) -> Option<(&[u8], &[u8])>
     ensures { MatchOption result (HasNo 32 line.now)
         (λ parts. (line.now ≡ parts.0.now ++ 32 ∷ parts.1.now) × HasNo 32 parts.0.now) }
@@ -58,7 +58,7 @@ fn moment_in(digits: &[u8]) -> Option<u64>
     Some(number)
 }
 
-// A number with one decimal digit more behind it.
+// A number with one decimal digit more after it.
 fn with_digit(number: u64, digit: u8) -> Option<u64>
     ensures { result ≡ (if is_ascii_digit digit && nat_lt (number * 10 + (digit - 48)) (2 ^ 64)
         then Some (number * 10 + (digit - 48)) else None) }

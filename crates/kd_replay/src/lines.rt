@@ -17,7 +17,8 @@ pub(crate) enum Found {
     End,
 }
 
-// Reads the next line, without its line feed, into `line`. What is too long is found before its end.
+// Reads the next line, without its line feed, into `line`. What is too long is found before its
+// end.
 pub(crate) fn next_line<S: Source>(
     ahead: &mut Ahead,
     source: &mut S,

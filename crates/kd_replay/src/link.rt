@@ -15,7 +15,8 @@ pub trait Link {
     /// Whether nothing could be received at a call.
     ghost has_failed: { Self → Bool };
 
-    /// Receives a datagram to the front of the buffer, and says its length; what does not fit is cut off.
+    /// Receives a datagram to the front of the buffer, and says its length; what does not fit is
+    /// cut off.
     ///
     /// # Errors
     ///

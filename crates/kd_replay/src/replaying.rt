@@ -42,15 +42,15 @@ impl Work {
     }
 }
 
-/// Handles the events of the source's lines, one after another, and writes a line for each to the sink, up
-/// to the first fault; says how many were handled. An input line has a moment in decimal, a space, and a
-/// datagram in hexadecimal.
+/// Handles the events of the source's lines, one after another, and writes a line for each to the
+/// sink, up to the first fault; says how many were handled. An input line has a moment in decimal,
+/// a space, and a datagram in hexadecimal.
 ///
 /// # Errors
 ///
-/// `Read` where the source fails, or has more than 1,000,000 lines; `BadLine` at a line that is no event;
-/// `Serve` with the fault of a line's event; `Write` where the sink fails; `Memory`. What was handled
-/// before stands written.
+/// `Read` where the source fails, or has more than 1,000,000 lines; `BadLine` at a line that is no
+/// event; `Serve` with the fault of a line's event; `Write` where the sink fails; `Memory`. What
+/// was handled before stands written.
 pub fn replay_with<R: Source, W: Sink, H: Serves>(
     alloc: Global,
     source: &mut R,

@@ -6,7 +6,8 @@ use crate::serves::Serves;
 use kd_event::{Event, Handled};
 use std::alloc::Global;
 
-/// Handles events one after another, up to the first fault. The list for all of them is grown first.
+/// Handles events one after another, up to the first fault. The list for all of them is grown
+/// first.
 ///
 /// # Errors
 ///

@@ -11,7 +11,8 @@ pub trait Serves {
     ghost use Rattle.kd_replay.specs.declared.fault.ServeFault.{ServeFault};
     ghost use Rattle.kd_replay.specs.declared.fault.ServeFault.TheVariants as faults;
 
-    /// What an event gives: the server before it, the event, what was done with it, the server after.
+    /// What an event gives: the server before it, the event, what was done with it, the server
+    /// after.
     ghost gives: { Self → Event → Handled → Self → Type 0 };
 
     /// What a fault says: the server before the event, the event, the fault, the server after.

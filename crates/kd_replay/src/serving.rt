@@ -15,7 +15,8 @@ use crate::writing::write_all;
 use kd_event::{Handled, Response};
 use std::alloc::{AllocError, Global};
 
-// One byte more than the longest datagram that reads as a message, so that a longer one does not read as one.
+// One byte more than the longest datagram that reads as a message, so that a longer one does not
+// read as one.
 const DATAGRAM_ROOM: usize = 4_097;
 
 const SEND_FAULT: &[u8] = b"fault 99 Send\n";
@@ -38,14 +39,14 @@ impl Work {
     }
 }
 
-/// Serves so many datagrams as they are received, one after another: each is an event at the moment of the clock, its reply
-/// is handed over to be sent, and its line is written, behind which stands `fault 99 Send` where the reply could not be
-/// sent.
+/// Serves so many datagrams as they are received, one after another: each is an event at the moment
+/// of the clock, its reply is handed over to be sent, and its line is written, after which stands
+/// `fault 99 Send` where the reply could not be sent.
 ///
 /// # Errors
 ///
-/// `Read` where nothing can be received; `Serve` with the fault of a datagram's event; `Write` where the sink fails;
-/// `Memory`. What was served before stands.
+/// `Read` where nothing can be received; `Serve` with the fault of a datagram's event; `Write`
+/// where the sink fails; `Memory`. What was served before stands.
 pub fn serve_with<L: Link, C: Clock, W: Sink, H: Serves>(
     alloc: Global,
     link: &mut L,
@@ -170,7 +171,8 @@ fn answer<L: Link, W: Sink>(
     }
 }
 
-// Puts the text of a handled datagram in place of what is there, by whether its reply was sent; no memory is taken.
+// Puts the text of a handled datagram in place of what is there, by whether its reply was sent; no
+// memory is taken.
 fn put_text(room: &mut Vec<u8>, handled: &Handled, sent: bool)
     requires line { length (line_of handled.now) ≤ line_room }
     requires room { line_room + 14 ≤ vec_capacity room.old }
@@ -182,7 +184,8 @@ fn put_text(room: &mut Vec<u8>, handled: &Handled, sent: bool)
     put_behind(room, &handled.response, sent);
 }
 
-// Appends the line that says that a reply was not sent, where there is one and it was not; no memory is taken.
+// Appends the line that says that a reply was not sent, where there is one and it was not; no
+// memory is taken.
 fn put_behind(room: &mut Vec<u8>, response: &Response, sent: bool)
     requires { length room.old.items + 14 ≤ vec_capacity room.old }
     ensures items { room.new.items ≡ room.old.items ++ behind_line sent response.now }

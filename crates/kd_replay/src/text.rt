@@ -65,7 +65,8 @@ fn put_reply(room: &mut Vec<u8>, destination: Destination, bytes: &[u8])
 }
 
 fn put_quiet(room: &mut Vec<u8>, reason: Reason)
-    requires { length room.old.items + length (quiet_line (reason_number reason) (reason_name reason))
+    requires { length room.old.items
+        + length (quiet_line (reason_number reason) (reason_name reason))
         ≤ vec_capacity room.old }
     ensures items { room.new.items ≡ room.old.items
         ++ quiet_line (reason_number reason) (reason_name reason) }

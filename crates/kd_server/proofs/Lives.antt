@@ -134,14 +134,14 @@ module _ {S : Type 0} (g : Ghosts S) where
           are = inr (record { moment = ap (λ (v : Event). v.moment) (sym its); reads = subst (λ (v : Event). Reads v.bytes w.message) (sym its) w.reads; answer = is e refl }, none);
         }
 
-  -- what is told of calls behind one that changed nothing
+  -- what is told of calls after one that changed nothing
   unchanged : (old mid new : Keeping S) (call : Call) (calls : List Call) → IsIdle call.event call.answer → mid ≡ old → Tells mid calls new
       → Tells old (call ∷ calls) new
   unchanged old mid new call calls idle same tells last found =
       let later : Told old.config old.ports old.rows calls last = subst (λ (s : Keeping S). Told s.config s.ports s.rows calls last) same (tells last found) in
       record { steps = later.steps; history = later.history; are = idle_first old.ports call calls later.steps idle later.are }
 
-  -- what is told of a call and those behind it
+  -- what is told of a call and those after it
   one : (old mid new : Keeping S) (event : Event) (answer : Result Handled ServeFault) (calls : List Call) → CallAnswers g old event answer mid
       → Called g mid calls new → g.has_clean_disk mid.store → StoreHolds g old.store old.rows → (StoreHolds g mid.store mid.rows → Tells mid calls new)
       → Tells old (record { event = event; answer = answer } ∷ calls) new
@@ -234,7 +234,7 @@ module _ {S : Type 0} (g : Ghosts S) where
   none_done [] (handled ∷ list) old mid none h = absurd h
   none_done (event ∷ done) [] old mid none h = absurd h
 
-  -- how a run ends, as calls behind its history
+  -- how a run ends, as calls after its history
   halted : (done after : List Event) (list : List Handled) (fault : Option ServeFault) (old mid new : Keeping S)
       → past.History (Steps g) old done list mid → past.Halts (Refuses g) fault after list mid new
       → Called g old (calls_of (done ++ after) list fault) new ⊎ past.NoMemory faults.Memory list old new

@@ -1,5 +1,5 @@
--- What a server with leases stands at, over any store that keeps them, and what it does with an event: it answers
--- and changes its rows as the history says, and the store keeps those rows.
+-- What a server with leases stands at, over any store that keeps them, and what it does with an
+-- event: it answers and changes its rows as the history says, and the store keeps those rows.
 use Rattle.std.specs.Prelude.{◌≡◌, ◌≢◌, ℕ, ◌^◌, ◌≤◌, ◌<◌, Bool, true, false, List, Ok}
 use Rattle.kd_config.specs.Configuration.{Configuration}
 use Rattle.kd_event.specs.declared.event.Event.{Event}
@@ -15,7 +15,8 @@ use Rattle.kd_server.specs.Step.{IsStep}
 use Rattle.kd_wire.specs.Header.{header_read}
 use Rattle.kd_wire.specs.declared.header.Header.{Header}
 
--- what contracts see of a server: its ports, the configuration that it goes by, its rows, and its store
+-- what contracts see of a server: its ports, the configuration that it goes by, its rows, and its
+-- store
 pub record Keeping (S : Type 0) : Type 0 where
   pub ports : Ports
   pub config : Configuration
@@ -44,8 +45,8 @@ module _ {S : Type 0} (g : Ghosts S) where
     pub stands : g.stands store rows
     pub leaves : g.leaves store rows rows
 
-  -- a store that works: where its disk is clean it was clean before, and a store that held the rows from before
-  -- holds those from after
+  -- a store that works: where its disk is clean it was clean before, and a store that held the rows
+  -- from before holds those from after
   pub record StillHolds (old new : S) (before rows : List Row) : Type 0 where
     pub works : g.has_failed new ≡ false
     pub clean : g.has_clean_disk new → g.has_clean_disk old
@@ -73,7 +74,8 @@ module _ {S : Type 0} (g : Ghosts S) where
     pub step : StepsTo old.config old.ports old.rows event handled new.rows
     pub store : StillHolds old.store new.store old.rows new.rows
 
-  -- the store has failed at the change of an event: there is no answer, and the server's rows are those from before
+  -- the store has failed at the change of an event: there is no answer, and the server's rows are
+  -- those from before
   pub record IsStopped (old : Keeping S) (event : Event) (new : Keeping S) : Type 0 where
     pub worked : g.has_failed old.store ≡ false
     pub same : IsSameBut old new
@@ -82,8 +84,9 @@ module _ {S : Type 0} (g : Ghosts S) where
     pub step : StepsTo old.config old.ports old.rows event handled after
     pub store : Loses old.store new.store old.rows after
 
-  -- why an event is not handled, and what stands then: want of memory, which may come once the header is read, a
-  -- moment of 2^40 or more and a store that has failed before change nothing; else the store has failed at this event
+  -- why an event is not handled, and what stands then: want of memory, which may come once the
+  -- header is read, a moment of 2^40 or more and a store that has failed before change nothing;
+  -- else the store has failed at this event
   abbrev pub Refuses : Keeping S → Event → ServeFault → Keeping S → Type 0
   Refuses old event faults.MomentTooLarge new =
       (g.has_failed old.store ≡ false) × (2 ^ 40 ≤ event.moment) × (new ≡ old)
@@ -93,8 +96,8 @@ module _ {S : Type 0} (g : Ghosts S) where
   Refuses old event (faults.Store fault) new = IsStopped old event new
   Refuses old event faults.Failed new = (g.has_failed old.store ≡ true) × (new ≡ old)
 
-  -- a server that was opened over a store: where the store stood at a table, its rows are that table, and the store
-  -- holds them
+  -- a server that was opened over a store: where the store stood at a table, its rows are that
+  -- table, and the store holds them
   pub record Opens (ports : Ports) (config : Configuration) (store : S)
       (server : Keeping S) : Type 0 where
     pub ports_are : server.ports ≡ ports
@@ -104,8 +107,8 @@ module _ {S : Type 0} (g : Ghosts S) where
     pub holds : g.has_clean_disk server.store → (table : List Row) → g.stands store table
         → (server.rows ≡ table) × StoreHolds server.store table
 
-  -- no server was opened: the configuration and the store come back, and a crash leaves the table that the store
-  -- stood at
+  -- no server was opened: the configuration and the store come back, and a crash leaves the table
+  -- that the store stood at
   pub record IsUnopened (config : Configuration) (store : S) (fault : ServeFault)
       (same : Configuration) (back : S) : Type 0 where
     pub config_is : same ≡ config

@@ -36,8 +36,8 @@ abbrev pub word_of_live : Bool → List ℕ
 word_of_live true = codes "live"
 word_of_live false = codes "past"
 
--- the line of a lease, with its line feed: address, state, client, the moment at which it was set, its end, and whether
--- it is live
+-- the line of a lease, with its line feed: address, state, client, the moment at which it was set,
+-- its end, and whether it is live
 unfoldable pub lease_line : Lease → List ℕ
 lease_line lease =
     address_text lease.row.address ++ codes " " ++ word_of_state lease.row.state ++ codes " "

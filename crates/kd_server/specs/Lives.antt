@@ -1,5 +1,5 @@
--- A server that is opened, run, stopped and opened again on what a crash left: a life, of several openings. It is a
--- history with stops.
+-- A server that is opened, run, stopped and opened again on what a crash left: a life, of several
+-- openings. It is a history with stops.
 use Rattle.std.specs.Prelude.{◌≡◌, ◌⊎◌, List, [], ◌∷◌, ◌++◌, Result, Ok, Err, Option, Some, None}
 use Rattle.kd_config.specs.Configuration.{Configuration}
 use Rattle.kd_event.specs.declared.event.Event.{Event}
@@ -21,8 +21,8 @@ pub record Call : Type 0 where
   pub event : Event
   pub answer : Result Handled ServeFault
 
--- one opening of a server: the store that it was opened over and the rows at which that stood, the ports, the calls of
--- `handle`, and the store as it was left
+-- one opening of a server: the store that it was opened over and the rows at which that stood, the
+-- ports, the calls of `handle`, and the store as it was left
 pub record Opening (S : Type 0) : Type 0 where
   pub store : S
   pub rows : List Row
@@ -56,7 +56,8 @@ module _ {S : Type 0} (g : Ghosts S) where
     pub unopened : IsUnopened g config o.store fault config o.left
     pub none : o.calls ≡ []
 
-  -- an opening with this configuration: the store stands at the rows, and has met no disk that does not do what it says
+  -- an opening with this configuration: the store stands at the rows, and has met no disk that does
+  -- not do what it says
   pub record IsOpening (config : Configuration) (o : Opening S) : Type 0 where
     pub stands : g.stands o.store o.rows
     pub done : IsRun config o ⊎ IsNoRun config o
@@ -73,7 +74,8 @@ module _ {S : Type 0} (g : Ghosts S) where
   Life config (o ∷ []) = IsOpening config o
   Life config (o ∷ p ∷ os) = IsOpening config o × IsLeft o.left p.rows × Life config (p ∷ os)
 
--- the calls of a run: the events with what was done with them, and the next event with the fault, where there is one
+-- the calls of a run: the events with what was done with them, and the next event with the fault,
+-- where there is one
 abbrev pub calls_of : List Event → List Handled → Option ServeFault → List Call
 calls_of [] list fault = []
 calls_of (event ∷ events) (handled ∷ list) fault =
@@ -88,14 +90,15 @@ RunsAreCalls {S} g =
     → Runs (Steps g) (Refuses g) events list fault old new
     → Called g old (calls_of events list fault) new ⊎ NoMemory faults.Memory list old new
 
--- a call in which nothing happens: the datagram reads as no message, or the fault is other than the store's
+-- a call in which nothing happens: the datagram reads as no message, or the fault is other than the
+-- store's
 abbrev pub IsIdle : Event → Result Handled ServeFault → Type 0
 IsIdle event (Ok handled) = (m : Seen) → Reads event.bytes m → ⊥
 IsIdle event (Err (faults.Store fault)) = ⊥
 IsIdle event (Err fault) = Unit {0}
 
--- what a step gets is what a call answered: what was sent, at the moment that counts; and where the store has failed the
--- step was stopped
+-- what a step gets is what a call answered: what was sent, at the moment that counts; and where the
+-- store has failed the step was stopped
 abbrev pub IsAnswerOf : Ports → LeaseStep → Result Handled ServeFault → Type 0
 IsAnswerOf ports e (Ok handled) =
     (handled.now ≡ now_of e) × ((outcome : Outcome) × (e.outcome ≡ Some outcome)
@@ -103,7 +106,8 @@ IsAnswerOf ports e (Ok handled) =
 IsAnswerOf ports e (Err (faults.Store fault)) = e.outcome ≡ None
 IsAnswerOf ports e (Err fault) = ⊥
 
--- a step is a call: its moment is the event's, its message is what the datagram reads as, and it gets what was answered
+-- a step is a call: its moment is the event's, its message is what the datagram reads as, and it
+-- gets what was answered
 pub record IsStepOf (ports : Ports) (call : Call) (e : LeaseStep) : Type 0 where
   pub moment : e.moment ≡ call.event.moment
   pub reads : Reads call.event.bytes e.message
@@ -121,7 +125,8 @@ AreSteps ports (call ∷ calls) (e ∷ es) =
 abbrev pub AreStepsOfAll : {S : Type 0} → List (Opening S) → List LeaseStep → Type 0
 AreStepsOfAll [] es = es ≡ []
 AreStepsOfAll (o ∷ os) es =
-    (mine : List LeaseStep) × (later : List LeaseStep) × (es ≡ mine ++ later) × AreSteps o.ports o.calls mine
+    (mine : List LeaseStep) × (later : List LeaseStep) × (es ≡ mine ++ later)
+    × AreSteps o.ports o.calls mine
     × AreStepsOfAll os later
 
 -- the rows at which a life begins; without an opening there are none

@@ -1,5 +1,5 @@
--- While an address is leased to a client it is given to no other (RFC 2131 section 1.6), over histories of one
--- configuration in which a step may be stopped.
+-- While an address is leased to a client it is given to no other (RFC 2131 section 1.6), over
+-- histories of one configuration in which a step may be stopped.
 use Rattle.std.specs.Prelude.{◌≡◌, ◌≢◌, ℕ, ◌+◌, ◌<◌, ◌≤◌, max, ◌⊎◌, List, [], ◌∷◌, Option, Some, None}
 use Rattle.std.specs.List.{slice_get}
 use Rattle.kd_config.specs.Configuration.{Configuration}
@@ -14,8 +14,8 @@ use Rattle.kd_options.specs.declared.kind.MessageType.TheVariants as types
 use Rattle.kd_rows.specs.Table.{latest_of, row_at}
 use Rattle.kd_rows.specs.declared.row.Row.{Row}
 
--- one step of a history: a message at a moment, the rows before it and after it, and what it gets; nothing where the
--- step was stopped
+-- one step of a history: a message at a moment, the rows before it and after it, and what it gets;
+-- nothing where the step was stopped
 pub record LeaseStep : Type 0 where
   pub moment : ℕ
   pub message : Seen
@@ -31,8 +31,8 @@ now_of e = max e.moment (latest_of e.before)
 abbrev pub ChangesTo : Configuration → LeaseStep → Outcome → Type 0
 ChangesTo config e outcome = Changes config e.before e.message (now_of e) e.after outcome
 
--- what may happen in a step: the rules' change, with what the message gets; where the step was stopped there is no
--- reply, and the rows are those from before it or those after the change
+-- what may happen in a step: the rules' change, with what the message gets; where the step was
+-- stopped there is no reply, and the rows are those from before it or those after the change
 abbrev pub Happens : Configuration → LeaseStep → Option Outcome → Type 0
 Happens config e (Some outcome) = ChangesTo config e outcome
 Happens config e None = (e.after ≡ e.before) ⊎ ((outcome : Outcome) × ChangesTo config e outcome)
@@ -76,8 +76,8 @@ pub record GivesUpBetween (es : List LeaseStep) (i j : ℕ) (client : List ℕ) 
   pub there : slice_get es place ≡ Some step
   pub gives_up : GivesUp step client a
 
--- whatever the table at first: where a step leased an address to a client, and a later one gives it to another, the
--- lifetime has passed since, or between them the client gave the address up
+-- whatever the table at first: where a step leased an address to a client, and a later one gives it
+-- to another, the lifetime has passed since, or between them the client gave the address up
 abbrev pub NoOverlap : Type 0
 NoOverlap =
     (config : Configuration) (rows : List Row) (es : List LeaseStep) → LeaseHistory config rows es

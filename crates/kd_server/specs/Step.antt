@@ -1,5 +1,5 @@
--- One event of a history: a datagram at a moment, over a table of leases. What a message changes is a
--- parameter.
+-- One event of a history: a datagram at a moment, over a table of leases. What a message changes is
+-- a parameter.
 use Rattle.std.specs.Prelude.{◌≡◌, ℕ, ◌^◌, ◌<◌, max, ◌⊎◌}
 use Rattle.kd_options.specs.Message.{Seen, Reads}
 use Rattle.kd_lease.specs.Client.{reply_room}
@@ -14,7 +14,8 @@ use Rattle.kd_event.specs.declared.event.Response.{Response}
 use Rattle.kd_event.specs.declared.event.Response.TheVariants as responses
 use Rattle.kd_event.specs.declared.reason.Reason.TheVariants as reasons
 
--- what is sent for a message that gets this: a planned reply's text, to its destination; else the reason
+-- what is sent for a message that gets this: a planned reply's text, to its destination; else the
+-- reason
 abbrev pub Responds : Ports → Seen → Outcome → Response → Type 0
 Responds ports m (quiet reason) response = response ≡ responses.Quiet reason
 Responds ports m (planned kind yiaddr options) (responses.Quiet reason) = ⊥

@@ -1,5 +1,5 @@
--- The steps in which a server with leases answers a datagram. Proofs tie these to the history's one event; no public
--- contract cites them.
+-- The steps in which a server with leases answers a datagram. Proofs tie these to the history's one
+-- event; no public contract cites them.
 use Rattle.std.specs.Prelude.{◌≡◌, ℕ, ◌⊎◌, List, Option, None}
 use Rattle.kd_classes.specs.HeldSet.{HeldSet}
 use Rattle.kd_config.specs.Configuration.{Configuration}

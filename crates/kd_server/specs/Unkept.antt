@@ -1,5 +1,5 @@
--- The steps in which a server keeps a row. Proofs tie these to the history's one event; no public contract cites
--- them.
+-- The steps in which a server keeps a row. Proofs tie these to the history's one event; no public
+-- contract cites them.
 use Rattle.std.specs.Prelude.{◌≡◌, ◌≢◌, ◌≤◌, List}
 use Rattle.kd_keeps.specs.declared.keeps.Keeps.{Ghosts}
 use Rattle.kd_replay.specs.declared.fault.ServeFault.{ServeFault}
@@ -15,8 +15,8 @@ pub record IsSettable (rows : List Row) (row : Row) : Type 0 where
   pub in_range : IsInRange row
 
 module _ {S : Type 0} (g : Ghosts S) where
-  -- a row that changes the rows is not kept: memory ran out, and nothing changed; or the store failed, and the
-  -- rows stay
+  -- a row that changes the rows is not kept: memory ran out, and nothing changed; or the store
+  -- failed, and the rows stay
   abbrev pub IsUnkept : List Row → List Row → S → S → List Row → ServeFault → Type 0
   IsUnkept before rows old new after faults.MomentTooLarge = ⊥
   IsUnkept before rows old new after faults.Memory =

@@ -5,10 +5,10 @@ ghost use Rattle.kd_server.specs.NoOverlap.{NoOverlap};
 
 use kd_keeps::Keeps;
 
-/// No address is leased to one client and given to another at once. Where an ACK of a REQUEST leased
-/// an address, each OFFER or ACK of it to another client comes at least the lifetime later, or after
-/// a RELEASE or DECLINE of the first client that changed the address's row. This holds of every
-/// history of one configuration, from any table, stopped events included.
+/// No address is leased to one client and given to another at once. Where an ACK of a REQUEST
+/// leased an address, each OFFER or ACK of it to another client comes at least the lifetime later,
+/// or after a RELEASE or DECLINE of the first client that changed the address's row. This holds of
+/// every history of one configuration, from any table, stopped events included.
 pub fn no_overlap()
     ensures { NoOverlap }
 {
@@ -20,9 +20,10 @@ pub fn no_overlap()
     kd_lease::laws::held_is_not_given();
 }
 
-/// A server that is opened over a store, called, stopped and opened again on what a crash left of its store, as often
-/// as one likes, has one history with stops, of which `no_overlap` speaks: each step is a call of `Server::handle`, and
-/// where the store failed the step was stopped. It holds of every store that keeps leases, where its disk is clean.
+/// A server that is opened over a store, called, stopped and opened again on what a crash left of
+/// its store, as often as one likes, has one history with stops, of which `no_overlap` speaks: each
+/// step is a call of `Server::handle`, and where the store failed the step was stopped. It holds of
+/// every store that keeps leases, where its disk is clean.
 pub fn lives_are_histories<S: Keeps>()
     ensures { LivesAreHistories S.Keeps }
 {}

@@ -70,8 +70,8 @@ fn lease_at(alloc: Global, row: &Row, now: u64) -> Result<Lease, AllocError>
     })
 }
 
-/// The lines of leases, each with its line feed: `ADDRESS STATE CLIENT changed MOMENT ends MOMENT`, and `live` or
-/// `past`. The client's identity is in hexadecimal, or a dash where there is none.
+/// The lines of leases, each with its line feed: `ADDRESS STATE CLIENT changed MOMENT ends MOMENT`,
+/// and `live` or `past`. The client's identity is in hexadecimal, or a dash where there is none.
 ///
 /// # Errors
 ///

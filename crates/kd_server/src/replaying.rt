@@ -9,15 +9,15 @@ use kd_keeps::Keeps;
 use kd_replay::{ReplayFault, Sink, Source, replay_with};
 use std::alloc::Global;
 
-/// Handles the events of the source's lines, one after another, and writes a line for each to the sink, up
-/// to the first fault; says how many were handled. An input line has a moment in decimal, a space, and a
-/// datagram in hexadecimal.
+/// Handles the events of the source's lines, one after another, and writes a line for each to the
+/// sink, up to the first fault; says how many were handled. An input line has a moment in decimal,
+/// a space, and a datagram in hexadecimal.
 ///
 /// # Errors
 ///
-/// `Read` where the source fails, or has more than 1,000,000 lines; `BadLine` at a line that is no event;
-/// `Serve` with the fault of a line's event; `Write` where the sink fails; `Memory`. What was handled
-/// before stands written.
+/// `Read` where the source fails, or has more than 1,000,000 lines; `BadLine` at a line that is no
+/// event; `Serve` with the fault of a line's event; `Write` where the sink fails; `Memory`. What
+/// was handled before stands written.
 pub fn replay<R: Source, W: Sink, S: Keeps>(
     alloc: Global,
     source: &mut R,
@@ -28,7 +28,8 @@ pub fn replay<R: Source, W: Sink, S: Keeps>(
     requires sink { W.has_failed sink.old ≡ false }
     ensures replayed { (input old : List ℕ) → R.remaining source.old ≡ Some input
         → W.contents sink.old ≡ Some old
-        → LeavesWritten (Steps S.Keeps) (Refuses S.Keeps) (R.has_failed source.new ≡ true) result input
+        → LeavesWritten (Steps S.Keeps) (Refuses S.Keeps)
+        (R.has_failed source.new ≡ true) result input
         server.old server.new old (W.contents sink.new) }
     ensures counted { IfOk result (λ count. Handles (Steps S.Keeps) count server.old server.new) }
     ensures read { IsErrOf result faults.Read

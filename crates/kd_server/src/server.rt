@@ -41,7 +41,8 @@ impl<S: Keeps> Model for Server<S> {
 pub(crate) const MOMENTS: u64 = 0x100_0000_0000;
 
 impl<S: Keeps> Server<S> {
-    /// A server with these ports that goes by this configuration, and stands at the leases of this store.
+    /// A server with these ports that goes by this configuration, and stands at the leases of this
+    /// store.
     ///
     /// # Errors
     ///
@@ -88,11 +89,13 @@ impl<S: Keeps> Server<S> {
         self.rows.len()
     }
 
-    /// The leases at a moment, in whole seconds: the rows in rising address, and which of them have not ended.
+    /// The leases at a moment, in whole seconds: the rows in rising address, and which of them have
+    /// not ended.
     ///
     /// # Errors
     ///
-    /// `Failed` where the store has failed, `MomentTooLarge` where the moment is not below 2^40, and `Memory`.
+    /// `Failed` where the store has failed, `MomentTooLarge` where the moment is not below 2^40,
+    /// and `Memory`.
     pub fn leases(&self, moment: u64) -> Result<Vec<Lease>, ServeFault>
         ensures leases { IfOk result (λ list. list.items ≡ leases_of_rows moment self.now.rows) }
         ensures works { IfOk result (λ list. (S.has_failed self.now.store ≡ false)
@@ -102,11 +105,13 @@ impl<S: Keeps> Server<S> {
         leases_at(self.alloc, &self.rows, self.store.failed(), moment)
     }
 
-    /// Handles events one after another, up to the first fault. The list for all of them is grown first.
+    /// Handles events one after another, up to the first fault. The list for all of them is grown
+    /// first.
     ///
     /// # Errors
     ///
-    /// Beside the list of what was handled, the fault of the next event; or `Memory` before the first.
+    /// Beside the list of what was handled, the fault of the next event; or `Memory` before the
+    /// first.
     pub fn run(&mut self, events: &[Event]) -> (Vec<Handled>, Option<ServeFault>)
         ensures { Runs (Steps S.Keeps) (Refuses S.Keeps)
             events.now result.0.items result.1 self.old self.new }
@@ -114,14 +119,14 @@ impl<S: Keeps> Server<S> {
         run_with(self.alloc, self, events)
     }
 
-    /// What is sent for a datagram at a moment, in whole seconds (RFC 2131 section 4.3). The row that it sets is
-    /// committed to the store before.
+    /// What is sent for a datagram at a moment, in whole seconds (RFC 2131 section 4.3). The row
+    /// that it sets is committed to the store before.
     ///
     /// # Errors
     ///
-    /// `Failed` where the store has failed before, `MomentTooLarge` where the moment is not below 2^40, and
-    /// `Memory`: nothing is changed then. `Store` where the store fails at the row: the server's rows are those from
-    /// before, and the store holds these or those with the row.
+    /// `Failed` where the store has failed before, `MomentTooLarge` where the moment is not below
+    /// 2^40, and `Memory`: nothing is changed then. `Store` where the store fails at the row: the
+    /// server's rows are those from before, and the store holds these or those with the row.
     pub fn handle(&mut self, moment: u64, bytes: &[u8]) -> Result<Handled, ServeFault>
         ensures handled { IfOk result (λ handled.
             Steps S.Keeps self.old

@@ -7,14 +7,14 @@ use kd_keeps::Keeps;
 use kd_replay::{Clock, Link, LoopFault, Sink, serve_with};
 use std::alloc::Global;
 
-/// Serves so many datagrams as a link receives them, one after another: each is an event at the moment of the clock, its
-/// reply is handed over to be sent, and its line is written to the sink, behind which stands `fault 99 Send` where the
-/// reply could not be sent.
+/// Serves so many datagrams as a link receives them, one after another: each is an event at the
+/// moment of the clock, its reply is handed over to be sent, and its line is written to the sink,
+/// after which stands `fault 99 Send` where the reply could not be sent.
 ///
 /// # Errors
 ///
-/// `Read` where nothing can be received; `Serve` with the fault of a datagram's event; `Write` where the sink fails;
-/// `Memory`. What was served before stands.
+/// `Read` where nothing can be received; `Serve` with the fault of a datagram's event; `Write`
+/// where the sink fails; `Memory`. What was served before stands.
 pub fn serve<L: Link, C: Clock, W: Sink, S: Keeps>(
     alloc: Global,
     link: &mut L,

@@ -78,7 +78,7 @@ pub all_more : {X : Type 0} (P : X → Type 0) (front : List X) (x : X) → AllB
 all_more P [] x all one = (one, tt)
 all_more P (y ∷ front) x all one = (all.0, all_more P front x all.1 one)
 
--- tokens in a row with so many more behind them
+-- tokens in a row with so many more after them
 abbrev pub AreFirst : Version → ℕ → List Token → Type 0
 AreFirst version behind [] = Unit {0}
 AreFirst version behind (token ∷ tokens) = IsToken version (length tokens + behind) token × AreFirst version behind tokens

@@ -154,7 +154,7 @@ token_at version (token ∷ list) (suc i) d all less =
     let behind = rest.1 in
     (rest.0, omega (arith, behind), rest.2)
 
--- a token of a program has what its file can say, with so many tokens behind it
+-- a token of a program has what its file can say, with so many tokens after it
 pub is_token : (p : Code) (i : ℕ) (token : Token) → HasFile p → slice_get p.tokens i ≡ Some token → (behind : ℕ) × (i + 1 + behind ≡ length p.tokens) × IsToken p.version behind token
 is_token p i token file is =
     let less : i < length p.tokens = slice_get_within p.tokens i token is in

@@ -47,10 +47,14 @@ way_of token = routes.On
 
 -- the flows of a way from place i
 abbrev pub flows_by : Way → ℕ → Token → ℕ → Point → Option (List Flow)
-flows_by routes.On names token i q = gives names token q.shape >>= λ s. Some (flow_to (i + 1) q s ∷ [])
+flows_by routes.On names token i q =
+    gives names token q.shape >>= λ s. Some (flow_to (i + 1) q s ∷ [])
 flows_by (routes.Skip skip) names token i q = Some (flow_to (i + 1 + skip) q q.shape ∷ [])
-flows_by (routes.Fork skip) names token i q = bool_taken q.shape >>= λ r. Some (flow_to (i + 1 + skip) q r ∷ flow_to (i + 1) q r ∷ [])
-flows_by (routes.Keep stays skip) names token i q = bool_taken q.shape >>= λ r. Some (flow_to (i + 1 + skip) q (kinds.Bool ∷ r) ∷ flow_to (i + 1) q r ∷ [])
+flows_by (routes.Fork skip) names token i q =
+    bool_taken q.shape >>= λ r. Some (flow_to (i + 1 + skip) q r ∷ flow_to (i + 1) q r ∷ [])
+flows_by (routes.Keep stays skip) names token i q =
+    bool_taken q.shape >>= λ r. Some
+    (flow_to (i + 1 + skip) q (kinds.Bool ∷ r) ∷ flow_to (i + 1) q r ∷ [])
 
 -- the flows of a token at place i; none where it cannot take what it wants
 abbrev pub flows : ℕ → Token → ℕ → Point → Option (List Flow)
@@ -75,11 +79,12 @@ IsCovered (Some x) q = Covers x.shape q.shape × (q.count ≤ x.count)
 abbrev pub IsWithin : Code → Flow → Type 0
 IsWithin p f = (length f.point.shape ≤ p.depth) × AreShort p.bound f.point.shape
 
--- place j is sound: the first is the origin; each flow to j is covered there; its token can take what it
--- wants, and what it gives is within what is declared
+-- place j is sound: the first is the origin; each flow to j is covered there; its token can take
+-- what it wants, and what it gives is within what is declared
 pub record IsSoundAt (p : Code) (a : Assignment) (j : ℕ) : Type 0 where
   pub start : j ≡ 0 → a j ≡ Some origin
-  pub enter : (i : ℕ) → MatchOption (out p a i) (Unit {0}) (AllByRecursion (λ f. f.to ≡ j → IsCovered (a j) f.point))
+  pub enter : (i : ℕ) → MatchOption (out p a i) (Unit {0})
+      (AllByRecursion (λ f. f.to ≡ j → IsCovered (a j) f.point))
   pub leave : MatchOption (out p a j) ⊥ (AllByRecursion (IsWithin p))
 
 -- the places before n are sound
@@ -104,15 +109,21 @@ Accepts p = (a : Assignment) × IsSoundThroughout p a × EndsInTime p a × EndsW
 
 -- the first place that cannot be sound: those before it can, and it cannot with them
 abbrev pub IsFaultAt : Code → ℕ → Type 0
-IsFaultAt p at = (at ≤ length p.tokens) × ((a : Assignment) × AreSound p a at) × ((a : Assignment) → AreSound p a (at + 1) → ⊥)
+IsFaultAt p at =
+    (at ≤ length p.tokens) × ((a : Assignment) × AreSound p a at)
+    × ((a : Assignment) → AreSound p a (at + 1) → ⊥)
 
 -- all places can be sound, and none so that the end comes in time
 abbrev pub IsTooManySteps : Code → Type 0
-IsTooManySteps p = ((a : Assignment) × IsSoundThroughout p a) × ((a : Assignment) → IsSoundThroughout p a → EndsInTime p a → ⊥)
+IsTooManySteps p =
+    ((a : Assignment) × IsSoundThroughout p a)
+    × ((a : Assignment) → IsSoundThroughout p a → EndsInTime p a → ⊥)
 
 -- all places can be sound and the end in time, and only the one truth value is wanting
 abbrev pub IsNoFinish : Code → Type 0
-IsNoFinish p = ((a : Assignment) × IsSoundThroughout p a × EndsInTime p a) × ((a : Assignment) → IsSoundThroughout p a → EndsInTime p a → EndsWithBool p a → ⊥)
+IsNoFinish p =
+    ((a : Assignment) × IsSoundThroughout p a × EndsInTime p a)
+    × ((a : Assignment) → IsSoundThroughout p a → EndsInTime p a → EndsWithBool p a → ⊥)
 
 -- what a fault of the verifier means; want of memory may come at any program
 abbrev pub IsVerifyFault : Code → VerifyFault → Type 0
@@ -155,7 +166,8 @@ leaves (routes.Keep stays skip) names token s = bool_taken s >>= λ r. Some (kin
 -- there, else too few values, else another kind
 abbrev pub misfit_of : Token → ℕ → ℕ → VerifyFault
 misfit_of (tokens.Member index) values at = faults.Name at
-misfit_of token values at = if nat_lt values (taken_count token) then faults.Short at else faults.Kind at
+misfit_of token values at =
+    if nat_lt values (taken_count token) then faults.Short at else faults.Kind at
 
 -- how long the value on top is, where it is a byte string
 abbrev pub top_length : List Kind → ℕ

@@ -1,5 +1,5 @@
--- Token files (our own format): a program, and the bytes that spell it, field by field, all numbers in
--- network order.
+-- Token files (our own format): a program, and the bytes that spell it, field by field, all numbers
+-- in network order.
 use Rattle.std.specs.Prelude.{◌≡◌, ℕ, ℤ, ◌^◌, ◌<◌, ◌≤◌, List, [], ◌∷◌, ◌++◌, length, Option, Some, None}
 use Rattle.std.specs.Int.{w32, cast_unsigned}
 use Rattle.std.specs.Int.RustNames.{FitsSigned}
@@ -50,7 +50,7 @@ field_number fields.MessageType = 7
 field_number fields.Transaction = 8
 field_number fields.Length = 9
 
--- a byte string behind its length of two bytes
+-- a byte string after its length of two bytes
 abbrev pub long_bytes : List ℕ → List ℕ
 long_bytes bytes = big_bytes 2 (length bytes) ++ bytes
 
@@ -94,22 +94,25 @@ token_bytes (tokens.BranchTrueElsePop skip) = 0x23 ∷ big_bytes 2 skip
 abbrev pub name_bytes : List ℕ → List ℕ
 name_bytes name = length name ∷ name
 
--- what stands before the names: the magic number K4TK, the version, the declared steps, depth and length
+-- what stands before the names: the magic number K4TK, the version, the declared steps, depth and
+-- length
 abbrev pub head_bytes : Version → ℕ → ℕ → ℕ → List ℕ
 head_bytes version steps depth bound =
-    big_bytes 4 0x4b34544b ++ version_number version ∷ [] ++ big_bytes 2 steps ++ depth ∷ [] ++ big_bytes 2 bound
+    big_bytes 4 0x4b34544b ++ version_number version ∷ [] ++ big_bytes 2 steps ++ depth ∷ []
+    ++ big_bytes 2 bound
 
--- the names behind their number
+-- the names after their number
 abbrev pub names_bytes : List (List ℕ) → List ℕ
 names_bytes names = length names ∷ flat_map name_bytes names
 
--- the tokens behind their number
+-- the tokens after their number
 abbrev pub tokens_bytes : List Token → List ℕ
 tokens_bytes tokens = big_bytes 2 (length tokens) ++ flat_map token_bytes tokens
 
 -- a program's file: its head, its names, its tokens
 abbrev pub file_bytes : Code → List ℕ
-file_bytes p = head_bytes p.version p.steps p.depth p.bound ++ names_bytes p.names ++ tokens_bytes p.tokens
+file_bytes p =
+    head_bytes p.version p.steps p.depth p.bound ++ names_bytes p.names ++ tokens_bytes p.tokens
 
 -- a name has 1 to 255 bytes
 abbrev pub IsName : List ℕ → Type 0
@@ -120,7 +123,7 @@ abbrev pub IsCount : Option ℤ → Type 0
 IsCount (Some count) = FitsSigned w32 count
 IsCount None = Unit {0}
 
--- a branch skips at most the tokens behind it; version 1 has none
+-- a branch skips at most the tokens after it; version 1 has none
 abbrev pub IsBranch : Version → ℕ → ℕ → Type 0
 IsBranch versions.One behind skip = ⊥
 IsBranch versions.Two behind skip = skip ≤ behind
@@ -130,8 +133,8 @@ abbrev pub IsShort : Token → Type 0
 IsShort (tokens.PushBytes bytes) = length bytes < 2 ^ 16
 IsShort token = Unit {0}
 
--- what a file of this version can say of a token with so many tokens behind it: its operands fit their
--- bytes
+-- what a file of this version can say of a token with so many tokens after it: its operands fit
+-- their bytes
 abbrev pub IsToken : Version → ℕ → Token → Type 0
 IsToken version behind (tokens.PushBytes bytes) = length bytes < 2 ^ 16
 IsToken version behind (tokens.PushInt number) = number < 2 ^ 32
@@ -145,7 +148,8 @@ IsToken version behind token = Unit {0}
 -- the same of each token in a row
 abbrev pub AreTokens : Version → List Token → Type 0
 AreTokens version [] = Unit {0}
-AreTokens version (token ∷ tokens) = IsToken version (length tokens) token × AreTokens version tokens
+AreTokens version (token ∷ tokens) =
+    IsToken version (length tokens) token × AreTokens version tokens
 
 -- a program that has a file: each field is within its limit
 pub record HasFile (p : Code) : Type 0 where

@@ -1,6 +1,6 @@
--- Token files read from left to right, computed: what each field is and what follows it, or none where a
--- fault comes. Proofs tie these functions to the definition of a file; no public contract cites those that
--- read. `◌>>=◌` is also how the shapes, the flows and a run's rules are written.
+-- Token files read from left to right, computed: what each field is and what follows it, or none
+-- where a fault comes. Proofs tie these functions to the definition of a file; no public contract
+-- cites those that read. `◌>>=◌` is also how the shapes, the flows and a run's rules are written.
 use Rattle.std.specs.Prelude.{◌≡◌, ◌≤◌, ◌-◌, ℕ, ℤ, zero, suc, nat_lt, List, [], ◌∷◌, length, take, drop, Option, Some, None, Result, Ok, Err, if◌then◌else◌, ◌==◌}
 use Rattle.std.specs.Int.{w32, cast_signed}
 use Rattle.byteorder.specs.Endian.{big_number}
@@ -56,10 +56,13 @@ abbrev pub IsBranchNext : List ℕ → Type 0
 IsBranchNext [] = ⊥
 IsBranchNext (opcode ∷ bytes) = IsBranchOpcode opcode
 
--- so many items, each read with so many behind it
-unfoldable pub many_at : {X : Type 0} → (ℕ → List ℕ → Option (X × List ℕ)) → ℕ → List ℕ → Option (List X × List ℕ)
+-- so many items, each read with so many after it
+unfoldable pub many_at : {X : Type 0} → (ℕ → List ℕ → Option (X × List ℕ)) → ℕ → List ℕ
+    → Option (List X × List ℕ)
 many_at item zero bytes = Some ([], bytes)
-many_at item (suc n) bytes = item n bytes >>= λ first. many_at item n first.1 >>= λ others. Some (first.0 ∷ others.0, others.1)
+many_at item (suc n) bytes =
+    item n bytes >>= λ first. many_at item n first.1 >>= λ others. Some
+    (first.0 ∷ others.0, others.1)
 
 -- the first n bytes, and what follows them
 abbrev pub front_at : ℕ → List ℕ → Option (List ℕ × List ℕ)
@@ -67,7 +70,8 @@ front_at n bytes = if nat_lt (length bytes) n then None else Some (take n bytes,
 
 -- a number of n bytes
 abbrev pub number_in_front : ℕ → List ℕ → Option (ℕ × List ℕ)
-number_in_front n bytes = if nat_lt (length bytes) n then None else Some (big_number n (take n bytes), drop n bytes)
+number_in_front n bytes =
+    if nat_lt (length bytes) n then None else Some (big_number n (take n bytes), drop n bytes)
 
 -- a number of n bytes that is at most this
 unfoldable pub limited_at : ℕ → ℕ → List ℕ → Option (ℕ × List ℕ)
@@ -89,7 +93,8 @@ magic_at bytes = do
 
 -- the version of a version byte
 abbrev pub version_of : ℕ → Option Version
-version_of byte = if byte == 1 then Some versions.One else if byte == 2 then Some versions.Two else None
+version_of byte =
+    if byte == 1 then Some versions.One else if byte == 2 then Some versions.Two else None
 
 -- a version
 unfoldable pub version_at : List ℕ → Option (Version × List ℕ)
@@ -98,7 +103,7 @@ version_at bytes = do
   version ← version_of byte.0
   Some (version, byte.1)
 
--- a name behind its length, which is not 0
+-- a name after its length, which is not 0
 unfoldable pub name_at : List ℕ → Option (List ℕ × List ℕ)
 name_at bytes = do
   size ← number_in_front 1 bytes
@@ -108,7 +113,7 @@ name_at bytes = do
 abbrev pub names_at : ℕ → List ℕ → Option (List (List ℕ) × List ℕ)
 names_at count bytes = many_at (λ behind. name_at) count bytes
 
--- a byte string behind its length of two bytes
+-- a byte string after its length of two bytes
 unfoldable pub long_at : List ℕ → Option (List ℕ × List ℕ)
 long_at bytes = do
   size ← number_in_front 2 bytes
@@ -136,7 +141,7 @@ field_at bytes = do
   field ← field_numbered number.0
   Some (field, number.1)
 
--- a substring's number of bytes behind its mode
+-- a substring's number of bytes after its mode
 unfoldable pub number_of_bytes_at : List ℕ → Option (Option ℤ × List ℕ)
 number_of_bytes_at bytes = do
   count ← signed_at bytes
@@ -176,7 +181,7 @@ plain_token opcode =
     else if opcode == 0x14 then Some tokens.IntBytes
     else None
 
--- the operands of an opcode, and so its token, with so many tokens behind it
+-- the operands of an opcode, and so its token, with so many tokens after it
 unfoldable pub operands_at : Version → ℕ → ℕ → List ℕ → Option (Token × List ℕ)
 operands_at version behind opcode bytes =
     if opcode == 0x01 then (long_at bytes >>= λ x. Some (tokens.PushBytes x.0, x.1))
@@ -184,17 +189,23 @@ operands_at version behind opcode bytes =
     else if opcode == 0x03 then (number_in_front 1 bytes >>= λ x. Some (tokens.PushOption x.0, x.1))
     else if opcode == 0x04 then (number_in_front 1 bytes >>= λ x. Some (tokens.PushRelay x.0, x.1))
     else if opcode == 0x05 then (field_at bytes >>= λ x. Some (tokens.PushField x.0, x.1))
-    else if opcode == 0x06 then (number_in_front 1 bytes >>= λ x. Some (tokens.OptionExists x.0, x.1))
-    else if opcode == 0x07 then (number_in_front 1 bytes >>= λ x. Some (tokens.RelayExists x.0, x.1))
+    else if opcode == 0x06 then
+    (number_in_front 1 bytes >>= λ x. Some (tokens.OptionExists x.0, x.1))
+    else if opcode == 0x07 then
+    (number_in_front 1 bytes >>= λ x. Some (tokens.RelayExists x.0, x.1))
     else if opcode == 0x08 then (number_in_front 1 bytes >>= λ x. Some (tokens.Member x.0, x.1))
     else if opcode == 0x0e then substring_at bytes
-    else if opcode == 0x20 then (skip_at version behind bytes >>= λ x. Some (tokens.Branch x.0, x.1))
-    else if opcode == 0x21 then (skip_at version behind bytes >>= λ x. Some (tokens.PopBranchFalse x.0, x.1))
-    else if opcode == 0x22 then (skip_at version behind bytes >>= λ x. Some (tokens.BranchFalseElsePop x.0, x.1))
-    else if opcode == 0x23 then (skip_at version behind bytes >>= λ x. Some (tokens.BranchTrueElsePop x.0, x.1))
+    else if opcode == 0x20 then
+    (skip_at version behind bytes >>= λ x. Some (tokens.Branch x.0, x.1))
+    else if opcode == 0x21 then
+    (skip_at version behind bytes >>= λ x. Some (tokens.PopBranchFalse x.0, x.1))
+    else if opcode == 0x22 then
+    (skip_at version behind bytes >>= λ x. Some (tokens.BranchFalseElsePop x.0, x.1))
+    else if opcode == 0x23 then
+    (skip_at version behind bytes >>= λ x. Some (tokens.BranchTrueElsePop x.0, x.1))
     else (plain_token opcode >>= λ token. Some (token, bytes))
 
--- a token, with so many tokens behind it
+-- a token, with so many tokens after it
 unfoldable pub token_at : Version → ℕ → List ℕ → Option (Token × List ℕ)
 token_at version behind bytes = do
   opcode ← number_in_front 1 bytes
@@ -204,13 +215,13 @@ token_at version behind bytes = do
 abbrev pub tokens_at : Version → ℕ → List ℕ → Option (List Token × List ℕ)
 tokens_at version count bytes = many_at (token_at version) count bytes
 
--- the names behind their number
+-- the names after their number
 unfoldable pub all_names_at : List ℕ → Option (List (List ℕ) × List ℕ)
 all_names_at bytes = do
   count ← limited_at 1 64 bytes
   names_at count.0 count.1
 
--- the tokens behind their number
+-- the tokens after their number
 unfoldable pub all_tokens_at : Version → List ℕ → Option (List Token × List ℕ)
 all_tokens_at version bytes = do
   count ← limited_at 2 1024 bytes

@@ -1,5 +1,5 @@
--- Shapes of a stack (our own format): a kind for each value, the top first; which shape covers another,
--- and what a token makes of a shape.
+-- Shapes of a stack (our own format): a kind for each value, the top first; which shape covers
+-- another, and what a token makes of a shape.
 use Rattle.std.specs.Prelude.{ℕ, ℤ, ◌+◌, ◌-◌, ◌*◌, ◌≤◌, min, max, nat_lt, List, [], ◌∷◌, length, Option, Some, None, if◌then◌else◌, ◌==◌}
 use Rattle.std.specs.Int.RustNames.{unsigned_abs}
 use Rattle.kd_token.specs.declared.shape.Kind.{Kind}
@@ -79,7 +79,8 @@ abbrev pub bound_of_substring : ℕ → Option ℤ → ℕ
 bound_of_substring n None = n
 bound_of_substring n (Some count) = min n (unsigned_abs count)
 
--- how long the hexadecimal text of at most n bytes is, with separators of at most m bytes between them
+-- how long the hexadecimal text of at most n bytes is, with separators of at most m bytes between
+-- them
 abbrev pub bound_of_hex : ℕ → ℕ → ℕ
 bound_of_hex n m = if n == 0 then 0 else 2 * n + (n - 1) * m
 
@@ -98,10 +99,15 @@ gives names tokens.Equal s = bytes_taken s >>= λ b. bytes_taken b.1 >>= λ a. S
 gives names tokens.Not s = bool_taken s >>= λ r. Some (kinds.Bool ∷ r)
 gives names tokens.And s = bool_taken s >>= λ q. bool_taken q >>= λ r. Some (kinds.Bool ∷ r)
 gives names tokens.Or s = bool_taken s >>= λ q. bool_taken q >>= λ r. Some (kinds.Bool ∷ r)
-gives names tokens.IfElse s = bytes_taken s >>= λ b. bytes_taken b.1 >>= λ a. bool_taken a.1 >>= λ r. Some (kinds.Bytes (max a.0 b.0) ∷ r)
-gives names (tokens.Substring start count) s = bytes_taken s >>= λ a. Some (kinds.Bytes (bound_of_substring a.0 count) ∷ a.1)
-gives names tokens.Concat s = bytes_taken s >>= λ b. bytes_taken b.1 >>= λ a. Some (kinds.Bytes (a.0 + b.0) ∷ a.1)
-gives names tokens.HexString s = bytes_taken s >>= λ b. bytes_taken b.1 >>= λ a. Some (kinds.Bytes (bound_of_hex a.0 b.0) ∷ a.1)
+gives names tokens.IfElse s =
+    bytes_taken s >>= λ b. bytes_taken b.1 >>= λ a. bool_taken a.1 >>= λ r. Some
+    (kinds.Bytes (max a.0 b.0) ∷ r)
+gives names (tokens.Substring start count) s =
+    bytes_taken s >>= λ a. Some (kinds.Bytes (bound_of_substring a.0 count) ∷ a.1)
+gives names tokens.Concat s =
+    bytes_taken s >>= λ b. bytes_taken b.1 >>= λ a. Some (kinds.Bytes (a.0 + b.0) ∷ a.1)
+gives names tokens.HexString s =
+    bytes_taken s >>= λ b. bytes_taken b.1 >>= λ a. Some (kinds.Bytes (bound_of_hex a.0 b.0) ∷ a.1)
 gives names tokens.Lower s = bytes_taken s >>= λ a. Some (kinds.Bytes a.0 ∷ a.1)
 gives names tokens.Upper s = bytes_taken s >>= λ a. Some (kinds.Bytes a.0 ∷ a.1)
 gives names tokens.IntToText s = int_taken s >>= λ r. Some (kinds.Bytes 10 ∷ r)

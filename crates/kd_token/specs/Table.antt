@@ -1,5 +1,5 @@
--- What has arrived at each place of a program while the verifier passes over it, computed. Proofs tie
--- these functions to assignments; public contracts do not cite them.
+-- What has arrived at each place of a program while the verifier passes over it, computed. Proofs
+-- tie these functions to assignments; public contracts do not cite them.
 use Rattle.std.specs.Prelude.{◌≡◌, ℕ, ◌+◌, ◌<◌, ◌≤◌, max, List, [], ◌∷◌, length, ◌==◌, if◌then◌else◌, Option, Some, None, MatchOption, get_or}
 use Rattle.std.specs.List.{AllByRecursion}
 use Rattle.kd_token.specs.declared.shape.Kind.{Kind}
@@ -45,7 +45,8 @@ arrived q (Joined s c) = joined_by (met s q.shape) (max c q.count)
 -- what has arrived at each place after these flows too
 abbrev pub spread : List Flow → (ℕ → Entry) → ℕ → Entry
 spread [] entries j = entries j
-spread (f ∷ fs) entries j = spread fs (λ k. if k == f.to then arrived f.point (entries k) else entries k) j
+spread (f ∷ fs) entries j =
+    spread fs (λ k. if k == f.to then arrived f.point (entries k) else entries k) j
 
 -- an entry is below what an assignment knows at its place
 abbrev pub IsBelow : Entry → Option Point → Type 0
@@ -61,12 +62,15 @@ IsCoveredBy (Joined s c) q = IsCovered (Some (record { shape = s; count = c })) 
 
 -- each flow from before place n to place j satisfies this
 abbrev pub Arrives : Code → Assignment → ℕ → ℕ → (Point → Type 0) → Type 0
-Arrives p a n j P = (i : ℕ) → i < n → MatchOption (out p a i) (Unit {0}) (AllByRecursion (λ f. f.to ≡ j → P f.point))
+Arrives p a n j P =
+    (i : ℕ) → i < n → MatchOption (out p a i) (Unit {0})
+    (AllByRecursion (λ f. f.to ≡ j → P f.point))
 
--- what the pass keeps at place n: every assignment that is sound before n is above what has arrived; one
--- is sound before n whose flows all arrived; at the first place the origin has arrived
+-- what the pass keeps at place n: every assignment that is sound before n is above what has
+-- arrived; one is sound before n whose flows all arrived; at the first place the origin has arrived
 pub record IsPassed (p : Code) (n : ℕ) (entries : ℕ → Entry) : Type 0 where
-  pub least : (a : Assignment) → AreSound p a n → (j : ℕ) → n ≤ j → (j ≡ 0 → a j ≡ Some origin) → Arrives p a n j (IsCovered (a j)) → IsBelow (entries j) (a j)
+  pub least : (a : Assignment) → AreSound p a n → (j : ℕ) → n ≤ j → (j ≡ 0 → a j ≡ Some origin)
+      → Arrives p a n j (IsCovered (a j)) → IsBelow (entries j) (a j)
   pub some : Assignment
   pub sound : AreSound p some n
   pub covers : (j : ℕ) → n ≤ j → Arrives p some n j (IsCoveredBy (entries j))
@@ -84,7 +88,8 @@ IsTidy p n Unreached = Unit {0}
 IsTidy p n Clash = Unit {0}
 IsTidy p n (Joined s c) = IsRoomFor p s × (c ≤ n)
 
--- what the table keeps at place n: the pass is there; the entries ahead are tidy; one of them is reached
+-- what the table keeps at place n: the pass is there; the entries ahead are tidy; one of them is
+-- reached
 pub record IsAt (p : Code) (n : ℕ) (table : List Entry) : Type 0 where
   pub size : length table ≡ length p.tokens + 1
   pub passed : IsPassed p n (entry_at table)

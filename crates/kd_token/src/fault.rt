@@ -5,8 +5,8 @@ use std::alloc::{AllocError, AllocFailed};
 use std::fmt;
 use thiserror::Error;
 
-/// Why bytes are no token file: the first fault from left to right. Places are offsets from the file's
-/// first byte.
+/// Why bytes are no token file: the first fault from left to right. Places are offsets from the
+/// file's first byte.
 #[derive(Clone, Copy, PartialEq, Eq, Error)]
 pub enum FileFault {
     /// The file does not begin with the four bytes `K4TK`.
@@ -21,15 +21,15 @@ pub enum FileFault {
     /// No token of the file's version has this opcode; its offset.
     #[error("Opcode {0}")]
     Opcode(usize),
-    /// A name's length is 0, a field's number is above 9, a substring's mode above 1, or a branch goes
-    /// beyond the end of the program; the offset of the operand's first byte.
+    /// A name's length is 0, a field's number is above 9, a substring's mode above 1, or a branch
+    /// goes beyond the end of the program; the offset of the operand's first byte.
     #[error("Operand {0}")]
     Operand(usize),
     /// Bytes stand after the last token; the offset of the first.
     #[error("Rest {0}")]
     Rest(usize),
-    /// The declared steps, the declared depth, the number of names or the number of tokens is over its
-    /// limit: 1,024, 64, 64 and 1,024.
+    /// The declared steps, the declared depth, the number of names or the number of tokens is over
+    /// its limit: 1,024, 64, 64 and 1,024.
     #[error("Limit")]
     Limit,
     /// There is no memory for the program.
@@ -81,8 +81,8 @@ impl<T: Drop> From<AllocFailed<T>> for FileFault {
     }
 }
 
-/// Why a program is not accepted: the first fault in the order of the tokens. Places are numbers of tokens
-/// from 0; the number of tokens itself is the end.
+/// Why a program is not accepted: the first fault in the order of the tokens. Places are numbers of
+/// tokens from 0; the number of tokens itself is the end.
 #[derive(Clone, Copy, PartialEq, Eq, Error)]
 pub enum VerifyFault {
     /// A token wants more values than the stack has.

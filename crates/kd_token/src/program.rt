@@ -184,7 +184,7 @@ fn put_head(
     put_u16(out, bound)
 }
 
-// Writes the names behind their number.
+// Writes the names after their number.
 fn put_names(out: &mut Vec<u8>, names: &[Bytes]) -> Result<(), AllocError>
     requires few { length names.now ≤ 64 }
     requires each { AllByRecursion IsName names.now }
@@ -197,7 +197,7 @@ fn put_names(out: &mut Vec<u8>, names: &[Bytes]) -> Result<(), AllocError>
     Ok(())
 }
 
-// Writes the tokens behind their number.
+// Writes the tokens after their number.
 fn put_tokens(out: &mut Vec<u8>, tokens: &[Token]) -> Result<(), AllocError>
     requires few { length tokens.now ≤ 1024 }
     requires each { AllByRecursion IsShort tokens.now }

@@ -39,7 +39,7 @@ fn put_i32(out: &mut Vec<u8>, number: i32) -> Result<(), AllocError>
     put_u32(out, number.cast_unsigned())
 }
 
-// Writes a name behind its length.
+// Writes a name after its length.
 pub(crate) fn put_name(out: &mut Vec<u8>, name: &Bytes) -> Result<(), AllocError>
     requires { length name.now < 256 }
     ensures { OnOk result (out.new.items ≡ out.old.items ++ name_bytes name.now) }
@@ -49,7 +49,7 @@ pub(crate) fn put_name(out: &mut Vec<u8>, name: &Bytes) -> Result<(), AllocError
     out.extend_from_slice(name)
 }
 
-// Writes an opcode and a byte string behind its length.
+// Writes an opcode and a byte string after its length.
 fn put_long(out: &mut Vec<u8>, bytes: &Bytes) -> Result<(), AllocError>
     requires { length bytes.now < 2 ^ 16 }
     ensures { OnOk result (out.new.items ≡ out.old.items ++ long_bytes bytes.now) }

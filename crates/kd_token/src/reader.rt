@@ -69,7 +69,8 @@ impl<'a> Reader<'a> {
     }
 
     pub(crate) fn u8(&mut self) -> Result<u8, FileFault>
-        ensures read { ReaderGives (λ n. (n, self.new.left)) result (number_in_front 1 self.old.left) }
+        ensures read { ReaderGives (λ n. (n, self.new.left)) result
+            (number_in_front 1 self.old.left) }
         ensures found { IfOk result (λ n. self.old.left ≡ n ∷ self.new.left) }
         ensures whole { self.new.whole ≡ self.old.whole }
         ensures cut { IfErr result (λ e. IsCutFault self.old e) }
@@ -78,7 +79,8 @@ impl<'a> Reader<'a> {
     }
 
     pub(crate) fn u16(&mut self) -> Result<u16, FileFault>
-        ensures read { ReaderGives (λ n. (n, self.new.left)) result (number_in_front 2 self.old.left) }
+        ensures read { ReaderGives (λ n. (n, self.new.left)) result
+            (number_in_front 2 self.old.left) }
         ensures found { IfOk result (λ n. self.old.left ≡ big_bytes 2 n ++ self.new.left) }
         ensures whole { self.new.whole ≡ self.old.whole }
         ensures cut { IfErr result (λ e. IsCutFault self.old e) }
@@ -87,7 +89,8 @@ impl<'a> Reader<'a> {
     }
 
     pub(crate) fn u32(&mut self) -> Result<u32, FileFault>
-        ensures read { ReaderGives (λ n. (n, self.new.left)) result (number_in_front 4 self.old.left) }
+        ensures read { ReaderGives (λ n. (n, self.new.left)) result
+            (number_in_front 4 self.old.left) }
         ensures found { IfOk result (λ n. self.old.left ≡ big_bytes 4 n ++ self.new.left) }
         ensures whole { self.new.whole ≡ self.old.whole }
         ensures cut { IfErr result (λ e. IsCutFault self.old e) }
@@ -110,7 +113,8 @@ impl<'a> Reader<'a> {
     // A number of one byte that is at most this.
     #[tactic(auto, unfolding(crate::specs::Reading::limited_at))]
     pub(crate) fn u8_to(&mut self, most: u8) -> Result<u8, FileFault>
-        ensures read { ReaderGives (λ n. (n, self.new.left)) result (limited_at 1 most self.old.left) }
+        ensures read { ReaderGives (λ n. (n, self.new.left)) result
+            (limited_at 1 most self.old.left) }
         ensures found { IfOk result (λ n. (self.old.left ≡ n ∷ self.new.left) × (n ≤ most)) }
         ensures whole { self.new.whole ≡ self.old.whole }
         ensures fault { IfErr result (λ e. (e ≡ Limit) ⊎ IsCutFault self.old e) }
@@ -125,7 +129,8 @@ impl<'a> Reader<'a> {
     // A number of two bytes that is at most this.
     #[tactic(auto, unfolding(crate::specs::Reading::limited_at))]
     pub(crate) fn u16_to(&mut self, most: u16) -> Result<u16, FileFault>
-        ensures read { ReaderGives (λ n. (n, self.new.left)) result (limited_at 2 most self.old.left) }
+        ensures read { ReaderGives (λ n. (n, self.new.left)) result
+            (limited_at 2 most self.old.left) }
         ensures found { IfOk result
             (λ n. (self.old.left ≡ big_bytes 2 n ++ self.new.left) × (n ≤ most)) }
         ensures whole { self.new.whole ≡ self.old.whole }

@@ -48,7 +48,7 @@ pub(crate) fn version(reader: &mut Reader<'_>) -> Result<Version, FileFault>
     }
 }
 
-// A name behind its length.
+// A name after its length.
 #[tactic(auto, unfolding(crate::specs::Reading::name_at))]
 fn name(alloc: Global, reader: &mut Reader<'_>) -> Result<Bytes, FileFault>
     ensures read { ReaderGives (λ b. (b, reader.new.left)) result (name_at reader.old.left) }
@@ -67,7 +67,8 @@ fn name(alloc: Global, reader: &mut Reader<'_>) -> Result<Bytes, FileFault>
 
 // So many names.
 fn names_of(alloc: Global, reader: &mut Reader<'_>, count: u8) -> Result<Vec<Bytes>, FileFault>
-    ensures read { ReaderGives (λ v. (v.items, reader.new.left)) result (names_at count reader.old.left) }
+    ensures read { ReaderGives (λ v. (v.items, reader.new.left)) result
+        (names_at count reader.old.left) }
     ensures found { IfOk result
         (λ v. (reader.old.left ≡ flat_map name_bytes v.items ++ reader.new.left)
         × AllByRecursion IsName v.items × (length v.items ≡ count)) }
@@ -81,10 +82,11 @@ fn names_of(alloc: Global, reader: &mut Reader<'_>, count: u8) -> Result<Vec<Byt
     Ok(names)
 }
 
-// The names behind their number.
+// The names after their number.
 #[tactic(auto, unfolding(crate::specs::Reading::all_names_at))]
 pub(crate) fn names(alloc: Global, reader: &mut Reader<'_>) -> Result<Vec<Bytes>, FileFault>
-    ensures read { ReaderGives (λ v. (v.items, reader.new.left)) result (all_names_at reader.old.left) }
+    ensures read { ReaderGives (λ v. (v.items, reader.new.left)) result
+        (all_names_at reader.old.left) }
     ensures found { IfOk result
         (λ v. (reader.old.left ≡ length v.items ∷ (flat_map name_bytes v.items ++ reader.new.left))
         × AllByRecursion IsName v.items × (length v.items ≤ 64)) }
@@ -94,7 +96,7 @@ pub(crate) fn names(alloc: Global, reader: &mut Reader<'_>) -> Result<Vec<Bytes>
     names_of(alloc, reader, count)
 }
 
-// A byte string behind its length of two bytes.
+// A byte string after its length of two bytes.
 #[tactic(auto, unfolding(crate::specs::Reading::long_at))]
 fn long(alloc: Global, reader: &mut Reader<'_>) -> Result<Bytes, FileFault>
     ensures read { ReaderGives (λ b. (b, reader.new.left)) result (long_at reader.old.left) }
@@ -207,7 +209,8 @@ fn skip(
 #[tactic(auto, unfolding(crate::specs::Reading::plain_token))]
 fn plain_of(opcode: u8) -> Option<Token>
     ensures read { result ≡ plain_token opcode }
-    ensures found { IfSome result (λ t. (token_bytes t ≡ opcode ∷ []) × ((v : Version) (n : ℕ) → IsToken v n t)) }
+    ensures found { IfSome result
+        (λ t. (token_bytes t ≡ opcode ∷ []) × ((v : Version) (n : ℕ) → IsToken v n t)) }
 {
     match opcode {
         0x09 => Some(Token::Equal),
@@ -225,7 +228,7 @@ fn plain_of(opcode: u8) -> Option<Token>
     }
 }
 
-// The operands of an opcode that stands at `at`, and so its token, with so many tokens behind it.
+// The operands of an opcode that stands at `at`, and so its token, with so many tokens after it.
 #[tactic(auto, unfolding(crate::specs::Reading::operands_at))]
 fn operands(
     alloc: Global,
@@ -264,7 +267,7 @@ fn operands(
     }
 }
 
-// A token, with so many tokens behind it.
+// A token, with so many tokens after it.
 #[tactic(auto, unfolding(crate::specs::Reading::token_at))]
 fn token(
     alloc: Global,
@@ -307,7 +310,7 @@ fn tokens_of(
     Ok(tokens)
 }
 
-// The tokens behind their number.
+// The tokens after their number.
 #[tactic(auto, unfolding(crate::specs::Reading::all_tokens_at))]
 pub(crate) fn tokens(
     alloc: Global,

@@ -20,8 +20,8 @@ pub enum Kind {
     Bytes(u32),
 }
 
-// The shape of a stack: one kind more than the greatest depth, so that a value is pushed before the depth
-// is judged.
+// The shape of a stack: one kind more than the greatest depth, so that a value is pushed before the
+// depth is judged.
 #[derive(Drop)]
 pub(crate) struct Shape {
     kinds: ArrayVec<Kind, 65>,
@@ -59,7 +59,8 @@ impl Shape {
     }
 
     pub(crate) fn pop(&mut self) -> Option<Kind>
-        ensures { MatchOption result ((self.old ≡ []) × (self.new ≡ [])) (λ k. self.old ≡ k ∷ self.new) }
+        ensures { MatchOption result ((self.old ≡ []) × (self.new ≡ []))
+            (λ k. self.old ≡ k ∷ self.new) }
     {
         self.kinds.pop()
     }
@@ -103,7 +104,8 @@ impl Shape {
 
     // The bound of the byte string on top, which is taken.
     fn take_bytes(&mut self) -> Option<u32>
-        ensures { MatchOption result (bytes_taken self.old ≡ None) (λ n. bytes_taken self.old ≡ Some (n, self.new)) }
+        ensures { MatchOption result (bytes_taken self.old ≡ None)
+            (λ n. bytes_taken self.old ≡ Some (n, self.new)) }
     {
         match self.pop() {
             Some(Kind::Bytes(n)) => Some(n),
@@ -113,7 +115,8 @@ impl Shape {
 
     // The truth value on top is taken.
     pub(crate) fn take_bool(&mut self) -> Option<()>
-        ensures taken { MatchOption result (bool_taken self.old ≡ None) (λ _. bool_taken self.old ≡ Some self.new) }
+        ensures taken { MatchOption result (bool_taken self.old ≡ None)
+            (λ _. bool_taken self.old ≡ Some self.new) }
         ensures top { MatchOption result (Unit {0}) (λ _. self.old ≡ Bool ∷ self.new) }
     {
         match self.pop() {
@@ -124,7 +127,8 @@ impl Shape {
 
     // The number on top is taken.
     fn take_int(&mut self) -> Option<()>
-        ensures { MatchOption result (int_taken self.old ≡ None) (λ _. int_taken self.old ≡ Some self.new) }
+        ensures { MatchOption result (int_taken self.old ≡ None)
+            (λ _. int_taken self.old ≡ Some self.new) }
     {
         match self.pop() {
             Some(Kind::Int) => Some(()),
@@ -138,7 +142,8 @@ impl Shape {
         requires few { length self.old ≤ 64 }
         requires short { AreShort 65535 self.old }
         requires literal { IsShort token.now }
-        ensures { MatchOption result (gives names token.now self.old ≡ None) (λ _. gives names token.now self.old ≡ Some self.new) }
+        ensures { MatchOption result (gives names token.now self.old ≡ None)
+            (λ _. gives names token.now self.old ≡ Some self.new) }
     {
         let kind = match token {
             Token::PushBytes(bytes) => Kind::Bytes(bytes.as_slice().len() as u32),

@@ -3,8 +3,8 @@ ghost use Rattle.kd_token.specs.Table.{arrived, entry_at, point};
 
 use crate::shape::Shape;
 
-// What has arrived at a place: nothing, a shape with a greatest count of steps, or shapes that do not
-// meet.
+// What has arrived at a place: nothing, a shape with a greatest count of steps, or shapes that do
+// not meet.
 #[derive(Drop)]
 pub(crate) enum Entry {
     Unreached,
@@ -34,7 +34,10 @@ pub(crate) fn arrive(table: &mut [Entry], to: usize, shape: Shape, count: u32)
     requires within { to < length table.old }
     requires few { length shape ≤ 64 }
     ensures length { length table.new ≡ length table.old }
-    ensures arrived { (j : ℕ) → entry_at table.new j ≡ (if j == to then arrived (point shape count) (entry_at table.old j) else entry_at table.old j) }
+    ensures arrived { (j : ℕ)
+        → entry_at table.new j
+        ≡ (if j == to then arrived (point shape count)
+        (entry_at table.old j) else entry_at table.old j) }
 {
     table[to].arrive(shape, count);
 }

@@ -96,16 +96,17 @@ pub enum Token {
     And,
     /// Takes two truth values; pushes whether one of them is true.
     Or,
-    /// Takes a truth value and two byte strings above it; pushes the lower one where it is true, else
-    /// the upper one.
+    /// Takes a truth value and two byte strings above it; pushes the lower one where it is true,
+    /// else the upper one.
     IfElse,
-    /// Takes a byte string; pushes its bytes from this start, so many of them, or all where there is no
-    /// number. A negative start counts from the end, a negative number goes towards the front.
+    /// Takes a byte string; pushes its bytes from this start, so many of them, or all where there
+    /// is no number. A negative start counts from the end, a negative number goes towards the
+    /// front.
     Substring(i32, Option<i32>),
     /// Takes two byte strings; pushes the lower one followed by the upper one.
     Concat,
-    /// Takes a byte string and a separator above it; pushes two hexadecimal digits for each byte, with
-    /// the separator between bytes.
+    /// Takes a byte string and a separator above it; pushes two hexadecimal digits for each byte,
+    /// with the separator between bytes.
     HexString,
     /// Takes a byte string; pushes it with its ASCII letters in lower case.
     Lower,

@@ -18,9 +18,9 @@ use std::alloc::{AllocError, Global};
 use std::marker::Model;
 use std::mem;
 
-/// A program that the verifier has accepted: along each way through it each token finds what it wants, no
-/// stack is deeper and no value longer than the program declares, and it ends in the declared steps with
-/// one truth value.
+/// A program that the verifier has accepted: along each way through it each token finds what it
+/// wants, no stack is deeper and no value longer than the program declares, and it ends in the
+/// declared steps with one truth value.
 #[derive(Drop)]
 pub struct Verified {
     program: Program,
@@ -47,22 +47,25 @@ impl Verified {
     }
 }
 
-/// Verifies a program in one pass over its tokens. Takes memory for a table of one entry for each token
-/// and one for the end, under 600 bytes each.
+/// Verifies a program in one pass over its tokens. Takes memory for a table of one entry for each
+/// token and one for the end, under 600 bytes each.
 ///
 /// # Errors
 ///
 /// The first fault in the order of the tokens, with the program: at the place where two ways bring
-/// different shapes, or at the token that cannot take what it wants or gives more than is declared; then
-/// `Steps`, then `Finish`. `Memory` where there is none for the table.
+/// different shapes, or at the token that cannot take what it wants or gives more than is declared;
+/// then `Steps`, then `Finish`. `Memory` where there is none for the table.
 pub fn verify(alloc: Global, program: Program) -> Result<Verified, (VerifyFault, Program)>
     ensures accepted { IfOk result (λ v. v ≡ program) }
     ensures refused { IfErr result (λ e. (e.1 ≡ program) × IsVerifyFault program e.0) }
     ensures right { IfErr result (λ e. IsRightFault program e.0) }
     ensures only { Accepts program → IfErr result (λ e. e.0 ≡ Memory) }
-    ensures place { (at : ℕ) → IsFaultAt program at → MatchResult result (λ _. ⊥) (λ e. IsPlaceOf at e.0) }
-    ensures steps { IsTooManySteps program → MatchResult result (λ _. ⊥) (λ e. IsInPlaceOf Steps e.0) }
-    ensures finish { IsNoFinish program → MatchResult result (λ _. ⊥) (λ e. IsInPlaceOf Finish e.0) }
+    ensures place { (at : ℕ) → IsFaultAt program at
+        → MatchResult result (λ _. ⊥) (λ e. IsPlaceOf at e.0) }
+    ensures steps { IsTooManySteps program
+        → MatchResult result (λ _. ⊥) (λ e. IsInPlaceOf Steps e.0) }
+    ensures finish { IsNoFinish program
+        → MatchResult result (λ _. ⊥) (λ e. IsInPlaceOf Finish e.0) }
 {
     match check(alloc, &program) {
         Ok(()) => Ok(Verified { program }),
@@ -90,7 +93,8 @@ fn room_for(alloc: Global, tokens: usize) -> Result<Vec<Entry>, AllocError>
     Vec::with_capacity(alloc, tokens + 1)
 }
 
-// The table before the first of so many tokens: the empty stack is there, and nothing has arrived beyond.
+// The table before the first of so many tokens: the empty stack is there, and nothing has arrived
+// beyond.
 fn begin(alloc: Global, tokens: usize) -> Result<Vec<Entry>, AllocError>
     requires few { tokens ≤ 1024 }
     ensures length { IfOk result (λ t. length t.items ≡ tokens + 1) }
@@ -216,8 +220,11 @@ fn advance(
     requires short { AreShort program.now.bound shape.old }
     requires literal { IsShort token.now }
     ensures given { MatchResult result
-        (λ _. MatchOption (gives (length program.now.names) token.now shape.old) ⊥ (λ s. (s ≡ shape.new) × IsRoomFor program.now s))
-        (λ e. (place_of e ≡ Some at) × MatchOption (gives (length program.now.names) token.now shape.old) (Unit {0}) (λ s. IsRoomFor program.now s → ⊥)) }
+        (λ _. MatchOption (gives (length program.now.names) token.now shape.old) ⊥
+        (λ s. (s ≡ shape.new) × IsRoomFor program.now s))
+        (λ e. (place_of e ≡ Some at)
+        × MatchOption (gives (length program.now.names) token.now shape.old) (Unit {0})
+        (λ s. IsRoomFor program.now s → ⊥)) }
     ensures fault { IfErr result (λ e. Some e ≡ fault_by program.now at token.now (length shape.old)
         (gives (length program.now.names) token.now shape.old)) }
 {
@@ -252,9 +259,12 @@ fn settle(
     requires within { at + 1 + skip_of (way_of token.now) < length table.old }
     ensures length { length table.new ≡ length table.old }
     ensures settled { MatchResult result
-        (λ _. MatchOption (flows (length program.now.names) token.now at (point shape count)) ⊥ (λ fs. AllByRecursion (IsWithin program.now) fs
+        (λ _. MatchOption (flows (length program.now.names) token.now at (point shape count)) ⊥
+        (λ fs. AllByRecursion (IsWithin program.now) fs
         × ((j : ℕ) → entry_at table.new j ≡ spread fs (entry_at table.old) j)))
-        (λ e. (place_of e ≡ Some at) × MatchOption (flows (length program.now.names) token.now at (point shape count)) (Unit {0}) (λ fs. AllByRecursion (IsWithin program.now) fs → ⊥)) }
+        (λ e. (place_of e ≡ Some at)
+        × MatchOption (flows (length program.now.names) token.now at (point shape count)) (Unit {0})
+        (λ fs. AllByRecursion (IsWithin program.now) fs → ⊥)) }
     ensures fault { IfErr result (λ e. token_fault program.now at token.now shape ≡ Some e) }
 {
     let next = at + 1;

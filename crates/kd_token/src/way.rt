@@ -12,7 +12,8 @@ pub enum Way {
     Skip(u16),
     /// A truth value is taken: a false goes over so many tokens, a true to the next.
     Fork(u16),
-    /// This truth value stays and goes over so many tokens; the other one is taken and goes to the next.
+    /// This truth value stays and goes over so many tokens; the other one is taken and goes to the
+    /// next.
     Keep(bool, u16),
 }
 
