@@ -34,8 +34,7 @@ impl<'a> Model for Message<'a> {
 
     ghost Value = { Seen };
 
-    ghost view =
-        { λ m. record { header = m.head; len = m.size; options = entries_of m.fields.entries } };
+    ghost view = { λ m. record { header = m.head; len = m.size; options = entries_of m.fields.entries } };
 
     ghost invariant = { λ m. IsMessage (record
         { header = m.head; len = m.size; options = entries_of m.fields.entries }) };
