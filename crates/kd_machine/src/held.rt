@@ -1,7 +1,7 @@
 ghost use Rattle.std.specs.Prelude.{◌≡◌, IfOk, OnErr, OnOk, option_copied, slice_get};
 ghost use Rattle.std.specs.List.{IsDistinct};
 ghost use Rattle.kd_machine.specs.Held.{base_names, with_name};
-ghost use Rattle.kd_machine.specs.World.{is_held, same};
+ghost use Rattle.kd_machine.specs.Parts.{is_held, same};
 ghost use Rattle.kd_options.specs.Joined.{value_of};
 
 use indexmap::IndexSet;
@@ -19,7 +19,7 @@ pub struct Held {
 impl Model for Held {
     ghost use Rattle.std.specs.Prelude.{ℕ, List, map};
     ghost use Rattle.std.specs.List.{IsDistinct};
-    ghost use Rattle.kd_machine.specs.World.{same};
+    ghost use Rattle.kd_machine.specs.Parts.{same};
 
     ghost Value = { List (List ℕ) };
 
