@@ -153,6 +153,9 @@ fn put_address(out: &mut String, word: &str, address: u32) -> Result<(), AllocEr
     ensures { OnOk result
         (string_bytes out.new ≡ string_bytes out.old ++ (word.now ++ address_text address)) }
 {
-    let [a, b, c, d] = address.to_be_bytes();
-    write!(out, "{word}{a}.{b}.{c}.{d}")
+    let first = address / 0x100_0000;
+    let second = address / 0x1_0000 % 256;
+    let third = address / 0x100 % 256;
+    let last = address % 256;
+    write!(out, "{word}{first}.{second}.{third}.{last}")
 }
