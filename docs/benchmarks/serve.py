@@ -1,5 +1,6 @@
 #!/usr/bin/env python3
-"""Measures servers in turn on loopback; serve.sh calls it: serve.py ROOM KDHCP PICTURE, in a network namespace."""
+"""Measures servers in turn on loopback; serve.sh calls it: serve.py ROOM KDHCP PICTURE, in a network namespace. With the
+word `million` in place of the picture it measures one round over 1,000,000 leases."""
 import json
 import os
 import statistics
@@ -7,7 +8,7 @@ import subprocess
 import sys
 import time
 
-SERVER, RELAY, POOL = "10.0.0.1", "10.0.0.2", "10.1.0.0-10.8.255.255"
+SERVER, RELAY, POOL = "10.0.0.1", "10.0.0.2", "10.1.0.0-10.17.255.255"
 LEVELS = [0, 1_000, 60_000, 250_000]
 TESTS = [0, 50, 250]
 ROUNDS, MEASURED = 3, 5_000
@@ -21,7 +22,7 @@ def tests_of(count):
 
 def pools():
     """The addresses of `POOL`, 65,536 in each."""
-    return [{"pool": f"10.{i}.0.0 - 10.{i}.255.255"} for i in range(1, 9)]
+    return [{"pool": f"10.{i}.0.0 - 10.{i}.255.255"} for i in range(1, 18)]
 
 
 def kea_words(room, threads, tests):
@@ -68,19 +69,30 @@ def started(room, kdhcp, which, tests):
     return server
 
 
-def loaded(room, server, base, clients, vendor):
+def loaded(room, server, base, clients, vendor, *more):
     """What kdload counts of so many clients, from this number on."""
     words = [f"{room}/kdload", "--netns", "--server", SERVER, "--giaddr", RELAY, "--clients", str(clients)]
     words += ["--base", str(base), "--window", "32", "--pid", str(server.pid), "--pool", POOL, "--max-seconds", "600"]
-    words += ["--opt", f"60:{vendor.encode().hex()}"] if vendor else []
+    words += [*more, *(["--opt", f"60:{vendor.encode().hex()}"] if vendor else [])]
     it = subprocess.run(["taskset", "-c", "1", *words], capture_output=True, text=True, check=False)
     if it.returncode:
         sys.exit(f"kdload: {it.returncode} {it.stdout} {it.stderr}")
     return json.loads(it.stdout)
 
 
+def commit_us(room):
+    """What a commit of SQLite's own library takes now, as durable, of 2,000 rows in an empty database."""
+    begun = time.time()
+    subprocess.run(["taskset", "-c", "0", f"{room}/store", f"{room}/c.db", "2000"], check=True, stdout=subprocess.DEVNULL)
+    spent = time.time() - begun
+    for name in os.listdir(room):
+        if name.startswith("c.db"):
+            os.remove(f"{room}/{name}")
+    return spent / 2000 * 1e6
+
+
 def climbed(room, kdhcp, which):
-    """A server's measures at each number of leases that stand before."""
+    """A server's measures at each number of leases that stand before; for one with a file, with what commits take then."""
     server, base, found = started(room, kdhcp, which, 0), 0, []
     for level in LEVELS:
         if level > base:
@@ -88,6 +100,8 @@ def climbed(room, kdhcp, which):
             base = level
         found.append(loaded(room, server, base, MEASURED, ""))
         base += MEASURED
+        if which == "file":
+            found[-1]["commit_us"] = commit_us(room)
     server.terminate()
     server.wait()
     return found
@@ -139,31 +153,51 @@ def picture(path, rounds):
         it.write("\n".join(out + ["</svg>", ""]))
 
 
-def main(room, kdhcp, path):
+def laid_out():
+    """The addresses of the server and of the relay, in the network namespace."""
     subprocess.run(["ip", "link", "set", "lo", "up"], check=True)
     for address in (SERVER, RELAY):
         subprocess.run(["ip", "address", "add", f"{address}/8", "dev", "lo"], check=True)
+
+
+def million(room, kdhcp):
+    """One round of Kea and of kdhcp without a store over a million leases: memory, new leases, renewals."""
+    laid_out()
+    print("| 1,000,000 leases | Resident memory in MB | DORA a second | Processor us a DORA | Processor us a renewal |")
+    print("|---|---|---|---|---|")
+    for which in ("kea", "memory"):
+        server = started(room, kdhcp, which, 0)
+        loaded(room, server, 0, 1_000_000, "", "--save", f"{room}/leases")
+        new = loaded(room, server, 1_000_000, MEASURED, "")
+        renewed = loaded(room, server, 0, 100_000, "", "--mode", "rebind", "--load", f"{room}/leases")
+        server.terminate()
+        server.wait()
+        numbers = [f"{new['server']['rss_kb'] / 1000:.0f}", f"{new['per_s']:,.0f}"]
+        numbers += [f"{it['server']['cpu_us_per_done']:.1f}" for it in (new, renewed)]
+        print(f"| {NAMES[which]} | {' | '.join(numbers)} |", flush=True)
+
+
+def main(room, kdhcp, path):
+    laid_out()
     levels, tests = {which: [] for which in NAMES}, {which: [] for which in NAMES}
-    commits = []
     for _ in range(ROUNDS):
         for which in NAMES:
             levels[which].append(climbed(room, kdhcp, which))
             tests[which].append(tested(room, kdhcp, which))
-        begun = time.time()
-        subprocess.run([f"{room}/store", f"{room}/c.db", "4000"], check=True, stdout=subprocess.DEVNULL)
-        commits.append((time.time() - begun) / 4000)
-        for name in os.listdir(room):
-            if name.startswith("c.db"):
-                os.remove(f"{room}/{name}")
     whole = lambda n: f"{n:,.0f}"
     table("DORA a second, leases before", LEVELS, levels, lambda it: it["per_s"], whole)
     table("Processor us a DORA, leases before", LEVELS, levels, lambda it: it["server"]["cpu_us_per_done"], lambda n: f"{n:.1f}")
     table("Resident memory in MB, leases before", LEVELS, levels, lambda it: it["server"]["rss_kb"] / 1000, lambda n: f"{n:.0f}")
     table("DORA a second, class tests", TESTS, tests, lambda it: it["per_s"], whole)
     table("Processor us a DORA, class tests", TESTS, tests, lambda it: it["server"]["cpu_us_per_done"], lambda n: f"{n:.1f}")
-    print(f"\nA commit of the C library of SQLite, as durable, takes {statistics.median(commits) * 1e6:,.0f} us.")
+    in_file = {"file": levels["file"]}
+    table("A commit of SQLite's library, us, leases before", LEVELS, in_file, lambda it: it["commit_us"], lambda n: f"{n:.0f}")
+    table("A DORA's time over two such commits'", LEVELS, in_file, lambda it: 1e6 / it["per_s"] / 2 / it["commit_us"], lambda n: f"{n:.2f}")
     picture(path, levels)
 
 
 if __name__ == "__main__":
-    main(*sys.argv[1:])
+    if sys.argv[3] == "million":
+        million(*sys.argv[1:3])
+    else:
+        main(*sys.argv[1:])

@@ -1,6 +1,7 @@
 -- What the words of a command line do: what is written, and the exit status.
 use Rattle.std.specs.Prelude.{◌≡◌, ◌⊎◌, ℕ, false, true, List, Option, Some, None, Result, Ok, Err, MatchResult, option_map, string_bytes}
 use Rattle.std.specs.List.{flat_map}
+use Rattle.std.specs.Result.{IsErrOf}
 use Rattle.kd_tools.specs.Printed.{Answers}
 use Rattle.kd_tools.specs.Status.{replay_status_of, serve_status_of}
 use Rattle.kd_tools.specs.declared.printed.Printed.{Printed}
@@ -17,11 +18,12 @@ use Rattle.kd_commands.specs.declared.orders.Listening.{Listening}
 use Rattle.kd_commands.specs.declared.orders.Order.{Order}
 use Rattle.kd_commands.specs.declared.orders.Order.TheVariants as orders
 use Rattle.kd_replay.specs.Faults.{loop_fault_number, replay_fault_number, serve_fault_number}
-use Rattle.kd_replay.specs.Replay.{LeavesWritten}
+use Rattle.kd_replay.specs.Replay.{Handles, HandlesWhole, LeavesWritten, most_lines}
 use Rattle.kd_replay.specs.Serving.{HasServed, StopsServing, Traffic}
 use Rattle.kd_replay.specs.declared.ends.EndFailed.{EndFailed}
 use Rattle.kd_replay.specs.declared.fault.LoopFault.{LoopFault}
 use Rattle.kd_replay.specs.declared.fault.ReplayFault.{ReplayFault}
+use Rattle.kd_replay.specs.declared.fault.ReplayFault.TheVariants as replaying
 use Rattle.kd_replay.specs.declared.link.Link.{Ghosts as Links}
 use Rattle.kd_replay.specs.declared.fault.ServeFault.{ServeFault}
 use Rattle.kd_server.specs.Keeping.{IsUnopened, Keeping, Opens, Refuses, Steps}
@@ -71,13 +73,18 @@ module _ {L S : Type 0} (l : Links L) (g : Ghosts S) where
 
 -- over a store of leases
 module _ {S : Type 0} (g : Ghosts S) where
-  -- a server replays what is left of standard input, to standard output
+  -- a server replays what is left of standard input, to standard output; where that input fails, the
+  -- lines that it gave whole are handled, or 1,000,000 lines
   pub record ReplaysInput (server after : Keeping S) (status : ℕ) (old new : Streams) : Type 0 where
     pub result : Result ℕ ReplayFault
     pub leaves : (input output : List ℕ) → old.input.bytes ≡ Some input
         → old.output.bytes ≡ Some output
         → LeavesWritten (Steps g) (Refuses g)
         (new.input.failed ≡ true) result input server after output new.output.bytes
+    pub whole : IsErrOf result replaying.Read → (input output : List ℕ)
+        → old.input.bytes ≡ Some input → old.output.bytes ≡ Some output
+        → HandlesWhole (Steps g) input new.input.bytes server after output new.output.bytes
+        ⊎ Handles (Steps g) most_lines server after
     pub ends : EndsReplay result status old.faults new.faults
 
   -- a server's leases at a moment are shown, or it is told why there are none; memory may run out

@@ -1,5 +1,5 @@
 -- Datagrams that were served, and then more.
-use Rattle.std.proofs.Common.{◌≡◌, ℕ, ◌+◌, List, [], ◌∷◌, ◌++◌, Option, None, Some, Result, Ok, Err, MatchResult, IfErr, OnErr, OnOk, length, map, refl, sym, ap, ◌∙◌, subst, append_assoc, arith}
+use Rattle.std.proofs.Common.{◌≡◌, ℕ, ◌+◌, List, [], ◌∷◌, ◌++◌, Option, None, Some, Result, Ok, Err, MatchResult, IfErr, OnErr, OnOk, length, map, refl, sym, ap, ◌∙◌, subst, append_assoc, inl}
 use Rattle.std.proofs.KnownBytes.{Appends-nil, Appends-trans}
 use Rattle.std.proofs.lemmas.Grind.{flat_map-append}
 use Rattle.std.proofs.lemmas.List.{append-nil, length-append, map-append}
@@ -111,14 +111,7 @@ module _ {H : Type 0} (gives : H → Event → Handled → H → Type 0) where
         (record { received = received; sent = sent; written = old }) (record { received = after; sent = gone; written = written })) (sym h.0) (failed, cut_one h.1)
 
 module _ {H : Type 0} (gives : H → Event → Handled → H → Type 0) (fails : H → Event → ServeFault → H → Type 0) where
-  -- there is no memory to serve in
+  -- there is no memory to begin in
   pub stopped_first : (not_received not_written : Type 0) (count : ℕ) (server : H) (traffic : Traffic)
       → StopsServing gives fails not_received not_written faults.Memory count server server traffic traffic
-  stopped_first not_received not_written count server traffic = record {
-    done = 0;
-    mid = server;
-    between = traffic;
-    few = omega arith;
-    served = served_none gives server traffic;
-    ends = (refl, refl, refl);
-  }
+  stopped_first not_received not_written count server traffic = inl (refl, refl, refl)

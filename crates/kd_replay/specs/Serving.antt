@@ -1,6 +1,6 @@
 -- Datagrams that are served one after another as they are received: what is handled, sent and
 -- written.
-use Rattle.std.specs.Prelude.{◌≡◌, ◌≢◌, ℕ, ◌≤◌, Bool, true, false, List, [], ◌∷◌, ◌++◌, Option, None, Some, codes, length, map}
+use Rattle.std.specs.Prelude.{◌≡◌, ◌≢◌, ◌⊎◌, ℕ, ◌<◌, Bool, true, false, List, [], ◌∷◌, ◌++◌, Option, None, Some, codes, length, map}
 use Rattle.std.specs.List.{flat_map}
 use Rattle.std.specs.Io.KnownBytes.{Appends}
 use Rattle.kd_replay.specs.History.{History}
@@ -86,37 +86,40 @@ module _ {H : Type 0} (gives : H → Event → Handled → H → Type 0) where
     pub cut : WritesPart old.written out.written (text_of answered)
 
 module _ {H : Type 0} (fails : H → Event → ServeFault → H → Type 0) where
-  -- one datagram was received and has a fault, which is not want of memory; nothing was sent or
-  -- written for it
+  -- one datagram was received and has a fault; nothing was sent or written for it
   pub record HasFailed (fault : ServeFault) (server new : H) (old out : Traffic) : Type 0 where
     pub event : Event
     pub failed : fails server event fault new
-    pub other : fault ≢ serving.Memory
     pub received : Grows old.received out.received (event.bytes ∷ [])
     pub sent : out.sent ≡ old.sent
     pub written : out.written ≡ old.written
 
 module _ {H : Type 0} (gives : H → Event → Handled → H → Type 0)
     (fails : H → Event → ServeFault → H → Type 0) where
-  -- how serving ends before its count: nothing could be received; for want of memory, with nothing
-  -- sent or written for the last datagram; at a fault of the server; or where a text could not be
-  -- written
+  -- how serving ends at a datagram: none could be received; the server says that there is no memory
+  -- for it, or that it has another fault; or its text could not be written
   abbrev pub EndsServing : Type 0 → Type 0 → LoopFault → H → H → Traffic → Traffic → Type 0
   EndsServing not_received not_written faults.Read server new old out =
       not_received × (new ≡ server) × (out ≡ old)
   EndsServing not_received not_written faults.Memory server new old out =
-      (new ≡ server) × (out.sent ≡ old.sent) × (out.written ≡ old.written)
+      (new ≡ server) × HasFailed fails serving.Memory server new old out
   EndsServing not_received not_written (faults.Serve fault) server new old out =
-      HasFailed fails fault server new old out
+      (fault ≢ serving.Memory) × HasFailed fails fault server new old out
   EndsServing not_received not_written faults.Write server new old out =
       not_written × HasCut gives server new old out
 
-  -- serving stops before its count: some datagrams were served, and it ends at the next
-  pub record StopsServing (not_received not_written : Type 0) (fault : LoopFault) (count : ℕ)
+  -- some datagrams were served, fewer than were asked for, and serving ends at the next
+  pub record EndsAfter (not_received not_written : Type 0) (fault : LoopFault) (count : ℕ)
       (server new : H) (old out : Traffic) : Type 0 where
     pub done : ℕ
     pub mid : H
     pub between : Traffic
-    pub few : done ≤ count
+    pub few : done < count
     pub served : HasServed gives done server mid old between
     pub ends : EndsServing not_received not_written fault mid new between out
+
+  -- serving stops before its count: there is no memory to begin in, or it ends after some datagrams
+  abbrev pub StopsServing : Type 0 → Type 0 → LoopFault → ℕ → H → H → Traffic → Traffic → Type 0
+  StopsServing not_received not_written fault count server new old out =
+      ((fault ≡ faults.Memory) × (new ≡ server) × (out ≡ old))
+      ⊎ EndsAfter not_received not_written fault count server new old out

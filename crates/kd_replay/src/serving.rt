@@ -46,7 +46,8 @@ impl Work {
 /// # Errors
 ///
 /// `Read` where nothing can be received; `Serve` with the fault of a datagram's event; `Write`
-/// where the sink fails; `Memory`. What was served before stands.
+/// where the sink fails; `Memory` before the first datagram, or where the server says so of one.
+/// What was served before stands.
 pub fn serve_with<L: Link, C: Clock, W: Sink, H: Serves>(
     alloc: Global,
     link: &mut L,

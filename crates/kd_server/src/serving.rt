@@ -14,7 +14,8 @@ use std::alloc::Global;
 /// # Errors
 ///
 /// `Read` where nothing can be received; `Serve` with the fault of a datagram's event; `Write`
-/// where the sink fails; `Memory`. What was served before stands.
+/// where the sink fails; `Memory` before the first datagram, or where the server says so of one.
+/// What was served before stands.
 pub fn serve<L: Link, C: Clock, W: Sink, S: Keeps>(
     alloc: Global,
     link: &mut L,
