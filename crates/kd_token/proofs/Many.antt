@@ -1,5 +1,5 @@
 -- Items read one after another: what a loop keeps while it reads them.
-use Rattle.std.proofs.Common.{◌≡◌, ℕ, suc, ◌+◌, ◌-◌, ◌<◌, ◌≤◌, List, [], ◌∷◌, ◌++◌, length, Option, Some, None, refl, sym, ap, ◌∙◌, append_assoc, subst, arith}
+use Rattle.std.proofs.Common.{◌≡◌, ℕ, suc, ◌+◌, ◌-◌, ◌<◌, ◌≤◌, List, [], ◌∷◌, ◌++◌, length, Result, Ok, Err, refl, sym, ap, ◌∙◌, append_assoc, subst, arith}
 use Rattle.std.proofs.lemmas.List.{append-nil}
 use Rattle.std.specs.List.{flat_map, AllByRecursion}
 use Rattle.kd_token.specs.declared.fault.FileFault.{FileFault}
@@ -7,26 +7,14 @@ use Rattle.kd_token.specs.declared.fault.FileFault.TheVariants as faults
 use Rattle.kd_token.specs.declared.token.Token.{Token}
 use Rattle.kd_token.specs.declared.token.Version.{Version}
 use Rattle.kd_token.specs.File.{IsToken, AreTokens}
-use Rattle.kd_wire.specs.Steps.{◌>>=◌}
-use Rattle.kd_token.specs.Reading.{NothingRead, many_at}
+use Rattle.kd_token.specs.Reading.{Fails, Reads, Rest, and_then, many_at}
 
 -- these items, and then those that are read
-abbrev pub with_front : {X : Type 0} → List X → Option (List X × List ℕ) → Option (List X × List ℕ)
-with_front front read = read >>= λ x. Some (front ++ x.0, x.1)
+abbrev pub with_front : {X : Type 0} → List X → Result (List X × Rest) FileFault → Result (List X × Rest) FileFault
+with_front front read = and_then read (λ x. Ok (front ++ x.0, x.1))
 
--- where nothing is read any fault may come
-pub refuses : {A : Type 0} (fault : FileFault) (read : Option A) → read ≡ None → NothingRead fault read
-refuses faults.Magic read e = e
-refuses faults.Version read e = e
-refuses (faults.Cut at) read e = e
-refuses (faults.Opcode at) read e = e
-refuses (faults.Operand at) read e = e
-refuses (faults.Rest at) read e = e
-refuses faults.Limit read e = e
-refuses faults.Memory read e = tt
-
--- a fault comes where nothing is read, or memory ran out
-pub refused : {A B : Type 0} (fault : FileFault) (read : Option A) (next : Option B) → (read ≡ None → next ≡ None) → NothingRead fault read → NothingRead fault next
+-- the same fault comes where what is read next has it
+pub refused : {A B : Type 0} (fault : FileFault) (read : Result A FileFault) (next : Result B FileFault) → (read ≡ Err fault → next ≡ Err fault) → Fails fault read → Fails fault next
 refused faults.Magic read next f e = f e
 refused faults.Version read next f e = f e
 refused (faults.Cut at) read next f e = f e
@@ -36,33 +24,33 @@ refused (faults.Rest at) read next f e = f e
 refused faults.Limit read next f e = f e
 refused faults.Memory read next f e = tt
 
-regroup : {X : Type 0} (front : List X) (x : X) (read : Option (List X × List ℕ)) → with_front front (read >>= λ xs. Some (x ∷ xs.0, xs.1)) ≡ with_front (front ++ x ∷ []) read
-regroup front x None = refl
-regroup front x (Some xs) = ap (λ ys. Some (ys, xs.1)) (sym (append_assoc front (x ∷ []) xs.0))
+regroup : {X : Type 0} (front : List X) (x : X) (read : Result (List X × Rest) FileFault) → with_front front (and_then read (λ xs. Ok (x ∷ xs.0, xs.1))) ≡ with_front (front ++ x ∷ []) read
+regroup front x (Err fault) = refl
+regroup front x (Ok xs) = ap (λ ys. Ok (ys, xs.1)) (sym (append_assoc front (x ∷ []) xs.0))
 
 -- one item more
-pub goes_on : {X : Type 0} (item : ℕ → List ℕ → Option (X × List ℕ)) (front : List X) (count i : ℕ) (bytes : List ℕ) (x : X) (after : List ℕ) (total : Option (List X × List ℕ)) → i < count → item (count - (i + 1)) bytes ≡ Some (x, after)
-    → with_front front (many_at item (count - i) bytes) ≡ total → with_front (front ++ x ∷ []) (many_at item (count - (i + 1)) after) ≡ total
+pub goes_on : {X : Type 0} (item : ℕ → Reads X) (front : List X) (count i : ℕ) (r : Rest) (x : X) (after : Rest) (total : Result (List X × Rest) FileFault) → i < count → item (count - (i + 1)) r ≡ Ok (x, after)
+    → with_front front (many_at item (count - i) r) ≡ total → with_front (front ++ x ∷ []) (many_at item (count - (i + 1)) after) ≡ total
 unfolding many_at
-goes_on item front count i bytes x after total less one so_far =
+goes_on item front count i r x after total less one so_far =
     let k : count - i ≡ suc (count - (i + 1)) = omega arith in
-    let step : with_front front (many_at item (count - i) bytes) ≡ with_front (front ++ x ∷ []) (many_at item (count - (i + 1)) after) = rw (k, one) (regroup front x (many_at item (count - (i + 1)) after)) in
+    let step : with_front front (many_at item (count - i) r) ≡ with_front (front ++ x ∷ []) (many_at item (count - (i + 1)) after) = rw (k, one) (regroup front x (many_at item (count - (i + 1)) after)) in
     sym step ∙ so_far
 
 -- an item that is not read
-pub ends : {X : Type 0} (item : ℕ → List ℕ → Option (X × List ℕ)) (fault : FileFault) (front : List X) (count i : ℕ) (bytes : List ℕ) (total : Option (List X × List ℕ)) → i < count → NothingRead fault (item (count - (i + 1)) bytes)
-    → with_front front (many_at item (count - i) bytes) ≡ total → NothingRead fault total
+pub ends : {X : Type 0} (item : ℕ → Reads X) (fault : FileFault) (front : List X) (count i : ℕ) (r : Rest) (total : Result (List X × Rest) FileFault) → i < count → Fails fault (item (count - (i + 1)) r)
+    → with_front front (many_at item (count - i) r) ≡ total → Fails fault total
 unfolding many_at
-ends item fault front count i bytes total less none so_far =
+ends item fault front count i r total less none so_far =
     let k : count - i ≡ suc (count - (i + 1)) = omega arith in
-    refused fault (item (count - (i + 1)) bytes) total (λ e. sym so_far ∙ rw (k, e) refl) none
+    refused fault (item (count - (i + 1)) r) total (λ e. sym so_far ∙ rw (k, e) refl) none
 
 -- all items are read
-pub is_done : {X : Type 0} (item : ℕ → List ℕ → Option (X × List ℕ)) (front : List X) (count i : ℕ) (bytes : List ℕ) (total : Option (List X × List ℕ)) → count ≤ i → with_front front (many_at item (count - i) bytes) ≡ total → total ≡ Some (front, bytes)
+pub is_done : {X : Type 0} (item : ℕ → Reads X) (front : List X) (count i : ℕ) (r : Rest) (total : Result (List X × Rest) FileFault) → count ≤ i → with_front front (many_at item (count - i) r) ≡ total → total ≡ Ok (front, r)
 unfolding many_at
-is_done item front count i bytes total most so_far =
+is_done item front count i r total most so_far =
     let k : count - i ≡ 0 = omega arith in
-    let one : with_front front (many_at item (count - i) bytes) ≡ Some (front, bytes) = rw k (ap (λ xs. Some (xs, bytes)) (append-nil front)) in
+    let one : with_front front (many_at item (count - i) r) ≡ Ok (front, r) = rw k (ap (λ xs. Ok (xs, r)) (append-nil front)) in
     sym so_far ∙ one
 
 -- what is spelled so far, with one item more

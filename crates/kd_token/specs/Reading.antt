@@ -1,7 +1,8 @@
--- Token files read from left to right, computed: what each field is and what follows it, or none
--- where a fault comes. Proofs tie these functions to the definition of a file; no public contract
--- cites those that read. `◌>>=◌` is also how the shapes, the flows and a run's rules are written.
-use Rattle.std.specs.Prelude.{◌≡◌, ◌≤◌, ◌-◌, ℕ, ℤ, zero, suc, nat_lt, List, [], ◌∷◌, length, take, drop, Option, Some, None, Result, Ok, Err, if◌then◌else◌, ◌==◌}
+-- Token files read from left to right: the fields one after another, and beside each field the fault
+-- that comes where it is not as it must be. A field that the file ends within is Cut, at its first
+-- byte. The first fault ends the reading. What is read is what `specs/File.antt` spells:
+-- `Program::read` promises both.
+use Rattle.std.specs.Prelude.{◌≡◌, ◌≤◌, ◌-◌, ℕ, ℤ, zero, suc, nat_lt, not, Bool, List, [], ◌∷◌, length, take, drop, Option, Some, None, Result, Ok, Err, if◌then◌else◌, ◌==◌}
 use Rattle.std.specs.Int.{w32, cast_signed}
 use Rattle.byteorder.specs.Endian.{big_number}
 use Rattle.kd_token.specs.declared.fault.FileFault.{FileFault}
@@ -12,20 +13,20 @@ use Rattle.kd_token.specs.declared.token.Token.{Token}
 use Rattle.kd_token.specs.declared.token.Token.TheVariants as tokens
 use Rattle.kd_token.specs.declared.token.Version.{Version}
 use Rattle.kd_token.specs.declared.token.Version.TheVariants as versions
-use Rattle.kd_token.specs.File.{Code}
-use Rattle.kd_wire.specs.Steps.{◌>>=◌}
+use Rattle.kd_token.specs.File.{Code, code}
 
--- a fault comes only where nothing is read; want of memory may come at any file
-abbrev pub NothingRead : {A : Type 0} → FileFault → Option A → Type 0
-NothingRead faults.Memory read = Unit {0}
-NothingRead fault read = read ≡ None
+-- the very fault that comes, or want of memory, which may come at any file
+abbrev pub Fails : {A : Type 0} → FileFault → Result A FileFault → Type 0
+Fails faults.Memory read = Unit {0}
+Fails fault read = read ≡ Err fault
 
--- what a reader answered, seen so, is what is read, unless memory runs out
-abbrev pub ReaderGives : {X A : Type 0} → (X → A) → Result X FileFault → Option A → Type 0
-ReaderGives view (Ok x) read = read ≡ Some (view x)
-ReaderGives view (Err fault) read = NothingRead fault read
+-- what a function answered, seen so, is what is read, or it is the fault that comes; or memory ran
+-- out
+abbrev pub ReaderGives : {X A : Type 0} → (X → A) → Result X FileFault → Result A FileFault → Type 0
+ReaderGives view (Ok x) read = read ≡ Ok (view x)
+ReaderGives view (Err fault) read = Fails fault read
 
--- what a reader of a file knows: the whole file, and what is left of it
+-- a file that is read in part: the whole, and what is left of it
 pub record Rest : Type 0 where
   pub whole : List ℕ
   pub left : List ℕ
@@ -39,57 +40,86 @@ pub record IsRest (r : Rest) : Type 0 where
   pub within : length r.left ≤ length r.whole
   pub last : drop (length r.whole - length r.left) r.whole ≡ r.left
 
--- the file ends within the field that comes next
-abbrev pub IsCutFault : Rest → FileFault → Type 0
-IsCutFault r fault = fault ≡ faults.Cut (length r.whole - length r.left)
+-- the place of the next byte
+abbrev pub place : Rest → ℕ
+place r = length r.whole - length r.left
 
--- the operand that comes next is refused
-abbrev pub IsOperandFault : Rest → FileFault → Type 0
-IsOperandFault r fault = fault ≡ faults.Operand (length r.whole - length r.left)
+-- what is read from a place on, and what is left after it, or the first fault
+abbrev pub Reads : Type 0 → Type 0
+Reads X = Rest → Result (X × Rest) FileFault
 
--- the opcode of a branch
-abbrev pub IsBranchOpcode : ℕ → Type 0
-IsBranchOpcode opcode = (0x20 ≤ opcode) × (opcode ≤ 0x23)
+-- where nothing is wrong, go on
+abbrev pub and_then : {A B : Type 0} → Result A FileFault → (A → Result B FileFault)
+    → Result B FileFault
+and_then (Ok x) next = next x
+and_then (Err fault) next = Err fault
 
--- the opcode of a branch comes next
-abbrev pub IsBranchNext : List ℕ → Type 0
-IsBranchNext [] = ⊥
-IsBranchNext (opcode ∷ bytes) = IsBranchOpcode opcode
+infixl 10 ◌>>=◌
+-- this, and after it the next
+abbrev pub ◌>>=◌ : {X Y : Type 0} → Reads X → (X → Reads Y) → Reads Y
+(field >>= next) r = and_then (field r) (λ x. next x.0 x.1)
 
--- so many items, each read with so many after it
-unfoldable pub many_at : {X : Type 0} → (ℕ → List ℕ → Option (X × List ℕ)) → ℕ → List ℕ
-    → Option (List X × List ℕ)
-many_at item zero bytes = Some ([], bytes)
-many_at item (suc n) bytes =
-    item n bytes >>= λ first. many_at item n first.1 >>= λ others. Some
-    (first.0 ∷ others.0, others.1)
+-- this, with no byte
+abbrev pub gives : {X : Type 0} → X → Reads X
+gives x r = Ok (x, r)
 
--- the first n bytes, and what follows them
-abbrev pub front_at : ℕ → List ℕ → Option (List ℕ × List ℕ)
-front_at n bytes = if nat_lt (length bytes) n then None else Some (take n bytes, drop n bytes)
+-- this of what is read
+abbrev pub makes : {X Y : Type 0} → (X → Y) → Reads X → Reads Y
+makes view field r = and_then (field r) (λ x. Ok (view x.0, x.1))
+
+-- the place of the next byte
+abbrev pub here : Reads ℕ
+here r = Ok (place r, r)
+
+-- how many bytes are left
+abbrev pub bytes_left : Reads ℕ
+bytes_left r = Ok (length r.left, r)
+
+-- this fault, where something is wrong
+abbrev pub fault_where : Bool → FileFault → Reads (Unit {0})
+fault_where wrong fault r = if wrong then Err fault else Ok (tt, r)
+
+-- what is known, or else this fault
+abbrev pub known_or : {X : Type 0} → FileFault → Option X → Reads X
+known_or fault (Some x) r = Ok (x, r)
+known_or fault None r = Err fault
+
+-- the next n bytes, a field
+abbrev pub bytes_at : ℕ → Reads (List ℕ)
+bytes_at n r =
+    if nat_lt (length r.left) n then Err (faults.Cut (place r))
+    else Ok (take n r.left, rest r.whole (drop n r.left))
 
 -- a number of n bytes
-abbrev pub number_in_front : ℕ → List ℕ → Option (ℕ × List ℕ)
-number_in_front n bytes =
-    if nat_lt (length bytes) n then None else Some (big_number n (take n bytes), drop n bytes)
+abbrev pub number_at : ℕ → Reads ℕ
+number_at n = makes (big_number n) (bytes_at n)
 
 -- a number of n bytes that is at most this
-unfoldable pub limited_at : ℕ → ℕ → List ℕ → Option (ℕ × List ℕ)
-limited_at n most bytes = do
-  number ← number_in_front n bytes
-  if nat_lt most number.0 then None else Some number
+unfoldable pub limited_at : ℕ → ℕ → Reads ℕ
+limited_at n most = do
+  number ← number_at n
+  _ ← fault_where (nat_lt most number) faults.Limit
+  gives number
 
 -- a signed number of four bytes
-unfoldable pub signed_at : List ℕ → Option (ℤ × List ℕ)
-signed_at bytes = do
-  number ← number_in_front 4 bytes
-  Some (cast_signed w32 number.0, number.1)
+abbrev pub signed_at : Reads ℤ
+signed_at = makes (cast_signed w32) (number_at 4)
 
--- the magic number
-unfoldable pub magic_at : List ℕ → Option (List ℕ)
-magic_at bytes = do
-  magic ← number_in_front 4 bytes
-  if magic.0 == 0x4b34544b then Some magic.1 else None
+-- so many items, each read with so many after it
+unfoldable pub many_at : {X : Type 0} → (ℕ → Reads X) → ℕ → Reads (List X)
+many_at item zero = gives []
+many_at item (suc n) = do
+  first ← item n
+  others ← many_at item n
+  gives (first ∷ others)
+
+-- the magic number; where the file ends within it, it is wanting too
+unfoldable pub magic_at : Reads (Unit {0})
+magic_at = do
+  left ← bytes_left
+  _ ← fault_where (nat_lt left 4) faults.Magic
+  magic ← number_at 4
+  fault_where (not (magic == 0x4b34544b)) faults.Magic
 
 -- the version of a version byte
 abbrev pub version_of : ℕ → Option Version
@@ -97,27 +127,34 @@ version_of byte =
     if byte == 1 then Some versions.One else if byte == 2 then Some versions.Two else None
 
 -- a version
-unfoldable pub version_at : List ℕ → Option (Version × List ℕ)
-version_at bytes = do
-  byte ← number_in_front 1 bytes
-  version ← version_of byte.0
-  Some (version, byte.1)
+unfoldable pub version_at : Reads Version
+version_at = do
+  byte ← number_at 1
+  known_or faults.Version (version_of byte)
 
 -- a name after its length, which is not 0
-unfoldable pub name_at : List ℕ → Option (List ℕ × List ℕ)
-name_at bytes = do
-  size ← number_in_front 1 bytes
-  if size.0 == 0 then None else front_at size.0 size.1
+unfoldable pub name_at : Reads (List ℕ)
+name_at = do
+  at ← here
+  size ← number_at 1
+  _ ← fault_where (size == 0) (faults.Operand at)
+  bytes_at size
 
 -- so many names
-abbrev pub names_at : ℕ → List ℕ → Option (List (List ℕ) × List ℕ)
-names_at count bytes = many_at (λ behind. name_at) count bytes
+abbrev pub names_at : ℕ → Reads (List (List ℕ))
+names_at count = many_at (λ behind. name_at) count
+
+-- the names after their number
+unfoldable pub all_names_at : Reads (List (List ℕ))
+all_names_at = do
+  count ← limited_at 1 64
+  names_at count
 
 -- a byte string after its length of two bytes
-unfoldable pub long_at : List ℕ → Option (List ℕ × List ℕ)
-long_at bytes = do
-  size ← number_in_front 2 bytes
-  front_at size.0 size.1
+unfoldable pub long_at : Reads (List ℕ)
+long_at = do
+  size ← number_at 2
+  bytes_at size
 
 -- the field of a number
 unfoldable pub field_numbered : ℕ → Option Field
@@ -135,35 +172,45 @@ field_numbered number =
     else None
 
 -- a field
-unfoldable pub field_at : List ℕ → Option (Field × List ℕ)
-field_at bytes = do
-  number ← number_in_front 1 bytes
-  field ← field_numbered number.0
-  Some (field, number.1)
+unfoldable pub field_at : Reads Field
+field_at = do
+  at ← here
+  number ← number_at 1
+  known_or (faults.Operand at) (field_numbered number)
 
--- a substring's number of bytes after its mode
-unfoldable pub number_of_bytes_at : List ℕ → Option (Option ℤ × List ℕ)
-number_of_bytes_at bytes = do
-  count ← signed_at bytes
-  Some (Some count.0, count.1)
+-- how many bytes a substring has: after a mode of 0 a number, after a mode of 1 all
+unfoldable pub count_after : ℕ → ℕ → Reads (Option ℤ)
+count_after at mode r =
+    if mode == 1 then Ok (None, r)
+    else if mode == 0 then makes Some signed_at r
+    else Err (faults.Operand at)
 
--- how many bytes a substring has
-unfoldable pub count_at : List ℕ → Option (Option ℤ × List ℕ)
-count_at bytes = do
-  mode ← number_in_front 1 bytes
-  if mode.0 == 1 then Some (None, mode.1) else if mode.0 == 0 then number_of_bytes_at mode.1 else None
+-- a mode, and how many bytes a substring has
+unfoldable pub count_at : Reads (Option ℤ)
+count_at = do
+  at ← here
+  mode ← number_at 1
+  count_after at mode
 
 -- a substring's start and number of bytes
-unfoldable pub substring_at : List ℕ → Option (Token × List ℕ)
-substring_at bytes = do
-  start ← signed_at bytes
-  count ← count_at start.1
-  Some (tokens.Substring start.0 count.0, count.1)
+unfoldable pub substring_at : Reads Token
+substring_at = do
+  start ← signed_at
+  count ← count_at
+  gives (tokens.Substring start count)
 
 -- how many tokens a branch skips, at most so many
-abbrev pub skip_at : Version → ℕ → List ℕ → Option (ℕ × List ℕ)
-skip_at versions.One behind bytes = None
-skip_at versions.Two behind bytes = limited_at 2 behind bytes
+unfoldable pub branch_at : ℕ → Reads ℕ
+branch_at behind = do
+  at ← here
+  skip ← number_at 2
+  _ ← fault_where (nat_lt behind skip) (faults.Operand at)
+  gives skip
+
+-- the same, where the version has branches; else there is no such opcode
+abbrev pub skip_at : Version → ℕ → ℕ → Reads ℕ
+skip_at versions.One behind opcode_at r = Err (faults.Opcode opcode_at)
+skip_at versions.Two behind opcode_at r = branch_at behind r
 
 -- the token without operands of an opcode
 unfoldable pub plain_token : ℕ → Option Token
@@ -181,60 +228,67 @@ plain_token opcode =
     else if opcode == 0x14 then Some tokens.IntBytes
     else None
 
--- the operands of an opcode, and so its token, with so many tokens after it
-unfoldable pub operands_at : Version → ℕ → ℕ → List ℕ → Option (Token × List ℕ)
-operands_at version behind opcode bytes =
-    if opcode == 0x01 then (long_at bytes >>= λ x. Some (tokens.PushBytes x.0, x.1))
-    else if opcode == 0x02 then (number_in_front 4 bytes >>= λ x. Some (tokens.PushInt x.0, x.1))
-    else if opcode == 0x03 then (number_in_front 1 bytes >>= λ x. Some (tokens.PushOption x.0, x.1))
-    else if opcode == 0x04 then (number_in_front 1 bytes >>= λ x. Some (tokens.PushRelay x.0, x.1))
-    else if opcode == 0x05 then (field_at bytes >>= λ x. Some (tokens.PushField x.0, x.1))
-    else if opcode == 0x06 then
-    (number_in_front 1 bytes >>= λ x. Some (tokens.OptionExists x.0, x.1))
-    else if opcode == 0x07 then
-    (number_in_front 1 bytes >>= λ x. Some (tokens.RelayExists x.0, x.1))
-    else if opcode == 0x08 then (number_in_front 1 bytes >>= λ x. Some (tokens.Member x.0, x.1))
-    else if opcode == 0x0e then substring_at bytes
-    else if opcode == 0x20 then
-    (skip_at version behind bytes >>= λ x. Some (tokens.Branch x.0, x.1))
-    else if opcode == 0x21 then
-    (skip_at version behind bytes >>= λ x. Some (tokens.PopBranchFalse x.0, x.1))
-    else if opcode == 0x22 then
-    (skip_at version behind bytes >>= λ x. Some (tokens.BranchFalseElsePop x.0, x.1))
-    else if opcode == 0x23 then
-    (skip_at version behind bytes >>= λ x. Some (tokens.BranchTrueElsePop x.0, x.1))
-    else (plain_token opcode >>= λ token. Some (token, bytes))
+-- the operands of an opcode that stands at a place, and so its token, with so many tokens after it
+unfoldable pub operands_at : Version → ℕ → ℕ → ℕ → Reads Token
+operands_at version behind opcode at r =
+    if opcode == 0x01 then makes tokens.PushBytes long_at r
+    else if opcode == 0x02 then makes tokens.PushInt (number_at 4) r
+    else if opcode == 0x03 then makes tokens.PushOption (number_at 1) r
+    else if opcode == 0x04 then makes tokens.PushRelay (number_at 1) r
+    else if opcode == 0x05 then makes tokens.PushField field_at r
+    else if opcode == 0x06 then makes tokens.OptionExists (number_at 1) r
+    else if opcode == 0x07 then makes tokens.RelayExists (number_at 1) r
+    else if opcode == 0x08 then makes tokens.Member (number_at 1) r
+    else if opcode == 0x0e then substring_at r
+    else if opcode == 0x20 then makes tokens.Branch (skip_at version behind at) r
+    else if opcode == 0x21 then makes tokens.PopBranchFalse (skip_at version behind at) r
+    else if opcode == 0x22 then makes tokens.BranchFalseElsePop (skip_at version behind at) r
+    else if opcode == 0x23 then makes tokens.BranchTrueElsePop (skip_at version behind at) r
+    else known_or (faults.Opcode at) (plain_token opcode) r
 
 -- a token, with so many tokens after it
-unfoldable pub token_at : Version → ℕ → List ℕ → Option (Token × List ℕ)
-token_at version behind bytes = do
-  opcode ← number_in_front 1 bytes
-  operands_at version behind opcode.0 opcode.1
+unfoldable pub token_at : Version → ℕ → Reads Token
+token_at version behind = do
+  at ← here
+  opcode ← number_at 1
+  operands_at version behind opcode at
 
 -- so many tokens
-abbrev pub tokens_at : Version → ℕ → List ℕ → Option (List Token × List ℕ)
-tokens_at version count bytes = many_at (token_at version) count bytes
-
--- the names after their number
-unfoldable pub all_names_at : List ℕ → Option (List (List ℕ) × List ℕ)
-all_names_at bytes = do
-  count ← limited_at 1 64 bytes
-  names_at count.0 count.1
+abbrev pub tokens_at : Version → ℕ → Reads (List Token)
+tokens_at version count = many_at (token_at version) count
 
 -- the tokens after their number
-unfoldable pub all_tokens_at : Version → List ℕ → Option (List Token × List ℕ)
-all_tokens_at version bytes = do
-  count ← limited_at 2 1024 bytes
-  tokens_at version count.0 count.1
+unfoldable pub all_tokens_at : Version → Reads (List Token)
+all_tokens_at version = do
+  count ← limited_at 2 1024
+  tokens_at version count
 
--- a whole file
-unfoldable pub program_at : List ℕ → Option Code
-program_at bytes = do
-  rest ← magic_at bytes
-  version ← version_at rest
-  steps ← limited_at 2 1024 version.1
-  depth ← limited_at 1 64 steps.1
-  bound ← number_in_front 2 depth.1
-  names ← all_names_at bound.1
-  tokens ← all_tokens_at version.0 names.1
-  if length tokens.1 == 0 then Some (record { version = version.0; steps = steps.0; depth = depth.0; bound = bound.0; names = names.0; tokens = tokens.0 }) else None
+-- the fields after the magic number
+unfoldable pub fields_at : Reads Code
+fields_at = do
+  version ← version_at
+  steps ← limited_at 2 1024
+  depth ← limited_at 1 64
+  bound ← number_at 2
+  names ← all_names_at
+  tokens ← all_tokens_at version
+  gives (code version steps depth bound names tokens)
+
+-- the end of the file
+unfoldable pub end_at : Reads (Unit {0})
+end_at = do
+  at ← here
+  left ← bytes_left
+  fault_where (nat_lt 0 left) (faults.Rest at)
+
+-- a file
+unfoldable pub file_at : Reads Code
+file_at = do
+  _ ← magic_at
+  program ← fields_at
+  _ ← end_at
+  gives program
+
+-- the program of a file, or its fault
+abbrev pub program_at : List ℕ → Result Code FileFault
+program_at bytes = and_then (file_at (rest bytes bytes)) (λ x. Ok x.0)

@@ -1,7 +1,8 @@
-ghost use Rattle.std.specs.Prelude.{◌≡◌, ◌≤◌, ◌++◌, length, slice_get, option_copied, IfOk, MatchResult, OnOk};
+ghost use Rattle.std.specs.Prelude.{◌≡◌, ◌≤◌, ◌++◌, length, slice_get, option_copied, IfErr, IfOk, MatchResult, OnOk};
 ghost use Rattle.std.specs.List.{AllByRecursion};
 ghost use Rattle.kd_token.specs.File.{Code, HasFile, IsFileOf, IsName, IsShort, code, head_bytes, names_bytes, tokens_bytes};
 ghost use Rattle.kd_token.specs.Reading.{ReaderGives, program_at};
+ghost use Rattle.kd_token.specs.FirstFault.{IsRightBefore, StaysWrong};
 ghost use Rattle.kd_token.specs.declared.fault.FileFault.TheVariants.{Memory};
 
 use crate::fault::FileFault;
@@ -45,6 +46,9 @@ impl Program {
         ensures found { IfOk result (λ p. IsFileOf bytes.now p) }
         ensures only { (p : Code) → IsFileOf bytes.now p
             → MatchResult result (λ found. found ≡ p) (λ fault. fault ≡ Memory) }
+        ensures exact { ReaderGives (λ p. p) result (program_at bytes.now) }
+        ensures first { IfErr result
+            (λ fault. IsRightBefore bytes.now fault × StaysWrong bytes.now fault) }
     {
         whole(alloc, bytes)
     }
@@ -141,7 +145,7 @@ impl Program {
 }
 
 // The program that the whole of the bytes spells.
-#[tactic(auto, unfolding(crate::specs::Reading::program_at))]
+#[tactic(auto, unfolding(crate::specs::Reading::file_at, crate::specs::Reading::fields_at, crate::specs::Reading::end_at))]
 fn whole(alloc: Global, bytes: &[u8]) -> Result<Program, FileFault>
     ensures read { ReaderGives (λ p. p) result (program_at bytes.now) }
     ensures found { IfOk result (λ p. IsFileOf bytes.now p) }

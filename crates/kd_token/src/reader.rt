@@ -1,10 +1,9 @@
-ghost use Rattle.std.specs.Prelude.{◌≡◌, ◌+◌, ◌<◌, ◌≤◌, ◌∷◌, ◌++◌, ◌⊎◌, drop, length, IfErr, IfOk};
+ghost use Rattle.std.specs.Prelude.{◌≡◌, ◌<◌, ◌≤◌, ◌∷◌, ◌++◌, drop, length, IfOk};
 ghost use Rattle.std.specs.Int.RustNames.{FitsSigned};
 ghost use Rattle.std.specs.Int.{w32};
 ghost use Rattle.byteorder.specs.Endian.{big_bytes, big_number};
 ghost use Rattle.kd_token.specs.File.{signed_bytes};
-ghost use Rattle.kd_token.specs.Reading.{ReaderGives, IsCutFault, front_at, limited_at, number_in_front, rest, signed_at};
-ghost use Rattle.kd_token.specs.declared.fault.FileFault.TheVariants.{Limit};
+ghost use Rattle.kd_token.specs.Reading.{ReaderGives, bytes_at, limited_at, number_at, place, rest, signed_at};
 
 use crate::fault::FileFault;
 use byteorder::{BigEndian, ByteOrder};
@@ -39,7 +38,7 @@ impl<'a> Reader<'a> {
 
     // The offset of the next byte.
     pub(crate) fn at(&self) -> usize
-        ensures place { result + length self.now.left ≡ length self.now.whole }
+        ensures place { result ≡ place self.now }
         ensures rest { drop result self.now.whole ≡ self.now.left }
     {
         self.whole.len() - self.left.len()
@@ -54,11 +53,9 @@ impl<'a> Reader<'a> {
 
     // The next n bytes, a field of their own.
     pub(crate) fn take(&mut self, n: usize) -> Result<&'a [u8], FileFault>
-        ensures read { ReaderGives (λ b. (b.now, self.new.left)) result (front_at n self.old.left) }
+        ensures read { ReaderGives (λ b. (b.now, self.new)) result (bytes_at n self.old) }
         ensures found { IfOk result
             (λ b. (self.old.left ≡ b.now ++ self.new.left) × (length b.now ≡ n)) }
-        ensures whole { self.new.whole ≡ self.old.whole }
-        ensures cut { IfErr result (λ e. IsCutFault self.old e) }
     {
         if self.left.len() < n {
             return Err(FileFault::Cut(self.at()));
@@ -69,43 +66,32 @@ impl<'a> Reader<'a> {
     }
 
     pub(crate) fn u8(&mut self) -> Result<u8, FileFault>
-        ensures read { ReaderGives (λ n. (n, self.new.left)) result
-            (number_in_front 1 self.old.left) }
+        ensures read { ReaderGives (λ n. (n, self.new)) result (number_at 1 self.old) }
         ensures found { IfOk result (λ n. self.old.left ≡ n ∷ self.new.left) }
-        ensures whole { self.new.whole ≡ self.old.whole }
-        ensures cut { IfErr result (λ e. IsCutFault self.old e) }
     {
         Ok(self.take(1)?[0])
     }
 
     pub(crate) fn u16(&mut self) -> Result<u16, FileFault>
-        ensures read { ReaderGives (λ n. (n, self.new.left)) result
-            (number_in_front 2 self.old.left) }
+        ensures read { ReaderGives (λ n. (n, self.new)) result (number_at 2 self.old) }
         ensures found { IfOk result (λ n. self.old.left ≡ big_bytes 2 n ++ self.new.left) }
-        ensures whole { self.new.whole ≡ self.old.whole }
-        ensures cut { IfErr result (λ e. IsCutFault self.old e) }
     {
         Ok(u16_of(self.take(2)?))
     }
 
     pub(crate) fn u32(&mut self) -> Result<u32, FileFault>
-        ensures read { ReaderGives (λ n. (n, self.new.left)) result
-            (number_in_front 4 self.old.left) }
+        ensures read { ReaderGives (λ n. (n, self.new)) result (number_at 4 self.old) }
         ensures found { IfOk result (λ n. self.old.left ≡ big_bytes 4 n ++ self.new.left) }
-        ensures whole { self.new.whole ≡ self.old.whole }
-        ensures cut { IfErr result (λ e. IsCutFault self.old e) }
     {
         Ok(u32_of(self.take(4)?))
     }
 
     // A signed number of four bytes.
-    #[tactic(auto, unfolding(crate::specs::Reading::signed_at), using(crate::proofs::Numbers::signed_back))]
+    #[tactic(auto, using(crate::proofs::Numbers::signed_back))]
     pub(crate) fn i32(&mut self) -> Result<i32, FileFault>
-        ensures read { ReaderGives (λ n. (n, self.new.left)) result (signed_at self.old.left) }
+        ensures read { ReaderGives (λ n. (n, self.new)) result (signed_at self.old) }
         ensures found { IfOk result
             (λ n. (self.old.left ≡ signed_bytes n ++ self.new.left) × FitsSigned w32 n) }
-        ensures whole { self.new.whole ≡ self.old.whole }
-        ensures cut { IfErr result (λ e. IsCutFault self.old e) }
     {
         Ok(self.u32()?.cast_signed())
     }
@@ -113,11 +99,8 @@ impl<'a> Reader<'a> {
     // A number of one byte that is at most this.
     #[tactic(auto, unfolding(crate::specs::Reading::limited_at))]
     pub(crate) fn u8_to(&mut self, most: u8) -> Result<u8, FileFault>
-        ensures read { ReaderGives (λ n. (n, self.new.left)) result
-            (limited_at 1 most self.old.left) }
+        ensures read { ReaderGives (λ n. (n, self.new)) result (limited_at 1 most self.old) }
         ensures found { IfOk result (λ n. (self.old.left ≡ n ∷ self.new.left) × (n ≤ most)) }
-        ensures whole { self.new.whole ≡ self.old.whole }
-        ensures fault { IfErr result (λ e. (e ≡ Limit) ⊎ IsCutFault self.old e) }
     {
         let number = self.u8()?;
         if number > most {
@@ -129,12 +112,9 @@ impl<'a> Reader<'a> {
     // A number of two bytes that is at most this.
     #[tactic(auto, unfolding(crate::specs::Reading::limited_at))]
     pub(crate) fn u16_to(&mut self, most: u16) -> Result<u16, FileFault>
-        ensures read { ReaderGives (λ n. (n, self.new.left)) result
-            (limited_at 2 most self.old.left) }
+        ensures read { ReaderGives (λ n. (n, self.new)) result (limited_at 2 most self.old) }
         ensures found { IfOk result
             (λ n. (self.old.left ≡ big_bytes 2 n ++ self.new.left) × (n ≤ most)) }
-        ensures whole { self.new.whole ≡ self.old.whole }
-        ensures fault { IfErr result (λ e. (e ≡ Limit) ⊎ IsCutFault self.old e) }
     {
         let number = self.u16()?;
         if number > most {

@@ -1,13 +1,11 @@
-ghost use Rattle.std.specs.Prelude.{◌≡◌, ℕ, ◌+◌, ◌^◌, ◌<◌, ◌≤◌, ◌∷◌, [], ◌++◌, ◌-◌, ◌⊎◌, length, Err, IfErr, IfOk, IfSome};
+ghost use Rattle.std.specs.Prelude.{◌≡◌, ℕ, ◌+◌, ◌^◌, ◌<◌, ◌≤◌, ◌∷◌, [], ◌++◌, length, IfOk, IfSome};
 ghost use Rattle.std.specs.Int.RustNames.{FitsSigned};
 ghost use Rattle.std.specs.Int.{w32};
 ghost use Rattle.std.specs.List.{AllByRecursion, flat_map};
 ghost use Rattle.byteorder.specs.Endian.{big_bytes};
 ghost use Rattle.kd_token.specs.File.{AreTokens, IsBranch, IsCount, IsName, IsToken, count_bytes, field_number, long_bytes, name_bytes, signed_bytes, token_bytes, version_number};
-ghost use Rattle.kd_token.specs.Reading.{ReaderGives, IsBranchNext, IsBranchOpcode, IsCutFault, IsOperandFault, all_names_at, all_tokens_at, count_at, field_at, field_numbered, long_at, magic_at, name_at, names_at, operands_at, plain_token, skip_at, substring_at, token_at, tokens_at, version_at};
-ghost use Rattle.kd_token.specs.declared.fault.FileFault.TheVariants.{Opcode};
+ghost use Rattle.kd_token.specs.Reading.{ReaderGives, all_names_at, all_tokens_at, count_at, field_at, field_numbered, long_at, magic_at, name_at, names_at, operands_at, plain_token, skip_at, substring_at, token_at, tokens_at, version_at};
 ghost use Rattle.kd_token.specs.declared.token.Version.{Version};
-ghost use Rattle.kd_token.specs.declared.token.Version.TheVariants.{One, Two};
 
 use crate::fault::FileFault;
 use crate::reader::Reader;
@@ -24,9 +22,8 @@ const MOST_TOKENS: u16 = 1024;
 // Passes the magic number.
 #[tactic(auto, unfolding(crate::specs::Reading::magic_at))]
 pub(crate) fn magic(reader: &mut Reader<'_>) -> Result<(), FileFault>
-    ensures read { ReaderGives (λ _. reader.new.left) result (magic_at reader.old.left) }
+    ensures read { ReaderGives (λ _. (tt, reader.new)) result (magic_at reader.old) }
     ensures found { IfOk result (λ _. reader.old.left ≡ big_bytes 4 0x4b34544b ++ reader.new.left) }
-    ensures whole { reader.new.whole ≡ reader.old.whole }
 {
     if reader.len() < 4 || reader.u32()? != MAGIC {
         return Err(FileFault::Magic);
@@ -37,9 +34,8 @@ pub(crate) fn magic(reader: &mut Reader<'_>) -> Result<(), FileFault>
 // The version of a version byte.
 #[tactic(auto, unfolding(crate::specs::Reading::version_at))]
 pub(crate) fn version(reader: &mut Reader<'_>) -> Result<Version, FileFault>
-    ensures read { ReaderGives (λ v. (v, reader.new.left)) result (version_at reader.old.left) }
+    ensures read { ReaderGives (λ v. (v, reader.new)) result (version_at reader.old) }
     ensures found { IfOk result (λ v. reader.old.left ≡ version_number v ∷ reader.new.left) }
-    ensures whole { reader.new.whole ≡ reader.old.whole }
 {
     match reader.u8()? {
         1 => Ok(Version::One),
@@ -51,10 +47,9 @@ pub(crate) fn version(reader: &mut Reader<'_>) -> Result<Version, FileFault>
 // A name after its length.
 #[tactic(auto, unfolding(crate::specs::Reading::name_at))]
 fn name(alloc: Global, reader: &mut Reader<'_>) -> Result<Bytes, FileFault>
-    ensures read { ReaderGives (λ b. (b, reader.new.left)) result (name_at reader.old.left) }
+    ensures read { ReaderGives (λ b. (b, reader.new)) result (name_at reader.old) }
     ensures found { IfOk result
         (λ b. (reader.old.left ≡ name_bytes b ++ reader.new.left) × IsName b) }
-    ensures whole { reader.new.whole ≡ reader.old.whole }
 {
     let at = reader.at();
     let size = reader.u8()?;
@@ -67,12 +62,11 @@ fn name(alloc: Global, reader: &mut Reader<'_>) -> Result<Bytes, FileFault>
 
 // So many names.
 fn names_of(alloc: Global, reader: &mut Reader<'_>, count: u8) -> Result<Vec<Bytes>, FileFault>
-    ensures read { ReaderGives (λ v. (v.items, reader.new.left)) result
-        (names_at count reader.old.left) }
+    ensures read { ReaderGives (λ v. (v.items, reader.new)) result
+        (names_at count reader.old) }
     ensures found { IfOk result
         (λ v. (reader.old.left ≡ flat_map name_bytes v.items ++ reader.new.left)
         × AllByRecursion IsName v.items × (length v.items ≡ count)) }
-    ensures whole { reader.new.whole ≡ reader.old.whole }
 {
     let mut names = Vec::new(alloc);
     'names: for _ in 0..count {
@@ -85,12 +79,11 @@ fn names_of(alloc: Global, reader: &mut Reader<'_>, count: u8) -> Result<Vec<Byt
 // The names after their number.
 #[tactic(auto, unfolding(crate::specs::Reading::all_names_at))]
 pub(crate) fn names(alloc: Global, reader: &mut Reader<'_>) -> Result<Vec<Bytes>, FileFault>
-    ensures read { ReaderGives (λ v. (v.items, reader.new.left)) result
-        (all_names_at reader.old.left) }
+    ensures read { ReaderGives (λ v. (v.items, reader.new)) result
+        (all_names_at reader.old) }
     ensures found { IfOk result
         (λ v. (reader.old.left ≡ length v.items ∷ (flat_map name_bytes v.items ++ reader.new.left))
         × AllByRecursion IsName v.items × (length v.items ≤ 64)) }
-    ensures whole { reader.new.whole ≡ reader.old.whole }
 {
     let count = reader.u8_to(MOST_NAMES)?;
     names_of(alloc, reader, count)
@@ -99,10 +92,9 @@ pub(crate) fn names(alloc: Global, reader: &mut Reader<'_>) -> Result<Vec<Bytes>
 // A byte string after its length of two bytes.
 #[tactic(auto, unfolding(crate::specs::Reading::long_at))]
 fn long(alloc: Global, reader: &mut Reader<'_>) -> Result<Bytes, FileFault>
-    ensures read { ReaderGives (λ b. (b, reader.new.left)) result (long_at reader.old.left) }
+    ensures read { ReaderGives (λ b. (b, reader.new)) result (long_at reader.old) }
     ensures found { IfOk result
         (λ b. (reader.old.left ≡ long_bytes b ++ reader.new.left) × (length b < 2 ^ 16)) }
-    ensures whole { reader.new.whole ≡ reader.old.whole }
 {
     let size = reader.u16()?;
     let bytes = reader.take(usize::from(size))?;
@@ -133,10 +125,8 @@ fn field_of(number: u8) -> Option<Field>
 // A field.
 #[tactic(auto, unfolding(crate::specs::Reading::field_at))]
 fn field(reader: &mut Reader<'_>) -> Result<Field, FileFault>
-    ensures read { ReaderGives (λ f. (f, reader.new.left)) result (field_at reader.old.left) }
+    ensures read { ReaderGives (λ f. (f, reader.new)) result (field_at reader.old) }
     ensures found { IfOk result (λ f. reader.old.left ≡ field_number f ∷ reader.new.left) }
-    ensures whole { reader.new.whole ≡ reader.old.whole }
-    ensures fault { IfErr result (λ e. IsCutFault reader.old e ⊎ IsOperandFault reader.old e) }
 {
     let at = reader.at();
     let number = reader.u8()?;
@@ -147,12 +137,11 @@ fn field(reader: &mut Reader<'_>) -> Result<Field, FileFault>
 }
 
 // How many bytes a substring has.
-#[tactic(auto, unfolding(crate::specs::Reading::count_at, crate::specs::Reading::number_of_bytes_at))]
+#[tactic(auto, unfolding(crate::specs::Reading::count_at, crate::specs::Reading::count_after))]
 fn count(reader: &mut Reader<'_>) -> Result<Option<i32>, FileFault>
-    ensures read { ReaderGives (λ n. (n, reader.new.left)) result (count_at reader.old.left) }
+    ensures read { ReaderGives (λ n. (n, reader.new)) result (count_at reader.old) }
     ensures found { IfOk result
         (λ n. (reader.old.left ≡ count_bytes n ++ reader.new.left) × IsCount n) }
-    ensures whole { reader.new.whole ≡ reader.old.whole }
 {
     let at = reader.at();
     match reader.u8()? {
@@ -165,10 +154,9 @@ fn count(reader: &mut Reader<'_>) -> Result<Option<i32>, FileFault>
 // A substring's start and number of bytes.
 #[tactic(auto, unfolding(crate::specs::Reading::substring_at))]
 fn substring(reader: &mut Reader<'_>) -> Result<Token, FileFault>
-    ensures read { ReaderGives (λ t. (t, reader.new.left)) result (substring_at reader.old.left) }
+    ensures read { ReaderGives (λ t. (t, reader.new)) result (substring_at reader.old) }
     ensures found { IfOk result (λ t. (0x0e ∷ reader.old.left ≡ token_bytes t ++ reader.new.left)
         × ((v : Version) (n : ℕ) → IsToken v n t)) }
-    ensures whole { reader.new.whole ≡ reader.old.whole }
 {
     let start = reader.i32()?;
     let count = count(reader)?;
@@ -176,21 +164,17 @@ fn substring(reader: &mut Reader<'_>) -> Result<Token, FileFault>
 }
 
 // How many tokens a branch skips; `opcode_at` is the place of its opcode.
-#[tactic(auto, unfolding(crate::specs::Reading::limited_at))]
+#[tactic(auto, unfolding(crate::specs::Reading::branch_at))]
 fn skip(
     reader: &mut Reader<'_>,
     version: Version,
     behind: u16,
     opcode_at: usize,
 ) -> Result<u16, FileFault>
-    ensures read { ReaderGives (λ d. (d, reader.new.left)) result
-        (skip_at version behind reader.old.left) }
+    ensures read { ReaderGives (λ d. (d, reader.new)) result
+        (skip_at version behind opcode_at reader.old) }
     ensures found { IfOk result
         (λ d. (reader.old.left ≡ big_bytes 2 d ++ reader.new.left) × IsBranch version behind d) }
-    ensures whole { reader.new.whole ≡ reader.old.whole }
-    ensures one { version ≡ One → result ≡ Err (Opcode opcode_at) }
-    ensures two { version ≡ Two
-        → IfErr result (λ e. IsCutFault reader.old e ⊎ IsOperandFault reader.old e) }
 {
     match version {
         Version::One => Err(FileFault::Opcode(opcode_at)),
@@ -238,13 +222,11 @@ fn operands(
     opcode: u8,
     at: usize,
 ) -> Result<Token, FileFault>
-    ensures read { ReaderGives (λ t. (t, reader.new.left)) result
-        (operands_at version behind opcode reader.old.left) }
+    ensures read { ReaderGives (λ t. (t, reader.new)) result
+        (operands_at version behind opcode at reader.old) }
     ensures found { IfOk result
         (λ t. (opcode ∷ reader.old.left ≡ token_bytes t ++ reader.new.left)
         × IsToken version behind t) }
-    ensures whole { reader.new.whole ≡ reader.old.whole }
-    ensures one { version ≡ One → IsBranchOpcode opcode → result ≡ Err (Opcode at) }
 {
     match opcode {
         0x01 => Ok(Token::PushBytes(long(alloc, reader)?)),
@@ -275,13 +257,10 @@ fn token(
     version: Version,
     behind: u16,
 ) -> Result<Token, FileFault>
-    ensures read { ReaderGives (λ t. (t, reader.new.left)) result
-        (token_at version behind reader.old.left) }
+    ensures read { ReaderGives (λ t. (t, reader.new)) result
+        (token_at version behind reader.old) }
     ensures found { IfOk result
         (λ t. (reader.old.left ≡ token_bytes t ++ reader.new.left) × IsToken version behind t) }
-    ensures whole { reader.new.whole ≡ reader.old.whole }
-    ensures one { version ≡ One → IsBranchNext reader.old.left
-        → result ≡ Err (Opcode (length reader.old.whole - length reader.old.left)) }
 {
     let at = reader.at();
     let opcode = reader.u8()?;
@@ -295,12 +274,11 @@ fn tokens_of(
     version: Version,
     count: u16,
 ) -> Result<Vec<Token>, FileFault>
-    ensures read { ReaderGives (λ v. (v.items, reader.new.left)) result
-        (tokens_at version count reader.old.left) }
+    ensures read { ReaderGives (λ v. (v.items, reader.new)) result
+        (tokens_at version count reader.old) }
     ensures found { IfOk result
         (λ v. (reader.old.left ≡ flat_map token_bytes v.items ++ reader.new.left)
         × AreTokens version v.items × (length v.items ≡ count)) }
-    ensures whole { reader.new.whole ≡ reader.old.whole }
 {
     let mut tokens = Vec::new(alloc);
     'tokens: for i in 0..count {
@@ -317,13 +295,12 @@ pub(crate) fn tokens(
     reader: &mut Reader<'_>,
     version: Version,
 ) -> Result<Vec<Token>, FileFault>
-    ensures read { ReaderGives (λ v. (v.items, reader.new.left)) result
-        (all_tokens_at version reader.old.left) }
+    ensures read { ReaderGives (λ v. (v.items, reader.new)) result
+        (all_tokens_at version reader.old) }
     ensures found { IfOk result
         (λ v. (reader.old.left ≡ big_bytes 2 (length v.items) ++ (flat_map token_bytes v.items
         ++ reader.new.left))
         × AreTokens version v.items × (length v.items ≤ 1024)) }
-    ensures whole { reader.new.whole ≡ reader.old.whole }
 {
     let count = reader.u16_to(MOST_TOKENS)?;
     tokens_of(alloc, reader, version, count)

@@ -7,9 +7,8 @@ use Rattle.kd_token.proofs.reading.tokens_of.Given as goal
 
 abbrev pub invariant-tokens : goal.invariant-tokens
 invariant-tokens l = record {
-  told : with_front l.tokens.items (many_at (token_at l.version) (l.count - l.i) l.reader.left) ≡ many_at (token_at l.version) l.count l.fn.reader.left;
+  told : with_front l.tokens.items (many_at (token_at l.version) (l.count - l.i) l.reader) ≡ many_at (token_at l.version) l.count l.fn.reader;
   spelled : l.fn.reader.left ≡ flat_map token_bytes l.tokens.items ++ l.reader.left;
   each : AreFirst l.version (l.count - l.i) l.tokens.items;
   number : length l.tokens.items ≡ l.i;
-  whole : l.reader.whole ≡ l.fn.reader.whole;
 }
