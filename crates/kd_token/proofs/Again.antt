@@ -55,7 +55,7 @@ unsigned_fits z fits = let e = Fits-of_z {w = w32} {z = z} fits in omega (arith,
 signed_again : (w : List ℕ) (z : ℤ) (after : List ℕ) → FitsSigned w32 z → signed_at (rest w (signed_bytes z ++ after)) ≡ Ok (z, rest w after)
 signed_again w z after fits = rw (four_again w (cast_unsigned w32 z) after (unsigned_fits z fits), to_z-of_z w32 z fits) refl
 
-magic_again : (w after : List ℕ) → magic_at (rest w (big_bytes 4 0x4b34544b ++ after)) ≡ Ok (tt, rest w after)
+pub magic_again : (w after : List ℕ) → magic_at (rest w (big_bytes 4 0x4b34544b ++ after)) ≡ Ok (tt, rest w after)
 unfolding magic_at
 magic_again w after =
     let bytes : List ℕ = big_bytes 4 0x4b34544b in

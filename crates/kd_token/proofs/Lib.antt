@@ -2,8 +2,7 @@ pub mod Numbers
 pub mod Many
 pub mod Again
 pub mod Read
-pub mod Steady
-pub mod FirstFault
+pub mod Told
 pub mod Down
 pub mod Meets
 pub mod Pairwise

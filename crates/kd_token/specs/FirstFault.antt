@@ -1,24 +1,125 @@
--- What a fault says of the bytes before its place, and of bytes after the file.
-use Rattle.std.specs.Prelude.{◌≡◌, ℕ, ◌≤◌, List, ◌++◌, length, take, Ok, Err}
+-- Which fault bytes have that are no token file, and where. A file is a row of fields. The bytes
+-- before the place of a fault are the first fields of a file; with the next field they are those of
+-- none.
+use Rattle.std.specs.Prelude.{◌≡◌, ◌⊎◌, ◌<◌, ◌≤◌, ◌+◌, ℕ, ℤ, List, [], ◌∷◌, ◌++◌, length, take, Option, Some, None}
+use Rattle.std.specs.List.{flat_map}
+use Rattle.byteorder.specs.Endian.{big_bytes}
 use Rattle.kd_token.specs.declared.fault.FileFault.{FileFault}
 use Rattle.kd_token.specs.declared.fault.FileFault.TheVariants as faults
-use Rattle.kd_token.specs.File.{Code}
-use Rattle.kd_token.specs.Reading.{program_at}
+use Rattle.kd_token.specs.declared.token.Token.{Token}
+use Rattle.kd_token.specs.declared.token.Token.TheVariants as tokens
+use Rattle.kd_token.specs.File.{Code, HasFile, IsFileOf, field_number, signed_bytes, token_bytes, version_number}
 
--- the bytes before the place of a fault are right as far as they go: alone they are cut there, and
--- before a Rest they are a file
-abbrev pub IsRightBefore : List ℕ → FileFault → Type 0
-IsRightBefore bytes (faults.Cut at) = program_at (take at bytes) ≡ Err (faults.Cut at)
-IsRightBefore bytes (faults.Opcode at) = program_at (take at bytes) ≡ Err (faults.Cut at)
-IsRightBefore bytes (faults.Operand at) = program_at (take at bytes) ≡ Err (faults.Cut at)
-IsRightBefore bytes (faults.Rest at) = (p : Code) × (program_at (take at bytes) ≡ Ok p)
-IsRightBefore bytes fault = Unit {0}
+-- a field of a file: its bytes, the fault where the file ends within it, and the fault where bytes
+-- stand there that no file has; each by the place of its first byte
+pub record Part : Type 0 where
+  pub bytes : List ℕ
+  pub cut : ℕ → FileFault
+  pub wrong : ℕ → FileFault
 
--- what is wrong stays wrong, whatever stands after it: only a file that is cut, or that has fewer
--- than the four bytes of the magic number, can be gone on with
-abbrev pub StaysWrong : List ℕ → FileFault → Type 0
-StaysWrong bytes faults.Memory = Unit {0}
-StaysWrong bytes (faults.Cut at) = Unit {0}
-StaysWrong bytes faults.Magic =
-    4 ≤ length bytes → (more : List ℕ) → program_at (bytes ++ more) ≡ Err faults.Magic
-StaysWrong bytes fault = (more : List ℕ) → program_at (bytes ++ more) ≡ Err fault
+-- these bytes, with this fault where others stand there
+abbrev pub part : (ℕ → FileFault) → List ℕ → Part
+part wrong bytes = record { bytes = bytes; cut = faults.Cut; wrong = wrong }
+
+-- a field that may have any bytes, and so is never wrong
+abbrev pub free : List ℕ → Part
+free bytes = part faults.Cut bytes
+
+-- a number with a limit
+abbrev pub limited : List ℕ → Part
+limited bytes = part (λ at. faults.Limit) bytes
+
+-- an operand that not all bytes can be
+abbrev pub operand : List ℕ → Part
+operand bytes = part faults.Operand bytes
+
+-- the magic number; where the file ends within it, it is wanting too
+abbrev pub magic : Part
+magic = record {
+  bytes = big_bytes 4 0x4b34544b;
+  cut = λ at. faults.Magic;
+  wrong = λ at. faults.Magic;
+}
+
+-- the fields of a name
+abbrev pub name_parts : List ℕ → List Part
+name_parts name = operand (length name ∷ []) ∷ free name ∷ []
+
+-- the fields of a substring's number of bytes
+abbrev pub count_parts : Option ℤ → List Part
+count_parts None = operand (1 ∷ []) ∷ []
+count_parts (Some count) = operand (0 ∷ []) ∷ free (signed_bytes count) ∷ []
+
+-- the fields of a token's operands
+abbrev pub operand_parts : Token → List Part
+operand_parts (tokens.PushBytes bytes) = free (big_bytes 2 (length bytes)) ∷ free bytes ∷ []
+operand_parts (tokens.PushInt number) = free (big_bytes 4 number) ∷ []
+operand_parts (tokens.PushOption code) = free (code ∷ []) ∷ []
+operand_parts (tokens.PushRelay code) = free (code ∷ []) ∷ []
+operand_parts (tokens.PushField field) = operand (field_number field ∷ []) ∷ []
+operand_parts (tokens.OptionExists code) = free (code ∷ []) ∷ []
+operand_parts (tokens.RelayExists code) = free (code ∷ []) ∷ []
+operand_parts (tokens.Member index) = free (index ∷ []) ∷ []
+operand_parts (tokens.Substring start count) = free (signed_bytes start) ∷ count_parts count
+operand_parts (tokens.Branch skip) = operand (big_bytes 2 skip) ∷ []
+operand_parts (tokens.PopBranchFalse skip) = operand (big_bytes 2 skip) ∷ []
+operand_parts (tokens.BranchFalseElsePop skip) = operand (big_bytes 2 skip) ∷ []
+operand_parts (tokens.BranchTrueElsePop skip) = operand (big_bytes 2 skip) ∷ []
+operand_parts token = []
+
+-- the fields of a token: its opcode and its operands
+abbrev pub token_parts : Token → List Part
+token_parts token = part faults.Opcode (take 1 (token_bytes token)) ∷ operand_parts token
+
+-- the fields after the magic number
+abbrev pub later_parts : Code → List Part
+later_parts p =
+    part (λ at. faults.Version) (version_number p.version ∷ []) ∷ limited (big_bytes 2 p.steps)
+    ∷ limited (p.depth ∷ []) ∷ free (big_bytes 2 p.bound) ∷ limited (length p.names ∷ [])
+    ∷ (flat_map name_parts p.names
+    ++ (limited (big_bytes 2 (length p.tokens)) ∷ flat_map token_parts p.tokens))
+
+-- the fields of a program's file
+abbrev pub parts : Code → List Part
+parts p = magic ∷ later_parts p
+
+-- the bytes of fields, one after another
+abbrev pub spelled : List Part → List ℕ
+spelled row = flat_map (λ one. one.bytes) row
+
+-- the bytes before a place are the first fields of a file, in which this field comes next
+pub record IsNext (bytes : List ℕ) (at : ℕ) (next : Part) : Type 0 where
+  pub file : Code
+  pub limits : HasFile file
+  pub before : List Part
+  pub after : List Part
+  pub fields : parts file ≡ before ++ next ∷ after
+  pub within : at ≤ length bytes
+  pub same : take at bytes ≡ spelled before
+
+-- no file begins with these bytes
+abbrev pub BeginsNone : List ℕ → Type 0
+BeginsNone bytes = (p : Code) (more : List ℕ) → IsFileOf (bytes ++ more) p → ⊥
+
+-- the file ends within the field that comes next
+abbrev pub IsCutFault : List ℕ → FileFault → Type 0
+IsCutFault bytes fault =
+    (at : ℕ) × (next : Part) × IsNext bytes at next × (length bytes < at + length next.bytes)
+    × (fault ≡ next.cut at)
+
+-- the field that comes next has bytes with which no file goes on
+abbrev pub IsWrongFault : List ℕ → FileFault → Type 0
+IsWrongFault bytes fault =
+    (at : ℕ) × (next : Part) × IsNext bytes at next × (at + length next.bytes ≤ length bytes)
+    × BeginsNone (take (at + length next.bytes) bytes) × (fault ≡ next.wrong at)
+
+-- bytes stand after a file
+abbrev pub IsRestFault : List ℕ → FileFault → Type 0
+IsRestFault bytes fault =
+    (at : ℕ) × (p : Code) × IsFileOf (take at bytes) p × (at < length bytes)
+    × (fault ≡ faults.Rest at)
+
+-- the first fault of bytes that are no file
+abbrev pub IsFirstFault : List ℕ → FileFault → Type 0
+IsFirstFault bytes fault =
+    IsCutFault bytes fault ⊎ (IsWrongFault bytes fault ⊎ IsRestFault bytes fault)
