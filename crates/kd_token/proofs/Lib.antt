@@ -3,6 +3,7 @@ pub mod Many
 pub mod Again
 pub mod Read
 pub mod Told
+pub mod Fields
 pub mod Down
 pub mod Meets
 pub mod Pairwise

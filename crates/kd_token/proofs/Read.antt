@@ -1,23 +1,22 @@
 -- What a file's bytes are read as, and which fault comes where they are no file.
-use Rattle.std.proofs.Common.{◌≡◌, ℕ, ◌+◌, ◌<◌, ◌≤◌, Bool, true, false, List, [], ◌∷◌, ◌++◌, length, Option, Some, None, Result, Ok, Err, refl, sym, ap, subst, ◌∙◌, append_assoc, length-append, arith, inl, inr}
+use Rattle.std.proofs.Common.{◌≡◌, ℕ, ◌+◌, ◌<◌, ◌≤◌, Bool, true, false, List, [], ◌∷◌, ◌++◌, length, Some, None, Result, Ok, Err, refl, sym, ap, subst, ◌∙◌, append_assoc, length-append, arith, inl, inr}
 use Rattle.std.specs.Prelude.{◌⊎◌, ◌==◌, not, nat_lt, take, drop, MatchResult, IfErr}
 use Rattle.std.specs.List.{flat_map}
 use Rattle.std.proofs.lemmas.Bool.{ltb-true, ltb-false, lt-ltb, le-ltb, eqb-true, not-false}
-use Rattle.std.proofs.lemmas.Grind.{flat_map-append}
 use Rattle.std.proofs.lemmas.List.{append-nil, length-take-le, take-append-drop, take_at}
 use Rattle.byteorder.specs.Endian.{big_bytes, big_number}
 use Rattle.kd_token.specs.declared.fault.FileFault.{FileFault}
 use Rattle.kd_token.specs.declared.fault.FileFault.TheVariants as faults
 use Rattle.kd_token.specs.declared.token.Token.{Token}
 use Rattle.kd_token.specs.declared.token.Token.TheVariants as tokens
-use Rattle.kd_token.specs.declared.token.Version.{Version}
 use Rattle.kd_token.specs.declared.token.Version.TheVariants as versions
 use Rattle.kd_token.specs.File.{Code, HasFile, IsFileOf, code, file_bytes, name_bytes, token_bytes, version_number}
 use Rattle.kd_token.specs.Reading.{Rest, rest, and_then, place, ReaderGives, Fails, magic_at, fields_at, end_at, file_at, program_at}
-use Rattle.kd_token.specs.FirstFault.{Part, part, magic, name_parts, operand_parts, token_parts, later_parts, parts, spelled, IsNext, BeginsNone, IsCutFault, IsWrongFault, IsRestFault, IsFirstFault}
+use Rattle.kd_token.specs.FirstFault.{Part, part, magic, name_parts, token_parts, later_parts, parts, spelled, IsNext, BeginsNone, IsFirstFault}
 use Rattle.kd_token.proofs.Numbers.{AreBytes, four_bytes}
 use Rattle.kd_token.proofs.Again.{magic_again, number_again, program_again}
-use Rattle.kd_token.proofs.Told.{past, place_is, spelled_both, bytes_front, bytes_after, Read, Stop, IsAt, Tells, fields_told}
+use Rattle.kd_token.proofs.Told.{past, spelled_both, bytes_front, bytes_after, Read, Stop, IsAt, Tells}
+use Rattle.kd_token.proofs.Fields.{fields_told}
 
 -- a fault where something is read is want of memory
 only_memory : (fault : FileFault) (p : Code) → Fails fault (Ok p) → fault ≡ faults.Memory

@@ -1,7 +1,6 @@
--- Token files read from left to right: the fields one after another, and beside each field the fault
--- that comes where it is not as it must be. A field that the file ends within is Cut, at its first
--- byte. The first fault ends the reading. What is read is what `specs/File.antt` spells:
--- `Program::read` promises both.
+-- Token files read from left to right, computed: the fields one after another, and beside each field
+-- the fault that comes where it is not as it must be. The first fault ends the reading. Proofs tie
+-- these functions to the definition of a file and of its first fault; no public contract cites them.
 use Rattle.std.specs.Prelude.{◌≡◌, ◌≤◌, ◌-◌, ℕ, ℤ, zero, suc, nat_lt, not, Bool, List, [], ◌∷◌, length, take, drop, Option, Some, None, Result, Ok, Err, if◌then◌else◌, ◌==◌}
 use Rattle.std.specs.Int.{w32, cast_signed}
 use Rattle.byteorder.specs.Endian.{big_number}

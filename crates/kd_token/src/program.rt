@@ -1,8 +1,8 @@
 ghost use Rattle.std.specs.Prelude.{◌≡◌, ◌≤◌, ◌++◌, ◌⊎◌, length, slice_get, option_copied, IfErr, IfOk, MatchResult, OnOk};
 ghost use Rattle.std.specs.List.{AllByRecursion};
-ghost use Rattle.kd_token.specs.File.{Code, HasFile, IsFileOf, IsName, IsShort, code, head_bytes, names_bytes, tokens_bytes};
+ghost use Rattle.kd_token.specs.File.{Code, HasFile, IsFileOf, IsName, IsShort, code, file_bytes, head_bytes, names_bytes, tokens_bytes};
 ghost use Rattle.kd_token.specs.Reading.{ReaderGives, program_at};
-ghost use Rattle.kd_token.specs.FirstFault.{IsFirstFault};
+ghost use Rattle.kd_token.specs.FirstFault.{IsFirstFault, parts, spelled};
 ghost use Rattle.kd_token.specs.declared.fault.FileFault.TheVariants.{Memory};
 
 use crate::fault::FileFault;
@@ -47,6 +47,7 @@ impl Program {
         ensures only { (p : Code) → IsFileOf bytes.now p
             → MatchResult result (λ found. found ≡ p) (λ fault. fault ≡ Memory) }
         ensures first { IfErr result (λ fault. (fault ≡ Memory) ⊎ IsFirstFault bytes.now fault) }
+        ensures fields { (p : Code) → spelled (parts p) ≡ file_bytes p }
     {
         whole(alloc, bytes)
     }
