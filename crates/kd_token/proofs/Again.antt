@@ -18,34 +18,34 @@ use Rattle.kd_token.specs.declared.token.Version.{Version}
 use Rattle.kd_token.specs.declared.token.Version.TheVariants as versions
 use Rattle.kd_token.specs.File.{Code, HasFile, IsName, IsToken, IsBranch, IsCount, IsShort, AreTokens, version_number, field_number, long_bytes, signed_bytes, count_bytes, token_bytes, name_bytes, names_bytes, tokens_bytes, file_bytes}
 use Rattle.kd_token.specs.declared.fault.FileFault.{FileFault}
-use Rattle.kd_token.specs.Reading.{◌>>=◌, Rest, rest, gives, many_at, bytes_at, number_at, limited_at, signed_at, magic_at, version_at, name_at, names_at, long_at, field_numbered, field_at, count_after, count_at, substring_at, branch_at, skip_at, plain_token, operands_at, token_at, tokens_at, all_names_at, all_tokens_at, fields_at, end_at, file_at, program_at}
+use Rattle.kd_token.specs.Reading.{◌>>=◌, Rest, rest, already, many_at, bytes_next, number_next, limited_at, signed_at, magic_at, version_at, name_at, names_at, long_at, field_numbered, field_at, count_after, count_at, substring_at, branch_at, skip_at, plain_token, operands_at, token_at, tokens_at, all_names_at, all_tokens_at, fields_at, file_end, file_at, program_at}
 
 -- bytes that stand in front
-bytes_again : (w : List ℕ) (n : ℕ) (bytes after : List ℕ) → length bytes ≡ n → bytes_at n (rest w (bytes ++ after)) ≡ Ok (bytes, rest w after)
+bytes_again : (w : List ℕ) (n : ℕ) (bytes after : List ℕ) → length bytes ≡ n → bytes_next n (rest w (bytes ++ after)) ≡ Ok (bytes, rest w after)
 bytes_again w n bytes after len =
     let long : nat_lt (length (bytes ++ after)) n ≡ false = le-ltb _ _ (omega (arith, length-append bytes after)) in
     rw (long, take_at bytes after n len, drop_at bytes after n len) refl
 
 -- a number whose bytes stand in front
-pub number_again : (w : List ℕ) (n x : ℕ) (bytes after : List ℕ) → length bytes ≡ n → big_number n bytes ≡ x → number_at n (rest w (bytes ++ after)) ≡ Ok (x, rest w after)
+pub number_again : (w : List ℕ) (n x : ℕ) (bytes after : List ℕ) → length bytes ≡ n → big_number n bytes ≡ x → number_next n (rest w (bytes ++ after)) ≡ Ok (x, rest w after)
 number_again w n x bytes after len is =
     let long : nat_lt (length (bytes ++ after)) n ≡ false = le-ltb _ _ (omega (arith, length-append bytes after)) in
     rw (long, take_at bytes after n len, drop_at bytes after n len, is) refl
 
-one_again : (w : List ℕ) (x : ℕ) (after : List ℕ) → number_at 1 (rest w (x ∷ after)) ≡ Ok (x, rest w after)
+one_again : (w : List ℕ) (x : ℕ) (after : List ℕ) → number_next 1 (rest w (x ∷ after)) ≡ Ok (x, rest w after)
 one_again w x after = let same : x * 256 ^ 0 + 0 ≡ x = omega arith in number_again w 1 x (x ∷ []) after refl same
 
-two_again : (w : List ℕ) (x : ℕ) (after : List ℕ) → x < 2 ^ 16 → number_at 2 (rest w (big_bytes 2 x ++ after)) ≡ Ok (x, rest w after)
+two_again : (w : List ℕ) (x : ℕ) (after : List ℕ) → x < 2 ^ 16 → number_next 2 (rest w (big_bytes 2 x ++ after)) ≡ Ok (x, rest w after)
 two_again w x after fits =
     let back = from_be_bytes-to_be_bytes_2 x fits in
     number_again w 2 x (big_bytes 2 x) after refl (omega (arith, back))
 
-four_again : (w : List ℕ) (x : ℕ) (after : List ℕ) → x < 2 ^ 32 → number_at 4 (rest w (big_bytes 4 x ++ after)) ≡ Ok (x, rest w after)
+four_again : (w : List ℕ) (x : ℕ) (after : List ℕ) → x < 2 ^ 32 → number_next 4 (rest w (big_bytes 4 x ++ after)) ≡ Ok (x, rest w after)
 four_again w x after fits =
     let back = from_be_bytes-to_be_bytes_4 x fits in
     number_again w 4 x (big_bytes 4 x) after refl (omega (arith, back))
 
-limited_again : (n most x : ℕ) (r after : Rest) → number_at n r ≡ Ok (x, after) → x ≤ most → limited_at n most r ≡ Ok (x, after)
+limited_again : (n most x : ℕ) (r after : Rest) → number_next n r ≡ Ok (x, after) → x ≤ most → limited_at n most r ≡ Ok (x, after)
 unfolding limited_at
 limited_again n most x r after e few = let less : nat_lt most x ≡ false = le-ltb _ _ few in rw (e, less) refl
 
@@ -76,7 +76,7 @@ name_again w name after is =
 long_again : (w bytes after : List ℕ) → length bytes < 2 ^ 16 → long_at (rest w (long_bytes bytes ++ after)) ≡ Ok (bytes, rest w after)
 unfolding long_at
 long_again w bytes after fits =
-    ap (λ b. (number_at 2 >>= bytes_at) (rest w b)) (append_assoc (big_bytes 2 (length bytes)) bytes after)
+    ap (λ b. (number_next 2 >>= bytes_next) (rest w b)) (append_assoc (big_bytes 2 (length bytes)) bytes after)
     ∙ rw (two_again w (length bytes) (bytes ++ after) fits) (bytes_again w (length bytes) bytes after refl)
 
 field_again : (w : List ℕ) (field : Field) (after : List ℕ) → field_at (rest w (field_number field ∷ after)) ≡ Ok (field, rest w after)
@@ -100,7 +100,7 @@ count_again w (Some z) after is = rw (one_again w 0 (signed_bytes z ++ after), s
 substring_again : (w : List ℕ) (start : ℤ) (count : Option ℤ) (after : List ℕ) → FitsSigned w32 start → IsCount count → substring_at (rest w ((signed_bytes start ++ count_bytes count) ++ after)) ≡ Ok (tokens.Substring start count, rest w after)
 unfolding substring_at
 substring_again w start count after fits is =
-    ap (λ b. (signed_at >>= λ s. count_at >>= λ c. gives (tokens.Substring s c)) (rest w b)) (append_assoc (signed_bytes start) (count_bytes count) after)
+    ap (λ b. (signed_at >>= λ s. count_at >>= λ c. already (tokens.Substring s c)) (rest w b)) (append_assoc (signed_bytes start) (count_bytes count) after)
     ∙ rw (signed_again w start (count_bytes count ++ after) fits, count_again w count after is) refl
 
 skip_again : (w : List ℕ) (version : Version) (behind at skip : ℕ) (after : List ℕ) → behind < 2 ^ 16 → IsBranch version behind skip → skip_at version behind at (rest w (big_bytes 2 skip ++ after)) ≡ Ok (skip, rest w after)
@@ -171,7 +171,7 @@ all_tokens_again w version list after few all =
 
 -- a program's file is read as the program
 file_again : (w : List ℕ) (p : Code) → HasFile p → file_at (rest w (file_bytes p)) ≡ Ok (p, rest w [])
-unfolding file_at fields_at end_at
+unfolding file_at fields_at file_end
 file_again w p has =
     let tail_4 : List ℕ = tokens_bytes p.tokens in
     let tail_3 : List ℕ = names_bytes p.names ++ tail_4 in

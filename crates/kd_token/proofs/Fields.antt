@@ -15,8 +15,8 @@ use Rattle.kd_token.specs.declared.token.Token.TheVariants as tokens
 use Rattle.kd_token.specs.declared.token.Version.{Version}
 use Rattle.kd_token.specs.declared.token.Version.TheVariants as versions
 use Rattle.kd_token.specs.File.{Code, HasFile, IsName, IsToken, IsCount, AreTokens, code, field_number, signed_bytes, version_number}
-use Rattle.kd_token.specs.Reading.{◌>>=◌, Reads, gives, fault_where, known_or, bytes_at, number_at, limited_at, signed_at, version_of, version_at, name_at, names_at, all_names_at, long_at, field_numbered, field_at, count_after, count_at, substring_at, branch_at, plain_token, operands_at, token_at, tokens_at, all_tokens_at, fields_at}
-use Rattle.kd_token.specs.FirstFault.{Part, part, free, limited, operand, name_parts, count_parts, token_parts, later_parts}
+use Rattle.kd_token.specs.Reading.{◌>>=◌, ReadStep, already, fault_where, known_or, bytes_next, number_next, limited_at, signed_at, version_of, version_at, name_at, names_at, all_names_at, long_at, field_numbered, field_at, count_after, count_at, substring_at, branch_at, plain_token, operands_at, token_at, tokens_at, all_tokens_at, fields_at}
+use Rattle.kd_token.specs.FirstFault.{Part, part_with, free, limited, operand, name_parts, count_parts, token_parts, later_parts}
 use Rattle.kd_token.proofs.Told.{Follows, Outcome, Row, Told, at_place, bind_told, bytes_told, field_told, four_told, gives_told, known, limited_told, makes_told, many_told, one_form, one_told, row_some, signed_told, tested, two_form, two_told, weaker}
 
 version_back : (x : ℕ) (v : Version) → version_of x ≡ Some v → version_number v ≡ x
@@ -26,19 +26,19 @@ version_back x v = by (x == 1) refl (x == 2) refl where
   by false e true f g = let is : versions.Two ≡ v = cc in ap version_number (sym is) ∙ sym (eqb-true x 2 f)
   by false e false f g = absurd cc
 
-version_told : Told version_at (λ v. part (λ at. faults.Version) (version_number v ∷ []) ∷ []) (λ v. Unit {0})
+version_told : Told version_at (λ v. part_with (λ at. faults.Version) (version_number v ∷ []) ∷ []) (λ v. Unit {0})
 unfolding version_at
 version_told = field_told 1 (λ x. x ∷ []) (λ x. x < 256) one_form (λ at. faults.Version) version_at (λ at x. known_or faults.Version (version_of x)) text (λ v. Unit {0}) (λ w l. refl)
-    (λ x fits. known (version_of x) (λ at. faults.Version) (λ v. []) (Follows text (λ v. Unit {0}) (part (λ at. faults.Version) (x ∷ []) ∷ []) (λ v. [])) (λ v e. (refl, (ap (λ y. part (λ at. faults.Version) (y ∷ []) ∷ []) (version_back x v e), tt)))) 1 versions.One (refl, tt) where
+    (λ x fits. known (version_of x) (λ at. faults.Version) (λ v. []) (Follows text (λ v. Unit {0}) (part_with (λ at. faults.Version) (x ∷ []) ∷ []) (λ v. [])) (λ v e. (refl, (ap (λ y. part_with (λ at. faults.Version) (y ∷ []) ∷ []) (version_back x v e), tt)))) 1 versions.One (refl, tt) where
       text : Version → List Part
-      text v = part (λ at. faults.Version) (version_number v ∷ []) ∷ []
+      text v = part_with (λ at. faults.Version) (version_number v ∷ []) ∷ []
 
 name_told : Told name_at name_parts IsName
 unfolding name_at
 name_told = field_told 1 (λ x. x ∷ []) (λ x. x < 256) one_form faults.Operand name_at next name_parts IsName (at_place 1 next)
-    (λ size fits. tested (size == 0) faults.Operand (bytes_at size) (λ b. free b ∷ []) (Is size) (λ e. weaker (bytes_at size) (λ b. free b ∷ []) (λ b. length b ≡ size) (Is size) (λ b len. is size b fits e len) (bytes_told size))) 1 (0 ∷ []) (refl, (omega arith, omega arith)) where
-      next : ℕ → ℕ → Reads (List ℕ)
-      next at size = fault_where (size == 0) (faults.Operand at) >>= λ _. bytes_at size
+    (λ size fits. tested (size == 0) faults.Operand (bytes_next size) (λ b. free b ∷ []) (Is size) (λ e. weaker (bytes_next size) (λ b. free b ∷ []) (λ b. length b ≡ size) (Is size) (λ b len. is size b fits e len) (bytes_told size))) 1 (0 ∷ []) (refl, (omega arith, omega arith)) where
+      next : ℕ → ℕ → ReadStep (List ℕ)
+      next at size = fault_where (size == 0) (faults.Operand at) >>= λ _. bytes_next size
 
       Is : ℕ → List ℕ → Type 0
       Is size = Follows name_parts IsName (operand (size ∷ []) ∷ []) (λ b. free b ∷ [])
@@ -86,8 +86,8 @@ all_names_told = bind_told (limited_at 1 64) names_at (λ x. limited (x ∷ []) 
 
 long_told : Told long_at (λ b. free (big_bytes 2 (length b)) ∷ free b ∷ []) (λ b. length b < 2 ^ 16)
 unfolding long_at
-long_told = bind_told (number_at 2) bytes_at (λ x. free (big_bytes 2 x) ∷ []) (λ x. x < 2 ^ 16) (λ x b. free b ∷ []) text Good two_told
-    (λ x fits. weaker (bytes_at x) (λ b. free b ∷ []) (λ b. length b ≡ x) (Follows text Good (free (big_bytes 2 x) ∷ []) (λ b. free b ∷ [])) (λ b len. is x b fits len) (bytes_told x))
+long_told = bind_told (number_next 2) bytes_next (λ x. free (big_bytes 2 x) ∷ []) (λ x. x < 2 ^ 16) (λ x b. free b ∷ []) text Good two_told
+    (λ x fits. weaker (bytes_next x) (λ b. free b ∷ []) (λ b. length b ≡ x) (Follows text Good (free (big_bytes 2 x) ∷ []) (λ b. free b ∷ [])) (λ b len. is x b fits len) (bytes_told x))
     (λ x fits. (replicate x 0, is x (replicate x 0) fits (length-replicate {A = ℕ} x 0))) where
       text : List ℕ → List Part
       text b = free (big_bytes 2 (length b)) ∷ free b ∷ []
@@ -161,20 +161,20 @@ count_told = field_told 1 (λ x. x ∷ []) (λ x. x < 256) one_form faults.Opera
 
 -- what is left of a token's fields after this opcode
 abbrev Opened : Version → ℕ → ℕ → Token → Type 0
-Opened version behind opcode = Follows token_parts (IsToken version behind) (part faults.Opcode (opcode ∷ []) ∷ []) (λ t. drop 1 (token_parts t))
+Opened version behind opcode = Follows token_parts (IsToken version behind) (part_with faults.Opcode (opcode ∷ []) ∷ []) (λ t. drop 1 (token_parts t))
 
 substring_told : (version : Version) (behind : ℕ) → Told substring_at (λ t. drop 1 (token_parts t)) (Opened version behind 0x0e)
 unfolding substring_at
-substring_told version behind = bind_told signed_at (λ s. count_at >>= λ c. gives (tokens.Substring s c)) (λ z. free (signed_bytes z) ∷ []) (FitsSigned w32) (λ s t. drop 2 (token_parts t)) (λ t. drop 1 (token_parts t)) (Opened version behind 0x0e) signed_told
+substring_told version behind = bind_told signed_at (λ s. count_at >>= λ c. already (tokens.Substring s c)) (λ z. free (signed_bytes z) ∷ []) (FitsSigned w32) (λ s t. drop 2 (token_parts t)) (λ t. drop 1 (token_parts t)) (Opened version behind 0x0e) signed_told
     (λ s fits. makes_told (λ c. tokens.Substring s c) count_at count_parts IsCount (λ t. drop 2 (token_parts t)) (Follows (λ t. drop 1 (token_parts t)) (Opened version behind 0x0e) (free (signed_bytes s) ∷ []) (λ t. drop 2 (token_parts t))) count_told (λ c g. refl) (λ c g. (refl, (refl, (fits, g)))))
     (λ s fits. (tokens.Substring s None, (refl, (refl, (fits, tt)))))
 
 branch_told : (behind : ℕ) → Told (branch_at behind) (λ d. operand (big_bytes 2 d) ∷ []) (λ d. d ≤ behind)
 unfolding branch_at
 branch_told behind = field_told 2 (big_bytes 2) (λ x. x < 2 ^ 16) two_form faults.Operand (branch_at behind) next text (λ d. d ≤ behind) (at_place 2 next)
-    (λ x fits. tested (nat_lt behind x) faults.Operand (gives x) (λ d. []) (Follows text (λ d. d ≤ behind) (operand (big_bytes 2 x) ∷ []) (λ d. [])) (λ e. gives_told x (λ d. []) (Follows text (λ d. d ≤ behind) (operand (big_bytes 2 x) ∷ []) (λ d. [])) refl (refl, ltb-false behind x e))) 0 0 (refl, omega arith) where
-      next : ℕ → ℕ → Reads ℕ
-      next at x = fault_where (nat_lt behind x) (faults.Operand at) >>= λ _. gives x
+    (λ x fits. tested (nat_lt behind x) faults.Operand (already x) (λ d. []) (Follows text (λ d. d ≤ behind) (operand (big_bytes 2 x) ∷ []) (λ d. [])) (λ e. gives_told x (λ d. []) (Follows text (λ d. d ≤ behind) (operand (big_bytes 2 x) ∷ []) (λ d. [])) refl (refl, ltb-false behind x e))) 0 0 (refl, omega arith) where
+      next : ℕ → ℕ → ReadStep ℕ
+      next at x = fault_where (nat_lt behind x) (faults.Operand at) >>= λ _. already x
 
       text : ℕ → List Part
       text d = operand (big_bytes 2 d) ∷ []
@@ -189,15 +189,15 @@ row_01 version behind = inr (λ at. makes_told tokens.PushBytes long_at (λ b. f
 
 row_02 : (version : Version) (behind : ℕ) → OfOpcode version behind 0x02
 unfolding operands_at plain_token
-row_02 version behind = inr (λ at. makes_told tokens.PushInt (number_at 4) (λ x. free (big_bytes 4 x) ∷ []) (λ x. x < 2 ^ 32) (λ t. drop 1 (token_parts t)) (Opened version behind 0x02) four_told (λ x g. refl) (λ x g. (refl, g)))
+row_02 version behind = inr (λ at. makes_told tokens.PushInt (number_next 4) (λ x. free (big_bytes 4 x) ∷ []) (λ x. x < 2 ^ 32) (λ t. drop 1 (token_parts t)) (Opened version behind 0x02) four_told (λ x g. refl) (λ x g. (refl, g)))
 
 row_03 : (version : Version) (behind : ℕ) → OfOpcode version behind 0x03
 unfolding operands_at plain_token
-row_03 version behind = inr (λ at. makes_told tokens.PushOption (number_at 1) (λ x. free (x ∷ []) ∷ []) (λ x. x < 256) (λ t. drop 1 (token_parts t)) (Opened version behind 0x03) one_told (λ x g. refl) (λ x g. (refl, tt)))
+row_03 version behind = inr (λ at. makes_told tokens.PushOption (number_next 1) (λ x. free (x ∷ []) ∷ []) (λ x. x < 256) (λ t. drop 1 (token_parts t)) (Opened version behind 0x03) one_told (λ x g. refl) (λ x g. (refl, tt)))
 
 row_04 : (version : Version) (behind : ℕ) → OfOpcode version behind 0x04
 unfolding operands_at plain_token
-row_04 version behind = inr (λ at. makes_told tokens.PushRelay (number_at 1) (λ x. free (x ∷ []) ∷ []) (λ x. x < 256) (λ t. drop 1 (token_parts t)) (Opened version behind 0x04) one_told (λ x g. refl) (λ x g. (refl, tt)))
+row_04 version behind = inr (λ at. makes_told tokens.PushRelay (number_next 1) (λ x. free (x ∷ []) ∷ []) (λ x. x < 256) (λ t. drop 1 (token_parts t)) (Opened version behind 0x04) one_told (λ x g. refl) (λ x g. (refl, tt)))
 
 row_05 : (version : Version) (behind : ℕ) → OfOpcode version behind 0x05
 unfolding operands_at plain_token
@@ -205,15 +205,15 @@ row_05 version behind = inr (λ at. makes_told tokens.PushField field_at (λ f. 
 
 row_06 : (version : Version) (behind : ℕ) → OfOpcode version behind 0x06
 unfolding operands_at plain_token
-row_06 version behind = inr (λ at. makes_told tokens.OptionExists (number_at 1) (λ x. free (x ∷ []) ∷ []) (λ x. x < 256) (λ t. drop 1 (token_parts t)) (Opened version behind 0x06) one_told (λ x g. refl) (λ x g. (refl, tt)))
+row_06 version behind = inr (λ at. makes_told tokens.OptionExists (number_next 1) (λ x. free (x ∷ []) ∷ []) (λ x. x < 256) (λ t. drop 1 (token_parts t)) (Opened version behind 0x06) one_told (λ x g. refl) (λ x g. (refl, tt)))
 
 row_07 : (version : Version) (behind : ℕ) → OfOpcode version behind 0x07
 unfolding operands_at plain_token
-row_07 version behind = inr (λ at. makes_told tokens.RelayExists (number_at 1) (λ x. free (x ∷ []) ∷ []) (λ x. x < 256) (λ t. drop 1 (token_parts t)) (Opened version behind 0x07) one_told (λ x g. refl) (λ x g. (refl, tt)))
+row_07 version behind = inr (λ at. makes_told tokens.RelayExists (number_next 1) (λ x. free (x ∷ []) ∷ []) (λ x. x < 256) (λ t. drop 1 (token_parts t)) (Opened version behind 0x07) one_told (λ x g. refl) (λ x g. (refl, tt)))
 
 row_08 : (version : Version) (behind : ℕ) → OfOpcode version behind 0x08
 unfolding operands_at plain_token
-row_08 version behind = inr (λ at. makes_told tokens.Member (number_at 1) (λ x. free (x ∷ []) ∷ []) (λ x. x < 256) (λ t. drop 1 (token_parts t)) (Opened version behind 0x08) one_told (λ x g. refl) (λ x g. (refl, tt)))
+row_08 version behind = inr (λ at. makes_told tokens.Member (number_next 1) (λ x. free (x ∷ []) ∷ []) (λ x. x < 256) (λ t. drop 1 (token_parts t)) (Opened version behind 0x08) one_told (λ x g. refl) (λ x g. (refl, tt)))
 
 row_09 : (version : Version) (behind : ℕ) → OfOpcode version behind 0x09
 unfolding operands_at plain_token
@@ -341,10 +341,10 @@ all_tokens_told version = bind_told (limited_at 2 1024) (tokens_at version) (λ 
 pub fields_told : Told fields_at later_parts HasFile
 unfolding fields_at
 fields_told =
-    bind_told version_at _ (λ v. part (λ at. faults.Version) (version_number v ∷ []) ∷ []) (λ v. Unit {0}) (λ v. P1) later_parts HasFile version_told
+    bind_told version_at _ (λ v. part_with (λ at. faults.Version) (version_number v ∷ []) ∷ []) (λ v. Unit {0}) (λ v. P1) later_parts HasFile version_told
     (λ v yes. bind_told (limited_at 2 1024) _ (λ x. limited (big_bytes 2 x) ∷ []) (λ x. x ≤ 1024) (λ s. P2) P1 (G1 v) (limited_told 2 (big_bytes 2) (λ x. x < 2 ^ 16) two_form 1024)
     (λ s few. bind_told (limited_at 1 64) _ (λ x. limited (x ∷ []) ∷ []) (λ x. x ≤ 64) (λ d. P3) P2 (G2 v s) (limited_told 1 (λ x. x ∷ []) (λ x. x < 256) one_form 64)
-    (λ d low. bind_told (number_at 2) _ (λ x. free (big_bytes 2 x) ∷ []) (λ x. x < 2 ^ 16) (λ b. P4) P3 (G3 v s d) two_told
+    (λ d low. bind_told (number_next 2) _ (λ x. free (big_bytes 2 x) ∷ []) (λ x. x < 2 ^ 16) (λ b. P4) P3 (G3 v s d) two_told
     (λ b fits. bind_told all_names_at _ (λ names. limited (length names ∷ []) ∷ flat_map name_parts names) (λ names. (length names ≤ 64) × AllByRecursion IsName names) (λ n. P5) P4 (G4 v s d b) all_names_told
     (λ names are. makes_told (λ list. code v s d b names list) (all_tokens_at v) (λ list. limited (big_bytes 2 (length list)) ∷ flat_map token_parts list) (λ list. (length list ≤ 1024) × AreTokens v list) P5 (Follows P4 (G4 v s d b) (limited (length names ∷ []) ∷ flat_map name_parts names) P5) (all_tokens_told v) (λ list all. refl) (λ list all. last v s d b names list few low fits are all))
     (λ names are. (code v s d b names [], last v s d b names [] few low fits are (omega arith, tt))))
@@ -368,7 +368,7 @@ fields_told =
       P5 p = limited (big_bytes 2 (length p.tokens)) ∷ flat_map token_parts p.tokens
 
       G1 : Version → Code → Type 0
-      G1 v = Follows later_parts HasFile (part (λ at. faults.Version) (version_number v ∷ []) ∷ []) P1
+      G1 v = Follows later_parts HasFile (part_with (λ at. faults.Version) (version_number v ∷ []) ∷ []) P1
 
       G2 : Version → ℕ → Code → Type 0
       G2 v s = Follows P1 (G1 v) (limited (big_bytes 2 s) ∷ []) P2

@@ -7,14 +7,14 @@ use Rattle.kd_token.specs.declared.fault.FileFault.TheVariants as faults
 use Rattle.kd_token.specs.declared.token.Token.{Token}
 use Rattle.kd_token.specs.declared.token.Version.{Version}
 use Rattle.kd_token.specs.File.{IsToken, AreTokens}
-use Rattle.kd_token.specs.Reading.{Fails, Reads, Rest, and_then, many_at}
+use Rattle.kd_token.specs.Reading.{IsReadFault, ReadStep, Rest, unless_faulty, many_at}
 
 -- these items, and then those that are read
 abbrev pub with_front : {X : Type 0} → List X → Result (List X × Rest) FileFault → Result (List X × Rest) FileFault
-with_front front read = and_then read (λ x. Ok (front ++ x.0, x.1))
+with_front front read = unless_faulty read (λ x. Ok (front ++ x.0, x.1))
 
 -- the same fault comes where what is read next has it
-pub refused : {A B : Type 0} (fault : FileFault) (read : Result A FileFault) (next : Result B FileFault) → (read ≡ Err fault → next ≡ Err fault) → Fails fault read → Fails fault next
+pub refused : {A B : Type 0} (fault : FileFault) (read : Result A FileFault) (next : Result B FileFault) → (read ≡ Err fault → next ≡ Err fault) → IsReadFault fault read → IsReadFault fault next
 refused faults.Magic read next f e = f e
 refused faults.Version read next f e = f e
 refused (faults.Cut at) read next f e = f e
@@ -24,12 +24,12 @@ refused (faults.Rest at) read next f e = f e
 refused faults.Limit read next f e = f e
 refused faults.Memory read next f e = tt
 
-regroup : {X : Type 0} (front : List X) (x : X) (read : Result (List X × Rest) FileFault) → with_front front (and_then read (λ xs. Ok (x ∷ xs.0, xs.1))) ≡ with_front (front ++ x ∷ []) read
+regroup : {X : Type 0} (front : List X) (x : X) (read : Result (List X × Rest) FileFault) → with_front front (unless_faulty read (λ xs. Ok (x ∷ xs.0, xs.1))) ≡ with_front (front ++ x ∷ []) read
 regroup front x (Err fault) = refl
 regroup front x (Ok xs) = ap (λ ys. Ok (ys, xs.1)) (sym (append_assoc front (x ∷ []) xs.0))
 
 -- one item more
-pub goes_on : {X : Type 0} (item : ℕ → Reads X) (front : List X) (count i : ℕ) (r : Rest) (x : X) (after : Rest) (total : Result (List X × Rest) FileFault) → i < count → item (count - (i + 1)) r ≡ Ok (x, after)
+pub goes_on : {X : Type 0} (item : ℕ → ReadStep X) (front : List X) (count i : ℕ) (r : Rest) (x : X) (after : Rest) (total : Result (List X × Rest) FileFault) → i < count → item (count - (i + 1)) r ≡ Ok (x, after)
     → with_front front (many_at item (count - i) r) ≡ total → with_front (front ++ x ∷ []) (many_at item (count - (i + 1)) after) ≡ total
 unfolding many_at
 goes_on item front count i r x after total less one so_far =
@@ -38,15 +38,15 @@ goes_on item front count i r x after total less one so_far =
     sym step ∙ so_far
 
 -- an item that is not read
-pub ends : {X : Type 0} (item : ℕ → Reads X) (fault : FileFault) (front : List X) (count i : ℕ) (r : Rest) (total : Result (List X × Rest) FileFault) → i < count → Fails fault (item (count - (i + 1)) r)
-    → with_front front (many_at item (count - i) r) ≡ total → Fails fault total
+pub ends : {X : Type 0} (item : ℕ → ReadStep X) (fault : FileFault) (front : List X) (count i : ℕ) (r : Rest) (total : Result (List X × Rest) FileFault) → i < count → IsReadFault fault (item (count - (i + 1)) r)
+    → with_front front (many_at item (count - i) r) ≡ total → IsReadFault fault total
 unfolding many_at
 ends item fault front count i r total less none so_far =
     let k : count - i ≡ suc (count - (i + 1)) = omega arith in
     refused fault (item (count - (i + 1)) r) total (λ e. sym so_far ∙ rw (k, e) refl) none
 
 -- all items are read
-pub is_done : {X : Type 0} (item : ℕ → Reads X) (front : List X) (count i : ℕ) (r : Rest) (total : Result (List X × Rest) FileFault) → count ≤ i → with_front front (many_at item (count - i) r) ≡ total → total ≡ Ok (front, r)
+pub is_done : {X : Type 0} (item : ℕ → ReadStep X) (front : List X) (count i : ℕ) (r : Rest) (total : Result (List X × Rest) FileFault) → count ≤ i → with_front front (many_at item (count - i) r) ≡ total → total ≡ Ok (front, r)
 unfolding many_at
 is_done item front count i r total most so_far =
     let k : count - i ≡ 0 = omega arith in

@@ -18,20 +18,20 @@ pub record Part : Type 0 where
   pub wrong : ℕ → FileFault
 
 -- these bytes, with this fault where others stand there
-abbrev pub part : (ℕ → FileFault) → List ℕ → Part
-part wrong bytes = record { bytes = bytes; cut = faults.Cut; wrong = wrong }
+abbrev pub part_with : (ℕ → FileFault) → List ℕ → Part
+part_with wrong bytes = record { bytes = bytes; cut = faults.Cut; wrong = wrong }
 
 -- a field that may have any bytes, and so is never wrong
 abbrev pub free : List ℕ → Part
-free bytes = part faults.Cut bytes
+free bytes = part_with faults.Cut bytes
 
 -- a number with a limit
 abbrev pub limited : List ℕ → Part
-limited bytes = part (λ at. faults.Limit) bytes
+limited bytes = part_with (λ at. faults.Limit) bytes
 
 -- an operand that not all bytes can be
 abbrev pub operand : List ℕ → Part
-operand bytes = part faults.Operand bytes
+operand bytes = part_with faults.Operand bytes
 
 -- the magic number; where the file ends within it, it is wanting too
 abbrev pub magic : Part
@@ -69,12 +69,12 @@ operand_parts token = []
 
 -- the fields of a token: its opcode and its operands
 abbrev pub token_parts : Token → List Part
-token_parts token = part faults.Opcode (take 1 (token_bytes token)) ∷ operand_parts token
+token_parts token = part_with faults.Opcode (take 1 (token_bytes token)) ∷ operand_parts token
 
 -- the fields after the magic number
 abbrev pub later_parts : Code → List Part
 later_parts p =
-    part (λ at. faults.Version) (version_number p.version ∷ []) ∷ limited (big_bytes 2 p.steps)
+    part_with (λ at. faults.Version) (version_number p.version ∷ []) ∷ limited (big_bytes 2 p.steps)
     ∷ limited (p.depth ∷ []) ∷ free (big_bytes 2 p.bound) ∷ limited (length p.names ∷ [])
     ∷ (flat_map name_parts p.names
     ++ (limited (big_bytes 2 (length p.tokens)) ∷ flat_map token_parts p.tokens))
@@ -84,18 +84,18 @@ abbrev pub parts : Code → List Part
 parts p = magic ∷ later_parts p
 
 -- the bytes of fields, one after another
-abbrev pub spelled : List Part → List ℕ
-spelled row = flat_map (λ one. one.bytes) row
+abbrev pub bytes_of_parts : List Part → List ℕ
+bytes_of_parts row = flat_map (λ one. one.bytes) row
 
 -- the bytes before a place are the first fields of a file, in which this field comes next
-pub record IsNext (bytes : List ℕ) (at : ℕ) (next : Part) : Type 0 where
+pub record ComesNext (bytes : List ℕ) (at : ℕ) (next : Part) : Type 0 where
   pub file : Code
   pub limits : HasFile file
   pub before : List Part
   pub after : List Part
   pub fields : parts file ≡ before ++ next ∷ after
   pub within : at ≤ length bytes
-  pub same : take at bytes ≡ spelled before
+  pub same : take at bytes ≡ bytes_of_parts before
 
 -- no file begins with these bytes
 abbrev pub BeginsNone : List ℕ → Type 0
@@ -104,13 +104,13 @@ BeginsNone bytes = (p : Code) (more : List ℕ) → IsFileOf (bytes ++ more) p �
 -- the file ends within the field that comes next
 abbrev pub IsCutFault : List ℕ → FileFault → Type 0
 IsCutFault bytes fault =
-    (at : ℕ) × (next : Part) × IsNext bytes at next × (length bytes < at + length next.bytes)
+    (at : ℕ) × (next : Part) × ComesNext bytes at next × (length bytes < at + length next.bytes)
     × (fault ≡ next.cut at)
 
 -- the field that comes next has bytes with which no file goes on
 abbrev pub IsWrongFault : List ℕ → FileFault → Type 0
 IsWrongFault bytes fault =
-    (at : ℕ) × (next : Part) × IsNext bytes at next × (at + length next.bytes ≤ length bytes)
+    (at : ℕ) × (next : Part) × ComesNext bytes at next × (at + length next.bytes ≤ length bytes)
     × BeginsNone (take (at + length next.bytes) bytes) × (fault ≡ next.wrong at)
 
 -- bytes stand after a file
@@ -120,6 +120,6 @@ IsRestFault bytes fault =
     × (fault ≡ faults.Rest at)
 
 -- the first fault of bytes that are no file
-abbrev pub IsFirstFault : List ℕ → FileFault → Type 0
-IsFirstFault bytes fault =
+abbrev pub IsFileFault : List ℕ → FileFault → Type 0
+IsFileFault bytes fault =
     IsCutFault bytes fault ⊎ (IsWrongFault bytes fault ⊎ IsRestFault bytes fault)

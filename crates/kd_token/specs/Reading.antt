@@ -1,6 +1,7 @@
--- Token files read from left to right, computed: the fields one after another, and beside each field
--- the fault that comes where it is not as it must be. The first fault ends the reading. Proofs tie
--- these functions to the definition of a file and of its first fault; no public contract cites them.
+-- Token files read from left to right, computed: the fields one after another, and beside each
+-- field the fault that comes where it is not as it must be. The first fault ends the reading. Proofs
+-- tie these functions to the definition of a file and of its first fault; no public contract cites
+-- them.
 use Rattle.std.specs.Prelude.{◌≡◌, ◌≤◌, ◌-◌, ℕ, ℤ, zero, suc, nat_lt, not, Bool, List, [], ◌∷◌, length, take, drop, Option, Some, None, Result, Ok, Err, if◌then◌else◌, ◌==◌}
 use Rattle.std.specs.Int.{w32, cast_signed}
 use Rattle.byteorder.specs.Endian.{big_number}
@@ -15,15 +16,15 @@ use Rattle.kd_token.specs.declared.token.Version.TheVariants as versions
 use Rattle.kd_token.specs.File.{Code, code}
 
 -- the very fault that comes, or want of memory, which may come at any file
-abbrev pub Fails : {A : Type 0} → FileFault → Result A FileFault → Type 0
-Fails faults.Memory read = Unit {0}
-Fails fault read = read ≡ Err fault
+abbrev pub IsReadFault : {A : Type 0} → FileFault → Result A FileFault → Type 0
+IsReadFault faults.Memory read = Unit {0}
+IsReadFault fault read = read ≡ Err fault
 
 -- what a function answered, seen so, is what is read, or it is the fault that comes; or memory ran
 -- out
 abbrev pub ReaderGives : {X A : Type 0} → (X → A) → Result X FileFault → Result A FileFault → Type 0
 ReaderGives view (Ok x) read = read ≡ Ok (view x)
-ReaderGives view (Err fault) read = Fails fault read
+ReaderGives view (Err fault) read = IsReadFault fault read
 
 -- a file that is read in part: the whole, and what is left of it
 pub record Rest : Type 0 where
@@ -40,84 +41,84 @@ pub record IsRest (r : Rest) : Type 0 where
   pub last : drop (length r.whole - length r.left) r.whole ≡ r.left
 
 -- the place of the next byte
-abbrev pub place : Rest → ℕ
-place r = length r.whole - length r.left
+abbrev pub place_in : Rest → ℕ
+place_in r = length r.whole - length r.left
 
 -- what is read from a place on, and what is left after it, or the first fault
-abbrev pub Reads : Type 0 → Type 0
-Reads X = Rest → Result (X × Rest) FileFault
+abbrev pub ReadStep : Type 0 → Type 0
+ReadStep X = Rest → Result (X × Rest) FileFault
 
 -- where nothing is wrong, go on
-abbrev pub and_then : {A B : Type 0} → Result A FileFault → (A → Result B FileFault)
+abbrev pub unless_faulty : {A B : Type 0} → Result A FileFault → (A → Result B FileFault)
     → Result B FileFault
-and_then (Ok x) next = next x
-and_then (Err fault) next = Err fault
+unless_faulty (Ok x) next = next x
+unless_faulty (Err fault) next = Err fault
 
 infixl 10 ◌>>=◌
 -- this, and after it the next
-abbrev pub ◌>>=◌ : {X Y : Type 0} → Reads X → (X → Reads Y) → Reads Y
-(field >>= next) r = and_then (field r) (λ x. next x.0 x.1)
+abbrev pub ◌>>=◌ : {X Y : Type 0} → ReadStep X → (X → ReadStep Y) → ReadStep Y
+(field >>= next) r = unless_faulty (field r) (λ x. next x.0 x.1)
 
 -- this, with no byte
-abbrev pub gives : {X : Type 0} → X → Reads X
-gives x r = Ok (x, r)
+abbrev pub already : {X : Type 0} → X → ReadStep X
+already x r = Ok (x, r)
 
 -- this of what is read
-abbrev pub makes : {X Y : Type 0} → (X → Y) → Reads X → Reads Y
-makes view field r = and_then (field r) (λ x. Ok (view x.0, x.1))
+abbrev pub makes : {X Y : Type 0} → (X → Y) → ReadStep X → ReadStep Y
+makes view field r = unless_faulty (field r) (λ x. Ok (view x.0, x.1))
 
 -- the place of the next byte
-abbrev pub here : Reads ℕ
-here r = Ok (place r, r)
+abbrev pub here : ReadStep ℕ
+here r = Ok (place_in r, r)
 
 -- how many bytes are left
-abbrev pub bytes_left : Reads ℕ
+abbrev pub bytes_left : ReadStep ℕ
 bytes_left r = Ok (length r.left, r)
 
 -- this fault, where something is wrong
-abbrev pub fault_where : Bool → FileFault → Reads (Unit {0})
+abbrev pub fault_where : Bool → FileFault → ReadStep (Unit {0})
 fault_where wrong fault r = if wrong then Err fault else Ok (tt, r)
 
 -- what is known, or else this fault
-abbrev pub known_or : {X : Type 0} → FileFault → Option X → Reads X
+abbrev pub known_or : {X : Type 0} → FileFault → Option X → ReadStep X
 known_or fault (Some x) r = Ok (x, r)
 known_or fault None r = Err fault
 
 -- the next n bytes, a field
-abbrev pub bytes_at : ℕ → Reads (List ℕ)
-bytes_at n r =
-    if nat_lt (length r.left) n then Err (faults.Cut (place r))
+abbrev pub bytes_next : ℕ → ReadStep (List ℕ)
+bytes_next n r =
+    if nat_lt (length r.left) n then Err (faults.Cut (place_in r))
     else Ok (take n r.left, rest r.whole (drop n r.left))
 
 -- a number of n bytes
-abbrev pub number_at : ℕ → Reads ℕ
-number_at n = makes (big_number n) (bytes_at n)
+abbrev pub number_next : ℕ → ReadStep ℕ
+number_next n = makes (big_number n) (bytes_next n)
 
 -- a number of n bytes that is at most this
-unfoldable pub limited_at : ℕ → ℕ → Reads ℕ
+unfoldable pub limited_at : ℕ → ℕ → ReadStep ℕ
 limited_at n most = do
-  number ← number_at n
+  number ← number_next n
   _ ← fault_where (nat_lt most number) faults.Limit
-  gives number
+  already number
 
 -- a signed number of four bytes
-abbrev pub signed_at : Reads ℤ
-signed_at = makes (cast_signed w32) (number_at 4)
+abbrev pub signed_at : ReadStep ℤ
+signed_at = makes (cast_signed w32) (number_next 4)
 
 -- so many items, each read with so many after it
-unfoldable pub many_at : {X : Type 0} → (ℕ → Reads X) → ℕ → Reads (List X)
-many_at item zero = gives []
+unfoldable pub many_at : {X : Type 0} → (ℕ → ReadStep X) → ℕ → ReadStep (List X)
+many_at item zero = already []
 many_at item (suc n) = do
   first ← item n
   others ← many_at item n
-  gives (first ∷ others)
+  already (first ∷ others)
 
 -- the magic number; where the file ends within it, it is wanting too
-unfoldable pub magic_at : Reads (Unit {0})
+unfoldable pub magic_at : ReadStep (Unit {0})
 magic_at = do
   left ← bytes_left
   _ ← fault_where (nat_lt left 4) faults.Magic
-  magic ← number_at 4
+  magic ← number_next 4
   fault_where (not (magic == 0x4b34544b)) faults.Magic
 
 -- the version of a version byte
@@ -126,34 +127,34 @@ version_of byte =
     if byte == 1 then Some versions.One else if byte == 2 then Some versions.Two else None
 
 -- a version
-unfoldable pub version_at : Reads Version
+unfoldable pub version_at : ReadStep Version
 version_at = do
-  byte ← number_at 1
+  byte ← number_next 1
   known_or faults.Version (version_of byte)
 
 -- a name after its length, which is not 0
-unfoldable pub name_at : Reads (List ℕ)
+unfoldable pub name_at : ReadStep (List ℕ)
 name_at = do
   at ← here
-  size ← number_at 1
+  size ← number_next 1
   _ ← fault_where (size == 0) (faults.Operand at)
-  bytes_at size
+  bytes_next size
 
 -- so many names
-abbrev pub names_at : ℕ → Reads (List (List ℕ))
+abbrev pub names_at : ℕ → ReadStep (List (List ℕ))
 names_at count = many_at (λ behind. name_at) count
 
 -- the names after their number
-unfoldable pub all_names_at : Reads (List (List ℕ))
+unfoldable pub all_names_at : ReadStep (List (List ℕ))
 all_names_at = do
   count ← limited_at 1 64
   names_at count
 
 -- a byte string after its length of two bytes
-unfoldable pub long_at : Reads (List ℕ)
+unfoldable pub long_at : ReadStep (List ℕ)
 long_at = do
-  size ← number_at 2
-  bytes_at size
+  size ← number_next 2
+  bytes_next size
 
 -- the field of a number
 unfoldable pub field_numbered : ℕ → Option Field
@@ -171,43 +172,43 @@ field_numbered number =
     else None
 
 -- a field
-unfoldable pub field_at : Reads Field
+unfoldable pub field_at : ReadStep Field
 field_at = do
   at ← here
-  number ← number_at 1
+  number ← number_next 1
   known_or (faults.Operand at) (field_numbered number)
 
 -- how many bytes a substring has: after a mode of 0 a number, after a mode of 1 all
-unfoldable pub count_after : ℕ → ℕ → Reads (Option ℤ)
+unfoldable pub count_after : ℕ → ℕ → ReadStep (Option ℤ)
 count_after at mode r =
     if mode == 1 then Ok (None, r)
     else if mode == 0 then makes Some signed_at r
     else Err (faults.Operand at)
 
 -- a mode, and how many bytes a substring has
-unfoldable pub count_at : Reads (Option ℤ)
+unfoldable pub count_at : ReadStep (Option ℤ)
 count_at = do
   at ← here
-  mode ← number_at 1
+  mode ← number_next 1
   count_after at mode
 
 -- a substring's start and number of bytes
-unfoldable pub substring_at : Reads Token
+unfoldable pub substring_at : ReadStep Token
 substring_at = do
   start ← signed_at
   count ← count_at
-  gives (tokens.Substring start count)
+  already (tokens.Substring start count)
 
 -- how many tokens a branch skips, at most so many
-unfoldable pub branch_at : ℕ → Reads ℕ
+unfoldable pub branch_at : ℕ → ReadStep ℕ
 branch_at behind = do
   at ← here
-  skip ← number_at 2
+  skip ← number_next 2
   _ ← fault_where (nat_lt behind skip) (faults.Operand at)
-  gives skip
+  already skip
 
 -- the same, where the version has branches; else there is no such opcode
-abbrev pub skip_at : Version → ℕ → ℕ → Reads ℕ
+abbrev pub skip_at : Version → ℕ → ℕ → ReadStep ℕ
 skip_at versions.One behind opcode_at r = Err (faults.Opcode opcode_at)
 skip_at versions.Two behind opcode_at r = branch_at behind r
 
@@ -228,16 +229,16 @@ plain_token opcode =
     else None
 
 -- the operands of an opcode that stands at a place, and so its token, with so many tokens after it
-unfoldable pub operands_at : Version → ℕ → ℕ → ℕ → Reads Token
+unfoldable pub operands_at : Version → ℕ → ℕ → ℕ → ReadStep Token
 operands_at version behind opcode at r =
     if opcode == 0x01 then makes tokens.PushBytes long_at r
-    else if opcode == 0x02 then makes tokens.PushInt (number_at 4) r
-    else if opcode == 0x03 then makes tokens.PushOption (number_at 1) r
-    else if opcode == 0x04 then makes tokens.PushRelay (number_at 1) r
+    else if opcode == 0x02 then makes tokens.PushInt (number_next 4) r
+    else if opcode == 0x03 then makes tokens.PushOption (number_next 1) r
+    else if opcode == 0x04 then makes tokens.PushRelay (number_next 1) r
     else if opcode == 0x05 then makes tokens.PushField field_at r
-    else if opcode == 0x06 then makes tokens.OptionExists (number_at 1) r
-    else if opcode == 0x07 then makes tokens.RelayExists (number_at 1) r
-    else if opcode == 0x08 then makes tokens.Member (number_at 1) r
+    else if opcode == 0x06 then makes tokens.OptionExists (number_next 1) r
+    else if opcode == 0x07 then makes tokens.RelayExists (number_next 1) r
+    else if opcode == 0x08 then makes tokens.Member (number_next 1) r
     else if opcode == 0x0e then substring_at r
     else if opcode == 0x20 then makes tokens.Branch (skip_at version behind at) r
     else if opcode == 0x21 then makes tokens.PopBranchFalse (skip_at version behind at) r
@@ -246,48 +247,48 @@ operands_at version behind opcode at r =
     else known_or (faults.Opcode at) (plain_token opcode) r
 
 -- a token, with so many tokens after it
-unfoldable pub token_at : Version → ℕ → Reads Token
+unfoldable pub token_at : Version → ℕ → ReadStep Token
 token_at version behind = do
   at ← here
-  opcode ← number_at 1
+  opcode ← number_next 1
   operands_at version behind opcode at
 
 -- so many tokens
-abbrev pub tokens_at : Version → ℕ → Reads (List Token)
+abbrev pub tokens_at : Version → ℕ → ReadStep (List Token)
 tokens_at version count = many_at (token_at version) count
 
 -- the tokens after their number
-unfoldable pub all_tokens_at : Version → Reads (List Token)
+unfoldable pub all_tokens_at : Version → ReadStep (List Token)
 all_tokens_at version = do
   count ← limited_at 2 1024
   tokens_at version count
 
 -- the fields after the magic number
-unfoldable pub fields_at : Reads Code
+unfoldable pub fields_at : ReadStep Code
 fields_at = do
   version ← version_at
   steps ← limited_at 2 1024
   depth ← limited_at 1 64
-  bound ← number_at 2
+  bound ← number_next 2
   names ← all_names_at
   tokens ← all_tokens_at version
-  gives (code version steps depth bound names tokens)
+  already (code version steps depth bound names tokens)
 
 -- the end of the file
-unfoldable pub end_at : Reads (Unit {0})
-end_at = do
+unfoldable pub file_end : ReadStep (Unit {0})
+file_end = do
   at ← here
   left ← bytes_left
   fault_where (nat_lt 0 left) (faults.Rest at)
 
 -- a file
-unfoldable pub file_at : Reads Code
+unfoldable pub file_at : ReadStep Code
 file_at = do
   _ ← magic_at
   program ← fields_at
-  _ ← end_at
-  gives program
+  _ ← file_end
+  already program
 
 -- the program of a file, or its fault
 abbrev pub program_at : List ℕ → Result Code FileFault
-program_at bytes = and_then (file_at (rest bytes bytes)) (λ x. Ok x.0)
+program_at bytes = unless_faulty (file_at (rest bytes bytes)) (λ x. Ok x.0)

@@ -2,7 +2,7 @@ ghost use Rattle.std.specs.Prelude.{◌≡◌, ◌≤◌, ◌++◌, ◌⊎◌, l
 ghost use Rattle.std.specs.List.{AllByRecursion};
 ghost use Rattle.kd_token.specs.File.{Code, HasFile, IsFileOf, IsName, IsShort, code, file_bytes, head_bytes, names_bytes, tokens_bytes};
 ghost use Rattle.kd_token.specs.Reading.{ReaderGives, program_at};
-ghost use Rattle.kd_token.specs.FirstFault.{IsFirstFault, parts, spelled};
+ghost use Rattle.kd_token.specs.FirstFault.{IsFileFault, parts, bytes_of_parts};
 ghost use Rattle.kd_token.specs.declared.fault.FileFault.TheVariants.{Memory};
 
 use crate::fault::FileFault;
@@ -46,8 +46,8 @@ impl Program {
         ensures found { IfOk result (λ p. IsFileOf bytes.now p) }
         ensures only { (p : Code) → IsFileOf bytes.now p
             → MatchResult result (λ found. found ≡ p) (λ fault. fault ≡ Memory) }
-        ensures first { IfErr result (λ fault. (fault ≡ Memory) ⊎ IsFirstFault bytes.now fault) }
-        ensures fields { (p : Code) → spelled (parts p) ≡ file_bytes p }
+        ensures first { IfErr result (λ fault. (fault ≡ Memory) ⊎ IsFileFault bytes.now fault) }
+        ensures fields { (p : Code) → bytes_of_parts (parts p) ≡ file_bytes p }
     {
         whole(alloc, bytes)
     }
@@ -144,7 +144,7 @@ impl Program {
 }
 
 // The program that the whole of the bytes spells.
-#[tactic(auto, unfolding(crate::specs::Reading::file_at, crate::specs::Reading::fields_at, crate::specs::Reading::end_at))]
+#[tactic(auto, unfolding(crate::specs::Reading::file_at, crate::specs::Reading::fields_at, crate::specs::Reading::file_end))]
 fn whole(alloc: Global, bytes: &[u8]) -> Result<Program, FileFault>
     ensures read { ReaderGives (λ p. p) result (program_at bytes.now) }
     ensures found { IfOk result (λ p. IsFileOf bytes.now p) }

@@ -3,7 +3,7 @@ ghost use Rattle.std.specs.Int.RustNames.{FitsSigned};
 ghost use Rattle.std.specs.Int.{w32};
 ghost use Rattle.byteorder.specs.Endian.{big_bytes, big_number};
 ghost use Rattle.kd_token.specs.File.{signed_bytes};
-ghost use Rattle.kd_token.specs.Reading.{ReaderGives, bytes_at, limited_at, number_at, place, rest, signed_at};
+ghost use Rattle.kd_token.specs.Reading.{ReaderGives, bytes_next, limited_at, number_next, place_in, rest, signed_at};
 
 use crate::fault::FileFault;
 use byteorder::{BigEndian, ByteOrder};
@@ -38,7 +38,7 @@ impl<'a> Reader<'a> {
 
     // The offset of the next byte.
     pub(crate) fn at(&self) -> usize
-        ensures place { result ≡ place self.now }
+        ensures place { result ≡ place_in self.now }
         ensures rest { drop result self.now.whole ≡ self.now.left }
     {
         self.whole.len() - self.left.len()
@@ -53,7 +53,7 @@ impl<'a> Reader<'a> {
 
     // The next n bytes, a field of their own.
     pub(crate) fn take(&mut self, n: usize) -> Result<&'a [u8], FileFault>
-        ensures read { ReaderGives (λ b. (b.now, self.new)) result (bytes_at n self.old) }
+        ensures read { ReaderGives (λ b. (b.now, self.new)) result (bytes_next n self.old) }
         ensures found { IfOk result
             (λ b. (self.old.left ≡ b.now ++ self.new.left) × (length b.now ≡ n)) }
     {
@@ -66,21 +66,21 @@ impl<'a> Reader<'a> {
     }
 
     pub(crate) fn u8(&mut self) -> Result<u8, FileFault>
-        ensures read { ReaderGives (λ n. (n, self.new)) result (number_at 1 self.old) }
+        ensures read { ReaderGives (λ n. (n, self.new)) result (number_next 1 self.old) }
         ensures found { IfOk result (λ n. self.old.left ≡ n ∷ self.new.left) }
     {
         Ok(self.take(1)?[0])
     }
 
     pub(crate) fn u16(&mut self) -> Result<u16, FileFault>
-        ensures read { ReaderGives (λ n. (n, self.new)) result (number_at 2 self.old) }
+        ensures read { ReaderGives (λ n. (n, self.new)) result (number_next 2 self.old) }
         ensures found { IfOk result (λ n. self.old.left ≡ big_bytes 2 n ++ self.new.left) }
     {
         Ok(u16_of(self.take(2)?))
     }
 
     pub(crate) fn u32(&mut self) -> Result<u32, FileFault>
-        ensures read { ReaderGives (λ n. (n, self.new)) result (number_at 4 self.old) }
+        ensures read { ReaderGives (λ n. (n, self.new)) result (number_next 4 self.old) }
         ensures found { IfOk result (λ n. self.old.left ≡ big_bytes 4 n ++ self.new.left) }
     {
         Ok(u32_of(self.take(4)?))
