@@ -5,15 +5,10 @@ use Rattle.std.specs.List.{AllByRecursion}
 use Rattle.kd_classes.specs.HeldSet.{HeldSet, IsAccepted, IsAcceptedTest, JoinInOrder, JoinsBy}
 use Rattle.kd_classes.specs.declared.definition.ClassDef.{ClassDef}
 use Rattle.kd_machine.specs.Held.{base_names, with_name}
-use Rattle.kd_machine.specs.Run.{EndsWithin}
+use Rattle.kd_machine.specs.Laws.{AcceptedEnds}
 use Rattle.kd_options.specs.Joined.{value_of}
 use Rattle.kd_options.specs.Message.{IsMessage, Seen}
-use Rattle.kd_token.specs.Accepts.{Accepts}
-use Rattle.kd_token.specs.File.{Code, HasFile}
-
--- every accepted program ends (kd_machine `laws::accepted_ends`)
-abbrev AcceptedEnds : Type 0
-AcceptedEnds = (p : Code) (message : Seen) (held : List (List ℕ)) → HasFile p → Accepts p → IsMessage message → EndsWithin p message held
+use Rattle.kd_token.specs.File.{Code}
 
 one_step : AcceptedEnds → (test : Option Code) (message : Seen) (name : List ℕ) (held : List (List ℕ)) → IsMessage message → IsAcceptedTest test → (more : List (List ℕ)) × JoinsBy test message name held more
 one_step accepted_ends None message name held is accepted = (held, refl)

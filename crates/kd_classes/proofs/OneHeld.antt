@@ -4,15 +4,10 @@ use Rattle.std.specs.Prelude.{Option, if◌then◌else◌}
 use Rattle.kd_classes.specs.HeldSet.{RunGives, HeldSet, JoinInOrder, JoinsBy}
 use Rattle.kd_classes.specs.declared.definition.ClassDef.{ClassDef}
 use Rattle.kd_machine.specs.Held.{base_names, with_name}
-use Rattle.kd_machine.specs.Run.{Run}
+use Rattle.kd_machine.specs.Laws.{HasOneEnd}
 use Rattle.kd_options.specs.Joined.{value_of}
 use Rattle.kd_options.specs.Message.{Seen}
 use Rattle.kd_token.specs.File.{Code}
-
--- a program has one run (kd_machine `laws::one_end`)
-abbrev HasOneEnd : Type 0
-HasOneEnd = (p : Code) (message : Seen) (held : List (List ℕ)) (v x : Bool) (n m d e l h : ℕ) → Run p message held v n d l → Run p message held x m e h
-    → (v ≡ x) × (n ≡ m) × (d ≡ e) × (l ≡ h)
 
 one_value : HasOneEnd → (p : Code) (message : Seen) (held : List (List ℕ)) (v x : Bool) → RunGives p message held v → RunGives p message held x → v ≡ x
 one_value one_end p message held v x a b = (one_end p message held v x a.0 b.0 a.1 b.1 a.2 b.2 a.3 b.3).0

@@ -15,21 +15,13 @@ use Rattle.kd_expr.specs.Grammar.{HasText}
 use Rattle.kd_expr.specs.Tree.{Tree}
 use Rattle.kd_expr.specs.Typing.{type_of}
 use Rattle.kd_expr.specs.declared.typing.ValueType.TheVariants as types
-use Rattle.kd_machine.specs.Run.{EndsWithin, Run}
+use Rattle.kd_machine.specs.Laws.{AcceptedEnds, HasOneEnd}
+use Rattle.kd_machine.specs.Run.{Run}
 use Rattle.kd_machine.specs.Val.{Val, Truth}
 use Rattle.kd_machine.specs.World.{world}
-use Rattle.kd_options.specs.Message.{IsMessage, Seen}
+use Rattle.kd_options.specs.Message.{Seen}
 use Rattle.kd_token.specs.Accepts.{Accepts}
-use Rattle.kd_token.specs.File.{Code, HasFile}
-
--- every accepted program ends (kd_machine `laws::accepted_ends`)
-abbrev pub AcceptedEnds : Type 0
-AcceptedEnds = (p : Code) (message : Seen) (held : List (List ℕ)) → HasFile p → Accepts p → IsMessage message → EndsWithin p message held
-
--- a program has one run (kd_machine `laws::one_end`)
-abbrev pub HasOneEnd : Type 0
-HasOneEnd = (p : Code) (message : Seen) (held : List (List ℕ)) (v x : Bool) (n m d e l h : ℕ) → Run p message held v n d l → Run p message held x m e h
-    → (v ≡ x) × (n ≡ m) × (d ≡ e) × (l ≡ h)
+use Rattle.kd_token.specs.File.{HasFile}
 
 -- the program comes from its first place to its end with the test's value
 comes_to_value : (t : Tree) (message : Seen) (held : List (List ℕ)) → type_of t ≡ Ok types.Bool

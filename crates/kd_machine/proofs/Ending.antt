@@ -15,6 +15,7 @@ use Rattle.kd_machine.specs.Values.{take_truth, size_of_top}
 use Rattle.kd_machine.specs.World.{World, world}
 use Rattle.kd_machine.specs.Run.{rule, moves_by, moves, Segment, Run, EndsWithin}
 use Rattle.kd_machine.specs.Fits.{StandsAt, IsRunning}
+use Rattle.kd_machine.specs.Laws.{AcceptedEnds}
 use Rattle.kd_machine.proofs.Rests.{moves_rest}
 use Rattle.kd_machine.proofs.Standing.{stands_first, stands_moves, stands_end}
 
@@ -132,5 +133,5 @@ ends_from (suc fuel) p message held i n s d l file is le run =
       by (inr past) more = let place = run.stands.place in let here = past.0 in finishes p message held i n s d l run (omega (arith, here, place))
 
 -- every accepted program ends, on every message and all held names, within what it declares
-pub accepted_ends : (p : Code) (message : Seen) (held : List (List ℕ)) → HasFile p → Accepts p → IsMessage message → EndsWithin p message held
+pub accepted_ends : AcceptedEnds
 accepted_ends p message held file a is = ends_from (length p.tokens) p message held 0 0 [] 0 0 file is (omega arith) (running_first p message held a)

@@ -3,12 +3,12 @@ use Rattle.std.proofs.Common.{◌≡◌, ℕ, zero, suc, ◌<◌, ◌≤◌, max
 use Rattle.std.specs.Prelude.{◌⊎◌, slice_get}
 use Rattle.std.proofs.lemmas.Bool.{cases_lt}
 use Rattle.std.proofs.lemmas.Option.{slice_get_past}
-use Rattle.kd_options.specs.Message.{Seen}
 use Rattle.kd_token.specs.File.{Code}
 use Rattle.kd_token.specs.declared.token.Token.{Token}
 use Rattle.kd_machine.specs.Val.{Val, Truth, longest}
 use Rattle.kd_machine.specs.World.{World, world}
-use Rattle.kd_machine.specs.Run.{moves, Step, Segment, Run}
+use Rattle.kd_machine.specs.Run.{moves, Step, Segment}
+use Rattle.kd_machine.specs.Laws.{HasOneEnd}
 
 some_same : {A : Type 0} (x y : A) → Some x ≡ Some y → x ≡ y
 some_same x y e = cc
@@ -65,7 +65,7 @@ truth_same : (v x : Bool) → Truth v ∷ [] ≡ Truth x ∷ [] → v ≡ x
 truth_same v x e = cc
 
 -- two runs of a program over the same message and names end alike
-pub one_end : (p : Code) (message : Seen) (held : List (List ℕ)) (v x : Bool) (n m d e l h : ℕ) → Run p message held v n d l → Run p message held x m e h → (v ≡ x) × (n ≡ m) × (d ≡ e) × (l ≡ h)
+pub one_end : HasOneEnd
 one_end p message held v x n m d e l h a b = by (cases_lt n m) (cases_lt m n) where
   w : World
   w = world p message held

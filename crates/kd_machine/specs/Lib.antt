@@ -7,3 +7,4 @@ pub mod Run
 pub mod Held
 pub mod Fits
 pub mod Faults
+pub mod Laws

@@ -1,11 +1,12 @@
 -- From what the compiler says of a class test to what is printed of it.
-use Rattle.std.proofs.Common.{◌≡◌, ℕ, subst, Bool, List, ◌++◌, None, Result, Ok, Err}
+use Rattle.std.proofs.Common.{◌≡◌, ℕ, subst, List, ◌++◌, None, Result, Ok, Err}
 use Rattle.std.specs.Result.{IfOk}
 use Rattle.hex.specs.Hex.{encode_lower}
 use Rattle.kd_compile.specs.Compiled.{IsCompiled, first_over}
 use Rattle.kd_compile.specs.Value.{truth}
 use Rattle.kd_expr.specs.Tree.{Tree}
 use Rattle.kd_machine.specs.Held.{base_names}
+use Rattle.kd_machine.specs.Laws.{HasOneEnd}
 use Rattle.kd_machine.specs.Run.{Run}
 use Rattle.kd_options.specs.Joined.{value_of}
 use Rattle.kd_options.specs.Message.{AreBytes, IsMessage, Seen}
@@ -29,13 +30,8 @@ prints tree program text p none compiled written line = within PrintsFile tree p
   line = subst (λ t. IsSuccess t p) written.2 line;
 })
 
--- a program has one run over a message
-abbrev OneEnd : Type 0
-OneEnd = (p : Code) (message : Seen) (held : List (List ℕ)) (v x : Bool) (n m d e l h : ℕ) → Run p message held v n d l → Run p message held x m e h
-    → (v ≡ x) × (n ≡ m) × (d ≡ e) × (l ≡ h)
-
 -- the run of its program over a message
-over : (tree : Tree) (program : Code) (m : Seen) (p : Printed) → OneEnd → IsCompiled tree program → IsMessage m → RunsOver program m p → TestsOver tree m p
+over : (tree : Tree) (program : Code) (m : Seen) (p : Printed) → HasOneEnd → IsCompiled tree program → IsMessage m → RunsOver program m p → TestsOver tree m p
 over tree program m p one compiled is h =
     let held = base_names (value_of 60 m.options) in
     let kept = compiled.keeps m held is in
@@ -51,7 +47,7 @@ over tree program m p one compiled is h =
     }
 
 -- the same over a datagram
-pub runs : {E : Type 0} (tree : Tree) (program : Code) (bytes : List ℕ) (r : Result Printed E) → OneEnd → first_over tree ≡ None → IsCompiled tree program → AreBytes bytes
+pub runs : {E : Type 0} (tree : Tree) (program : Code) (bytes : List ℕ) (r : Result Printed E) → HasOneEnd → first_over tree ≡ None → IsCompiled tree program → AreBytes bytes
     → IfOk r (OfDatagram (RunsOver program) bytes) → IfOk r (OfCompiled (TestsDatagram bytes) tree)
 runs tree program bytes (Ok p) one none compiled are said = within (TestsDatagram bytes) tree p none (record {
   readable = λ m h. over tree program m p one compiled (record { datagram = bytes; bytes_are = are; reads = h }) (said.readable m h);

@@ -1,0 +1,21 @@
+-- What is true of each run, whatever the program, the message and the held names.
+use Rattle.std.specs.Prelude.{◌≡◌, ℕ, Bool, List}
+use Rattle.kd_machine.specs.Run.{EndsWithin, Run}
+use Rattle.kd_options.specs.Message.{IsMessage, Seen}
+use Rattle.kd_token.specs.Accepts.{Accepts}
+use Rattle.kd_token.specs.File.{Code, HasFile}
+
+-- every accepted program has a run over every message and every list of held names, within what it
+-- declares
+abbrev pub AcceptedEnds : Type 0
+AcceptedEnds =
+    (p : Code) (message : Seen) (held : List (List ℕ)) → HasFile p → Accepts p → IsMessage message
+    → EndsWithin p message held
+
+-- a program has one run over a message and a list of held names: one truth value, and the same
+-- steps and peaks
+abbrev pub HasOneEnd : Type 0
+HasOneEnd =
+    (p : Code) (message : Seen) (held : List (List ℕ)) (v x : Bool) (n m d e l h : ℕ)
+    → Run p message held v n d l → Run p message held x m e h
+    → (v ≡ x) × (n ≡ m) × (d ≡ e) × (l ≡ h)
