@@ -13,6 +13,7 @@ pub mod Arrivals
 pub mod Passes
 pub mod Keeps
 pub mod Tidy
+pub mod Stands
 pub mod Ends
 pub mod Visits
 pub mod Firsts

@@ -6,3 +6,4 @@ pub mod Shape
 pub mod Meet
 pub mod Accepts
 pub mod Table
+pub mod Laws

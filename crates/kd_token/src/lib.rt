@@ -16,6 +16,7 @@
 #![tactic(auto)]
 
 mod fault;
+pub mod laws;
 mod program;
 mod put;
 mod reader;

@@ -1,0 +1,24 @@
+-- What is true of each program that has a file.
+use Rattle.std.specs.Prelude.{◌≡◌, ℕ, ◌+◌, ◌≤◌, length, slice_get, Some, MatchOption}
+use Rattle.std.specs.List.{AllByRecursion}
+use Rattle.kd_token.specs.Accepts.{Point, flows}
+use Rattle.kd_token.specs.File.{Code, HasFile, IsToken}
+use Rattle.kd_token.specs.declared.token.Token.{Token}
+
+-- a token at place i of a program: so many tokens are left after it, its operands fit their bytes,
+-- and each way from it leads to one of those that are left, or to the end
+pub record StandsIn (p : Code) (i : ℕ) (token : Token) : Type 0 where
+  pub left : ℕ
+  pub place : i + 1 + left ≡ length p.tokens
+  pub is : IsToken p.version left token
+  pub leads : (q : Point) → MatchOption (flows (length p.names) token i q) (Unit {0})
+      (AllByRecursion (λ f. (i + 1 ≤ f.to) × (f.to ≤ length p.tokens)))
+
+-- each token of a program stands so
+abbrev pub TokensStandIn : Code → Type 0
+TokensStandIn p =
+    (i : ℕ) (token : Token) → slice_get p.tokens i ≡ Some token → StandsIn p i token
+
+-- where the program has a file
+abbrev pub TokensStand : Type 0
+TokensStand = (p : Code) → HasFile p → TokensStandIn p

@@ -1,0 +1,9 @@
+//! What is true of each program that has a file, whatever its tokens: each law is the contract of a
+//! function that does nothing.
+ghost use Rattle.kd_token.specs.Laws.{TokensStand};
+
+/// Each token of a program has operands that fit their bytes, and each way from it leads to a later
+/// token or to the program's end.
+pub fn tokens_stand()
+    ensures { TokensStand }
+{}
