@@ -1,6 +1,7 @@
--- How long the values of a message can be: an option at most the datagram, a sub-option 255 bytes.
+-- How long what a message has can be: its header's fields, an option at most the datagram, a sub-option 255
+-- bytes.
 use Rattle.std.proofs.Common.{◌≡◌, ℕ, zero, suc, ◌+◌, ◌-◌, ◌*◌, ◌^◌, ◌<◌, ◌≤◌, Bool, true, false, List, [], ◌∷◌, ◌++◌, length, take, drop, filter, map, get_or, Option, Some, None, refl, sym, ap, subst, arith}
-use Rattle.std.specs.Prelude.{◌==◌, if◌then◌else◌, not, ◌||◌, nat_eq, nat_lt, Ok, Err, MatchOption, slice_index}
+use Rattle.std.specs.Prelude.{◌==◌, if◌then◌else◌, not, ◌||◌, nat_eq, nat_lt, Ok, Err, IfSome, MatchOption, slice_index}
 use Rattle.std.specs.List.{AllByRecursion, flat_map}
 use Rattle.std.specs.Map.{lookup}
 use Rattle.std.proofs.lemmas.Bool.{ltb-false}
@@ -10,6 +11,7 @@ use Rattle.kd_wire.specs.Header.{bytes_at, number_at, cookie, header_of, header_
 use Rattle.kd_wire.specs.declared.header.Header.{Header}
 use Rattle.kd_wire.specs.declared.header.WireFault.TheVariants as wire
 use Rattle.kd_options.specs.Joined.{joined, codes, options_of, value_of, options_field, file_field, sname_field, IsAreaIf, AreasInUse, uses_file, uses_sname}
+use Rattle.kd_options.specs.Laws.{IsField, IsHeader, MessagesHaveSizes}
 use Rattle.kd_options.specs.Message.{Seen, AreBytes, IsMessage}
 use Rattle.kd_options.specs.RelayWalk.{subs_from, are_whole_from, sub_options_in, relay_list}
 
@@ -114,6 +116,15 @@ range_size n i bytes =
 range_bytes : (n i : ℕ) (bytes : List ℕ) → AreBytes bytes → AreBytes (bytes_at i n bytes)
 range_bytes n i bytes a = all_take (i + n - i) (drop i bytes) (all_drop i bytes a)
 
+-- a readable datagram has at least 240 bytes
+least : (bytes : List ℕ) (header : Header) → header_read bytes ≡ Ok header → 240 ≤ length bytes
+unfolding header_read
+least bytes header is = by (nat_lt (length bytes) 240) refl is where
+  by : (short : Bool) → nat_lt (length bytes) 240 ≡ short
+      → (if short then Err wire.Short else if nat_lt 4096 (length bytes) then Err wire.Long else if not (number_at 236 4 bytes == cookie) then Err wire.Cookie else if slice_index bytes 0 == 1 || slice_index bytes 0 == 2 then Ok (header_of bytes) else Err wire.BadOp) ≡ Ok header → 240 ≤ length bytes
+  by true e is = let none : ⊥ = cc in absurd none
+  by false e is = ltb-false _ _ e
+
 -- a readable datagram has at most 4,096 bytes
 room : (bytes : List ℕ) (header : Header) → header_read bytes ≡ Ok header → length bytes ≤ 4096
 unfolding header_read
@@ -140,6 +151,12 @@ byte_at [] i a = omega arith
 byte_at (x ∷ xs) zero a = a.0
 byte_at (x ∷ xs) (suc i) a = byte_at xs i a.1
 
+two_short : (xs : List ℕ) → AreBytes xs → slice_index xs 0 * 256 ^ 1 + (slice_index xs 1 * 256 ^ 0 + 0) < 2 ^ 16
+two_short xs a =
+    let b0 = byte_at xs 0 a in
+    let b1 = byte_at xs 1 a in
+    omega (arith, b0, b1)
+
 four_short : (xs : List ℕ) → AreBytes xs → slice_index xs 0 * 256 ^ 3 + (slice_index xs 1 * 256 ^ 2 + (slice_index xs 2 * 256 ^ 1 + (slice_index xs 3 * 256 ^ 0 + 0))) < 2 ^ 32
 four_short xs a =
     let b0 = byte_at xs 0 a in
@@ -155,6 +172,37 @@ header_short m is =
     let e = header_is is.datagram m.header is.reads.header in
     let P : Header → Type 0 = λ h. (h.htype < 256) × (h.hlen < 256) × (h.xid < 2 ^ 32) in
     subst P e (byte_at is.datagram 1 is.bytes_are, byte_at is.datagram 2 is.bytes_are, four_short (bytes_at 4 4 is.datagram) (range_bytes 4 4 is.datagram is.bytes_are))
+
+-- bytes at an offset are a field
+field_at : (i n : ℕ) (bytes : List ℕ) → AreBytes bytes → i + n ≤ length bytes → IsField n (bytes_at i n bytes)
+field_at i n bytes a le = record {
+  size = let e = length-take (i + n - i) (drop i bytes) in let d = length-drop i bytes in omega (arith, e, d, le);
+  bytes_are = range_bytes n i bytes a;
+}
+
+-- the header of enough bytes has its fields
+fields_of : (bytes : List ℕ) → AreBytes bytes → 240 ≤ length bytes → IsHeader (header_of bytes)
+unfolding header_of
+fields_of bytes a le = record {
+  op = byte_at bytes 0 a;
+  htype = byte_at bytes 1 a;
+  hlen = byte_at bytes 2 a;
+  hops = byte_at bytes 3 a;
+  xid = four_short (bytes_at 4 4 bytes) (range_bytes 4 4 bytes a);
+  secs = two_short (bytes_at 8 2 bytes) (range_bytes 2 8 bytes a);
+  flags = two_short (bytes_at 10 2 bytes) (range_bytes 2 10 bytes a);
+  ciaddr = four_short (bytes_at 12 4 bytes) (range_bytes 4 12 bytes a);
+  yiaddr = four_short (bytes_at 16 4 bytes) (range_bytes 4 16 bytes a);
+  siaddr = four_short (bytes_at 20 4 bytes) (range_bytes 4 20 bytes a);
+  giaddr = four_short (bytes_at 24 4 bytes) (range_bytes 4 24 bytes a);
+  chaddr = field_at 28 16 bytes a (omega (arith, le));
+  sname = field_at 44 64 bytes a (omega (arith, le));
+  file = field_at 108 128 bytes a (omega (arith, le));
+}
+
+-- a message's header has its fields
+header_fields : (m : Seen) → IsMessage m → IsHeader m.header
+header_fields m is = subst IsHeader (header_is is.datagram m.header is.reads.header) (fields_of is.datagram is.bytes_are (least is.datagram m.header is.reads.header))
 
 -- a message's datagram has at most 4,096 bytes
 pub len_short : (m : Seen) → IsMessage m → m.len ≤ 4096
@@ -185,9 +233,9 @@ value_is m is code =
     subst P (sym is.reads.options.joins) (looked_up IsValue code is.reads.options.pieces (codes is.reads.options.pieces) (λ c. let h = joined_holds c is.reads.options.pieces hold.1 in (omega (arith, h.0, hold.0), h.1)))
 
 -- an option of a message has at most 4,096 bytes
-pub value_short : (m : Seen) → IsMessage m → (code : ℕ) → MatchOption (value_of code m.options) (Unit {0}) (λ value. length value ≤ 4096)
+pub value_short : (m : Seen) → IsMessage m → (code : ℕ) → IfSome (value_of code m.options) (λ value. length value ≤ 4096)
 value_short m is code = by (value_of code m.options) (value_is m is code) where
-  by : (o : Option (List ℕ)) → MatchOption o (Unit {0}) IsValue → MatchOption o (Unit {0}) (λ value. length value ≤ 4096)
+  by : (o : Option (List ℕ)) → MatchOption o (Unit {0}) IsValue → IfSome o (λ value. length value ≤ 4096)
   by None h = tt
   by (Some value) h = h.0
 
@@ -202,7 +250,7 @@ subs_short zero (c ∷ n ∷ bytes) code a = by (nat_eq code c) (subs_short n by
   by false rest = rest
 
 -- a sub-option of a message's relay information has at most 255 bytes
-pub relay_short : (m : Seen) → IsMessage m → (code : ℕ) → MatchOption (lookup (nat_eq code) (relay_list m.options)) (Unit {0}) (λ value. length value ≤ 255)
+pub relay_short : (m : Seen) → IsMessage m → (code : ℕ) → IfSome (lookup (nat_eq code) (relay_list m.options)) (λ value. length value ≤ 255)
 relay_short m is code = by (value_of 82 m.options) (value_is m is 82) where
   by : (o : Option (List ℕ)) → MatchOption o (Unit {0}) IsValue → MatchOption (lookup (nat_eq code) (sub_options_in o)) (Unit {0}) (λ value. length value ≤ 255)
   by None h = tt
@@ -210,3 +258,13 @@ relay_short m is code = by (value_of 82 m.options) (value_is m is 82) where
     whole : (b : Bool) → MatchOption (lookup (nat_eq code) (subs_from 0 value)) (Unit {0}) (λ value. length value ≤ 255) → MatchOption (lookup (nat_eq code) (if b then subs_from 0 value else [])) (Unit {0}) (λ value. length value ≤ 255)
     whole true h = h
     whole false h = tt
+
+-- each message has its sizes
+pub has_sizes : MessagesHaveSizes
+has_sizes m is = record {
+  fields = header_fields m is;
+  datagram = len_short m is;
+  kind = is.reads.readable.kind;
+  option = value_short m is;
+  sub_option = relay_short m is;
+}

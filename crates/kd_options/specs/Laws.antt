@@ -1,11 +1,15 @@
 -- What a reply has to be (RFC 2131 section 2, RFC 2132 sections 9.1, 9.6, 9.7), and the message
--- that its text reads back as (RFC 3396 section 7): what the law of replies speaks of.
-use Rattle.std.specs.Prelude.{◌≡◌, ◌≢◌, ◌⊎◌, ℕ, ◌^◌, ◌<◌, ◌≤◌, true, nat_eq, List, [], ◌∷◌, length, map}
+-- that its text reads back as (RFC 3396 section 7): what the law of replies speaks of. And the
+-- sizes of each message.
+use Rattle.std.specs.Prelude.{◌≡◌, ◌≢◌, ◌⊎◌, ℕ, ◌^◌, ◌<◌, ◌≤◌, true, nat_eq, List, [], ◌∷◌, length, map, IfSome, IsSomeAnd}
 use Rattle.std.specs.List.{AllByRecursion, IsDistinct}
+use Rattle.std.specs.Map.{lookup}
 use Rattle.kd_wire.specs.Area.{Piece}
 use Rattle.kd_wire.specs.declared.header.Header.{Header}
-use Rattle.kd_options.specs.Message.{Seen, AreBytes}
+use Rattle.kd_options.specs.Joined.{value_of}
+use Rattle.kd_options.specs.Message.{Seen, AreBytes, IsMessage}
 use Rattle.kd_options.specs.Options.{IsAddressValue, IsType}
+use Rattle.kd_options.specs.RelayWalk.{relay_list}
 use Rattle.kd_options.specs.Reply.{kept, reply_text}
 use Rattle.kd_options.specs.declared.item.Item.{Item}
 
@@ -70,3 +74,17 @@ read_back header room items = record {
   len = length (reply_text header room items);
   options = item_options (kept room items);
 }
+
+-- the sizes of a message: each field of its header has its own, the datagram has at most 4,096
+-- bytes, its type is one byte, an option has at most 4,096 bytes and a sub-option at most 255
+pub record HasSizes (message : Seen) : Type 0 where
+  pub fields : IsHeader message.header
+  pub datagram : message.len ≤ 4096
+  pub kind : IsSomeAnd (value_of 53 message.options) IsType
+  pub option : (code : ℕ) → IfSome (value_of code message.options) (λ value. length value ≤ 4096)
+  pub sub_option : (code : ℕ)
+      → IfSome (lookup (nat_eq code) (relay_list message.options)) (λ value. length value ≤ 255)
+
+-- each message has these sizes
+abbrev pub MessagesHaveSizes : Type 0
+MessagesHaveSizes = (message : Seen) → IsMessage message → HasSizes message

@@ -3,6 +3,7 @@ ghost use Rattle.kd_wire.specs.Area.{Piece};
 ghost use Rattle.kd_wire.specs.declared.header.Header.{Header};
 ghost use Rattle.kd_options.specs.Joined.{value_of};
 ghost use Rattle.kd_options.specs.Laws.{IsReply, read_back};
+ghost use Rattle.kd_options.specs.Laws.{MessagesHaveSizes};
 ghost use Rattle.kd_options.specs.Message.{Reads};
 ghost use Rattle.kd_options.specs.Relay.{IsRelayList};
 ghost use Rattle.kd_options.specs.RelayWalk.{relay_list};
@@ -28,4 +29,11 @@ pub fn one_relay_list()
     ensures { (value : Option (List ℕ)) (list other : List Piece) → IsRelayList value list
         → IsRelayList value other
         → list ≡ other }
+{}
+
+/// Each message has a header whose fields have their sizes, at most 4,096 bytes, a type of one
+/// byte, options of at most 4,096 bytes and sub-options of at most 255 (RFC 2131 section 2, RFC
+/// 2132 section 9.6, RFC 3046 section 2).
+pub fn messages_have_sizes()
+    ensures { MessagesHaveSizes }
 {}
