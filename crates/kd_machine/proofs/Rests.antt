@@ -4,7 +4,6 @@ use Rattle.std.specs.Bool.{beq}
 use Rattle.std.specs.Prelude.{if◌then◌else◌, slice_get, MatchOption}
 use Rattle.kd_token.specs.Accepts.{way_of}
 use Rattle.kd_wire.specs.Steps.{◌>>=◌}
-use Rattle.kd_token.proofs.Keeps.{Keeps, bind_keeps}
 use Rattle.kd_token.specs.declared.token.Token.{Token}
 use Rattle.kd_token.specs.declared.token.Token.TheVariants as tokens
 use Rattle.kd_token.specs.declared.way.Way.{Way}
@@ -14,6 +13,14 @@ use Rattle.kd_machine.specs.Values.{take_text, take_truth, take_number}
 use Rattle.kd_machine.specs.World.{World}
 use Rattle.kd_machine.specs.Parts.{is_held}
 use Rattle.kd_machine.specs.Run.{rule, moves_by, moves}
+
+-- what holds of a result, where there is one
+abbrev Keeps : {A : Type 0} → (A → Type 0) → Option A → Type 0
+Keeps P o = MatchOption o (Unit {0}) P
+
+bind_keeps : {A B : Type 0} (P : A → Type 0) (Q : B → Type 0) (o : Option A) (f : A → Option B) → Keeps P o → ((x : A) → P x → Keeps Q (f x)) → Keeps Q (o >>= f)
+bind_keeps P Q None f k h = tt
+bind_keeps P Q (Some x) f k h = h x k
 
 -- what is below a value that is taken
 abbrev Rest : {A : Type 0} → ℕ → A × List Val → Type 0
