@@ -1,6 +1,7 @@
 -- A token that takes what it wants from a shape takes it from values that fit, and what it gives fits what
 -- it gives to the shape.
-use Rattle.std.proofs.Common.{◌≡◌, ℕ, ℤ, suc, ◌+◌, ◌-◌, ◌*◌, ◌^◌, ◌<◌, ◌≤◌, min, max, Bool, true, false, List, [], ◌∷◌, ◌++◌, length, take, drop, Option, Some, None, refl, sym, subst, arith}
+use Rattle.std.proofs.Common.{◌≡◌, ℕ, ℤ, zero, suc, ◌+◌, ◌-◌, ◌*◌, ◌^◌, ◌<◌, ◌≤◌, min, max, Bool, true, false, List, [], ◌∷◌, ◌++◌, length, take, drop, Option, Some, None, refl, sym, subst, mul_comm, arith}
+use Rattle.std.proofs.Math.Nat.{mul-le-mul_left}
 use Rattle.std.specs.Prelude.{nat_lt, if◌then◌else◌, ◌==◌, slice_get, unsigned_abs, MatchOption, IsSomeAnd}
 use Rattle.std.specs.List.{flat_map}
 use Rattle.std.specs.Char.{to_ascii_lowercase, to_ascii_uppercase}
@@ -22,7 +23,6 @@ use Rattle.kd_token.specs.declared.token.Field.TheVariants as fields
 use Rattle.kd_token.specs.declared.token.Token.{Token}
 use Rattle.kd_token.specs.declared.token.Token.TheVariants as tokens
 use Rattle.kd_token.specs.declared.token.Version.{Version}
-use Rattle.kd_token.proofs.Down.{Down, bind_down, hex_down}
 use Rattle.kd_machine.specs.Val.{Val, Truth, Number, Text}
 use Rattle.kd_machine.specs.Values.{take_text, take_truth, take_number}
 use Rattle.kd_machine.specs.Strings.{is_negative, start_in, part, part_from, substring, byte_digits, hex_of}
@@ -30,6 +30,17 @@ use Rattle.kd_machine.specs.World.{World, option_in, relay_in, value_of_field}
 use Rattle.kd_machine.specs.Parts.{is_held, or_empty, type_in}
 use Rattle.kd_machine.specs.Run.{rule}
 use Rattle.kd_machine.specs.Fits.{FitsKind, Fits}
+
+-- where the first is there, the second is, and the relation holds of the two
+abbrev pub Down : {A B : Type 0} → (A → B → Type 0) → Option A → Option B → Type 0
+Down R None u = Unit {0}
+Down R (Some x) None = ⊥
+Down R (Some x) (Some y) = R x y
+
+bind_down : {A B C D : Type 0} (R : A → B → Type 0) (Q : C → D → Type 0) (o : Option A) (u : Option B) (f : A → Option C) (g : B → Option D) → Down R o u → ((x : A) (y : B) → R x y → Down Q (f x) (g y)) → Down Q (o >>= f) (u >>= g)
+bind_down R Q None u f g d h = tt
+bind_down R Q (Some x) None f g d h = absurd d
+bind_down R Q (Some x) (Some y) f g d h = h x y d
 
 -- a bound and the shape below it fit a byte string and the values below it
 abbrev TextFits : ℕ × List Kind → List ℕ × List Val → Type 0
@@ -103,16 +114,20 @@ flat_size separator (b ∷ bytes) =
     let first = length-append separator (byte_digits b) in
     omega (arith, rest, front, first)
 
-hex_size : (separator bytes : List ℕ) → length (hex_of separator bytes) ≡ bound_of_hex (length bytes) (length separator)
-hex_size separator [] = refl
-hex_size separator (b ∷ bytes) =
-    let rest = flat_size separator bytes in
-    let no : (suc (length bytes) == 0) ≡ false = ne_eqb (suc (length bytes)) 0 (λ e. omega (arith, e)) in
-    let one : suc (length bytes) - 1 ≡ length bytes = omega arith in
-    rw (no, one) (omega (arith, rest))
-
+-- the hexadecimal text of fewer bytes with a shorter separator is no longer
 hex_short : (separator bytes : List ℕ) (n m : ℕ) → length bytes ≤ n → length separator ≤ m → length (hex_of separator bytes) ≤ bound_of_hex n m
-hex_short separator bytes n m le less = let e = hex_size separator bytes in let d = hex_down n (length bytes) m (length separator) le less in omega (arith, e, d)
+hex_short separator [] n m le less = omega arith
+hex_short separator (b ∷ bytes) zero m le less = absurd (omega (arith, le))
+hex_short separator (b ∷ bytes) (suc n) m le less =
+    let fewer : length bytes ≤ n = omega (arith, le) in
+    let left : length bytes * length separator ≤ length bytes * m = mul-le-mul_left (length bytes) less in
+    let right : m * length bytes ≤ m * n = mul-le-mul_left m fewer in
+    let turned : m * length bytes ≡ length bytes * m = mul_comm m (length bytes) in
+    let back : m * n ≡ n * m = mul_comm m n in
+    let rest = flat_size separator bytes in
+    let no : (suc n == 0) ≡ false = ne_eqb (suc n) 0 (λ e. omega (arith, e)) in
+    let one : suc n - 1 ≡ n = omega arith in
+    rw (no, one) (omega (arith, left, right, turned, back, rest, fewer))
 
 -- the number of a message's type is of one byte
 type_short : (o : Option (List ℕ)) → IsSomeAnd o IsType → type_in o < 2 ^ 32

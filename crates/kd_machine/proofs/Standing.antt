@@ -16,14 +16,13 @@ use Rattle.kd_token.specs.declared.shape.Kind.TheVariants as kinds
 use Rattle.kd_token.specs.declared.token.Token.{Token}
 use Rattle.kd_token.specs.declared.way.Way.{Way}
 use Rattle.kd_token.specs.declared.way.Way.TheVariants as routes
-use Rattle.kd_token.proofs.Down.{Down}
 use Rattle.kd_token.proofs.Tidy.{is_token, reach_within}
 use Rattle.kd_machine.specs.Val.{Val, Truth, Number, Text, size, longest}
 use Rattle.kd_machine.specs.Values.{take_truth}
 use Rattle.kd_machine.specs.World.{World, world}
 use Rattle.kd_machine.specs.Run.{rule, moves_by, moves}
 use Rattle.kd_machine.specs.Fits.{FitsKind, Fits, StandsAt}
-use Rattle.kd_machine.proofs.Rules.{TruthFits, truth_fits, rule_fits}
+use Rattle.kd_machine.proofs.Rules.{Down, TruthFits, truth_fits, rule_fits}
 
 kind_covered : (k l : Kind) (v : Val) → CoversKind k l → FitsKind l v → FitsKind k v
 kind_covered kinds.Bool kinds.Bool v c f = f
