@@ -3,9 +3,11 @@ use Rattle.std.proofs.Common.{◌≡◌, ℕ, zero, suc, ◌+◌, ◌<◌, ◌�
 use Rattle.std.specs.Bool.{beq}
 use Rattle.std.specs.Prelude.{◌⊎◌, if◌then◌else◌, slice_get, MatchOption}
 use Rattle.std.proofs.lemmas.Option.{slice_get_cases}
-use Rattle.kd_options.specs.Message.{Seen, IsMessage}
+use Rattle.kd_options.specs.Laws.{HasSizes, MessagesHaveSizes}
+use Rattle.kd_options.specs.Message.{Seen}
 use Rattle.kd_token.specs.Accepts.{Accepts, way_of}
-use Rattle.kd_token.specs.File.{Code, HasFile}
+use Rattle.kd_token.specs.File.{Code}
+use Rattle.kd_token.specs.Laws.{TokensStand, TokensStandIn}
 use Rattle.kd_wire.specs.Steps.{◌>>=◌}
 use Rattle.kd_token.specs.declared.token.Token.{Token}
 use Rattle.kd_token.specs.declared.way.Way.{Way}
@@ -54,11 +56,11 @@ running_first p message held a = record {
 }
 
 -- a run goes on by a step
-pub running_on : (p : Code) (message : Seen) (held : List (List ℕ)) (i n : ℕ) (s : List Val) (d l : ℕ) (token : Token) (j : ℕ) (t : List Val) → HasFile p → IsMessage message → IsRunning p message held i n s d l → slice_get p.tokens i ≡ Some token → moves (world p message held) token i s ≡ Some (j, t)
+pub running_on : (p : Code) (message : Seen) (held : List (List ℕ)) (i n : ℕ) (s : List Val) (d l : ℕ) (token : Token) (j : ℕ) (t : List Val) → TokensStandIn p → HasSizes message → IsRunning p message held i n s d l → slice_get p.tokens i ≡ Some token → moves (world p message held) token i s ≡ Some (j, t)
     → IsRunning p message held j (n + 1) t (max d (length t)) (max l (longest t))
-running_on p message held i n s d l token j t file is run there moved =
+running_on p message held i n s d l token j t stand sizes run there moved =
     let M : Option (ℕ × List Val) → Type 0 = λ o. MatchOption o ⊥ (λ r. StandsAt p r.0 (n + 1) r.1) in
-    let next : StandsAt p j (n + 1) t = subst M moved (stands_moves p message held i n s token file is run.stands there) in
+    let next : StandsAt p j (n + 1) t = subst M moved (stands_moves p message held i n s token stand sizes run.stands there) in
     let deep = next.deep in
     let long = next.long in
     let more : suc n ≡ n + 1 = omega arith in
@@ -77,8 +79,8 @@ running_on p message held i n s d l token j t file is run there moved =
     }
 
 -- a stack with room for the declared depth has room for what a step leaves
-pub has_room : (room : ℕ) (p : Code) (message : Seen) (held : List (List ℕ)) (i n : ℕ) (s : List Val) (d l : ℕ) (token : Token) → p.depth ≤ room → HasFile p → IsMessage message → IsRunning p message held i n s d l → slice_get p.tokens i ≡ Some token → MatchOption (moves (world p message held) token i s) ⊥ (λ r. length r.1 ≤ room)
-has_room room p message held i n s d l token most file is run there = by (moves (world p message held) token i s) (stands_moves p message held i n s token file is run.stands there) where
+pub has_room : (room : ℕ) (p : Code) (message : Seen) (held : List (List ℕ)) (i n : ℕ) (s : List Val) (d l : ℕ) (token : Token) → p.depth ≤ room → TokensStandIn p → HasSizes message → IsRunning p message held i n s d l → slice_get p.tokens i ≡ Some token → MatchOption (moves (world p message held) token i s) ⊥ (λ r. length r.1 ≤ room)
+has_room room p message held i n s d l token most stand sizes run there = by (moves (world p message held) token i s) (stands_moves p message held i n s token stand sizes run.stands there) where
   by : (o : Option (ℕ × List Val)) → MatchOption o ⊥ (λ r. StandsAt p r.0 (n + 1) r.1) → MatchOption o ⊥ (λ r. length r.1 ≤ room)
   by None m = m
   by (Some r) m = let deep = m.deep in omega (arith, deep, most)
@@ -89,13 +91,13 @@ top_alone [] l le = refl
 top_alone (v ∷ t) l le = omega (arith, le)
 
 -- a run goes on by a step whose top alone is looked at
-pub running_next : (p : Code) (message : Seen) (held : List (List ℕ)) (i n : ℕ) (s : List Val) (d l : ℕ) (token : Token) (j : ℕ) (t : List Val) → HasFile p → IsMessage message → IsRunning p message held i n s d l → slice_get p.tokens i ≡ Some token → moves (world p message held) token i s ≡ Some (j, t)
+pub running_next : (p : Code) (message : Seen) (held : List (List ℕ)) (i n : ℕ) (s : List Val) (d l : ℕ) (token : Token) (j : ℕ) (t : List Val) → TokensStandIn p → HasSizes message → IsRunning p message held i n s d l → slice_get p.tokens i ≡ Some token → moves (world p message held) token i s ≡ Some (j, t)
     → IsRunning p message held j (n + 1) t (max d (length t)) (max l (size_of_top t))
-running_next p message held i n s d l token j t file is run there moved =
+running_next p message held i n s d l token j t stand sizes run there moved =
     let B : Option (ℕ × List Val) → Type 0 = λ o. MatchOption o (Unit {0}) (λ r. longest (drop 1 r.1) ≤ l) in
     let rest : longest (drop 1 t) ≤ l = subst B moved (moves_rest l (world p message held) token i s run.covers) in
     let R : ℕ → Type 0 = λ h. IsRunning p message held j (n + 1) t (max d (length t)) h in
-    subst R (sym (top_alone t l rest)) (running_on p message held i n s d l token j t file is run there moved)
+    subst R (sym (top_alone t l rest)) (running_on p message held i n s d l token j t stand sizes run there moved)
 
 -- at the end a run has the outcome of its one truth value
 pub running_end : (p : Code) (message : Seen) (held : List (List ℕ)) (n : ℕ) (s : List Val) (d l : ℕ) → IsRunning p message held (length p.tokens) n s d l → (n ≤ p.steps) × MatchOption (take_truth s) ⊥ (λ r. Run p message held r.0 n d l)
@@ -115,23 +117,23 @@ finishes p message held i n s d l run e =
       by (Some v) r le = (v.0, n, d, l, r, le, run.depth, run.bound)
 
 -- a run that has at most so many places before it ends
-ends_from : (fuel : ℕ) (p : Code) (message : Seen) (held : List (List ℕ)) (i n : ℕ) (s : List Val) (d l : ℕ) → HasFile p → IsMessage message → length p.tokens ≤ i + fuel → IsRunning p message held i n s d l → EndsWithin p message held
-ends_from zero p message held i n s d l file is le run =
+ends_from : (fuel : ℕ) (p : Code) (message : Seen) (held : List (List ℕ)) (i n : ℕ) (s : List Val) (d l : ℕ) → TokensStandIn p → HasSizes message → length p.tokens ≤ i + fuel → IsRunning p message held i n s d l → EndsWithin p message held
+ends_from zero p message held i n s d l stand sizes le run =
     let place = run.stands.place in
     finishes p message held i n s d l run (omega (arith, le, place))
-ends_from (suc fuel) p message held i n s d l file is le run =
-    by (slice_get_cases p.tokens i).1 (λ j m t e h less next. ends_from fuel p message held j m t e h file is less next) where
+ends_from (suc fuel) p message held i n s d l stand sizes le run =
+    by (slice_get_cases p.tokens i).1 (λ j m t e h less next. ends_from fuel p message held j m t e h stand sizes less next) where
       More : Type 0
       More = (j m : ℕ) (t : List Val) (e h : ℕ) → length p.tokens ≤ j + fuel → IsRunning p message held j m t e h → EndsWithin p message held
 
       steps : (token : Token) → slice_get p.tokens i ≡ Some token → (o : Option (ℕ × List Val)) → moves (world p message held) token i s ≡ o → MatchOption o ⊥ (λ r. StandsAt p r.0 (n + 1) r.1) → IsForward i o → More → EndsWithin p message held
       steps token there None e m f more = absurd m
-      steps token there (Some r) e m f more = more r.0 (n + 1) r.1 (max d (length r.1)) (max l (longest r.1)) (omega (arith, le, f)) (running_on p message held i n s d l token r.0 r.1 file is run there e)
+      steps token there (Some r) e m f more = more r.0 (n + 1) r.1 (max d (length r.1)) (max l (longest r.1)) (omega (arith, le, f)) (running_on p message held i n s d l token r.0 r.1 stand sizes run there e)
 
       by : ((x : Token) × (i < length p.tokens) × (slice_get p.tokens i ≡ Some x) × (get_or p.tokens i x ≡ x)) ⊎ ((length p.tokens ≤ i) × (slice_get p.tokens i ≡ None)) → More → EndsWithin p message held
-      by (inl x) more = steps x.0 x.2 (moves (world p message held) x.0 i s) refl (stands_moves p message held i n s x.0 file is run.stands x.2) (forward_by (way_of x.0) (world p message held) x.0 i s) more
+      by (inl x) more = steps x.0 x.2 (moves (world p message held) x.0 i s) refl (stands_moves p message held i n s x.0 stand sizes run.stands x.2) (forward_by (way_of x.0) (world p message held) x.0 i s) more
       by (inr past) more = let place = run.stands.place in let here = past.0 in finishes p message held i n s d l run (omega (arith, here, place))
 
 -- every accepted program ends, on every message and all held names, within what it declares
-pub accepted_ends : AcceptedEnds
-accepted_ends p message held file a is = ends_from (length p.tokens) p message held 0 0 [] 0 0 file is (omega arith) (running_first p message held a)
+pub accepted_ends : TokensStand → MessagesHaveSizes → AcceptedEnds
+accepted_ends stand sizes p message held file a is = ends_from (length p.tokens) p message held 0 0 [] 0 0 (stand p file) (sizes message is) (omega arith) (running_first p message held a)

@@ -2,7 +2,7 @@
 -- it gives to the shape.
 use Rattle.std.proofs.Common.{◌≡◌, ℕ, ℤ, zero, suc, ◌+◌, ◌-◌, ◌*◌, ◌^◌, ◌<◌, ◌≤◌, min, max, Bool, true, false, List, [], ◌∷◌, ◌++◌, length, take, drop, Option, Some, None, refl, sym, subst, mul_comm, arith}
 use Rattle.std.proofs.Math.Nat.{mul-le-mul_left}
-use Rattle.std.specs.Prelude.{nat_lt, if◌then◌else◌, ◌==◌, slice_get, unsigned_abs, MatchOption, IsSomeAnd}
+use Rattle.std.specs.Prelude.{nat_lt, if◌then◌else◌, ◌==◌, slice_get, unsigned_abs, IfSome, IsSomeAnd}
 use Rattle.std.specs.List.{flat_map}
 use Rattle.std.specs.Char.{to_ascii_lowercase, to_ascii_uppercase}
 use Rattle.std.proofs.lemmas.Bool.{ltb-true, ne_eqb}
@@ -10,9 +10,9 @@ use Rattle.std.proofs.lemmas.Fmt.{length-decimal-le}
 use Rattle.std.proofs.lemmas.List.{length-append, length-drop, length-map, length-take}
 use Rattle.std.proofs.lemmas.Option.{slice_get-get_or}
 use Rattle.kd_options.specs.Joined.{value_of}
-use Rattle.kd_options.specs.Message.{Seen, IsMessage}
+use Rattle.kd_options.specs.Laws.{HasSizes}
+use Rattle.kd_options.specs.Message.{Seen}
 use Rattle.kd_options.specs.Options.{IsType}
-use Rattle.kd_options.proofs.Sizes.{header_short, len_short, relay_short, value_short}
 use Rattle.kd_token.specs.File.{IsToken}
 use Rattle.kd_wire.specs.Steps.{◌>>=◌}
 use Rattle.kd_token.specs.Shape.{bytes_taken, bool_taken, int_taken, field_kind, bound_of_substring, bound_of_hex, gives}
@@ -82,7 +82,7 @@ number_fits (kinds.Bytes n ∷ r) s f = tt
 number_fits (kinds.Bool ∷ r) s f = tt
 
 -- a value that may be absent is short where it is there
-empty_short : (most : ℕ) (o : Option (List ℕ)) → MatchOption o (Unit {0}) (λ value. length value ≤ most) → length (or_empty o) ≤ most
+empty_short : (most : ℕ) (o : Option (List ℕ)) → IfSome o (λ value. length value ≤ most) → length (or_empty o) ≤ most
 empty_short most None h = omega arith
 empty_short most (Some value) h = h
 
@@ -137,17 +137,17 @@ type_short (Some (n ∷ [])) h = omega (arith, h.1)
 type_short (Some (n ∷ m ∷ bytes)) h = absurd h
 
 -- the value of a field fits the field's kind
-field_fits : (m : Seen) → IsMessage m → (field : Field) → FitsKind (field_kind field) (value_of_field m field)
-field_fits m is fields.Mac = let e = length-take (min m.header.hlen 16) m.header.chaddr in omega (arith, e)
-field_fits m is fields.Hlen = let h = header_short m is in omega (arith, h.1)
-field_fits m is fields.Htype = let h = header_short m is in omega (arith, h.0)
-field_fits m is fields.Ciaddr = omega arith
-field_fits m is fields.Giaddr = omega arith
-field_fits m is fields.Yiaddr = omega arith
-field_fits m is fields.Siaddr = omega arith
-field_fits m is fields.MessageType = type_short (value_of 53 m.options) is.reads.readable.kind
-field_fits m is fields.Transaction = let h = header_short m is in h.2
-field_fits m is fields.Length = let h = len_short m is in omega (arith, h)
+field_fits : (m : Seen) → HasSizes m → (field : Field) → FitsKind (field_kind field) (value_of_field m field)
+field_fits m sizes fields.Mac = let e = length-take (min m.header.hlen 16) m.header.chaddr in omega (arith, e)
+field_fits m sizes fields.Hlen = let byte = sizes.fields.hlen in omega (arith, byte)
+field_fits m sizes fields.Htype = let byte = sizes.fields.htype in omega (arith, byte)
+field_fits m sizes fields.Ciaddr = omega arith
+field_fits m sizes fields.Giaddr = omega arith
+field_fits m sizes fields.Yiaddr = omega arith
+field_fits m sizes fields.Siaddr = omega arith
+field_fits m sizes fields.MessageType = type_short (value_of 53 m.options) sizes.kind
+field_fits m sizes fields.Transaction = sizes.fields.xid
+field_fits m sizes fields.Length = let most = sizes.datagram in omega (arith, most)
 
 member_fits : (names held : List (List ℕ)) (index : ℕ) (r : List Kind) (s : List Val) → Fits r s
     → Down Fits (if nat_lt index (length names) then Some (kinds.Bool ∷ r) else None) (slice_get names index >>= λ name. Some (Truth (is_held name held) ∷ s))
@@ -163,42 +163,41 @@ choice_short : (b : Bool) (x y : List ℕ) (n m : ℕ) → length x ≤ n → le
 choice_short true x y n m le less = omega (arith, le)
 choice_short false x y n m le less = omega (arith, less)
 
--- a truth value that is taken leaves what the shape has below it
 -- what a token gives to values fits what it gives to a shape that they fit
-pub rule_fits : (w : World) (version : Version) (behind : ℕ) (token : Token) (r : List Kind) (s : List Val) → IsMessage w.message → IsToken version behind token → Fits r s → Down Fits (gives (length w.names) token r) (rule w token s)
+pub rule_fits : (w : World) (version : Version) (behind : ℕ) (token : Token) (r : List Kind) (s : List Val) → HasSizes w.message → IsToken version behind token → Fits r s → Down Fits (gives (length w.names) token r) (rule w token s)
 unfolding gives rule
-rule_fits w version behind (tokens.PushBytes bytes) r s is token f = (omega arith, f)
-rule_fits w version behind (tokens.PushInt number) r s is token f = (token, f)
-rule_fits w version behind (tokens.PushOption code) r s is token f = (empty_short 4096 (option_in w code) (value_short w.message is code), f)
-rule_fits w version behind (tokens.PushRelay code) r s is token f = (empty_short 255 (relay_in w code) (relay_short w.message is code), f)
-rule_fits w version behind (tokens.PushField field) r s is token f = (field_fits w.message is field, f)
-rule_fits w version behind (tokens.OptionExists code) r s is token f = (tt, f)
-rule_fits w version behind (tokens.RelayExists code) r s is token f = (tt, f)
-rule_fits w version behind (tokens.Member index) r s is token f = member_fits w.names w.held index r s f
-rule_fits w version behind tokens.Equal r s is token f =
+rule_fits w version behind (tokens.PushBytes bytes) r s sizes token f = (omega arith, f)
+rule_fits w version behind (tokens.PushInt number) r s sizes token f = (token, f)
+rule_fits w version behind (tokens.PushOption code) r s sizes token f = (empty_short 4096 (option_in w code) (sizes.option code), f)
+rule_fits w version behind (tokens.PushRelay code) r s sizes token f = (empty_short 255 (relay_in w code) (sizes.sub_option code), f)
+rule_fits w version behind (tokens.PushField field) r s sizes token f = (field_fits w.message sizes field, f)
+rule_fits w version behind (tokens.OptionExists code) r s sizes token f = (tt, f)
+rule_fits w version behind (tokens.RelayExists code) r s sizes token f = (tt, f)
+rule_fits w version behind (tokens.Member index) r s sizes token f = member_fits w.names w.held index r s f
+rule_fits w version behind tokens.Equal r s sizes token f =
     bind_down TextFits Fits _ _ _ _ (text_fits r s f) (λ x y d. bind_down TextFits Fits _ _ _ _ (text_fits x.1 y.1 d.1) (λ u v e. (tt, e.1)))
-rule_fits w version behind tokens.Not r s is token f = bind_down TruthFits Fits _ _ _ _ (truth_fits r s f) (λ x y d. (tt, d))
-rule_fits w version behind tokens.And r s is token f =
+rule_fits w version behind tokens.Not r s sizes token f = bind_down TruthFits Fits _ _ _ _ (truth_fits r s f) (λ x y d. (tt, d))
+rule_fits w version behind tokens.And r s sizes token f =
     bind_down TruthFits Fits _ _ _ _ (truth_fits r s f) (λ x y d. bind_down TruthFits Fits _ _ _ _ (truth_fits x y.1 d) (λ u v e. (tt, e)))
-rule_fits w version behind tokens.Or r s is token f =
+rule_fits w version behind tokens.Or r s sizes token f =
     bind_down TruthFits Fits _ _ _ _ (truth_fits r s f) (λ x y d. bind_down TruthFits Fits _ _ _ _ (truth_fits x y.1 d) (λ u v e. (tt, e)))
-rule_fits w version behind tokens.IfElse r s is token f =
+rule_fits w version behind tokens.IfElse r s sizes token f =
     bind_down TextFits Fits _ _ _ _ (text_fits r s f) (λ x y d. bind_down TextFits Fits _ _ _ _ (text_fits x.1 y.1 d.1) (λ u v e.
     bind_down TruthFits Fits _ _ _ _ (truth_fits u.1 v.1 e.1) (λ p q g. (choice_short q.0 v.0 y.0 u.0 x.0 e.0 d.0, g))))
-rule_fits w version behind (tokens.Substring start count) r s is token f =
+rule_fits w version behind (tokens.Substring start count) r s sizes token f =
     bind_down TextFits Fits _ _ _ _ (text_fits r s f) (λ x y d. (substring_short start count y.0 x.0 d.0, d.1))
-rule_fits w version behind tokens.Concat r s is token f =
+rule_fits w version behind tokens.Concat r s sizes token f =
     bind_down TextFits Fits _ _ _ _ (text_fits r s f) (λ x y d. bind_down TextFits Fits _ _ _ _ (text_fits x.1 y.1 d.1) (λ u v e. (let n = length-append v.0 y.0 in omega (arith, n, d.0, e.0), e.1)))
-rule_fits w version behind tokens.HexString r s is token f =
+rule_fits w version behind tokens.HexString r s sizes token f =
     bind_down TextFits Fits _ _ _ _ (text_fits r s f) (λ x y d. bind_down TextFits Fits _ _ _ _ (text_fits x.1 y.1 d.1) (λ u v e. (hex_short y.0 v.0 u.0 x.0 e.0 d.0, e.1)))
-rule_fits w version behind tokens.Lower r s is token f =
+rule_fits w version behind tokens.Lower r s sizes token f =
     bind_down TextFits Fits _ _ _ _ (text_fits r s f) (λ x y d. (let n = length-map y.0 to_ascii_lowercase in omega (arith, n, d.0), d.1))
-rule_fits w version behind tokens.Upper r s is token f =
+rule_fits w version behind tokens.Upper r s sizes token f =
     bind_down TextFits Fits _ _ _ _ (text_fits r s f) (λ x y d. (let n = length-map y.0 to_ascii_uppercase in omega (arith, n, d.0), d.1))
-rule_fits w version behind tokens.IntToText r s is token f =
+rule_fits w version behind tokens.IntToText r s sizes token f =
     bind_down NumberFits Fits _ _ _ _ (number_fits r s f) (λ x y d. (length-decimal-le 10 y.0 (omega arith) (omega (arith, d.0)) (omega (arith, d.0)), d.1))
-rule_fits w version behind tokens.IntBytes r s is token f = bind_down NumberFits Fits _ _ _ _ (number_fits r s f) (λ x y d. (omega arith, d.1))
-rule_fits w version behind (tokens.Branch skip) r s is token f = tt
-rule_fits w version behind (tokens.PopBranchFalse skip) r s is token f = tt
-rule_fits w version behind (tokens.BranchFalseElsePop skip) r s is token f = tt
-rule_fits w version behind (tokens.BranchTrueElsePop skip) r s is token f = tt
+rule_fits w version behind tokens.IntBytes r s sizes token f = bind_down NumberFits Fits _ _ _ _ (number_fits r s f) (λ x y d. (omega arith, d.1))
+rule_fits w version behind (tokens.Branch skip) r s sizes token f = tt
+rule_fits w version behind (tokens.PopBranchFalse skip) r s sizes token f = tt
+rule_fits w version behind (tokens.BranchFalseElsePop skip) r s sizes token f = tt
+rule_fits w version behind (tokens.BranchTrueElsePop skip) r s sizes token f = tt

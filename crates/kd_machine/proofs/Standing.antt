@@ -5,18 +5,18 @@ use Rattle.std.specs.Bool.{beq}
 use Rattle.std.specs.Prelude.{if◌then◌else◌, slice_get, MatchOption}
 use Rattle.std.specs.List.{AllByRecursion}
 use Rattle.std.proofs.lemmas.Option.{slice_get_within}
-use Rattle.kd_options.specs.Message.{Seen, IsMessage}
+use Rattle.kd_options.specs.Laws.{HasSizes}
+use Rattle.kd_options.specs.Message.{Seen}
 use Rattle.kd_token.specs.Accepts.{Accepts, Point, Flow, flow_to, way_of, flows_by, flows, leaving, origin, IsCovered, IsWithin}
-use Rattle.kd_token.specs.File.{Code, HasFile}
+use Rattle.kd_token.specs.File.{Code}
+use Rattle.kd_token.specs.Laws.{TokensStandIn}
 use Rattle.kd_wire.specs.Steps.{◌>>=◌}
 use Rattle.kd_token.specs.Shape.{Covers, CoversKind, AreShort, IsShortKind, gives, bool_taken}
-use Rattle.kd_token.specs.Table.{skip_of}
 use Rattle.kd_token.specs.declared.shape.Kind.{Kind}
 use Rattle.kd_token.specs.declared.shape.Kind.TheVariants as kinds
 use Rattle.kd_token.specs.declared.token.Token.{Token}
 use Rattle.kd_token.specs.declared.way.Way.{Way}
 use Rattle.kd_token.specs.declared.way.Way.TheVariants as routes
-use Rattle.kd_token.proofs.Tidy.{is_token, reach_within}
 use Rattle.kd_machine.specs.Val.{Val, Truth, Number, Text, size, longest}
 use Rattle.kd_machine.specs.Values.{take_truth}
 use Rattle.kd_machine.specs.World.{World, world}
@@ -106,54 +106,52 @@ module _ (p : Code) (w : World) (a : Accepts p) (i n : ℕ) (token : Token) (x :
   abbrev Enters : Option (List Flow) → Type 0
   Enters o = (j : ℕ) → j ≤ length p.tokens → MatchOption o (Unit {0}) (AllByRecursion (λ f. f.to ≡ j → IsCovered (a.0 j) f.point))
 
+  -- and lead to places of the program
+  abbrev Stays : Option (List Flow) → Type 0
+  Stays o = MatchOption o (Unit {0}) (AllByRecursion (λ f. (i + 1 ≤ f.to) × (f.to ≤ length p.tokens)))
+
   -- what stands after the step
   abbrev Moved : Option (ℕ × List Val) → Type 0
   Moved o = MatchOption o ⊥ (λ r. StandsAt p r.0 (n + 1) r.1)
 
-  moved_on : (g : Option (List Kind)) (t : Option (List Val)) → i + 1 ≤ length p.tokens → Down Fits g t → Leaves (g >>= λ r. Some (flow_to (i + 1) x r ∷ [])) → Enters (g >>= λ r. Some (flow_to (i + 1) x r ∷ [])) → Moved (t >>= λ u. Some (i + 1, u))
-  moved_on None t place d l e = absurd l
-  moved_on (Some r) None place d l e = absurd d
-  moved_on (Some r) (Some u) place d l e = flow_stands p a n (flow_to (i + 1) x r) u place (omega (arith, counted)) ((e (i + 1) place).0 refl) l.0 d
+  moved_on : (g : Option (List Kind)) (t : Option (List Val)) → Stays (g >>= λ r. Some (flow_to (i + 1) x r ∷ [])) → Down Fits g t → Leaves (g >>= λ r. Some (flow_to (i + 1) x r ∷ [])) → Enters (g >>= λ r. Some (flow_to (i + 1) x r ∷ [])) → Moved (t >>= λ u. Some (i + 1, u))
+  moved_on None t stays d l e = absurd l
+  moved_on (Some r) None stays d l e = absurd d
+  moved_on (Some r) (Some u) stays d l e = let place = stays.0.1 in flow_stands p a n (flow_to (i + 1) x r) u place (omega (arith, counted)) ((e (i + 1) place).0 refl) l.0 d
 
-  moved_fork : (skip : ℕ) (g : Option (List Kind)) (t : Option (Bool × List Val)) → i + 1 + skip ≤ length p.tokens → Down TruthFits g t → Leaves (g >>= λ r. Some (flow_to (i + 1 + skip) x r ∷ flow_to (i + 1) x r ∷ [])) → Enters (g >>= λ r. Some (flow_to (i + 1 + skip) x r ∷ flow_to (i + 1) x r ∷ []))
+  moved_fork : (skip : ℕ) (g : Option (List Kind)) (t : Option (Bool × List Val)) → Stays (g >>= λ r. Some (flow_to (i + 1 + skip) x r ∷ flow_to (i + 1) x r ∷ [])) → Down TruthFits g t → Leaves (g >>= λ r. Some (flow_to (i + 1 + skip) x r ∷ flow_to (i + 1) x r ∷ [])) → Enters (g >>= λ r. Some (flow_to (i + 1 + skip) x r ∷ flow_to (i + 1) x r ∷ []))
       → Moved (t >>= λ b. Some (if b.0 then i + 1 else i + 1 + skip, b.1))
-  moved_fork skip None t place d l e = absurd l
-  moved_fork skip (Some r) None place d l e = absurd d
-  moved_fork skip (Some r) (Some (true, u)) place d l e =
-      let near : i + 1 ≤ length p.tokens = omega (arith, place) in
-      flow_stands p a n (flow_to (i + 1) x r) u near (omega (arith, counted)) ((e (i + 1) near).1.0 refl) l.1.0 d
-  moved_fork skip (Some r) (Some (false, u)) place d l e =
-      flow_stands p a n (flow_to (i + 1 + skip) x r) u place (omega (arith, counted)) ((e (i + 1 + skip) place).0 refl) l.0 d
+  moved_fork skip None t stays d l e = absurd l
+  moved_fork skip (Some r) None stays d l e = absurd d
+  moved_fork skip (Some r) (Some (true, u)) stays d l e = let near = stays.1.0.1 in flow_stands p a n (flow_to (i + 1) x r) u near (omega (arith, counted)) ((e (i + 1) near).1.0 refl) l.1.0 d
+  moved_fork skip (Some r) (Some (false, u)) stays d l e = let place = stays.0.1 in flow_stands p a n (flow_to (i + 1 + skip) x r) u place (omega (arith, counted)) ((e (i + 1 + skip) place).0 refl) l.0 d
 
-  moved_keep : (stays : Bool) (skip : ℕ) (g : Option (List Kind)) (t : Option (Bool × List Val)) → i + 1 + skip ≤ length p.tokens → Down TruthFits g t → Leaves (g >>= λ r. Some (flow_to (i + 1 + skip) x (kinds.Bool ∷ r) ∷ flow_to (i + 1) x r ∷ [])) → Enters (g >>= λ r. Some (flow_to (i + 1 + skip) x (kinds.Bool ∷ r) ∷ flow_to (i + 1) x r ∷ []))
-      → Moved (t >>= λ b. Some (if beq stays b.0 then (i + 1 + skip, Truth b.0 ∷ b.1) else (i + 1, b.1)))
-  moved_keep stays skip None t place d l e = absurd l
-  moved_keep stays skip (Some r) None place d l e = absurd d
-  moved_keep stays skip (Some r) (Some (b, u)) place d l e = by (beq stays b) where
-    near : i + 1 ≤ length p.tokens
-    near = omega (arith, place)
-
+  moved_keep : (kept : Bool) (skip : ℕ) (g : Option (List Kind)) (t : Option (Bool × List Val)) → Stays (g >>= λ r. Some (flow_to (i + 1 + skip) x (kinds.Bool ∷ r) ∷ flow_to (i + 1) x r ∷ [])) → Down TruthFits g t → Leaves (g >>= λ r. Some (flow_to (i + 1 + skip) x (kinds.Bool ∷ r) ∷ flow_to (i + 1) x r ∷ [])) → Enters (g >>= λ r. Some (flow_to (i + 1 + skip) x (kinds.Bool ∷ r) ∷ flow_to (i + 1) x r ∷ []))
+      → Moved (t >>= λ b. Some (if beq kept b.0 then (i + 1 + skip, Truth b.0 ∷ b.1) else (i + 1, b.1)))
+  moved_keep kept skip None t stays d l e = absurd l
+  moved_keep kept skip (Some r) None stays d l e = absurd d
+  moved_keep kept skip (Some r) (Some (b, u)) stays d l e = by (beq kept b) where
     by : (same : Bool) → Moved (Some (if same then (i + 1 + skip, Truth b ∷ u) else (i + 1, u)))
-    by true = flow_stands p a n (flow_to (i + 1 + skip) x (kinds.Bool ∷ r)) (Truth b ∷ u) place (omega (arith, counted)) ((e (i + 1 + skip) place).0 refl) l.0 (tt, d)
-    by false = flow_stands p a n (flow_to (i + 1) x r) u near (omega (arith, counted)) ((e (i + 1) near).1.0 refl) l.1.0 d
+    by true = let place = stays.0.1 in flow_stands p a n (flow_to (i + 1 + skip) x (kinds.Bool ∷ r)) (Truth b ∷ u) place (omega (arith, counted)) ((e (i + 1 + skip) place).0 refl) l.0 (tt, d)
+    by false = let near = stays.1.0.1 in flow_stands p a n (flow_to (i + 1) x r) u near (omega (arith, counted)) ((e (i + 1) near).1.0 refl) l.1.0 d
 
-  moved_by : (way : Way) → i + 1 + skip_of way ≤ length p.tokens → Down Fits (gives (length p.names) token x.shape) (rule w token s) → Leaves (flows_by way (length p.names) token i x) → Enters (flows_by way (length p.names) token i x) → Moved (moves_by way w token i s)
-  moved_by routes.On place d l e = moved_on (gives (length p.names) token x.shape) (rule w token s) (omega (arith, place)) d l e
-  moved_by (routes.Skip skip) place d l e = flow_stands p a n (flow_to (i + 1 + skip) x x.shape) s place (omega (arith, counted)) ((e (i + 1 + skip) place).0 refl) l.0 fits
-  moved_by (routes.Fork skip) place d l e = moved_fork skip (bool_taken x.shape) (take_truth s) place (truth_fits x.shape s fits) l e
-  moved_by (routes.Keep stays skip) place d l e = moved_keep stays skip (bool_taken x.shape) (take_truth s) place (truth_fits x.shape s fits) l e
+  moved_by : (way : Way) → Stays (flows_by way (length p.names) token i x) → Down Fits (gives (length p.names) token x.shape) (rule w token s) → Leaves (flows_by way (length p.names) token i x) → Enters (flows_by way (length p.names) token i x) → Moved (moves_by way w token i s)
+  moved_by routes.On stays d l e = moved_on (gives (length p.names) token x.shape) (rule w token s) stays d l e
+  moved_by (routes.Skip skip) stays d l e = let place = stays.0.1 in flow_stands p a n (flow_to (i + 1 + skip) x x.shape) s place (omega (arith, counted)) ((e (i + 1 + skip) place).0 refl) l.0 fits
+  moved_by (routes.Fork skip) stays d l e = moved_fork skip (bool_taken x.shape) (take_truth s) stays (truth_fits x.shape s fits) l e
+  moved_by (routes.Keep kept skip) stays d l e = moved_keep kept skip (bool_taken x.shape) (take_truth s) stays (truth_fits x.shape s fits) l e
 
 -- a step goes on from where values stand
-pub stands_moves : (p : Code) (message : Seen) (held : List (List ℕ)) (i n : ℕ) (s : List Val) (token : Token) → HasFile p → IsMessage message → StandsAt p i n s → slice_get p.tokens i ≡ Some token → MatchOption (moves (world p message held) token i s) ⊥ (λ r. StandsAt p r.0 (n + 1) r.1)
-stands_moves p message held i n s token file is st there =
+pub stands_moves : (p : Code) (message : Seen) (held : List (List ℕ)) (i n : ℕ) (s : List Val) (token : Token) → TokensStandIn p → HasSizes message → StandsAt p i n s → slice_get p.tokens i ≡ Some token → MatchOption (moves (world p message held) token i s) ⊥ (λ r. StandsAt p r.0 (n + 1) r.1)
+stands_moves p message held i n s token stand sizes st there =
     let names : ℕ = length p.names in
     let a = st.assigned in
-    let of_file = is_token p i token file there in
+    let told = stand i token there in
     let less : i < length p.tokens = slice_get_within p.tokens i token there in
     let here : leaving (length p.names) (slice_get p.tokens i) i (a.0 i) ≡ flows (length p.names) token i st.point =
     ap (λ o. leaving (length p.names) o i (a.0 i)) there ∙ ap (leaving (length p.names) (Some token) i) st.known in
     let L : Option (List Flow) → Type 0 = λ o. MatchOption o ⊥ (AllByRecursion (IsWithin p)) in
-    moved_by p (world p message held) a i n token st.point s st.counted st.fits (way_of token) (reach_within p i token file there) (rule_fits (world p message held) p.version of_file.0 token st.point.shape s is of_file.2 st.fits)
+    moved_by p (world p message held) a i n token st.point s st.counted st.fits (way_of token) (told.leads st.point) (rule_fits (world p message held) p.version told.left token st.point.shape s sizes told.is st.fits)
     (subst L here (a.1 i (omega (arith, less))).leave)
     (λ j le. let E : Option (List Flow) → Type 0 = λ o. MatchOption o (Unit {0}) (AllByRecursion (λ f. f.to ≡ j → IsCovered (a.0 j) f.point)) in subst E here ((a.1 j (omega (arith, le))).enter i))
 

@@ -1,5 +1,5 @@
 -- What a program runs over: a message, its own names, the names held.
-use Rattle.std.specs.Prelude.{ℕ, nat_eq, Bool, List, [], ◌∷◌, Option, Some, None}
+use Rattle.std.specs.Prelude.{ℕ, nat_eq, List, Option}
 use Rattle.std.specs.Map.{lookup}
 use Rattle.byteorder.specs.Endian.{big_bytes}
 use Rattle.kd_options.specs.Joined.{value_of}

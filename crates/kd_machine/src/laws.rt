@@ -1,12 +1,15 @@
 //! What is true of each run, whatever the program does: each law is the contract of a function that
-//! does nothing.
+//! does nothing but name the laws it rests on.
 ghost use Rattle.kd_machine.specs.Laws.{AcceptedEnds, HasOneEnd};
 
 /// Every accepted program has a run over every message and every list of held names, within the
 /// steps, the depth and the value length that it declares.
 pub fn accepted_ends()
     ensures { AcceptedEnds }
-{}
+{
+    kd_token::laws::tokens_stand();
+    kd_options::laws::messages_have_sizes();
+}
 
 /// A program has one run over a message and a list of held names: its truth value, its steps and
 /// its peaks.

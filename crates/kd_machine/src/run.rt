@@ -70,8 +70,11 @@ fn within<'a, const ROOM: usize>(
 {
     let program = verified.program();
     let tokens = program.tokens();
-    // what the bounds of a message's values are comes with its length
+    // that some datagram reads as the message comes with its length
     let _size = message.len();
+    // where tokens lead, and how long the values of a message are
+    kd_token::laws::tokens_stand();
+    kd_options::laws::messages_have_sizes();
     let mut at = 0;
     let mut steps = 0;
     let mut peak_depth = 0usize;

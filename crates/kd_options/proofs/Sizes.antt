@@ -165,14 +165,6 @@ four_short xs a =
     let b3 = byte_at xs 3 a in
     omega (arith, b0, b1, b2, b3)
 
--- the numbers of a message's header that a class test can ask for are of one byte, and of four
-pub header_short : (m : Seen) → IsMessage m → (m.header.htype < 256) × (m.header.hlen < 256) × (m.header.xid < 2 ^ 32)
-unfolding header_of
-header_short m is =
-    let e = header_is is.datagram m.header is.reads.header in
-    let P : Header → Type 0 = λ h. (h.htype < 256) × (h.hlen < 256) × (h.xid < 2 ^ 32) in
-    subst P e (byte_at is.datagram 1 is.bytes_are, byte_at is.datagram 2 is.bytes_are, four_short (bytes_at 4 4 is.datagram) (range_bytes 4 4 is.datagram is.bytes_are))
-
 -- bytes at an offset are a field
 field_at : (i n : ℕ) (bytes : List ℕ) → AreBytes bytes → i + n ≤ length bytes → IsField n (bytes_at i n bytes)
 field_at i n bytes a le = record {
@@ -233,7 +225,7 @@ value_is m is code =
     subst P (sym is.reads.options.joins) (looked_up IsValue code is.reads.options.pieces (codes is.reads.options.pieces) (λ c. let h = joined_holds c is.reads.options.pieces hold.1 in (omega (arith, h.0, hold.0), h.1)))
 
 -- an option of a message has at most 4,096 bytes
-pub value_short : (m : Seen) → IsMessage m → (code : ℕ) → IfSome (value_of code m.options) (λ value. length value ≤ 4096)
+value_short : (m : Seen) → IsMessage m → (code : ℕ) → IfSome (value_of code m.options) (λ value. length value ≤ 4096)
 value_short m is code = by (value_of code m.options) (value_is m is code) where
   by : (o : Option (List ℕ)) → MatchOption o (Unit {0}) IsValue → IfSome o (λ value. length value ≤ 4096)
   by None h = tt
@@ -250,7 +242,7 @@ subs_short zero (c ∷ n ∷ bytes) code a = by (nat_eq code c) (subs_short n by
   by false rest = rest
 
 -- a sub-option of a message's relay information has at most 255 bytes
-pub relay_short : (m : Seen) → IsMessage m → (code : ℕ) → IfSome (lookup (nat_eq code) (relay_list m.options)) (λ value. length value ≤ 255)
+relay_short : (m : Seen) → IsMessage m → (code : ℕ) → IfSome (lookup (nat_eq code) (relay_list m.options)) (λ value. length value ≤ 255)
 relay_short m is code = by (value_of 82 m.options) (value_is m is 82) where
   by : (o : Option (List ℕ)) → MatchOption o (Unit {0}) IsValue → MatchOption (lookup (nat_eq code) (sub_options_in o)) (Unit {0}) (λ value. length value ≤ 255)
   by None h = tt
