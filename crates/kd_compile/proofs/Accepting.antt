@@ -10,7 +10,7 @@ use Rattle.kd_compile.specs.Measures.{token_count as size}
 use Rattle.kd_compile.specs.Tokens.{index_of, token_field, code_of, program_for}
 use Rattle.kd_compile.proofs.Fits.{operand, code_length, operand_length}
 use Rattle.kd_compile.proofs.Rows.{has_front, has_back, has_itself}
-use Rattle.kd_compile.proofs.Pieces.{known_covered, Goes, Leads, GoesOn, Piece, piece_last, piece_front, piece_then, piece_over, piece_counted, covered_through}
+use Rattle.kd_compile.proofs.Pieces.{known_covered, Goes, Leads, GoesOn, Piece, piece_last, piece_front, piece_then, piece_over, piece_counted, covered_shorter, covered_sooner}
 use Rattle.kd_compile.proofs.Places.{Knows, names_known}
 use Rattle.kd_compile.proofs.Typed.{kind_of, IsTruth, IsBytes, IsWell, well_of}
 use Rattle.kd_expr.specs.Tree.{Tree, Literal, Int, OptionValue, RelayValue, FieldValue, OptionExists, RelayExists, Member, Equal, Not, And, Or, Group, Concat, IfElse, Substring, HexString, Lower, Upper, IntToText}
@@ -27,7 +27,6 @@ use Rattle.kd_token.specs.declared.shape.Kind.{Kind}
 use Rattle.kd_token.specs.declared.shape.Kind.TheVariants as kinds
 use Rattle.kd_token.specs.declared.token.Token.{Token}
 use Rattle.kd_token.specs.declared.token.Token.TheVariants as tokens
-use Rattle.kd_token.proofs.Down.{covers_itself}
 
 -- the point before the token after an operand where a byte string is wanted
 abbrev bytes_points : Tree → List Kind → ℕ → List Point
@@ -204,7 +203,7 @@ keep_piece p a b token is_a is_b goes pieces_a pieces_b s c short deep =
     let length_is = code_length p.names b in
     let C : ℕ → Type 0 = λ n. IsCovered (f n) (point (kinds.Bool ∷ s) (d + 1 + step_count b)) in
     let place : i + 1 + length (code_of p.names b) ≡ i + 1 + size b = omega (arith, length_is) in
-    let kept = covered_through (f (i + 1 + size b)) (point (kinds.Bool ∷ s) (d + 1 + step_count b)) (point (kinds.Bool ∷ s) (d + 1)) (subst C place end) (covers_itself (kinds.Bool ∷ s), omega arith) in
+    let kept = covered_sooner (f (i + 1 + size b)) (kinds.Bool ∷ s) (d + 1 + step_count b) (d + 1) (omega arith) (subst C place end) in
     let next = known_covered (f (i + 1)) (point s (d + 1)) (second.first f (i + 1) h) in
     goes s d f i (first.room, kept) ((omega (arith, few), short), next)) in
     piece_counted p (point s c) _ _ (kinds.Bool ∷ s) (d + 1 + step_count b) (c + (step_count a + 1 + step_count b)) (omega arith) (piece_then p (point s c) (point (kinds.Bool ∷ s) d) _ _ _ _ _ first branch)
@@ -218,12 +217,12 @@ arm_piece p a b is_a is_b g h pieces_a pieces_b s c short deep =
     let first = operand_piece p a is_a g pieces_a s c short (omega (arith, deep)) in
     let second = operand_piece p b is_b h pieces_b s c short (omega (arith, deep)) in
     let room : IsRoomFor p end_point.shape = (first.room.0, (omega (arith, bound_le a, bound_le b, g, h), short)) in
-    let wide = piece_over p (point s c) (behind b s c) end_point (operand p.names b) (points_of b s c ++ bytes_points b s c) room ((omega arith, covers_itself s), omega arith) second in
+    let wide = piece_over p (point s c) (behind b s c) end_point (operand p.names b) (points_of b s c ++ bytes_points b s c) room (λ o. covered_shorter o (max (bound a) (bound b)) (bound b) s end_point.count (c + (step_count b + four_more b)) (omega arith) (omega arith)) second in
     let branch = piece_front p (behind a s c) (tokens.Branch (size b + four_more b)) (point s c) end_point (operand p.names b) (points_of b s c ++ bytes_points b s c) wide (λ f i known end.
     let length_is = operand_length p.names b in
     let C : ℕ → Type 0 = λ n. IsCovered (f n) end_point in
     let place : i + 1 + length (operand p.names b) ≡ i + 1 + (size b + four_more b) = omega (arith, length_is) in
-    let past = covered_through (f (i + 1 + (size b + four_more b))) end_point (point (behind a s c).shape ((behind a s c).count + 1)) (subst C place end) ((omega arith, covers_itself s), omega arith) in
+    let past = covered_shorter (f (i + 1 + (size b + four_more b))) (max (bound a) (bound b)) (bound a) s end_point.count ((behind a s c).count + 1) (omega arith) (omega arith) (subst C place end) in
     ((first.room, past), tt)) in
     piece_then p (point s c) (behind a s c) end_point _ _ _ _ first branch
 

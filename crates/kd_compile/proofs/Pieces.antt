@@ -7,16 +7,35 @@ use Rattle.std.proofs.lemmas.Bool.{cases_lt}
 use Rattle.kd_token.specs.Accepts.{Point, Flow, Assignment, leaving, flows, out, IsCovered, IsWithin}
 use Rattle.kd_token.specs.File.{Code}
 use Rattle.kd_token.specs.Table.{point, IsRoomFor}
+use Rattle.kd_token.specs.Shape.{Covers, CoversKind}
 use Rattle.kd_token.specs.declared.shape.Kind.{Kind}
+use Rattle.kd_token.specs.declared.shape.Kind.TheVariants as kinds
 use Rattle.kd_token.specs.declared.token.Token.{Token}
 use Rattle.kd_compile.proofs.Rows.{HasAt, has_at_same, has_front, has_back}
-use Rattle.kd_token.proofs.Arrivals.{covers_trans}
-use Rattle.kd_token.proofs.Down.{covers_itself}
 
--- what covers a point covers what that covers
-pub covered_through : (o : Option Point) (x y : Point) → IsCovered o x → IsCovered (Some x) y → IsCovered o y
-covered_through None x y c d = absurd c
-covered_through (Some z) x y c d = (covers_trans z.shape x.shape y.shape c.0 d.0, omega (arith, c.1, d.1))
+kind_covers : (k : Kind) → CoversKind k k
+kind_covers kinds.Bool = tt
+kind_covers kinds.Int = tt
+kind_covers (kinds.Bytes n) = omega arith
+
+covers_itself : (s : List Kind) → Covers s s
+covers_itself [] = tt
+covers_itself (k ∷ s) = (kind_covers k, covers_itself s)
+
+-- what covers a point covers one with fewer steps
+pub covered_sooner : (o : Option Point) (s : List Kind) (m n : ℕ) → n ≤ m → IsCovered o (point s m) → IsCovered o (point s n)
+covered_sooner None s m n le c = absurd c
+covered_sooner (Some z) s m n le c = (c.0, omega (arith, c.1, le))
+
+-- and one with a shorter byte string on top too
+pub covered_shorter : (o : Option Point) (a b : ℕ) (s : List Kind) (m n : ℕ) → b ≤ a → n ≤ m → IsCovered o (point (kinds.Bytes a ∷ s) m) → IsCovered o (point (kinds.Bytes b ∷ s) n)
+covered_shorter None a b s m n short le c = absurd c
+covered_shorter (Some z) a b s m n short le c = (by z.shape c.0, omega (arith, c.1, le)) where
+  by : (r : List Kind) → Covers r (kinds.Bytes a ∷ s) → Covers r (kinds.Bytes b ∷ s)
+  by [] d = absurd d
+  by (kinds.Bytes most ∷ r) d = (omega (arith, d.0, short), d.1)
+  by (kinds.Bool ∷ r) d = absurd d.0
+  by (kinds.Int ∷ r) d = absurd d.0
 
 -- a place that knows a point covers it
 pub known_covered : (o : Option Point) (x : Point) → o ≡ Some x → IsCovered o x
@@ -97,13 +116,13 @@ piece_then p q x y ts us qs rs piece next = record {
       by (cases_lt j (i + length ts));
 }
 
--- a piece whose end is covered by another point
-pub piece_over : (p : Code) (q x y : Point) (ts : List Token) (qs : List Point) → IsRoomFor p y.shape → IsCovered (Some y) x → Piece p q ts qs x → Piece p q ts qs y
+-- the same piece before another point, where what covers that covers the piece's own
+pub piece_over : (p : Code) (q x y : Point) (ts : List Token) (qs : List Point) → IsRoomFor p y.shape → ((o : Option Point) → IsCovered o y → IsCovered o x) → Piece p q ts qs x → Piece p q ts qs y
 piece_over p q x y ts qs room over piece = record {
   size = piece.size;
   room = room;
   first = piece.first;
-  leads = λ a i t h end j low high. piece.leads a i t h (covered_through (a (i + length ts)) y x end over) j low high;
+  leads = λ a i t h end j low high. piece.leads a i t h (over (a (i + length ts)) end) j low high;
 }
 
 -- the same piece, its steps counted in another way
