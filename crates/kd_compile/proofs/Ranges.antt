@@ -1,14 +1,14 @@
 -- The numbers of a class test that has a text: what its nodes hold, and how many tokens its program has.
-use Rattle.std.proofs.Common.{◌≡◌, ℕ, zero, suc, ◌+◌, ◌*◌, ◌≤◌, ◌<◌, ◌^◌, Bool, true, false, List, ◌∷◌, length, Option, arith, length-append, ap}
+use Rattle.std.proofs.Common.{ℕ, zero, suc, ◌+◌, ◌*◌, ◌≤◌, ◌<◌, ◌^◌, Bool, true, false, List, ◌∷◌, ◌++◌, length, Option, arith, length-append}
 use Rattle.std.specs.Prelude.{ℤ, if◌then◌else◌}
 use Rattle.std.specs.Int.{w32}
 use Rattle.std.specs.Int.RustNames.{FitsSigned}
 use Rattle.kd_compile.specs.Measures.{number_tree, four_more, step_count, stack_depth}
 use Rattle.kd_compile.specs.Measures.{token_count as size}
 use Rattle.kd_expr.specs.Grammar.{Spells, Level, or_one, or_more, and_one, and_more, not_none, negated, compare_one, equal, sum_one, sum_more, string, hexadecimal, address, number, group, option_hex, option_exists, relay_hex, relay_exists, field, packet_length, member, substring, concat, ifelse, hexstring, lcase, ucase, uint32totext, IsSigned, plain, below, IsLength, counted, whole, HasText}
-use Rattle.kd_expr.specs.Lexical.{Lexeme, Scans, finished, blank, token}
+use Rattle.kd_expr.specs.Address.{IsAddress, four}
+use Rattle.kd_expr.specs.Lexical.{Lexeme, Scans, finished, blank, token, Word, string_word, hex_word, address_word, number_word, minus_word, name_word, sign_word, equal_word}
 use Rattle.kd_expr.specs.Tree.{Tree, Literal, Int, OptionValue, RelayValue, FieldValue, OptionExists, RelayExists, Member, Equal, Not, And, Or, Group, Concat, IfElse, Substring, HexString, Lower, Upper, IntToText}
-use Rattle.kd_expr.proofs.Words.{word_starts}
 use Rattle.kd_token.specs.File.{IsName, IsCount}
 
 -- each number, name and substring of a tree is one that a token can hold
@@ -116,13 +116,24 @@ size_le (lcase c {a = a} s) = omega (arith, length-append {A = Lexeme}, size_le 
 size_le (ucase c {a = a} s) = omega (arith, length-append {A = Lexeme}, size_le s, four_le a)
 size_le (uint32totext c s) = omega (arith, length-append {A = Lexeme}, size_le s)
 
+address_some : {text a : List ℕ} → IsAddress text a → 1 ≤ length text
+address_some (four s t u v p q r w) = let some = p.some in omega (arith, some, length-append s (46 ∷ (t ++ 46 ∷ (u ++ 46 ∷ v))))
+
+-- a word has a byte
+word_some : {at : ℕ} {word rest : List ℕ} {x : Lexeme} → Word at word rest x → 1 ≤ length word
+word_some (string_word h) = omega arith
+word_some (hex_word h each ends) = omega arith
+word_some (address_word h ends) = address_some h
+word_some (number_word h ends) = omega arith
+word_some (minus_word h ends) = omega arith
+word_some (name_word h each ends) = omega arith
+word_some (sign_word h) = omega arith
+word_some equal_word = omega arith
+
 scanned_le : {at : ℕ} {bytes : List ℕ} {ts : List Lexeme} → Scans at bytes ts → length ts ≤ length bytes
 scanned_le finished = omega arith
 scanned_le (blank is s) = omega (arith, scanned_le s)
-scanned_le (token word rest w s) =
-    let f = word_starts w in
-    let length_is : length word ≡ length (f.first ∷ f.others) = ap (λ v. length v) f.is in
-    omega (arith, scanned_le s, length_is, length-append word rest)
+scanned_le (token word rest w s) = omega (arith, scanned_le s, word_some w, length-append word rest)
 
 -- a tree with a text has few tokens
 pub few_tokens : (t : Tree) → HasText t → size t ≤ 16382
