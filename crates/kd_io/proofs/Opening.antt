@@ -10,16 +10,15 @@ use Rattle.sqlite_store.specs.declared.store.FileStore.{FileStore}
 use Rattle.sqlite.specs.Effect.{Database}
 use Rattle.sqlite.specs.Held.{Held, state}
 use Rattle.sqlite.specs.State.{HasCleanDisk}
-use Rattle.sqlite.specs.Files.{file_state}
+use Rattle.sqlite.specs.Files.{file_state, over_files}
 use Rattle.sqlite.specs.Steps.{over_memory, IsEmpty}
 use Rattle.sqlite.proofs.Callers.{memory_is_clean}
 use Rattle.sqlite.proofs.ListingLemmas.{empty_is_sound}
 use Rattle.kd_rows.specs.declared.row.Row.{Row}
 use Rattle.kd_store.specs.Kept.{Kept}
-use Rattle.kd_store.specs.Laws.{IsOpenedOn}
+use Rattle.kd_store.specs.Laws.{IsOpenedOn, LetGo, Reopens}
 use Rattle.kd_store.specs.Lease.{lease_schema, no_schema}
 use Rattle.kd_store.specs.Stands.{Finds, Holds, Stands}
-use Rattle.kd_store.proofs.Reopening.{stands_again, stands_once}
 use Rattle.kd_io.specs.Stores.{IsStoreIn, Restarts, StandsAsHeld, StandsNew}
 
 -- over a new database in memory a store stands at the empty table
@@ -71,12 +70,10 @@ module _ {E : Type 0} {h : Ghosts E} (image : Image) where
   all_held kept (Ok store) is = as_held (kept store) is
   all_held kept (Err e) is = tt
 
-pub restarts : {D E : Type 0} (g : Ghosts D) (h : Ghosts E) → Restarts g h
-restarts g h it before after leaves image may store is clean =
-    let one = stands_again g h is.opened store.conn is.clean is.stands it before after leaves image may is.on clean in (
-      one.0,
-      one.1,
-      λ earlier later left.
-          let other = stands_again g h is.opened store.conn is.clean is.stands it earlier later left image may is.on clean in
-          subst (λ (t : List Row). (t ≡ earlier) ⊎ (t ≡ later)) (sym (stands_once (file_state store.conn) one.0 other.0 one.1 other.1)) other.2,
-    )
+-- so one on what a crash left of other files stands at one table, which is one of any two that it could leave
+pub restarts : {D E : Type 0} (g : Ghosts D) (h : Ghosts E) → Reopens g h → Restarts g h
+restarts g h reopens it before after leaves image may store is clean =
+    let opens = is.clean clean in
+    let law = λ (earlier : List Row) (later : List Row) (left : LetGo over_files it earlier later). reopens it earlier later left image may is.opened (is.on.is_opened opens) (is.on.found opens) in
+    let stands = is.stands clean (inr (law before after leaves).0) in
+    (stands.0, stands.2, λ earlier later left. (law earlier later left).1 stands.0 stands.1)

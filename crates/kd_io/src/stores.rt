@@ -110,10 +110,13 @@ pub fn store_over<S: Alter + Drop>(
 }
 
 /// A store in files on what a crash left of others stands at the table from before the last call on
-/// those, or at the one after it. The function does nothing: its contract is the law.
+/// those, or at the one after it. The function does nothing but name the law it rests on: its
+/// contract is the law.
 pub fn restarts<D: Disk, E: Disk>()
     ensures { Restarts D.Disk E.Disk }
-{}
+{
+    kd_store::laws::reopens::<D, E>();
+}
 
 // Why a file is not opened.
 fn cause_of(error: &Error) -> Cause {
