@@ -1,5 +1,5 @@
 -- From what the compiler says of a class test to what is printed of it.
-use Rattle.std.proofs.Common.{◌≡◌, ℕ, subst, List, ◌++◌, None, Result, Ok, Err}
+use Rattle.std.proofs.Common.{◌≡◌, ℕ, suc, ◌<◌, subst, List, [], ◌∷◌, ◌++◌, get_or, None, Result, Ok, Err}
 use Rattle.std.specs.Result.{IfOk}
 use Rattle.hex.specs.Hex.{encode_lower}
 use Rattle.kd_compile.specs.Compiled.{IsCompiled, first_over}
@@ -29,6 +29,11 @@ prints tree program text p none compiled written line = within PrintsFile tree p
   file_of = written.1;
   line = subst (λ t. IsSuccess t p) written.2 line;
 })
+
+-- bytes are in range where each index is
+pub bytes_all : (xs : List ℕ) → ((i : ℕ) → get_or xs i 0 < 256) → AreBytes xs
+bytes_all [] h = tt
+bytes_all (x ∷ xs) h = (h 0, bytes_all xs (λ i. h (suc i)))
 
 -- the run of its program over a message
 over : (tree : Tree) (program : Code) (m : Seen) (p : Printed) → HasOneEnd → IsCompiled tree program → IsMessage m → RunsOver program m p → TestsOver tree m p

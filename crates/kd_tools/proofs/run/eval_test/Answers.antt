@@ -1,7 +1,6 @@
 use Rattle.std.proofs.Common.{arith}
 use Rattle.kd_expr.specs.View.{tree_of}
-use Rattle.kd_options.proofs.Sizes.{bytes_all}
-use Rattle.kd_tools.proofs.Compiling.{runs}
+use Rattle.kd_tools.proofs.Compiling.{bytes_all, runs}
 use Rattle.kd_tools.proofs.run.eval_test.Goals as goal
 
 pub returns-in-Ok : goal.returns-in-Ok
