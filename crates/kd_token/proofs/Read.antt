@@ -214,7 +214,7 @@ module _ (m : List ℕ) (is : m ≡ big_bytes 4 0x4b34544b) (found : (w more : L
         let wrong : ended (Ok (x.0, rest (m ++ left) (b ∷ bs))) ≡ Err (faults.Rest (place_in (rest (m ++ left) (b ∷ bs)))) = rw (end_wrong (m ++ left) b bs) refl in
         let fault : f ≡ faults.Rest at = err_same (ended (Ok x)) f (faults.Rest at) e (ap (λ q. ended (Ok (x.0, q))) there ∙ wrong ∙ ap (λ k. Err (faults.Rest k)) here) in
         let file : IsFileOf (take at (m ++ left)) x.0 = record {
-          bytes_of_parts = front_of left front (b ∷ bs) at split refl ∙ ap (λ l. l ++ front) is ∙ parts_spelled x.0;
+          spelled = front_of left front (b ∷ bs) at split refl ∙ ap (λ l. l ++ front) is ∙ parts_spelled x.0;
           limits = rd.good;
         } in
         inr (inr (at, x.0, file, omega (arith, size, length-append m left, length-append front (b ∷ bs)), fault))
