@@ -10,7 +10,7 @@ use std::fmt;
 use thiserror::Error;
 
 /// Why the text of a class's test has no program. It prints as the fault that it holds.
-#[derive(Clone, Copy, PartialEq, Eq, Error)]
+#[derive(Clone, Copy, Error)]
 pub enum TestFault {
     /// The text is no expression.
     #[error("{0}")]
@@ -30,7 +30,7 @@ impl fmt::Debug for TestFault {
 }
 
 /// Why the token file of a class's test has no program. It prints as the fault that it holds.
-#[derive(Clone, Copy, PartialEq, Eq, Error)]
+#[derive(Clone, Copy, Error)]
 pub enum FileTestFault {
     /// No file has the name.
     #[error("Absent")]
@@ -51,7 +51,7 @@ impl fmt::Debug for FileTestFault {
 
 /// Why a text is no configuration. A path is the keys and list numbers from the root, each after
 /// `/`.
-#[derive(PartialEq, Eq, Drop, Error)]
+#[derive(Drop, Error)]
 pub enum ConfigFault {
     /// The text is no JSON.
     #[error("Json")]
