@@ -6,7 +6,7 @@ use Rattle.kd_classes.specs.declared.definition.ClassDef.{ClassDef}
 use Rattle.kd_config.proofs.Alike.{alike_behind}
 use Rattle.kd_config.specs.Alike.{AskAlike, AsksAlike}
 use Rattle.kd_config.specs.Configured.{AreDefinitions, IsDefinition}
-use Rattle.kd_config.specs.declared.class.ClassEntry.{ClassEntry}
+use Rattle.kd_config.specs.declared.objects.class.ClassEntry.{ClassEntry}
 use Rattle.kd_config.specs.declared.token_file.TokenFile.{TokenFile}
 
 -- definitions of entries and of one after them

@@ -21,14 +21,14 @@ use Rattle.kd_config.specs.Settings.{has_dhcp4_keys, has_root_keys, whole_settin
 use Rattle.kd_config.specs.Sound.{AreOptions, AreTimes, IsClass, IsFrom, IsIdentity, IsPool, IsPrefix, IsRange, IsSound, IsSubnet}
 use Rattle.kd_config.specs.Subnet.{has_subnet_keys, subnet_prefix, subnet_of}
 use Rattle.kd_config.specs.Values.{address_given, hex_bytes_in, bytes_if_given, number_if_given, text_if_given}
-use Rattle.kd_config.specs.declared.class.ClassEntry.{ClassEntry}
+use Rattle.kd_config.specs.declared.objects.class.ClassEntry.{ClassEntry}
 use Rattle.kd_config.specs.declared.pool.Pool.{Pool}
 use Rattle.kd_config.specs.declared.prefix.Prefix.{Prefix}
 use Rattle.kd_config.specs.declared.range.Range.{Range}
 use Rattle.kd_config.specs.declared.reservation.Identity.{Identity}
 use Rattle.kd_config.specs.declared.reservation.Identity.TheVariants.{Hardware, ClientId}
 use Rattle.kd_config.specs.declared.reservation.Reservation.{Reservation}
-use Rattle.kd_config.specs.declared.settings.Settings.{Settings}
+use Rattle.kd_config.specs.declared.objects.settings.Settings.{Settings}
 use Rattle.kd_config.specs.declared.subnet.Subnet.{Subnet}
 use Rattle.kd_config.specs.declared.token_file.TokenFile.{TokenFile}
 use Rattle.serde_json.specs.Data.{Data}

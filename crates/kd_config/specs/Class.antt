@@ -6,9 +6,9 @@ use Rattle.kd_config.specs.Options.{option_list_in}
 use Rattle.kd_wire.specs.Steps.{◌>>=◌}
 use Rattle.kd_config.specs.Steps.{must, only_if}
 use Rattle.kd_config.specs.Values.{has_keys, text_if_given}
-use Rattle.kd_config.specs.declared.class.ClassEntry.{ClassEntry}
-use Rattle.kd_config.specs.declared.class.TestSource.{TestSource}
-use Rattle.kd_config.specs.declared.class.TestSource.TheVariants.{Nothing, Expression, TokenFile}
+use Rattle.kd_config.specs.declared.objects.class.ClassEntry.{ClassEntry}
+use Rattle.kd_config.specs.declared.objects.class.TestSource.{TestSource}
+use Rattle.kd_config.specs.declared.objects.class.TestSource.TheVariants.{Nothing, Expression, TokenFile}
 
 -- a value is an object with the keys of a class
 unfoldable pub has_class_keys : Data → Bool

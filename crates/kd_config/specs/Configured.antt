@@ -7,10 +7,10 @@ use Rattle.kd_classes.specs.declared.definition.ClassDef.{ClassDef}
 use Rattle.kd_compile.specs.Compiled.{IsCompiled, first_over}
 use Rattle.kd_config.specs.Configuration.{Configuration}
 use Rattle.kd_config.specs.Document.{accepted_settings}
-use Rattle.kd_config.specs.declared.class.ClassEntry.{ClassEntry}
-use Rattle.kd_config.specs.declared.class.TestSource.{TestSource}
-use Rattle.kd_config.specs.declared.class.TestSource.TheVariants as sources
-use Rattle.kd_config.specs.declared.settings.Settings.{Settings}
+use Rattle.kd_config.specs.declared.objects.class.ClassEntry.{ClassEntry}
+use Rattle.kd_config.specs.declared.objects.class.TestSource.{TestSource}
+use Rattle.kd_config.specs.declared.objects.class.TestSource.TheVariants as sources
+use Rattle.kd_config.specs.declared.objects.settings.Settings.{Settings}
 use Rattle.kd_config.specs.declared.token_file.TokenFile.{TokenFile}
 use Rattle.kd_expr.specs.Grammar.{Parses}
 use Rattle.kd_expr.specs.Tree.{Tree}

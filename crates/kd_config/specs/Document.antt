@@ -7,7 +7,7 @@ use Rattle.kd_config.specs.Rules.{may_stand}
 use Rattle.kd_config.specs.Settings.{whole_settings}
 use Rattle.kd_wire.specs.Steps.{◌>>=◌}
 use Rattle.kd_config.specs.Steps.{must}
-use Rattle.kd_config.specs.declared.settings.Settings.{Settings}
+use Rattle.kd_config.specs.declared.objects.settings.Settings.{Settings}
 
 -- the value that a text spells
 unfoldable pub value_spelled : List ℕ → Option Data

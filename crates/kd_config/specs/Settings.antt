@@ -9,7 +9,7 @@ use Rattle.kd_wire.specs.Steps.{◌>>=◌}
 use Rattle.kd_config.specs.Steps.{must, only_if}
 use Rattle.kd_config.specs.Subnet.{subnet_of}
 use Rattle.kd_config.specs.Values.{address_given, has_keys, number_if_given}
-use Rattle.kd_config.specs.declared.settings.Settings.{Settings}
+use Rattle.kd_config.specs.declared.objects.settings.Settings.{Settings}
 use Rattle.kd_config.specs.declared.times.Times.{Times}
 
 -- the keys of `Dhcp4`

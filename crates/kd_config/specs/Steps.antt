@@ -1,5 +1,5 @@
 -- Steps of a definition that may give nothing.
-use Rattle.std.specs.Prelude.{Bool, if◌then◌else◌, Option, Some, None, option_and_then}
+use Rattle.std.specs.Prelude.{Bool, if◌then◌else◌, Option, Some, None}
 
 -- go on only where a test holds
 abbrev pub must : Bool → Option (Unit {0})

@@ -10,32 +10,22 @@
 //! `Config::builtin` is the built-in one (`specs/Configuration.antt`).
 #![tactic(auto)]
 
-mod address;
-mod apart;
 mod builtin;
-mod class;
 mod config;
-mod definitions;
-mod document;
 mod entries;
 mod fault;
-mod hex_text;
 pub mod laws;
-mod lists;
-mod options;
-mod place;
+mod objects;
 mod pool;
 mod prefix;
-mod program;
 mod range;
 mod read;
 mod reservation;
 mod rules;
-mod settings;
 mod subnet;
+mod text;
 mod times;
 mod token_file;
-mod values;
 
 pub use config::Config;
 pub use entries::Entries;

@@ -5,11 +5,11 @@ ghost use Rattle.kd_config.specs.Pool.{has_pool_keys, pool_of, pool_range};
 ghost use Rattle.kd_config.specs.Steps.{must};
 
 use crate::fault::ConfigFault;
-use crate::lists::Entry;
-use crate::options::options_of;
-use crate::place::{Place, bad_value};
+use crate::objects::lists::Entry;
+use crate::objects::options::options_of;
+use crate::objects::values::check_keys;
 use crate::range::{Range, range_of};
-use crate::values::check_keys;
+use crate::rules::place::{Place, bad_value};
 use kd_classes::OptionList;
 use serde_json::Value;
 use std::alloc::Global;

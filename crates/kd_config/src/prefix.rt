@@ -1,7 +1,7 @@
 ghost use Rattle.std.specs.Prelude.{◌≡◌, ◌+◌, ◌^◌, ◌≤◌, IfSome};
 ghost use Rattle.kd_config.specs.Address.{network_address, has_address, length_spelled, short_decimal, prefix_spelled, prefix_size};
 
-use crate::address::{address_of, cut_at};
+use crate::text::address::{address_of, cut_at};
 
 /// The prefix of a subnet: the addresses whose first bits are those of its address.
 #[derive(Clone, Copy, PartialEq, Eq)]

@@ -1,8 +1,8 @@
 ghost use Rattle.std.specs.Prelude.{◌≡◌, ◌+◌, ◌^◌, ◌≤◌, ◌&&◌, nat_le};
 ghost use Rattle.kd_config.specs.Address.{range_from, range_of_parts, range_spelled, prefix_range, prefix_size};
 
-use crate::address::{address_of, cut_at, without_first_spaces, without_last_spaces};
 use crate::prefix::{Prefix, prefix_of};
+use crate::text::address::{address_of, cut_at, without_first_spaces, without_last_spaces};
 
 /// The addresses of a pool: at least one and at most 65,536, in host order.
 #[derive(Clone, Copy, PartialEq, Eq)]

@@ -4,10 +4,10 @@ ghost use Rattle.kd_config.specs.Configured.{IsConfigured};
 ghost use Rattle.kd_config.specs.declared.fault.ConfigFault.TheVariants.{Memory};
 
 use crate::config::Config;
-use crate::definitions::classes_in;
-use crate::document::settings_in;
 use crate::fault::ConfigFault;
-use crate::settings::Settings;
+use crate::objects::definitions::classes_in;
+use crate::objects::document::settings_in;
+use crate::objects::settings::Settings;
 use crate::token_file::TokenFile;
 use std::alloc::Global;
 

@@ -5,9 +5,9 @@ ghost use Rattle.kd_config.specs.Reservation.{has_reservation_keys, one_identity
 ghost use Rattle.kd_config.specs.Steps.{must};
 
 use crate::fault::ConfigFault;
-use crate::lists::Entry;
-use crate::place::{Place, bad_value, missing};
-use crate::values::{address_in, bytes_or_none, check_keys};
+use crate::objects::lists::Entry;
+use crate::objects::values::{address_in, bytes_or_none, check_keys};
+use crate::rules::place::{Place, bad_value, missing};
 use kd_wire::Bytes;
 use serde_json::Value;
 use std::alloc::Global;

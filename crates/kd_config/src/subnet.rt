@@ -6,13 +6,13 @@ ghost use Rattle.kd_config.specs.Subnet.{has_subnet_keys, subnet_prefix, subnet_
 
 use crate::entries::Entries;
 use crate::fault::ConfigFault;
-use crate::lists::{Entry, entries_of};
-use crate::options::options_of;
-use crate::place::{Place, bad_value};
+use crate::objects::lists::{Entry, entries_of};
+use crate::objects::options::options_of;
+use crate::objects::values::{check_keys, number_or, text_or_none};
 use crate::pool::Pool;
 use crate::prefix::{Prefix, prefix_of};
 use crate::reservation::Reservation;
-use crate::values::{check_keys, number_or, text_or_none};
+use crate::rules::place::{Place, bad_value};
 use kd_classes::OptionList;
 use kd_wire::Bytes;
 use serde_json::Value;

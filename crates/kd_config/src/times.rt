@@ -4,8 +4,8 @@ ghost use Rattle.kd_config.specs.Gives.{Means};
 ghost use Rattle.kd_config.specs.Settings.{longest_lease, times_given};
 
 use crate::fault::ConfigFault;
-use crate::place::{Place, bad_value};
-use crate::values::number_or;
+use crate::objects::values::number_or;
+use crate::rules::place::{Place, bad_value};
 use serde_json::Value;
 use std::alloc::Global;
 

@@ -1,0 +1,74 @@
+ghost use Rattle.std.specs.Prelude.{◌≡◌, Option};
+ghost use Rattle.serde_json.specs.Data.{Data};
+ghost use Rattle.serde_json.specs.Find.{get};
+ghost use Rattle.serde_json.specs.View.{items_view, view};
+ghost use Rattle.kd_config.specs.Gives.{Means, GivesAs};
+ghost use Rattle.kd_config.specs.Lists.{all_of, items_or_none, list_of};
+
+use crate::entries::Entries;
+use crate::fault::ConfigFault;
+use crate::rules::place::{Place, bad_value};
+use serde_json::Value;
+use std::alloc::Global;
+
+// The values of a list of at most so many at a key, none where the key is not there.
+#[tactic(auto, using(crate::proofs::Left::len_is))]
+pub(crate) fn list_at<'a>(
+    alloc: Global,
+    object: &'a Value,
+    at: &Place<'_>,
+    key: &'static str,
+    most: usize,
+) -> Result<&'a [Value], ConfigFault>
+    ensures { GivesAs (λ values. items_view values.now) result
+        (items_or_none most (get key.now (view object.now))) }
+{
+    let Some(value) = object.get(key) else {
+        return Ok(&[]);
+    };
+    match value.as_array() {
+        Some(list) if list.len() <= most => Ok(list.as_slice()),
+        _ => Err(bad_value(alloc, at, key)),
+    }
+}
+
+// What the values of a list mean, each by itself.
+pub(crate) trait Entry: Drop + Sized {
+    // What a value means.
+    ghost means: { Data → Option Self };
+
+    // The entry that a value means.
+    fn read(alloc: Global, value: &Value, at: &Place<'_>) -> Result<Self, ConfigFault>
+        ensures { Means result (means (view value.now)) };
+}
+
+// The entries of a list of at most so many at a key.
+#[tactic(auto, unfolding(crate::specs::Lists::list_of))]
+pub(crate) fn entries_of<T: Entry>(
+    alloc: Global,
+    object: &Value,
+    at: &Place<'_>,
+    key: &'static str,
+    most: usize,
+) -> Result<Entries<T>, ConfigFault>
+    ensures { Means result (list_of most T.means (get key.now (view object.now))) }
+{
+    let values = list_at(alloc, object, at, key, most)?;
+    entries_in(alloc, values, &Place::Key(&*at, key))
+}
+
+// The entries that values mean, one after another.
+fn entries_in<T: Entry>(
+    alloc: Global,
+    values: &[Value],
+    at: &Place<'_>,
+) -> Result<Entries<T>, ConfigFault>
+    ensures { Means result (all_of T.means (items_view values.now)) }
+{
+    let mut list = Vec::new(alloc);
+    for i in 0..values.len() {
+        let entry = T::read(alloc, &values[i], &Place::Item(&*at, i))?;
+        list.push(entry)?;
+    }
+    Ok(Entries::own(list))
+}

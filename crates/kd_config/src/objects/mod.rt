@@ -1,0 +1,11 @@
+//! The objects of a configuration, from the document down to a value: their keys, and what they
+//! mean.
+
+mod class;
+pub(crate) mod definitions;
+pub(crate) mod document;
+pub(crate) mod lists;
+pub(crate) mod options;
+mod program;
+pub(crate) mod settings;
+pub(crate) mod values;

@@ -1,0 +1,104 @@
+ghost use Rattle.std.specs.Prelude.{◌≡◌};
+ghost use Rattle.serde_json.specs.View.{view};
+ghost use Rattle.kd_config.specs.Gives.{Means};
+ghost use Rattle.kd_config.specs.Settings.{has_dhcp4_keys, has_root_keys, whole_settings, server_given, dhcp4_settings};
+ghost use Rattle.kd_config.specs.Steps.{must};
+
+use crate::entries::Entries;
+use crate::fault::ConfigFault;
+use crate::objects::class::ClassEntry;
+use crate::objects::lists::entries_of;
+use crate::objects::options::options_of;
+use crate::objects::values::{address_in, check_keys};
+use crate::rules::place::{Place, bad_value, missing};
+use crate::subnet::Subnet;
+use crate::times::{Times, times_of};
+use kd_classes::OptionList;
+use serde_json::Value;
+use std::alloc::Global;
+
+// The settings of a configuration as they are written.
+#[derive(Drop)]
+pub(crate) struct Settings {
+    // The address of the server.
+    pub(crate) server: u32,
+    // The times of leases and of offers.
+    pub(crate) times: Times,
+    // The options of all replies.
+    pub(crate) options: OptionList,
+    // The classes.
+    pub(crate) classes: Entries<ClassEntry>,
+    // The subnets.
+    pub(crate) subnets: Entries<Subnet>,
+}
+
+// The settings that a whole text's value means.
+#[tactic(auto, unfolding(crate::specs::Settings::whole_settings))]
+pub(crate) fn root_of(alloc: Global, value: &Value) -> Result<Settings, ConfigFault>
+    ensures { Means result (whole_settings (view value.now)) }
+{
+    let root = Place::Root;
+    check_root(alloc, value, &root)?;
+    match value.get("Dhcp4") {
+        Some(dhcp4) => settings_of(alloc, dhcp4, &Place::Key(&root, "Dhcp4")),
+        None => Err(missing(alloc, &root, "Dhcp4")),
+    }
+}
+
+// The settings that the value of `Dhcp4` means.
+#[tactic(auto, unfolding(crate::specs::Settings::dhcp4_settings))]
+fn settings_of(alloc: Global, value: &Value, at: &Place<'_>) -> Result<Settings, ConfigFault>
+    ensures { Means result (dhcp4_settings (view value.now)) }
+{
+    check_dhcp4(alloc, value, at)?;
+    let Some(server) = value.get("server-address").and_then(server_in) else {
+        return Err(bad_value(alloc, at, "server-address"));
+    };
+    let times = times_of(alloc, value, at)?;
+    let options = options_of(alloc, value, at)?;
+    let classes = entries_of(alloc, value, at, "client-classes", 256)?;
+    let subnets = entries_of(alloc, value, at, "subnet4", 256)?;
+    Ok(Settings {
+        server,
+        times,
+        options,
+        classes,
+        subnets,
+    })
+}
+
+// The value is an object with `Dhcp4` and no other key.
+#[tactic(auto, unfolding(crate::specs::Settings::has_root_keys))]
+fn check_root(alloc: Global, value: &Value, at: &Place<'_>) -> Result<(), ConfigFault>
+    ensures { Means result (must (has_root_keys (view value.now))) }
+{
+    check_keys(alloc, value, at, &["Dhcp4"], &["Dhcp4"])
+}
+
+// The value is an object with the keys of `Dhcp4`.
+#[tactic(auto, unfolding(crate::specs::Settings::has_dhcp4_keys))]
+fn check_dhcp4(alloc: Global, value: &Value, at: &Place<'_>) -> Result<(), ConfigFault>
+    ensures { Means result (must (has_dhcp4_keys (view value.now))) }
+{
+    let known = [
+        "server-address",
+        "valid-lifetime",
+        "renew-timer",
+        "rebind-timer",
+        "offer-hold",
+        "decline-hold",
+        "option-data",
+        "client-classes",
+        "subnet4",
+    ];
+    check_keys(alloc, value, at, &known, &["server-address"])
+}
+
+// The address of the server, which is not 0.0.0.0.
+#[tactic(auto, unfolding(crate::specs::Settings::server_given))]
+fn server_in(value: &Value) -> Option<u32>
+    ensures { result ≡ server_given (view value.now) }
+{
+    let address = address_in(value)?;
+    if address == 0 { None } else { Some(address) }
+}

@@ -1,0 +1,133 @@
+ghost use Rattle.std.specs.Prelude.{◌≡◌, ◌≢◌};
+ghost use Rattle.kd_config.specs.Faults.{config_fault_number};
+ghost use Rattle.kd_config.specs.declared.fault.ConfigFault.TheVariants.{Memory};
+
+use crate::fault::ConfigFault;
+use std::alloc::{AllocError, Global};
+
+// Where a value stands in a configuration.
+#[derive(Clone, Copy)]
+pub(crate) enum Place<'a> {
+    Root,
+    Key(&'a Place<'a>, &'static str),
+    Item(&'a Place<'a>, usize),
+}
+
+// The fault of a key that is missing in the object at a place.
+pub(crate) fn missing(alloc: Global, at: &Place<'_>, key: &str) -> ConfigFault {
+    match path_of_key(alloc, at, key) {
+        Ok(path) => ConfigFault::Missing(path),
+        Err(_) => ConfigFault::Memory,
+    }
+}
+
+// The fault of a key that is not known in the object at a place.
+pub(crate) fn unknown(alloc: Global, at: &Place<'_>, key: &str) -> ConfigFault {
+    match path_of_unknown(alloc, at, key) {
+        Ok(path) => ConfigFault::Unknown(path),
+        Err(_) => ConfigFault::Memory,
+    }
+}
+
+// The fault of a bad value at a key of the object at a place.
+pub(crate) fn bad_value(alloc: Global, at: &Place<'_>, key: &str) -> ConfigFault {
+    match path_of_key(alloc, at, key) {
+        Ok(path) => ConfigFault::BadValue(path),
+        Err(_) => ConfigFault::Memory,
+    }
+}
+
+// The fault of a bad value at a place.
+pub(crate) fn bad_place(alloc: Global, at: &Place<'_>) -> ConfigFault {
+    match path_of(alloc, at) {
+        Ok(path) => ConfigFault::BadValue(path),
+        Err(_) => ConfigFault::Memory,
+    }
+}
+
+// The fault of an address outside its subnet's prefix.
+pub(crate) fn outside(alloc: Global, at: &Place<'_>, key: &str) -> ConfigFault
+    ensures { result ≢ Memory → config_fault_number result ≡ 74 }
+{
+    match path_of_key(alloc, at, key) {
+        Ok(path) => ConfigFault::PoolOutside(path),
+        Err(_) => ConfigFault::Memory,
+    }
+}
+
+// The fault of a pool that shares an address with an earlier one.
+pub(crate) fn overlap(alloc: Global, at: &Place<'_>, key: &str) -> ConfigFault
+    ensures { result ≢ Memory → config_fault_number result ≡ 75 }
+{
+    match path_of_key(alloc, at, key) {
+        Ok(path) => ConfigFault::Overlap(path),
+        Err(_) => ConfigFault::Memory,
+    }
+}
+
+// The fault of a reservation that repeats an earlier one.
+pub(crate) fn repeated(alloc: Global, at: &Place<'_>, key: &str) -> ConfigFault
+    ensures { result ≢ Memory → config_fault_number result ≡ 76 }
+{
+    match path_of_key(alloc, at, key) {
+        Ok(path) => ConfigFault::DuplicateReservation(path),
+        Err(_) => ConfigFault::Memory,
+    }
+}
+
+// The path of a key of the object at a place.
+fn path_of_key(alloc: Global, at: &Place<'_>, key: &str) -> Result<String, AllocError> {
+    let mut path = String::new(alloc);
+    push_path(alloc, &mut path, at)?;
+    path.push_str("/")?;
+    path.push_str(key)?;
+    Ok(path)
+}
+
+// The path of a key that the text gives, on one line.
+fn path_of_unknown(alloc: Global, at: &Place<'_>, key: &str) -> Result<String, AllocError> {
+    let mut path = String::new(alloc);
+    push_path(alloc, &mut path, at)?;
+    path.push_str("/")?;
+    for c in key.chars() {
+        push_on_one_line(alloc, &mut path, c)?;
+    }
+    Ok(path)
+}
+
+// Writes a character after a text, and a control character as its number.
+fn push_on_one_line(alloc: Global, text: &mut String, c: char) -> Result<(), AllocError> {
+    if c.is_ascii_control() {
+        let number = format!(in alloc; "\\x{:02x}", u32::from(c))?;
+        text.push_str(&number)
+    } else {
+        text.push(c)
+    }
+}
+
+// The path of a place: of the root `-`, as of all that is empty.
+fn path_of(alloc: Global, at: &Place<'_>) -> Result<String, AllocError> {
+    if let Place::Root = at {
+        return String::from_str(alloc, "-");
+    }
+    let mut path = String::new(alloc);
+    push_path(alloc, &mut path, at)?;
+    Ok(path)
+}
+
+// Writes the path of a place after a text.
+fn push_path(alloc: Global, path: &mut String, at: &Place<'_>) -> Result<(), AllocError> {
+    match at {
+        Place::Root => Ok(()),
+        Place::Key(above, key) => {
+            push_path(alloc, path, above)?;
+            path.push_str("/")?;
+            path.push_str(key)
+        }
+        Place::Item(above, number) => {
+            push_path(alloc, path, above)?;
+            let digits = format!(in alloc; "/{number}")?;
+            path.push_str(&digits)
+        }
+    }
+}

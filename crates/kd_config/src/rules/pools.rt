@@ -1,0 +1,110 @@
+ghost use Rattle.std.specs.Prelude.{◌≡◌, ◌≢◌, ◌<◌, ◌+◌, ◌++◌, ◌&&◌, IfErr, IfOk, OnOk, false, if◌then◌else◌, length, nat_le, take, true};
+ghost use Rattle.std.specs.List.{list_all, prefix_len};
+ghost use Rattle.kd_config.specs.Apart.{lie_apart};
+ghost use Rattle.kd_config.specs.Faults.{config_fault_number};
+ghost use Rattle.kd_config.specs.Gives.{Means};
+ghost use Rattle.kd_config.specs.Rules.{pool_ranges, lies_within, ranges_in};
+ghost use Rattle.kd_config.specs.Steps.{must};
+ghost use Rattle.kd_config.specs.declared.fault.ConfigFault.TheVariants.{Memory};
+
+use crate::fault::ConfigFault;
+use crate::pool::Pool;
+use crate::prefix::Prefix;
+use crate::range::Range;
+use crate::rules::apart::are_apart;
+use crate::rules::place::{Place, outside, overlap};
+use crate::subnet::Subnet;
+use std::alloc::{AllocError, Global};
+
+// How many ranges stand before the first that shares an address with one of them: all, where none
+// does.
+#[tactic(auto, using(crate::proofs::Shared::some_ranges))]
+pub(crate) fn first_overlap(alloc: Global, ranges: &[Range]) -> Result<usize, AllocError>
+    ensures all { IfOk result (λ number. nat_le (length ranges.now) number ≡ lie_apart ranges.now) }
+    ensures apart { IfOk result (λ number. lie_apart (take number ranges.now) ≡ true) }
+    ensures first { IfOk result (λ number. number < length ranges.now
+        → lie_apart (take (number + 1) ranges.now) ≡ false) }
+{
+    if are_apart(alloc, ranges)? {
+        return Ok(ranges.len());
+    }
+    let mut apart = 0;
+    let mut not_apart = ranges.len();
+    while not_apart - apart > 1 {
+        let middle = apart + (not_apart - apart) / 2;
+        if are_apart(alloc, &ranges[..middle])? {
+            apart = middle;
+        } else {
+            not_apart = middle;
+        }
+    }
+    Ok(apart)
+}
+
+// The addresses of all pools, in order.
+pub(crate) fn all_ranges(alloc: Global, subnets: &[Subnet]) -> Result<Vec<Range>, AllocError>
+    ensures { IfOk result (λ ranges. ranges.items ≡ pool_ranges subnets.now) }
+{
+    let mut ranges = Vec::new(alloc);
+    for subnet in subnets {
+        push_ranges(&mut ranges, subnet.pools.as_slice())?;
+    }
+    Ok(ranges)
+}
+
+// Puts the addresses of pools after others.
+fn push_ranges(ranges: &mut Vec<Range>, pools: &[Pool]) -> Result<(), AllocError>
+    ensures { OnOk result (ranges.new.items ≡ ranges.old.items ++ ranges_in pools.now) }
+{
+    for pool in pools {
+        ranges.push(pool.range)?;
+    }
+    Ok(())
+}
+
+// Pools lie in their subnet's prefix, and there are at most so many.
+pub(crate) fn check_pools(
+    alloc: Global,
+    prefix: Prefix,
+    pools: &[Pool],
+    apart: usize,
+    at: &Place<'_>,
+) -> Result<(), ConfigFault>
+    ensures checked { Means result
+        (must (nat_le (length pools.now) apart && list_all (lies_within prefix) pools.now)) }
+    ensures kind { IfErr result (λ fault. fault ≢ Memory → config_fault_number fault
+        ≡ (if nat_le (prefix_len (lies_within prefix) pools.now) apart then 74 else 75)) }
+{
+    for (i, pool) in pools.iter().enumerate() {
+        check_pool(alloc, prefix, pool, i < apart, &Place::Item(&*at, i))?;
+    }
+    Ok(())
+}
+
+// A pool lies in its subnet's prefix, and shares no address with an earlier one.
+fn check_pool(
+    alloc: Global,
+    prefix: Prefix,
+    pool: &Pool,
+    is_apart: bool,
+    at: &Place<'_>,
+) -> Result<(), ConfigFault>
+    ensures checked { Means result (must (lies_within prefix pool.now && is_apart)) }
+    ensures kind { IfErr result (λ fault. fault ≢ Memory
+        → config_fault_number fault ≡ (if lies_within prefix pool.now then 75 else 74)) }
+{
+    if !is_within(prefix, pool) {
+        Err(outside(alloc, at, "pool"))
+    } else if !is_apart {
+        Err(overlap(alloc, at, "pool"))
+    } else {
+        Ok(())
+    }
+}
+
+// A pool lies in a prefix.
+fn is_within(prefix: Prefix, pool: &Pool) -> bool
+    ensures { result ≡ lies_within prefix pool.now }
+{
+    prefix.contains(pool.range.first) && prefix.contains(pool.range.last)
+}

@@ -1,0 +1,128 @@
+ghost use Rattle.std.specs.Prelude.{◌≡◌, ◌≢◌, ◌++◌, ◌∷◌, ◌&&◌, [], IfErr, IfOk, if◌then◌else◌, map};
+ghost use Rattle.indexmap.specs.IndexSet.{keys};
+ghost use Rattle.kd_config.specs.Address.{has_address};
+ghost use Rattle.kd_config.specs.Faults.{config_fault_number};
+ghost use Rattle.kd_config.specs.Gives.{Means};
+ghost use Rattle.kd_config.specs.Parts.{before_outside, client_by};
+ghost use Rattle.kd_config.specs.Rules.{is_new, may_all_reserve, may_reserve, reserved};
+ghost use Rattle.kd_config.specs.Steps.{must};
+ghost use Rattle.kd_config.specs.declared.fault.ConfigFault.TheVariants.{Memory};
+
+use crate::fault::ConfigFault;
+use crate::prefix::Prefix;
+use crate::reservation::{Identity, Reservation};
+use crate::rules::place::{Place, outside, repeated};
+use indexmap::IndexSet;
+use std::alloc::Global;
+
+// Reservations have addresses of their subnet's prefix that no earlier one has.
+pub(crate) fn check_reservations(
+    alloc: Global,
+    prefix: Prefix,
+    reservations: &[Reservation],
+    at: &Place<'_>,
+    earlier: &mut IndexSet<u32>,
+) -> Result<(), ConfigFault>
+    ensures joined { IfOk result
+        (λ _. keys earlier.new ≡ keys earlier.old ++ reserved reservations.now) }
+    ensures checked { Means result
+        (must (may_all_reserve prefix (keys earlier.old) [] reservations.now)) }
+    ensures kind { IfErr result (λ fault. fault ≢ Memory → config_fault_number fault
+        ≡ (if may_all_reserve prefix (keys earlier.old) [] (before_outside prefix reservations.now)
+        then 74 else 76)) }
+{
+    let mut clients = IndexSet::new(alloc);
+    for i in 0..reservations.len() {
+        let place = Place::Item(&*at, i);
+        check_reservation(
+            alloc,
+            prefix,
+            &reservations[i],
+            &place,
+            earlier,
+            &mut clients,
+        )?;
+    }
+    Ok(())
+}
+
+// A reservation has an address and a client that no earlier one has; they join these.
+#[tactic(auto, using(crate::proofs::FirstFaults::is_inside))]
+fn check_reservation<'a>(
+    alloc: Global,
+    prefix: Prefix,
+    reservation: &'a Reservation,
+    at: &Place<'_>,
+    earlier: &mut IndexSet<u32>,
+    clients: &mut IndexSet<(bool, &'a [u8])>,
+) -> Result<(), ConfigFault>
+    ensures reserved { IfOk result
+        (λ _. keys earlier.new ≡ keys earlier.old ++ reservation.now.address ∷ []) }
+    ensures known { IfOk result
+        (λ _. map client_by (keys clients.new) ≡ map client_by (keys clients.old)
+        ++ reservation.now.identity ∷ []) }
+    ensures checked { Means result
+        (must (may_reserve prefix (keys earlier.old) reservation.now
+        && is_new (map client_by (keys clients.old)) reservation.now.identity)) }
+    ensures kind { IfErr result (λ fault. fault ≢ Memory → config_fault_number fault
+        ≡ (if has_address prefix reservation.now.address then 76 else 74)) }
+{
+    check_address(alloc, prefix, reservation, at, earlier)?;
+    check_client(alloc, &reservation.identity, at, clients)
+}
+
+// A reservation has an address of the prefix that no earlier one has; the address joins them.
+fn check_address(
+    alloc: Global,
+    prefix: Prefix,
+    reservation: &Reservation,
+    at: &Place<'_>,
+    earlier: &mut IndexSet<u32>,
+) -> Result<(), ConfigFault>
+    ensures joined { IfOk result
+        (λ _. keys earlier.new ≡ keys earlier.old ++ reservation.now.address ∷ []) }
+    ensures checked { Means result (must (may_reserve prefix (keys earlier.old) reservation.now)) }
+    ensures kind { IfErr result (λ fault. fault ≢ Memory → config_fault_number fault
+        ≡ (if has_address prefix reservation.now.address then 76 else 74)) }
+{
+    if !prefix.contains(reservation.address) {
+        return Err(outside(alloc, at, "ip-address"));
+    }
+    if earlier.insert(reservation.address)? {
+        Ok(())
+    } else {
+        Err(repeated(alloc, at, "ip-address"))
+    }
+}
+
+// A client is none of the earlier ones; it joins them.
+fn check_client<'a>(
+    alloc: Global,
+    identity: &'a Identity,
+    at: &Place<'_>,
+    earlier: &mut IndexSet<(bool, &'a [u8])>,
+) -> Result<(), ConfigFault>
+    ensures joined { IfOk result
+        (λ _. map client_by (keys earlier.new) ≡ map client_by (keys earlier.old) ++ identity.now
+        ∷ []) }
+    ensures checked { Means result (must (is_new (map client_by (keys earlier.old)) identity.now)) }
+    ensures kind { IfErr result (λ fault. fault ≢ Memory → config_fault_number fault ≡ 76) }
+{
+    if earlier.insert(key_of(identity))? {
+        return Ok(());
+    }
+    match identity {
+        Identity::Hardware(_) => Err(repeated(alloc, at, "hw-address")),
+        Identity::ClientId(_) => Err(repeated(alloc, at, "client-id")),
+    }
+}
+
+// The bytes of a client, and whether they are a hardware address.
+fn key_of(identity: &Identity) -> (bool, &[u8])
+    ensures { client_by result ≡ identity.now }
+{
+    match identity {
+        Identity::Hardware(bytes) => (true, bytes.as_slice()),
+        Identity::ClientId(bytes) => (false, bytes.as_slice()),
+    }
+}

@@ -1,0 +1,76 @@
+ghost use Rattle.std.specs.Prelude.{◌≡◌, ◌-◌, ◌++◌, ◌&&◌, [], IfOk, length, nat_le};
+ghost use Rattle.indexmap.specs.IndexSet.{keys};
+ghost use Rattle.kd_config.specs.Gives.{Means, GivesAs};
+ghost use Rattle.kd_config.specs.Parts.{obey_within};
+ghost use Rattle.kd_config.specs.Rules.{may_stand, obeys, reserved};
+ghost use Rattle.kd_config.specs.Steps.{must};
+
+use crate::fault::ConfigFault;
+use crate::rules::place::Place;
+use crate::rules::pools::{all_ranges, check_pools, first_overlap};
+use crate::rules::reservations::check_reservations;
+use crate::subnet::Subnet;
+use indexmap::IndexSet;
+use std::alloc::Global;
+
+// The subnets may stand together.
+#[tactic(auto, unfolding(crate::specs::Rules::may_stand))]
+pub(crate) fn check_rules(
+    alloc: Global,
+    subnets: &[Subnet],
+    at: &Place<'_>,
+) -> Result<(), ConfigFault>
+    ensures { Means result (must (may_stand subnets.now)) }
+{
+    let ranges = all_ranges(alloc, subnets)?;
+    let apart = first_overlap(alloc, &ranges)?;
+    check_each(alloc, subnets, apart, at)
+}
+
+// The subnets obey the rules, one after another, and have no pool after so many.
+fn check_each(
+    alloc: Global,
+    subnets: &[Subnet],
+    apart: usize,
+    at: &Place<'_>,
+) -> Result<(), ConfigFault>
+    ensures { Means result (must (obey_within apart [] subnets.now)) }
+{
+    let mut left = apart;
+    let mut earlier = IndexSet::new(alloc);
+    for i in 0..subnets.len() {
+        let place = Place::Item(&*at, i);
+        left = check_subnet(alloc, &subnets[i], left, &place, &mut earlier)?;
+    }
+    Ok(())
+}
+
+// A subnet obeys its rules and has at most so many pools, of which the rest is left; its addresses
+// join those that are reserved.
+#[tactic(auto, unfolding(crate::specs::Rules::obeys))]
+fn check_subnet(
+    alloc: Global,
+    subnet: &Subnet,
+    apart: usize,
+    at: &Place<'_>,
+    earlier: &mut IndexSet<u32>,
+) -> Result<usize, ConfigFault>
+    ensures left { IfOk result (λ left. left ≡ apart - length subnet.now.pools) }
+    ensures joined { IfOk result
+        (λ _. keys earlier.new ≡ keys earlier.old ++ reserved subnet.now.reservations) }
+    ensures checked { GivesAs (λ _. tt) result
+        (must (nat_le (length subnet.now.pools) apart && obeys (keys earlier.old) subnet.now)) }
+{
+    let pools = subnet.pools.as_slice();
+    check_pools(
+        alloc,
+        subnet.prefix,
+        pools,
+        apart,
+        &Place::Key(&*at, "pools"),
+    )?;
+    let reservations = Place::Key(&*at, "reservations");
+    let list = subnet.reservations.as_slice();
+    check_reservations(alloc, subnet.prefix, list, &reservations, earlier)?;
+    Ok(apart - pools.len())
+}
