@@ -8,4 +8,5 @@ pub mod Places
 pub mod Sets
 pub mod Slots
 pub mod Sorting
+pub mod Tiers
 pub mod Walks

@@ -2,3 +2,4 @@ pub mod Row
 pub mod Table
 pub mod Index
 pub mod Laws
+pub mod Tiers

@@ -15,6 +15,7 @@ mod put;
 mod row;
 mod rows;
 mod sorted;
+mod tiered;
 
 pub use row::{Row, State};
 pub use rows::Rows;

@@ -6,6 +6,7 @@ ghost use Rattle.kd_rows.specs.Table.{Rise, row_at, with_row};
 
 use crate::numbers::{number_of, numbers_by_address, numbers_by_client};
 use crate::row::Row;
+use crate::tiered::Tiered;
 use std::alloc::AllocError;
 use std::marker::Model;
 
@@ -15,9 +16,9 @@ use std::marker::Model;
 pub(crate) struct Sorted {
     slots: Vec<Row>,
     // The numbers of the slots, in rising address of their rows.
-    by_address: Vec<u32>,
+    by_address: Tiered,
     // The numbers of the slots, in the order of the index.
-    by_client: Vec<u32>,
+    by_client: Tiered,
 }
 
 impl Model for Sorted {
@@ -27,15 +28,14 @@ impl Model for Sorted {
     ghost Value = { Ordered };
 
     ghost view = { λ s. record {
-      rows = rows_in s.slots.items s.by_address.items;
+      rows = rows_in s.slots.items s.by_address.numbers;
       index = addresses_in
-          s.slots.items s.by_client.items;
+          s.slots.items s.by_client.numbers;
       room = min (vec_capacity s.slots - vec_len s.slots)
-          (min (vec_capacity s.by_address - vec_len s.by_address)
-          (vec_capacity s.by_client - vec_len s.by_client));
+          (min s.by_address.room s.by_client.room);
     } };
 
-    ghost invariant = { λ s. IsStored s.slots.items s.by_address.items s.by_client.items };
+    ghost invariant = { λ s. IsStored s.slots.items s.by_address.numbers s.by_client.numbers };
 }
 
 impl Sorted {
@@ -45,12 +45,13 @@ impl Sorted {
         ensures rows { IfOk result (λ s. s.rows ≡ rows.items) }
         ensures indexed { IfOk result (λ s. IsIndex s.rows s.index) }
     {
+        let alloc = *rows.allocator();
         let by_address = numbers_by_address(&rows)?;
         let by_client = numbers_by_client(&rows)?;
         Ok(Sorted {
             slots: rows,
-            by_address,
-            by_client,
+            by_address: Tiered::of(alloc, by_address.as_slice())?,
+            by_client: Tiered::of(alloc, by_client.as_slice())?,
         })
     }
 
@@ -73,7 +74,7 @@ impl Sorted {
         requires { place < length self.now.rows }
         ensures { result.now ≡ slice_index_or self.now.rows place result.now }
     {
-        &self.slots[self.by_address[place] as usize]
+        &self.slots[self.by_address.at(place) as usize]
     }
 
     // The row of the address at a place of the index.
@@ -82,7 +83,7 @@ impl Sorted {
         ensures at { result.now.address ≡ slice_index self.now.index i }
         ensures found { row_at self.now.rows result.now.address ≡ Some result.now }
     {
-        &self.slots[self.by_client[i] as usize]
+        &self.slots[self.by_client.at(i) as usize]
     }
 
     // The row at a place, or that there are no more.
@@ -118,9 +119,7 @@ impl Sorted {
         ensures { result ≡ self.now.room }
     {
         let slots = self.slots.capacity() - self.slots.len();
-        let by_address = self.by_address.capacity() - self.by_address.len();
-        let by_client = self.by_client.capacity() - self.by_client.len();
-        slots.min(by_address.min(by_client))
+        slots.min(self.by_address.room().min(self.by_client.room()))
     }
 
     // Makes room for a row more.
@@ -130,8 +129,8 @@ impl Sorted {
         ensures room { OnOk result (0 < self.new.room) }
     {
         self.slots.reserve(1)?;
-        self.by_address.reserve(1)?;
-        self.by_client.reserve(1)
+        self.by_address.reserve()?;
+        self.by_client.reserve()
     }
 
     // Sets a row in place of the one at its address.
@@ -141,7 +140,7 @@ impl Sorted {
         ensures index { self.new.index ≡ self.old.index }
         ensures room { self.new.room ≡ self.old.room }
     {
-        let number = self.by_address[place] as usize;
+        let number = self.by_address.at(place) as usize;
         self.slots[number] = row;
     }
 
@@ -155,7 +154,7 @@ impl Sorted {
         ensures room { self.new.room ≡ self.old.room }
     {
         let number = self.by_client.remove(from);
-        insert_number(&mut self.by_client, to, number);
+        self.by_client.insert(to, number);
     }
 
     // Puts a row where its address belongs, and its address at a place of the index.
@@ -169,22 +168,8 @@ impl Sorted {
     {
         let place = self.place_of(row.address);
         let number = number_of(self.slots.len(), row.address);
-        insert_number(&mut self.by_address, place, number);
-        insert_number(&mut self.by_client, key, number);
+        self.by_address.insert(place, number);
+        self.by_client.insert(key, number);
         self.slots.push_reserved(row);
-    }
-}
-
-// Puts a number at a place, where there is room.
-fn insert_number(numbers: &mut Vec<u32>, place: usize, number: u32)
-    requires place { place ≤ vec_len numbers.old }
-    requires room { vec_len numbers.old < vec_capacity numbers.old }
-    ensures items { numbers.new.items ≡ insert numbers.old.items place number }
-    ensures len { vec_len numbers.new ≡ vec_len numbers.old + 1 }
-    ensures capacity { vec_capacity numbers.new ≡ vec_capacity numbers.old }
-{
-    match numbers.insert(place, number) {
-        Ok(()) => (),
-        Err(_) => unreachable!(),
     }
 }

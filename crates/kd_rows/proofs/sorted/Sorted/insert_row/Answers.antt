@@ -6,24 +6,24 @@ use Rattle.kd_rows.proofs.sorted.Sorted.insert_row.Goals as goal
 
 pub number_of-number-requires : goal.number_of-number-requires
 number_of-number-requires c = λ low.
-    let fits = number_fits c.self.inside.slots.items c.args.self.now.rows c.self.inside.by_address.items c.place_of-place.result c.args.row c.self.invariant.sorted (ap (λ (t : Ordered). t.rows) c.self.view_is) c.place_of-place.ensures c.requires.none low in
+    let fits = number_fits c.self.inside.slots.items c.args.self.now.rows c.self.inside.by_address.numbers c.place_of-place.result c.args.row c.self.invariant.sorted (ap (λ (t : Ordered). t.rows) c.self.view_is) c.place_of-place.ensures c.requires.none low in
     omega (arith, fits, c.len.ensures, c.self.inside.slots.ok.0)
 
 pub invariant_of-self : goal.invariant_of-self
 invariant_of-self c =
     let is : c.number_of-number.result ≡ length c.self.inside.slots.items = omega (arith, c.number_of-number.ensures.number, c.len.ensures, c.self.inside.slots.ok.0) in
     record {
-      sorted = (inserted_now c.self.inside.slots.items c.args.self.now.rows c.push_reserved.new.self.items c.self.inside.by_address.items c.insert_number.new.numbers.items c.place_of-place.result c.number_of-number.result c.args.row c.number_of-number.ensures.bound c.self.invariant.sorted (ap (λ (t : Ordered). t.rows) c.self.view_is) c.place_of-place.ensures c.requires.none is c.push_reserved.ensures.items c.insert_number.ensures.items).0;
-      within = within_more c.self.inside.slots.items c.push_reserved.new.self.items c.self.inside.by_client.items c.insert_number-2.new.numbers.items c.args.key c.number_of-number.result c.args.row c.self.invariant.within is c.push_reserved.ensures.items c.insert_number-2.ensures.items;
+      sorted = (inserted_now c.self.inside.slots.items c.args.self.now.rows c.push_reserved.new.self.items c.self.inside.by_address.numbers c.insert.new.self.numbers c.place_of-place.result c.number_of-number.result c.args.row c.number_of-number.ensures.bound c.self.invariant.sorted (ap (λ (t : Ordered). t.rows) c.self.view_is) c.place_of-place.ensures c.requires.none is c.push_reserved.ensures.items c.insert.ensures.numbers).0;
+      within = within_more c.self.inside.slots.items c.push_reserved.new.self.items c.self.inside.by_client.numbers c.insert-2.new.self.numbers c.args.key c.number_of-number.result c.args.row c.self.invariant.within is c.push_reserved.ensures.items c.insert-2.ensures.numbers;
     }
 
 pub returns-clause-rows : goal.returns-clause-rows
 returns-clause-rows c =
     let is : c.number_of-number.result ≡ length c.self.inside.slots.items = omega (arith, c.number_of-number.ensures.number, c.len.ensures, c.self.inside.slots.ok.0) in
-    (inserted_now c.self.inside.slots.items c.args.self.now.rows c.push_reserved.new.self.items c.self.inside.by_address.items c.insert_number.new.numbers.items c.place_of-place.result c.number_of-number.result c.args.row c.number_of-number.ensures.bound c.self.invariant.sorted (ap (λ (t : Ordered). t.rows) c.self.view_is) c.place_of-place.ensures c.requires.none is c.push_reserved.ensures.items c.insert_number.ensures.items).1
+    (inserted_now c.self.inside.slots.items c.args.self.now.rows c.push_reserved.new.self.items c.self.inside.by_address.numbers c.insert.new.self.numbers c.place_of-place.result c.number_of-number.result c.args.row c.number_of-number.ensures.bound c.self.invariant.sorted (ap (λ (t : Ordered). t.rows) c.self.view_is) c.place_of-place.ensures c.requires.none is c.push_reserved.ensures.items c.insert.ensures.numbers).1
 
 pub returns-clause-index : goal.returns-clause-index
 returns-clause-index c =
     let is : c.number_of-number.result ≡ length c.self.inside.slots.items = omega (arith, c.number_of-number.ensures.number, c.len.ensures, c.self.inside.slots.ok.0) in
-    index_more c.self.inside.slots.items c.push_reserved.new.self.items c.self.inside.by_client.items c.insert_number-2.new.numbers.items c.args.key c.number_of-number.result c.args.row c.self.invariant.within is c.push_reserved.ensures.items c.insert_number-2.ensures.items
+    index_more c.self.inside.slots.items c.push_reserved.new.self.items c.self.inside.by_client.numbers c.insert-2.new.self.numbers c.args.key c.number_of-number.result c.args.row c.self.invariant.within is c.push_reserved.ensures.items c.insert-2.ensures.numbers
     ∙ ap (λ (t : Ordered). insert t.index c.args.key c.args.row.address) c.self.view_is

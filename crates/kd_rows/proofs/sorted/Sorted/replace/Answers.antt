@@ -5,13 +5,13 @@ use Rattle.kd_rows.proofs.sorted.Sorted.replace.Goals as goal
 
 pub invariant_of-self : goal.invariant_of-self
 invariant_of-self c =
-    replaced_stored c.self.inside.slots.items c.args.self.now.rows c.self.inside.by_address.items c.self.inside.by_client.items c.args.place c.index.result.now c.args.row c.self.invariant (ap (λ (t : Ordered). t.rows) c.self.view_is) c.index.ensures c.requires
+    replaced_stored c.self.inside.slots.items c.args.self.now.rows c.self.inside.by_address.numbers c.self.inside.by_client.numbers c.args.place c.at-number.result c.args.row c.self.invariant (ap (λ (t : Ordered). t.rows) c.self.view_is) c.at-number.ensures c.requires
 
 pub returns-clause-rows : goal.returns-clause-rows
 returns-clause-rows c =
-    (replaced_now c.self.inside.slots.items c.args.self.now.rows c.self.inside.by_address.items c.args.place c.index.result.now c.args.row c.self.invariant.sorted (ap (λ (t : Ordered). t.rows) c.self.view_is) c.index.ensures c.requires).1
+    (replaced_now c.self.inside.slots.items c.args.self.now.rows c.self.inside.by_address.numbers c.args.place c.at-number.result c.args.row c.self.invariant.sorted (ap (λ (t : Ordered). t.rows) c.self.view_is) c.at-number.ensures c.requires).1
 
 pub returns-clause-index : goal.returns-clause-index
 returns-clause-index c =
-    replaced_index c.self.inside.slots.items c.args.self.now.rows c.self.inside.by_address.items c.self.inside.by_client.items c.args.place c.index.result.now c.args.row c.self.invariant (ap (λ (t : Ordered). t.rows) c.self.view_is) c.index.ensures c.requires
+    replaced_index c.self.inside.slots.items c.args.self.now.rows c.self.inside.by_address.numbers c.self.inside.by_client.numbers c.args.place c.at-number.result c.args.row c.self.invariant (ap (λ (t : Ordered). t.rows) c.self.view_is) c.at-number.ensures c.requires
     ∙ ap (λ (t : Ordered). t.index) c.self.view_is

@@ -1,0 +1,25 @@
+-- A list of numbers in tiers of one size: words of private contracts and invariants alone.
+use Rattle.std.specs.Prelude.{◌≡◌, ℕ, ◌+◌, ◌-◌, ◌*◌, ◌^◌, ◌<◌, ◌≤◌, min, List, length, slice_index_or}
+use Rattle.std.specs.List.{All, flat_map}
+
+-- numbers, and for how many more there is room
+pub record Roomy : Type 0 where
+  pub numbers : List ℕ
+  pub room : ℕ
+
+-- tiers have room for 2,048 numbers each, and each has as many as it can: what is left stands in
+-- those after it
+pub record AreTiers {T : Type 0} (numbers : T → List ℕ) (capacity : T → ℕ) (tiers : List T)
+    : Type 0 where
+  pub full : (i : ℕ) (d : T) → i < length tiers
+      → length (numbers (slice_index_or tiers i d))
+      ≡ min 2048 (length (flat_map numbers tiers) - 2048 * i)
+  pub roomy : All (λ tier. 2048 ≤ capacity tier) tiers
+
+-- tiers with so many numbers and so much room
+pub record IsTiered {T : Type 0} (numbers : T → List ℕ) (capacity : T → ℕ) (tiers : List T)
+    (len room : ℕ) : Type 0 where
+  pub stand : AreTiers numbers capacity tiers
+  pub counted : len ≡ length (flat_map numbers tiers)
+  pub spare : len + room ≡ 2048 * length tiers
+  pub bound : len + room < 2 ^ 64

@@ -1,0 +1,203 @@
+ghost use Rattle.std.specs.Prelude.{◌≡◌, ◌+◌, ◌*◌, ◌<◌, ◌≤◌, ◌++◌, [], IfOk, OnOk, length, slice_index_or};
+ghost use Rattle.std.specs.List.{flat_map, insert, remove};
+ghost use Rattle.std.specs.Option.{option_to_list};
+ghost use Rattle.std.specs.VecDeque.{deque_capacity, deque_items};
+ghost use Rattle.kd_rows.specs.Tiers.{AreTiers};
+
+use std::alloc::{AllocError, Global};
+use std::collections::VecDeque;
+use std::marker::Model;
+
+// For how many numbers a tier has room.
+const SIZE: usize = 2048;
+
+// A list of numbers in tiers of one size, of which each has as many as it can. Where a number is
+// put among the others, those after it in its tier make room, and of each full tier the last one
+// goes to the front of the next.
+#[derive(Drop)]
+pub(crate) struct Tiered {
+    tiers: Vec<VecDeque<u32>>,
+    len: usize,
+    // For how many more numbers there is room.
+    room: usize,
+}
+
+impl Model for Tiered {
+    ghost use Rattle.std.specs.List.{flat_map};
+    ghost use Rattle.std.specs.VecDeque.{deque_capacity, deque_items};
+    ghost use Rattle.kd_rows.specs.Tiers.{IsTiered, Roomy};
+
+    ghost Value = { Roomy };
+
+    ghost view = { λ s. record { numbers = flat_map deque_items s.tiers.items; room = s.room } };
+
+    ghost invariant = { λ s. IsTiered deque_items deque_capacity s.tiers.items s.len s.room };
+}
+
+impl Tiered {
+    // No numbers.
+    pub(crate) fn new(alloc: Global) -> Tiered
+        ensures { result.numbers ≡ [] }
+    {
+        Tiered {
+            tiers: Vec::new(alloc),
+            len: 0,
+            room: 0,
+        }
+    }
+
+    // These numbers.
+    pub(crate) fn of(alloc: Global, numbers: &[u32]) -> Result<Tiered, AllocError>
+        ensures { IfOk result (λ tiered. tiered.numbers ≡ numbers.now) }
+    {
+        let mut tiered = Tiered::new(alloc);
+        for number in numbers {
+            tiered.reserve()?;
+            let len = tiered.len();
+            tiered.insert(len, *number);
+        }
+        Ok(tiered)
+    }
+
+    // How many numbers there are.
+    pub(crate) fn len(&self) -> usize
+        ensures { result ≡ length self.now.numbers }
+    {
+        self.len
+    }
+
+    // The number at a place.
+    pub(crate) fn at(&self, place: usize) -> u32
+        requires { place < length self.now.numbers }
+        ensures { result ≡ slice_index_or self.now.numbers place result }
+    {
+        self.tiers[place / SIZE][place % SIZE]
+    }
+
+    // For how many more numbers there is room.
+    pub(crate) fn room(&self) -> usize
+        ensures { result ≡ self.now.room }
+    {
+        self.room
+    }
+
+    // Makes room for a number more.
+    pub(crate) fn reserve(&mut self) -> Result<(), AllocError>
+        ensures numbers { self.new.numbers ≡ self.old.numbers }
+        ensures room { OnOk result (0 < self.new.room) }
+    {
+        if self.room > 0 {
+            return Ok(());
+        }
+        if self.len > usize::MAX - SIZE {
+            return Err(AllocError);
+        }
+        let tier = VecDeque::with_capacity(*self.tiers.allocator(), SIZE)?;
+        self.tiers.push(tier)?;
+        self.room = SIZE;
+        Ok(())
+    }
+
+    // Puts a number at a place.
+    pub(crate) fn insert(&mut self, place: usize, number: u32)
+        requires place { place ≤ length self.old.numbers }
+        requires room { 0 < self.old.room }
+        ensures numbers { self.new.numbers ≡ insert self.old.numbers place number }
+        ensures room { self.new.room + 1 ≡ self.old.room }
+    {
+        put_among(&mut self.tiers, place, number);
+        self.len += 1;
+        self.room -= 1;
+    }
+
+    // Takes the number at a place.
+    pub(crate) fn remove(&mut self, place: usize) -> u32
+        requires { place < length self.old.numbers }
+        ensures value { result ≡ slice_index_or self.old.numbers place result }
+        ensures numbers { self.new.numbers ≡ remove self.old.numbers place }
+        ensures room { self.new.room ≡ self.old.room + 1 }
+    {
+        let number = take_among(&mut self.tiers, place);
+        self.len -= 1;
+        self.room += 1;
+        number
+    }
+}
+
+// Puts a number at a place of tiers with room for one more.
+fn put_among(tiers: &mut Vec<VecDeque<u32>>, place: usize, number: u32)
+    requires tiers { AreTiers deque_items deque_capacity tiers.old.items }
+    requires place { place ≤ length (flat_map deque_items tiers.old.items) }
+    requires room { length (flat_map deque_items tiers.old.items) < 2048 * length tiers.old.items }
+    ensures tiers { AreTiers deque_items deque_capacity tiers.new.items }
+    ensures count { length tiers.new.items ≡ length tiers.old.items }
+    ensures numbers { flat_map deque_items tiers.new.items
+        ≡ insert (flat_map deque_items tiers.old.items) place number }
+{
+    let mut tier = place / SIZE;
+    let mut over = put(&mut tiers[tier], place % SIZE, number);
+    while let Some(last) = over {
+        tier += 1;
+        over = put(&mut tiers[tier], 0, last);
+    }
+}
+
+// Takes the number at a place of tiers.
+fn take_among(tiers: &mut Vec<VecDeque<u32>>, place: usize) -> u32
+    requires tiers { AreTiers deque_items deque_capacity tiers.old.items }
+    requires place { place < length (flat_map deque_items tiers.old.items) }
+    ensures tiers { AreTiers deque_items deque_capacity tiers.new.items }
+    ensures count { length tiers.new.items ≡ length tiers.old.items }
+    ensures value { result ≡ slice_index_or (flat_map deque_items tiers.old.items) place result }
+    ensures numbers { flat_map deque_items tiers.new.items
+        ≡ remove (flat_map deque_items tiers.old.items) place }
+{
+    let tier = place / SIZE;
+    let number = take(&mut tiers[tier], place % SIZE);
+    for next in tier + 1..tiers.len() {
+        if tiers[next].is_empty() {
+            return number;
+        }
+        match tiers[next].pop_front() {
+            Some(first) => tiers[next - 1].push_back_reserved(first),
+            None => unreachable!(),
+        }
+    }
+    number
+}
+
+// Puts a number at a place of a tier; where the tier is full, its last number comes out.
+fn put(tier: &mut VecDeque<u32>, place: usize, number: u32) -> Option<u32>
+    requires room { 2048 ≤ deque_capacity tier.old }
+    requires len { length tier.old.items ≤ 2048 }
+    requires place { place ≤ length tier.old.items }
+    requires within { place < 2048 }
+    ensures items { insert tier.old.items place number ≡ tier.new.items ++ option_to_list result }
+    ensures room { 2048 ≤ deque_capacity tier.new }
+    ensures len { length tier.new.items + length (option_to_list result) ≡ length tier.old.items + 1 }
+    ensures full { length tier.new.items ≤ 2048 }
+    ensures over { 0 < length (option_to_list result) → length tier.new.items ≡ 2048 }
+{
+    let over = if tier.len() == SIZE {
+        tier.pop_back()
+    } else {
+        None
+    };
+    match tier.insert(place, number) {
+        Ok(()) => over,
+        Err(_) => unreachable!(),
+    }
+}
+
+// Takes the number at a place of a tier.
+fn take(tier: &mut VecDeque<u32>, place: usize) -> u32
+    requires { place < length tier.old.items }
+    ensures value { result ≡ slice_index_or tier.old.items place result }
+    ensures items { tier.new.items ≡ remove tier.old.items place }
+    ensures room { deque_capacity tier.new ≡ deque_capacity tier.old }
+{
+    match tier.remove(place) {
+        Some(number) => number,
+        None => unreachable!(),
+    }
+}
