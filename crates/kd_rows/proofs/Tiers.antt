@@ -131,6 +131,13 @@ pub record IsCarried {T : Type 0} (f : T → List ℕ) (capacity : T → ℕ) (o
   pub none : length over ≡ 0 → length (flat_map f old) < 2048 * (i + 1)
   pub roomy : All (λ t. 2048 ≤ capacity t) now
 
+-- a tier has as many as it can once one came into it, and what it had no room for came out
+grown : {T : Type 0} (f : T → List ℕ) (n i : ℕ) (d t : T) (over : List ℕ) → length (f d) ≡ min 2048 (n - 2048 * i) → 2048 * i ≤ n → length (f t) + length over ≡ length (f d) + 1 → length (f t) ≤ 2048 → (0 < length over → length (f t) ≡ 2048) → length over ≤ 1 → length (f t) ≡ min 2048 (n + 1 - 2048 * i)
+grown f n i d t over was reached long low full one = ⊎_elim
+    (λ none. omega (arith, was, none, long, low, reached))
+    (λ some. let all = full (omega (arith, some)) in omega (arith, was, all, long, one, some, reached))
+    (cases_eq (length over) 0)
+
 -- it comes into its tier
 pub carried_first : {T : Type 0} (f : T → List ℕ) (capacity : T → ℕ) (old : List T) (place number : ℕ) (d t : T) (over : List ℕ) → AreTiers f capacity old → place ≤ length (flat_map f old) → length (flat_map f old) < 2048 * length old → d ≡ get_or old (place / 2048) d → insert (f d) (place % 2048) number ≡ f t ++ over → length (f t) + length over ≡ length (f d) + 1 → length (f t) ≤ 2048 → (0 < length over → length (f t) ≡ 2048) → length over ≤ 1 → 2048 ≤ capacity t → IsCarried f capacity old (set old (place / 2048) t) place number (place / 2048) over
 carried_first f capacity old place number d t over are most room read is long low full one roomy =
@@ -142,17 +149,12 @@ carried_first f capacity old place number d t over are most room read is long lo
       count = n;
       most = one;
       same = exchanged f old (place / 2048) t _ (insert (f d) (place % 2048) number) over inside is (begun f old place number d are.full most inside ∙ ap (λ (x : _). flat_map f (take (place / 2048) old) ++ (insert (f x) (place % 2048) number ++ flat_map f (drop (place / 2048 + 1) old))) (sym read));
-      below = full_before f (length (flat_map f old) + 1) old (place / 2048) t inside (now was) (λ j e under. let h = are.full j e (omega (arith, under, inside)) in omega (arith, h, under, most));
+      below = full_before f (length (flat_map f old) + 1) old (place / 2048) t inside (grown f (length (flat_map f old)) (place / 2048) d t over was (omega (arith, most)) long low full one) (λ j e under. let h = are.full j e (omega (arith, under, inside)) in omega (arith, h, under, most));
       above = full_after f (length (flat_map f old)) old (place / 2048) t (λ j e above within. are.full j e within);
       some = λ h. let it = full h in omega (arith, was, it, long, h, one);
       none = λ h. omega (arith, was, long, low, h);
       roomy = roomy_set capacity old (place / 2048) t roomy are.roomy;
-    } where
-      now : length (f d) ≡ min 2048 (length (flat_map f old) - 2048 * (place / 2048)) → length (f t) ≡ min 2048 (length (flat_map f old) + 1 - 2048 * (place / 2048))
-      now was = ⊎_elim
-          (λ none. omega (arith, was, none, long, low))
-          (λ some. let it = full (omega (arith, some)) in omega (arith, was, it, long, one, some))
-          (cases_eq (length over) 0)
+    }
 
 -- what came out of a tier comes into the next
 pub carried_more : {T : Type 0} (f : T → List ℕ) (capacity : T → ℕ) (old now : List T) (place number i last : ℕ) (d t : T) (over : List ℕ) → IsCarried f capacity old now place number i (last ∷ []) → i + 1 < length now → d ≡ get_or now (i + 1) d → last ∷ f d ≡ f t ++ over → length (f t) + length over ≡ length (f d) + 1 → length (f t) ≤ 2048 → (0 < length over → length (f t) ≡ 2048) → length over ≤ 1 → 2048 ≤ capacity t → IsCarried f capacity old (set now (i + 1) t) place number (i + 1) over
@@ -165,17 +167,12 @@ carried_more {T} f capacity old now place number i last d t over it inside read 
       count = n ∙ it.count;
       most = one;
       same = exchanged f now (i + 1) t _ (last ∷ f d) over inside is (it.same ∙ ap (λ (ys : List T). flat_map f (take (i + 1) now) ++ (last ∷ flat_map f ys)) (drop_more now (i + 1) d inside) ∙ ap (λ (x : T). flat_map f (take (i + 1) now) ++ ((last ∷ f x) ++ flat_map f (drop (i + 1 + 1) now))) (sym read));
-      below = full_before f (length (flat_map f old) + 1) now (i + 1) t inside (new was some) it.below;
+      below = full_before f (length (flat_map f old) + 1) now (i + 1) t inside (grown f (length (flat_map f old)) (i + 1) d t over was some long low full one) it.below;
       above = full_after f (length (flat_map f old)) now (i + 1) t (λ j e above within. it.above j e (omega (arith, above)) within);
       some = λ h. let it = full h in omega (arith, was, it, long, h, one, some);
       none = λ h. omega (arith, was, long, low, h, some);
       roomy = roomy_set capacity now (i + 1) t roomy it.roomy;
-    } where
-      new : length (f d) ≡ min 2048 (length (flat_map f old) - 2048 * (i + 1)) → 2048 * (i + 1) ≤ length (flat_map f old) → length (f t) ≡ min 2048 (length (flat_map f old) + 1 - 2048 * (i + 1))
-      new was some = ⊎_elim
-          (λ none. omega (arith, was, none, long, low, some))
-          (λ more. let it = full (omega (arith, more)) in omega (arith, was, it, long, one, more, some))
-          (cases_eq (length over) 0)
+    }
 
 -- nothing came out of a tier: the number stands among the others
 pub carried_all : {T : Type 0} (f : T → List ℕ) (capacity : T → ℕ) (old now : List T) (place number i : ℕ) → place ≤ length (flat_map f old) → IsCarried f capacity old now place number i [] → AreTiers f capacity now × (flat_map f now ≡ insert (flat_map f old) place number)
