@@ -7,19 +7,19 @@ pub record Roomy : Type 0 where
   pub numbers : List ℕ
   pub room : ℕ
 
--- tiers have room for 2,048 numbers each, and each has as many as it can: what is left stands in
+-- tiers have room for 1,024 numbers each, and each has as many as it can: what is left stands in
 -- those after it
 pub record AreTiers {T : Type 0} (numbers : T → List ℕ) (capacity : T → ℕ) (tiers : List T)
     : Type 0 where
   pub full : (i : ℕ) (d : T) → i < length tiers
       → length (numbers (slice_index_or tiers i d))
-      ≡ min 2048 (length (flat_map numbers tiers) - 2048 * i)
-  pub roomy : All (λ tier. 2048 ≤ capacity tier) tiers
+      ≡ min 1024 (length (flat_map numbers tiers) - 1024 * i)
+  pub roomy : All (λ tier. 1024 ≤ capacity tier) tiers
 
 -- tiers with so many numbers and so much room
 pub record IsTiered {T : Type 0} (numbers : T → List ℕ) (capacity : T → ℕ) (tiers : List T)
     (len room : ℕ) : Type 0 where
   pub stand : AreTiers numbers capacity tiers
   pub counted : len ≡ length (flat_map numbers tiers)
-  pub spare : len + room ≡ 2048 * length tiers
+  pub spare : len + room ≡ 1024 * length tiers
   pub bound : len + room < 2 ^ 64
