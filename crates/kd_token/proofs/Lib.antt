@@ -4,6 +4,7 @@ pub mod Again
 pub mod Read
 pub mod Told
 pub mod Fields
+pub mod Alone
 pub mod Down
 pub mod Meets
 pub mod Pairwise

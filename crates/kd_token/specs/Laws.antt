@@ -1,8 +1,10 @@
--- What is true of each program that has a file.
-use Rattle.std.specs.Prelude.{◌≡◌, ℕ, ◌+◌, ◌≤◌, length, slice_get, Some, MatchOption}
+-- What is true of each program that has a file, and of all bytes.
+use Rattle.std.specs.Prelude.{◌≡◌, ℕ, ◌+◌, ◌≤◌, List, length, slice_get, Some, MatchOption}
 use Rattle.std.specs.List.{AllByRecursion}
 use Rattle.kd_token.specs.Accepts.{Point, flows}
 use Rattle.kd_token.specs.File.{Code, HasFile, IsToken}
+use Rattle.kd_token.specs.FirstFault.{IsFileFault}
+use Rattle.kd_token.specs.declared.fault.FileFault.{FileFault}
 use Rattle.kd_token.specs.declared.token.Token.{Token}
 
 -- a token at place i of a program: so many tokens are left after it, its operands fit their bytes,
@@ -22,3 +24,8 @@ TokensStandIn p =
 -- where the program has a file
 abbrev pub TokensStand : Type 0
 TokensStand = (p : Code) → HasFile p → TokensStandIn p
+
+-- bytes have one first fault
+abbrev pub HaveOneFault : Type 0
+HaveOneFault =
+    (bytes : List ℕ) (f g : FileFault) → IsFileFault bytes f → IsFileFault bytes g → f ≡ g
