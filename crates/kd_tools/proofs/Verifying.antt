@@ -1,7 +1,7 @@
 -- From what the verifier says of a program to what is printed of it.
 use Rattle.std.proofs.Common.{◌≡◌, ◌≢◌, subst, Result, Ok, Err}
 use Rattle.std.specs.Result.{IfOk}
-use Rattle.kd_token.specs.Accepts.{Accepts, IsVerifyFault}
+use Rattle.kd_token.specs.Accepts.{Accepts, IsRightFault, IsVerifyFault}
 use Rattle.kd_token.specs.Faults.{verify_fault_number}
 use Rattle.kd_token.specs.File.{Code}
 use Rattle.kd_token.specs.declared.fault.VerifyFault.{VerifyFault}
@@ -17,9 +17,9 @@ module _ {E : Type 0} (says : Code → Printed → Type 0) where
 
   -- a program that is refused with this fault
   pub refuses : (c : Code) (fault : VerifyFault) (r : Result Printed E) → IfOk r (λ p. fault ≢ Memory) → (Accepts c → fault ≡ Memory)
-      → IsVerifyFault c fault → IfOk r (IsRefusal (verify_fault_number fault)) → IfOk r (OfAccepted says c)
-  refuses c fault (Ok p) ours only has line = record {
+      → IsVerifyFault c fault → IsRightFault c fault → IfOk r (IsRefusal (verify_fault_number fault)) → IfOk r (OfAccepted says c)
+  refuses c fault (Ok p) ours only has right line = record {
     accepted = λ h. absurd (ours (only h));
-    refused = λ none. record { fault = fault; first = has; ours = ours; line = line };
+    refused = λ none. record { fault = fault; first = has; right = right; ours = ours; line = line };
   }
-  refuses c fault (Err error) ours only has line = tt
+  refuses c fault (Err error) ours only has right line = tt

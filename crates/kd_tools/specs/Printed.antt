@@ -20,9 +20,10 @@ use Rattle.kd_options.specs.Joined.{value_of}
 use Rattle.kd_options.specs.Message.{Seen, Reads, IsFirstFault}
 use Rattle.kd_options.specs.declared.fault.ReadFault.{ReadFault}
 use Rattle.kd_options.specs.declared.fault.ReadFault.TheVariants.{Memory}
-use Rattle.kd_token.specs.Accepts.{Accepts, IsVerifyFault}
+use Rattle.kd_token.specs.Accepts.{Accepts, IsRightFault, IsVerifyFault}
 use Rattle.kd_token.specs.Faults.{file_fault_number, verify_fault_number}
 use Rattle.kd_token.specs.File.{Code, IsFileOf}
+use Rattle.kd_token.specs.FirstFault.{IsFileFault}
 use Rattle.kd_token.specs.declared.fault.FileFault.{FileFault}
 use Rattle.kd_token.specs.declared.fault.FileFault.TheVariants as file
 use Rattle.kd_token.specs.declared.fault.VerifyFault.{VerifyFault}
@@ -131,29 +132,31 @@ accepted_line c =
     ++ codes " length " ++ decimal c.bound
     ++ codes " tokens " ++ decimal (length c.tokens) ++ line_feed
 
--- a program is refused for a fault that it has, which is not want of memory
+-- a program is refused for the first fault that it has, and that is the one there; it is not want of
+-- memory
 pub record IsUnaccepted (c : Code) (p : Printed) : Type 0 where
   pub fault : VerifyFault
   pub first : IsVerifyFault c fault
+  pub right : IsRightFault c fault
   pub ours : fault ≢ verifying.Memory
   pub line : IsRefusal (verify_fault_number fault) p
 
--- what is said of a program that is accepted, and else a fault that it has
+-- what is said of a program that is accepted, and else the first fault that it has
 pub record OfAccepted (says : Code → Printed → Type 0) (c : Code) (p : Printed) : Type 0 where
   pub accepted : Accepts c → says c p
   pub refused : (Accepts c → ⊥) → IsUnaccepted c p
 
--- bytes are refused for a fault of their reading, which is not want of memory
-pub record IsNoFile (p : Printed) : Type 0 where
+-- bytes are refused for their first fault, which is not want of memory
+pub record IsNoFile (bytes : List ℕ) (p : Printed) : Type 0 where
   pub fault : FileFault
+  pub first : IsFileFault bytes fault
   pub ours : fault ≢ file.Memory
   pub line : IsRefusal (file_fault_number fault) p
 
--- what is said of the program of a token file, where the bytes are one, and else the fault of their
--- reading
+-- what is said of the program of a token file, where the bytes are one, and else their first fault
 pub record OfFile (says : Code → Printed → Type 0) (bytes : List ℕ) (p : Printed) : Type 0 where
   pub readable : (c : Code) → IsFileOf bytes c → says c p
-  pub refused : ((c : Code) → IsFileOf bytes c → ⊥) → IsNoFile p
+  pub refused : ((c : Code) → IsFileOf bytes c → ⊥) → IsNoFile bytes p
 
 -- what a program declares
 abbrev pub VerifiesProgram : Code → Printed → Type 0

@@ -17,5 +17,5 @@ returns-in-Ok c =
 pub returns : goal.returns
 returns c =
     let e = c.in-Err.ensures in
-    refuses (runs c.args.datagram.now) c.args.program c.in-Err.fault c.refused_program.result c.refused_program.ensures.ours e.only e.refused.1
+    refuses (runs c.args.datagram.now) c.args.program c.in-Err.fault c.refused_program.result c.refused_program.ensures.ours e.only e.refused.1 e.right
     c.refused_program.ensures.line

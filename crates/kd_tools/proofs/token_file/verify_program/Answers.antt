@@ -19,4 +19,4 @@ returns-in-Ok c =
 pub returns : goal.returns
 returns c =
     let e = c.in-Err.ensures in
-    refuses declares c.args.program c.in-Err.fault c.refused_program.result c.refused_program.ensures.ours e.only e.refused.1 c.refused_program.ensures.line
+    refuses declares c.args.program c.in-Err.fault c.refused_program.result c.refused_program.ensures.ours e.only e.refused.1 e.right c.refused_program.ensures.line
