@@ -1,16 +1,18 @@
 -- The newest of a client's addresses: they are looked at one after another.
-use Rattle.std.proofs.Common.{◌≡◌, ℕ, suc, ◌+◌, ◌<◌, ◌≤◌, Bool, true, false, ◌&&◌, ◌||◌, ◌==◌, nat_lt, not, List, [], ◌∷◌, length, get_or, map, filter, Option, Some, None, slice_get, refl, sym, ap, ◌∙◌, arith, below_more, ⊎_elim, if◌then◌else◌}
+use Rattle.std.proofs.Common.{◌≡◌, ℕ, suc, ◌+◌, ◌<◌, ◌≤◌, Bool, true, false, ◌&&◌, ◌||◌, ◌==◌, nat_lt, not, List, [], ◌∷◌, length, get_or, map, filter, Option, Some, None, slice_get, refl, sym, ap, subst, ◌∙◌, arith, below_more, ⊎_elim, if◌then◌else◌}
 use Rattle.std.proofs.lemmas.Bool.{eqb-true, false≢true}
 use Rattle.std.proofs.lemmas.Bool.Decides.{nat_tests}
 use Rattle.std.proofs.lemmas.Option.{none-some, slice_get_cases}
 use Rattle.kd_rows.specs.Table.{addresses_of, belongs_to, row_at}
 use Rattle.kd_rows.specs.declared.row.Row.{Row}
-use Rattle.kd_lease.specs.Choice.{Asking, changed_in, fitting_for, has_such, held_row, holding_state, live_row, set_later, past_row}
+use Rattle.kd_lease.specs.Choice.{Asking, changed_in, fitting_for, has_rank, has_such, held_row, holding_state, live_row, set_later, past_row}
+use Rattle.kd_lease.specs.Choice.Rank.{own, past}
 use Rattle.kd_lease.specs.Rules.{IsNewest, client_has, held_at, offered_state}
-use Rattle.kd_lease.specs.Seeking.{newer_of, past_at, sought_at}
+use Rattle.kd_lease.specs.Seeking.{IsRanked, newer_of, past_at, sought_at}
 use Rattle.kd_lease.specs.declared.seeking.Sought.{Sought}
 use Rattle.kd_lease.specs.declared.seeking.Sought.TheVariants as seeks
 use Rattle.kd_config.specs.Address.{has_address}
+use Rattle.kd_config.specs.declared.subnet.Subnet.{Subnet}
 
 -- what was found is the newest of the first n addresses that are such
 abbrev pub IsNewestOf : List Row → (ℕ → Bool) → List ℕ → ℕ → Option ℕ → Type 0
@@ -60,14 +62,14 @@ stands client (r ∷ rows) a h = by (r.address == a) (belongs_to client r) refl 
 -- the newest of all the client's addresses that are such is the newest of all that are, where those are the client's
 pub newest_of_all : (rows : List Row) (such : ℕ → Bool) (client : List ℕ) (n : ℕ) (best : Option ℕ) → ((a : ℕ) → such a ≡ true → has_such (belongs_to client) (row_at rows a) ≡ true)
     → length (addresses_of client rows) ≤ n → IsNewestOf rows such (addresses_of client rows) n best → IsNewest rows such best
-newest_of_all rows such client n None own all h = λ a. by a (such a) refl where
+newest_of_all rows such client n None belongs all h = λ a. by a (such a) refl where
   by : (a : ℕ) (b : Bool) → such a ≡ b → such a ≡ false
-  by a true e = let s = stands client rows a (own a e) in let l = s.1 in ap such (sym s.2) ∙ h s.0 (omega arith)
+  by a true e = let s = stands client rows a (belongs a e) in let l = s.1 in ap such (sym s.2) ∙ h s.0 (omega arith)
   by a false e = e
-newest_of_all rows such client n (Some a) own all h = (
+newest_of_all rows such client n (Some a) belongs all h = (
   h.0,
   λ b e.
-      let s = stands client rows b (own b e) in
+      let s = stands client rows b (belongs b e) in
       let l = s.1 in
       ap (λ x. set_later rows x a) (sym s.2) ∙ h.1 s.0 (omega arith) (ap such s.2 ∙ e),
 )
@@ -89,9 +91,15 @@ such_is_mine : (q : Asking) (such : Row → Bool) → ((row : Row) → such row 
 such_is_mine q such h None g = g
 such_is_mine q such h (Some row) g = h row g
 
+own_is_mine : (q : Asking) (s : Subnet) (a : ℕ) → has_rank q s own a ≡ true → has_such (belongs_to q.client) (row_at q.rows a) ≡ true
+own_is_mine q s a h = such_is_mine q (held_row q) (λ row g. mine q row (live_row q.now row) (holding_state row.state) g) (row_at q.rows a) (both (held_at q a) (fitting_for q s a) h)
+
+past_is_its : (q : Asking) (s : Subnet) (a : ℕ) → has_rank q s past a ≡ true → has_such (belongs_to q.client) (row_at q.rows a) ≡ true
+past_is_its q s a h = such_is_mine q (past_row q) (λ row g. past_is_mine (not (live_row q.now row)) (belongs_to q.client row) g) (row_at q.rows a) (both (past_at q a) (fitting_for q s a) h)
+
 pub sought_is_mine : (q : Asking) (sought : Sought) (a : ℕ) → sought_at q sought a ≡ true → has_such (belongs_to q.client) (row_at q.rows a) ≡ true
-sought_is_mine q (seeks.Own s) a h = such_is_mine q (held_row q) (λ row g. mine q row (live_row q.now row) (holding_state row.state) g) (row_at q.rows a) (both (held_at q a) (fitting_for q s.now a) h)
-sought_is_mine q (seeks.Past s) a h = such_is_mine q (past_row q) (λ row g. past_is_mine (not (live_row q.now row)) (belongs_to q.client row) g) (row_at q.rows a) (both (past_at q a) (fitting_for q s.now a) h)
+sought_is_mine q (seeks.Own s) a h = own_is_mine q s.now a h
+sought_is_mine q (seeks.Past s) a h = past_is_its q s.now a h
 sought_is_mine q seeks.Offer a h = such_is_mine q (λ row. live_row q.now row && (belongs_to q.client row && offered_state row.state)) (λ row g. mine q row (live_row q.now row) (offered_state row.state) g) (row_at q.rows a) h
 sought_is_mine q (seeks.Record s) a h = both (client_has q a) (has_address s.now.prefix a) h
 
@@ -114,3 +122,29 @@ better_is q sought (Some b) a = refl
 -- no address stands after the last
 pub get_past : (xs : List ℕ) (i : ℕ) → slice_get xs i ≡ None → length xs ≤ i
 get_past xs i h = ⊎_elim (λ (x, less, is, at). absurd (none-some x (sym h ∙ is))) (λ p. p.0) (slice_get_cases xs i).1
+
+-- of the first n of a client's addresses, the newest that it holds, and the newest whose row has ended
+pub record AreKnown (q : Asking) (s : Subnet) (n : ℕ) (o p : Option ℕ) : Type 0 where
+  pub held : IsNewestOf q.rows (has_rank q s own) (addresses_of q.client q.rows) n o
+  pub had : IsNewestOf q.rows (has_rank q s past) (addresses_of q.client q.rows) n p
+
+-- one address more
+pub known_more : (q : Asking) (s : Subnet) (n : ℕ) (o p : Option ℕ) (a : ℕ) → AreKnown q s n o p → get_or (addresses_of q.client q.rows) n 0 ≡ a
+    → AreKnown q s (n + 1) (better_of q.rows (has_rank q s own) o a) (better_of q.rows (has_rank q s past) p a)
+known_more q s n o p a k here = record {
+  held = let P : ℕ → Type 0 = λ x. IsNewestOf q.rows (has_rank q s own) (addresses_of q.client q.rows) (n + 1) (better_of q.rows (has_rank q s own) o x) in subst P here (newest_more q.rows (has_rank q s own) (addresses_of q.client q.rows) n o k.held);
+  had = let P : ℕ → Type 0 = λ x. IsNewestOf q.rows (has_rank q s past) (addresses_of q.client q.rows) (n + 1) (better_of q.rows (has_rank q s past) p x) in subst P here (newest_more q.rows (has_rank q s past) (addresses_of q.client q.rows) n p k.had);
+}
+
+-- all of them
+pub all_own : (q : Asking) (s : Subnet) (n : ℕ) (o p : Option ℕ) → AreKnown q s n o p → length (addresses_of q.client q.rows) ≤ n → IsRanked q s own o
+all_own q s n o p k all = by o (newest_of_all q.rows (has_rank q s own) q.client n o (own_is_mine q s) all k.held) where
+  by : (o : Option ℕ) → IsNewest q.rows (has_rank q s own) o → IsRanked q s own o
+  by None h = h
+  by (Some a) h = record { ranked = h.0; first = h.1 }
+
+pub all_past : (q : Asking) (s : Subnet) (n : ℕ) (o p : Option ℕ) → AreKnown q s n o p → length (addresses_of q.client q.rows) ≤ n → IsRanked q s past p
+all_past q s n o p k all = by p (newest_of_all q.rows (has_rank q s past) q.client n p (past_is_its q s) all k.had) where
+  by : (p : Option ℕ) → IsNewest q.rows (has_rank q s past) p → IsRanked q s past p
+  by None h = h
+  by (Some a) h = record { ranked = h.0; first = h.1 }

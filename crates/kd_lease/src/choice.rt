@@ -1,5 +1,5 @@
 ghost use Rattle.std.specs.Prelude.{◌≡◌};
-ghost use Rattle.kd_lease.specs.Choice.Rank.{asked, own, past, reserved};
+ghost use Rattle.kd_lease.specs.Choice.Rank.{asked, reserved};
 ghost use Rattle.kd_lease.specs.Rules.{asking};
 ghost use Rattle.kd_lease.specs.Seeking.{IsChosen, IsRanked};
 
@@ -7,7 +7,7 @@ use crate::fitting::{is_free, is_usable, requested_of};
 use crate::pooling::pooled;
 use crate::question::Question;
 use crate::reservation::reserved_address;
-use crate::seeking::{Sought, newest};
+use crate::seeking::newest_known;
 use kd_config::Subnet;
 
 // The address that a client is offered in a subnet (RFC 2131 section 4.3.1).
@@ -18,11 +18,12 @@ pub(crate) fn choose(question: &Question<'_>, subnet: &Subnet) -> Option<u32>
         Some(address) => return Some(address),
         None => {}
     }
-    match newest_own(question, subnet) {
+    let known = newest_known(question, subnet);
+    match known.own {
         Some(address) => return Some(address),
         None => {}
     }
-    match newest_past(question, subnet) {
+    match known.past {
         Some(address) => return Some(address),
         None => {}
     }
@@ -51,20 +52,6 @@ fn kept(question: &Question<'_>, subnet: &Subnet) -> Option<u32>
         }
         None => None,
     }
-}
-
-// The newest address that the client holds and that fits.
-fn newest_own(question: &Question<'_>, subnet: &Subnet) -> Option<u32>
-    ensures { IsRanked (asking question.now) subnet.now own result }
-{
-    newest(question, &Sought::Own(subnet))
-}
-
-// The newest address that the client had and that fits.
-fn newest_past(question: &Question<'_>, subnet: &Subnet) -> Option<u32>
-    ensures { IsRanked (asking question.now) subnet.now past result }
-{
-    newest(question, &Sought::Past(subnet))
 }
 
 // The address that the client asks for, where it may be given it.

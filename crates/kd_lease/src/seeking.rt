@@ -1,7 +1,8 @@
 ghost use Rattle.std.specs.Prelude.{◌≡◌};
 ghost use Rattle.kd_lease.specs.Choice.{changed_in, set_later};
+ghost use Rattle.kd_lease.specs.Choice.Rank.{own, past};
 ghost use Rattle.kd_lease.specs.Rules.{IsNewest, asking, bound_state, client_has, held_at, leased_to, offered_to, offered_state, is_record};
-ghost use Rattle.kd_lease.specs.Seeking.{newer_of, past_at, sought_at};
+ghost use Rattle.kd_lease.specs.Seeking.{IsRanked, newer_of, past_at, sought_at};
 ghost use Rattle.kd_rows.specs.Table.{row_at};
 
 use crate::fitting::{fits, is_held_by, is_live, is_of, is_past};
@@ -20,6 +21,36 @@ pub(crate) enum Sought<'a> {
     Offer,
     // Those in the subnet's prefix.
     Record(&'a Subnet),
+}
+
+// Of the addresses that a client knows, those that fit: the newest that it holds, and the newest
+// whose row has ended.
+#[derive(Clone, Copy)]
+pub(crate) struct Known {
+    pub(crate) own: Option<u32>,
+    pub(crate) past: Option<u32>,
+}
+
+// What the client knows, found in one walk over its addresses: for a client without rows the index
+// of the table is searched once.
+pub(crate) fn newest_known(question: &Question<'_>, subnet: &Subnet) -> Known
+    ensures own { IsRanked (asking question.now) subnet.now own result.own }
+    ensures past { IsRanked (asking question.now) subnet.now past result.past }
+{
+    let mut known = Known {
+        own: None,
+        past: None,
+    };
+    for i in 0..question.rows.len() {
+        match question.rows.of_client(question.client, i) {
+            Some(address) => {
+                known.own = better(question, &Sought::Own(subnet), known.own, address);
+                known.past = better(question, &Sought::Past(subnet), known.past, address);
+            }
+            None => return known,
+        }
+    }
+    known
 }
 
 // The newest of the client's addresses that are sought.
