@@ -153,8 +153,8 @@ impl Sorted {
             ≡ insert (remove self.old.index from) to (slice_index self.old.index from) }
         ensures room { self.new.room ≡ self.old.room }
     {
-        let number = self.by_client.remove(from);
-        self.by_client.insert(to, number);
+        let number = self.by_client.take_at(from);
+        self.by_client.put_at(to, number);
     }
 
     // Puts a row where its address belongs, and its address at a place of the index.
@@ -168,8 +168,8 @@ impl Sorted {
     {
         let place = self.place_of(row.address);
         let number = number_of(self.slots.len(), row.address);
-        self.by_address.insert(place, number);
-        self.by_client.insert(key, number);
+        self.by_address.put_at(place, number);
+        self.by_client.put_at(key, number);
         self.slots.push_reserved(row);
     }
 }

@@ -54,7 +54,7 @@ impl Tiered {
         for number in numbers {
             tiered.reserve()?;
             let len = tiered.len();
-            tiered.insert(len, *number);
+            tiered.put_at(len, *number);
         }
         Ok(tiered)
     }
@@ -99,7 +99,7 @@ impl Tiered {
     }
 
     // Puts a number at a place.
-    pub(crate) fn insert(&mut self, place: usize, number: u32)
+    pub(crate) fn put_at(&mut self, place: usize, number: u32)
         requires place { place ≤ length self.old.numbers }
         requires room { 0 < self.old.room }
         ensures numbers { self.new.numbers ≡ insert self.old.numbers place number }
@@ -111,7 +111,7 @@ impl Tiered {
     }
 
     // Takes the number at a place.
-    pub(crate) fn remove(&mut self, place: usize) -> u32
+    pub(crate) fn take_at(&mut self, place: usize) -> u32
         requires { place < length self.old.numbers }
         ensures value { result ≡ slice_index_or self.old.numbers place result }
         ensures numbers { self.new.numbers ≡ remove self.old.numbers place }

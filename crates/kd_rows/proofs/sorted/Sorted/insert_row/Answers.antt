@@ -13,17 +13,17 @@ pub invariant_of-self : goal.invariant_of-self
 invariant_of-self c =
     let is : c.number_of-number.result ≡ length c.self.inside.slots.items = omega (arith, c.number_of-number.ensures.number, c.len.ensures, c.self.inside.slots.ok.0) in
     record {
-      sorted = (inserted_now c.self.inside.slots.items c.args.self.now.rows c.push_reserved.new.self.items c.self.inside.by_address.numbers c.insert.new.self.numbers c.place_of-place.result c.number_of-number.result c.args.row c.number_of-number.ensures.bound c.self.invariant.sorted (ap (λ (t : Ordered). t.rows) c.self.view_is) c.place_of-place.ensures c.requires.none is c.push_reserved.ensures.items c.insert.ensures.numbers).0;
-      within = within_more c.self.inside.slots.items c.push_reserved.new.self.items c.self.inside.by_client.numbers c.insert-2.new.self.numbers c.args.key c.number_of-number.result c.args.row c.self.invariant.within is c.push_reserved.ensures.items c.insert-2.ensures.numbers;
+      sorted = (inserted_now c.self.inside.slots.items c.args.self.now.rows c.push_reserved.new.self.items c.self.inside.by_address.numbers c.put_at.new.self.numbers c.place_of-place.result c.number_of-number.result c.args.row c.number_of-number.ensures.bound c.self.invariant.sorted (ap (λ (t : Ordered). t.rows) c.self.view_is) c.place_of-place.ensures c.requires.none is c.push_reserved.ensures.items c.put_at.ensures.numbers).0;
+      within = within_more c.self.inside.slots.items c.push_reserved.new.self.items c.self.inside.by_client.numbers c.put_at-2.new.self.numbers c.args.key c.number_of-number.result c.args.row c.self.invariant.within is c.push_reserved.ensures.items c.put_at-2.ensures.numbers;
     }
 
 pub returns-clause-rows : goal.returns-clause-rows
 returns-clause-rows c =
     let is : c.number_of-number.result ≡ length c.self.inside.slots.items = omega (arith, c.number_of-number.ensures.number, c.len.ensures, c.self.inside.slots.ok.0) in
-    (inserted_now c.self.inside.slots.items c.args.self.now.rows c.push_reserved.new.self.items c.self.inside.by_address.numbers c.insert.new.self.numbers c.place_of-place.result c.number_of-number.result c.args.row c.number_of-number.ensures.bound c.self.invariant.sorted (ap (λ (t : Ordered). t.rows) c.self.view_is) c.place_of-place.ensures c.requires.none is c.push_reserved.ensures.items c.insert.ensures.numbers).1
+    (inserted_now c.self.inside.slots.items c.args.self.now.rows c.push_reserved.new.self.items c.self.inside.by_address.numbers c.put_at.new.self.numbers c.place_of-place.result c.number_of-number.result c.args.row c.number_of-number.ensures.bound c.self.invariant.sorted (ap (λ (t : Ordered). t.rows) c.self.view_is) c.place_of-place.ensures c.requires.none is c.push_reserved.ensures.items c.put_at.ensures.numbers).1
 
 pub returns-clause-index : goal.returns-clause-index
 returns-clause-index c =
     let is : c.number_of-number.result ≡ length c.self.inside.slots.items = omega (arith, c.number_of-number.ensures.number, c.len.ensures, c.self.inside.slots.ok.0) in
-    index_more c.self.inside.slots.items c.push_reserved.new.self.items c.self.inside.by_client.numbers c.insert-2.new.self.numbers c.args.key c.number_of-number.result c.args.row c.self.invariant.within is c.push_reserved.ensures.items c.insert-2.ensures.numbers
+    index_more c.self.inside.slots.items c.push_reserved.new.self.items c.self.inside.by_client.numbers c.put_at-2.new.self.numbers c.args.key c.number_of-number.result c.args.row c.self.invariant.within is c.push_reserved.ensures.items c.put_at-2.ensures.numbers
     ∙ ap (λ (t : Ordered). insert t.index c.args.key c.args.row.address) c.self.view_is

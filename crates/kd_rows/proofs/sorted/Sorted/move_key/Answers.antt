@@ -10,11 +10,11 @@ invariant_of-self c =
     let inside : c.args.from < length c.self.inside.by_client.numbers = omega (arith, c.requires.from, ap (λ (t : Ordered). length t.index) c.self.view_is, length-map c.self.inside.by_client.numbers (λ n. (row_in c.self.inside.slots.items n).address)) in
     record {
       sorted = c.self.invariant.sorted;
-      within = within_moved c.self.inside.slots.items c.self.inside.by_client.numbers c.remove-number.new.self.numbers c.insert.new.self.numbers c.args.from c.args.to c.remove-number.result c.self.invariant.within inside c.remove-number.ensures.value c.remove-number.ensures.numbers c.insert.ensures.numbers;
+      within = within_moved c.self.inside.slots.items c.self.inside.by_client.numbers c.take_at-number.new.self.numbers c.put_at.new.self.numbers c.args.from c.args.to c.take_at-number.result c.self.invariant.within inside c.take_at-number.ensures.value c.take_at-number.ensures.numbers c.put_at.ensures.numbers;
     }
 
 pub returns-clause-index : goal.returns-clause-index
 returns-clause-index c =
     let inside : c.args.from < length c.self.inside.by_client.numbers = omega (arith, c.requires.from, ap (λ (t : Ordered). length t.index) c.self.view_is, length-map c.self.inside.by_client.numbers (λ n. (row_in c.self.inside.slots.items n).address)) in
-    index_moved c.self.inside.slots.items c.self.inside.by_client.numbers c.remove-number.new.self.numbers c.insert.new.self.numbers c.args.from c.args.to c.remove-number.result inside c.remove-number.ensures.value c.remove-number.ensures.numbers c.insert.ensures.numbers
+    index_moved c.self.inside.slots.items c.self.inside.by_client.numbers c.take_at-number.new.self.numbers c.put_at.new.self.numbers c.args.from c.args.to c.take_at-number.result inside c.take_at-number.ensures.value c.take_at-number.ensures.numbers c.put_at.ensures.numbers
     ∙ ap (λ (t : Ordered). insert (remove t.index c.args.from) c.args.to (get_or t.index c.args.from 0)) c.self.view_is
