@@ -1,7 +1,7 @@
 -- A tree has no more nodes than its text has bytes.
 use Rattle.std.proofs.Common.{◌≡◌, ℕ, ◌≤◌, ◌<◌, ◌^◌, List, ◌∷◌, length, arith, length-append, ap}
 use Rattle.kd_expr.specs.Grammar.{Spells, Level, or_one, or_more, and_one, and_more, not_none, negated, compare_one, equal, sum_one, sum_more, string, hexadecimal, address, number, group, option_hex, option_exists, relay_hex, relay_exists, field, packet_length, member, substring, concat, ifelse, hexstring, lcase, ucase, uint32totext, HasText}
-use Rattle.kd_expr.specs.Lexical.{Lexeme, Scans, finished, blank, token}
+use Rattle.kd_expr.specs.Lexical.{Lexeme, Scans, finished, blank, token, bad}
 use Rattle.kd_expr.specs.Size.{node_count}
 use Rattle.kd_expr.specs.Tree.{Tree}
 use Rattle.kd_expr.proofs.Words.{word_starts}
@@ -44,6 +44,7 @@ tokens_le (token word rest w s) =
     let f = word_starts w in
     let size : length word ≡ length (f.first ∷ f.others) = ap (λ v. length v) f.is in
     omega (arith, tokens_le s, size, length-append word rest)
+tokens_le (bad solid none) = omega arith
 
 pub nodes_of_text : (t : Tree) → HasText t → node_count t < 2 ^ 32
 nodes_of_text t h = omega (arith, nodes_le h.parses.spelled, tokens_le h.parses.scanned, h.parses.short)

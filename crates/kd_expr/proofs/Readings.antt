@@ -1,12 +1,14 @@
 -- What each reader of tokens gives, the grammar allows.
-use Rattle.std.proofs.Common.{◌≡◌, ℕ, zero, suc, ◌≤◌, ◌^◌, ℤ, Bool, true, false, Option, Some, None, List, [], ◌∷◌, ◌++◌, length, refl, sym, ap, subst, append-nil, codes, bytes_eq, if◌then◌else◌, nat_lt, ltb-true}
+use Rattle.std.proofs.Common.{◌≡◌, ℕ, zero, suc, ◌≤◌, ◌^◌, ℤ, Bool, true, false, Option, Some, None, Result, Ok, Err, List, [], ◌∷◌, ◌++◌, length, refl, sym, ap, subst, append-nil, codes, bytes_eq, if◌then◌else◌, nat_lt, ltb-true}
 use Rattle.kd_expr.specs.Grammar.{Spells, Level, or_level, and_level, not_level, compare_level, sum_level, primary_level, or_one, or_more, and_one, and_more, not_none, negated, compare_one, equal, sum_one, sum_more, string, hexadecimal, address, number, group, option_hex, option_exists, relay_hex, relay_exists, field, packet_length, member, substring, concat, ifelse, hexstring, lcase, ucase, uint32totext, IsSigned, IsLength}
 use Rattle.kd_expr.specs.Lexical.{Lexeme, StringAt, HexAt, AddressAt, NumberAt, MinusAt, NameAt, SignAt, BadAt}
-use Rattle.kd_expr.specs.Reading.{Reader, Deeper, and_then, seq, one, done, sign_here, word_here, sign_at, word_at, code_of_option, code_of_relay, suffix_of, field_of, signed, length_of_part, class_name, bracketed, option_at, relay_at, field_after, packet_at, member_at, operand_then, operand_in_brackets, group_at, operands_in_brackets, ifelse_at, substring_after, form_at, named_at, primary_at, sum_of, and_of, or_of, sum_at, compare_at, not_at, and_at, or_at, below}
+use Rattle.kd_expr.specs.Reading.{Reader, Deeper, on_ok, seq, wanted, done, sign_here, word_here, sign_at, word_at, code_of_option, code_of_relay, suffix_of, field_of, signed, length_of_part, class_name, bracketed, option_at, relay_at, field_after, packet_at, member_at, operand_then, operand_in_brackets, group_at, operands_in_brackets, ifelse_at, substring_after, form_at, named_at, primary_at, sum_of, and_of, or_of, sum_at, compare_at, not_at, and_at, or_at, below}
+use Rattle.kd_expr.specs.Refusals.{refusal_of, code_refusal, option_refusal, signed_refusal}
+use Rattle.kd_expr.specs.declared.fault.SyntaxFault.{SyntaxFault}
 use Rattle.kd_expr.specs.Tree.{Tree, Int, OptionValue, RelayValue, FieldValue, OptionExists, RelayExists, Member, Equal, Not, Group, Concat, IfElse, Substring, HexString, Lower, Upper, IntToText, at_of}
 use Rattle.kd_expr.specs.declared.node.Field.{Field}
-use Rattle.kd_expr.proofs.Options.{none_is, some_pair, if_some}
-use Rattle.kd_expr.proofs.Sound.{IsSound, Takes, same_sound, and_then_twice, done_sound, seq_sound, seq_one_sound, either_one_sound, chain_sound, weaker, OneOf, is_one, one_sound}
+use Rattle.kd_expr.proofs.Options.{ok_pair, err_is, if_ok}
+use Rattle.kd_expr.proofs.Sound.{IsSound, Takes, same_sound, on_ok_twice, done_sound, seq_sound, seq_one_sound, either_sound, chain_sound, weaker, OneOf, is_one, wanted_sound}
 use Rattle.kd_expr.proofs.Tokens.{sign_is, word_is, option_code_is, relay_code_is, IsRelayCode, relay_number, IsSuffix, hex, exists, suffix_is, IsPartName, part_name, field_of_is, signed_is, length_is, IsClassName, class_is, class_name_is}
 use Rattle.std.proofs.lemmas.Slice.Eq.{bytes_eq-Decides}
 
@@ -14,19 +16,19 @@ at_front : {B : Type 0} (P : List Lexeme → B → Type 0) (r : Reader B) {x y :
 at_front P r e h = let F : Lexeme → Type 0 = λ z. IsSound (λ ws b. P (z ∷ ws) b) r in subst F (sym e) h
 
 sign_sound : {B : Type 0} (P : List Lexeme → B → Type 0) (b : ℕ) (f : ℕ → Reader B) → ((o : ℕ) → IsSound (λ ws t. P (SignAt o b ∷ ws) t) (f o)) → IsSound P (seq (sign_here b) f)
-sign_sound P b f h = seq_one_sound P (sign_at b) f (λ x o e. at_front P (f o) (sign_is b x o e) (h o))
+sign_sound P b f h = seq_one_sound P (sign_at b) refusal_of f (λ x o e. at_front P (f o) (sign_is b x o e) (h o))
 
 word_sound : {B : Type 0} (P : List Lexeme → B → Type 0) (w : List ℕ) (f : ℕ → Reader B) → ((o : ℕ) → IsSound (λ ws t. P (NameAt o w ∷ ws) t) (f o)) → IsSound P (seq (word_here w) f)
-word_sound P w f h = seq_one_sound P (word_at w) f (λ x o e. at_front P (f o) (word_is w x o e) (h o))
+word_sound P w f h = seq_one_sound P (word_at w) refusal_of f (λ x o e. at_front P (f o) (word_is w x o e) (h o))
 
 -- a code in brackets, and what follows it
 data InBrackets (code : Lexeme → Option ℕ) : List Lexeme → ℕ × Bool → Type 0 where
   in_brackets : (l r d : ℕ) (x y : Lexeme) {c : ℕ} {b : Bool} → code x ≡ Some c → IsSuffix y b → InBrackets code (SignAt l 91 ∷ x ∷ SignAt r 93 ∷ SignAt d 46 ∷ y ∷ []) (c, b)
 
-bracketed_sound : (code : Lexeme → Option ℕ) → IsSound (InBrackets code) (bracketed code)
-bracketed_sound code =
-    sign_sound _ 91 _ (λ l. seq_one_sound _ code _ (λ x c is. sign_sound _ 93 _ (λ r. sign_sound _ 46 _ (λ d.
-    seq_one_sound _ suffix_of _ (λ y b has. done_sound _ (c, b) (in_brackets l r d x y is (suffix_is y b has)))))))
+bracketed_sound : (code : Lexeme → Option ℕ) (refusal : Lexeme → SyntaxFault) → IsSound (InBrackets code) (bracketed code refusal)
+bracketed_sound code refusal =
+    sign_sound _ 91 _ (λ l. seq_one_sound _ code refusal _ (λ x c is. sign_sound _ 93 _ (λ r. sign_sound _ 46 _ (λ d.
+    seq_one_sound _ suffix_of refusal_of _ (λ y b has. done_sound _ (c, b) (in_brackets l r d x y is (suffix_is y b has)))))))
 
 -- spelled one nesting deeper
 pub data Inner : Level → ℕ → List Lexeme → Tree → Type 0 where
@@ -38,9 +40,9 @@ pub data InnerName : ℕ → List Lexeme → List ℕ → Type 0 where
 
 -- the readers one nesting deeper are sound
 pub record DeeperIsSound (m : ℕ) (deeper : Deeper) : Type 0 where
-  pub any : IsSound (Inner or_level m) deeper.any
-  pub operand : IsSound (Inner not_level m) deeper.operand
-  pub name : IsSound (InnerName m) deeper.name
+  pub any : (at : ℕ) → IsSound (Inner or_level m) (deeper.any at)
+  pub operand : (at : ℕ) → IsSound (Inner not_level m) (deeper.operand at)
+  pub name : (at : ℕ) → IsSound (InnerName m) (deeper.name at)
 
 -- what may stand after a name at a place
 abbrev Behind : ℕ → ℕ → List ℕ → List Lexeme → Tree → Type 0
@@ -62,7 +64,7 @@ option_from m at _ _ (in_brackets l r d x _ {c = c} is exists) = done_sound _ _ 
 
 option_sound : (m at : ℕ) → IsSound (Behind m at (codes "option")) (option_at at)
 unfolding option_at
-option_sound m at = seq_sound (InBrackets code_of_option) _ (bracketed code_of_option) _ (bracketed_sound code_of_option) (option_from m at)
+option_sound m at = seq_sound (InBrackets code_of_option) _ (bracketed code_of_option option_refusal) _ (bracketed_sound code_of_option option_refusal) (option_from m at)
 
 relay_made : (m at l r d e : ℕ) (x : Lexeme) (c : ℕ) → IsRelayCode x c → Behind m at (codes "relay4") (SignAt l 91 ∷ x ∷ SignAt r 93 ∷ SignAt d 46 ∷ NameAt e (codes "hex") ∷ []) (RelayValue at c)
 relay_made m at l r d e _ _ (relay_number h) = relay_hex h
@@ -76,14 +78,14 @@ relay_from m at _ _ (in_brackets l r d x _ {c = c} is (exists {at = e})) = done_
 
 relay_sound : (m at : ℕ) → IsSound (Behind m at (codes "relay4")) (relay_at at)
 unfolding relay_at
-relay_sound m at = seq_sound (InBrackets code_of_relay) _ (bracketed code_of_relay) _ (bracketed_sound code_of_relay) (relay_from m at)
+relay_sound m at = seq_sound (InBrackets code_of_relay) _ (bracketed code_of_relay code_refusal) _ (bracketed_sound code_of_relay code_refusal) (relay_from m at)
 
 field_made : (m at d : ℕ) (x : Lexeme) (part : Field) → IsPartName x part → Behind m at (codes "pkt4") (SignAt d 46 ∷ x ∷ []) (FieldValue at part)
 field_made m at d _ _ (part_name e) = field e
 
 field_sound : (m at : ℕ) → IsSound (Behind m at (codes "pkt4")) (field_after at)
 unfolding field_after
-field_sound m at = sign_sound _ 46 _ (λ d. seq_one_sound _ field_of _ (λ x part is. done_sound _ _ (field_made m at d x part (field_of_is x part is))))
+field_sound m at = sign_sound _ 46 _ (λ d. seq_one_sound _ field_of refusal_of _ (λ x part is. done_sound _ _ (field_made m at d x part (field_of_is x part is))))
 
 packet_sound : (m at : ℕ) → IsSound (Behind m at (codes "pkt")) (packet_at at)
 unfolding packet_at
@@ -140,49 +142,49 @@ upper_from m at a us (in_round o c s) = done_sound (λ ws t. Behind m at (codes 
 text_from : (m at : ℕ) (a : Tree) (us : List Lexeme) → InRound m us a → IsSound (λ ws t. Behind m at (codes "uint32totext") (us ++ ws) t) (done (IntToText at a))
 text_from m at a us (in_round o c s) = done_sound (λ ws t. Behind m at (codes "uint32totext") (us ++ ws) t) _ (subst (λ v. Behind m at (codes "uint32totext") v (IntToText at a)) (sym (append-nil us)) (text_made c s))
 
-before_is : {B : Type 0} (d : Deeper) (b : ℕ) (f : Tree → Reader B) (ts : List Lexeme) → seq (operand_then d b) f ts ≡ seq d.any (λ a. seq (sign_here b) (λ _. f a)) ts
+pub before_is : {B : Type 0} (d : Deeper) (o b : ℕ) (f : Tree → Reader B) (end : ℕ) (ts : List Lexeme) → seq (operand_then d o b) f end ts ≡ seq (d.any o) (λ a. seq (sign_here b) (λ _. f a)) end ts
 unfolding operand_then
-before_is {B} d b f ts =
-    let at : (o : Option (Tree × List Lexeme)) → and_then (and_then o (λ x. seq (sign_here b) (λ _. done x.0) x.1)) (λ z. f z.0 z.1) ≡ and_then o (λ x. seq (sign_here b) (λ _. f x.0) x.1)
-    = λ o. elim o as (λ v. and_then (and_then v (λ x. seq (sign_here b) (λ _. done x.0) x.1)) (λ z. f z.0 z.1) ≡ and_then v (λ x. seq (sign_here b) (λ _. f x.0) x.1)) [
-      | None ↦ refl
-      | Some x ↦ and_then_twice (sign_here b x.1) (λ y. Some (x.0, y.1)) (λ z. f z.0 z.1)
+before_is {B} d o b f end ts =
+    let at : (answer : Result (Tree × List Lexeme) SyntaxFault) → on_ok (on_ok answer (λ x. seq (sign_here b) (λ _. done x.0) end x.1)) (λ z. f z.0 end z.1) ≡ on_ok answer (λ x. seq (sign_here b) (λ _. f x.0) end x.1)
+    = λ answer. elim answer as (λ v. on_ok (on_ok v (λ x. seq (sign_here b) (λ _. done x.0) end x.1)) (λ z. f z.0 end z.1) ≡ on_ok v (λ x. seq (sign_here b) (λ _. f x.0) end x.1)) [
+      | Err fault ↦ refl
+      | Ok x ↦ on_ok_twice (sign_here b end x.1) (λ y. Ok (x.0, y.1)) (λ z. f z.0 end z.1)
     ] in
-    at (d.any ts)
+    at (d.any o end ts)
 
 module _ (m : ℕ) (d : Deeper) (s : DeeperIsSound m d) where
   member_sound : (at : ℕ) → IsSound (Behind m at (codes "member")) (member_at d at)
   unfolding member_at
-  member_sound at = sign_sound _ 40 _ (λ o. seq_sound (InnerName m) _ d.name _ s.name (member_from m at o))
+  member_sound at = sign_sound _ 40 _ (λ o. seq_sound (InnerName m) _ (d.name o) _ (s.name o) (member_from m at o))
 
-  before_sound : {B : Type 0} (P : List Lexeme → B → Type 0) (b : ℕ) (f : Tree → Reader B) → ((a : Tree) (us : List Lexeme) → Inner or_level m us a → (c : ℕ) → IsSound (λ ws t. P (us ++ SignAt c b ∷ ws) t) (f a)) → IsSound P (seq (operand_then d b) f)
-  before_sound P b f h = same_sound P _ _ (before_is d b f) (seq_sound (Inner or_level m) P d.any (λ a. seq (sign_here b) (λ _. f a)) s.any (λ a us i. sign_sound (λ ws t. P (us ++ ws) t) b (λ _. f a) (h a us i)))
+  before_sound : {B : Type 0} (P : List Lexeme → B → Type 0) (o b : ℕ) (f : Tree → Reader B) → ((a : Tree) (us : List Lexeme) → Inner or_level m us a → (c : ℕ) → IsSound (λ ws t. P (us ++ SignAt c b ∷ ws) t) (f a)) → IsSound P (seq (operand_then d o b) f)
+  before_sound P o b f h = same_sound P _ _ (before_is d o b f) (seq_sound (Inner or_level m) P (d.any o) (λ a. seq (sign_here b) (λ _. f a)) (s.any o) (λ a us i. sign_sound (λ ws t. P (us ++ ws) t) b (λ _. f a) (h a us i)))
 
   group_sound : IsSound (Spells primary_level m) (group_at d)
   unfolding group_at
-  group_sound = sign_sound _ 40 _ (λ at. before_sound _ 41 _ (λ a us i c. done_sound _ _ (group_made c i)))
+  group_sound = sign_sound _ 40 _ (λ at. before_sound _ at 41 _ (λ a us i c. done_sound _ _ (group_made c i)))
 
   one_operand_sound : IsSound (InRound m) (operand_in_brackets d)
   unfolding operand_in_brackets operand_then
-  one_operand_sound = sign_sound _ 40 _ (λ o. seq_sound (Inner or_level m) _ d.any _ s.any (λ a us i. sign_sound _ 41 _ (λ c. done_sound _ _ (in_round o c i))))
+  one_operand_sound = sign_sound _ 40 _ (λ o. seq_sound (Inner or_level m) _ (d.any o) _ (s.any o) (λ a us i. sign_sound _ 41 _ (λ c. done_sound _ _ (in_round o c i))))
 
   two_operands_sound : IsSound (TwoInRound m) (operands_in_brackets d)
   unfolding operands_in_brackets
   two_operands_sound =
-      sign_sound _ 40 _ (λ o. before_sound _ 44 _ (λ a us i c. before_sound _ 41 _ (λ b vs j e.
+      sign_sound _ 40 _ (λ o. before_sound _ o 44 _ (λ a us i c. before_sound _ o 41 _ (λ b vs j e.
       done_sound _ (a, b) (two_in_round o c e i j))))
 
   ifelse_sound : (at : ℕ) → IsSound (Behind m at (codes "ifelse")) (ifelse_at d at)
   unfolding ifelse_at
   ifelse_sound at =
-      sign_sound _ 40 _ (λ o. before_sound _ 44 _ (λ t us i c. before_sound _ 44 _ (λ a vs j e.
-      before_sound _ 41 _ (λ b ws k f. done_sound _ _ (ifelse_made c e f i j k)))))
+      sign_sound _ 40 _ (λ o. before_sound _ o 44 _ (λ t us i c. before_sound _ o 44 _ (λ a vs j e.
+      before_sound _ o 41 _ (λ b ws k f. done_sound _ _ (ifelse_made c e f i j k)))))
 
   substring_sound : (at : ℕ) → IsSound (Behind m at (codes "substring")) (substring_after d at)
   unfolding substring_after
   substring_sound at =
-      sign_sound _ 40 _ (λ o. before_sound _ 44 _ (λ a us i c. seq_one_sound _ signed _ (λ x start j.
-      sign_sound _ 44 _ (λ e. seq_one_sound _ length_of_part _ (λ y len k.
+      sign_sound _ 40 _ (λ o. before_sound _ o 44 _ (λ a us i c. seq_one_sound _ signed signed_refusal _ (λ x start j.
+      sign_sound _ 44 _ (λ e. seq_one_sound _ length_of_part signed_refusal _ (λ y len k.
       sign_sound _ 41 _ (λ f. done_sound _ _ (substring_made c e f i (signed_is x start j) (length_is y len k))))))))
 
   form_sound : (at : ℕ) (name : List ℕ) → IsSound (Behind m at name) (form_at d at name)
@@ -195,7 +197,7 @@ module _ (m : ℕ) (d : Deeper) (s : DeeperIsSound m d) where
       (name_sound (Behind m at) name (codes "lcase") _ _ (seq_sound (InRound m) _ (operand_in_brackets d) _ one_operand_sound (lower_from m at))
       (name_sound (Behind m at) name (codes "ucase") _ _ (seq_sound (InRound m) _ (operand_in_brackets d) _ one_operand_sound (upper_from m at))
       (name_sound (Behind m at) name (codes "uint32totext") _ _ (seq_sound (InRound m) _ (operand_in_brackets d) _ one_operand_sound (text_from m at))
-      (λ ts t rest e. none_is e)))))))
+      (λ end ts t rest e. err_is e)))))))
 
   named_sound : (at : ℕ) (name : List ℕ) → IsSound (Behind m at name) (named_at d at name)
   unfolding named_at
@@ -208,8 +210,8 @@ module _ (m : ℕ) (d : Deeper) (s : DeeperIsSound m d) where
       (form_sound at name)))))
 
 -- a literal is one token
-one_front : {m : ℕ} {x : Lexeme} {a t : Tree} {ts rest : List Lexeme} → Spells primary_level m (x ∷ []) a → ◌≡◌ {A = Option (Tree × List Lexeme)} (Some (a, ts)) (Some (t, rest)) → Takes (λ us. Spells primary_level m us t) (x ∷ ts) rest
-one_front {m} {x} h e = let both = some_pair e in record {
+one_front : {m : ℕ} {x : Lexeme} {a t : Tree} {ts rest : List Lexeme} → Spells primary_level m (x ∷ []) a → ◌≡◌ {A = Result (Tree × List Lexeme) SyntaxFault} (Ok (a, ts)) (Ok (t, rest)) → Takes (λ us. Spells primary_level m us t) (x ∷ ts) rest
+one_front {m} {x} h e = let both = ok_pair e in record {
   front = x ∷ [];
   is = ap (λ v. x ∷ v) both.1;
   holds = subst (λ v. Spells primary_level m (x ∷ []) v) both.0 h;
@@ -220,17 +222,17 @@ named_front m at name ts rest t = record { front = NameAt at name ∷ t.front; i
 
 primary_sound : (m : ℕ) (d : Deeper) → DeeperIsSound m d → IsSound (Spells primary_level m) (primary_at d)
 unfolding primary_at
-primary_sound m d s [] t rest e = none_is e
-primary_sound m d s (StringAt at v ∷ ts) t rest e = one_front string e
-primary_sound m d s (HexAt at v ∷ ts) t rest e = one_front hexadecimal e
-primary_sound m d s (AddressAt at v ∷ ts) t rest e = one_front address e
-primary_sound m d s (NumberAt at k ∷ ts) t rest e =
-    let both = if_some {A = Tree × List Lexeme} {a = (Int at k, ts)} {b = (t, rest)} (nat_lt k (2 ^ 32)) e in
-    one_front (number (ltb-true k (2 ^ 32) both.0)) (ap (λ v. Some v) both.1)
-primary_sound m d s (MinusAt at k ∷ ts) t rest e = none_is e
-primary_sound m d s (NameAt at name ∷ ts) t rest e = named_front m at name ts rest (named_sound m d s at name ts t rest e)
-primary_sound m d s (SignAt at b ∷ ts) t rest e = group_sound m d s (SignAt at b ∷ ts) t rest e
-primary_sound m d s (BadAt at ∷ ts) t rest e = none_is e
+primary_sound m d s end [] t rest e = err_is e
+primary_sound m d s end (StringAt at v ∷ ts) t rest e = one_front string e
+primary_sound m d s end (HexAt at v ∷ ts) t rest e = one_front hexadecimal e
+primary_sound m d s end (AddressAt at v ∷ ts) t rest e = one_front address e
+primary_sound m d s end (NumberAt at k ∷ ts) t rest e =
+    let both = if_ok {A = Tree × List Lexeme} {a = (Int at k, ts)} {b = (t, rest)} _ (nat_lt k (2 ^ 32)) e in
+    one_front (number (ltb-true k (2 ^ 32) both.0)) (ap (λ v. Ok v) both.1)
+primary_sound m d s end (MinusAt at k ∷ ts) t rest e = err_is e
+primary_sound m d s end (NameAt at name ∷ ts) t rest e = named_front m at name ts rest (named_sound m d s at name end ts t rest e)
+primary_sound m d s end (SignAt at b ∷ ts) t rest e = group_sound m d s end (SignAt at b ∷ ts) t rest e
+primary_sound m d s end (BadAt at ∷ ts) t rest e = err_is e
 
 negation_made : {m at : ℕ} {us : List Lexeme} {t : Tree} → Inner not_level m us t → Spells not_level m (NameAt at (codes "not") ∷ us) (Not at t)
 negation_made (inner s) = negated s
@@ -254,7 +256,7 @@ module _ (m : ℕ) (d : Deeper) (s : DeeperIsSound m d) where
   unfolding compare_at
   compare_sound =
       seq_sound (Spells sum_level m) (Spells compare_level m) (sum_at d) _ sum_sound (λ a us h.
-      either_one_sound (λ ws t. Spells compare_level m (us ++ ws) t) (sign_at 61) _ (done a)
+      either_sound (λ ws t. Spells compare_level m (us ++ ws) t) (sign_at 61) _ (done a)
       (λ x o e. seq_sound (Spells sum_level m) (λ ws t. Spells compare_level m (us ++ x ∷ ws) t) (sum_at d) _ sum_sound (λ b vs r.
       done_sound (λ ws t. Spells compare_level m (us ++ x ∷ (vs ++ ws)) t) (Equal (at_of a) a b)
       (subst (λ v. Spells compare_level m (us ++ x ∷ v) (Equal (at_of a) a b)) (sym (append-nil vs))
@@ -264,9 +266,9 @@ module _ (m : ℕ) (d : Deeper) (s : DeeperIsSound m d) where
   not_sound : IsSound (Spells not_level m) (not_at d)
   unfolding not_at
   not_sound =
-      either_one_sound (Spells not_level m) (word_at (codes "not")) _ (compare_at d)
+      either_sound (Spells not_level m) (word_at (codes "not")) _ (compare_at d)
       (λ x o e. at_front (Spells not_level m) _ (word_is (codes "not") x o e)
-      (seq_sound (Inner not_level m) (λ ws t. Spells not_level m (NameAt o (codes "not") ∷ ws) t) d.operand _ s.operand (λ a us i.
+      (seq_sound (Inner not_level m) (λ ws t. Spells not_level m (NameAt o (codes "not") ∷ ws) t) (d.operand o) _ (s.operand o) (λ a us i.
       done_sound (λ ws t. Spells not_level m (NameAt o (codes "not") ∷ (us ++ ws)) t) (Not o a)
       (subst (λ v. Spells not_level m (NameAt o (codes "not") ∷ v) (Not o a)) (sym (append-nil us)) (negation_made i)))))
       (weaker (Spells compare_level m) (Spells not_level m) (compare_at d) (λ us a h. not_none h) compare_sound)
@@ -295,11 +297,11 @@ name_made n _ s (is_one x e) = name_from n x s (class_name_is x s e)
 -- the readers one nesting deeper are sound at each nesting
 pub below_sound : (m : ℕ) → DeeperIsSound m (below m)
 unfolding below
-below_sound zero = record { any = λ ts a rest e. none_is e; operand = λ ts a rest e. none_is e; name = λ ts a rest e. none_is e }
+below_sound zero = record { any = λ at end ts a rest e. err_is e; operand = λ at end ts a rest e. err_is e; name = λ at end ts a rest e. err_is e }
 below_sound (suc n) = record {
-  any = inner_sound or_level n (or_at (below n)) (or_sound n (below n) (below_sound n));
-  operand = inner_sound not_level n (not_at (below n)) (not_sound n (below n) (below_sound n));
-  name = weaker (OneOf class_name) (InnerName (suc n)) (one class_name) (name_made n) (one_sound class_name);
+  any = λ at. inner_sound or_level n (or_at (below n)) (or_sound n (below n) (below_sound n));
+  operand = λ at. inner_sound not_level n (not_at (below n)) (not_sound n (below n) (below_sound n));
+  name = λ at. weaker (OneOf class_name) (InnerName (suc n)) (wanted class_name refusal_of) (name_made n) (wanted_sound class_name refusal_of);
 }
 
 -- an expression read is one that the grammar allows

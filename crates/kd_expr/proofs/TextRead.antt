@@ -1,12 +1,13 @@
 -- What is answered for a text is its tree, and a refusal other than for memory means that it has none.
-use Rattle.std.proofs.Common.{◌≡◌, ◌≢◌, ℕ, length, List, refl, sym, ◌∙◌, Some, None}
+use Rattle.std.proofs.Common.{◌≡◌, ◌≢◌, ℕ, length, List, refl, sym, ◌∙◌, Ok, Err, Result}
 use Rattle.kd_expr.specs.Grammar.{Parses}
 use Rattle.kd_expr.specs.Lexing.{tokens_from}
 use Rattle.kd_expr.specs.Reading.{whole_at}
 use Rattle.kd_expr.specs.Tree.{Tree}
+use Rattle.kd_expr.specs.declared.fault.SyntaxFault.{SyntaxFault}
 use Rattle.kd_expr.specs.declared.fault.ExprFault.{ExprFault}
 use Rattle.kd_expr.specs.declared.fault.ExprFault.TheVariants as faults
-use Rattle.kd_expr.proofs.Options.{some_is, none_is}
+use Rattle.kd_expr.proofs.Options.{ok_is, err_is}
 use Rattle.kd_expr.proofs.Texts.{parse_complete}
 
 only_memory : (fault : ExprFault) → ((fault ≢ faults.Memory) → ⊥) → fault ≡ faults.Memory
@@ -19,9 +20,9 @@ only_memory (faults.UnknownName at) h = absurd (h (λ e. cc))
 only_memory faults.Memory h = refl
 
 -- the tree that is answered is the one that the text spells
-pub same_tree : (text : List ℕ) (t u : Tree) → whole_at (tokens_from (length text) 0 text) ≡ Some u → Parses text t → u ≡ t
-same_tree text t u e p = some_is (sym e ∙ parse_complete text t p)
+pub same_tree : (text : List ℕ) (t u : Tree) → whole_at (length text) (tokens_from (length text) 0 text) ≡ Ok u → Parses text t → u ≡ t
+same_tree text t u e p = ok_is (sym e ∙ parse_complete text t p)
 
 -- where the text spells a tree, only want of memory refuses it
-pub refused_for_memory : (text : List ℕ) (t : Tree) (fault : ExprFault) → ((fault ≢ faults.Memory) → whole_at (tokens_from (length text) 0 text) ≡ None) → Parses text t → fault ≡ faults.Memory
-refused_for_memory text t fault h p = only_memory fault (λ other. none_is (sym (h other) ∙ parse_complete text t p))
+pub refused_for_memory : (text : List ℕ) (t : Tree) (fault : ExprFault) (inner : SyntaxFault) → ((fault ≢ faults.Memory) → whole_at (length text) (tokens_from (length text) 0 text) ≡ Err inner) → Parses text t → fault ≡ faults.Memory
+refused_for_memory text t fault inner h p = only_memory fault (λ other. err_is (sym (h other) ∙ parse_complete text t p))

@@ -1,89 +1,18 @@
 -- The tokens of a text are those of the definition, and so is the tree that they spell.
-use Rattle.std.proofs.Common.{◌≡◌, ℕ, zero, suc, ◌+◌, ◌-◌, ◌≤◌, ◌<◌, Bool, true, false, List, [], ◌∷◌, ◌++◌, length, refl, sym, ◌∙◌, ap, subst, append-nil, append_assoc, arith, length-append, if◌then◌else◌, Option, Some, None}
-use Rattle.kd_expr.specs.Grammar.{Spells, Level, or_level, or_one, or_more, and_one, and_more, not_none, negated, compare_one, equal, sum_one, sum_more, string, hexadecimal, address, number, group, option_hex, option_exists, relay_hex, relay_exists, field, packet_length, member, substring, concat, ifelse, hexstring, lcase, ucase, uint32totext, IsOptionCode, code_number, code_name, IsSigned, plain, below, IsLength, counted, whole, Parses}
-use Rattle.kd_expr.specs.Lexical.{Lexeme, StringAt, HexAt, AddressAt, NumberAt, MinusAt, NameAt, SignAt, BadAt, a_blank, Word, Scans, finished, blank, token}
+use Rattle.std.proofs.Common.{◌≡◌, ℕ, zero, suc, ◌+◌, ◌-◌, ◌≤◌, ◌<◌, Bool, true, false, List, [], ◌∷◌, ◌++◌, length, refl, sym, ◌∙◌, ap, subst, append-nil, append_assoc, arith, length-append, if◌then◌else◌, Option, Some, None, Result, Ok, Err}
+use Rattle.kd_expr.specs.Grammar.{Spells, or_level, Parses}
+use Rattle.kd_expr.specs.Lexical.{Lexeme, BadAt, a_blank, Word, NoWord, Scans, finished, blank, token, bad}
 use Rattle.kd_expr.specs.Lexing.{cut, tokens_from}
 use Rattle.kd_expr.specs.Reading as reading
-use Rattle.kd_expr.specs.Reading.{or_at, whole_at, and_then}
+use Rattle.kd_expr.specs.Reading.{or_at, on_ok, all_read, whole_at}
+use Rattle.kd_expr.specs.declared.fault.SyntaxFault.{SyntaxFault}
 use Rattle.kd_expr.specs.Tree.{Tree}
-use Rattle.kd_expr.proofs.Addresses.{came_from}
 use Rattle.kd_expr.proofs.Complete.{any_complete}
 use Rattle.kd_expr.proofs.Lexed.{IsCut, cut_sound}
-use Rattle.kd_expr.proofs.Options.{some_is, none_is}
+use Rattle.kd_expr.proofs.Options.{none_is, ok_is, err_is}
 use Rattle.kd_expr.proofs.Productions.{complete}
 use Rattle.kd_expr.proofs.Readings.{any_sound}
 use Rattle.kd_expr.proofs.Words.{cut_complete, word_starts}
-
--- no token is bad
-abbrev pub Good : List Lexeme → Type 0
-Good [] = Unit {0}
-Good (BadAt at ∷ ts) = ⊥
-Good (x ∷ ts) = Good ts
-
-good_append : (us vs : List Lexeme) → Good us → Good vs → Good (us ++ vs)
-good_append [] vs g h = h
-good_append (BadAt at ∷ us) vs g h = absurd g
-good_append (StringAt at s ∷ us) vs g h = good_append us vs g h
-good_append (HexAt at s ∷ us) vs g h = good_append us vs g h
-good_append (AddressAt at s ∷ us) vs g h = good_append us vs g h
-good_append (NumberAt at s ∷ us) vs g h = good_append us vs g h
-good_append (MinusAt at s ∷ us) vs g h = good_append us vs g h
-good_append (NameAt at s ∷ us) vs g h = good_append us vs g h
-good_append (SignAt at s ∷ us) vs g h = good_append us vs g h
-
-good_code : {x : Lexeme} {c : ℕ} (ts : List Lexeme) → IsOptionCode x c → Good ts → Good (x ∷ ts)
-good_code ts (code_number h) g = g
-good_code ts (code_name h) g = g
-
-good_signed : {x : Lexeme} {n : _} (ts : List Lexeme) → IsSigned x n → Good ts → Good (x ∷ ts)
-good_signed ts (plain h) g = g
-good_signed ts (below h) g = g
-
-good_length : {x : Lexeme} {n : _} (ts : List Lexeme) → IsLength x n → Good ts → Good (x ∷ ts)
-good_length ts (counted h) g = good_signed ts h g
-good_length ts whole g = g
-
--- the tokens of a tree are not bad
-pub good : {l : Level} {n : ℕ} {us : List Lexeme} {t : Tree} → Spells l n us t → Good us
-good (or_one s) = good s
-good (or_more o {us = us} {vs = vs} s r) = good_append us _ (good s) (good r)
-good (and_one s) = good s
-good (and_more o {us = us} {vs = vs} s r) = good_append us _ (good s) (good r)
-good (not_none s) = good s
-good (negated s) = good s
-good (compare_one s) = good s
-good (equal o {us = us} {vs = vs} s r) = good_append us _ (good s) (good r)
-good (sum_one s) = good s
-good (sum_more o {us = us} {vs = vs} s r) = good_append us _ (good s) (good r)
-good string = tt
-good hexadecimal = tt
-good address = tt
-good (number h) = tt
-good (group c {ts = ts} s) = good_append ts _ (good s) tt
-good (option_hex i) = good_code _ i tt
-good (option_exists i) = good_code _ i tt
-good (relay_hex h) = tt
-good (relay_exists h) = tt
-good (field h) = tt
-good packet_length = tt
-good (member least most) = tt
-good (substring c d e {us = us} s i j) = good_append us _ (good s) (good_signed _ i (good_length _ j tt))
-good (concat c d {us = us} {vs = vs} s r) = good_append us _ (good s) (good_append vs _ (good r) tt)
-good (ifelse c d e {us = us} {vs = vs} {ws = ws} s r q) = good_append us _ (good s) (good_append vs _ (good r) (good_append ws _ (good q) tt))
-good (hexstring c d {us = us} {vs = vs} s r) = good_append us _ (good s) (good_append vs _ (good r) tt)
-good (lcase c {us = us} s) = good_append us _ (good s) tt
-good (ucase c {us = us} s) = good_append us _ (good s) tt
-good (uint32totext c {us = us} s) = good_append us _ (good s) tt
-
-good_tail : (x : Lexeme) (ts : List Lexeme) → Good (x ∷ ts) → Good ts
-good_tail (BadAt at) ts g = absurd g
-good_tail (StringAt at s) ts g = g
-good_tail (HexAt at s) ts g = g
-good_tail (AddressAt at s) ts g = g
-good_tail (NumberAt at s) ts g = g
-good_tail (MinusAt at s) ts g = g
-good_tail (NameAt at s) ts g = g
-good_tail (SignAt at s) ts g = g
 
 -- what is left behind a word is shorter
 pub cut_shorter : (at : ℕ) (bytes : List ℕ) (x : Lexeme) (rest : List ℕ) → ◌≡◌ {A = Option (Lexeme × List ℕ)} (cut at bytes) (Some (x, rest)) → length rest < length bytes
@@ -105,24 +34,38 @@ abbrev after_cut : ℕ → ℕ → List ℕ → Option (Lexeme × List ℕ) → 
 after_cut k at bytes None = BadAt at ∷ []
 after_cut k at bytes (Some x) = x.0 ∷ tokens_from k (at + (length bytes - length x.1)) x.1
 
-pub tokens_sound : (k at : ℕ) (bytes : List ℕ) → length bytes ≤ k → Good (tokens_from k at bytes) → Scans at bytes (tokens_from k at bytes)
+-- where nothing is cut off, no word begins
+no_word : (at : ℕ) (bytes : List ℕ) → cut at bytes ≡ None → NoWord at bytes
+no_word at bytes e word rest x is w = none_is (sym e ∙ (ap (λ v. cut at v) is ∙ cut_complete w))
+
+-- where no word begins, nothing is cut off
+nothing_cut : (at : ℕ) (bytes : List ℕ) → NoWord at bytes → cut at bytes ≡ None
+nothing_cut at bytes none =
+    let here : (o : Option (Lexeme × List ℕ)) → cut at bytes ≡ o → o ≡ None
+    = λ o. elim o as (λ o. cut at bytes ≡ o → o ≡ None) [
+      | None ↦ λ _. refl
+      | Some x ↦ λ is. let c = cut_sound at bytes x.0 x.1 is in absurd (none c.word x.1 x.0 c.is c.spelled)
+    ] in
+    here (cut at bytes) refl
+
+pub tokens_sound : (k at : ℕ) (bytes : List ℕ) → length bytes ≤ k → Scans at bytes (tokens_from k at bytes)
 unfolding tokens_from
-tokens_sound zero at [] h g = finished
-tokens_sound (suc k) at [] h g = finished
-tokens_sound zero at (b ∷ bytes) h g = absurd (omega (arith, h))
-tokens_sound (suc k) at (b ∷ bytes) h g =
-    let word : (o : Option (Lexeme × List ℕ)) → cut at (b ∷ bytes) ≡ o → Good (after_cut k at (b ∷ bytes) o) → Scans at (b ∷ bytes) (after_cut k at (b ∷ bytes) o)
-    = λ o. elim o as (λ o. cut at (b ∷ bytes) ≡ o → Good (after_cut k at (b ∷ bytes) o) → Scans at (b ∷ bytes) (after_cut k at (b ∷ bytes) o)) [
-      | None ↦ λ _ g. absurd g
-      | Some x ↦ λ is g. scans_word at (b ∷ bytes) x.0 x.1 _ (cut_sound at (b ∷ bytes) x.0 x.1 is)
-          (tokens_sound k (at + (length (b ∷ bytes) - length x.1)) x.1 (omega (arith, h, cut_shorter at (b ∷ bytes) x.0 x.1 is)) (good_tail x.0 _ g))
+tokens_sound zero at [] h = finished
+tokens_sound (suc k) at [] h = finished
+tokens_sound zero at (b ∷ bytes) h = absurd (omega (arith, h))
+tokens_sound (suc k) at (b ∷ bytes) h =
+    let word : a_blank b ≡ false → (o : Option (Lexeme × List ℕ)) → cut at (b ∷ bytes) ≡ o → Scans at (b ∷ bytes) (after_cut k at (b ∷ bytes) o)
+    = λ solid o. elim o as (λ o. cut at (b ∷ bytes) ≡ o → Scans at (b ∷ bytes) (after_cut k at (b ∷ bytes) o)) [
+      | None ↦ λ is. bad solid (no_word at (b ∷ bytes) is)
+      | Some x ↦ λ is. scans_word at (b ∷ bytes) x.0 x.1 _ (cut_sound at (b ∷ bytes) x.0 x.1 is)
+          (tokens_sound k (at + (length (b ∷ bytes) - length x.1)) x.1 (omega (arith, h, cut_shorter at (b ∷ bytes) x.0 x.1 is)))
     ] in
-    let here : (v : Bool) → a_blank b ≡ v → Good (if v then tokens_from k (at + 1) bytes else after_cut k at (b ∷ bytes) (cut at (b ∷ bytes))) → Scans at (b ∷ bytes) (if v then tokens_from k (at + 1) bytes else after_cut k at (b ∷ bytes) (cut at (b ∷ bytes)))
-    = λ v. elim v as (λ v. a_blank b ≡ v → Good (if v then tokens_from k (at + 1) bytes else after_cut k at (b ∷ bytes) (cut at (b ∷ bytes))) → Scans at (b ∷ bytes) (if v then tokens_from k (at + 1) bytes else after_cut k at (b ∷ bytes) (cut at (b ∷ bytes)))) [
-      | true ↦ λ is g. blank is (tokens_sound k (at + 1) bytes (omega (arith, h)) g)
-      | false ↦ λ _ g. word (cut at (b ∷ bytes)) refl g
+    let here : (v : Bool) → a_blank b ≡ v → Scans at (b ∷ bytes) (if v then tokens_from k (at + 1) bytes else after_cut k at (b ∷ bytes) (cut at (b ∷ bytes)))
+    = λ v. elim v as (λ v. a_blank b ≡ v → Scans at (b ∷ bytes) (if v then tokens_from k (at + 1) bytes else after_cut k at (b ∷ bytes) (cut at (b ∷ bytes)))) [
+      | true ↦ λ is. blank is (tokens_sound k (at + 1) bytes (omega (arith, h)))
+      | false ↦ λ solid. word solid (cut at (b ∷ bytes)) refl
     ] in
-    here (a_blank b) refl g
+    here (a_blank b) refl
 
 word_scanned : (k at b : ℕ) (word others rest : List ℕ) (x : Lexeme) → word ≡ b ∷ others → a_blank b ≡ false → ◌≡◌ {A = Option (Lexeme × List ℕ)} (cut at (word ++ rest)) (Some (x, rest)) → tokens_from (suc k) at (word ++ rest) ≡ x ∷ tokens_from k (at + length word) rest
 unfolding tokens_from
@@ -153,44 +96,59 @@ token_scanned (suc k) at word rest x ts w h rec =
     let size : length word ≡ length (s.first ∷ s.others) = ap (λ v. length v) s.is in
     word_scanned k at s.first word s.others rest x s.is s.no_blank (cut_complete w) ∙ ap (λ v. x ∷ v) (rec k (omega (arith, h, size, length-append word rest)))
 
+bad_scanned : (k at b : ℕ) (bytes : List ℕ) → a_blank b ≡ false → cut at (b ∷ bytes) ≡ None → length (b ∷ bytes) ≤ k → tokens_from k at (b ∷ bytes) ≡ BadAt at ∷ []
+unfolding tokens_from
+bad_scanned zero at b bytes solid e h = absurd (omega (arith, h))
+bad_scanned (suc k) at b bytes solid e h = rw (solid, e) refl
+
 pub tokens_complete : {at : ℕ} {bytes : List ℕ} {ts : List Lexeme} → Scans at bytes ts → (k : ℕ) → length bytes ≤ k → tokens_from k at bytes ≡ ts
 tokens_complete finished k h = no_tokens k _
 tokens_complete (blank {at = at} {b = b} {bytes = bytes} is s) k h = blank_scanned k at b bytes is h (tokens_complete s)
 tokens_complete (token {at = at} word rest {x = x} {ts = ts} w s) k h = token_scanned k at word rest x ts w h (tokens_complete s)
+tokens_complete (bad {at = at} {b = b} {bytes = bytes} solid none) k h = bad_scanned k at b bytes solid (nothing_cut at (b ∷ bytes) none) h
 
-no_tokens_left : (t u : Tree) (left : List Lexeme) → (elim left [ [] ↦ Some t | _ ∷ _ ↦ None ]) ≡ Some u → (left ≡ []) × (t ≡ u)
-no_tokens_left t u [] e = (refl, some_is e)
-no_tokens_left t u (x ∷ left) e = none_is e
+-- what comes of a reader's answer
+record Came {A B : Type 0} (o : Result A SyntaxFault) (f : A → Result B SyntaxFault) (b : B) : Type 0 where
+  first : A
+  is : o ≡ Ok first
+  gives : f first ≡ Ok b
+
+came_from : {A B : Type 0} (o : Result A SyntaxFault) (f : A → Result B SyntaxFault) (b : B) → on_ok o f ≡ Ok b → Came o f b
+came_from (Err fault) f b e = err_is e
+came_from (Ok a) f b e = record { first = a; is = refl; gives = e }
+
+no_tokens_left : (t u : Tree) (left : List Lexeme) → all_read t left ≡ Ok u → (left ≡ []) × (t ≡ u)
+no_tokens_left t u [] e = (refl, ok_is e)
+no_tokens_left t u (x ∷ left) e = err_is e
 
 -- a tree that is read of all tokens is one that they spell
-pub whole_sound : (ts : List Lexeme) (t : Tree) → whole_at ts ≡ Some t → Spells or_level 64 ts t
+pub whole_sound : (end : ℕ) (ts : List Lexeme) (t : Tree) → whole_at end ts ≡ Ok t → Spells or_level 64 ts t
 unfolding whole_at
-whole_sound ts t e =
-    let c = came_from (or_at (reading.below 64) ts) _ t e in
+whole_sound end ts t e =
+    let c = came_from (or_at (reading.below 64) end ts) _ t e in
     let last = no_tokens_left c.first.0 t c.first.1 c.gives in
-    let takes = any_sound 64 ts c.first.0 c.first.1 c.is in
+    let takes = any_sound 64 end ts c.first.0 c.first.1 c.is in
     let all : ts ≡ takes.front = takes.is ∙ (ap (λ v. takes.front ++ v) last.0 ∙ append-nil takes.front) in
     subst (λ v. Spells or_level 64 v t) (sym all) (subst (λ v. Spells or_level 64 takes.front v) last.1 takes.holds)
 
 -- a tree that tokens spell is read of them
-pub whole_complete : (ts : List Lexeme) (t : Tree) → Spells or_level 64 ts t → whole_at ts ≡ Some t
+pub whole_complete : (end : ℕ) (ts : List Lexeme) (t : Tree) → Spells or_level 64 ts t → whole_at end ts ≡ Ok t
 unfolding whole_at
-whole_complete ts t s =
-    rw (subst (λ v. ◌≡◌ {A = Option (Tree × List Lexeme)} (or_at (reading.below 64) v) (Some (t, []))) (append-nil ts) (any_complete (complete s) [] (record { compare = record { no_plus = refl; no_equal = refl }; no_and = refl; no_or = refl }))) refl
+whole_complete end ts t s =
+    rw (subst (λ v. ◌≡◌ {A = Result (Tree × List Lexeme) SyntaxFault} (or_at (reading.below 64) end v) (Ok (t, []))) (append-nil ts) (any_complete (complete s) end [] (record { compare = record { no_plus = refl; no_equal = refl }; no_and = refl; no_or = refl }))) refl
 
 -- the tree of a text, computed
-pub parse_sound : (text : List ℕ) (t : Tree) → length text ≤ 4096 → whole_at (tokens_from (length text) 0 text) ≡ Some t → Parses text t
+pub parse_sound : (text : List ℕ) (t : Tree) → length text ≤ 4096 → whole_at (length text) (tokens_from (length text) 0 text) ≡ Ok t → Parses text t
 parse_sound text t short e =
-    let spelled = whole_sound (tokens_from (length text) 0 text) t e in
     record {
       short = short;
       tokens = tokens_from (length text) 0 text;
-      scanned = tokens_sound (length text) 0 text (omega arith) (good spelled);
-      spelled = spelled;
+      scanned = tokens_sound (length text) 0 text (omega arith);
+      spelled = whole_sound (length text) (tokens_from (length text) 0 text) t e;
     }
 
-pub parse_complete : (text : List ℕ) (t : Tree) → Parses text t → whole_at (tokens_from (length text) 0 text) ≡ Some t
-parse_complete text t p = ap (λ v. whole_at v) (tokens_complete p.scanned (length text) (omega arith)) ∙ whole_complete p.tokens t p.spelled
+pub parse_complete : (text : List ℕ) (t : Tree) → Parses text t → whole_at (length text) (tokens_from (length text) 0 text) ≡ Ok t
+parse_complete text t p = ap (λ v. whole_at (length text) v) (tokens_complete p.scanned (length text) (omega arith)) ∙ whole_complete (length text) p.tokens t p.spelled
 
 -- tokens and the bytes that are left have all tokens
 abbrev pub Left : List Lexeme → ℕ → List ℕ → List Lexeme → Type 0

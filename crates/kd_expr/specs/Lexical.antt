@@ -69,10 +69,17 @@ pub data Word : ℕ → List ℕ → List ℕ → Lexeme → Type 0 where
   sign_word : {at b : ℕ} {rest : List ℕ} → a_sign b ≡ true → Word at (b ∷ []) rest (SignAt at b)
   equal_word : {at : ℕ} {rest : List ℕ} → Word at (61 ∷ 61 ∷ []) rest (SignAt at 61)
 
--- a text from a place on: blanks and words, and the tokens of the words
+-- no word begins here
+abbrev pub NoWord : ℕ → List ℕ → Type 0
+NoWord at bytes = (word rest : List ℕ) (x : Lexeme) → bytes ≡ word ++ rest → Word at word rest x → ⊥
+
+-- a text from a place on: blanks and words, and the tokens of the words; where no word begins, a bad
+-- token is the last
 pub data Scans : ℕ → List ℕ → List Lexeme → Type 0 where
   finished : {at : ℕ} → Scans at [] []
   blank : {at b : ℕ} {bytes : List ℕ} {ts : List Lexeme} → a_blank b ≡ true
       → Scans (at + 1) bytes ts → Scans at (b ∷ bytes) ts
   token : {at : ℕ} (word rest : List ℕ) {x : Lexeme} {ts : List Lexeme} → Word at word rest x
       → Scans (at + length word) rest ts → Scans at (word ++ rest) (x ∷ ts)
+  bad : {at b : ℕ} {bytes : List ℕ} → a_blank b ≡ false → NoWord at (b ∷ bytes)
+      → Scans at (b ∷ bytes) (BadAt at ∷ [])

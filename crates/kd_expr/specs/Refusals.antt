@@ -1,5 +1,5 @@
 -- Which fault the parser names at a token that it cannot take. No public contract cites it.
-use Rattle.std.specs.Prelude.{◌≡◌, ℕ, List, [], ◌∷◌}
+use Rattle.std.specs.Prelude.{ℕ, List, [], ◌∷◌}
 use Rattle.kd_expr.specs.Lexical.{Lexeme, StringAt, HexAt, AddressAt, NumberAt, MinusAt, NameAt, SignAt, BadAt}
 use Rattle.kd_expr.specs.declared.fault.SyntaxFault.{SyntaxFault}
 use Rattle.kd_expr.specs.declared.fault.SyntaxFault.TheVariants as faults
@@ -15,15 +15,14 @@ refusal_of (MinusAt at number) = faults.Expected at
 refusal_of (NameAt at name) = faults.Expected at
 refusal_of (SignAt at byte) = faults.Expected at
 
--- the fault where another token is expected: that of the first, or the end of the text
-abbrev pub unexpected_at : List Lexeme → ℕ → SyntaxFault
-unexpected_at [] end = faults.Expected end
-unexpected_at (x ∷ ts) end = refusal_of x
-
--- the same where a token has a fault of its own
+-- the fault where another token has to stand: that of the first, or the end of the text
 abbrev pub refused_at : (Lexeme → SyntaxFault) → List Lexeme → ℕ → SyntaxFault
 refused_at refusal [] end = faults.Expected end
 refused_at refusal (x ∷ ts) end = refusal x
+
+-- the same where a token has no fault of its own
+abbrev pub unexpected_at : List Lexeme → ℕ → SyntaxFault
+unexpected_at ts end = refused_at refusal_of ts end
 
 -- the fault of a token that is no code: a number is too large
 abbrev pub code_refusal : Lexeme → SyntaxFault
@@ -41,8 +40,3 @@ abbrev pub signed_refusal : Lexeme → SyntaxFault
 signed_refusal (NumberAt at number) = faults.NumberTooLarge at
 signed_refusal (MinusAt at number) = faults.NumberTooLarge at
 signed_refusal token = refusal_of token
-
--- where a number stands first, it is too large
-abbrev pub IsNumberRefused : List Lexeme → SyntaxFault → Type 0
-IsNumberRefused (NumberAt at number ∷ ts) fault = fault ≡ faults.NumberTooLarge at
-IsNumberRefused ts fault = Unit {0}

@@ -21,7 +21,7 @@ pub(crate) fn named_of<'t, 'a>(
     depth: u8,
 ) -> Result<(Node, &'t [Token<'a>]), SyntaxFault>
     ensures reads { ReadsAs (λ x. (tree_of x.0, lexemes x.1.now)) result
-        (named_at (below depth) at name.now (lexemes tokens.now)) }
+        (named_at (below depth) at name.now source.end (lexemes tokens.now)) }
     ensures shorter { IfOk result (λ x. length x.1.now ≤ length tokens.now) }
 {
     if name == b"option".as_slice() {
@@ -50,7 +50,7 @@ fn form_of<'t, 'a>(
     depth: u8,
 ) -> Result<(Node, &'t [Token<'a>]), SyntaxFault>
     ensures reads { ReadsAs (λ x. (tree_of x.0, lexemes x.1.now)) result
-        (form_at (below depth) at name.now (lexemes tokens.now)) }
+        (form_at (below depth) at name.now source.end (lexemes tokens.now)) }
     ensures shorter { IfOk result (λ x. length x.1.now ≤ length tokens.now) }
 {
     if name == b"substring".as_slice() {
@@ -91,14 +91,14 @@ pub(crate) fn operand_before<'t, 'a>(
     source: Source,
     tokens: &'t [Token<'a>],
     depth: u8,
-    open: usize,
+    bracket: usize,
     wanted: Sign,
 ) -> Result<(Box<Node>, &'t [Token<'a>]), SyntaxFault>
     ensures reads { ReadsAs (λ x. (tree_of x.0.value, lexemes x.1.now)) result
-        (operand_then (below depth) (sign_byte wanted) (lexemes tokens.now)) }
+        (operand_then (below depth) bracket (sign_byte wanted) source.end (lexemes tokens.now)) }
     ensures shorter { IfOk result (λ x. length x.1.now ≤ length tokens.now) }
 {
-    let (operand, rest) = any_deeper(source, tokens, depth, open)?;
+    let (operand, rest) = any_deeper(source, tokens, depth, bracket)?;
     let (_, rest) = expect_sign(rest, wanted, source.end)?;
     Ok((Box::new(source.alloc, operand)?, rest))
 }
@@ -112,7 +112,7 @@ fn one_operand<'t, 'a>(
     depth: u8,
 ) -> Result<(Box<Node>, &'t [Token<'a>]), SyntaxFault>
     ensures reads { ReadsAs (λ x. (tree_of x.0.value, lexemes x.1.now)) result
-        (operand_in_brackets (below depth) (lexemes tokens.now)) }
+        (operand_in_brackets (below depth) source.end (lexemes tokens.now)) }
     ensures shorter { IfOk result (λ x. length x.1.now ≤ length tokens.now) }
 {
     let (open, rest) = expect_sign(tokens, Sign::Open, source.end)?;
@@ -128,7 +128,7 @@ fn two_operands<'t, 'a>(
     depth: u8,
 ) -> Result<(Box<Node>, Box<Node>, &'t [Token<'a>]), SyntaxFault>
     ensures reads { ReadsAs (λ x. ((tree_of x.0.value, tree_of x.1.value), lexemes x.2.now)) result
-        (operands_in_brackets (below depth) (lexemes tokens.now)) }
+        (operands_in_brackets (below depth) source.end (lexemes tokens.now)) }
     ensures shorter { IfOk result (λ x. length x.2.now ≤ length tokens.now) }
 {
     let (open, rest) = expect_sign(tokens, Sign::Open, source.end)?;
@@ -147,7 +147,7 @@ fn ifelse_of<'t, 'a>(
     depth: u8,
 ) -> Result<(Node, &'t [Token<'a>]), SyntaxFault>
     ensures reads { ReadsAs (λ x. (tree_of x.0, lexemes x.1.now)) result
-        (ifelse_at (below depth) at (lexemes tokens.now)) }
+        (ifelse_at (below depth) at source.end (lexemes tokens.now)) }
     ensures shorter { IfOk result (λ x. length x.1.now ≤ length tokens.now) }
 {
     let (open, rest) = expect_sign(tokens, Sign::Open, source.end)?;
@@ -167,7 +167,7 @@ fn substring_of<'t, 'a>(
     depth: u8,
 ) -> Result<(Node, &'t [Token<'a>]), SyntaxFault>
     ensures reads { ReadsAs (λ x. (tree_of x.0, lexemes x.1.now)) result
-        (substring_after (below depth) at (lexemes tokens.now)) }
+        (substring_after (below depth) at source.end (lexemes tokens.now)) }
     ensures shorter { IfOk result (λ x. length x.1.now ≤ length tokens.now) }
 {
     let (open, rest) = expect_sign(tokens, Sign::Open, source.end)?;

@@ -1,10 +1,9 @@
-ghost use Rattle.std.specs.Prelude.{◌≡◌, ◌≤◌, ◌<◌, ◌==◌, if◌then◌else◌, IfErr, IfOk, length, codes, bytes_eq};
+ghost use Rattle.std.specs.Prelude.{◌≡◌, ◌≤◌, ◌<◌, IfOk, length, codes, bytes_eq};
 ghost use Rattle.kd_expr.specs.Gives.{ReadsAs};
 ghost use Rattle.kd_expr.specs.Names.{code_by_name, field_by_name};
-ghost use Rattle.kd_expr.specs.Reading.{below, one, bracketed, code_of_option, code_of_relay, suffix_of, field_of, signed, length_of_part, class_name, option_at, relay_at, field_after, packet_at, member_at};
-ghost use Rattle.kd_expr.specs.Refusals.{code_refusal, option_refusal, refused_at, signed_refusal, unexpected_at};
+ghost use Rattle.kd_expr.specs.Reading.{below, wanted, bracketed, code_of_option, code_of_relay, suffix_of, field_of, signed, length_of_part, class_name, option_at, relay_at, field_after, packet_at, member_at};
+ghost use Rattle.kd_expr.specs.Refusals.{code_refusal, option_refusal, refusal_of, signed_refusal};
 ghost use Rattle.kd_expr.specs.View.{lexemes, tree_of};
-ghost use Rattle.kd_expr.specs.declared.fault.SyntaxFault.TheVariants.{TooNested};
 
 use crate::fault::SyntaxFault;
 use crate::literal::bytes_of;
@@ -22,7 +21,7 @@ pub(crate) fn option_of<'t, 'a>(
     tokens: &'t [Token<'a>],
 ) -> Result<(Node, &'t [Token<'a>]), SyntaxFault>
     ensures reads { ReadsAs (λ x. (tree_of x.0, lexemes x.1.now)) result
-        (option_at at (lexemes tokens.now)) }
+        (option_at at source.end (lexemes tokens.now)) }
     ensures shorter { IfOk result (λ x. length x.1.now ≤ length tokens.now) }
 {
     let (_, rest) = expect_sign(tokens, Sign::Left, source.end)?;
@@ -45,7 +44,7 @@ pub(crate) fn relay_of<'t, 'a>(
     tokens: &'t [Token<'a>],
 ) -> Result<(Node, &'t [Token<'a>]), SyntaxFault>
     ensures reads { ReadsAs (λ x. (tree_of x.0, lexemes x.1.now)) result
-        (relay_at at (lexemes tokens.now)) }
+        (relay_at at source.end (lexemes tokens.now)) }
     ensures shorter { IfOk result (λ x. length x.1.now ≤ length tokens.now) }
 {
     let (_, rest) = expect_sign(tokens, Sign::Left, source.end)?;
@@ -68,7 +67,7 @@ pub(crate) fn field_of<'t, 'a>(
     tokens: &'t [Token<'a>],
 ) -> Result<(Node, &'t [Token<'a>]), SyntaxFault>
     ensures reads { ReadsAs (λ x. (tree_of x.0, lexemes x.1.now)) result
-        (field_after at (lexemes tokens.now)) }
+        (field_after at source.end (lexemes tokens.now)) }
     ensures shorter { IfOk result (λ x. length x.1.now ≤ length tokens.now) }
 {
     let (_, rest) = expect_sign(tokens, Sign::Dot, source.end)?;
@@ -84,7 +83,7 @@ pub(crate) fn packet_of<'t, 'a>(
     tokens: &'t [Token<'a>],
 ) -> Result<(Node, &'t [Token<'a>]), SyntaxFault>
     ensures reads { ReadsAs (λ x. (tree_of x.0, lexemes x.1.now)) result
-        (packet_at at (lexemes tokens.now)) }
+        (packet_at at source.end (lexemes tokens.now)) }
     ensures shorter { IfOk result (λ x. length x.1.now ≤ length tokens.now) }
 {
     let (_, rest) = expect_sign(tokens, Sign::Dot, source.end)?;
@@ -107,7 +106,7 @@ pub(crate) fn member_of<'t, 'a>(
     depth: u8,
 ) -> Result<(Node, &'t [Token<'a>]), SyntaxFault>
     ensures reads { ReadsAs (λ x. (tree_of x.0, lexemes x.1.now)) result
-        (member_at (below depth) at (lexemes tokens.now)) }
+        (member_at (below depth) at source.end (lexemes tokens.now)) }
     ensures shorter { IfOk result (λ x. length x.1.now ≤ length tokens.now) }
 {
     let (open, rest) = expect_sign(tokens, Sign::Open, source.end)?;
@@ -126,10 +125,8 @@ fn name_deeper<'t, 'a>(
     end: usize,
 ) -> Result<(&'a [u8], &'t [Token<'a>]), SyntaxFault>
     ensures reads { ReadsAs (λ x. (x.0.now, lexemes x.1.now)) result
-        ((below depth).name (lexemes tokens.now)) }
+        ((below depth).name at end (lexemes tokens.now)) }
     ensures shorter { IfOk result (λ x. length x.1.now ≤ length tokens.now) }
-    ensures fault { IfErr result (λ e. e ≡ (if depth == 0 then TooNested at
-        else unexpected_at (lexemes tokens.now) end)) }
 {
     if depth == 0 {
         return Err(SyntaxFault::TooNested(at));
@@ -150,9 +147,8 @@ fn option_code<'t, 'a>(
     end: usize,
 ) -> Result<(u8, &'t [Token<'a>]), SyntaxFault>
     ensures reads { ReadsAs (λ x. (x.0, lexemes x.1.now)) result
-        (one code_of_option (lexemes tokens.now)) }
+        (wanted code_of_option option_refusal end (lexemes tokens.now)) }
     ensures shorter { IfOk result (λ x. length x.1.now < length tokens.now) }
-    ensures fault { IfErr result (λ e. e ≡ refused_at option_refusal (lexemes tokens.now) end) }
 {
     let [first, rest @ ..] = tokens else {
         return Err(SyntaxFault::Expected(end));
@@ -177,9 +173,8 @@ fn relay_code<'t, 'a>(
     end: usize,
 ) -> Result<(u8, &'t [Token<'a>]), SyntaxFault>
     ensures reads { ReadsAs (λ x. (x.0, lexemes x.1.now)) result
-        (one code_of_relay (lexemes tokens.now)) }
+        (wanted code_of_relay code_refusal end (lexemes tokens.now)) }
     ensures shorter { IfOk result (λ x. length x.1.now < length tokens.now) }
-    ensures fault { IfErr result (λ e. e ≡ refused_at code_refusal (lexemes tokens.now) end) }
 {
     let [first, rest @ ..] = tokens else {
         return Err(SyntaxFault::Expected(end));
@@ -200,9 +195,8 @@ fn suffix<'t, 'a>(
     end: usize,
 ) -> Result<(bool, &'t [Token<'a>]), SyntaxFault>
     ensures reads { ReadsAs (λ x. (x.0, lexemes x.1.now)) result
-        (one suffix_of (lexemes tokens.now)) }
+        (wanted suffix_of refusal_of end (lexemes tokens.now)) }
     ensures shorter { IfOk result (λ x. length x.1.now < length tokens.now) }
-    ensures fault { IfErr result (λ e. e ≡ unexpected_at (lexemes tokens.now) end) }
 {
     let [first, rest @ ..] = tokens else {
         return Err(SyntaxFault::Expected(end));
@@ -221,9 +215,8 @@ fn field<'t, 'a>(
     end: usize,
 ) -> Result<(Field, &'t [Token<'a>]), SyntaxFault>
     ensures reads { ReadsAs (λ x. (x.0, lexemes x.1.now)) result
-        (one field_of (lexemes tokens.now)) }
+        (wanted field_of refusal_of end (lexemes tokens.now)) }
     ensures shorter { IfOk result (λ x. length x.1.now < length tokens.now) }
-    ensures fault { IfErr result (λ e. e ≡ unexpected_at (lexemes tokens.now) end) }
 {
     let [first, rest @ ..] = tokens else {
         return Err(SyntaxFault::Expected(end));
@@ -243,9 +236,8 @@ pub(crate) fn signed_of<'t, 'a>(
     tokens: &'t [Token<'a>],
     end: usize,
 ) -> Result<(i32, &'t [Token<'a>]), SyntaxFault>
-    ensures reads { ReadsAs (λ x. (x.0, lexemes x.1.now)) result (one signed (lexemes tokens.now)) }
+    ensures reads { ReadsAs (λ x. (x.0, lexemes x.1.now)) result (wanted signed signed_refusal end (lexemes tokens.now)) }
     ensures shorter { IfOk result (λ x. length x.1.now < length tokens.now) }
-    ensures fault { IfErr result (λ e. e ≡ refused_at signed_refusal (lexemes tokens.now) end) }
 {
     let [first, rest @ ..] = tokens else {
         return Err(SyntaxFault::Expected(end));
@@ -271,9 +263,8 @@ pub(crate) fn length_of<'t, 'a>(
     end: usize,
 ) -> Result<(Option<i32>, &'t [Token<'a>]), SyntaxFault>
     ensures reads { ReadsAs (λ x. (x.0, lexemes x.1.now)) result
-        (one length_of_part (lexemes tokens.now)) }
+        (wanted length_of_part signed_refusal end (lexemes tokens.now)) }
     ensures shorter { IfOk result (λ x. length x.1.now < length tokens.now) }
-    ensures fault { IfErr result (λ e. e ≡ refused_at signed_refusal (lexemes tokens.now) end) }
 {
     let [first, rest @ ..] = tokens else {
         return Err(SyntaxFault::Expected(end));

@@ -1,8 +1,7 @@
-ghost use Rattle.std.specs.Prelude.{◌≡◌, ◌≤◌, ◌<◌, IfErr, IfOk, MatchResult, length, codes, bytes_eq};
+ghost use Rattle.std.specs.Prelude.{◌≡◌, ◌≤◌, ◌<◌, IfOk, MatchResult, length, codes, bytes_eq};
 ghost use Rattle.kd_expr.specs.Gives.{ReadsAs};
 ghost use Rattle.kd_expr.specs.Reading.{below, or_at, and_at, not_at, compare_at, sum_at, primary_at, group_at};
 ghost use Rattle.kd_expr.specs.Reading as reading;
-ghost use Rattle.kd_expr.specs.Refusals.{IsNumberRefused};
 ghost use Rattle.kd_expr.specs.Tree.{Equal, Not, at_of};
 ghost use Rattle.kd_expr.specs.View.{lexemes, tree_of};
 ghost use Rattle.kd_expr.specs.declared.fault.SyntaxFault.TheVariants as faults;
@@ -96,7 +95,7 @@ pub(crate) fn or_of<'t, 'a>(
     depth: u8,
 ) -> Result<(Node, &'t [Token<'a>]), SyntaxFault>
     ensures reads { ReadsAs (λ x. (tree_of x.0, lexemes x.1.now)) result
-        (or_at (below depth) (lexemes tokens.now)) }
+        (or_at (below depth) source.end (lexemes tokens.now)) }
     ensures shorter { IfOk result (λ x. length x.1.now ≤ length tokens.now) }
 {
     let (mut first, mut rest) = and_of(source, tokens, depth)?;
@@ -117,7 +116,7 @@ fn and_of<'t, 'a>(
     depth: u8,
 ) -> Result<(Node, &'t [Token<'a>]), SyntaxFault>
     ensures reads { ReadsAs (λ x. (tree_of x.0, lexemes x.1.now)) result
-        (and_at (below depth) (lexemes tokens.now)) }
+        (and_at (below depth) source.end (lexemes tokens.now)) }
     ensures shorter { IfOk result (λ x. length x.1.now ≤ length tokens.now) }
 {
     let (mut first, mut rest) = not_of(source, tokens, depth)?;
@@ -138,7 +137,7 @@ fn not_of<'t, 'a>(
     depth: u8,
 ) -> Result<(Node, &'t [Token<'a>]), SyntaxFault>
     ensures reads { ReadsAs (λ x. (tree_of x.0, lexemes x.1.now)) result
-        (not_at (below depth) (lexemes tokens.now)) }
+        (not_at (below depth) source.end (lexemes tokens.now)) }
     ensures shorter { IfOk result (λ x. length x.1.now ≤ length tokens.now) }
 {
     match word(tokens, b"not") {
@@ -159,7 +158,7 @@ fn compare_of<'t, 'a>(
     depth: u8,
 ) -> Result<(Node, &'t [Token<'a>]), SyntaxFault>
     ensures reads { ReadsAs (λ x. (tree_of x.0, lexemes x.1.now)) result
-        (compare_at (below depth) (lexemes tokens.now)) }
+        (compare_at (below depth) source.end (lexemes tokens.now)) }
     ensures shorter { IfOk result (λ x. length x.1.now ≤ length tokens.now) }
 {
     let (first, rest) = sum_of(source, tokens, depth)?;
@@ -181,7 +180,7 @@ fn sum_of<'t, 'a>(
     depth: u8,
 ) -> Result<(Node, &'t [Token<'a>]), SyntaxFault>
     ensures reads { ReadsAs (λ x. (tree_of x.0, lexemes x.1.now)) result
-        (sum_at (below depth) (lexemes tokens.now)) }
+        (sum_at (below depth) source.end (lexemes tokens.now)) }
     ensures shorter { IfOk result (λ x. length x.1.now ≤ length tokens.now) }
 {
     let (mut first, mut rest) = primary_of(source, tokens, depth)?;
@@ -202,9 +201,8 @@ fn primary_of<'t, 'a>(
     depth: u8,
 ) -> Result<(Node, &'t [Token<'a>]), SyntaxFault>
     ensures reads { ReadsAs (λ x. (tree_of x.0, lexemes x.1.now)) result
-        (primary_at (below depth) (lexemes tokens.now)) }
+        (primary_at (below depth) source.end (lexemes tokens.now)) }
     ensures shorter { IfOk result (λ x. length x.1.now ≤ length tokens.now) }
-    ensures number { IfErr result (IsNumberRefused (lexemes tokens.now)) }
 {
     let [token, rest @ ..] = tokens else {
         return Err(SyntaxFault::Expected(source.end));
@@ -242,7 +240,7 @@ fn group_of<'t, 'a>(
     depth: u8,
 ) -> Result<(Node, &'t [Token<'a>]), SyntaxFault>
     ensures reads { ReadsAs (λ x. (tree_of x.0, lexemes x.1.now)) result
-        (group_at (below depth) (lexemes tokens.now)) }
+        (group_at (below depth) source.end (lexemes tokens.now)) }
     ensures shorter { IfOk result (λ x. length x.1.now ≤ length tokens.now) }
 {
     let (at, rest) = expect_sign(tokens, Sign::Open, source.end)?;
@@ -260,7 +258,7 @@ pub(crate) fn any_deeper<'t, 'a>(
     at: usize,
 ) -> Result<(Node, &'t [Token<'a>]), SyntaxFault>
     ensures reads { ReadsAs (λ x. (tree_of x.0, lexemes x.1.now)) result
-        ((below depth).any (lexemes tokens.now)) }
+        ((below depth).any at source.end (lexemes tokens.now)) }
     ensures shorter { IfOk result (λ x. length x.1.now ≤ length tokens.now) }
 {
     if depth == 0 {
@@ -279,7 +277,7 @@ fn operand_deeper<'t, 'a>(
     at: usize,
 ) -> Result<(Node, &'t [Token<'a>]), SyntaxFault>
     ensures reads { ReadsAs (λ x. (tree_of x.0, lexemes x.1.now)) result
-        ((below depth).operand (lexemes tokens.now)) }
+        ((below depth).operand at source.end (lexemes tokens.now)) }
     ensures shorter { IfOk result (λ x. length x.1.now ≤ length tokens.now) }
 {
     if depth == 0 {

@@ -45,7 +45,8 @@ pub fn read(alloc: Global, text: &[u8]) -> Result<Expr, ExprFault>
 // The tree that all tokens of a text spell.
 #[tactic(auto, unfolding(crate::specs::Reading::whole_at))]
 fn node_in(alloc: Global, text: &[u8]) -> Result<Node, SyntaxFault>
-    ensures { ReadsAs tree_of result (whole_at (tokens_from (length text.now) 0 text.now)) }
+    ensures { ReadsAs tree_of result
+        (whole_at (length text.now) (tokens_from (length text.now) 0 text.now)) }
 {
     let tokens = tokens_of(alloc, text)?;
     let source = Source {

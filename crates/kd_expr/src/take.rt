@@ -1,7 +1,7 @@
 ghost use Rattle.std.specs.Prelude.{◌≡◌, ◌≢◌, ◌≤◌, ◌^◌, ◌<◌, IfErr, IfOk, IfSome, length, option_map, option_copied, bytes_eq, codes};
 ghost use Rattle.kd_expr.specs.Gives.{ReadsAs};
 ghost use Rattle.kd_expr.specs.Names.{code_by_name, field_by_name};
-ghost use Rattle.kd_expr.specs.Reading.{one, sign_here, word_here, code_of_option, code_of_relay, suffix_of, field_of, signed, length_of_part, class_name};
+ghost use Rattle.kd_expr.specs.Reading.{one, sign_at, word_at, sign_here, word_here};
 ghost use Rattle.kd_expr.specs.Refusals.{unexpected_at};
 ghost use Rattle.kd_expr.specs.View.{lexemes, lexeme_at, sign_byte};
 ghost use Rattle.kd_expr.specs.declared.fault.SyntaxFault.TheVariants as faults;
@@ -33,7 +33,7 @@ pub(crate) fn sign<'t, 'a>(
     wanted: Sign,
 ) -> Option<(usize, &'t [Token<'a>])>
     ensures reads { option_map (λ x. (x.0, lexemes x.1.now)) result
-        ≡ sign_here (sign_byte wanted) (lexemes tokens.now) }
+        ≡ one (sign_at (sign_byte wanted)) (lexemes tokens.now) }
     ensures shorter { IfSome result (λ x. length x.1.now < length tokens.now) }
 {
     let [first, rest @ ..] = tokens else {
@@ -52,7 +52,7 @@ pub(crate) fn word<'t, 'a>(
     wanted: &[u8],
 ) -> Option<(usize, &'t [Token<'a>])>
     ensures reads { option_map (λ x. (x.0, lexemes x.1.now)) result
-        ≡ word_here wanted.now (lexemes tokens.now) }
+        ≡ one (word_at wanted.now) (lexemes tokens.now) }
     ensures shorter { IfSome result (λ x. length x.1.now < length tokens.now) }
 {
     let [first, rest @ ..] = tokens else {
@@ -72,9 +72,8 @@ pub(crate) fn expect_sign<'t, 'a>(
     end: usize,
 ) -> Result<(usize, &'t [Token<'a>]), SyntaxFault>
     ensures reads { ReadsAs (λ x. (x.0, lexemes x.1.now)) result
-        (sign_here (sign_byte wanted) (lexemes tokens.now)) }
+        (sign_here (sign_byte wanted) end (lexemes tokens.now)) }
     ensures shorter { IfOk result (λ x. length x.1.now < length tokens.now) }
-    ensures fault { IfErr result (λ e. e ≡ unexpected_at (lexemes tokens.now) end) }
 {
     match sign(tokens, wanted) {
         Some(found) => Ok(found),
@@ -89,9 +88,8 @@ pub(crate) fn expect_word<'t, 'a>(
     end: usize,
 ) -> Result<(usize, &'t [Token<'a>]), SyntaxFault>
     ensures reads { ReadsAs (λ x. (x.0, lexemes x.1.now)) result
-        (word_here wanted.now (lexemes tokens.now)) }
+        (word_here wanted.now end (lexemes tokens.now)) }
     ensures shorter { IfOk result (λ x. length x.1.now < length tokens.now) }
-    ensures fault { IfErr result (λ e. e ≡ unexpected_at (lexemes tokens.now) end) }
 {
     match word(tokens, wanted) {
         Some(found) => Ok(found),

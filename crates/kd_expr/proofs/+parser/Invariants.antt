@@ -1,5 +1,5 @@
 use Rattle.std.proofs.Common.{◌≡◌, ◌≤◌, ◌*◌, ◌+◌, ℕ, length, codes}
-use Rattle.kd_expr.specs.Reading.{below, or_at, and_at, not_at, sum_at, primary_at, operands_joined, sign_here, word_here, or_of, and_of, sum_of}
+use Rattle.kd_expr.specs.Reading.{below, or_at, and_at, not_at, sum_at, primary_at, operands_joined, sign_at, word_at, or_of, and_of, sum_of}
 use Rattle.kd_expr.specs.View.{lexemes, tree_of}
 use Rattle.kd_expr.proofs.+parser.Given as goal
 
@@ -54,7 +54,7 @@ decreases-parser::operand_deeper l = 12 * l.depth
 abbrev pub invariant-parser::or_of-loop-after : goal.invariant-parser::or_of-loop-after
 invariant-parser::or_of-loop-after l = record {
   shorter : length l.rest ≤ length l.fn.tokens;
-  same : (k : ℕ) × (length l.rest ≤ k) × (or_at (below l.depth) (lexemes l.fn.tokens) ≡ operands_joined (word_here (codes "or")) (and_at (below l.depth)) or_of k (tree_of l.first) (lexemes l.rest));
+  same : (k : ℕ) × (length l.rest ≤ k) × (or_at (below l.depth) l.source.end (lexemes l.fn.tokens) ≡ operands_joined (word_at (codes "or")) (and_at (below l.depth)) or_of k (tree_of l.first) l.source.end (lexemes l.rest));
 }
 
 abbrev pub decreases-parser::or_of-loop-after : goal.decreases-parser::or_of-loop-after
@@ -63,7 +63,7 @@ decreases-parser::or_of-loop-after l = length l.rest
 abbrev pub invariant-parser::and_of-loop-after : goal.invariant-parser::and_of-loop-after
 invariant-parser::and_of-loop-after l = record {
   shorter : length l.rest ≤ length l.fn.tokens;
-  same : (k : ℕ) × (length l.rest ≤ k) × (and_at (below l.depth) (lexemes l.fn.tokens) ≡ operands_joined (word_here (codes "and")) (not_at (below l.depth)) and_of k (tree_of l.first) (lexemes l.rest));
+  same : (k : ℕ) × (length l.rest ≤ k) × (and_at (below l.depth) l.source.end (lexemes l.fn.tokens) ≡ operands_joined (word_at (codes "and")) (not_at (below l.depth)) and_of k (tree_of l.first) l.source.end (lexemes l.rest));
 }
 
 abbrev pub decreases-parser::and_of-loop-after : goal.decreases-parser::and_of-loop-after
@@ -72,7 +72,7 @@ decreases-parser::and_of-loop-after l = length l.rest
 abbrev pub invariant-parser::sum_of-loop-after : goal.invariant-parser::sum_of-loop-after
 invariant-parser::sum_of-loop-after l = record {
   shorter : length l.rest ≤ length l.fn.tokens;
-  same : (k : ℕ) × (length l.rest ≤ k) × (sum_at (below l.depth) (lexemes l.fn.tokens) ≡ operands_joined (sign_here 43) (primary_at (below l.depth)) sum_of k (tree_of l.first) (lexemes l.rest));
+  same : (k : ℕ) × (length l.rest ≤ k) × (sum_at (below l.depth) l.source.end (lexemes l.fn.tokens) ≡ operands_joined (sign_at 43) (primary_at (below l.depth)) sum_of k (tree_of l.first) l.source.end (lexemes l.rest));
 }
 
 abbrev pub decreases-parser::sum_of-loop-after : goal.decreases-parser::sum_of-loop-after

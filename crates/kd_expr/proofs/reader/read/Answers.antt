@@ -20,4 +20,4 @@ returns-in-Ok-clause-only c tree p =
 
 pub returns-in-Err-clause-only : goal.returns-in-Err-clause-only
 returns-in-Err-clause-only c tree p =
-    refused_for_memory c.args.text.now tree c.seen_outside.result (λ other. c.in-Err.ensures (c.seen_outside.ensures.memory other)) p
+    refused_for_memory c.args.text.now tree c.seen_outside.result c.in-Err.fault (λ other. c.in-Err.ensures (c.seen_outside.ensures.memory other)) p
