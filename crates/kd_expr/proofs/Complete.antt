@@ -25,7 +25,7 @@ pub record InHand (r : Reader Tree) (next : Lexeme → Option ℕ) (operand : Re
   pub enough : length rest ≤ count
   pub is : r end ts ≡ operands_joined next operand join count t end rest
 
-joined_ends : (next : Lexeme → Option ℕ) (operand : Reader Tree) (join : Tree → Tree → Tree) (k : ℕ) (t : Tree) (end : ℕ) (rest : List Lexeme) → Misses next rest → Answers (operands_joined next operand join k t end rest) t rest
+pub joined_ends : (next : Lexeme → Option ℕ) (operand : Reader Tree) (join : Tree → Tree → Tree) (k : ℕ) (t : Tree) (end : ℕ) (rest : List Lexeme) → Misses next rest → Answers (operands_joined next operand join k t end rest) t rest
 unfolding operands_joined
 joined_ends next operand join zero t end rest e = refl
 joined_ends next operand join (suc k) t end rest e = rw e refl

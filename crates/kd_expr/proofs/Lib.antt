@@ -12,3 +12,4 @@ pub mod Words
 pub mod Texts
 pub mod Count
 pub mod TextRead
+pub mod Faulty

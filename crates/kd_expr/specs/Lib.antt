@@ -11,3 +11,4 @@ pub mod Typing
 pub mod Gives
 pub mod View
 pub mod Refusals
+pub mod FirstFault

@@ -1,0 +1,66 @@
+-- Which fault a text has that is no expression, and where. The tokens before the fault's place are
+-- the first of some expression; with the token there, they are those of none.
+use Rattle.std.specs.Prelude.{◌≡◌, ◌≢◌, ℕ, Bool, true, false, List, [], ◌∷◌, ◌++◌, length, Option, Some, None}
+use Rattle.kd_expr.specs.Grammar.{Spells, or_level}
+use Rattle.kd_expr.specs.Lexical.{Lexeme, StringAt, HexAt, AddressAt, NumberAt, MinusAt, NameAt, SignAt, BadAt, Scans}
+use Rattle.kd_expr.specs.Names.{code_by_name}
+use Rattle.kd_expr.specs.Tree.{Tree}
+use Rattle.kd_expr.specs.declared.fault.ExprFault.{ExprFault}
+use Rattle.kd_expr.specs.declared.fault.ExprFault.TheVariants as faults
+
+-- the place of a token's first byte
+abbrev pub place_of : Lexeme → ℕ
+place_of (StringAt at bytes) = at
+place_of (HexAt at digits) = at
+place_of (AddressAt at bytes) = at
+place_of (NumberAt at number) = at
+place_of (MinusAt at number) = at
+place_of (NameAt at name) = at
+place_of (SignAt at byte) = at
+place_of (BadAt at) = at
+
+-- no word begins at the token's place
+abbrev pub is_bad : Lexeme → Bool
+is_bad (BadAt at) = true
+is_bad token = false
+
+-- some expression begins with these tokens, however deep it is nested
+abbrev pub BeginsSome : List Lexeme → Type 0
+BeginsSome ts =
+    (more : List Lexeme) × (n : ℕ) × (tree : Tree) × Spells or_level n (ts ++ more) tree
+
+-- no expression begins with these tokens
+abbrev pub BeginsNone : List Lexeme → Type 0
+BeginsNone ts = (more : List Lexeme) (tree : Tree) → Spells or_level 64 (ts ++ more) tree → ⊥
+
+-- the fault of a token after these, where another of its kind could stand or not
+pub data IsTokenFault (before : List Lexeme) : Lexeme → ExprFault → Type 0 where
+  bad_token : {at : ℕ} → IsTokenFault before (BadAt at) (faults.BadToken at)
+  unexpected : {x : Lexeme} → is_bad x ≡ false
+      → IsTokenFault before x (faults.Expected (place_of x))
+  too_large : {at k : ℕ} (m : ℕ) → BeginsSome (before ++ NumberAt at m ∷ [])
+      → IsTokenFault before (NumberAt at k) (faults.NumberTooLarge at)
+  too_low : {at k : ℕ} (m : ℕ) → BeginsSome (before ++ MinusAt at m ∷ [])
+      → IsTokenFault before (MinusAt at k) (faults.NumberTooLarge at)
+  unknown : {at : ℕ} {name : List ℕ} (code : ℕ) (known : List ℕ) → code_by_name known ≡ Some code
+      → BeginsSome (before ++ NameAt at known ∷ [])
+      → IsTokenFault before (NameAt at name) (faults.UnknownName at)
+  nested : {x : Lexeme} → is_bad x ≡ false → BeginsSome (before ++ x ∷ [])
+      → IsTokenFault before x (faults.TooNested (place_of x))
+
+-- the fault of the tokens that are left after these
+abbrev pub IsFaultAfter : List Lexeme → List Lexeme → ℕ → ExprFault → Type 0
+IsFaultAfter before [] end fault =
+    ((tree : Tree) → Spells or_level 64 before tree → ⊥) × (fault ≡ faults.Expected end)
+IsFaultAfter before (x ∷ after) end fault =
+    BeginsNone (before ++ x ∷ []) × IsTokenFault before x fault
+
+-- the first fault of a text that is no expression
+pub record IsFirstFault (text : List ℕ) (fault : ExprFault) : Type 0 where
+  pub tokens : List Lexeme
+  pub scanned : Scans 0 text tokens
+  pub before : List Lexeme
+  pub left : List Lexeme
+  pub parts : tokens ≡ before ++ left
+  pub begins : BeginsSome before
+  pub is : IsFaultAfter before left (length text) fault
