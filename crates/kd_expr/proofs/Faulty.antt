@@ -265,7 +265,7 @@ pub reads_one : {B : Type 0} (P : List Lexeme → B → Type 0) (r : Reader B) (
 reads_one P r x end ts b holds h = record { front = x ∷ []; is = refl; holds = holds; again = λ us fo. h us }
 
 -- nothing is left at the end
-at_the_end : {B : Type 0} (P : List Lexeme → B → Type 0) (r : Reader B) (end : ℕ) → Begins P [] → ◌≡◌ {A = Result (B × List Lexeme) SyntaxFault} (r end []) (Err (faults.Expected end)) → Stopped P r end [] (faults.Expected end)
+pub at_the_end : {B : Type 0} (P : List Lexeme → B → Type 0) (r : Reader B) (end : ℕ) → Begins P [] → ◌≡◌ {A = Result (B × List Lexeme) SyntaxFault} (r end []) (Err (faults.Expected end)) → Stopped P r end [] (faults.Expected end)
 at_the_end {B} P r end begins e = record {
   front = [];
   left = [];

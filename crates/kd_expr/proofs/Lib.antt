@@ -13,3 +13,4 @@ pub mod Texts
 pub mod Count
 pub mod TextRead
 pub mod Faulty
+pub mod Viable

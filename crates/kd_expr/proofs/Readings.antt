@@ -22,7 +22,7 @@ word_sound : {B : Type 0} (P : List Lexeme → B → Type 0) (w : List ℕ) (f :
 word_sound P w f h = seq_one_sound P (word_at w) refusal_of f (λ x o e. at_front P (f o) (word_is w x o e) (h o))
 
 -- a code in brackets, and what follows it
-data InBrackets (code : Lexeme → Option ℕ) : List Lexeme → ℕ × Bool → Type 0 where
+pub data InBrackets (code : Lexeme → Option ℕ) : List Lexeme → ℕ × Bool → Type 0 where
   in_brackets : (l r d : ℕ) (x y : Lexeme) {c : ℕ} {b : Bool} → code x ≡ Some c → IsSuffix y b → InBrackets code (SignAt l 91 ∷ x ∷ SignAt r 93 ∷ SignAt d 46 ∷ y ∷ []) (c, b)
 
 bracketed_sound : (code : Lexeme → Option ℕ) (refusal : Lexeme → SyntaxFault) → IsSound (InBrackets code) (bracketed code refusal)

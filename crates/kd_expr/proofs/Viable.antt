@@ -11,8 +11,8 @@ use Rattle.kd_expr.specs.declared.fault.SyntaxFault.{SyntaxFault}
 use Rattle.kd_expr.specs.declared.fault.SyntaxFault.TheVariants as faults
 use Rattle.kd_expr.specs.declared.node.Field.{Field}
 use Rattle.kd_expr.proofs.Faulty.{Begins, Refused, too_large, too_low, unknown, unexpected, nested, bad, refusal_is, Read, Stopped, Comes, Good, GoodTo, comes, same_good, done_good, seq_good, head_same, goes_on, stops_at, reads_one, either_found, either_good, either_good_to, wanted_good, seq_one_good, weaker_good, chain_good, at_the_end}
-use Rattle.kd_expr.proofs.Readings.{before_is, InBrackets, in_brackets, bracketed_front}
-use Rattle.kd_expr.proofs.Sound.{OneOf, is_one}
+use Rattle.kd_expr.proofs.Readings.{before_is, InBrackets, in_brackets}
+use Rattle.kd_expr.proofs.Sound.{OneOf, is_one, on_ok_twice}
 use Rattle.kd_expr.proofs.Tokens.{sign_is, word_is, option_code_is, relay_code_is, IsRelayCode, relay_number, IsSuffix, hex, exists, suffix_is, IsPartName, part_name, field_of_is, signed_is, length_is, IsClassName, class_is, class_name_is}
 use Rattle.std.proofs.lemmas.Slice.Eq.{bytes_eq-Decides}
 
@@ -21,40 +21,46 @@ abbrev pub AnySpells : Level → List Lexeme → Tree → Type 0
 AnySpells l us t = (n : ℕ) × Spells l n us t
 
 -- what is spelled may be nested deeper
-raised : {l : Level} {n : ℕ} {us : List Lexeme} {t : Tree} (k : ℕ) → Spells l n us t → Spells l (n + k) us t
-raised k (or_one s) = or_one (raised k s)
-raised k (or_more o s r) = or_more o (raised k s) (raised k r)
-raised k (and_one s) = and_one (raised k s)
-raised k (and_more o s r) = and_more o (raised k s) (raised k r)
-raised k (not_none s) = not_none (raised k s)
-raised k (negated s) = negated (raised k s)
-raised k (compare_one s) = compare_one (raised k s)
-raised k (equal o s r) = equal o (raised k s) (raised k r)
-raised k (sum_one s) = sum_one (raised k s)
-raised k (sum_more o s r) = sum_more o (raised k s) (raised k r)
-raised k string = string
-raised k hexadecimal = hexadecimal
-raised k address = address
-raised k (number h) = number h
-raised k (group c s) = group c (raised k s)
-raised k (option_hex i) = option_hex i
-raised k (option_exists i) = option_exists i
-raised k (relay_hex h) = relay_hex h
-raised k (relay_exists h) = relay_exists h
-raised k (field h) = field h
-raised k packet_length = packet_length
-raised k (member least most) = member least most
-raised k (substring c d e s i j) = substring c d e (raised k s) i j
-raised k (concat c d s r) = concat c d (raised k s) (raised k r)
-raised k (ifelse c d e s r q) = ifelse c d e (raised k s) (raised k r) (raised k q)
-raised k (hexstring c d s r) = hexstring c d (raised k s) (raised k r)
-raised k (lcase c s) = lcase c (raised k s)
-raised k (ucase c s) = ucase c (raised k s)
-raised k (uint32totext c s) = uint32totext c (raised k s)
-
--- the same, added in front
-lifted : {l : Level} {n : ℕ} {us : List Lexeme} {t : Tree} (k : ℕ) → Spells l n us t → Spells l (k + n) us t
-lifted {l} {n} {us} {t} k s = subst (λ v. Spells l v us t) (omega arith) (raised k s)
+pub raised : {l : Level} {n : ℕ} {us : List Lexeme} {t : Tree} (m : ℕ) → n ≤ m → Spells l n us t → Spells l m us t
+raised m h (or_one s) = or_one (raised m h s)
+raised m h (or_more o s r) = or_more o (raised m h s) (raised m h r)
+raised m h (and_one s) = and_one (raised m h s)
+raised m h (and_more o s r) = and_more o (raised m h s) (raised m h r)
+raised m h (not_none s) = not_none (raised m h s)
+raised zero h (negated s) = absurd (omega (arith, h))
+raised (suc m) h (negated s) = negated (raised m (omega (arith, h)) s)
+raised m h (compare_one s) = compare_one (raised m h s)
+raised m h (equal o s r) = equal o (raised m h s) (raised m h r)
+raised m h (sum_one s) = sum_one (raised m h s)
+raised m h (sum_more o s r) = sum_more o (raised m h s) (raised m h r)
+raised m h string = string
+raised m h hexadecimal = hexadecimal
+raised m h address = address
+raised m h (number i) = number i
+raised zero h (group c s) = absurd (omega (arith, h))
+raised (suc m) h (group c s) = group c (raised m (omega (arith, h)) s)
+raised m h (option_hex i) = option_hex i
+raised m h (option_exists i) = option_exists i
+raised m h (relay_hex i) = relay_hex i
+raised m h (relay_exists i) = relay_exists i
+raised m h (field i) = field i
+raised m h packet_length = packet_length
+raised zero h (member least most) = absurd (omega (arith, h))
+raised (suc m) h (member least most) = member least most
+raised zero h (substring c d e s i j) = absurd (omega (arith, h))
+raised (suc m) h (substring c d e s i j) = substring c d e (raised m (omega (arith, h)) s) i j
+raised zero h (concat c d s r) = absurd (omega (arith, h))
+raised (suc m) h (concat c d s r) = concat c d (raised m (omega (arith, h)) s) (raised m (omega (arith, h)) r)
+raised zero h (ifelse c d e s r q) = absurd (omega (arith, h))
+raised (suc m) h (ifelse c d e s r q) = ifelse c d e (raised m (omega (arith, h)) s) (raised m (omega (arith, h)) r) (raised m (omega (arith, h)) q)
+raised zero h (hexstring c d s r) = absurd (omega (arith, h))
+raised (suc m) h (hexstring c d s r) = hexstring c d (raised m (omega (arith, h)) s) (raised m (omega (arith, h)) r)
+raised zero h (lcase c s) = absurd (omega (arith, h))
+raised (suc m) h (lcase c s) = lcase c (raised m (omega (arith, h)) s)
+raised zero h (ucase c s) = absurd (omega (arith, h))
+raised (suc m) h (ucase c s) = ucase c (raised m (omega (arith, h)) s)
+raised zero h (uint32totext c s) = absurd (omega (arith, h))
+raised (suc m) h (uint32totext c s) = uint32totext c (raised m (omega (arith, h)) s)
 
 -- a literal
 literal : Spells or_level 0 (StringAt 0 [] ∷ []) (Literal 0 [])
@@ -65,25 +71,25 @@ abbrev After : ℕ → List ℕ → List Lexeme → Tree → Type 0
 After at name us t = AnySpells primary_level (NameAt at name ∷ us) t
 
 or_both : (o : ℕ) (us vs : List Lexeme) (a b : Tree) → AnySpells or_level us a → AnySpells and_level vs b → AnySpells or_level (us ++ NameAt o (codes "or") ∷ vs) (or_of a b)
-or_both o us vs a b p q = (p.0 + q.0, or_more o (raised q.0 p.1) (lifted p.0 q.1))
+or_both o us vs a b p q = (p.0 + q.0, or_more o (raised (p.0 + q.0) (omega arith) p.1) (raised (p.0 + q.0) (omega arith) q.1))
 
 and_both : (o : ℕ) (us vs : List Lexeme) (a b : Tree) → AnySpells and_level us a → AnySpells not_level vs b → AnySpells and_level (us ++ NameAt o (codes "and") ∷ vs) (and_of a b)
-and_both o us vs a b p q = (p.0 + q.0, and_more o (raised q.0 p.1) (lifted p.0 q.1))
+and_both o us vs a b p q = (p.0 + q.0, and_more o (raised (p.0 + q.0) (omega arith) p.1) (raised (p.0 + q.0) (omega arith) q.1))
 
 sum_both : (o : ℕ) (us vs : List Lexeme) (a b : Tree) → AnySpells sum_level us a → AnySpells primary_level vs b → AnySpells sum_level (us ++ SignAt o 43 ∷ vs) (sum_of a b)
-sum_both o us vs a b p q = (p.0 + q.0, sum_more o (raised q.0 p.1) (lifted p.0 q.1))
+sum_both o us vs a b p q = (p.0 + q.0, sum_more o (raised (p.0 + q.0) (omega arith) p.1) (raised (p.0 + q.0) (omega arith) q.1))
 
 equal_both : (o : ℕ) (us vs : List Lexeme) (a b : Tree) → AnySpells sum_level us a → AnySpells sum_level vs b → AnySpells compare_level (us ++ SignAt o 61 ∷ vs) (Equal (at_of a) a b)
-equal_both o us vs a b p q = (p.0 + q.0, equal o (raised q.0 p.1) (lifted p.0 q.1))
+equal_both o us vs a b p q = (p.0 + q.0, equal o (raised (p.0 + q.0) (omega arith) p.1) (raised (p.0 + q.0) (omega arith) q.1))
 
 concat_both : (at o c d : ℕ) (us vs : List Lexeme) (a b : Tree) → AnySpells or_level us a → AnySpells or_level vs b → After at (codes "concat") (SignAt o 40 ∷ (us ++ SignAt c 44 ∷ (vs ++ SignAt d 41 ∷ []))) (Concat at a b)
-concat_both at o c d us vs a b p q = (suc (p.0 + q.0), concat c d (raised q.0 p.1) (lifted p.0 q.1))
+concat_both at o c d us vs a b p q = (suc (p.0 + q.0), concat c d (raised (p.0 + q.0) (omega arith) p.1) (raised (p.0 + q.0) (omega arith) q.1))
 
 hexstring_both : (at o c d : ℕ) (us vs : List Lexeme) (a b : Tree) → AnySpells or_level us a → AnySpells or_level vs b → After at (codes "hexstring") (SignAt o 40 ∷ (us ++ SignAt c 44 ∷ (vs ++ SignAt d 41 ∷ []))) (HexString at a b)
-hexstring_both at o c d us vs a b p q = (suc (p.0 + q.0), hexstring c d (raised q.0 p.1) (lifted p.0 q.1))
+hexstring_both at o c d us vs a b p q = (suc (p.0 + q.0), hexstring c d (raised (p.0 + q.0) (omega arith) p.1) (raised (p.0 + q.0) (omega arith) q.1))
 
 ifelse_all : (at o c d e : ℕ) (us vs ws : List Lexeme) (t a b : Tree) → AnySpells or_level us t → AnySpells or_level vs a → AnySpells or_level ws b → After at (codes "ifelse") (SignAt o 40 ∷ (us ++ SignAt c 44 ∷ (vs ++ SignAt d 44 ∷ (ws ++ SignAt e 41 ∷ [])))) (IfElse at t a b)
-ifelse_all at o c d e us vs ws t a b p q r = (suc ((p.0 + q.0) + r.0), ifelse c d e (raised r.0 (raised q.0 p.1)) (raised r.0 (lifted p.0 q.1)) (lifted (p.0 + q.0) r.1))
+ifelse_all at o c d e us vs ws t a b p q r = (suc ((p.0 + q.0) + r.0), ifelse c d e (raised ((p.0 + q.0) + r.0) (omega arith) p.1) (raised ((p.0 + q.0) + r.0) (omega arith) q.1) (raised ((p.0 + q.0) + r.0) (omega arith) r.1))
 
 -- the tests of one token: which could stand, and how each is refused
 at_front : {B : Type 0} (P : List Lexeme → B → Type 0) (r : Reader B) {x y : Lexeme} → x ≡ y → Good (λ ws b. P (y ∷ ws) b) r → Good (λ ws b. P (x ∷ ws) b) r
@@ -219,6 +225,14 @@ record IsOpen (d : Deeper) : Type 0 where
   operand : (at : ℕ) → Good (AnySpells not_level) (d.operand at)
   name : (at : ℕ) → Good (OneOf class_name) (d.name at)
 
+-- at each number of tokens
+each_of : {B : Type 0} (P : List Lexeme → B → Type 0) (r : Reader B) → ((end : ℕ) → Comes P r end [] (r end [])) → ((x : Lexeme) (end : ℕ) (ts : List Lexeme) → Comes P r end (x ∷ ts) (r end (x ∷ ts))) → (end : ℕ) (ts : List Lexeme) → Comes P r end ts (r end ts)
+each_of P r none some end [] = none end
+each_of P r none some end (x ∷ ts) = some x end ts
+
+missed : {B : Type 0} (f : ℕ → Reader B) (x : Lexeme) (end : ℕ) (ts : List Lexeme) → sign_at 40 x ≡ None → ◌≡◌ {A = Result (B × List Lexeme) SyntaxFault} (seq (sign_here 40) f end (x ∷ ts)) (Err (refusal_of x))
+missed f x end ts e = rw e refl
+
 -- after this bracket nothing may be nested
 closed_good : {B : Type 0} (P : List Lexeme → B → Type 0) (f : ℕ → Reader B) → ((at end : ℕ) (ts : List Lexeme) → ◌≡◌ {A = Result (B × List Lexeme) SyntaxFault} (f at end ts) (Err (faults.TooNested at))) → ((o : ℕ) → Begins P (SignAt o 40 ∷ [])) → Good P (seq (sign_here 40) f)
 closed_good {B} P f refuses some k =
@@ -238,3 +252,238 @@ closed_good {B} P f refuses some k =
       some = begins;
       each = λ end ts fits. each_of P (seq (sign_here 40) f) (λ end. at_the_end P (seq (sign_here 40) f) end begins refl) (λ x end ts. first x end ts (sign_at 40 x) refl) end ts;
     }
+
+-- answers that go on alike
+on_ok_same : {A B : Type 0} (answer : Result A SyntaxFault) (f g : A → Result B SyntaxFault) → ((a : A) → f a ≡ g a) → on_ok answer f ≡ on_ok answer g
+on_ok_same (Err fault) f g h = refl
+on_ok_same (Ok a) f g h = h a
+
+-- after the bracket, an operand one nesting deeper
+enters : {B : Type 0} (d : Deeper) → IsClosed d ⊎ IsOpen d → (P : List Lexeme → B → Type 0) (g : ℕ → Tree → Reader B) → ((o : ℕ) → Begins P (SignAt o 40 ∷ [])) → (((o : ℕ) → Good (AnySpells or_level) (d.any o)) → (o : ℕ) (a : Tree) (us : List Lexeme) → AnySpells or_level us a → Good (λ ws b. P (SignAt o 40 ∷ (us ++ ws)) b) (g o a)) → Good P (seq (sign_here 40) (λ o. seq (d.any o) (g o)))
+enters d (inl closed) P g some h = closed_good P (λ o. seq (d.any o) (g o)) (λ at end ts. ap (λ (v : Result (Tree × List Lexeme) SyntaxFault). on_ok v (λ x. g at x.0 end x.1)) (closed.any at end ts)) some
+enters d (inr opened) P g some h = sign_good P 40 (λ o. seq (d.any o) (g o)) (λ o. seq_good (AnySpells or_level) (λ ws b. P (SignAt o 40 ∷ ws) b) (d.any o) (g o) (opened.any o) (λ a us q. h opened.any o a us q))
+
+enter_is : {B : Type 0} (d : Deeper) (b : ℕ) (f : ℕ → Tree → Reader B) (end : ℕ) (ts : List Lexeme) → seq (sign_here 40) (λ o. seq (operand_then d o b) (f o)) end ts ≡ seq (sign_here 40) (λ o. seq (d.any o) (λ a. seq (sign_here b) (λ _. f o a))) end ts
+enter_is {B} d b f end ts =
+    let at : (answer : Result (ℕ × List Lexeme) SyntaxFault) → on_ok answer (λ x. seq (operand_then d x.0 b) (f x.0) end x.1) ≡ on_ok answer (λ x. seq (d.any x.0) (λ a. seq (sign_here b) (λ _. f x.0 a)) end x.1)
+    = λ answer. elim answer as (λ v. on_ok v (λ x. seq (operand_then d x.0 b) (f x.0) end x.1) ≡ on_ok v (λ x. seq (d.any x.0) (λ a. seq (sign_here b) (λ _. f x.0 a)) end x.1)) [
+      | Err fault ↦ refl
+      | Ok x ↦ before_is d x.0 b (f x.0) end x.1
+    ] in
+    at (sign_here 40 end ts)
+
+module _ (d : Deeper) (g : IsClosed d ⊎ IsOpen d) where
+  first_good : {B : Type 0} (P : List Lexeme → B → Type 0) (b : ℕ) (f : ℕ → Tree → Reader B) → ((o : ℕ) → Begins P (SignAt o 40 ∷ [])) → (((o : ℕ) → Good (AnySpells or_level) (d.any o)) → (o : ℕ) (a : Tree) (us : List Lexeme) → AnySpells or_level us a → (c : ℕ) → Good (λ ws t. P (SignAt o 40 ∷ (us ++ SignAt c b ∷ ws)) t) (f o a)) → Good P (seq (sign_here 40) (λ o. seq (operand_then d o b) (f o)))
+  first_good P b f some h k =
+      same_good k P (seq (sign_here 40) (λ o. seq (operand_then d o b) (f o))) (seq (sign_here 40) (λ o. seq (d.any o) (λ a. seq (sign_here b) (λ _. f o a)))) (enter_is d b f)
+      (enters d g P (λ o a. seq (sign_here b) (λ _. f o a)) some (λ any o a us q. sign_good (λ ws t. P (SignAt o 40 ∷ (us ++ ws)) t) b (λ _. f o a) (h any o a us q)) k)
+
+  next_good : {B : Type 0} (P : List Lexeme → B → Type 0) (o b : ℕ) (f : Tree → Reader B) → ((o : ℕ) → Good (AnySpells or_level) (d.any o)) → ((a : Tree) (us : List Lexeme) → AnySpells or_level us a → (c : ℕ) → Good (λ ws t. P (us ++ SignAt c b ∷ ws) t) (f a)) → Good P (seq (operand_then d o b) f)
+  next_good P o b f any h k =
+      same_good k P (seq (operand_then d o b) f) (seq (d.any o) (λ a. seq (sign_here b) (λ _. f a))) (before_is d o b f)
+      (seq_good (AnySpells or_level) P (d.any o) (λ a. seq (sign_here b) (λ _. f a)) (any o) (λ a us q. sign_good (λ ws t. P (us ++ ws) t) b (λ _. f a) (h a us q)) k)
+
+  group_good : Good (AnySpells primary_level) (group_at d)
+  unfolding group_at
+  group_good =
+      first_good (AnySpells primary_level) 41 (λ at a. done (Group at a)) (λ o. (StringAt 0 [] ∷ SignAt 0 41 ∷ [], Group o (Literal 0 []), (1, group 0 literal)))
+      (λ any at a us q c. done_good _ _ (suc q.0, group c q.1))
+
+  one_is : (join : Tree → Tree) (end : ℕ) (ts : List Lexeme) → seq (operand_in_brackets d) (λ a. done (join a)) end ts ≡ seq (sign_here 40) (λ o. seq (operand_then d o 41) (λ a. done (join a))) end ts
+  unfolding operand_in_brackets
+  one_is join end ts = on_ok_twice (sign_here 40 end ts) (λ x. operand_then d x.0 41 end x.1) (λ y. done (join y.0) end y.1)
+
+  -- one operand in brackets
+  one_good : (P : List Lexeme → Tree → Type 0) (join : Tree → Tree) → ((o c : ℕ) (us : List Lexeme) (a : Tree) → AnySpells or_level us a → P (SignAt o 40 ∷ (us ++ SignAt c 41 ∷ [])) (join a)) → Good P (seq (operand_in_brackets d) (λ a. done (join a)))
+  one_good P join made k =
+      same_good k P (seq (operand_in_brackets d) (λ a. done (join a))) (seq (sign_here 40) (λ o. seq (operand_then d o 41) (λ a. done (join a)))) (one_is join)
+      (first_good P 41 (λ o a. done (join a)) (λ o. (StringAt 0 [] ∷ SignAt 0 41 ∷ [], join (Literal 0 []), made o 0 (StringAt 0 [] ∷ []) (Literal 0 []) (0, literal)))
+      (λ any o a us q c. done_good _ _ (made o c us a q)) k)
+
+  -- two operands in brackets
+  two_is : {B : Type 0} (f : Tree × Tree → Reader B) (end : ℕ) (ts : List Lexeme) → seq (operands_in_brackets d) f end ts ≡ seq (sign_here 40) (λ o. seq (operand_then d o 44) (λ a. seq (operand_then d o 41) (λ b. f (a, b)))) end ts
+  unfolding operands_in_brackets
+  two_is f end ts =
+      on_ok_twice (sign_here 40 end ts) (λ x. seq (operand_then d x.0 44) (λ a. seq (operand_then d x.0 41) (λ b. done (a, b))) end x.1) (λ y. f y.0 end y.1)
+      ∙ on_ok_same (sign_here 40 end ts) _ _ (λ x.
+      on_ok_twice (operand_then d x.0 44 end x.1) (λ y. seq (operand_then d x.0 41) (λ b. done (y.0, b)) end y.1) (λ z. f z.0 end z.1)
+      ∙ on_ok_same (operand_then d x.0 44 end x.1) _ _ (λ y.
+      on_ok_twice (operand_then d x.0 41 end y.1) (λ z. done (y.0, z.0) end z.1) (λ z. f z.0 end z.1)))
+
+  two_good : (P : List Lexeme → Tree → Type 0) (join : Tree → Tree → Tree) → ((o c e : ℕ) (us vs : List Lexeme) (a b : Tree) → AnySpells or_level us a → AnySpells or_level vs b → P (SignAt o 40 ∷ (us ++ SignAt c 44 ∷ (vs ++ SignAt e 41 ∷ []))) (join a b)) → Good P (seq (operands_in_brackets d) (λ x. done (join x.0 x.1)))
+  two_good P join made k =
+      same_good k P (seq (operands_in_brackets d) (λ x. done (join x.0 x.1))) (seq (sign_here 40) (λ o. seq (operand_then d o 44) (λ a. seq (operand_then d o 41) (λ b. done (join a b))))) (two_is (λ x. done (join x.0 x.1)))
+      (first_good P 44 (λ o a. seq (operand_then d o 41) (λ b. done (join a b))) (λ o. (StringAt 0 [] ∷ SignAt 0 44 ∷ StringAt 0 [] ∷ SignAt 0 41 ∷ [], join (Literal 0 []) (Literal 0 []), made o 0 0 (StringAt 0 [] ∷ []) (StringAt 0 [] ∷ []) (Literal 0 []) (Literal 0 []) (0, literal) (0, literal)))
+      (λ any o a us q c. next_good _ o 41 (λ b. done (join a b)) any (λ b vs r e. done_good _ _ (made o c e us vs a b q r))) k)
+
+  choice_good : (at : ℕ) → Good (After at (codes "ifelse")) (ifelse_at d at)
+  unfolding ifelse_at
+  choice_good at =
+      first_good (After at (codes "ifelse")) 44 (λ o t. seq (operand_then d o 44) (λ a. seq (operand_then d o 41) (λ b. done (IfElse at t a b))))
+      (λ o. (StringAt 0 [] ∷ SignAt 0 44 ∷ StringAt 0 [] ∷ SignAt 0 44 ∷ StringAt 0 [] ∷ SignAt 0 41 ∷ [], IfElse at (Literal 0 []) (Literal 0 []) (Literal 0 []), (1, ifelse 0 0 0 literal literal literal)))
+      (λ any o t us q c. next_good _ o 44 _ any (λ a vs r e. next_good _ o 41 _ any (λ b ws s f. done_good _ _ (ifelse_all at o c e f us vs ws t a b q r s))))
+
+  part_good : (at : ℕ) → Good (After at (codes "substring")) (substring_after d at)
+  unfolding substring_after
+  part_good at =
+      first_good (After at (codes "substring")) 44 (λ o a. seq (wanted signed signed_refusal) (λ start. seq (sign_here 44) (λ _. seq (wanted length_of_part signed_refusal) (λ len. seq (sign_here 41) (λ _. done (Substring at a start len))))))
+      (λ o. (StringAt 0 [] ∷ SignAt 0 44 ∷ NumberAt 0 0 ∷ SignAt 0 44 ∷ NumberAt 0 0 ∷ SignAt 0 41 ∷ [], Substring at (Literal 0 []) (pos 0) (Some (pos 0)), (1, substring 0 0 0 literal (signed_is (NumberAt 0 0) (pos 0) refl) (length_is (NumberAt 0 0) (Some (pos 0)) refl))))
+      (λ any o a us q c. seq_one_good _ signed signed_refusal _ signed_good (λ x start j. sign_good _ 44 _ (λ e.
+      seq_one_good _ length_of_part signed_refusal _ length_good (λ y len l. sign_good _ 41 _ (λ f.
+      done_good _ _ (suc q.0, substring c e f q.1 (signed_is x start j) (length_is y len l)))))))
+
+name_made : (at o k c : ℕ) (x : Lexeme) (s : List ℕ) → IsClassName x s → After at (codes "member") (SignAt o 40 ∷ x ∷ SignAt c 41 ∷ []) (Member at s)
+name_made at o k c _ _ (class_is least most) = (1, member least most)
+
+member_rest : (at o : ℕ) (s : List ℕ) (us : List Lexeme) → OneOf class_name us s → Good (λ ws t. After at (codes "member") (SignAt o 40 ∷ (us ++ ws)) t) (seq (sign_here 41) (λ _. done (Member at s)))
+member_rest at o s _ (is_one x e) = sign_good _ 41 _ (λ c. done_good _ _ (name_made at o 0 c x s (class_name_is x s e)))
+
+member_good : (d : Deeper) → IsClosed d ⊎ IsOpen d → (at : ℕ) → Good (After at (codes "member")) (member_at d at)
+unfolding member_at
+member_good d (inl closed) at =
+    closed_good (After at (codes "member")) _ (λ o end ts. ap (λ (v : Result (List ℕ × List Lexeme) SyntaxFault). on_ok v (λ x. seq (sign_here 41) (λ _. done (Member at x.0)) end x.1)) (closed.name o end ts))
+    (λ o. (StringAt 0 (97 ∷ []) ∷ SignAt 0 41 ∷ [], Member at (97 ∷ []), name_made at o 0 0 (StringAt 0 (97 ∷ [])) (97 ∷ []) (class_name_is (StringAt 0 (97 ∷ [])) (97 ∷ []) refl)))
+member_good d (inr opened) at = sign_good _ 40 _ (λ o. seq_good (OneOf class_name) _ (d.name o) _ (opened.name o) (λ s us q. member_rest at o s us q))
+
+-- what a reader comes to that goes on with another after a name, or refuses the name
+abbrev Named : Reader Tree → ℕ → List ℕ → Reader Tree → Type 0
+Named r at name s = ((end : ℕ) (us : List Lexeme) → r end (NameAt at name ∷ us) ≡ s end us) → (end : ℕ) (ts : List Lexeme) → Comes (AnySpells primary_level) r end (NameAt at name ∷ ts) (s end ts)
+
+named_by : (r : Reader Tree) (at : ℕ) (name : List ℕ) (s : Reader Tree) → Good (After at name) s → Named r at name s
+named_by r at name s g same end ts = goes_on (AnySpells primary_level) r s (NameAt at name) end ts (same end) (s end ts) (comes (After at name) s g end ts)
+
+begins_primary : Begins (AnySpells primary_level) []
+begins_primary = (StringAt 0 [] ∷ [], Literal 0 [], (0, string))
+
+unnamed : (r : Reader Tree) (at : ℕ) (name : List ℕ) → Named r at name (λ end ts. Err (faults.Expected at))
+unnamed r at name same end ts = stops_at (AnySpells primary_level) r (NameAt at name) end ts (faults.Expected at) begins_primary (unexpected (NameAt at name) ts refl) (same end)
+
+named_test : (r : Reader Tree) (at : ℕ) (name w : List ℕ) (s other : Reader Tree) → Good (After at w) s → Named r at name other → Named r at name (if bytes_eq name w then s else other)
+named_test r at name w s other g n =
+    let by : (v : Bool) → bytes_eq name w ≡ v → Named r at name (if v then s else other)
+    = λ v. elim v as (λ v. bytes_eq name w ≡ v → Named r at name (if v then s else other)) [
+      | true ↦ λ is. let F : List ℕ → Type 0 = λ u. Good (After at u) s in named_by r at name s (subst F (sym ((bytes_eq-Decides name w).0 is)) g)
+      | false ↦ λ _. n
+    ] in
+    by (bytes_eq name w) refl
+
+form_named : (d : Deeper) → IsClosed d ⊎ IsOpen d → (r : Reader Tree) (at : ℕ) (name : List ℕ) → Named r at name (form_at d at name)
+unfolding form_at
+form_named d g r at name =
+    named_test r at name (codes "substring") _ _ (part_good d g at)
+    (named_test r at name (codes "ifelse") _ _ (choice_good d g at)
+    (named_test r at name (codes "concat") _ _ (two_good d g _ (Concat at) (λ o c e us vs a b p q. concat_both at o c e us vs a b p q))
+    (named_test r at name (codes "hexstring") _ _ (two_good d g _ (HexString at) (λ o c e us vs a b p q. hexstring_both at o c e us vs a b p q))
+    (named_test r at name (codes "lcase") _ _ (one_good d g _ (Lower at) (λ o c us a q. (suc q.0, lcase c q.1)))
+    (named_test r at name (codes "ucase") _ _ (one_good d g _ (Upper at) (λ o c us a q. (suc q.0, ucase c q.1)))
+    (named_test r at name (codes "uint32totext") _ _ (one_good d g _ (IntToText at) (λ o c us a q. (suc q.0, uint32totext c q.1)))
+    (unnamed r at name)))))))
+
+named_good : (d : Deeper) → IsClosed d ⊎ IsOpen d → (r : Reader Tree) (at : ℕ) (name : List ℕ) → Named r at name (named_at d at name)
+unfolding named_at
+named_good d g r at name =
+    named_test r at name (codes "option") _ _ (option_good at)
+    (named_test r at name (codes "relay4") _ _ (relay_good at)
+    (named_test r at name (codes "pkt4") _ _ (fields_good at)
+    (named_test r at name (codes "pkt") _ _ (packet_good at)
+    (named_test r at name (codes "member") _ _ (member_good d g at)
+    (form_named d g r at name)))))
+
+number_comes : (d : Deeper) (at k end : ℕ) (ts : List Lexeme) (fits : Bool) → nat_lt k (2 ^ 32) ≡ fits → Comes (AnySpells primary_level) (primary_at d) end (NumberAt at k ∷ ts) (if fits then Ok (Int at k, ts) else Err (faults.NumberTooLarge at))
+unfolding primary_at
+number_comes d at k end ts true e = reads_one (AnySpells primary_level) (primary_at d) (NumberAt at k) end ts (Int at k) (0, number (ltb-true k (2 ^ 32) e)) (λ us. rw e refl)
+number_comes d at k end ts false e = stops_at (AnySpells primary_level) (primary_at d) (NumberAt at k) end ts (faults.NumberTooLarge at) begins_primary (too_large at k 0 ts ([], Int at 0, (0, number (ltb-true 0 (2 ^ 32) refl)))) (λ us. rw e refl)
+
+primary_comes : (d : Deeper) → IsClosed d ⊎ IsOpen d → (end : ℕ) (ts : List Lexeme) → Comes (AnySpells primary_level) (primary_at d) end ts (primary_at d end ts)
+unfolding primary_at
+primary_comes d g end [] = at_the_end (AnySpells primary_level) (primary_at d) end begins_primary refl
+primary_comes d g end (StringAt at s ∷ ts) = reads_one (AnySpells primary_level) (primary_at d) (StringAt at s) end ts _ (0, string) (λ us. refl)
+primary_comes d g end (HexAt at s ∷ ts) = reads_one (AnySpells primary_level) (primary_at d) (HexAt at s) end ts _ (0, hexadecimal) (λ us. refl)
+primary_comes d g end (AddressAt at s ∷ ts) = reads_one (AnySpells primary_level) (primary_at d) (AddressAt at s) end ts _ (0, address) (λ us. refl)
+primary_comes d g end (NumberAt at k ∷ ts) = number_comes d at k end ts (nat_lt k (2 ^ 32)) refl
+primary_comes d g end (MinusAt at k ∷ ts) = stops_at (AnySpells primary_level) (primary_at d) (MinusAt at k) end ts _ begins_primary (unexpected (MinusAt at k) ts refl) (λ us. refl)
+primary_comes d g end (NameAt at name ∷ ts) = named_good d g (primary_at d) at name (λ end us. refl) end ts
+primary_comes d g end (SignAt at b ∷ ts) = head_same (AnySpells primary_level) (primary_at d) (group_at d) (SignAt at b) end ts (λ us. refl) (group_at d end (SignAt at b ∷ ts)) (comes (AnySpells primary_level) (group_at d) (group_good d g) end (SignAt at b ∷ ts))
+primary_comes d g end (BadAt at ∷ ts) = stops_at (AnySpells primary_level) (primary_at d) (BadAt at) end ts _ begins_primary (bad at ts) (λ us. refl)
+
+primary_good : (d : Deeper) → IsClosed d ⊎ IsOpen d → Good (AnySpells primary_level) (primary_at d)
+primary_good d g k = record { some = begins_primary; each = λ end ts fits. primary_comes d g end ts }
+
+-- a sign between two parts
+sign_joins : (b : ℕ) (l k : Level) (join : Tree → Tree → Tree) → ((o : ℕ) (us vs : List Lexeme) (a c : Tree) → AnySpells l us a → AnySpells k vs c → AnySpells l (us ++ SignAt o b ∷ vs) (join a c)) → (x : Lexeme) (o : ℕ) → sign_at b x ≡ Some o → (us vs : List Lexeme) (a c : Tree) → AnySpells l us a → AnySpells k vs c → AnySpells l (us ++ x ∷ vs) (join a c)
+sign_joins b l k join more x o e us vs a c p q = subst (λ y. AnySpells l (us ++ y ∷ vs) (join a c)) (sym (sign_is b x o e)) (more o us vs a c p q)
+
+-- a word between two parts
+word_joins : (w : List ℕ) (l k : Level) (join : Tree → Tree → Tree) → ((o : ℕ) (us vs : List Lexeme) (a c : Tree) → AnySpells l us a → AnySpells k vs c → AnySpells l (us ++ NameAt o w ∷ vs) (join a c)) → (x : Lexeme) (o : ℕ) → word_at w x ≡ Some o → (us vs : List Lexeme) (a c : Tree) → AnySpells l us a → AnySpells k vs c → AnySpells l (us ++ x ∷ vs) (join a c)
+word_joins w l k join more x o e us vs a c p q = subst (λ y. AnySpells l (us ++ y ∷ vs) (join a c)) (sym (word_is w x o e)) (more o us vs a c p q)
+
+-- the negation after its word
+negation_comes : (d : Deeper) → IsClosed d ⊎ IsOpen d → (r : Reader Tree) (end o : ℕ) (ts : List Lexeme) → ((us : List Lexeme) → r end (NameAt o (codes "not") ∷ us) ≡ seq (d.operand o) (λ a. done (Not o a)) end us) → Comes (AnySpells not_level) r end (NameAt o (codes "not") ∷ ts) (seq (d.operand o) (λ a. done (Not o a)) end ts)
+negation_comes d (inl closed) r end o ts same =
+    let refuses : (us : List Lexeme) → ◌≡◌ {A = Result (Tree × List Lexeme) SyntaxFault} (seq (d.operand o) (λ a. done (Not o a)) end us) (Err (faults.TooNested o))
+    = λ us. ap (λ (v : Result (Tree × List Lexeme) SyntaxFault). on_ok v (λ x. done (Not o x.0) end x.1)) (closed.operand o end us) in
+    let operand : Spells not_level 0 (StringAt 0 [] ∷ []) (Literal 0 []) = not_none (compare_one (sum_one string)) in
+    subst (λ (v : Result (Tree × List Lexeme) SyntaxFault). Comes (AnySpells not_level) r end (NameAt o (codes "not") ∷ ts) v) (sym (refuses ts))
+    (stops_at (AnySpells not_level) r (NameAt o (codes "not")) end ts (faults.TooNested o) (StringAt 0 [] ∷ [], Literal 0 [], (0, operand))
+    (nested (NameAt o (codes "not")) ts refl (StringAt 0 [] ∷ [], Not o (Literal 0 []), (1, negated operand))) (λ us. same us ∙ refuses us))
+negation_comes d (inr opened) r end o ts same =
+    goes_on (AnySpells not_level) r (seq (d.operand o) (λ a. done (Not o a))) (NameAt o (codes "not")) end ts same (seq (d.operand o) (λ a. done (Not o a)) end ts)
+    (comes (λ ws t. AnySpells not_level (NameAt o (codes "not") ∷ ws) t) (seq (d.operand o) (λ a. done (Not o a)))
+    (seq_good (AnySpells not_level) (λ ws t. AnySpells not_level (NameAt o (codes "not") ∷ ws) t) (d.operand o) (λ a. done (Not o a)) (opened.operand o) (λ a us q.
+    done_good _ _ (subst (λ v. AnySpells not_level (NameAt o (codes "not") ∷ v) (Not o a)) (sym (append-nil us)) (suc q.0, negated q.1)))) end ts)
+
+module _ (d : Deeper) (g : IsClosed d ⊎ IsOpen d) where
+  sum_good : Good (AnySpells sum_level) (sum_at d)
+  unfolding sum_at
+  sum_good =
+      chain_good (AnySpells sum_level) (AnySpells primary_level) (sign_at 43) (primary_at d) sum_of (primary_good d g)
+      (λ us a h. (h.0, sum_one h.1)) (sign_joins 43 sum_level primary_level sum_of sum_both)
+
+  compare_good : Good (AnySpells compare_level) (compare_at d)
+  unfolding compare_at
+  compare_good =
+      seq_good (AnySpells sum_level) (AnySpells compare_level) (sum_at d) _ sum_good (λ a us h.
+      either_good (λ ws t. AnySpells compare_level (us ++ ws) t) (sign_at 61) _ (done a)
+      (λ x o e. seq_good (AnySpells sum_level) (λ ws t. AnySpells compare_level (us ++ x ∷ ws) t) (sum_at d) _ sum_good (λ b vs r.
+      done_good (λ ws t. AnySpells compare_level (us ++ x ∷ (vs ++ ws)) t) (Equal (at_of a) a b)
+      (subst (λ v. AnySpells compare_level (us ++ x ∷ v) (Equal (at_of a) a b)) (sym (append-nil vs))
+      (subst (λ y. AnySpells compare_level (us ++ y ∷ vs) (Equal (at_of a) a b)) (sym (sign_is 61 x o e)) (equal_both o us vs a b h r)))))
+      (done_good (λ ws t. AnySpells compare_level (us ++ ws) t) a (subst (λ v. AnySpells compare_level v a) (sym (append-nil us)) (h.0, compare_one h.1))))
+
+  not_found : (end : ℕ) (x : Lexeme) (o : ℕ) → word_at (codes "not") x ≡ Some o → (ts : List Lexeme) → Comes (AnySpells not_level) (either (word_at (codes "not")) (λ at. seq (d.operand at) (λ a. done (Not at a))) (compare_at d)) end (x ∷ ts) (seq (d.operand o) (λ a. done (Not o a)) end ts)
+  not_found end x o e ts =
+      let r : Reader Tree = either (word_at (codes "not")) (λ at. seq (d.operand at) (λ a. done (Not at a))) (compare_at d) in
+      let F : Lexeme → Type 0 = λ y. Comes (AnySpells not_level) r end (y ∷ ts) (seq (d.operand o) (λ a. done (Not o a)) end ts) in
+      subst F (sym (word_is (codes "not") x o e)) (negation_comes d g r end o ts (λ us. refl))
+
+  not_good : Good (AnySpells not_level) (not_at d)
+  unfolding not_at
+  not_good k =
+      either_good_to k (AnySpells not_level) (word_at (codes "not")) _ (compare_at d) (λ end x o e ts fits. not_found end x o e ts)
+      (weaker_good (AnySpells compare_level) (AnySpells not_level) (compare_at d) (λ us a h. (h.0, not_none h.1)) compare_good k)
+
+  and_good : Good (AnySpells and_level) (and_at d)
+  unfolding and_at
+  and_good =
+      chain_good (AnySpells and_level) (AnySpells not_level) (word_at (codes "and")) (not_at d) and_of not_good
+      (λ us a h. (h.0, and_one h.1)) (word_joins (codes "and") and_level not_level and_of and_both)
+
+  or_good : Good (AnySpells or_level) (or_at d)
+  unfolding or_at
+  or_good =
+      chain_good (AnySpells or_level) (AnySpells and_level) (word_at (codes "or")) (and_at d) or_of and_good
+      (λ us a h. (h.0, or_one h.1)) (word_joins (codes "or") or_level and_level or_of or_both)
+
+-- the readers one nesting deeper, at each nesting
+below_good : (m : ℕ) → IsClosed (below m) ⊎ IsOpen (below m)
+unfolding below
+below_good zero = inl (record { any = λ at end ts. refl; operand = λ at end ts. refl; name = λ at end ts. refl })
+below_good (suc n) = inr (record {
+  any = λ at. or_good (below n) (below_good n);
+  operand = λ at. not_good (below n) (below_good n);
+  name = λ at. class_good;
+})
+
+-- of a whole expression
+pub any_good : (m : ℕ) → Good (AnySpells or_level) (or_at (below m))
+any_good m = or_good (below m) (below_good m)
