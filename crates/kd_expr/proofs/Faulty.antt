@@ -44,7 +44,7 @@ refused_map front longer h (unknown at code name known ts e b) = unknown at code
 refused_map front longer h (nested x ts fine b) = nested x ts fine (h (x ∷ []) b)
 
 -- the refusal of a token that has no fault of its own
-pub refusal_is : (B : List Lexeme → Type 0) (end : ℕ) (x : Lexeme) (ts : List Lexeme) → Refused B end [] (x ∷ ts) (refusal_of x)
+pub refusal_is : {front : List Lexeme} (B : List Lexeme → Type 0) (end : ℕ) (x : Lexeme) (ts : List Lexeme) → Refused B end front (x ∷ ts) (refusal_of x)
 refusal_is B end (StringAt at s) ts = unexpected (StringAt at s) ts refl
 refusal_is B end (HexAt at s) ts = unexpected (HexAt at s) ts refl
 refusal_is B end (AddressAt at s) ts = unexpected (AddressAt at s) ts refl

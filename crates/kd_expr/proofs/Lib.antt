@@ -14,3 +14,4 @@ pub mod Count
 pub mod TextRead
 pub mod Faulty
 pub mod Viable
+pub mod Firsts

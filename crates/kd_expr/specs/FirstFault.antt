@@ -29,9 +29,9 @@ abbrev pub BeginsSome : List Lexeme → Type 0
 BeginsSome ts =
     (more : List Lexeme) × (n : ℕ) × (tree : Tree) × Spells or_level n (ts ++ more) tree
 
--- no expression begins with these tokens
-abbrev pub BeginsNone : List Lexeme → Type 0
-BeginsNone ts = (more : List Lexeme) (tree : Tree) → Spells or_level 64 (ts ++ more) tree → ⊥
+-- no expression that is nested at most so deep begins with these tokens
+abbrev pub BeginsNone : ℕ → List Lexeme → Type 0
+BeginsNone n ts = (more : List Lexeme) (tree : Tree) → Spells or_level n (ts ++ more) tree → ⊥
 
 -- the fault of a token after these, where another of its kind could stand or not
 pub data IsTokenFault (before : List Lexeme) : Lexeme → ExprFault → Type 0 where
@@ -53,7 +53,7 @@ abbrev pub IsFaultAfter : List Lexeme → List Lexeme → ℕ → ExprFault → 
 IsFaultAfter before [] end fault =
     ((tree : Tree) → Spells or_level 64 before tree → ⊥) × (fault ≡ faults.Expected end)
 IsFaultAfter before (x ∷ after) end fault =
-    BeginsNone (before ++ x ∷ []) × IsTokenFault before x fault
+    BeginsNone 64 (before ++ x ∷ []) × IsTokenFault before x fault
 
 -- the first fault of a text that is no expression
 pub record IsFirstFault (text : List ℕ) (fault : ExprFault) : Type 0 where

@@ -1,5 +1,5 @@
 ghost use Rattle.std.specs.Prelude.{◌≡◌, ◌≢◌};
-ghost use Rattle.kd_expr.specs.Faults.{expr_fault_number, type_fault_number};
+ghost use Rattle.kd_expr.specs.Faults.{expr_fault_number, outer_fault, type_fault_number};
 ghost use Rattle.kd_expr.specs.declared.fault.ExprFault.TheVariants as faults;
 ghost use Rattle.kd_expr.specs.declared.fault.SyntaxFault.TheVariants as inner;
 
@@ -123,6 +123,7 @@ impl From<AllocFailed<Node>> for SyntaxFault {
 
 // The fault as the caller sees it.
 pub(crate) fn seen_outside(fault: SyntaxFault) -> ExprFault
+    ensures same { result ≡ outer_fault fault }
     ensures never_long { result ≢ faults.TooLong }
     ensures memory { result ≢ faults.Memory → fault ≢ inner.Memory }
 {

@@ -1,7 +1,11 @@
-use Rattle.std.proofs.Common.{◌∙◌, sym, ap, subst}
+use Rattle.std.proofs.Common.{◌≡◌, ◌⊎◌, ◌∙◌, sym, ap, subst}
+use Rattle.kd_expr.specs.FirstFault.{IsFirstFault}
 use Rattle.kd_expr.specs.Grammar.{Parses}
 use Rattle.kd_expr.specs.View.{tree_of}
 use Rattle.kd_expr.specs.declared.node.Node.{Node}
+use Rattle.kd_expr.specs.declared.fault.ExprFault.{ExprFault}
+use Rattle.kd_expr.specs.declared.fault.ExprFault.TheVariants.{Memory, TooLong}
+use Rattle.kd_expr.proofs.Firsts.{first_fault}
 use Rattle.kd_expr.proofs.TextRead.{same_tree, refused_for_memory}
 use Rattle.kd_expr.proofs.Texts.{parse_sound}
 use Rattle.kd_expr.proofs.reader.read.Goals as goal
@@ -21,3 +25,8 @@ returns-in-Ok-clause-only c tree p =
 pub returns-in-Err-clause-only : goal.returns-in-Err-clause-only
 returns-in-Err-clause-only c tree p =
     refused_for_memory c.args.text.now tree c.seen_outside.result c.in-Err.fault (λ other. c.in-Err.ensures (c.seen_outside.ensures.memory other)) p
+
+pub returns-in-Err-clause-first : goal.returns-in-Err-clause-first
+returns-in-Err-clause-first c =
+    subst (λ (v : ExprFault). (v ≡ Memory) ⊎ ((v ≡ TooLong) ⊎ IsFirstFault c.args.text.now v)) (sym c.seen_outside.ensures.same)
+    (first_fault c.args.text.now c.in-Err.fault c.in-Err.ensures)
