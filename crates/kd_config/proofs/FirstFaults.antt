@@ -1,18 +1,37 @@
--- Of which kind the first fault is of pools and of reservations.
-use Rattle.std.proofs.Common.{◌≡◌, ℕ, ◌+◌, ◌<◌, ◌≤◌, Bool, true, false, not, ◌&&◌, nat_le, nat_lt, nat_eq, cond, if◌then◌else◌, List, [], ◌∷◌, ◌++◌, length, get_or, drop, Some, None, ap, sym, refl, ◌∙◌, arith}
-use Rattle.std.proofs.lemmas.Bool.{le-leb, lt-leb, ltb-false}
-use Rattle.std.proofs.lemmas.List.{at_drop_more}
-use Rattle.std.specs.List.{list_any, prefix_len}
+-- Where the first value stands that breaks a rule, and of which kind its fault is.
+use Rattle.std.proofs.Common.{◌≡◌, ℕ, ◌+◌, ◌<◌, ◌≤◌, Bool, true, false, not, ◌&&◌, nat_le, nat_lt, nat_eq, if◌then◌else◌, List, [], ◌∷◌, ◌++◌, length, get_or, take, drop, Some, None, ap, sym, refl, ◌∙◌, arith, append-nil, append_assoc}
+use Rattle.std.proofs.lemmas.Bool.{and_from, and_left, and_right, le-leb, leb-true, lt-leb, ltb-false, ltb-true}
+use Rattle.std.proofs.lemmas.List.{length-take, take-append-drop, take_all, take_more}
+use Rattle.std.proofs.lemmas.List.Folds.{list_all-append, list_all_more}
+use Rattle.std.proofs.lemmas.Option.{slice_get_read}
+use Rattle.std.specs.List.{list_all, list_any}
 use Rattle.kd_config.proofs.Came.{both_passed}
 use Rattle.kd_config.proofs.Shared.{must_failed, must_passed}
 use Rattle.kd_config.specs.Address.{has_address}
-use Rattle.kd_config.specs.Parts.{before_outside}
+use Rattle.kd_config.specs.Faults.{config_fault_number}
+use Rattle.kd_config.specs.FirstFault.{PoolFails, ReservationFails}
+use Rattle.kd_config.specs.Parts.{lie_and_fit}
 use Rattle.kd_config.specs.Rules.{is_new, lies_within, may_all_reserve, may_reserve}
 use Rattle.kd_config.specs.Steps.{must}
+use Rattle.kd_config.specs.declared.fault.ConfigFault.{ConfigFault}
 use Rattle.kd_config.specs.declared.pool.Pool.{Pool}
 use Rattle.kd_config.specs.declared.prefix.Prefix.{Prefix}
 use Rattle.kd_config.specs.declared.reservation.Identity.{Identity}
 use Rattle.kd_config.specs.declared.reservation.Reservation.{Reservation}
+
+-- the values before a place with the one at the place, and more
+pub one_more_at : {A : Type 0} (xs : List A) (i : ℕ) (x : A) (more : List A) → i < length xs
+    → x ≡ get_or xs i x → take (i + 1) xs ++ more ≡ take i xs ++ x ∷ more
+one_more_at {A} xs i x more below is =
+    ap (λ (ys : List A). ys ++ more)
+    (take_more xs i x below ∙ ap (λ (y : A). take i xs ++ y ∷ []) (sym is))
+    ∙ append_assoc (take i xs) (x ∷ []) more
+
+-- the values before a place, the one at it, and those after it
+pub cut_at_place : {A : Type 0} (xs : List A) (i : ℕ) (x : A) → i < length xs
+    → x ≡ get_or xs i x → take i xs ++ x ∷ drop (i + 1) xs ≡ xs
+cut_at_place xs i x below is =
+    sym (one_more_at xs i x (drop (i + 1) xs) below is) ∙ take-append-drop (i + 1) xs
 
 -- a reservation whose address passed is inside the prefix
 pub is_inside : (prefix : Prefix) (earlier : List ℕ) (r : Reservation)
@@ -21,126 +40,168 @@ is_inside prefix earlier r e =
     (both_passed (has_address prefix r.address) (not (list_any (nat_eq r.address) earlier))
     (must_passed (may_reserve prefix earlier r) e)).0
 
--- the rules of reservations up to the first outside the prefix
-abbrev pub rules_inside : Prefix → List ℕ → List Identity → List Reservation → Bool
-rules_inside prefix earlier clients rs =
-    may_all_reserve prefix earlier clients (before_outside prefix rs)
-
-inside_at : (prefix : Prefix) (earlier : List ℕ) (clients : List Identity) (rs : List Reservation)
-    (i : ℕ) (r : Reservation) → i < length rs → r ≡ get_or rs i r
-    → rules_inside prefix earlier clients (drop i rs)
-    ≡ rules_inside prefix earlier clients (r ∷ drop (i + 1) rs)
-inside_at prefix earlier clients rs i r below is =
-    at_drop_more (rules_inside prefix earlier clients) rs i r below
-    ∙ ap (λ (x : Reservation). rules_inside prefix earlier clients (x ∷ drop (i + 1) rs)) (sym is)
-
-first_inside : (prefix : Prefix) (r : Reservation) (rs : List Reservation) (b : Bool)
-    → has_address prefix r.address ≡ b
-    → before_outside prefix (r ∷ rs) ≡ (if b then r ∷ before_outside prefix rs else [])
-first_inside prefix r rs b h =
-    ap (λ (t : Bool). if t then r ∷ before_outside prefix rs else []) h
-
--- a reservation that passed: the rest decides
-pub inside_passed : (prefix : Prefix) (earlier : List ℕ) (clients : List Identity)
-    (rs : List Reservation) (i : ℕ) (r : Reservation) → i < length rs → r ≡ get_or rs i r
-    → must (may_reserve prefix earlier r && is_new clients r.identity) ≡ Some tt
-    → rules_inside prefix earlier clients (drop i rs)
-    ≡ rules_inside prefix (earlier ++ r.address ∷ []) (clients ++ r.identity ∷ []) (drop (i + 1) rs)
-inside_passed prefix earlier clients rs i r below is e =
-    let rest = drop (i + 1) rs in
-    let both = both_passed (may_reserve prefix earlier r) (is_new clients r.identity)
-    (must_passed (may_reserve prefix earlier r && is_new clients r.identity) e) in
-    let inside = is_inside prefix earlier r (ap must both.0) in
-    let more = rules_inside prefix (earlier ++ r.address ∷ []) (clients ++ r.identity ∷ []) rest in
-    inside_at prefix earlier clients rs i r below is
-    ∙ (ap (may_all_reserve prefix earlier clients) (first_inside prefix r rest true inside)
-    ∙ (ap (λ (b : Bool). b && (is_new clients r.identity && more)) both.0
-    ∙ ap (λ (b : Bool). b && more) both.1))
-
 all_false : (a b c : Bool) → (a && b) ≡ false → (a && (b && c)) ≡ false
 all_false false b c e = refl
 all_false true false c e = refl
 all_false true true c e = absurd (cc)
 
--- one that did not
-pub inside_failed : (prefix : Prefix) (earlier : List ℕ) (clients : List Identity)
-    (rs : List Reservation) (i : ℕ) (r : Reservation) (n : ℕ) → i < length rs → r ≡ get_or rs i r
-    → must (may_reserve prefix earlier r && is_new clients r.identity) ≡ None
-    → n ≡ (if has_address prefix r.address then 76 else 74)
-    → n ≡ (if rules_inside prefix earlier clients (drop i rs) then 74 else 76)
-inside_failed prefix earlier clients rs i r n below is e kind =
-    by (has_address prefix r.address) refl where
-      by : (b : Bool) → has_address prefix r.address ≡ b
-          → n ≡ (if rules_inside prefix earlier clients (drop i rs) then 74 else 76)
-      by true h =
-          let more = rules_inside prefix (earlier ++ r.address ∷ []) (clients ++ r.identity ∷ [])
-          (drop (i + 1) rs) in
-          let none : rules_inside prefix earlier clients (drop i rs) ≡ false
-          = inside_at prefix earlier clients rs i r below is
-          ∙ (ap (may_all_reserve prefix earlier clients)
-          (first_inside prefix r (drop (i + 1) rs) true h)
-          ∙ all_false (may_reserve prefix earlier r) (is_new clients r.identity) more
-          (must_failed (may_reserve prefix earlier r && is_new clients r.identity) e)) in
-          kind ∙ (ap (λ (b : Bool). if b then 76 else 74) h
-          ∙ sym (ap (λ (b : Bool). if b then 74 else 76) none))
-      by false h =
-          let all : rules_inside prefix earlier clients (drop i rs) ≡ true
-          = inside_at prefix earlier clients rs i r below is
-          ∙ ap (may_all_reserve prefix earlier clients)
-          (first_inside prefix r (drop (i + 1) rs) false h) in
-          kind ∙ (ap (λ (b : Bool). if b then 76 else 74) h
-          ∙ sym (ap (λ (b : Bool). if b then 74 else 76) all))
+-- reservations at the front have passed: those after them decide
+abbrev pub Decide : Prefix → List ℕ → List Reservation → List ℕ → List Identity → Type 0
+Decide prefix first front earlier clients =
+    (more : List Reservation) → may_all_reserve prefix first [] (front ++ more)
+    ≡ may_all_reserve prefix earlier clients more
 
--- how many pools stand before the first outside the prefix, by those after a pool
-within_at : (prefix : Prefix) (pools : List Pool) (i : ℕ) (pool : Pool) (b : Bool)
-    → i < length pools → pool ≡ get_or pools i pool → lies_within prefix pool ≡ b
-    → prefix_len (lies_within prefix) (drop i pools)
-    ≡ cond b (1 + prefix_len (lies_within prefix) (drop (i + 1) pools)) 0
-within_at prefix pools i pool b below is h =
-    at_drop_more (prefix_len (lies_within prefix)) pools i pool below
-    ∙ (ap (λ (x : Pool). prefix_len (lies_within prefix) (x ∷ drop (i + 1) pools)) (sym is)
-    ∙ ap (λ (t : Bool). cond t (1 + prefix_len (lies_within prefix) (drop (i + 1) pools)) 0) h)
+-- a reservation that passed: the rest decides
+pub inside_passed : (prefix : Prefix) (first earlier : List ℕ) (clients : List Identity)
+    (rs : List Reservation) (i : ℕ) (r : Reservation) → i < length rs → r ≡ get_or rs i r
+    → Decide prefix first (take i rs) earlier clients
+    → must (may_reserve prefix earlier r && is_new clients r.identity) ≡ Some tt
+    → Decide prefix first (take (i + 1) rs) (earlier ++ r.address ∷ []) (clients ++ r.identity ∷ [])
+inside_passed prefix first earlier clients rs i r below is left e more =
+    let both = both_passed (may_reserve prefix earlier r) (is_new clients r.identity)
+    (must_passed (may_reserve prefix earlier r && is_new clients r.identity) e) in
+    let rest = may_all_reserve prefix (earlier ++ r.address ∷ []) (clients ++ r.identity ∷ []) more in
+    ap (may_all_reserve prefix first []) (one_more_at rs i r more below is)
+    ∙ (left (r ∷ more)
+    ∙ (ap (λ (b : Bool). b && (is_new clients r.identity && rest)) both.0
+    ∙ ap (λ (b : Bool). b && rest) both.1))
+
+-- one that did not: it is the first
+pub inside_failed : (prefix : Prefix) (first earlier : List ℕ) (clients : List Identity)
+    (rs : List Reservation) (i : ℕ) (r : Reservation) (fault : ConfigFault) → i < length rs
+    → r ≡ get_or rs i r → Decide prefix first (take i rs) earlier clients
+    → must (may_reserve prefix earlier r && is_new clients r.identity) ≡ None
+    → config_fault_number fault ≡ (if has_address prefix r.address then 76 else 74)
+    → ReservationFails (may_all_reserve prefix first []) prefix rs fault
+inside_failed prefix first earlier clients rs i r fault below is left e kind = record {
+  place = i;
+  reservation = r;
+  first = record {
+    value_at = slice_get_read rs (length rs) i r refl below is;
+    before = ap (may_all_reserve prefix first []) (sym (append-nil (take i rs))) ∙ left [];
+    with_it = ap (may_all_reserve prefix first [])
+        (sym (append-nil (take (i + 1) rs)) ∙ one_more_at rs i r [] below is)
+        ∙ (left (r ∷ []) ∙ all_false (may_reserve prefix earlier r) (is_new clients r.identity) true
+        (must_failed (may_reserve prefix earlier r && is_new clients r.identity) e));
+  };
+  told = kind;
+}
+
+-- and not all may be reserved
+pub not_all_inside : (prefix : Prefix) (first earlier : List ℕ) (clients : List Identity)
+    (rs : List Reservation) (i : ℕ) (r : Reservation) → i < length rs → r ≡ get_or rs i r
+    → Decide prefix first (take i rs) earlier clients
+    → must (may_reserve prefix earlier r && is_new clients r.identity) ≡ None
+    → must (may_all_reserve prefix first [] rs) ≡ None
+not_all_inside prefix first earlier clients rs i r below is left e =
+    let rest = drop (i + 1) rs in
+    ap must (ap (may_all_reserve prefix first []) (sym (cut_at_place rs i r below is))
+    ∙ (left (r ∷ rest) ∙ all_false (may_reserve prefix earlier r) (is_new clients r.identity)
+    (may_all_reserve prefix (earlier ++ r.address ∷ []) (clients ++ r.identity ∷ []) rest)
+    (must_failed (may_reserve prefix earlier r && is_new clients r.identity) e)))
+
+-- all have passed
+pub all_inside : (prefix : Prefix) (first earlier : List ℕ) (clients : List Identity)
+    (rs : List Reservation) (i : ℕ) → length rs ≤ i
+    → Decide prefix first (take i rs) earlier clients
+    → must (may_all_reserve prefix first [] rs) ≡ Some tt
+all_inside prefix first earlier clients rs i all left =
+    ap must (ap (may_all_reserve prefix first [])
+    (sym (take_all i rs all) ∙ sym (append-nil (take i rs))) ∙ left [])
 
 -- one pool more that passed
 pub within_passed : (prefix : Prefix) (pools : List Pool) (apart i : ℕ) (pool : Pool)
     → i < length pools → pool ≡ get_or pools i pool
     → must (lies_within prefix pool && nat_lt i apart) ≡ Some tt
-    → prefix_len (lies_within prefix) pools ≡ i + prefix_len (lies_within prefix) (drop i pools)
-    → prefix_len (lies_within prefix) pools
-    ≡ i + 1 + prefix_len (lies_within prefix) (drop (i + 1) pools)
-within_passed prefix pools apart i pool below is e left =
+    → list_all (lies_within prefix) (take i pools) ≡ true
+    → (i + 1 ≤ apart) × (list_all (lies_within prefix) (take (i + 1) pools) ≡ true)
+within_passed prefix pools apart i pool below is e before =
     let both = both_passed (lies_within prefix pool) (nat_lt i apart)
     (must_passed (lies_within prefix pool && nat_lt i apart) e) in
-    let here = within_at prefix pools i pool true below is both.0 in
-    omega (arith, left, here)
+    let less : i < apart = ltb-true i apart both.1 in (
+      omega arith,
+      list_all_more (lies_within prefix) pools i pool below
+          ∙ and_from (list_all (lies_within prefix) (take i pools))
+          (lies_within prefix (get_or pools i pool)) before
+          (ap (lies_within prefix) (sym is) ∙ both.0),
+    )
 
--- one that did not
-pub within_failed : (prefix : Prefix) (pools : List Pool) (apart i n : ℕ) (pool : Pool)
-    → i < length pools → i ≤ apart → pool ≡ get_or pools i pool
-    → must (lies_within prefix pool && nat_lt i apart) ≡ None
-    → prefix_len (lies_within prefix) pools ≡ i + prefix_len (lies_within prefix) (drop i pools)
-    → n ≡ (if lies_within prefix pool then 75 else 74)
-    → n ≡ (if nat_le (prefix_len (lies_within prefix) pools) apart then 74 else 75)
-within_failed prefix pools apart i n pool below few is e left kind =
-    by (lies_within prefix pool) (nat_lt i apart) refl refl where
-      by : (b u : Bool) → lies_within prefix pool ≡ b → nat_lt i apart ≡ u
-          → n ≡ (if nat_le (prefix_len (lies_within prefix) pools) apart then 74 else 75)
-      by false u h k =
-          let here = within_at prefix pools i pool false below is h in
-          let low : nat_le (prefix_len (lies_within prefix) pools) apart ≡ true
-          = le-leb (prefix_len (lies_within prefix) pools) apart (omega (arith, left, here, few)) in
-          kind ∙ (ap (λ (b : Bool). if b then 75 else 74) h
-          ∙ sym (ap (λ (b : Bool). if b then 74 else 75) low))
-      by true false h k =
-          let here = within_at prefix pools i pool true below is h in
+-- with one that did not they do not fit
+with_one : (prefix : Prefix) (pools : List Pool) (apart i : ℕ) (pool : Pool) → i < length pools
+    → pool ≡ get_or pools i pool → must (lies_within prefix pool && nat_lt i apart) ≡ None
+    → lie_and_fit prefix apart (take (i + 1) pools) ≡ false
+with_one prefix pools apart i pool below is e =
+    by (lies_within prefix pool) (nat_lt i apart) refl refl
+    (must_failed (lies_within prefix pool && nat_lt i apart) e) where
+      by : (t u : Bool) → lies_within prefix pool ≡ t → nat_lt i apart ≡ u
+          → (lies_within prefix pool && nat_lt i apart) ≡ false
+          → lie_and_fit prefix apart (take (i + 1) pools) ≡ false
+      by t false h k f =
           let many : apart ≤ i = ltb-false i apart k in
-          let high : nat_le (prefix_len (lies_within prefix) pools) apart ≡ false
-          = lt-leb (prefix_len (lies_within prefix) pools) apart (omega (arith, left, here, many)) in
-          kind ∙ (ap (λ (b : Bool). if b then 75 else 74) h
-          ∙ sym (ap (λ (b : Bool). if b then 74 else 75) high))
-      by true true h k =
-          let passed : (lies_within prefix pool && nat_lt i apart) ≡ true
-          = ap (λ (b : Bool). b && nat_lt i apart) h ∙ k in
-          let not_passed : (lies_within prefix pool && nat_lt i apart) ≡ false
-          = must_failed (lies_within prefix pool && nat_lt i apart) e in
-          absurd (cc (passed, not_passed))
+          and_left (nat_le (length (take (i + 1) pools)) apart)
+          (list_all (lies_within prefix) (take (i + 1) pools))
+          (lt-leb (length (take (i + 1) pools)) apart (omega (arith, length-take (i + 1) pools)))
+      by false true h k f =
+          and_right (nat_le (length (take (i + 1) pools)) apart)
+          (list_all (lies_within prefix) (take (i + 1) pools))
+          (list_all_more (lies_within prefix) pools i pool below
+          ∙ and_right (list_all (lies_within prefix) (take i pools))
+          (lies_within prefix (get_or pools i pool)) (ap (lies_within prefix) (sym is) ∙ h))
+      by true true h k f =
+          let both = and_from (lies_within prefix pool) (nat_lt i apart) h k in
+          absurd (cc (f, both))
+
+-- one that did not: it is the first
+pub within_failed : (prefix : Prefix) (pools : List Pool) (apart i : ℕ) (pool : Pool)
+    (fault : ConfigFault) → i < length pools → i ≤ apart → pool ≡ get_or pools i pool
+    → must (lies_within prefix pool && nat_lt i apart) ≡ None
+    → list_all (lies_within prefix) (take i pools) ≡ true
+    → config_fault_number fault ≡ (if lies_within prefix pool then 75 else 74)
+    → PoolFails (lie_and_fit prefix apart) prefix pools fault
+within_failed prefix pools apart i pool fault below few is e before kind = record {
+  place = i;
+  pool = pool;
+  first = record {
+    value_at = slice_get_read pools (length pools) i pool refl below is;
+    before = and_from (nat_le (length (take i pools)) apart)
+        (list_all (lies_within prefix) (take i pools))
+        (le-leb (length (take i pools)) apart (omega (arith, length-take i pools))) before;
+    with_it = with_one prefix pools apart i pool below is e;
+  };
+  told = kind;
+}
+
+-- pools of which the first do not fit do not
+fit_kept : (prefix : Prefix) (pools : List Pool) (apart n : ℕ)
+    → lie_and_fit prefix apart (take n pools) ≡ false → lie_and_fit prefix apart pools ≡ false
+fit_kept prefix pools apart n e = by (lie_and_fit prefix apart pools) refl where
+  by : (b : Bool) → lie_and_fit prefix apart pools ≡ b → b ≡ false
+  by false h = refl
+  by true h =
+      let all = both_passed (nat_le (length pools) apart) (list_all (lies_within prefix) pools) h in
+      let front = both_passed (list_all (lies_within prefix) (take n pools))
+      (list_all (lies_within prefix) (drop n pools))
+      (sym (list_all-append (lies_within prefix) (take n pools) (drop n pools))
+      ∙ (ap (list_all (lies_within prefix)) (take-append-drop n pools) ∙ all.1)) in
+      let few : length pools ≤ apart = leb-true (length pools) apart all.0 in
+      let fits = and_from (nat_le (length (take n pools)) apart)
+      (list_all (lies_within prefix) (take n pools))
+      (le-leb (length (take n pools)) apart (omega (arith, length-take n pools))) front.0 in
+      absurd (cc (fits, e))
+
+-- and not all fit
+pub not_all_within : (prefix : Prefix) (pools : List Pool) (apart i : ℕ) (pool : Pool)
+    → i < length pools → pool ≡ get_or pools i pool
+    → must (lies_within prefix pool && nat_lt i apart) ≡ None
+    → must (lie_and_fit prefix apart pools) ≡ None
+not_all_within prefix pools apart i pool below is e =
+    ap must (fit_kept prefix pools apart (i + 1) (with_one prefix pools apart i pool below is e))
+
+-- all fit
+pub all_within : (prefix : Prefix) (pools : List Pool) (apart i : ℕ) → length pools ≤ i → i ≤ apart
+    → list_all (lies_within prefix) (take i pools) ≡ true
+    → must (lie_and_fit prefix apart pools) ≡ Some tt
+all_within prefix pools apart i all few before =
+    ap must (and_from (nat_le (length pools) apart) (list_all (lies_within prefix) pools)
+    (le-leb (length pools) apart (omega arith))
+    (ap (list_all (lies_within prefix)) (sym (take_all i pools all)) ∙ before))

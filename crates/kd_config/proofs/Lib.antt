@@ -14,6 +14,8 @@ pub mod SoundSettings
 pub mod SoundBuiltin
 pub mod Shared
 pub mod FirstFaults
+pub mod FirstSubnets
+pub mod Told
 pub mod PoolPlaces
 pub mod ReservationPlaces
 pub mod AcceptedTests

@@ -3,8 +3,8 @@ use Rattle.std.proofs.Common.{◌≡◌, ◌≢◌, ℕ, List, Result, Ok, Err, 
 use Rattle.kd_compile.specs.Compiled.{HasMeasures, Keeps, first_over}
 use Rattle.kd_compile.specs.Measures.{names}
 use Rattle.kd_config.specs.Configured.{IsProgramOf, IsTextTest}
-use Rattle.kd_config.specs.declared.fault.ConfigFault.{ConfigFault}
-use Rattle.kd_config.specs.declared.fault.ConfigFault.TheVariants.{Memory}
+use Rattle.kd_config.specs.declared.objects.faults.ClassesFault.{ClassesFault}
+use Rattle.kd_config.specs.declared.objects.faults.ClassesFault.TheVariants.{Memory}
 use Rattle.kd_expr.specs.Grammar.{Parses}
 use Rattle.kd_expr.specs.Tree.{Tree}
 use Rattle.kd_expr.specs.Typing.{test_type}
@@ -17,14 +17,14 @@ compiled tree typed program same is measured accepted keeps within =
     (record { typed = subst (λ t. test_type t ≡ Ok tt) (sym same) is; within = within; compiled = record { measures = measured; accepted = accepted; keeps = keeps } })
 
 -- the programs of a text ask for the same names
-pub same_names : (text : List ℕ) (tree : Tree) (result : Result Code ConfigFault) → ((t : Tree) → Parses text t → tree ≡ t) → IfOk result (λ program. IsProgramOf tree program)
+pub same_names : (text : List ℕ) (tree : Tree) (result : Result Code ClassesFault) → ((t : Tree) → Parses text t → tree ≡ t) → IfOk result (λ program. IsProgramOf tree program)
     → IfOk result (λ program. (other : Code) → IsTextTest text other → other.names ≡ program.names)
 same_names text tree (Err fault) only found = tt
 same_names text tree (Ok program) only found =
     λ other h. h.program_of.compiled.measures.names ∙ (ap names (sym (only h.tree h.spelled)) ∙ sym found.compiled.measures.names)
 
 -- a tree without a program: its text has none
-pub none_of_text : (text : List ℕ) (tree : Tree) (result : Result Code ConfigFault) → ((t : Tree) → Parses text t → tree ≡ t) → IfErr result (λ fault. fault ≢ Memory → (program : Code) → IsProgramOf tree program → ⊥)
+pub none_of_text : (text : List ℕ) (tree : Tree) (result : Result Code ClassesFault) → ((t : Tree) → Parses text t → tree ≡ t) → IfErr result (λ fault. fault ≢ Memory → (program : Code) → IsProgramOf tree program → ⊥)
     → IfErr result (λ fault. fault ≢ Memory → (program : Code) → IsTextTest text program → ⊥)
 none_of_text text tree (Ok program) only none = tt
 none_of_text text tree (Err fault) only none =

@@ -1,5 +1,5 @@
 -- What a text's values mean obeys what a configuration obeys.
-use Rattle.std.proofs.Common.{◌≡◌, ℕ, ◌+◌, ◌-◌, ◌*◌, ◌/◌, ◌^◌, ◌<◌, ◌≤◌, Bool, true, false, not, ◌&&◌, nat_le, nat_eq, ◌==◌, nat_lt, List, [], ◌∷◌, ◌++◌, length, codes, Option, Some, None, refl, subst, ap, ◌∙◌, arith}
+use Rattle.std.proofs.Common.{◌≡◌, ℕ, ◌+◌, ◌-◌, ◌*◌, ◌/◌, ◌^◌, ◌<◌, ◌≤◌, Bool, true, false, not, ◌&&◌, nat_le, nat_eq, ◌==◌, nat_lt, List, [], ◌∷◌, ◌++◌, length, codes, Option, Some, None, refl, subst, ap, ◌∙◌, arith, if◌then◌else◌}
 use Rattle.std.proofs.Math.Nat.{mul-div_cancel}
 use Rattle.std.proofs.lemmas.Bool.Decides.{nat_tests}
 use Rattle.std.proofs.lemmas.List.{length-append}
@@ -10,7 +10,7 @@ use Rattle.std.specs.Prelude.{◌||◌, option_and_then}
 use borrow.Author.Tests.{leb-true, ltb-true}
 use Rattle.kd_classes.specs.declared.option_list.OptionData.{OptionData}
 use Rattle.kd_config.proofs.Blocks.{cleared_within}
-use Rattle.kd_config.proofs.Came.{came_from, passed, passed_only, seen_from, some_is, both_passed, few_items}
+use Rattle.kd_config.proofs.Came.{Came, came_from, passed, passed_only, seen_from, some_is, both_passed, few_items}
 use Rattle.kd_config.specs.Address.{address_spelled, range_from, network_address, parts_at, length_spelled, short_decimal, prefix_spelled, range_of_parts, range_by, range_spelled, prefix_range, prefix_size, after_spaces, before_spaces}
 use Rattle.kd_config.specs.HexText as hex
 use Rattle.kd_config.specs.Options.{code_given, code_among, has_option_keys, option_after, options_behind, option_list_in, own_codes}
@@ -21,9 +21,9 @@ use Rattle.kd_config.specs.Values.{hex_bytes_in, number_within, number_if_given}
 use Rattle.kd_config.specs.declared.prefix.Prefix.{Prefix}
 use Rattle.kd_config.specs.declared.range.Range.{Range}
 use Rattle.kd_config.specs.declared.times.Times.{Times}
-use Rattle.kd_expr.proofs.Addresses.{address_sound}
-use Rattle.kd_expr.specs.Address.{IsAddress, four}
-use Rattle.kd_expr.specs.Lexing as lexing
+use Rattle.kd_expr.specs.Address.{a_digit, decimal}
+use Rattle.kd_expr.specs.Lexing.{address_read, behind_of, front_of, is_empty, part_after_dot, part_at_front}
+use Rattle.kd_expr.specs.Reading.{and_then}
 use Rattle.serde_json.specs.Data.{Data, Items, no_items, item}
 use Rattle.serde_json.specs.Events.{items_len}
 use Rattle.serde_json.specs.Find.{as_bool, as_number, as_str, as_u64, get}
@@ -149,15 +149,44 @@ options_sound value options e =
     let all = behind_sound [] items.first 0 options (record { many = omega arith; each = tt; own = tt }) items.gives in
     record { few = omega (arith, all.many, few_items 64 value items.first items.is); each = all.each; own = all.own }
 
+-- a part of an address is at most 255
+part_small : (text : List ℕ) (part : ℕ × List ℕ) → part_at_front text ≡ Some part → part.0 ≤ 255
+unfolding part_at_front
+part_small text part e =
+    let digits = front_of a_digit text in
+    let sizes = nat_le 1 (length digits) && nat_le (length digits) 3 in
+    let test = passed_only (sizes && nat_le (decimal digits) 255) (decimal digits, behind_of a_digit text) part e in
+    subst (λ (x : ℕ × List ℕ). x.0 ≤ 255) test.1 (leb-true (decimal digits) 255 (both_passed sizes (nat_le (decimal digits) 255) test.0).1)
+
+next_small : (text : List ℕ) (part : ℕ × List ℕ) → part_after_dot text ≡ Some part → part.0 ≤ 255
+unfolding part_after_dot
+next_small [] part e = absurd (cc)
+next_small (b ∷ text) part e = by (b == 46) e where
+  by : (t : Bool) → ◌≡◌ {A = Option (ℕ × List ℕ)} (if t then part_at_front text else None) (Some part) → part.0 ≤ 255
+  by true h = part_small text part h
+  by false h = absurd (cc)
+
+read_from : {A B : Type 0} (o : Option A) (f : A → Option B) (b : B) → and_then o f ≡ Some b → Came o f b
+read_from None f b e = absurd (cc)
+read_from (Some a) f b e = record { first = a; is = refl; gives = e }
+
 -- four bytes make a number of 32 bits
-bytes_small : (text bytes : List ℕ) → IsAddress text bytes → from_be_bytes w32 bytes < 2 ^ 32
-bytes_small _ _ (four s t u v p q r w) = omega (arith, p.small, q.small, r.small, w.small)
+bytes_small : (text bytes : List ℕ) → address_read text ≡ Some bytes → from_be_bytes w32 bytes < 2 ^ 32
+unfolding address_read
+bytes_small text bytes e =
+    let a = read_from (part_at_front text) _ bytes e in
+    let b = read_from (part_after_dot a.first.1) _ bytes a.gives in
+    let c = read_from (part_after_dot b.first.1) _ bytes b.gives in
+    let d = read_from (part_after_dot c.first.1) _ bytes c.gives in
+    let all = passed_only (is_empty d.first.1) (a.first.0 ∷ b.first.0 ∷ c.first.0 ∷ d.first.0 ∷ []) bytes d.gives in
+    subst (λ bs. from_be_bytes w32 bs < 2 ^ 32) all.1
+    (omega (arith, part_small text a.first a.is, next_small a.first.1 b.first b.is, next_small b.first.1 c.first c.is, next_small c.first.1 d.first d.is))
 
 address_small : (text : List ℕ) (n : ℕ) → address_spelled text ≡ Some n → n < 2 ^ 32
 unfolding address_spelled
 address_small text n e =
-    let bytes = seen_from (from_be_bytes w32) (lexing.address_read text) n e in
-    subst (λ a. a < 2 ^ 32) bytes.2 (bytes_small text bytes.0 (address_sound text bytes.0 bytes.1))
+    let bytes = seen_from (from_be_bytes w32) (address_read text) n e in
+    subst (λ a. a < 2 ^ 32) bytes.2 (bytes_small text bytes.0 bytes.1)
 
 length_small : (text : List ℕ) (n : ℕ) → length_spelled text ≡ Some n → n ≤ 32
 unfolding length_spelled

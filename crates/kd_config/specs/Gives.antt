@@ -1,17 +1,16 @@
--- What a reader of a configuration answers, against the definition of what it reads.
+-- What a reader of a configuration answers, against the definition of what it reads. One of its
+-- faults is want of memory.
 use Rattle.std.specs.Prelude.{◌≡◌, ◌≢◌, Option, Some, None, Result, Ok, Err}
-use Rattle.kd_config.specs.declared.fault.ConfigFault.{ConfigFault}
-use Rattle.kd_config.specs.declared.fault.ConfigFault.TheVariants as faults
 
 -- a refusal for another cause than want of memory: there is nothing to read
-abbrev pub MeansNothing : {A : Type 0} → ConfigFault → Option A → Type 0
-MeansNothing fault meant = fault ≢ faults.Memory → meant ≡ None
+abbrev pub MeansNothing : {A E : Type 0} → E → E → Option A → Type 0
+MeansNothing memory fault meant = fault ≢ memory → meant ≡ None
 
 -- an answer is what is meant, as it is seen
-abbrev pub GivesAs : {A B : Type 0} → (A → B) → Result A ConfigFault → Option B → Type 0
-GivesAs seen (Ok a) meant = meant ≡ Some (seen a)
-GivesAs seen (Err fault) meant = MeansNothing fault meant
+abbrev pub GivesAs : {A B E : Type 0} → E → (A → B) → Result A E → Option B → Type 0
+GivesAs memory seen (Ok a) meant = meant ≡ Some (seen a)
+GivesAs memory seen (Err fault) meant = MeansNothing memory fault meant
 
 -- an answer is what is meant
-abbrev pub Means : {A : Type 0} → Result A ConfigFault → Option A → Type 0
-Means result meant = GivesAs (λ a. a) result meant
+abbrev pub Means : {A E : Type 0} → E → Result A E → Option A → Type 0
+Means memory result meant = GivesAs memory (λ a. a) result meant

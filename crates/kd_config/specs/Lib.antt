@@ -20,3 +20,4 @@ pub mod Configured
 pub mod Alike
 pub mod Sound
 pub mod Laws
+pub mod FirstFault

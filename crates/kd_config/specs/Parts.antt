@@ -1,16 +1,21 @@
--- Words of private clauses: keys that are borrowed texts, clients by borrowed bytes, and subnets
--- whose pools are apart up to a number.
-use Rattle.std.specs.Prelude.{ℕ, Bool, ◌&&◌, if◌then◌else◌, List, [], ◌∷◌, length, bytes_eq, is_some, nat_le}
+-- Words of private clauses: keys that are borrowed texts, clients by borrowed bytes, subnets whose
+-- pools are apart up to a number, and the faults of parts of a configuration.
+use Rattle.std.specs.Prelude.{ℕ, Bool, ◌&&◌, if◌then◌else◌, List, length, bytes_eq, is_some, nat_le}
 use Rattle.std.specs.Borrow.{Bor}
-use Rattle.std.specs.List.{list_any}
+use Rattle.std.specs.List.{list_all, list_any}
 use Rattle.serde_json.specs.Data.{Data}
 use Rattle.serde_json.specs.Find.{get}
-use Rattle.kd_config.specs.Address.{has_address}
-use Rattle.kd_config.specs.Rules.{all_obey, pool_ranges}
+use Rattle.kd_config.specs.Rules.{all_obey, lies_within, obeys, pool_ranges}
+use Rattle.kd_config.specs.declared.fault.ConfigFault.{ConfigFault}
+use Rattle.kd_config.specs.declared.fault.ConfigFault.TheVariants as faults
+use Rattle.kd_config.specs.declared.objects.faults.ClassesFault.{ClassesFault}
+use Rattle.kd_config.specs.declared.objects.faults.ClassesFault.TheVariants as classes
+use Rattle.kd_config.specs.declared.objects.faults.SettingsFault.{SettingsFault}
+use Rattle.kd_config.specs.declared.objects.faults.SettingsFault.TheVariants as settings
+use Rattle.kd_config.specs.declared.pool.Pool.{Pool}
 use Rattle.kd_config.specs.declared.prefix.Prefix.{Prefix}
 use Rattle.kd_config.specs.declared.reservation.Identity.{Identity}
 use Rattle.kd_config.specs.declared.reservation.Identity.TheVariants.{Hardware, ClientId}
-use Rattle.kd_config.specs.declared.reservation.Reservation.{Reservation}
 use Rattle.kd_config.specs.declared.subnet.Subnet.{Subnet}
 
 -- a key is one of these
@@ -30,8 +35,26 @@ abbrev pub obey_within : ℕ → List ℕ → List Subnet → Bool
 obey_within apart earlier subnets =
     nat_le (length (pool_ranges subnets)) apart && all_obey earlier subnets
 
--- the reservations before the first whose address is outside a prefix
-abbrev pub before_outside : Prefix → List Reservation → List Reservation
-before_outside prefix [] = []
-before_outside prefix (r ∷ rs) =
-    if has_address prefix r.address then r ∷ before_outside prefix rs else []
+-- pools lie in a prefix, and are no more than so many
+abbrev pub lie_and_fit : Prefix → ℕ → List Pool → Bool
+lie_and_fit prefix apart pools =
+    nat_le (length pools) apart && list_all (lies_within prefix) pools
+
+-- a subnet obeys its rules after reserved addresses, and has no pool after so many
+abbrev pub obeys_within : ℕ → List ℕ → Subnet → Bool
+obeys_within apart earlier subnet = nat_le (length subnet.pools) apart && obeys earlier subnet
+
+-- the fault of a configuration whose text spells no settings
+abbrev pub settings_fault : SettingsFault → ConfigFault
+settings_fault settings.Json = faults.Json
+settings_fault (settings.Missing path) = faults.Missing path
+settings_fault (settings.Unknown path) = faults.Unknown path
+settings_fault (settings.BadValue path) = faults.BadValue path
+settings_fault settings.Memory = faults.Memory
+
+-- the fault of a configuration whose classes have no definitions
+abbrev pub classes_fault : ClassesFault → ConfigFault
+classes_fault (classes.Expression number why) = faults.Expression number why
+classes_fault (classes.Tokens number why) = faults.Tokens number why
+classes_fault (classes.Class why) = faults.Class why
+classes_fault classes.Memory = faults.Memory

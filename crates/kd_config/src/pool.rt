@@ -3,8 +3,9 @@ ghost use Rattle.serde_json.specs.View.{view};
 ghost use Rattle.kd_config.specs.Gives.{Means};
 ghost use Rattle.kd_config.specs.Pool.{has_pool_keys, pool_of, pool_range};
 ghost use Rattle.kd_config.specs.Steps.{must};
+ghost use Rattle.kd_config.specs.declared.objects.faults.SettingsFault.TheVariants.{Memory};
 
-use crate::fault::ConfigFault;
+use crate::objects::faults::SettingsFault;
 use crate::objects::lists::Entry;
 use crate::objects::options::options_of;
 use crate::objects::values::check_keys;
@@ -27,7 +28,7 @@ impl Entry for Pool {
     ghost means = { pool_of };
 
     #[tactic(auto, unfolding(crate::specs::Pool::pool_of))]
-    fn read(alloc: Global, value: &Value, at: &Place<'_>) -> Result<Pool, ConfigFault> {
+    fn read(alloc: Global, value: &Value, at: &Place<'_>) -> Result<Pool, SettingsFault> {
         check_pool(alloc, value, at)?;
         let Some(range) = value.get("pool").and_then(range_in) else {
             return Err(bad_value(alloc, at, "pool"));
@@ -39,8 +40,8 @@ impl Entry for Pool {
 
 // The value is an object with the keys of a pool.
 #[tactic(auto, unfolding(crate::specs::Pool::has_pool_keys))]
-fn check_pool(alloc: Global, value: &Value, at: &Place<'_>) -> Result<(), ConfigFault>
-    ensures { Means result (must (has_pool_keys (view value.now))) }
+fn check_pool(alloc: Global, value: &Value, at: &Place<'_>) -> Result<(), SettingsFault>
+    ensures { Means Memory result (must (has_pool_keys (view value.now))) }
 {
     check_keys(alloc, value, at, &["pool", "option-data"], &["pool"])
 }

@@ -1,6 +1,7 @@
 ghost use Rattle.std.specs.Prelude.{◌≡◌, ◌≢◌, IfErr, IfOk};
 ghost use Rattle.kd_config.specs.Configuration.{Configuration};
 ghost use Rattle.kd_config.specs.Configured.{IsConfigured};
+ghost use Rattle.kd_config.specs.FirstFault.{Tells};
 ghost use Rattle.kd_config.specs.declared.fault.ConfigFault.TheVariants.{Memory};
 
 use crate::config::Config;
@@ -26,6 +27,7 @@ impl Config {
         ensures refused { IfErr result
             (λ fault. fault ≢ Memory → (c : Configuration) → IsConfigured text.now files.now c
             → ⊥) }
+        ensures first { IfErr result (λ fault. Tells text.now fault) }
     {
         let Settings {
             server,

@@ -3,8 +3,9 @@ ghost use Rattle.serde_json.specs.View.{view};
 ghost use Rattle.kd_config.specs.Gives.{Means};
 ghost use Rattle.kd_config.specs.Reservation.{has_reservation_keys, one_identity, reservation_of};
 ghost use Rattle.kd_config.specs.Steps.{must};
+ghost use Rattle.kd_config.specs.declared.objects.faults.SettingsFault.TheVariants.{Memory};
 
-use crate::fault::ConfigFault;
+use crate::objects::faults::SettingsFault;
 use crate::objects::lists::Entry;
 use crate::objects::values::{address_in, bytes_or_none, check_keys};
 use crate::rules::place::{Place, bad_value, missing};
@@ -34,7 +35,7 @@ impl Entry for Reservation {
     ghost means = { reservation_of };
 
     #[tactic(auto, unfolding(crate::specs::Reservation::reservation_of))]
-    fn read(alloc: Global, value: &Value, at: &Place<'_>) -> Result<Reservation, ConfigFault> {
+    fn read(alloc: Global, value: &Value, at: &Place<'_>) -> Result<Reservation, SettingsFault> {
         check_reservation(alloc, value, at)?;
         let hardware = bytes_or_none(alloc, value, at, "hw-address", 16)?;
         let client = bytes_or_none(alloc, value, at, "client-id", 255)?;
@@ -48,8 +49,8 @@ impl Entry for Reservation {
 
 // The value is an object with the keys of a reservation.
 #[tactic(auto, unfolding(crate::specs::Reservation::has_reservation_keys))]
-fn check_reservation(alloc: Global, value: &Value, at: &Place<'_>) -> Result<(), ConfigFault>
-    ensures { Means result (must (has_reservation_keys (view value.now))) }
+fn check_reservation(alloc: Global, value: &Value, at: &Place<'_>) -> Result<(), SettingsFault>
+    ensures { Means Memory result (must (has_reservation_keys (view value.now))) }
 {
     let known = ["hw-address", "client-id", "ip-address"];
     check_keys(alloc, value, at, &known, &["ip-address"])
@@ -61,8 +62,8 @@ fn identity_of(
     at: &Place<'_>,
     hardware: Option<Bytes>,
     client: Option<Bytes>,
-) -> Result<Identity, ConfigFault>
-    ensures { Means result (one_identity hardware client) }
+) -> Result<Identity, SettingsFault>
+    ensures { Means Memory result (one_identity hardware client) }
 {
     match (hardware, client) {
         (Some(hardware), None) => Ok(Identity::Hardware(hardware)),

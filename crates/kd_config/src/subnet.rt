@@ -3,9 +3,10 @@ ghost use Rattle.serde_json.specs.View.{view};
 ghost use Rattle.kd_config.specs.Gives.{Means};
 ghost use Rattle.kd_config.specs.Steps.{must};
 ghost use Rattle.kd_config.specs.Subnet.{has_subnet_keys, subnet_prefix, subnet_of};
+ghost use Rattle.kd_config.specs.declared.objects.faults.SettingsFault.TheVariants.{Memory};
 
 use crate::entries::Entries;
-use crate::fault::ConfigFault;
+use crate::objects::faults::SettingsFault;
 use crate::objects::lists::{Entry, entries_of};
 use crate::objects::options::options_of;
 use crate::objects::values::{check_keys, number_or, text_or_none};
@@ -37,7 +38,7 @@ impl Entry for Subnet {
     ghost means = { subnet_of };
 
     #[tactic(auto, unfolding(crate::specs::Subnet::subnet_of))]
-    fn read(alloc: Global, value: &Value, at: &Place<'_>) -> Result<Subnet, ConfigFault> {
+    fn read(alloc: Global, value: &Value, at: &Place<'_>) -> Result<Subnet, SettingsFault> {
         check_subnet(alloc, value, at)?;
         number_or(alloc, value, at, "id", 1, 4_294_967_294, 1)?;
         let Some(prefix) = value.get("subnet").and_then(prefix_in) else {
@@ -59,8 +60,8 @@ impl Entry for Subnet {
 
 // The value is an object with the keys of a subnet.
 #[tactic(auto, unfolding(crate::specs::Subnet::has_subnet_keys))]
-fn check_subnet(alloc: Global, value: &Value, at: &Place<'_>) -> Result<(), ConfigFault>
-    ensures { Means result (must (has_subnet_keys (view value.now))) }
+fn check_subnet(alloc: Global, value: &Value, at: &Place<'_>) -> Result<(), SettingsFault>
+    ensures { Means Memory result (must (has_subnet_keys (view value.now))) }
 {
     let known = [
         "id",

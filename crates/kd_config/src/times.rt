@@ -2,8 +2,9 @@ ghost use Rattle.std.specs.Prelude.{◌≡◌};
 ghost use Rattle.serde_json.specs.View.{view};
 ghost use Rattle.kd_config.specs.Gives.{Means};
 ghost use Rattle.kd_config.specs.Settings.{longest_lease, times_given};
+ghost use Rattle.kd_config.specs.declared.objects.faults.SettingsFault.TheVariants.{Memory};
 
-use crate::fault::ConfigFault;
+use crate::objects::faults::SettingsFault;
 use crate::objects::values::number_or;
 use crate::rules::place::{Place, bad_value};
 use serde_json::Value;
@@ -29,8 +30,12 @@ pub struct Times {
 
 // The times of leases and of offers.
 #[tactic(auto, unfolding(crate::specs::Settings::times_given))]
-pub(crate) fn times_of(alloc: Global, object: &Value, at: &Place<'_>) -> Result<Times, ConfigFault>
-    ensures { Means result (times_given (view object.now)) }
+pub(crate) fn times_of(
+    alloc: Global,
+    object: &Value,
+    at: &Place<'_>,
+) -> Result<Times, SettingsFault>
+    ensures { Means Memory result (times_given (view object.now)) }
 {
     let lifetime = number_or(alloc, object, at, "valid-lifetime", 1, LONGEST, 7200)?;
     let renew = number_or(alloc, object, at, "renew-timer", 0, LONGEST, lifetime / 2)?;

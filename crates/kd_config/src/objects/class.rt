@@ -3,8 +3,9 @@ ghost use Rattle.serde_json.specs.View.{view};
 ghost use Rattle.kd_config.specs.Class.{class_of, has_class_keys, class_name_in, test_source_in, test_source};
 ghost use Rattle.kd_config.specs.Gives.{Means};
 ghost use Rattle.kd_config.specs.Steps.{must};
+ghost use Rattle.kd_config.specs.declared.objects.faults.SettingsFault.TheVariants.{Memory};
 
-use crate::fault::ConfigFault;
+use crate::objects::faults::SettingsFault;
 use crate::objects::lists::Entry;
 use crate::objects::options::options_of;
 use crate::objects::values::{check_keys, owned, text_or_none};
@@ -40,7 +41,7 @@ impl Entry for ClassEntry {
     ghost means = { class_of };
 
     #[tactic(auto, unfolding(crate::specs::Class::class_of))]
-    fn read(alloc: Global, value: &Value, at: &Place<'_>) -> Result<ClassEntry, ConfigFault> {
+    fn read(alloc: Global, value: &Value, at: &Place<'_>) -> Result<ClassEntry, SettingsFault> {
         check_class(alloc, value, at)?;
         let name = match value.get("name").and_then(name_in) {
             Some(name) => owned(alloc, name)?,
@@ -58,8 +59,8 @@ impl Entry for ClassEntry {
 
 // The value is an object with the keys of a class.
 #[tactic(auto, unfolding(crate::specs::Class::has_class_keys))]
-fn check_class(alloc: Global, value: &Value, at: &Place<'_>) -> Result<(), ConfigFault>
-    ensures { Means result (must (has_class_keys (view value.now))) }
+fn check_class(alloc: Global, value: &Value, at: &Place<'_>) -> Result<(), SettingsFault>
+    ensures { Means Memory result (must (has_class_keys (view value.now))) }
 {
     let known = ["name", "test", "tokens", "option-data"];
     check_keys(alloc, value, at, &known, &["name"])
@@ -80,8 +81,8 @@ fn name_in(value: &Value) -> Option<&[u8]>
 
 // The test that the keys `test` and `tokens` give.
 #[tactic(auto, unfolding(crate::specs::Class::test_source_in))]
-fn source_in(alloc: Global, value: &Value, at: &Place<'_>) -> Result<TestSource, ConfigFault>
-    ensures { Means result (test_source_in (view value.now)) }
+fn source_in(alloc: Global, value: &Value, at: &Place<'_>) -> Result<TestSource, SettingsFault>
+    ensures { Means Memory result (test_source_in (view value.now)) }
 {
     let text = text_or_none(alloc, value, at, "test")?;
     let file = text_or_none(alloc, value, at, "tokens")?;
@@ -94,8 +95,8 @@ fn source_of(
     at: &Place<'_>,
     text: Option<Bytes>,
     file: Option<Bytes>,
-) -> Result<TestSource, ConfigFault>
-    ensures { Means result (test_source text file) }
+) -> Result<TestSource, SettingsFault>
+    ensures { Means Memory result (test_source text file) }
 {
     match (text, file) {
         (None, None) => Ok(TestSource::Nothing),

@@ -5,10 +5,10 @@ ghost use Rattle.kd_classes.specs.Order.{AreInOrder};
 ghost use Rattle.kd_classes.specs.declared.definition.ClassDef.{ClassDef};
 ghost use Rattle.kd_config.specs.Alike.{AskAlike, AsksAlike};
 ghost use Rattle.kd_config.specs.Configured.{AreDefinitions, IsDefinition};
-ghost use Rattle.kd_config.specs.declared.fault.ConfigFault.TheVariants.{Memory};
+ghost use Rattle.kd_config.specs.declared.objects.faults.ClassesFault.TheVariants.{Memory};
 
-use crate::fault::ConfigFault;
 use crate::objects::class::ClassEntry;
+use crate::objects::faults::ClassesFault;
 use crate::objects::program::test_of;
 use crate::token_file::TokenFile;
 use kd_classes::{ClassDef, Classes};
@@ -19,7 +19,7 @@ pub(crate) fn classes_in(
     alloc: Global,
     entries: Vec<ClassEntry>,
     files: &[TokenFile],
-) -> Result<Classes, ConfigFault>
+) -> Result<Classes, ClassesFault>
     ensures found { IfOk result (λ classes. AreDefinitions files.now entries.items classes) }
     ensures ordered { IfOk result (λ classes. AreInOrder classes) }
     ensures accepted { IfOk result (λ classes. AllByRecursion IsAccepted classes) }
@@ -30,7 +30,7 @@ pub(crate) fn classes_in(
     let definitions = definitions_of(alloc, entries, files)?;
     match Classes::new(definitions) {
         Ok(classes) => Ok(classes),
-        Err(fault) => Err(ConfigFault::Class(fault)),
+        Err(fault) => Err(ClassesFault::Class(fault)),
     }
 }
 
@@ -39,7 +39,7 @@ fn definitions_of(
     alloc: Global,
     entries: Vec<ClassEntry>,
     files: &[TokenFile],
-) -> Result<Vec<ClassDef>, ConfigFault>
+) -> Result<Vec<ClassDef>, ClassesFault>
     ensures found { IfOk result (λ defs. AreDefinitions files.now entries.items defs.items) }
     ensures same { IfOk result
         (λ defs. (others : List ClassDef) → AreDefinitions files.now entries.items others
@@ -63,7 +63,7 @@ fn definition_of(
     number: usize,
     entry: ClassEntry,
     files: &[TokenFile],
-) -> Result<ClassDef, ConfigFault>
+) -> Result<ClassDef, ClassesFault>
     ensures found { IfOk result (λ def. IsDefinition files.now entry def) }
     ensures same { IfOk result
         (λ def. (other : ClassDef) → IsDefinition files.now entry other → AsksAlike other def) }

@@ -1,11 +1,15 @@
-ghost use Rattle.std.specs.Prelude.{◌≡◌};
+ghost use Rattle.std.specs.Prelude.{◌≡◌, ◌≢◌, IfErr};
 ghost use Rattle.serde_json.specs.View.{view};
 ghost use Rattle.kd_config.specs.Document.{accepted_settings, value_spelled, settings_spelled};
+ghost use Rattle.kd_config.specs.FirstFault.{SubnetsFail, Tells};
 ghost use Rattle.kd_config.specs.Gives.{Means, GivesAs};
 ghost use Rattle.kd_config.specs.Rules.{may_stand};
 ghost use Rattle.kd_config.specs.Steps.{must};
+ghost use Rattle.kd_config.specs.declared.fault.ConfigFault.TheVariants as faults;
+ghost use Rattle.kd_config.specs.declared.objects.faults.SettingsFault.TheVariants.{Memory};
 
 use crate::fault::ConfigFault;
+use crate::objects::faults::SettingsFault;
 use crate::objects::settings::{Settings, root_of};
 use crate::rules::place::Place;
 use crate::rules::subnets::check_rules;
@@ -15,7 +19,8 @@ use std::alloc::Global;
 // The settings that a text means, where its subnets may stand together.
 #[tactic(auto, unfolding(crate::specs::Document::accepted_settings))]
 pub(crate) fn settings_in(alloc: Global, text: &[u8]) -> Result<Settings, ConfigFault>
-    ensures { Means result (accepted_settings text.now) }
+    ensures meant { Means faults.Memory result (accepted_settings text.now) }
+    ensures first { IfErr result (λ fault. Tells text.now fault) }
 {
     let settings = written_settings(alloc, text)?;
     check_subnets(alloc, &settings)?;
@@ -24,7 +29,9 @@ pub(crate) fn settings_in(alloc: Global, text: &[u8]) -> Result<Settings, Config
 
 // The subnets may stand together.
 fn check_subnets(alloc: Global, settings: &Settings) -> Result<(), ConfigFault>
-    ensures { Means result (must (may_stand settings.now.subnets)) }
+    ensures checked { Means faults.Memory result (must (may_stand settings.now.subnets)) }
+    ensures first { IfErr result (λ fault. fault ≢ faults.Memory
+        → SubnetsFail may_stand settings.now.subnets fault) }
 {
     let root = Place::Root;
     let dhcp4 = Place::Key(&root, "Dhcp4");
@@ -34,8 +41,8 @@ fn check_subnets(alloc: Global, settings: &Settings) -> Result<(), ConfigFault>
 
 // The settings that a text means.
 #[tactic(auto, unfolding(crate::specs::Document::settings_spelled))]
-fn written_settings(alloc: Global, text: &[u8]) -> Result<Settings, ConfigFault>
-    ensures { Means result (settings_spelled text.now) }
+fn written_settings(alloc: Global, text: &[u8]) -> Result<Settings, SettingsFault>
+    ensures { Means Memory result (settings_spelled text.now) }
 {
     let value = value_of(alloc, text)?;
     root_of(alloc, &value)
@@ -43,12 +50,12 @@ fn written_settings(alloc: Global, text: &[u8]) -> Result<Settings, ConfigFault>
 
 // The value that a text spells.
 #[tactic(auto, using(crate::proofs::Documents::spelled, crate::proofs::Documents::not_spelled))]
-fn value_of(alloc: Global, text: &[u8]) -> Result<Value, ConfigFault>
-    ensures { GivesAs view result (value_spelled text.now) }
+fn value_of(alloc: Global, text: &[u8]) -> Result<Value, SettingsFault>
+    ensures { GivesAs Memory view result (value_spelled text.now) }
 {
     match Value::from_slice(alloc, text) {
         Ok(value) => Ok(value),
-        Err(error) if error.is_memory() => Err(ConfigFault::Memory),
-        Err(_) => Err(ConfigFault::Json),
+        Err(error) if error.is_memory() => Err(SettingsFault::Memory),
+        Err(_) => Err(SettingsFault::Json),
     }
 }

@@ -4,9 +4,10 @@ ghost use Rattle.serde_json.specs.Find.{get};
 ghost use Rattle.serde_json.specs.View.{items_view, view};
 ghost use Rattle.kd_config.specs.Gives.{Means, GivesAs};
 ghost use Rattle.kd_config.specs.Lists.{all_of, items_or_none, list_of};
+ghost use Rattle.kd_config.specs.declared.objects.faults.SettingsFault.TheVariants.{Memory};
 
 use crate::entries::Entries;
-use crate::fault::ConfigFault;
+use crate::objects::faults::SettingsFault;
 use crate::rules::place::{Place, bad_value};
 use serde_json::Value;
 use std::alloc::Global;
@@ -19,8 +20,8 @@ pub(crate) fn list_at<'a>(
     at: &Place<'_>,
     key: &'static str,
     most: usize,
-) -> Result<&'a [Value], ConfigFault>
-    ensures { GivesAs (λ values. items_view values.now) result
+) -> Result<&'a [Value], SettingsFault>
+    ensures { GivesAs Memory (λ values. items_view values.now) result
         (items_or_none most (get key.now (view object.now))) }
 {
     let Some(value) = object.get(key) else {
@@ -38,8 +39,8 @@ pub(crate) trait Entry: Drop + Sized {
     ghost means: { Data → Option Self };
 
     // The entry that a value means.
-    fn read(alloc: Global, value: &Value, at: &Place<'_>) -> Result<Self, ConfigFault>
-        ensures { Means result (means (view value.now)) };
+    fn read(alloc: Global, value: &Value, at: &Place<'_>) -> Result<Self, SettingsFault>
+        ensures { Means Memory result (means (view value.now)) };
 }
 
 // The entries of a list of at most so many at a key.
@@ -50,8 +51,8 @@ pub(crate) fn entries_of<T: Entry>(
     at: &Place<'_>,
     key: &'static str,
     most: usize,
-) -> Result<Entries<T>, ConfigFault>
-    ensures { Means result (list_of most T.means (get key.now (view object.now))) }
+) -> Result<Entries<T>, SettingsFault>
+    ensures { Means Memory result (list_of most T.means (get key.now (view object.now))) }
 {
     let values = list_at(alloc, object, at, key, most)?;
     entries_in(alloc, values, &Place::Key(&*at, key))
@@ -62,8 +63,8 @@ fn entries_in<T: Entry>(
     alloc: Global,
     values: &[Value],
     at: &Place<'_>,
-) -> Result<Entries<T>, ConfigFault>
-    ensures { Means result (all_of T.means (items_view values.now)) }
+) -> Result<Entries<T>, SettingsFault>
+    ensures { Means Memory result (all_of T.means (items_view values.now)) }
 {
     let mut list = Vec::new(alloc);
     for i in 0..values.len() {

@@ -4,6 +4,7 @@
 mod class;
 pub(crate) mod definitions;
 pub(crate) mod document;
+pub(crate) mod faults;
 pub(crate) mod lists;
 pub(crate) mod options;
 mod program;

@@ -4,8 +4,9 @@ ghost use Rattle.serde_json.specs.View.{items_view, view};
 ghost use Rattle.kd_config.specs.Gives.{Means};
 ghost use Rattle.kd_config.specs.Options.{code_given, code_among, has_option_keys, option_after, options_behind, option_list_in};
 ghost use Rattle.kd_config.specs.Steps.{must};
+ghost use Rattle.kd_config.specs.declared.objects.faults.SettingsFault.TheVariants.{Memory};
 
-use crate::fault::ConfigFault;
+use crate::objects::faults::SettingsFault;
 use crate::objects::lists::list_at;
 use crate::objects::values::{bytes_at, check_keys, number_in};
 use crate::rules::place::{Place, bad_value};
@@ -22,16 +23,16 @@ pub(crate) fn options_of(
     alloc: Global,
     object: &Value,
     at: &Place<'_>,
-) -> Result<OptionList, ConfigFault>
-    ensures { Means result (option_list_in (get (codes "option-data") (view object.now))) }
+) -> Result<OptionList, SettingsFault>
+    ensures { Means Memory result (option_list_in (get (codes "option-data") (view object.now))) }
 {
     let values = list_at(alloc, object, at, "option-data", 64)?;
     options_in(alloc, values, &Place::Key(&*at, "option-data"))
 }
 
 // The options that values mean, each code once.
-fn options_in(alloc: Global, values: &[Value], at: &Place<'_>) -> Result<OptionList, ConfigFault>
-    ensures { Means result (options_behind [] (items_view values.now)) }
+fn options_in(alloc: Global, values: &[Value], at: &Place<'_>) -> Result<OptionList, SettingsFault>
+    ensures { Means Memory result (options_behind [] (items_view values.now)) }
 {
     let mut list = Vec::new(alloc);
     for i in 0..values.len() {
@@ -48,8 +49,8 @@ fn option_behind(
     value: &Value,
     at: &Place<'_>,
     earlier: &[OptionData],
-) -> Result<OptionData, ConfigFault>
-    ensures { Means result (option_after earlier.now (view value.now)) }
+) -> Result<OptionData, SettingsFault>
+    ensures { Means Memory result (option_after earlier.now (view value.now)) }
 {
     check_option(alloc, value, at)?;
     let Some(code) = value.get("code").and_then(code_in) else {
@@ -73,8 +74,8 @@ fn option_behind(
 
 // The value is an object with the keys of option data.
 #[tactic(auto, unfolding(crate::specs::Options::has_option_keys))]
-fn check_option(alloc: Global, value: &Value, at: &Place<'_>) -> Result<(), ConfigFault>
-    ensures { Means result (must (has_option_keys (view value.now))) }
+fn check_option(alloc: Global, value: &Value, at: &Place<'_>) -> Result<(), SettingsFault>
+    ensures { Means Memory result (must (has_option_keys (view value.now))) }
 {
     let keys = ["code", "data", "csv-format"];
     check_keys(alloc, value, at, &keys, &keys)

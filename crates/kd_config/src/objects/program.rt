@@ -3,7 +3,7 @@ ghost use Rattle.kd_classes.specs.HeldSet.{IsAcceptedTest};
 ghost use Rattle.kd_classes.specs.Order.{names_of};
 ghost use Rattle.kd_compile.specs.declared.fault.CompileFault.TheVariants as compiling;
 ghost use Rattle.kd_config.specs.Configured.{IsFileTest, IsProgramOf, IsTest, IsTextTest};
-ghost use Rattle.kd_config.specs.declared.fault.ConfigFault.TheVariants.{Memory};
+ghost use Rattle.kd_config.specs.declared.objects.faults.ClassesFault.TheVariants.{Memory};
 ghost use Rattle.kd_expr.specs.Typing.{test_type};
 ghost use Rattle.kd_expr.specs.View.{tree_of};
 ghost use Rattle.kd_expr.specs.declared.fault.ExprFault.TheVariants as reading;
@@ -12,8 +12,9 @@ ghost use Rattle.kd_token.specs.File.{Code, HasFile, IsFileOf};
 ghost use Rattle.kd_token.specs.declared.fault.FileFault.TheVariants as file_faults;
 ghost use Rattle.kd_token.specs.declared.fault.VerifyFault.TheVariants as verifying;
 
-use crate::fault::{ConfigFault, FileTestFault, TestFault};
+use crate::fault::{FileTestFault, TestFault};
 use crate::objects::class::TestSource;
+use crate::objects::faults::ClassesFault;
 use crate::token_file::{TokenFile, file_named};
 use kd_compile::{CompileFault, compile};
 use kd_expr::{Expr, ExprFault, Typed};
@@ -26,7 +27,7 @@ pub(crate) fn test_of(
     number: usize,
     source: &TestSource,
     files: &[TokenFile],
-) -> Result<Option<Verified>, ConfigFault>
+) -> Result<Option<Verified>, ClassesFault>
     ensures found { IfOk result (λ test. IsTest files.now source.now test) }
     ensures same { IfOk result
         (λ test. (other : Option Code) → IsTest files.now source.now other
@@ -45,7 +46,7 @@ pub(crate) fn test_of(
 }
 
 // The program of a class test's text.
-fn program_of(alloc: Global, number: usize, text: &[u8]) -> Result<Verified, ConfigFault>
+fn program_of(alloc: Global, number: usize, text: &[u8]) -> Result<Verified, ClassesFault>
     ensures found { IfOk result (λ program. IsTextTest text.now program) }
     ensures limits { IfOk result (λ program. HasFile program) }
     ensures same { IfOk result
@@ -60,17 +61,17 @@ fn program_of(alloc: Global, number: usize, text: &[u8]) -> Result<Verified, Con
 }
 
 // The fault of a text that is not read.
-fn unread(number: usize, fault: ExprFault) -> ConfigFault
+fn unread(number: usize, fault: ExprFault) -> ClassesFault
     ensures { result ≢ Memory → fault ≢ reading.Memory }
 {
     match fault {
-        ExprFault::Memory => ConfigFault::Memory,
-        _ => ConfigFault::Expression(number, TestFault::Reading(fault)),
+        ExprFault::Memory => ClassesFault::Memory,
+        _ => ClassesFault::Expression(number, TestFault::Reading(fault)),
     }
 }
 
 // The program of an expression.
-fn program_of_expr(alloc: Global, number: usize, expr: Expr) -> Result<Verified, ConfigFault>
+fn program_of_expr(alloc: Global, number: usize, expr: Expr) -> Result<Verified, ClassesFault>
     ensures found { IfOk result (λ program. IsProgramOf (tree_of expr) program) }
     ensures limits { IfOk result (λ program. HasFile program) }
     ensures refused { IfErr result
@@ -78,12 +79,12 @@ fn program_of_expr(alloc: Global, number: usize, expr: Expr) -> Result<Verified,
 {
     match kd_expr::type_of(expr) {
         Ok(test) => program_of_test(alloc, number, &test),
-        Err((fault, _)) => Err(ConfigFault::Expression(number, TestFault::Typing(fault))),
+        Err((fault, _)) => Err(ClassesFault::Expression(number, TestFault::Typing(fault))),
     }
 }
 
 // The program of a class test.
-fn program_of_test(alloc: Global, number: usize, test: &Typed) -> Result<Verified, ConfigFault>
+fn program_of_test(alloc: Global, number: usize, test: &Typed) -> Result<Verified, ClassesFault>
     requires { test_type (tree_of test.now) ≡ Ok tt }
     ensures found { IfOk result (λ program. IsProgramOf (tree_of test.now) program) }
     ensures limits { IfOk result (λ program. HasFile program) }
@@ -101,12 +102,12 @@ fn program_of_test(alloc: Global, number: usize, test: &Typed) -> Result<Verifie
 }
 
 // The fault of a class test that is not compiled.
-fn uncompiled(number: usize, fault: CompileFault) -> ConfigFault
+fn uncompiled(number: usize, fault: CompileFault) -> ClassesFault
     ensures { result ≢ Memory → fault ≢ compiling.Memory }
 {
     match fault {
-        CompileFault::Memory => ConfigFault::Memory,
-        _ => ConfigFault::Expression(number, TestFault::Compiling(fault)),
+        CompileFault::Memory => ClassesFault::Memory,
+        _ => ClassesFault::Expression(number, TestFault::Compiling(fault)),
     }
 }
 
@@ -116,7 +117,7 @@ fn program_named(
     number: usize,
     name: &[u8],
     files: &[TokenFile],
-) -> Result<Verified, ConfigFault>
+) -> Result<Verified, ClassesFault>
     ensures found { IfOk result (λ program. IsFileTest files.now name.now program) }
     ensures same { IfOk result
         (λ program. (other : Code) → IsFileTest files.now name.now other → other ≡ program) }
@@ -125,12 +126,12 @@ fn program_named(
 {
     match file_named(name, files) {
         Some(bytes) => program_in(alloc, number, bytes),
-        None => Err(ConfigFault::Tokens(number, FileTestFault::Absent)),
+        None => Err(ClassesFault::Tokens(number, FileTestFault::Absent)),
     }
 }
 
 // The program of a token file's bytes, where it is accepted.
-fn program_in(alloc: Global, number: usize, bytes: &[u8]) -> Result<Verified, ConfigFault>
+fn program_in(alloc: Global, number: usize, bytes: &[u8]) -> Result<Verified, ClassesFault>
     ensures found { IfOk result (λ program. IsFileOf bytes.now program × Accepts program) }
     ensures same { IfOk result
         (λ program. (other : Code) → IsFileOf bytes.now other → other ≡ program) }
@@ -145,17 +146,17 @@ fn program_in(alloc: Global, number: usize, bytes: &[u8]) -> Result<Verified, Co
 }
 
 // The fault of bytes that are no token file.
-fn no_file(number: usize, fault: FileFault) -> ConfigFault
+fn no_file(number: usize, fault: FileFault) -> ClassesFault
     ensures { result ≢ Memory → fault ≢ file_faults.Memory }
 {
     match fault {
-        FileFault::Memory => ConfigFault::Memory,
-        _ => ConfigFault::Tokens(number, FileTestFault::File(fault)),
+        FileFault::Memory => ClassesFault::Memory,
+        _ => ClassesFault::Tokens(number, FileTestFault::File(fault)),
     }
 }
 
 // A program that is accepted.
-fn verified(alloc: Global, number: usize, program: Program) -> Result<Verified, ConfigFault>
+fn verified(alloc: Global, number: usize, program: Program) -> Result<Verified, ClassesFault>
     ensures found { IfOk result (λ verified. verified ≡ program) }
     ensures accepted { IfOk result (λ _. Accepts program) }
     ensures refused { IfErr result (λ fault. fault ≢ Memory → Accepts program → ⊥) }
@@ -171,11 +172,11 @@ fn verified(alloc: Global, number: usize, program: Program) -> Result<Verified, 
 }
 
 // The fault of a program that is not accepted.
-fn unaccepted(number: usize, fault: VerifyFault) -> ConfigFault
+fn unaccepted(number: usize, fault: VerifyFault) -> ClassesFault
     ensures { result ≢ Memory → fault ≢ verifying.Memory }
 {
     match fault {
-        VerifyFault::Memory => ConfigFault::Memory,
-        _ => ConfigFault::Tokens(number, FileTestFault::Verify(fault)),
+        VerifyFault::Memory => ClassesFault::Memory,
+        _ => ClassesFault::Tokens(number, FileTestFault::Verify(fault)),
     }
 }

@@ -3,10 +3,11 @@ ghost use Rattle.serde_json.specs.View.{view};
 ghost use Rattle.kd_config.specs.Gives.{Means};
 ghost use Rattle.kd_config.specs.Settings.{has_dhcp4_keys, has_root_keys, whole_settings, server_given, dhcp4_settings};
 ghost use Rattle.kd_config.specs.Steps.{must};
+ghost use Rattle.kd_config.specs.declared.objects.faults.SettingsFault.TheVariants.{Memory};
 
 use crate::entries::Entries;
-use crate::fault::ConfigFault;
 use crate::objects::class::ClassEntry;
+use crate::objects::faults::SettingsFault;
 use crate::objects::lists::entries_of;
 use crate::objects::options::options_of;
 use crate::objects::values::{address_in, check_keys};
@@ -34,8 +35,8 @@ pub(crate) struct Settings {
 
 // The settings that a whole text's value means.
 #[tactic(auto, unfolding(crate::specs::Settings::whole_settings))]
-pub(crate) fn root_of(alloc: Global, value: &Value) -> Result<Settings, ConfigFault>
-    ensures { Means result (whole_settings (view value.now)) }
+pub(crate) fn root_of(alloc: Global, value: &Value) -> Result<Settings, SettingsFault>
+    ensures { Means Memory result (whole_settings (view value.now)) }
 {
     let root = Place::Root;
     check_root(alloc, value, &root)?;
@@ -47,8 +48,8 @@ pub(crate) fn root_of(alloc: Global, value: &Value) -> Result<Settings, ConfigFa
 
 // The settings that the value of `Dhcp4` means.
 #[tactic(auto, unfolding(crate::specs::Settings::dhcp4_settings))]
-fn settings_of(alloc: Global, value: &Value, at: &Place<'_>) -> Result<Settings, ConfigFault>
-    ensures { Means result (dhcp4_settings (view value.now)) }
+fn settings_of(alloc: Global, value: &Value, at: &Place<'_>) -> Result<Settings, SettingsFault>
+    ensures { Means Memory result (dhcp4_settings (view value.now)) }
 {
     check_dhcp4(alloc, value, at)?;
     let Some(server) = value.get("server-address").and_then(server_in) else {
@@ -69,16 +70,16 @@ fn settings_of(alloc: Global, value: &Value, at: &Place<'_>) -> Result<Settings,
 
 // The value is an object with `Dhcp4` and no other key.
 #[tactic(auto, unfolding(crate::specs::Settings::has_root_keys))]
-fn check_root(alloc: Global, value: &Value, at: &Place<'_>) -> Result<(), ConfigFault>
-    ensures { Means result (must (has_root_keys (view value.now))) }
+fn check_root(alloc: Global, value: &Value, at: &Place<'_>) -> Result<(), SettingsFault>
+    ensures { Means Memory result (must (has_root_keys (view value.now))) }
 {
     check_keys(alloc, value, at, &["Dhcp4"], &["Dhcp4"])
 }
 
 // The value is an object with the keys of `Dhcp4`.
 #[tactic(auto, unfolding(crate::specs::Settings::has_dhcp4_keys))]
-fn check_dhcp4(alloc: Global, value: &Value, at: &Place<'_>) -> Result<(), ConfigFault>
-    ensures { Means result (must (has_dhcp4_keys (view value.now))) }
+fn check_dhcp4(alloc: Global, value: &Value, at: &Place<'_>) -> Result<(), SettingsFault>
+    ensures { Means Memory result (must (has_dhcp4_keys (view value.now))) }
 {
     let known = [
         "server-address",

@@ -6,8 +6,9 @@ ghost use Rattle.kd_config.specs.Gives.{Means};
 ghost use Rattle.kd_config.specs.Steps.{must};
 ghost use Rattle.kd_config.specs.Parts.{is_one_of, is_there};
 ghost use Rattle.kd_config.specs.Values.{address_given, hex_bytes_in, bytes_if_given, has_keys, number_within, number_if_given, text_if_given};
+ghost use Rattle.kd_config.specs.declared.objects.faults.SettingsFault.TheVariants.{Memory};
 
-use crate::fault::ConfigFault;
+use crate::objects::faults::SettingsFault;
 use crate::rules::place::{Place, bad_place, bad_value, missing, unknown};
 use crate::text::address::address_of;
 use crate::text::hex_text::bytes_of;
@@ -23,8 +24,8 @@ pub(crate) fn check_keys(
     at: &Place<'_>,
     known: &[&str],
     required: &[&str],
-) -> Result<(), ConfigFault>
-    ensures { Means result
+) -> Result<(), SettingsFault>
+    ensures { Means Memory result
         (must (has_keys (map (λ k. k.now) known.now) (map (λ k. k.now) required.now)
         (view value.now))) }
 {
@@ -98,8 +99,8 @@ pub(crate) fn bytes_at(
     at: &Place<'_>,
     least: usize,
     most: usize,
-) -> Result<Bytes, ConfigFault>
-    ensures { Means result (hex_bytes_in least most (view value.now)) }
+) -> Result<Bytes, SettingsFault>
+    ensures { Means Memory result (hex_bytes_in least most (view value.now)) }
 {
     let Some(text) = value.as_str() else {
         return Err(bad_place(alloc, at));
@@ -122,8 +123,8 @@ pub(crate) fn bytes_or_none(
     at: &Place<'_>,
     key: &'static str,
     most: usize,
-) -> Result<Option<Bytes>, ConfigFault>
-    ensures { Means result (bytes_if_given 1 most (get key.now (view object.now))) }
+) -> Result<Option<Bytes>, SettingsFault>
+    ensures { Means Memory result (bytes_if_given 1 most (get key.now (view object.now))) }
 {
     match object.get(key) {
         Some(value) => Ok(Some(bytes_at(alloc, value, &Place::Key(&*at, key), 1, most)?)),
@@ -137,8 +138,8 @@ pub(crate) fn text_or_none(
     object: &Value,
     at: &Place<'_>,
     key: &'static str,
-) -> Result<Option<Bytes>, ConfigFault>
-    ensures { Means result (text_if_given (get key.now (view object.now))) }
+) -> Result<Option<Bytes>, SettingsFault>
+    ensures { Means Memory result (text_if_given (get key.now (view object.now))) }
 {
     let Some(value) = object.get(key) else {
         return Ok(None);
@@ -165,8 +166,8 @@ pub(crate) fn number_or(
     least: u32,
     most: u32,
     default: u32,
-) -> Result<u32, ConfigFault>
-    ensures { Means result (number_if_given least most default (get key.now (view object.now))) }
+) -> Result<u32, SettingsFault>
+    ensures { Means Memory result (number_if_given least most default (get key.now (view object.now))) }
 {
     match object.get(key) {
         Some(value) => match number_in(value, least, most) {

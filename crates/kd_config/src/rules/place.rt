@@ -3,6 +3,7 @@ ghost use Rattle.kd_config.specs.Faults.{config_fault_number};
 ghost use Rattle.kd_config.specs.declared.fault.ConfigFault.TheVariants.{Memory};
 
 use crate::fault::ConfigFault;
+use crate::objects::faults::SettingsFault;
 use std::alloc::{AllocError, Global};
 
 // Where a value stands in a configuration.
@@ -14,34 +15,34 @@ pub(crate) enum Place<'a> {
 }
 
 // The fault of a key that is missing in the object at a place.
-pub(crate) fn missing(alloc: Global, at: &Place<'_>, key: &str) -> ConfigFault {
+pub(crate) fn missing(alloc: Global, at: &Place<'_>, key: &str) -> SettingsFault {
     match path_of_key(alloc, at, key) {
-        Ok(path) => ConfigFault::Missing(path),
-        Err(_) => ConfigFault::Memory,
+        Ok(path) => SettingsFault::Missing(path),
+        Err(_) => SettingsFault::Memory,
     }
 }
 
 // The fault of a key that is not known in the object at a place.
-pub(crate) fn unknown(alloc: Global, at: &Place<'_>, key: &str) -> ConfigFault {
+pub(crate) fn unknown(alloc: Global, at: &Place<'_>, key: &str) -> SettingsFault {
     match path_of_unknown(alloc, at, key) {
-        Ok(path) => ConfigFault::Unknown(path),
-        Err(_) => ConfigFault::Memory,
+        Ok(path) => SettingsFault::Unknown(path),
+        Err(_) => SettingsFault::Memory,
     }
 }
 
 // The fault of a bad value at a key of the object at a place.
-pub(crate) fn bad_value(alloc: Global, at: &Place<'_>, key: &str) -> ConfigFault {
+pub(crate) fn bad_value(alloc: Global, at: &Place<'_>, key: &str) -> SettingsFault {
     match path_of_key(alloc, at, key) {
-        Ok(path) => ConfigFault::BadValue(path),
-        Err(_) => ConfigFault::Memory,
+        Ok(path) => SettingsFault::BadValue(path),
+        Err(_) => SettingsFault::Memory,
     }
 }
 
 // The fault of a bad value at a place.
-pub(crate) fn bad_place(alloc: Global, at: &Place<'_>) -> ConfigFault {
+pub(crate) fn bad_place(alloc: Global, at: &Place<'_>) -> SettingsFault {
     match path_of(alloc, at) {
-        Ok(path) => ConfigFault::BadValue(path),
-        Err(_) => ConfigFault::Memory,
+        Ok(path) => SettingsFault::BadValue(path),
+        Err(_) => SettingsFault::Memory,
     }
 }
 

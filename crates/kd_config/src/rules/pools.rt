@@ -1,8 +1,9 @@
 ghost use Rattle.std.specs.Prelude.{◌≡◌, ◌≢◌, ◌<◌, ◌+◌, ◌++◌, ◌&&◌, IfErr, IfOk, OnOk, false, if◌then◌else◌, length, nat_le, take, true};
-ghost use Rattle.std.specs.List.{list_all, prefix_len};
 ghost use Rattle.kd_config.specs.Apart.{lie_apart};
 ghost use Rattle.kd_config.specs.Faults.{config_fault_number};
+ghost use Rattle.kd_config.specs.FirstFault.{PoolFails};
 ghost use Rattle.kd_config.specs.Gives.{Means};
+ghost use Rattle.kd_config.specs.Parts.{lie_and_fit};
 ghost use Rattle.kd_config.specs.Rules.{pool_ranges, lies_within, ranges_in};
 ghost use Rattle.kd_config.specs.Steps.{must};
 ghost use Rattle.kd_config.specs.declared.fault.ConfigFault.TheVariants.{Memory};
@@ -70,10 +71,9 @@ pub(crate) fn check_pools(
     apart: usize,
     at: &Place<'_>,
 ) -> Result<(), ConfigFault>
-    ensures checked { Means result
-        (must (nat_le (length pools.now) apart && list_all (lies_within prefix) pools.now)) }
-    ensures kind { IfErr result (λ fault. fault ≢ Memory → config_fault_number fault
-        ≡ (if nat_le (prefix_len (lies_within prefix) pools.now) apart then 74 else 75)) }
+    ensures checked { Means Memory result (must (lie_and_fit prefix apart pools.now)) }
+    ensures first { IfErr result (λ fault. fault ≢ Memory
+        → PoolFails (lie_and_fit prefix apart) prefix pools.now fault) }
 {
     for (i, pool) in pools.iter().enumerate() {
         check_pool(alloc, prefix, pool, i < apart, &Place::Item(&*at, i))?;
@@ -89,7 +89,7 @@ fn check_pool(
     is_apart: bool,
     at: &Place<'_>,
 ) -> Result<(), ConfigFault>
-    ensures checked { Means result (must (lies_within prefix pool.now && is_apart)) }
+    ensures checked { Means Memory result (must (lies_within prefix pool.now && is_apart)) }
     ensures kind { IfErr result (λ fault. fault ≢ Memory
         → config_fault_number fault ≡ (if lies_within prefix pool.now then 75 else 74)) }
 {

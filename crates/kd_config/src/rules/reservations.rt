@@ -2,8 +2,9 @@ ghost use Rattle.std.specs.Prelude.{◌≡◌, ◌≢◌, ◌++◌, ◌∷◌, �
 ghost use Rattle.indexmap.specs.IndexSet.{keys};
 ghost use Rattle.kd_config.specs.Address.{has_address};
 ghost use Rattle.kd_config.specs.Faults.{config_fault_number};
+ghost use Rattle.kd_config.specs.FirstFault.{ReservationFails};
 ghost use Rattle.kd_config.specs.Gives.{Means};
-ghost use Rattle.kd_config.specs.Parts.{before_outside, client_by};
+ghost use Rattle.kd_config.specs.Parts.{client_by};
 ghost use Rattle.kd_config.specs.Rules.{is_new, may_all_reserve, may_reserve, reserved};
 ghost use Rattle.kd_config.specs.Steps.{must};
 ghost use Rattle.kd_config.specs.declared.fault.ConfigFault.TheVariants.{Memory};
@@ -25,11 +26,11 @@ pub(crate) fn check_reservations(
 ) -> Result<(), ConfigFault>
     ensures joined { IfOk result
         (λ _. keys earlier.new ≡ keys earlier.old ++ reserved reservations.now) }
-    ensures checked { Means result
+    ensures checked { Means Memory result
         (must (may_all_reserve prefix (keys earlier.old) [] reservations.now)) }
-    ensures kind { IfErr result (λ fault. fault ≢ Memory → config_fault_number fault
-        ≡ (if may_all_reserve prefix (keys earlier.old) [] (before_outside prefix reservations.now)
-        then 74 else 76)) }
+    ensures first { IfErr result (λ fault. fault ≢ Memory
+        → ReservationFails (may_all_reserve prefix (keys earlier.old) []) prefix reservations.now
+        fault) }
 {
     let mut clients = IndexSet::new(alloc);
     for i in 0..reservations.len() {
@@ -61,7 +62,7 @@ fn check_reservation<'a>(
     ensures known { IfOk result
         (λ _. map client_by (keys clients.new) ≡ map client_by (keys clients.old)
         ++ reservation.now.identity ∷ []) }
-    ensures checked { Means result
+    ensures checked { Means Memory result
         (must (may_reserve prefix (keys earlier.old) reservation.now
         && is_new (map client_by (keys clients.old)) reservation.now.identity)) }
     ensures kind { IfErr result (λ fault. fault ≢ Memory → config_fault_number fault
@@ -81,7 +82,7 @@ fn check_address(
 ) -> Result<(), ConfigFault>
     ensures joined { IfOk result
         (λ _. keys earlier.new ≡ keys earlier.old ++ reservation.now.address ∷ []) }
-    ensures checked { Means result (must (may_reserve prefix (keys earlier.old) reservation.now)) }
+    ensures checked { Means Memory result (must (may_reserve prefix (keys earlier.old) reservation.now)) }
     ensures kind { IfErr result (λ fault. fault ≢ Memory → config_fault_number fault
         ≡ (if has_address prefix reservation.now.address then 76 else 74)) }
 {
@@ -105,7 +106,7 @@ fn check_client<'a>(
     ensures joined { IfOk result
         (λ _. map client_by (keys earlier.new) ≡ map client_by (keys earlier.old) ++ identity.now
         ∷ []) }
-    ensures checked { Means result (must (is_new (map client_by (keys earlier.old)) identity.now)) }
+    ensures checked { Means Memory result (must (is_new (map client_by (keys earlier.old)) identity.now)) }
     ensures kind { IfErr result (λ fault. fault ≢ Memory → config_fault_number fault ≡ 76) }
 {
     if earlier.insert(key_of(identity))? {

@@ -1,9 +1,11 @@
-ghost use Rattle.std.specs.Prelude.{◌≡◌, ◌-◌, ◌++◌, ◌&&◌, [], IfOk, length, nat_le};
+ghost use Rattle.std.specs.Prelude.{◌≡◌, ◌≢◌, ◌-◌, ◌++◌, [], IfErr, IfOk, length};
 ghost use Rattle.indexmap.specs.IndexSet.{keys};
+ghost use Rattle.kd_config.specs.FirstFault.{SubnetFails, SubnetsFail};
 ghost use Rattle.kd_config.specs.Gives.{Means, GivesAs};
-ghost use Rattle.kd_config.specs.Parts.{obey_within};
-ghost use Rattle.kd_config.specs.Rules.{may_stand, obeys, reserved};
+ghost use Rattle.kd_config.specs.Parts.{obey_within, obeys_within};
+ghost use Rattle.kd_config.specs.Rules.{may_stand, reserved};
 ghost use Rattle.kd_config.specs.Steps.{must};
+ghost use Rattle.kd_config.specs.declared.fault.ConfigFault.TheVariants.{Memory};
 
 use crate::fault::ConfigFault;
 use crate::rules::place::Place;
@@ -20,7 +22,9 @@ pub(crate) fn check_rules(
     subnets: &[Subnet],
     at: &Place<'_>,
 ) -> Result<(), ConfigFault>
-    ensures { Means result (must (may_stand subnets.now)) }
+    ensures checked { Means Memory result (must (may_stand subnets.now)) }
+    ensures first { IfErr result (λ fault. fault ≢ Memory
+        → SubnetsFail may_stand subnets.now fault) }
 {
     let ranges = all_ranges(alloc, subnets)?;
     let apart = first_overlap(alloc, &ranges)?;
@@ -34,7 +38,9 @@ fn check_each(
     apart: usize,
     at: &Place<'_>,
 ) -> Result<(), ConfigFault>
-    ensures { Means result (must (obey_within apart [] subnets.now)) }
+    ensures checked { Means Memory result (must (obey_within apart [] subnets.now)) }
+    ensures first { IfErr result (λ fault. fault ≢ Memory
+        → SubnetsFail (obey_within apart []) subnets.now fault) }
 {
     let mut left = apart;
     let mut earlier = IndexSet::new(alloc);
@@ -58,8 +64,10 @@ fn check_subnet(
     ensures left { IfOk result (λ left. left ≡ apart - length subnet.now.pools) }
     ensures joined { IfOk result
         (λ _. keys earlier.new ≡ keys earlier.old ++ reserved subnet.now.reservations) }
-    ensures checked { GivesAs (λ _. tt) result
-        (must (nat_le (length subnet.now.pools) apart && obeys (keys earlier.old) subnet.now)) }
+    ensures checked { GivesAs Memory (λ _. tt) result
+        (must (obeys_within apart (keys earlier.old) subnet.now)) }
+    ensures first { IfErr result (λ fault. fault ≢ Memory
+        → SubnetFails (obeys_within apart (keys earlier.old)) subnet.now fault) }
 {
     let pools = subnet.pools.as_slice();
     check_pools(

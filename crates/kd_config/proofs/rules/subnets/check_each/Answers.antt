@@ -1,11 +1,7 @@
-use Rattle.std.proofs.Common.{Bool, true, ◌&&◌, ap, ◌∙◌, arith}
-use Rattle.std.proofs.lemmas.Bool.{le-leb}
-use Rattle.std.proofs.lemmas.List.{at_drop_all}
+use Rattle.std.proofs.Common.{arith}
 use Rattle.std.proofs.lemmas.Result.{err_from_is_err_and}
 use Rattle.indexmap.specs.IndexSet.{keys}
-use Rattle.kd_config.specs.Parts.{obey_within}
-use Rattle.kd_config.specs.Steps.{must}
-use Rattle.kd_config.proofs.Shared.{subnet_failed, subnet_passed}
+use Rattle.kd_config.proofs.FirstSubnets.{all_obeyed, not_all_obey, subnet_failed, subnet_passed}
 use Rattle.kd_config.proofs.rules.subnets.check_each.Goals as goal
 
 pub loop-i-preserved : goal.loop-i-preserved
@@ -14,23 +10,28 @@ loop-i-preserved c =
     let this = c.index-subnets-i in
     let made = c.in_ok-left in
     rw (made.ensures.left, made.ensures.joined)
-    (at.invariant
-    ∙ subnet_passed at.left at.i (keys at.earlier) c.args.subnets.now this.result (omega arith)
-    this.is made.ensures.checked)
+    (subnet_passed c.args.apart at.left at.i (keys at.earlier) c.args.subnets.now this.result
+    (omega arith) this.is at.invariant made.ensures.checked)
 
-pub returns-in_err-left : goal.returns-in_err-left
-returns-in_err-left c =
+pub returns-in_err-left-clause-checked : goal.returns-in_err-left-clause-checked
+returns-in_err-left-clause-checked c =
     let at = c.loop-i in
     let this = c.index-subnets-i in
     let p = err_from_is_err_and c.from_residual.result c.from_residual.ensures.1 in
     rw (p.1, p.2)
-    (λ other. ap must (at.invariant
-    ∙ subnet_failed at.left at.i (keys at.earlier) c.args.subnets.now this.result (omega arith)
-    this.is (c.in_err-left.ensures.checked other)))
+    (λ other. not_all_obey c.args.apart at.left at.i (keys at.earlier) c.args.subnets.now this.result
+    (omega arith) this.is at.invariant (c.in_err-left.ensures.checked other))
 
-pub returns : goal.returns
-returns c =
+pub returns-in_err-left-clause-first : goal.returns-in_err-left-clause-first
+returns-in_err-left-clause-first c =
     let at = c.loop-i in
-    ap must (at.invariant
-    ∙ (at_drop_all (obey_within at.left (keys at.earlier)) c.args.subnets.now at.i (omega arith)
-    ∙ ap (λ (b : Bool). b && true) (le-leb 0 at.left (omega arith))))
+    let this = c.index-subnets-i in
+    let p = err_from_is_err_and c.from_residual.result c.from_residual.ensures.1 in
+    rw (p.1, p.2)
+    (λ other. subnet_failed c.args.apart at.left at.i (keys at.earlier) c.args.subnets.now
+    this.result _ (omega arith) this.is at.invariant (c.in_err-left.ensures.first other))
+
+pub returns-clause-checked : goal.returns-clause-checked
+returns-clause-checked c =
+    all_obeyed c.args.apart c.loop-i.left c.loop-i.i (keys c.loop-i.earlier) c.args.subnets.now
+    (omega arith) c.loop-i.invariant

@@ -1,8 +1,7 @@
-use Rattle.std.proofs.Common.{◌≡◌, [], drop}
+use Rattle.std.proofs.Common.{take}
 use Rattle.indexmap.specs.IndexSet.{keys}
-use Rattle.kd_config.specs.Parts.{obey_within}
+use Rattle.kd_config.proofs.FirstSubnets.{AllDecide}
 use Rattle.kd_config.proofs.rules.subnets.check_each.Given as goal
 
 abbrev pub invariant-loop-i : goal.invariant-loop-i
-invariant-loop-i l =
-    obey_within l.apart [] l.subnets ≡ obey_within l.left (keys l.earlier) (drop l.i l.subnets)
+invariant-loop-i l = AllDecide l.apart (take l.i l.subnets) l.left (keys l.earlier)
