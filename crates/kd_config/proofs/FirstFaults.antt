@@ -1,17 +1,18 @@
 -- Where the first value stands that breaks a rule, and of which kind its fault is.
-use Rattle.std.proofs.Common.{◌≡◌, ℕ, ◌+◌, ◌<◌, ◌≤◌, Bool, true, false, not, ◌&&◌, nat_le, nat_lt, nat_eq, if◌then◌else◌, List, [], ◌∷◌, ◌++◌, length, get_or, take, drop, Some, None, ap, sym, refl, ◌∙◌, arith, append-nil, append_assoc}
+use Rattle.std.proofs.Common.{◌≡◌, ℕ, ◌+◌, ◌<◌, ◌≤◌, Bool, true, false, not, ◌&&◌, nat_le, nat_lt, nat_eq, if◌then◌else◌, List, [], ◌∷◌, ◌++◌, length, get_or, take, drop, codes, Some, None, ap, sym, refl, ◌∙◌, arith, append-nil, append_assoc}
 use Rattle.std.proofs.lemmas.Bool.{and_from, and_left, and_right, le-leb, leb-true, lt-leb, ltb-false, ltb-true}
 use Rattle.std.proofs.lemmas.List.{length-take, take-append-drop, take_all, take_more}
 use Rattle.std.proofs.lemmas.List.Folds.{list_all-append, list_all_more}
 use Rattle.std.proofs.lemmas.Option.{slice_get_read}
+use Rattle.std.specs.Fmt.{decimal}
 use Rattle.std.specs.List.{list_all, list_any}
 use Rattle.kd_config.proofs.Came.{both_passed}
 use Rattle.kd_config.proofs.Shared.{must_failed, must_passed}
 use Rattle.kd_config.specs.Address.{has_address}
-use Rattle.kd_config.specs.Faults.{config_fault_number}
-use Rattle.kd_config.specs.FirstFault.{PoolFails, ReservationFails}
+use Rattle.kd_config.specs.Faults.{config_fault_number, fault_path}
+use Rattle.kd_config.specs.FirstFault.{PoolFails, ReservationFails, client_key, path_below, wrong_key}
 use Rattle.kd_config.specs.Parts.{lie_and_fit}
-use Rattle.kd_config.specs.Rules.{is_new, lies_within, may_all_reserve, may_reserve}
+use Rattle.kd_config.specs.Rules.{is_new, lies_within, may_all_reserve, may_reserve, reserved}
 use Rattle.kd_config.specs.Steps.{must}
 use Rattle.kd_config.specs.declared.fault.ConfigFault.{ConfigFault}
 use Rattle.kd_config.specs.declared.pool.Pool.{Pool}
@@ -32,6 +33,20 @@ pub cut_at_place : {A : Type 0} (xs : List A) (i : ℕ) (x : A) → i < length x
     → x ≡ get_or xs i x → take i xs ++ x ∷ drop (i + 1) xs ≡ xs
 cut_at_place xs i x below is =
     sym (one_more_at xs i x (drop (i + 1) xs) below is) ∙ take-append-drop (i + 1) xs
+
+-- what is wrong with a reservation: its address, or its client
+pub wrong_address : (prefix : Prefix) (earlier : List ℕ) (r : Reservation)
+    → must (may_reserve prefix earlier r) ≡ None → codes "ip-address" ≡ wrong_key prefix earlier r
+wrong_address prefix earlier r e =
+    ap (λ (b : Bool). if b then client_key r.identity else codes "ip-address")
+    (sym (must_failed (may_reserve prefix earlier r) e))
+
+pub wrong_client : (prefix : Prefix) (earlier : List ℕ) (r : Reservation)
+    → must (may_reserve prefix earlier r) ≡ Some tt
+    → client_key r.identity ≡ wrong_key prefix earlier r
+wrong_client prefix earlier r e =
+    ap (λ (b : Bool). if b then client_key r.identity else codes "ip-address")
+    (sym (must_passed (may_reserve prefix earlier r) e))
 
 -- a reservation whose address passed is inside the prefix
 pub is_inside : (prefix : Prefix) (earlier : List ℕ) (r : Reservation)
@@ -67,13 +82,16 @@ inside_passed prefix first earlier clients rs i r below is left e more =
     ∙ ap (λ (b : Bool). b && rest) both.1))
 
 -- one that did not: it is the first
-pub inside_failed : (prefix : Prefix) (first earlier : List ℕ) (clients : List Identity)
+pub inside_failed : (prefix : Prefix) (path first earlier : List ℕ) (clients : List Identity)
     (rs : List Reservation) (i : ℕ) (r : Reservation) (fault : ConfigFault) → i < length rs
-    → r ≡ get_or rs i r → Decide prefix first (take i rs) earlier clients
+    → r ≡ get_or rs i r → earlier ≡ first ++ reserved (take i rs)
+    → Decide prefix first (take i rs) earlier clients
     → must (may_reserve prefix earlier r && is_new clients r.identity) ≡ None
     → config_fault_number fault ≡ (if has_address prefix r.address then 76 else 74)
-    → ReservationFails (may_all_reserve prefix first []) prefix rs fault
-inside_failed prefix first earlier clients rs i r fault below is left e kind = record {
+    → fault_path fault
+    ≡ path_below (path_below path (decimal i)) (wrong_key prefix earlier r)
+    → ReservationFails (may_all_reserve prefix first []) path first prefix rs fault
+inside_failed prefix path first earlier clients rs i r fault below is joined left e kind named = record {
   place = i;
   reservation = r;
   first = record {
@@ -84,7 +102,9 @@ inside_failed prefix first earlier clients rs i r fault below is left e kind = r
         ∙ (left (r ∷ []) ∙ all_false (may_reserve prefix earlier r) (is_new clients r.identity) true
         (must_failed (may_reserve prefix earlier r && is_new clients r.identity) e));
   };
-  told = kind;
+  number = kind;
+  named = named ∙ ap (λ (e : List ℕ). path_below (path_below path (decimal i)) (wrong_key prefix e r))
+      joined;
 }
 
 -- and not all may be reserved
@@ -152,13 +172,14 @@ with_one prefix pools apart i pool below is e =
           absurd (cc (f, both))
 
 -- one that did not: it is the first
-pub within_failed : (prefix : Prefix) (pools : List Pool) (apart i : ℕ) (pool : Pool)
-    (fault : ConfigFault) → i < length pools → i ≤ apart → pool ≡ get_or pools i pool
+pub within_failed : (prefix : Prefix) (path : List ℕ) (pools : List Pool) (apart i : ℕ)
+    (pool : Pool) (fault : ConfigFault) → i < length pools → i ≤ apart → pool ≡ get_or pools i pool
     → must (lies_within prefix pool && nat_lt i apart) ≡ None
     → list_all (lies_within prefix) (take i pools) ≡ true
     → config_fault_number fault ≡ (if lies_within prefix pool then 75 else 74)
-    → PoolFails (lie_and_fit prefix apart) prefix pools fault
-within_failed prefix pools apart i pool fault below few is e before kind = record {
+    → fault_path fault ≡ path_below (path_below path (decimal i)) (codes "pool")
+    → PoolFails (lie_and_fit prefix apart) path prefix pools fault
+within_failed prefix path pools apart i pool fault below few is e before kind named = record {
   place = i;
   pool = pool;
   first = record {
@@ -168,7 +189,8 @@ within_failed prefix pools apart i pool fault below few is e before kind = recor
         (le-leb (length (take i pools)) apart (omega (arith, length-take i pools))) before;
     with_it = with_one prefix pools apart i pool below is e;
   };
-  told = kind;
+  number = kind;
+  named = named;
 }
 
 -- pools of which the first do not fit do not

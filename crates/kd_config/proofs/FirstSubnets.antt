@@ -1,16 +1,18 @@
 -- Where the first subnet stands that breaks a rule, by which of its values.
-use Rattle.std.proofs.Common.{◌≡◌, ℕ, zero, suc, ◌+◌, ◌-◌, ◌<◌, ◌≤◌, Bool, true, false, not, ◌&&◌, nat_le, List, [], ◌∷◌, ◌++◌, length, get_or, take, drop, slice_get, Some, None, ap, sym, refl, subst, ◌∙◌, arith, append-nil, append_assoc, inl, inr}
+use Rattle.std.proofs.Common.{◌≡◌, ℕ, zero, suc, ◌+◌, ◌-◌, ◌<◌, ◌≤◌, Bool, true, false, not, ◌&&◌, nat_le, List, [], ◌∷◌, ◌++◌, length, get_or, take, drop, codes, slice_get, Some, None, ap, sym, refl, subst, ◌∙◌, arith, append-nil, append_assoc, inl, inr}
 use Rattle.std.proofs.lemmas.Bool.{false≢true, le-leb, leb-true, leb-false}
-use Rattle.std.proofs.lemmas.List.{length-append, map-append, take-append-drop, take-append-le, take-take, take_all, take_at}
+use Rattle.std.proofs.lemmas.Grind.{flat_map-append}
+use Rattle.std.proofs.lemmas.List.{length-append, map-append, take-append-drop, take-append-le, take-take, take_all, take_at, take_more}
 use Rattle.std.proofs.lemmas.List.Folds.{list_any-append}
 use Rattle.std.proofs.lemmas.Option.{slice_get_read}
+use Rattle.std.specs.Fmt.{decimal}
 use Rattle.std.specs.List.{list_all, list_any}
 use Rattle.kd_config.proofs.Came.{both_passed, some_is}
 use Rattle.kd_config.proofs.FirstFaults.{cut_at_place, one_more_at}
 use Rattle.kd_config.proofs.Shared.{must_failed, must_passed, one_more}
 use Rattle.kd_config.proofs.Steps.{not_and, or_false}
 use Rattle.kd_config.specs.Apart.{lie_apart, share_one}
-use Rattle.kd_config.specs.FirstFault.{PoolFails, ReservationFails, SubnetFails, SubnetsFail, with_pools, with_reservations}
+use Rattle.kd_config.specs.FirstFault.{PoolFails, ReservationFails, SubnetFails, SubnetsFail, all_reserved, path_below, with_pools, with_reservations}
 use Rattle.kd_config.specs.Parts.{lie_and_fit, obey_within, obeys_within}
 use Rattle.kd_config.specs.Rules.{all_obey, lies_within, may_all_reserve, may_stand, obeys, pool_ranges, ranges_in, reserved}
 use Rattle.kd_config.specs.Steps.{must}
@@ -22,10 +24,10 @@ use Rattle.kd_config.specs.declared.reservation.Reservation.{Reservation}
 use Rattle.kd_config.specs.declared.subnet.Subnet.{Subnet}
 
 -- the first that fails a test fails any other test that agrees with it on the values at the front
-pools_as : (f g : List Pool → Bool) (prefix : Prefix) (pools : List Pool) (fault : ConfigFault)
-    → ((n : ℕ) → f (take n pools) ≡ g (take n pools)) → PoolFails f prefix pools fault
-    → PoolFails g prefix pools fault
-pools_as f g prefix pools fault same h = record {
+pools_as : (f g : List Pool → Bool) (path : List ℕ) (prefix : Prefix) (pools : List Pool)
+    (fault : ConfigFault) → ((n : ℕ) → f (take n pools) ≡ g (take n pools))
+    → PoolFails f path prefix pools fault → PoolFails g path prefix pools fault
+pools_as f g path prefix pools fault same h = record {
   place = h.place;
   pool = h.pool;
   first = record {
@@ -33,13 +35,15 @@ pools_as f g prefix pools fault same h = record {
     before = sym (same h.place) ∙ h.first.before;
     with_it = sym (same (h.place + 1)) ∙ h.first.with_it;
   };
-  told = h.told;
+  number = h.number;
+  named = h.named;
 }
 
-reservations_as : (f g : List Reservation → Bool) (prefix : Prefix) (rs : List Reservation)
-    (fault : ConfigFault) → ((n : ℕ) → f (take n rs) ≡ g (take n rs))
-    → ReservationFails f prefix rs fault → ReservationFails g prefix rs fault
-reservations_as f g prefix rs fault same h = record {
+reservations_as : (f g : List Reservation → Bool) (path earlier : List ℕ) (prefix : Prefix)
+    (rs : List Reservation) (fault : ConfigFault) → ((n : ℕ) → f (take n rs) ≡ g (take n rs))
+    → ReservationFails f path earlier prefix rs fault
+    → ReservationFails g path earlier prefix rs fault
+reservations_as f g path earlier prefix rs fault same h = record {
   place = h.place;
   reservation = h.reservation;
   first = record {
@@ -47,54 +51,59 @@ reservations_as f g prefix rs fault same h = record {
     before = sym (same h.place) ∙ h.first.before;
     with_it = sym (same (h.place + 1)) ∙ h.first.with_it;
   };
-  told = h.told;
+  number = h.number;
+  named = h.named;
 }
 
-subnet_as : (f g : Subnet → Bool) (s : Subnet) (fault : ConfigFault)
+subnet_as : (f g : Subnet → Bool) (path earlier : List ℕ) (s : Subnet) (fault : ConfigFault)
     → ((n : ℕ) → f (with_pools s (take n s.pools)) ≡ g (with_pools s (take n s.pools)))
     → ((n : ℕ) → f (with_reservations s (take n s.reservations))
     ≡ g (with_reservations s (take n s.reservations)))
-    → SubnetFails f s fault → SubnetFails g s fault
-subnet_as f g s fault pools rs (inl h) =
-    inl (pools_as (λ x. f (with_pools s x)) (λ x. g (with_pools s x)) s.prefix s.pools fault pools h)
-subnet_as f g s fault pools rs (inr h) =
-    inr (reservations_as (λ x. f (with_reservations s x)) (λ x. g (with_reservations s x)) s.prefix
-    s.reservations fault rs h)
+    → SubnetFails f path earlier s fault → SubnetFails g path earlier s fault
+subnet_as f g path earlier s fault pools rs (inl h) =
+    inl (pools_as (λ x. f (with_pools s x)) (λ x. g (with_pools s x))
+    (path_below path (codes "pools")) s.prefix s.pools fault pools h)
+subnet_as f g path earlier s fault pools rs (inr h) =
+    inr (reservations_as (λ x. f (with_reservations s x)) (λ x. g (with_reservations s x))
+    (path_below path (codes "reservations")) earlier s.prefix s.reservations fault rs h)
 
 and_one : (b : Bool) → (b && true) ≡ b
 and_one true = refl
 and_one false = refl
 
 -- a subnet fails by its pools
-pub by_pools : (apart : ℕ) (earlier : List ℕ) (s : Subnet) (pools : List Pool)
+pub by_pools : (apart : ℕ) (path earlier : List ℕ) (s : Subnet) (pools : List Pool)
     (fault : ConfigFault) → pools ≡ s.pools
-    → PoolFails (lie_and_fit s.prefix apart) s.prefix pools fault
-    → SubnetFails (obeys_within apart earlier) s fault
+    → PoolFails (lie_and_fit s.prefix apart) (path_below path (codes "pools")) s.prefix pools fault
+    → SubnetFails (obeys_within apart earlier) path earlier s fault
 unfolding obeys
-by_pools apart earlier s pools fault is failed =
-    let h = subst (λ (x : List Pool). PoolFails (lie_and_fit s.prefix apart) s.prefix x fault) is
+by_pools apart path earlier s pools fault is failed =
+    let at = path_below path (codes "pools") in
+    let h = subst (λ (x : List Pool). PoolFails (lie_and_fit s.prefix apart) at s.prefix x fault) is
     failed in
-    inl (pools_as (lie_and_fit s.prefix apart) (λ x. obeys_within apart earlier (with_pools s x))
+    inl (pools_as (lie_and_fit s.prefix apart) (λ x. obeys_within apart earlier (with_pools s x)) at
     s.prefix s.pools fault
     (λ n. ap (λ (b : Bool). nat_le (length (take n s.pools)) apart && b)
     (sym (and_one (list_all (lies_within s.prefix) (take n s.pools))))) h)
 
 -- or by its reservations
-pub by_reservations : (apart : ℕ) (earlier : List ℕ) (s : Subnet) (pools : List Pool)
+pub by_reservations : (apart : ℕ) (path earlier : List ℕ) (s : Subnet) (pools : List Pool)
     (list : List Reservation) (fault : ConfigFault) → pools ≡ s.pools → list ≡ s.reservations
     → must (lie_and_fit s.prefix apart pools) ≡ Some tt
-    → ReservationFails (may_all_reserve s.prefix earlier []) s.prefix list fault
-    → SubnetFails (obeys_within apart earlier) s fault
+    → ReservationFails (may_all_reserve s.prefix earlier []) (path_below path (codes "reservations"))
+    earlier s.prefix list fault
+    → SubnetFails (obeys_within apart earlier) path earlier s fault
 unfolding obeys
-by_reservations apart earlier s pools list fault pools_are list_is fits failed =
+by_reservations apart path earlier s pools list fault pools_are list_is fits failed =
     let fit = ap (λ (x : List Pool). must (lie_and_fit s.prefix apart x)) (sym pools_are) ∙ fits in
+    let at = path_below path (codes "reservations") in
     let h = subst (λ (x : List Reservation). ReservationFails (may_all_reserve s.prefix earlier [])
-    s.prefix x fault) list_is failed in
+    at earlier s.prefix x fault) list_is failed in
     let inside = list_all (lies_within s.prefix) s.pools in
     let both = both_passed (nat_le (length s.pools) apart) inside
     (must_passed (lie_and_fit s.prefix apart s.pools) fit) in
     inr (reservations_as (may_all_reserve s.prefix earlier [])
-    (λ x. obeys_within apart earlier (with_reservations s x)) s.prefix s.reservations fault
+    (λ x. obeys_within apart earlier (with_reservations s x)) at earlier s.prefix s.reservations fault
     (λ n. let free = may_all_reserve s.prefix earlier [] (take n s.reservations) in
     sym (ap (λ (b : Bool). b && (inside && free)) both.0 ∙ ap (λ (b : Bool). b && free) both.1)) h)
 
@@ -137,6 +146,19 @@ all_obeyed apart left i earlier subnets all decide =
     ∙ sym (append-nil (take i subnets)))
     ∙ (decide [] ∙ ap (λ (b : Bool). b && true) (le-leb 0 left (omega arith))))
 
+-- one subnet more keeps its addresses
+pub more_joined : (i : ℕ) (earlier : List ℕ) (subnets : List Subnet) (s : Subnet)
+    → i < length subnets → s ≡ get_or subnets i s → earlier ≡ all_reserved (take i subnets)
+    → earlier ++ reserved s.reservations ≡ all_reserved (take (i + 1) subnets)
+more_joined i earlier subnets s below is joined =
+    let front = take i subnets in
+    let whole : take (i + 1) subnets ≡ front ++ s ∷ []
+    = take_more subnets i s below ∙ ap (λ (x : Subnet). front ++ x ∷ []) (sym is) in
+    ap (λ (e : List ℕ). e ++ reserved s.reservations) joined
+    ∙ (ap (λ (e : List ℕ). all_reserved front ++ e) (sym (append-nil (reserved s.reservations)))
+    ∙ (sym (flat_map-append (λ (x : Subnet). reserved x.reservations) front (s ∷ []))
+    ∙ ap all_reserved (sym whole)))
+
 -- one subnet after those at the front
 one_last : (apart left : ℕ) (earlier : List ℕ) (front : List Subnet) (s : Subnet)
     → AllDecide apart front left earlier
@@ -149,20 +171,25 @@ one_last apart left earlier front s decide =
     ∙ and_one (obeys_within left earlier s))))
 
 -- the one that did not is the first
-pub subnet_failed : (apart left i : ℕ) (earlier : List ℕ) (subnets : List Subnet) (s : Subnet)
-    (fault : ConfigFault) → i < length subnets → s ≡ get_or subnets i s
-    → AllDecide apart (take i subnets) left earlier → SubnetFails (obeys_within left earlier) s fault
-    → SubnetsFail (obey_within apart []) subnets fault
-subnet_failed apart left i earlier subnets s fault below is decide h =
+pub subnet_failed : (apart left i : ℕ) (path earlier : List ℕ) (subnets : List Subnet)
+    (s : Subnet) (fault : ConfigFault) → i < length subnets → s ≡ get_or subnets i s
+    → AllDecide apart (take i subnets) left earlier → earlier ≡ all_reserved (take i subnets)
+    → SubnetFails (obeys_within left earlier) (path_below path (decimal i)) earlier s fault
+    → SubnetsFail (obey_within apart []) path subnets fault
+subnet_failed apart left i path earlier subnets s fault below is decide joined h =
+    let at = path_below path (decimal i) in
     let last = λ (x : Subnet). one_last apart left earlier (take i subnets) x decide in
     record {
       place = i;
       subnet = s;
       subnet_at = slice_get_read subnets (length subnets) i s refl below is;
-      value = subnet_as (obeys_within left earlier)
-          (λ x. obey_within apart [] (take i subnets ++ x ∷ [])) s fault
+      value = subst
+          (λ (e : List ℕ). SubnetFails (λ x. obey_within apart [] (take i subnets ++ x ∷ [])) at e s
+          fault) joined
+          (subnet_as (obeys_within left earlier)
+          (λ x. obey_within apart [] (take i subnets ++ x ∷ [])) at earlier s fault
           (λ n. last (with_pools s (take n s.pools)))
-          (λ n. last (with_reservations s (take n s.reservations))) h;
+          (λ n. last (with_reservations s (take n s.reservations))) h);
     }
 
 -- ranges at the front of ranges that are apart
@@ -241,10 +268,10 @@ stands_as apart i subnets s t rest h at parts =
     (as_many_apart apart some others (subst (AreApart apart) (sym whole) h))
 
 -- the first subnet that does not obey the rules is the first that may not stand
-pub may_not_stand : (apart : ℕ) (subnets : List Subnet) (fault : ConfigFault)
-    → AreApart apart (pool_ranges subnets) → SubnetsFail (obey_within apart []) subnets fault
-    → SubnetsFail may_stand subnets fault
-may_not_stand apart subnets fault apart_is h =
+pub may_not_stand : (apart : ℕ) (path : List ℕ) (subnets : List Subnet) (fault : ConfigFault)
+    → AreApart apart (pool_ranges subnets) → SubnetsFail (obey_within apart []) path subnets fault
+    → SubnetsFail may_stand path subnets fault
+may_not_stand apart path subnets fault apart_is h =
     let s = h.subnet in
     let front = take h.place subnets in
     record {
@@ -252,7 +279,8 @@ may_not_stand apart subnets fault apart_is h =
       subnet = s;
       subnet_at = h.subnet_at;
       value = subnet_as (λ x. obey_within apart [] (front ++ x ∷ []))
-          (λ x. may_stand (front ++ x ∷ [])) s fault
+          (λ x. may_stand (front ++ x ∷ [])) (path_below path (decimal h.place))
+          (all_reserved front) s fault
           (λ n. stands_as apart h.place subnets s (with_pools s (take n s.pools))
           (ranges_in (drop n s.pools)) apart_is h.subnet_at
           (sym (map-append (λ (p : Pool). p.range) (take n s.pools) (drop n s.pools))

@@ -15,7 +15,7 @@ pub mod SoundBuiltin
 pub mod Shared
 pub mod FirstFaults
 pub mod FirstSubnets
-pub mod Told
+pub mod WhichFault
 pub mod PoolPlaces
 pub mod ReservationPlaces
 pub mod AcceptedTests

@@ -1,5 +1,5 @@
--- The numbers of the faults of a configuration.
-use Rattle.std.specs.Prelude.{ℕ}
+-- The faults of a configuration: their numbers, and the paths that they name.
+use Rattle.std.specs.Prelude.{ℕ, List, [], string_bytes}
 use Rattle.kd_config.specs.declared.fault.ConfigFault.{ConfigFault}
 use Rattle.kd_config.specs.declared.fault.ConfigFault.TheVariants as faults
 
@@ -16,3 +16,13 @@ config_fault_number (faults.Expression number fault) = 77
 config_fault_number (faults.Tokens number fault) = 78
 config_fault_number (faults.Class fault) = 79
 config_fault_number faults.Memory = 91
+
+-- the path that a fault names, if it names one
+abbrev pub fault_path : ConfigFault → List ℕ
+fault_path (faults.Missing path) = string_bytes path
+fault_path (faults.Unknown path) = string_bytes path
+fault_path (faults.BadValue path) = string_bytes path
+fault_path (faults.PoolOutside path) = string_bytes path
+fault_path (faults.Overlap path) = string_bytes path
+fault_path (faults.DuplicateReservation path) = string_bytes path
+fault_path _ = []

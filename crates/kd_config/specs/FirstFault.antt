@@ -1,18 +1,41 @@
 -- Which fault a text has that means no configuration (our own format): that it spells no settings;
 -- or which rule is broken first, subnet by subnet, of each its pools and then its reservations; or
 -- that a class of it may not stand.
-use Rattle.std.specs.Prelude.{◌≡◌, ◌⊎◌, ℕ, ◌+◌, Bool, true, false, if◌then◌else◌, List, [], ◌∷◌, ◌++◌, take, slice_get, Some, None}
+use Rattle.std.specs.Prelude.{◌≡◌, ◌⊎◌, ℕ, ◌+◌, Bool, true, false, if◌then◌else◌, List, [], ◌∷◌, ◌++◌, take, codes, slice_get, Some, None}
+use Rattle.std.specs.Fmt.{decimal}
+use Rattle.std.specs.List.{flat_map}
 use Rattle.kd_config.specs.Address.{has_address}
 use Rattle.kd_config.specs.Document.{accepted_settings, settings_spelled}
-use Rattle.kd_config.specs.Faults.{config_fault_number}
-use Rattle.kd_config.specs.Rules.{lies_within, may_stand}
+use Rattle.kd_config.specs.Faults.{config_fault_number, fault_path}
+use Rattle.kd_config.specs.Rules.{lies_within, may_reserve, may_stand, reserved}
 use Rattle.kd_config.specs.declared.fault.ConfigFault.{ConfigFault}
 use Rattle.kd_config.specs.declared.fault.ConfigFault.TheVariants as faults
 use Rattle.kd_config.specs.declared.objects.settings.Settings.{Settings}
 use Rattle.kd_config.specs.declared.pool.Pool.{Pool}
 use Rattle.kd_config.specs.declared.prefix.Prefix.{Prefix}
+use Rattle.kd_config.specs.declared.reservation.Identity.{Identity}
+use Rattle.kd_config.specs.declared.reservation.Identity.TheVariants.{Hardware, ClientId}
 use Rattle.kd_config.specs.declared.reservation.Reservation.{Reservation}
 use Rattle.kd_config.specs.declared.subnet.Subnet.{Subnet}
+
+-- the path of a key, or of a number in a list, of the value at a path
+abbrev pub path_below : List ℕ → List ℕ → List ℕ
+path_below path key = path ++ 47 ∷ key
+
+-- the key of a client
+abbrev pub client_key : Identity → List ℕ
+client_key (Hardware bytes) = codes "hw-address"
+client_key (ClientId bytes) = codes "client-id"
+
+-- the key of what is wrong with a reservation: its address, or where that may be reserved after
+-- earlier ones its client
+abbrev pub wrong_key : Prefix → List ℕ → Reservation → List ℕ
+wrong_key prefix earlier r =
+    if may_reserve prefix earlier r then client_key r.identity else codes "ip-address"
+
+-- the addresses that subnets keep
+abbrev pub all_reserved : List Subnet → List ℕ
+all_reserved subnets = flat_map (λ subnet. reserved subnet.reservations) subnets
 
 -- a subnet with these pools and no reservations
 abbrev pub with_pools : Subnet → List Pool → Subnet
@@ -29,60 +52,66 @@ pub record FailsAt {A : Type 0} (test : List A → Bool) (values : List A) (plac
   pub before : test (take place values) ≡ true
   pub with_it : test (take (place + 1) values) ≡ false
 
--- the first pool that fails a test: its fault is that it lies outside its prefix, or else overlaps
-pub record PoolFails (test : List Pool → Bool) (prefix : Prefix) (pools : List Pool)
-    (fault : ConfigFault) : Type 0 where
+-- the first pool that fails a test, of the list at a path: it lies outside its prefix, or overlaps
+pub record PoolFails (test : List Pool → Bool) (path : List ℕ) (prefix : Prefix)
+    (pools : List Pool) (fault : ConfigFault) : Type 0 where
   pub place : ℕ
   pub pool : Pool
   pub first : FailsAt test pools place pool
-  pub told : config_fault_number fault ≡ (if lies_within prefix pool then 75 else 74)
+  pub number : config_fault_number fault ≡ (if lies_within prefix pool then 75 else 74)
+  pub named : fault_path fault ≡ path_below (path_below path (decimal place)) (codes "pool")
 
--- the first reservation that fails a test: its fault is that its address is outside its prefix, or
--- else that it is repeated
-pub record ReservationFails (test : List Reservation → Bool) (prefix : Prefix)
-    (reservations : List Reservation) (fault : ConfigFault) : Type 0 where
+-- the first reservation that fails a test, of the list at a path and after earlier addresses: its
+-- address is outside its prefix, or it is repeated
+pub record ReservationFails (test : List Reservation → Bool) (path earlier : List ℕ)
+    (prefix : Prefix) (reservations : List Reservation) (fault : ConfigFault) : Type 0 where
   pub place : ℕ
   pub reservation : Reservation
   pub first : FailsAt test reservations place reservation
-  pub told : config_fault_number fault
+  pub number : config_fault_number fault
       ≡ (if has_address prefix reservation.address then 76 else 74)
+  pub named : fault_path fault ≡ path_below (path_below path (decimal place))
+      (wrong_key prefix (earlier ++ reserved (take place reservations)) reservation)
 
--- a subnet fails a test by one of its pools, or with all of them by one of its reservations
-abbrev pub SubnetFails : (Subnet → Bool) → Subnet → ConfigFault → Type 0
-SubnetFails test subnet fault =
-    PoolFails (λ pools. test (with_pools subnet pools)) subnet.prefix subnet.pools fault
-    ⊎ ReservationFails (λ reservations. test (with_reservations subnet reservations)) subnet.prefix
-    subnet.reservations fault
+-- the subnet at a path fails a test by one of its pools, or with all of them by a reservation
+abbrev pub SubnetFails : (Subnet → Bool) → List ℕ → List ℕ → Subnet → ConfigFault → Type 0
+SubnetFails test path earlier subnet fault =
+    PoolFails (λ pools. test (with_pools subnet pools)) (path_below path (codes "pools"))
+    subnet.prefix subnet.pools fault
+    ⊎ ReservationFails (λ reservations. test (with_reservations subnet reservations))
+    (path_below path (codes "reservations")) earlier subnet.prefix subnet.reservations fault
 
--- the first subnet that fails a test of it and those before it
-pub record SubnetsFail (test : List Subnet → Bool) (subnets : List Subnet)
+-- the first subnet of the list at a path that fails a test of it and those before it
+pub record SubnetsFail (test : List Subnet → Bool) (path : List ℕ) (subnets : List Subnet)
     (fault : ConfigFault) : Type 0 where
   pub place : ℕ
   pub subnet : Subnet
   pub subnet_at : slice_get subnets place ≡ Some subnet
-  pub value : SubnetFails (λ s. test (take place subnets ++ s ∷ [])) subnet fault
+  pub value : SubnetFails (λ s. test (take place subnets ++ s ∷ []))
+      (path_below path (decimal place)) (all_reserved (take place subnets)) subnet fault
 
 -- the text spells settings, of whose subnets a value is the first with which they may not stand
 pub record BreaksRule (text : List ℕ) (fault : ConfigFault) : Type 0 where
   pub settings : Settings
   pub spelled : settings_spelled text ≡ Some settings
-  pub broken : SubnetsFail may_stand settings.subnets fault
+  pub broken : SubnetsFail may_stand (codes "/Dhcp4/subnet4") settings.subnets fault
 
 -- the text spells settings whose subnets may stand
 pub record KeepsRules (text : List ℕ) : Type 0 where
   pub settings : Settings
   pub accepted : accepted_settings text ≡ Some settings
 
--- what a fault tells of a text
-abbrev pub Tells : List ℕ → ConfigFault → Type 0
-Tells text faults.Json = settings_spelled text ≡ None
-Tells text (faults.Missing path) = settings_spelled text ≡ None
-Tells text (faults.Unknown path) = settings_spelled text ≡ None
-Tells text (faults.BadValue path) = settings_spelled text ≡ None
-Tells text (faults.PoolOutside path) = BreaksRule text (faults.PoolOutside path)
-Tells text (faults.Overlap path) = BreaksRule text (faults.Overlap path)
-Tells text (faults.DuplicateReservation path) = BreaksRule text (faults.DuplicateReservation path)
-Tells text (faults.Expression number why) = KeepsRules text
-Tells text (faults.Tokens number why) = KeepsRules text
-Tells text (faults.Class why) = KeepsRules text
-Tells text faults.Memory = Unit {0}
+-- a fault is the first of a text: of its settings, of the rules, of its classes
+abbrev pub IsFirstFault : List ℕ → ConfigFault → Type 0
+IsFirstFault text faults.Json = settings_spelled text ≡ None
+IsFirstFault text (faults.Missing path) = settings_spelled text ≡ None
+IsFirstFault text (faults.Unknown path) = settings_spelled text ≡ None
+IsFirstFault text (faults.BadValue path) = settings_spelled text ≡ None
+IsFirstFault text (faults.PoolOutside path) = BreaksRule text (faults.PoolOutside path)
+IsFirstFault text (faults.Overlap path) = BreaksRule text (faults.Overlap path)
+IsFirstFault text (faults.DuplicateReservation path) =
+    BreaksRule text (faults.DuplicateReservation path)
+IsFirstFault text (faults.Expression number why) = KeepsRules text
+IsFirstFault text (faults.Tokens number why) = KeepsRules text
+IsFirstFault text (faults.Class why) = KeepsRules text
+IsFirstFault text faults.Memory = Unit {0}

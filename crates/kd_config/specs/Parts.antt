@@ -1,7 +1,8 @@
 -- Words of private clauses: keys that are borrowed texts, clients by borrowed bytes, subnets whose
 -- pools are apart up to a number, and the faults of parts of a configuration.
-use Rattle.std.specs.Prelude.{ℕ, Bool, ◌&&◌, if◌then◌else◌, List, length, bytes_eq, is_some, nat_le}
+use Rattle.std.specs.Prelude.{ℕ, Bool, ◌&&◌, if◌then◌else◌, List, [], ◌∷◌, ◌++◌, length, bytes_eq, is_some, nat_le}
 use Rattle.std.specs.Borrow.{Bor}
+use Rattle.std.specs.Fmt.{decimal}
 use Rattle.std.specs.List.{list_all, list_any}
 use Rattle.serde_json.specs.Data.{Data}
 use Rattle.serde_json.specs.Find.{get}
@@ -16,6 +17,8 @@ use Rattle.kd_config.specs.declared.pool.Pool.{Pool}
 use Rattle.kd_config.specs.declared.prefix.Prefix.{Prefix}
 use Rattle.kd_config.specs.declared.reservation.Identity.{Identity}
 use Rattle.kd_config.specs.declared.reservation.Identity.TheVariants.{Hardware, ClientId}
+use Rattle.kd_config.specs.declared.rules.place.Place.{Place}
+use Rattle.kd_config.specs.declared.rules.place.Place.TheVariants as places
 use Rattle.kd_config.specs.declared.subnet.Subnet.{Subnet}
 
 -- a key is one of these
@@ -58,3 +61,9 @@ classes_fault (classes.Expression number why) = faults.Expression number why
 classes_fault (classes.Tokens number why) = faults.Tokens number why
 classes_fault (classes.Class why) = faults.Class why
 classes_fault classes.Memory = faults.Memory
+
+-- the path of a place: the keys and numbers from the root, each after `/`
+abbrev pub path_at : Place → List ℕ
+path_at places.Root = []
+path_at (places.Key' p above key) = path_at above ++ 47 ∷ key.now
+path_at (places.Item' p above number) = path_at above ++ 47 ∷ decimal number

@@ -1,5 +1,7 @@
-ghost use Rattle.std.specs.Prelude.{◌≡◌, ◌≢◌};
-ghost use Rattle.kd_config.specs.Faults.{config_fault_number};
+ghost use Rattle.std.specs.Prelude.{◌≡◌, ◌≢◌, ◌++◌, IfOk, OnOk, string_bytes};
+ghost use Rattle.kd_config.specs.Faults.{config_fault_number, fault_path};
+ghost use Rattle.kd_config.specs.FirstFault.{path_below};
+ghost use Rattle.kd_config.specs.Parts.{path_at};
 ghost use Rattle.kd_config.specs.declared.fault.ConfigFault.TheVariants.{Memory};
 
 use crate::fault::ConfigFault;
@@ -48,7 +50,9 @@ pub(crate) fn bad_place(alloc: Global, at: &Place<'_>) -> SettingsFault {
 
 // The fault of an address outside its subnet's prefix.
 pub(crate) fn outside(alloc: Global, at: &Place<'_>, key: &str) -> ConfigFault
-    ensures { result ≢ Memory → config_fault_number result ≡ 74 }
+    ensures kind { result ≢ Memory → config_fault_number result ≡ 74 }
+    ensures path { result ≢ Memory
+        → fault_path result ≡ path_below (path_at at.now) key.now }
 {
     match path_of_key(alloc, at, key) {
         Ok(path) => ConfigFault::PoolOutside(path),
@@ -58,7 +62,9 @@ pub(crate) fn outside(alloc: Global, at: &Place<'_>, key: &str) -> ConfigFault
 
 // The fault of a pool that shares an address with an earlier one.
 pub(crate) fn overlap(alloc: Global, at: &Place<'_>, key: &str) -> ConfigFault
-    ensures { result ≢ Memory → config_fault_number result ≡ 75 }
+    ensures kind { result ≢ Memory → config_fault_number result ≡ 75 }
+    ensures path { result ≢ Memory
+        → fault_path result ≡ path_below (path_at at.now) key.now }
 {
     match path_of_key(alloc, at, key) {
         Ok(path) => ConfigFault::Overlap(path),
@@ -68,7 +74,9 @@ pub(crate) fn overlap(alloc: Global, at: &Place<'_>, key: &str) -> ConfigFault
 
 // The fault of a reservation that repeats an earlier one.
 pub(crate) fn repeated(alloc: Global, at: &Place<'_>, key: &str) -> ConfigFault
-    ensures { result ≢ Memory → config_fault_number result ≡ 76 }
+    ensures kind { result ≢ Memory → config_fault_number result ≡ 76 }
+    ensures path { result ≢ Memory
+        → fault_path result ≡ path_below (path_at at.now) key.now }
 {
     match path_of_key(alloc, at, key) {
         Ok(path) => ConfigFault::DuplicateReservation(path),
@@ -77,7 +85,9 @@ pub(crate) fn repeated(alloc: Global, at: &Place<'_>, key: &str) -> ConfigFault
 }
 
 // The path of a key of the object at a place.
-fn path_of_key(alloc: Global, at: &Place<'_>, key: &str) -> Result<String, AllocError> {
+fn path_of_key(alloc: Global, at: &Place<'_>, key: &str) -> Result<String, AllocError>
+    ensures { IfOk result (λ path. string_bytes path ≡ path_below (path_at at.now) key.now) }
+{
     let mut path = String::new(alloc);
     push_path(alloc, &mut path, at)?;
     path.push_str("/")?;
@@ -117,7 +127,9 @@ fn path_of(alloc: Global, at: &Place<'_>) -> Result<String, AllocError> {
 }
 
 // Writes the path of a place after a text.
-fn push_path(alloc: Global, path: &mut String, at: &Place<'_>) -> Result<(), AllocError> {
+fn push_path(alloc: Global, path: &mut String, at: &Place<'_>) -> Result<(), AllocError>
+    ensures { OnOk result (string_bytes path.new ≡ string_bytes path.old ++ path_at at.now) }
+{
     match at {
         Place::Root => Ok(()),
         Place::Key(above, key) => {

@@ -1,9 +1,9 @@
-ghost use Rattle.std.specs.Prelude.{◌≡◌, ◌≢◌, ◌<◌, ◌+◌, ◌++◌, ◌&&◌, IfErr, IfOk, OnOk, false, if◌then◌else◌, length, nat_le, take, true};
+ghost use Rattle.std.specs.Prelude.{◌≡◌, ◌≢◌, ◌<◌, ◌+◌, ◌++◌, ◌&&◌, IfErr, IfOk, OnOk, codes, false, if◌then◌else◌, length, nat_le, take, true};
 ghost use Rattle.kd_config.specs.Apart.{lie_apart};
-ghost use Rattle.kd_config.specs.Faults.{config_fault_number};
-ghost use Rattle.kd_config.specs.FirstFault.{PoolFails};
+ghost use Rattle.kd_config.specs.Faults.{config_fault_number, fault_path};
+ghost use Rattle.kd_config.specs.FirstFault.{PoolFails, path_below};
 ghost use Rattle.kd_config.specs.Gives.{Means};
-ghost use Rattle.kd_config.specs.Parts.{lie_and_fit};
+ghost use Rattle.kd_config.specs.Parts.{lie_and_fit, path_at};
 ghost use Rattle.kd_config.specs.Rules.{pool_ranges, lies_within, ranges_in};
 ghost use Rattle.kd_config.specs.Steps.{must};
 ghost use Rattle.kd_config.specs.declared.fault.ConfigFault.TheVariants.{Memory};
@@ -73,7 +73,7 @@ pub(crate) fn check_pools(
 ) -> Result<(), ConfigFault>
     ensures checked { Means Memory result (must (lie_and_fit prefix apart pools.now)) }
     ensures first { IfErr result (λ fault. fault ≢ Memory
-        → PoolFails (lie_and_fit prefix apart) prefix pools.now fault) }
+        → PoolFails (lie_and_fit prefix apart) (path_at at.now) prefix pools.now fault) }
 {
     for (i, pool) in pools.iter().enumerate() {
         check_pool(alloc, prefix, pool, i < apart, &Place::Item(&*at, i))?;
@@ -92,6 +92,8 @@ fn check_pool(
     ensures checked { Means Memory result (must (lies_within prefix pool.now && is_apart)) }
     ensures kind { IfErr result (λ fault. fault ≢ Memory
         → config_fault_number fault ≡ (if lies_within prefix pool.now then 75 else 74)) }
+    ensures path { IfErr result (λ fault. fault ≢ Memory
+        → fault_path fault ≡ path_below (path_at at.now) (codes "pool")) }
 {
     if !is_within(prefix, pool) {
         Err(outside(alloc, at, "pool"))

@@ -1,10 +1,10 @@
-ghost use Rattle.std.specs.Prelude.{◌≡◌, ◌≢◌, ◌++◌, ◌∷◌, ◌&&◌, [], IfErr, IfOk, if◌then◌else◌, map};
+ghost use Rattle.std.specs.Prelude.{◌≡◌, ◌≢◌, ◌++◌, ◌∷◌, ◌&&◌, [], IfErr, IfOk, codes, if◌then◌else◌, map};
 ghost use Rattle.indexmap.specs.IndexSet.{keys};
 ghost use Rattle.kd_config.specs.Address.{has_address};
-ghost use Rattle.kd_config.specs.Faults.{config_fault_number};
-ghost use Rattle.kd_config.specs.FirstFault.{ReservationFails};
+ghost use Rattle.kd_config.specs.Faults.{config_fault_number, fault_path};
+ghost use Rattle.kd_config.specs.FirstFault.{ReservationFails, client_key, path_below, wrong_key};
 ghost use Rattle.kd_config.specs.Gives.{Means};
-ghost use Rattle.kd_config.specs.Parts.{client_by};
+ghost use Rattle.kd_config.specs.Parts.{client_by, path_at};
 ghost use Rattle.kd_config.specs.Rules.{is_new, may_all_reserve, may_reserve, reserved};
 ghost use Rattle.kd_config.specs.Steps.{must};
 ghost use Rattle.kd_config.specs.declared.fault.ConfigFault.TheVariants.{Memory};
@@ -29,8 +29,8 @@ pub(crate) fn check_reservations(
     ensures checked { Means Memory result
         (must (may_all_reserve prefix (keys earlier.old) [] reservations.now)) }
     ensures first { IfErr result (λ fault. fault ≢ Memory
-        → ReservationFails (may_all_reserve prefix (keys earlier.old) []) prefix reservations.now
-        fault) }
+        → ReservationFails (may_all_reserve prefix (keys earlier.old) []) (path_at at.now)
+        (keys earlier.old) prefix reservations.now fault) }
 {
     let mut clients = IndexSet::new(alloc);
     for i in 0..reservations.len() {
@@ -67,6 +67,8 @@ fn check_reservation<'a>(
         && is_new (map client_by (keys clients.old)) reservation.now.identity)) }
     ensures kind { IfErr result (λ fault. fault ≢ Memory → config_fault_number fault
         ≡ (if has_address prefix reservation.now.address then 76 else 74)) }
+    ensures path { IfErr result (λ fault. fault ≢ Memory → fault_path fault
+        ≡ path_below (path_at at.now) (wrong_key prefix (keys earlier.old) reservation.now)) }
 {
     check_address(alloc, prefix, reservation, at, earlier)?;
     check_client(alloc, &reservation.identity, at, clients)
@@ -82,9 +84,12 @@ fn check_address(
 ) -> Result<(), ConfigFault>
     ensures joined { IfOk result
         (λ _. keys earlier.new ≡ keys earlier.old ++ reservation.now.address ∷ []) }
-    ensures checked { Means Memory result (must (may_reserve prefix (keys earlier.old) reservation.now)) }
+    ensures checked { Means Memory result
+        (must (may_reserve prefix (keys earlier.old) reservation.now)) }
     ensures kind { IfErr result (λ fault. fault ≢ Memory → config_fault_number fault
         ≡ (if has_address prefix reservation.now.address then 76 else 74)) }
+    ensures path { IfErr result (λ fault. fault ≢ Memory
+        → fault_path fault ≡ path_below (path_at at.now) (codes "ip-address")) }
 {
     if !prefix.contains(reservation.address) {
         return Err(outside(alloc, at, "ip-address"));
@@ -106,8 +111,11 @@ fn check_client<'a>(
     ensures joined { IfOk result
         (λ _. map client_by (keys earlier.new) ≡ map client_by (keys earlier.old) ++ identity.now
         ∷ []) }
-    ensures checked { Means Memory result (must (is_new (map client_by (keys earlier.old)) identity.now)) }
+    ensures checked { Means Memory result
+        (must (is_new (map client_by (keys earlier.old)) identity.now)) }
     ensures kind { IfErr result (λ fault. fault ≢ Memory → config_fault_number fault ≡ 76) }
+    ensures path { IfErr result (λ fault. fault ≢ Memory
+        → fault_path fault ≡ path_below (path_at at.now) (client_key identity.now)) }
 {
     if earlier.insert(key_of(identity))? {
         return Ok(());

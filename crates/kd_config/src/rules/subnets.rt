@@ -2,7 +2,7 @@ ghost use Rattle.std.specs.Prelude.{◌≡◌, ◌≢◌, ◌-◌, ◌++◌, [],
 ghost use Rattle.indexmap.specs.IndexSet.{keys};
 ghost use Rattle.kd_config.specs.FirstFault.{SubnetFails, SubnetsFail};
 ghost use Rattle.kd_config.specs.Gives.{Means, GivesAs};
-ghost use Rattle.kd_config.specs.Parts.{obey_within, obeys_within};
+ghost use Rattle.kd_config.specs.Parts.{obey_within, obeys_within, path_at};
 ghost use Rattle.kd_config.specs.Rules.{may_stand, reserved};
 ghost use Rattle.kd_config.specs.Steps.{must};
 ghost use Rattle.kd_config.specs.declared.fault.ConfigFault.TheVariants.{Memory};
@@ -24,7 +24,7 @@ pub(crate) fn check_rules(
 ) -> Result<(), ConfigFault>
     ensures checked { Means Memory result (must (may_stand subnets.now)) }
     ensures first { IfErr result (λ fault. fault ≢ Memory
-        → SubnetsFail may_stand subnets.now fault) }
+        → SubnetsFail may_stand (path_at at.now) subnets.now fault) }
 {
     let ranges = all_ranges(alloc, subnets)?;
     let apart = first_overlap(alloc, &ranges)?;
@@ -40,7 +40,7 @@ fn check_each(
 ) -> Result<(), ConfigFault>
     ensures checked { Means Memory result (must (obey_within apart [] subnets.now)) }
     ensures first { IfErr result (λ fault. fault ≢ Memory
-        → SubnetsFail (obey_within apart []) subnets.now fault) }
+        → SubnetsFail (obey_within apart []) (path_at at.now) subnets.now fault) }
 {
     let mut left = apart;
     let mut earlier = IndexSet::new(alloc);
@@ -67,7 +67,8 @@ fn check_subnet(
     ensures checked { GivesAs Memory (λ _. tt) result
         (must (obeys_within apart (keys earlier.old) subnet.now)) }
     ensures first { IfErr result (λ fault. fault ≢ Memory
-        → SubnetFails (obeys_within apart (keys earlier.old)) subnet.now fault) }
+        → SubnetFails (obeys_within apart (keys earlier.old)) (path_at at.now) (keys earlier.old)
+        subnet.now fault) }
 {
     let pools = subnet.pools.as_slice();
     check_pools(

@@ -1,7 +1,7 @@
 use Rattle.std.proofs.Common.{subst}
 use Rattle.std.proofs.lemmas.Result.{err_from_is_err_and}
 use Rattle.kd_config.proofs.SoundSettings.{sound}
-use Rattle.kd_config.proofs.Told.{none_configured, tells_classes}
+use Rattle.kd_config.proofs.WhichFault.{none_configured, first_of_classes}
 use Rattle.kd_config.specs.Configured.{AreDefinitions}
 use Rattle.kd_config.proofs.config.Config.read.Goals as goal
 
@@ -16,7 +16,7 @@ returns-in_err-classes-clause-first c =
     let at = c.from_residual-in_err-classes in
     let p = err_from_is_err_and at.result at.ensures.1 in
     rw (p.1, p.2)
-    (tells_classes c.args.text.now c.in_ok-server.field-0 _ c.in_ok-server.ensures.meant)
+    (first_of_classes c.args.text.now c.in_ok-server.field-0 _ c.in_ok-server.ensures.meant)
 
 pub returns-in_err-classes-clause-refused : goal.returns-in_err-classes-clause-refused
 returns-in_err-classes-clause-refused c =

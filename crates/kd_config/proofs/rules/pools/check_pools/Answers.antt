@@ -1,6 +1,7 @@
 use Rattle.std.proofs.Common.{arith}
 use Rattle.std.proofs.lemmas.Result.{err_from_is_err_and}
 use Rattle.kd_config.proofs.FirstFaults.{all_within, not_all_within, within_failed, within_passed}
+use Rattle.kd_config.specs.Parts.{path_at}
 use Rattle.kd_config.proofs.rules.pools.check_pools.Goals as goal
 
 pub loop-i-preserved : goal.loop-i-preserved
@@ -28,9 +29,9 @@ returns-in_err-check_pool-clause-first c =
     let failed = c.in_err-check_pool.ensures in
     let p = err_from_is_err_and c.from_residual.result c.from_residual.ensures.1 in
     rw (p.1, p.2)
-    (λ other. within_failed c.args.prefix c.args.pools.now c.args.apart at.i this.result _
-    (omega arith) at.invariant.below this.is (failed.checked other) at.invariant.within
-    (failed.kind other))
+    (λ other. within_failed c.args.prefix (path_at c.args.at.now) c.args.pools.now c.args.apart at.i
+    this.result _ (omega arith) at.invariant.below this.is (failed.checked other)
+    at.invariant.within (failed.kind other) (failed.path other))
 
 pub returns-clause-checked : goal.returns-clause-checked
 returns-clause-checked c =

@@ -2,7 +2,7 @@ use Rattle.std.proofs.Common.{map, rules, arith}
 use Rattle.std.proofs.lemmas.Grind.{common_steps}
 use Rattle.std.proofs.lemmas.Result.{err_from_is_err_and}
 use Rattle.indexmap.specs.IndexSet.{keys}
-use Rattle.kd_config.specs.Parts.{client_by}
+use Rattle.kd_config.specs.Parts.{client_by, path_at}
 use Rattle.kd_config.proofs.FirstFaults.{all_inside, inside_failed, inside_passed, not_all_inside}
 use Rattle.kd_config.proofs.rules.reservations.check_reservations.Goals as goal
 
@@ -36,9 +36,10 @@ returns-in_err-check_reservation-clause-first c =
     let failed = c.in_err-check_reservation.ensures in
     let p = err_from_is_err_and c.from_residual.result c.from_residual.ensures.1 in
     rw (p.1, p.2)
-    (λ other. inside_failed c.args.prefix (keys c.args.earlier.now) (keys at.earlier)
-    (map client_by (keys at.clients)) c.args.reservations.now at.i this.result _ (omega arith)
-    this.is at.invariant.left (failed.checked other) (failed.kind other))
+    (λ other. inside_failed c.args.prefix (path_at c.args.at.now) (keys c.args.earlier.now)
+    (keys at.earlier) (map client_by (keys at.clients)) c.args.reservations.now at.i this.result _
+    (omega arith) this.is at.invariant.joined at.invariant.left (failed.checked other)
+    (failed.kind other) (failed.path other))
 
 pub returns-clause-checked : goal.returns-clause-checked
 returns-clause-checked c =

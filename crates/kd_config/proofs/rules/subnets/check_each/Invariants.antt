@@ -1,7 +1,11 @@
-use Rattle.std.proofs.Common.{take}
+use Rattle.std.proofs.Common.{◌≡◌, take}
 use Rattle.indexmap.specs.IndexSet.{keys}
 use Rattle.kd_config.proofs.FirstSubnets.{AllDecide}
+use Rattle.kd_config.specs.FirstFault.{all_reserved}
 use Rattle.kd_config.proofs.rules.subnets.check_each.Given as goal
 
 abbrev pub invariant-loop-i : goal.invariant-loop-i
-invariant-loop-i l = AllDecide l.apart (take l.i l.subnets) l.left (keys l.earlier)
+invariant-loop-i l = record {
+  decide : AllDecide l.apart (take l.i l.subnets) l.left (keys l.earlier);
+  joined : keys l.earlier ≡ all_reserved (take l.i l.subnets);
+}

@@ -1,5 +1,6 @@
--- What a fault tells of a text.
-use Rattle.std.proofs.Common.{◌≡◌, ◌≢◌, ℕ, ◌≤◌, Bool, true, false, if◌then◌else◌, List, [], ◌∷◌, ◌++◌, take, Some, None, refl, ap, subst, sym, ◌∙◌, arith, inl, inr}
+-- Which fault a text has.
+use Rattle.std.proofs.Common.{◌≡◌, ◌≢◌, ℕ, ◌≤◌, Bool, true, false, if◌then◌else◌, List, [], ◌∷◌, ◌++◌, take, codes, Some, None, refl, ap, subst, sym, ◌∙◌, arith, inl, inr}
+use Rattle.std.specs.Fmt.{decimal}
 use Rattle.kd_classes.specs.Order.{AreInOrder}
 use Rattle.kd_classes.specs.declared.definition.ClassDef.{ClassDef}
 use Rattle.kd_config.proofs.Came.{some_is}
@@ -8,7 +9,7 @@ use Rattle.kd_config.specs.Configuration.{Configuration}
 use Rattle.kd_config.specs.Configured.{AreDefinitions, IsConfigured}
 use Rattle.kd_config.specs.Document.{accepted_settings, settings_spelled}
 use Rattle.kd_config.specs.Faults.{config_fault_number}
-use Rattle.kd_config.specs.FirstFault.{SubnetFails, SubnetsFail, Tells}
+use Rattle.kd_config.specs.FirstFault.{all_reserved, path_below, SubnetFails, SubnetsFail, IsFirstFault}
 use Rattle.kd_config.specs.Parts.{classes_fault, settings_fault}
 use Rattle.kd_config.specs.Rules.{lies_within, may_stand}
 use Rattle.kd_config.specs.declared.fault.ConfigFault.{ConfigFault}
@@ -23,13 +24,13 @@ use Rattle.kd_config.specs.declared.subnet.Subnet.{Subnet}
 use Rattle.kd_config.specs.declared.token_file.TokenFile.{TokenFile}
 
 -- the text spells no settings
-pub tells_settings : (text : List ℕ) (fault : SettingsFault)
-    → (fault ≢ settings.Memory → settings_spelled text ≡ None) → Tells text (settings_fault fault)
-tells_settings text settings.Json h = h (λ e. cc)
-tells_settings text (settings.Missing path) h = h (λ e. cc)
-tells_settings text (settings.Unknown path) h = h (λ e. cc)
-tells_settings text (settings.BadValue path) h = h (λ e. cc)
-tells_settings text settings.Memory h = tt
+pub first_of_settings : (text : List ℕ) (fault : SettingsFault)
+    → (fault ≢ settings.Memory → settings_spelled text ≡ None) → IsFirstFault text (settings_fault fault)
+first_of_settings text settings.Json h = h (λ e. cc)
+first_of_settings text (settings.Missing path) h = h (λ e. cc)
+first_of_settings text (settings.Unknown path) h = h (λ e. cc)
+first_of_settings text (settings.BadValue path) h = h (λ e. cc)
+first_of_settings text settings.Memory h = tt
 
 -- and so none that may stand
 pub none_accepted : (text : List ℕ) (fault : SettingsFault)
@@ -44,55 +45,60 @@ between : (b : Bool) (n least most : ℕ) → 74 ≤ least → least ≤ most �
 between true n least most p q r e = (omega arith, omega arith)
 between false n least most p q r e = (omega arith, omega arith)
 
-of_rule : (test : Subnet → Bool) (s : Subnet) (fault : ConfigFault) → SubnetFails test s fault
+of_rule : (test : Subnet → Bool) (path earlier : List ℕ) (s : Subnet) (fault : ConfigFault)
+    → SubnetFails test path earlier s fault
     → (74 ≤ config_fault_number fault) × (config_fault_number fault ≤ 76)
-of_rule test s fault (inl h) =
+of_rule test path earlier s fault (inl h) =
     between (lies_within s.prefix h.pool) (config_fault_number fault) 74 75 (omega arith)
-    (omega arith) (omega arith) h.told
-of_rule test s fault (inr h) =
+    (omega arith) (omega arith) h.number
+of_rule test path earlier s fault (inr h) =
     between (has_address s.prefix h.reservation.address) (config_fault_number fault) 74 76
-    (omega arith) (omega arith) (omega arith) h.told
+    (omega arith) (omega arith) (omega arith) h.number
 
-rule_number : (subnets : List Subnet) (fault : ConfigFault) → SubnetsFail may_stand subnets fault
+rule_number : (subnets : List Subnet) (fault : ConfigFault)
+    → SubnetsFail may_stand (codes "/Dhcp4/subnet4") subnets fault
     → (74 ≤ config_fault_number fault) × (config_fault_number fault ≤ 76)
 rule_number subnets fault h =
-    of_rule (λ s. may_stand (take h.place subnets ++ s ∷ [])) h.subnet fault h.value
+    of_rule (λ s. may_stand (take h.place subnets ++ s ∷ []))
+    (path_below (codes "/Dhcp4/subnet4") (decimal h.place)) (all_reserved (take h.place subnets))
+    h.subnet fault h.value
 
 -- a rule is broken
-pub tells_rule : (text : List ℕ) (s : Settings) (fault : ConfigFault)
+pub first_of_rules : (text : List ℕ) (s : Settings) (fault : ConfigFault)
     → settings_spelled text ≡ Some s
-    → (fault ≢ faults.Memory → SubnetsFail may_stand s.subnets fault) → Tells text fault
-tells_rule text s faults.Json e h =
+    → (fault ≢ faults.Memory → SubnetsFail may_stand (codes "/Dhcp4/subnet4") s.subnets fault)
+    → IsFirstFault text fault
+first_of_rules text s faults.Json e h =
     let n = rule_number s.subnets faults.Json (h (λ k. cc)) in absurd (omega (arith, n.0))
-tells_rule text s (faults.Missing path) e h =
+first_of_rules text s (faults.Missing path) e h =
     let n = rule_number s.subnets (faults.Missing path) (h (λ k. cc)) in absurd (omega (arith, n.0))
-tells_rule text s (faults.Unknown path) e h =
+first_of_rules text s (faults.Unknown path) e h =
     let n = rule_number s.subnets (faults.Unknown path) (h (λ k. cc)) in absurd (omega (arith, n.0))
-tells_rule text s (faults.BadValue path) e h =
+first_of_rules text s (faults.BadValue path) e h =
     let n = rule_number s.subnets (faults.BadValue path) (h (λ k. cc)) in absurd (omega (arith, n.0))
-tells_rule text s (faults.PoolOutside path) e h =
+first_of_rules text s (faults.PoolOutside path) e h =
     record { settings = s; spelled = e; broken = h (λ k. cc) }
-tells_rule text s (faults.Overlap path) e h =
+first_of_rules text s (faults.Overlap path) e h =
     record { settings = s; spelled = e; broken = h (λ k. cc) }
-tells_rule text s (faults.DuplicateReservation path) e h =
+first_of_rules text s (faults.DuplicateReservation path) e h =
     record { settings = s; spelled = e; broken = h (λ k. cc) }
-tells_rule text s (faults.Expression number why) e h =
+first_of_rules text s (faults.Expression number why) e h =
     let n = rule_number s.subnets (faults.Expression number why) (h (λ k. cc)) in
     absurd (omega (arith, n.1))
-tells_rule text s (faults.Tokens number why) e h =
+first_of_rules text s (faults.Tokens number why) e h =
     let n = rule_number s.subnets (faults.Tokens number why) (h (λ k. cc)) in
     absurd (omega (arith, n.1))
-tells_rule text s (faults.Class why) e h =
+first_of_rules text s (faults.Class why) e h =
     let n = rule_number s.subnets (faults.Class why) (h (λ k. cc)) in absurd (omega (arith, n.1))
-tells_rule text s faults.Memory e h = tt
+first_of_rules text s faults.Memory e h = tt
 
 -- the settings may stand
-pub tells_classes : (text : List ℕ) (s : Settings) (fault : ClassesFault)
-    → accepted_settings text ≡ Some s → Tells text (classes_fault fault)
-tells_classes text s (classes.Expression number why) e = record { settings = s; accepted = e }
-tells_classes text s (classes.Tokens number why) e = record { settings = s; accepted = e }
-tells_classes text s (classes.Class why) e = record { settings = s; accepted = e }
-tells_classes text s classes.Memory e = tt
+pub first_of_classes : (text : List ℕ) (s : Settings) (fault : ClassesFault)
+    → accepted_settings text ≡ Some s → IsFirstFault text (classes_fault fault)
+first_of_classes text s (classes.Expression number why) e = record { settings = s; accepted = e }
+first_of_classes text s (classes.Tokens number why) e = record { settings = s; accepted = e }
+first_of_classes text s (classes.Class why) e = record { settings = s; accepted = e }
+first_of_classes text s classes.Memory e = tt
 
 -- settings whose classes have no definitions that may stand mean no configuration
 pub none_configured : (text : List ℕ) (files : List TokenFile) (s : Settings)
