@@ -7,7 +7,7 @@ use Rattle.kd_compile.specs.Measures.{number_tree, four_more, step_count, stack_
 use Rattle.kd_compile.specs.Measures.{token_count as size}
 use Rattle.kd_expr.specs.Grammar.{Spells, Level, or_one, or_more, and_one, and_more, not_none, negated, compare_one, equal, sum_one, sum_more, string, hexadecimal, address, number, group, option_hex, option_exists, relay_hex, relay_exists, field, packet_length, member, substring, concat, ifelse, hexstring, lcase, ucase, uint32totext, IsSigned, plain, below, IsLength, counted, whole, HasText}
 use Rattle.kd_expr.specs.Address.{IsAddress, four}
-use Rattle.kd_expr.specs.Lexical.{Lexeme, Scans, finished, blank, token, Word, string_word, hex_word, address_word, number_word, minus_word, name_word, sign_word, equal_word}
+use Rattle.kd_expr.specs.Lexical.{Lexeme, Scans, finished, blank, token, bad, Word, string_word, hex_word, address_word, number_word, minus_word, name_word, sign_word, equal_word}
 use Rattle.kd_expr.specs.Tree.{Tree, Literal, Int, OptionValue, RelayValue, FieldValue, OptionExists, RelayExists, Member, Equal, Not, And, Or, Group, Concat, IfElse, Substring, HexString, Lower, Upper, IntToText}
 use Rattle.kd_token.specs.File.{IsName, IsCount}
 
@@ -134,6 +134,7 @@ scanned_le : {at : ℕ} {bytes : List ℕ} {ts : List Lexeme} → Scans at bytes
 scanned_le finished = omega arith
 scanned_le (blank is s) = omega (arith, scanned_le s)
 scanned_le (token word rest w s) = omega (arith, scanned_le s, word_some w, length-append word rest)
+scanned_le (bad solid none) = omega arith
 
 -- a tree with a text has few tokens
 pub few_tokens : (t : Tree) → HasText t → size t ≤ 16382

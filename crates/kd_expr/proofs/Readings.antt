@@ -220,7 +220,7 @@ one_front {m} {x} h e = let both = ok_pair e in record {
 named_front : (m at : ℕ) (name : List ℕ) {t : Tree} (ts rest : List Lexeme) → Takes (λ us. Behind m at name us t) ts rest → Takes (λ us. Spells primary_level m us t) (NameAt at name ∷ ts) rest
 named_front m at name ts rest t = record { front = NameAt at name ∷ t.front; is = ap (λ v. NameAt at name ∷ v) t.is; holds = t.holds }
 
-primary_sound : (m : ℕ) (d : Deeper) → DeeperIsSound m d → IsSound (Spells primary_level m) (primary_at d)
+pub primary_sound : (m : ℕ) (d : Deeper) → DeeperIsSound m d → IsSound (Spells primary_level m) (primary_at d)
 unfolding primary_at
 primary_sound m d s end [] t rest e = err_is e
 primary_sound m d s end (StringAt at v ∷ ts) t rest e = one_front string e
@@ -263,7 +263,7 @@ module _ (m : ℕ) (d : Deeper) (s : DeeperIsSound m d) where
       (subst (λ y. Spells compare_level m (us ++ y ∷ vs) (Equal (at_of a) a b)) (sym (sign_is 61 x o e)) (equal o h r)))))
       (done_sound (λ ws t. Spells compare_level m (us ++ ws) t) a (subst (λ v. Spells compare_level m v a) (sym (append-nil us)) (compare_one h))))
 
-  not_sound : IsSound (Spells not_level m) (not_at d)
+  pub not_sound : IsSound (Spells not_level m) (not_at d)
   unfolding not_at
   not_sound =
       either_sound (Spells not_level m) (word_at (codes "not")) _ (compare_at d)
@@ -273,7 +273,7 @@ module _ (m : ℕ) (d : Deeper) (s : DeeperIsSound m d) where
       (subst (λ v. Spells not_level m (NameAt o (codes "not") ∷ v) (Not o a)) (sym (append-nil us)) (negation_made i)))))
       (weaker (Spells compare_level m) (Spells not_level m) (compare_at d) (λ us a h. not_none h) compare_sound)
 
-  and_sound : IsSound (Spells and_level m) (and_at d)
+  pub and_sound : IsSound (Spells and_level m) (and_at d)
   unfolding and_at
   and_sound =
       chain_sound (Spells and_level m) (Spells not_level m) (word_at (codes "and")) (not_at d) and_of not_sound

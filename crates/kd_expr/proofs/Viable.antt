@@ -1,6 +1,6 @@
 -- What the readers of forms refuse: the tokens before begin an expression, however deep it is nested.
 use Rattle.std.proofs.Common.{◌≡◌, ◌⊎◌, inl, inr, ℕ, zero, suc, ◌+◌, ◌≤◌, ◌<◌, ◌^◌, ℤ, pos, Bool, true, false, Option, Some, None, Result, Ok, Err, List, [], ◌∷◌, ◌++◌, length, refl, sym, ◌∙◌, ap, subst, append-nil, codes, bytes_eq, if◌then◌else◌, nat_lt, ltb-true, arith, eq-eqb}
-use Rattle.kd_expr.specs.FirstFault.{place_of, is_bad}
+use Rattle.kd_expr.specs.FirstFault.{place_of, is_bad, IsLike, itself, another_number, another_below_zero, an_option}
 use Rattle.kd_expr.specs.Grammar.{Spells, Level, or_level, and_level, not_level, compare_level, sum_level, primary_level, or_one, or_more, and_one, and_more, not_none, negated, compare_one, equal, sum_one, sum_more, string, hexadecimal, address, number, group, option_hex, option_exists, relay_hex, relay_exists, field, packet_length, member, substring, concat, ifelse, hexstring, lcase, ucase, uint32totext, IsSigned, plain, IsLength, counted}
 use Rattle.kd_expr.specs.Lexical.{Lexeme, StringAt, HexAt, AddressAt, NumberAt, MinusAt, NameAt, SignAt, BadAt}
 use Rattle.kd_expr.specs.Names.{code_by_name, field_by_name}
@@ -10,9 +10,10 @@ use Rattle.kd_expr.specs.Tree.{Tree, Literal, Int, OptionValue, RelayValue, Fiel
 use Rattle.kd_expr.specs.declared.fault.SyntaxFault.{SyntaxFault}
 use Rattle.kd_expr.specs.declared.fault.SyntaxFault.TheVariants as faults
 use Rattle.kd_expr.specs.declared.node.Field.{Field}
-use Rattle.kd_expr.proofs.Faulty.{Begins, Refused, too_large, too_low, unknown, unexpected, nested, bad, refusal_is, Read, Stopped, Comes, Good, GoodTo, comes, same_good, done_good, seq_good, head_same, goes_on, stops_at, reads_one, either_found, either_good, either_good_to, wanted_good, seq_one_good, weaker_good, chain_good, at_the_end}
-use Rattle.kd_expr.proofs.Readings.{before_is, InBrackets, in_brackets}
-use Rattle.kd_expr.proofs.Sound.{OneOf, is_one, on_ok_twice}
+use Rattle.kd_expr.proofs.Faulty.{Stays, likes, IsBlind, IsSteady, IsShort, plain_steady, steady_same, rest_shorter, Begins, Refused, too_large, too_low, unknown, unexpected, nested, bad, refusal_is, Read, Stopped, Comes, Good, GoodTo, comes, same_good, done_good, seq_good, head_same, goes_on, stops_at, reads_one, either_found, either_good, either_good_to, wanted_good, seq_one_good, weaker_good, chain_good, at_the_end}
+use Rattle.kd_expr.proofs.Options.{none_is}
+use Rattle.kd_expr.proofs.Readings.{before_is, InBrackets, in_brackets, DeeperIsSound, primary_sound, not_sound, and_sound, below_sound}
+use Rattle.kd_expr.proofs.Sound.{OneOf, is_one, on_ok_twice, IsSound}
 use Rattle.kd_expr.proofs.Tokens.{sign_is, word_is, option_code_is, relay_code_is, IsRelayCode, relay_number, IsSuffix, hex, exists, suffix_is, IsPartName, part_name, field_of_is, signed_is, length_is, IsClassName, class_is, class_name_is}
 use Rattle.std.proofs.lemmas.Slice.Eq.{bytes_eq-Decides}
 
@@ -91,102 +92,255 @@ hexstring_both at o c d us vs a b p q = (suc (p.0 + q.0), hexstring c d (raised 
 ifelse_all : (at o c d e : ℕ) (us vs ws : List Lexeme) (t a b : Tree) → AnySpells or_level us t → AnySpells or_level vs a → AnySpells or_level ws b → After at (codes "ifelse") (SignAt o 40 ∷ (us ++ SignAt c 44 ∷ (vs ++ SignAt d 44 ∷ (ws ++ SignAt e 41 ∷ [])))) (IfElse at t a b)
 ifelse_all at o c d e us vs ws t a b p q r = (suc ((p.0 + q.0) + r.0), ifelse c d e (raised ((p.0 + q.0) + r.0) (omega arith) p.1) (raised ((p.0 + q.0) + r.0) (omega arith) q.1) (raised ((p.0 + q.0) + r.0) (omega arith) r.1))
 
+-- the name of an option is no other name
+not_named : (known w : List ℕ) (code : ℕ) → code_by_name known ≡ Some code → code_by_name w ≡ None → bytes_eq known w ≡ false
+not_named known w code e unlisted =
+    let by : (v : Bool) → bytes_eq known w ≡ v → v ≡ false
+    = λ v. elim v as (λ v. bytes_eq known w ≡ v → v ≡ false) [
+      | true ↦ λ is. none_is (sym unlisted ∙ (ap (λ u. code_by_name u) (sym ((bytes_eq-Decides known w).0 is)) ∙ e))
+      | false ↦ λ _. refl
+    ] in
+    by (bytes_eq known w) refl
+
+-- tokens like one that a test does not let through
+sign_blind : (b : ℕ) → IsBlind (sign_at b)
+sign_blind b _ _ itself e = e
+sign_blind b _ _ another_number e = refl
+sign_blind b _ _ another_below_zero e = refl
+sign_blind b _ _ (an_option code is) e = refl
+
+word_blind : (w : List ℕ) → code_by_name w ≡ None → IsBlind (word_at w)
+word_blind w unlisted _ _ itself e = e
+word_blind w unlisted _ _ another_number e = refl
+word_blind w unlisted _ _ another_below_zero e = refl
+word_blind w unlisted _ _ (an_option {known = known} code is) e = rw (not_named known w code is unlisted) refl
+
+class_blind : IsBlind class_name
+class_blind _ _ itself e = e
+class_blind _ _ another_number e = refl
+class_blind _ _ another_below_zero e = refl
+class_blind _ _ (an_option code is) e = refl
+
+-- names that no option has
+no_and : code_by_name (codes "and") ≡ None
+unfolding code_by_name
+no_and = refl
+
+no_or : code_by_name (codes "or") ≡ None
+unfolding code_by_name
+no_or = refl
+
+no_not : code_by_name (codes "not") ≡ None
+unfolding code_by_name
+no_not = refl
+
+no_len : code_by_name (codes "len") ≡ None
+unfolding code_by_name
+no_len = refl
+
+no_all : code_by_name (codes "all") ≡ None
+unfolding code_by_name
+no_all = refl
+
+suffix_blind : IsBlind suffix_of
+unfolding code_by_name
+suffix_blind _ _ itself e = e
+suffix_blind _ _ another_number e = refl
+suffix_blind _ _ another_below_zero e = refl
+suffix_blind _ _ (an_option {known = known} code is) e = rw (not_named known (codes "hex") code is refl, not_named known (codes "exists") code is refl) refl
+
+-- an option's name is that of no field
+no_field : (known : List ℕ) (code : ℕ) → code_by_name known ≡ Some code → field_by_name known ≡ None
+unfolding code_by_name field_by_name
+no_field known code is =
+    rw (not_named known (codes "mac") code is refl, not_named known (codes "hlen") code is refl, not_named known (codes "htype") code is refl, not_named known (codes "ciaddr") code is refl, not_named known (codes "giaddr") code is refl, not_named known (codes "yiaddr") code is refl, not_named known (codes "siaddr") code is refl, not_named known (codes "msgtype") code is refl, not_named known (codes "transid") code is refl) refl
+
+field_blind : IsBlind field_of
+field_blind _ _ itself e = e
+field_blind _ _ another_number e = refl
+field_blind _ _ another_below_zero e = refl
+field_blind _ _ (an_option {known = known} code is) e = no_field known code is
+
 -- the tests of one token: which could stand, and how each is refused
-at_front : {B : Type 0} (P : List Lexeme → B → Type 0) (r : Reader B) {x y : Lexeme} → x ≡ y → Good (λ ws b. P (y ∷ ws) b) r → Good (λ ws b. P (x ∷ ws) b) r
-at_front P r e h = let F : Lexeme → Type 0 = λ z. Good (λ ws b. P (z ∷ ws) b) r in subst F (sym e) h
+at_front : {B : Type 0} (P : List Lexeme → B → Type 0) (r : Reader B) (rs : ℕ → Reader B) {x y : Lexeme} → x ≡ y → Good (λ ws b. P (y ∷ ws) b) r rs → Good (λ ws b. P (x ∷ ws) b) r rs
+at_front P r rs e h = let F : Lexeme → Type 0 = λ z. Good (λ ws b. P (z ∷ ws) b) r rs in subst F (sym e) h
 
 sign_found : (b : ℕ) → sign_at b (SignAt 0 b) ≡ Some 0
 sign_found b = rw (eq-eqb b b refl) refl
 
-sign_good : {B : Type 0} (P : List Lexeme → B → Type 0) (b : ℕ) (f : ℕ → Reader B) → ((o : ℕ) → Good (λ ws t. P (SignAt o b ∷ ws) t) (f o)) → Good P (seq (sign_here b) f)
-sign_good P b f h =
-    seq_one_good P (sign_at b) refusal_of f (wanted_good (sign_at b) refusal_of (SignAt 0 b) 0 (sign_found b) (λ end x ts. refusal_is (Begins (OneOf (sign_at b))) end x ts))
-    (λ x o e. at_front P (f o) (sign_is b x o e) (h o))
+sign_good : {B : Type 0} (P : List Lexeme → B → Type 0) (b : ℕ) (f : ℕ → Reader B) (fs : ℕ → ℕ → Reader B) → ((o : ℕ) → Good (λ ws t. P (SignAt o b ∷ ws) t) (f o) (λ j. fs j o)) → Good P (seq (sign_here b) f) (λ j. seq (sign_here b) (fs j))
+sign_good P b f fs h =
+    seq_one_good P (sign_at b) refusal_of f fs (wanted_good (sign_at b) refusal_of (plain_steady (sign_at b) (sign_blind b)) (SignAt 0 b) 0 (sign_found b) (λ end x ts. refusal_is (Begins (OneOf (sign_at b))) end x ts))
+    (λ x o e. at_front P (f o) (λ j. fs j o) (sign_is b x o e) (h o))
 
-len_good : {B : Type 0} (P : List Lexeme → B → Type 0) (f : ℕ → Reader B) → ((o : ℕ) → Good (λ ws t. P (NameAt o (codes "len") ∷ ws) t) (f o)) → Good P (seq (word_here (codes "len")) f)
-len_good P f h =
-    seq_one_good P (word_at (codes "len")) refusal_of f (wanted_good (word_at (codes "len")) refusal_of (NameAt 0 (codes "len")) 0 refl (λ end x ts. refusal_is (Begins (OneOf (word_at (codes "len")))) end x ts))
-    (λ x o e. at_front P (f o) (word_is (codes "len") x o e) (h o))
+len_good : {B : Type 0} (P : List Lexeme → B → Type 0) (f : ℕ → Reader B) (fs : ℕ → ℕ → Reader B) → ((o : ℕ) → Good (λ ws t. P (NameAt o (codes "len") ∷ ws) t) (f o) (λ j. fs j o)) → Good P (seq (word_here (codes "len")) f) (λ j. seq (word_here (codes "len")) (fs j))
+len_good P f fs h =
+    seq_one_good P (word_at (codes "len")) refusal_of f fs (wanted_good (word_at (codes "len")) refusal_of (plain_steady (word_at (codes "len")) (word_blind (codes "len") no_len)) (NameAt 0 (codes "len")) 0 refl (λ end x ts. refusal_is (Begins (OneOf (word_at (codes "len")))) end x ts))
+    (λ x o e. at_front P (f o) (λ j. fs j o) (word_is (codes "len") x o e) (h o))
 
-suffix_good : Good (OneOf suffix_of) (wanted suffix_of refusal_of)
-suffix_good = wanted_good suffix_of refusal_of (NameAt 0 (codes "hex")) false refl (λ end x ts. refusal_is (Begins (OneOf suffix_of)) end x ts)
+suffix_good : Good (OneOf suffix_of) (wanted suffix_of refusal_of) (λ j. wanted suffix_of refusal_of)
+suffix_good = wanted_good suffix_of refusal_of (plain_steady suffix_of suffix_blind) (NameAt 0 (codes "hex")) false refl (λ end x ts. refusal_is (Begins (OneOf suffix_of)) end x ts)
 
-field_good : Good (OneOf field_of) (wanted field_of refusal_of)
+field_good : Good (OneOf field_of) (wanted field_of refusal_of) (λ j. wanted field_of refusal_of)
 unfolding field_by_name
-field_good = wanted_good field_of refusal_of (NameAt 0 (codes "mac")) _ refl (λ end x ts. refusal_is (Begins (OneOf field_of)) end x ts)
+field_good = wanted_good field_of refusal_of (plain_steady field_of field_blind) (NameAt 0 (codes "mac")) _ refl (λ end x ts. refusal_is (Begins (OneOf field_of)) end x ts)
 
-class_good : Good (OneOf class_name) (wanted class_name refusal_of)
-class_good = wanted_good class_name refusal_of (StringAt 0 (97 ∷ [])) (97 ∷ []) refl (λ end x ts. refusal_is (Begins (OneOf class_name)) end x ts)
+class_good : Good (OneOf class_name) (wanted class_name refusal_of) (λ j. wanted class_name refusal_of)
+class_good = wanted_good class_name refusal_of (plain_steady class_name class_blind) (StringAt 0 (97 ∷ [])) (97 ∷ []) refl (λ end x ts. refusal_is (Begins (OneOf class_name)) end x ts)
 
-relay_refused : (end : ℕ) (x : Lexeme) (ts : List Lexeme) → Refused (Begins (OneOf code_of_relay)) end [] (x ∷ ts) (code_refusal x)
-relay_refused end (NumberAt at k) ts = too_large at k 0 ts ([], 0, is_one (NumberAt at 0) refl)
-relay_refused end (StringAt at s) ts = refusal_is (Begins (OneOf code_of_relay)) end (StringAt at s) ts
-relay_refused end (HexAt at s) ts = refusal_is (Begins (OneOf code_of_relay)) end (HexAt at s) ts
-relay_refused end (AddressAt at s) ts = refusal_is (Begins (OneOf code_of_relay)) end (AddressAt at s) ts
-relay_refused end (MinusAt at s) ts = refusal_is (Begins (OneOf code_of_relay)) end (MinusAt at s) ts
-relay_refused end (NameAt at s) ts = refusal_is (Begins (OneOf code_of_relay)) end (NameAt at s) ts
-relay_refused end (SignAt at s) ts = refusal_is (Begins (OneOf code_of_relay)) end (SignAt at s) ts
-relay_refused end (BadAt at) ts = refusal_is (Begins (OneOf code_of_relay)) end (BadAt at) ts
+not_false : {C : Type 0} → ◌≡◌ {A = Bool} true false → C
+not_false e = absurd (cc)
 
-relay_code_good : Good (OneOf code_of_relay) (wanted code_of_relay code_refusal)
-relay_code_good = wanted_good code_of_relay code_refusal (NumberAt 0 0) 0 refl relay_refused
+-- a number without a sign
+abbrev is_number : Lexeme → Bool
+is_number (NumberAt at k) = true
+is_number x = false
+
+-- a number without a sign, or a name
+abbrev is_named_or_number : Lexeme → Bool
+is_named_or_number (NumberAt at k) = true
+is_named_or_number (NameAt at s) = true
+is_named_or_number x = false
+
+-- a number
+abbrev is_signed : Lexeme → Bool
+is_signed (NumberAt at k) = true
+is_signed (MinusAt at k) = true
+is_signed x = false
+
+relay_like : (x y : Lexeme) → code_of_relay x ≡ None → IsLike x y → is_number x ≡ false → (code_of_relay y ≡ None) × (code_refusal y ≡ code_refusal x)
+relay_like _ _ e itself n = (e, refl)
+relay_like _ _ e another_number n = not_false n
+relay_like _ _ e another_below_zero n = (refl, refl)
+relay_like _ _ e (an_option code is) n = (refl, refl)
+
+option_like : (x y : Lexeme) → code_of_option x ≡ None → IsLike x y → is_named_or_number x ≡ false → (code_of_option y ≡ None) × (option_refusal y ≡ option_refusal x)
+option_like _ _ e itself n = (e, refl)
+option_like _ _ e another_number n = not_false n
+option_like _ _ e another_below_zero n = (refl, refl)
+option_like _ _ e (an_option code is) n = not_false n
+
+signed_like : (x y : Lexeme) → signed x ≡ None → IsLike x y → is_signed x ≡ false → (signed y ≡ None) × (signed_refusal y ≡ signed_refusal x)
+signed_like _ _ e itself n = (e, refl)
+signed_like _ _ e another_number n = not_false n
+signed_like _ _ e another_below_zero n = not_false n
+signed_like _ _ e (an_option code is) n = (refl, refl)
+
+length_like : (x y : Lexeme) → length_of_part x ≡ None → IsLike x y → is_signed x ≡ false → (length_of_part y ≡ None) × (signed_refusal y ≡ signed_refusal x)
+length_like _ _ e itself n = (e, refl)
+length_like _ _ e another_number n = not_false n
+length_like _ _ e another_below_zero n = not_false n
+length_like _ _ e (an_option {known = known} code is) n = (rw (not_named known (codes "all") code is no_all) refl, refl)
 
 routers_known : code_by_name (codes "routers") ≡ Some 3
 unfolding code_by_name
 routers_known = refl
 
+relay_refused : (end : ℕ) (x : Lexeme) (ts : List Lexeme) → Refused (Begins (OneOf code_of_relay)) end [] (x ∷ ts) (code_refusal x)
+relay_refused end (StringAt at s) ts = refusal_is (Begins (OneOf code_of_relay)) end (StringAt at s) ts
+relay_refused end (HexAt at s) ts = refusal_is (Begins (OneOf code_of_relay)) end (HexAt at s) ts
+relay_refused end (AddressAt at s) ts = refusal_is (Begins (OneOf code_of_relay)) end (AddressAt at s) ts
+relay_refused end (NumberAt at s) ts = too_large at s 0 ts ([], 0, is_one (NumberAt at 0) refl)
+relay_refused end (MinusAt at s) ts = refusal_is (Begins (OneOf code_of_relay)) end (MinusAt at s) ts
+relay_refused end (NameAt at s) ts = refusal_is (Begins (OneOf code_of_relay)) end (NameAt at s) ts
+relay_refused end (SignAt at s) ts = refusal_is (Begins (OneOf code_of_relay)) end (SignAt at s) ts
+relay_refused end (BadAt at) ts = refusal_is (Begins (OneOf code_of_relay)) end (BadAt at) ts
+
+relay_steady : IsSteady code_of_relay code_refusal
+relay_steady j (StringAt at s) y e stays = relay_like (StringAt at s) y e stays refl
+relay_steady j (HexAt at s) y e stays = relay_like (HexAt at s) y e stays refl
+relay_steady j (AddressAt at s) y e stays = relay_like (AddressAt at s) y e stays refl
+relay_steady j (NumberAt at s) y e stays = steady_same code_of_relay code_refusal (NumberAt at s) y e stays
+relay_steady j (MinusAt at s) y e stays = relay_like (MinusAt at s) y e stays refl
+relay_steady j (NameAt at s) y e stays = relay_like (NameAt at s) y e stays refl
+relay_steady j (SignAt at s) y e stays = relay_like (SignAt at s) y e stays refl
+relay_steady j (BadAt at) y e stays = steady_same code_of_relay code_refusal (BadAt at) y e stays
+
+relay_code_good : Good (OneOf code_of_relay) (wanted code_of_relay code_refusal) (λ j. wanted code_of_relay code_refusal)
+relay_code_good = wanted_good code_of_relay code_refusal relay_steady (NumberAt 0 0) 0 refl relay_refused
+
 option_refused : (end : ℕ) (x : Lexeme) (ts : List Lexeme) → Refused (Begins (OneOf code_of_option)) end [] (x ∷ ts) (option_refusal x)
-option_refused end (NumberAt at k) ts = too_large at k 0 ts ([], 0, is_one (NumberAt at 0) refl)
-option_refused end (NameAt at s) ts = unknown at 3 s (codes "routers") ts routers_known ([], 3, is_one (NameAt at (codes "routers")) routers_known)
 option_refused end (StringAt at s) ts = refusal_is (Begins (OneOf code_of_option)) end (StringAt at s) ts
 option_refused end (HexAt at s) ts = refusal_is (Begins (OneOf code_of_option)) end (HexAt at s) ts
 option_refused end (AddressAt at s) ts = refusal_is (Begins (OneOf code_of_option)) end (AddressAt at s) ts
+option_refused end (NumberAt at s) ts = too_large at s 0 ts ([], 0, is_one (NumberAt at 0) refl)
 option_refused end (MinusAt at s) ts = refusal_is (Begins (OneOf code_of_option)) end (MinusAt at s) ts
+option_refused end (NameAt at s) ts = unknown at 3 s (codes "routers") ts routers_known ([], 3, is_one (NameAt at (codes "routers")) routers_known)
 option_refused end (SignAt at s) ts = refusal_is (Begins (OneOf code_of_option)) end (SignAt at s) ts
 option_refused end (BadAt at) ts = refusal_is (Begins (OneOf code_of_option)) end (BadAt at) ts
 
-option_code_good : Good (OneOf code_of_option) (wanted code_of_option option_refusal)
-option_code_good = wanted_good code_of_option option_refusal (NumberAt 0 0) 0 refl option_refused
+option_steady : IsSteady code_of_option option_refusal
+option_steady j (StringAt at s) y e stays = option_like (StringAt at s) y e stays refl
+option_steady j (HexAt at s) y e stays = option_like (HexAt at s) y e stays refl
+option_steady j (AddressAt at s) y e stays = option_like (AddressAt at s) y e stays refl
+option_steady j (NumberAt at s) y e stays = steady_same code_of_option option_refusal (NumberAt at s) y e stays
+option_steady j (MinusAt at s) y e stays = option_like (MinusAt at s) y e stays refl
+option_steady j (NameAt at s) y e stays = steady_same code_of_option option_refusal (NameAt at s) y e stays
+option_steady j (SignAt at s) y e stays = option_like (SignAt at s) y e stays refl
+option_steady j (BadAt at) y e stays = steady_same code_of_option option_refusal (BadAt at) y e stays
+
+option_code_good : Good (OneOf code_of_option) (wanted code_of_option option_refusal) (λ j. wanted code_of_option option_refusal)
+option_code_good = wanted_good code_of_option option_refusal option_steady (NumberAt 0 0) 0 refl option_refused
 
 signed_refused : (end : ℕ) (x : Lexeme) (ts : List Lexeme) → Refused (Begins (OneOf signed)) end [] (x ∷ ts) (signed_refusal x)
-signed_refused end (NumberAt at k) ts = too_large at k 0 ts ([], pos 0, is_one (NumberAt at 0) refl)
-signed_refused end (MinusAt at k) ts = too_low at k 0 ts ([], pos 0, is_one (MinusAt at 0) refl)
-signed_refused end (NameAt at s) ts = refusal_is (Begins (OneOf signed)) end (NameAt at s) ts
 signed_refused end (StringAt at s) ts = refusal_is (Begins (OneOf signed)) end (StringAt at s) ts
 signed_refused end (HexAt at s) ts = refusal_is (Begins (OneOf signed)) end (HexAt at s) ts
 signed_refused end (AddressAt at s) ts = refusal_is (Begins (OneOf signed)) end (AddressAt at s) ts
+signed_refused end (NumberAt at s) ts = too_large at s 0 ts ([], pos 0, is_one (NumberAt at 0) refl)
+signed_refused end (MinusAt at s) ts = too_low at s 0 ts ([], pos 0, is_one (MinusAt at 0) refl)
+signed_refused end (NameAt at s) ts = refusal_is (Begins (OneOf signed)) end (NameAt at s) ts
 signed_refused end (SignAt at s) ts = refusal_is (Begins (OneOf signed)) end (SignAt at s) ts
 signed_refused end (BadAt at) ts = refusal_is (Begins (OneOf signed)) end (BadAt at) ts
 
-signed_good : Good (OneOf signed) (wanted signed signed_refusal)
-signed_good = wanted_good signed signed_refusal (NumberAt 0 0) (pos 0) refl signed_refused
+signed_steady : IsSteady signed signed_refusal
+signed_steady j (StringAt at s) y e stays = signed_like (StringAt at s) y e stays refl
+signed_steady j (HexAt at s) y e stays = signed_like (HexAt at s) y e stays refl
+signed_steady j (AddressAt at s) y e stays = signed_like (AddressAt at s) y e stays refl
+signed_steady j (NumberAt at s) y e stays = steady_same signed signed_refusal (NumberAt at s) y e stays
+signed_steady j (MinusAt at s) y e stays = steady_same signed signed_refusal (MinusAt at s) y e stays
+signed_steady j (NameAt at s) y e stays = signed_like (NameAt at s) y e stays refl
+signed_steady j (SignAt at s) y e stays = signed_like (SignAt at s) y e stays refl
+signed_steady j (BadAt at) y e stays = steady_same signed signed_refusal (BadAt at) y e stays
+
+signed_good : Good (OneOf signed) (wanted signed signed_refusal) (λ j. wanted signed signed_refusal)
+signed_good = wanted_good signed signed_refusal signed_steady (NumberAt 0 0) (pos 0) refl signed_refused
 
 length_refused : (end : ℕ) (x : Lexeme) (ts : List Lexeme) → Refused (Begins (OneOf length_of_part)) end [] (x ∷ ts) (signed_refusal x)
-length_refused end (NumberAt at k) ts = too_large at k 0 ts ([], Some (pos 0), is_one (NumberAt at 0) refl)
-length_refused end (MinusAt at k) ts = too_low at k 0 ts ([], Some (pos 0), is_one (MinusAt at 0) refl)
-length_refused end (NameAt at s) ts = refusal_is (Begins (OneOf length_of_part)) end (NameAt at s) ts
 length_refused end (StringAt at s) ts = refusal_is (Begins (OneOf length_of_part)) end (StringAt at s) ts
 length_refused end (HexAt at s) ts = refusal_is (Begins (OneOf length_of_part)) end (HexAt at s) ts
 length_refused end (AddressAt at s) ts = refusal_is (Begins (OneOf length_of_part)) end (AddressAt at s) ts
+length_refused end (NumberAt at s) ts = too_large at s 0 ts ([], Some (pos 0), is_one (NumberAt at 0) refl)
+length_refused end (MinusAt at s) ts = too_low at s 0 ts ([], Some (pos 0), is_one (MinusAt at 0) refl)
+length_refused end (NameAt at s) ts = refusal_is (Begins (OneOf length_of_part)) end (NameAt at s) ts
 length_refused end (SignAt at s) ts = refusal_is (Begins (OneOf length_of_part)) end (SignAt at s) ts
 length_refused end (BadAt at) ts = refusal_is (Begins (OneOf length_of_part)) end (BadAt at) ts
 
-length_good : Good (OneOf length_of_part) (wanted length_of_part signed_refusal)
-length_good = wanted_good length_of_part signed_refusal (NumberAt 0 0) (Some (pos 0)) refl length_refused
+length_steady : IsSteady length_of_part signed_refusal
+length_steady j (StringAt at s) y e stays = length_like (StringAt at s) y e stays refl
+length_steady j (HexAt at s) y e stays = length_like (HexAt at s) y e stays refl
+length_steady j (AddressAt at s) y e stays = length_like (AddressAt at s) y e stays refl
+length_steady j (NumberAt at s) y e stays = steady_same length_of_part signed_refusal (NumberAt at s) y e stays
+length_steady j (MinusAt at s) y e stays = steady_same length_of_part signed_refusal (MinusAt at s) y e stays
+length_steady j (NameAt at s) y e stays = length_like (NameAt at s) y e stays refl
+length_steady j (SignAt at s) y e stays = length_like (SignAt at s) y e stays refl
+length_steady j (BadAt at) y e stays = steady_same length_of_part signed_refusal (BadAt at) y e stays
+
+length_good : Good (OneOf length_of_part) (wanted length_of_part signed_refusal) (λ j. wanted length_of_part signed_refusal)
+length_good = wanted_good length_of_part signed_refusal length_steady (NumberAt 0 0) (Some (pos 0)) refl length_refused
 
 -- the forms with a code in brackets, and the fields
-bracketed_good : (code : Lexeme → Option ℕ) (refusal : Lexeme → SyntaxFault) → Good (OneOf code) (wanted code refusal) → Good (InBrackets code) (bracketed code refusal)
+bracketed_good : (code : Lexeme → Option ℕ) (refusal : Lexeme → SyntaxFault) → Good (OneOf code) (wanted code refusal) (λ j. wanted code refusal) → Good (InBrackets code) (bracketed code refusal) (λ j. bracketed code refusal)
 bracketed_good code refusal g =
-    sign_good _ 91 _ (λ l. seq_one_good _ code refusal _ g (λ x c is. sign_good _ 93 _ (λ r. sign_good _ 46 _ (λ d.
-    seq_one_good _ suffix_of refusal_of _ suffix_good (λ y b has. done_good _ (c, b) (in_brackets l r d x y is (suffix_is y b has)))))))
+    sign_good _ 91 _ _ (λ l. seq_one_good _ code refusal _ _ g (λ x c is. sign_good _ 93 _ _ (λ r. sign_good _ 46 _ _ (λ d.
+    seq_one_good _ suffix_of refusal_of _ _ suffix_good (λ y b has. done_good _ (c, b) (in_brackets l r d x y is (suffix_is y b has)))))))
 
-option_made : (at : ℕ) (c : ℕ × Bool) (us : List Lexeme) → InBrackets code_of_option us c → Good (λ ws t. After at (codes "option") (us ++ ws) t) (done (if c.1 then OptionExists at c.0 else OptionValue at c.0))
+option_made : (at : ℕ) (c : ℕ × Bool) (us : List Lexeme) → InBrackets code_of_option us c → Good (λ ws t. After at (codes "option") (us ++ ws) t) (done (if c.1 then OptionExists at c.0 else OptionValue at c.0)) (λ j. done (if c.1 then OptionExists at c.0 else OptionValue at c.0))
 option_made at _ _ (in_brackets l r d x _ {c = c} is hex) = done_good _ _ (0, option_hex (option_code_is x c is))
 option_made at _ _ (in_brackets l r d x _ {c = c} is exists) = done_good _ _ (0, option_exists (option_code_is x c is))
 
-option_good : (at : ℕ) → Good (After at (codes "option")) (option_at at)
+option_good : (at : ℕ) → Good (After at (codes "option")) (option_at at) (λ j. option_at at)
 unfolding option_at
-option_good at = seq_good (InBrackets code_of_option) (After at (codes "option")) (bracketed code_of_option option_refusal) _ (bracketed_good code_of_option option_refusal option_code_good) (option_made at)
+option_good at = seq_good (InBrackets code_of_option) (After at (codes "option")) (bracketed code_of_option option_refusal) _ (λ j. bracketed code_of_option option_refusal) _ (bracketed_good code_of_option option_refusal option_code_good) (option_made at)
 
 relay_value : (at l r d e : ℕ) (x : Lexeme) (c : ℕ) → IsRelayCode x c → After at (codes "relay4") (SignAt l 91 ∷ x ∷ SignAt r 93 ∷ SignAt d 46 ∷ NameAt e (codes "hex") ∷ []) (RelayValue at c)
 relay_value at l r d e _ _ (relay_number h) = (0, relay_hex h)
@@ -194,24 +348,24 @@ relay_value at l r d e _ _ (relay_number h) = (0, relay_hex h)
 relay_there : (at l r d e : ℕ) (x : Lexeme) (c : ℕ) → IsRelayCode x c → After at (codes "relay4") (SignAt l 91 ∷ x ∷ SignAt r 93 ∷ SignAt d 46 ∷ NameAt e (codes "exists") ∷ []) (RelayExists at c)
 relay_there at l r d e _ _ (relay_number h) = (0, relay_exists h)
 
-relay_made : (at : ℕ) (c : ℕ × Bool) (us : List Lexeme) → InBrackets code_of_relay us c → Good (λ ws t. After at (codes "relay4") (us ++ ws) t) (done (if c.1 then RelayExists at c.0 else RelayValue at c.0))
+relay_made : (at : ℕ) (c : ℕ × Bool) (us : List Lexeme) → InBrackets code_of_relay us c → Good (λ ws t. After at (codes "relay4") (us ++ ws) t) (done (if c.1 then RelayExists at c.0 else RelayValue at c.0)) (λ j. done (if c.1 then RelayExists at c.0 else RelayValue at c.0))
 relay_made at _ _ (in_brackets l r d x _ {c = c} is (hex {at = e})) = done_good _ _ (relay_value at l r d e x c (relay_code_is x c is))
 relay_made at _ _ (in_brackets l r d x _ {c = c} is (exists {at = e})) = done_good _ _ (relay_there at l r d e x c (relay_code_is x c is))
 
-relay_good : (at : ℕ) → Good (After at (codes "relay4")) (relay_at at)
+relay_good : (at : ℕ) → Good (After at (codes "relay4")) (relay_at at) (λ j. relay_at at)
 unfolding relay_at
-relay_good at = seq_good (InBrackets code_of_relay) (After at (codes "relay4")) (bracketed code_of_relay code_refusal) _ (bracketed_good code_of_relay code_refusal relay_code_good) (relay_made at)
+relay_good at = seq_good (InBrackets code_of_relay) (After at (codes "relay4")) (bracketed code_of_relay code_refusal) _ (λ j. bracketed code_of_relay code_refusal) _ (bracketed_good code_of_relay code_refusal relay_code_good) (relay_made at)
 
 field_made : (at d : ℕ) (x : Lexeme) (part : Field) → IsPartName x part → After at (codes "pkt4") (SignAt d 46 ∷ x ∷ []) (FieldValue at part)
 field_made at d _ _ (part_name e) = (0, field e)
 
-fields_good : (at : ℕ) → Good (After at (codes "pkt4")) (field_after at)
+fields_good : (at : ℕ) → Good (After at (codes "pkt4")) (field_after at) (λ j. field_after at)
 unfolding field_after
-fields_good at = sign_good _ 46 _ (λ d. seq_one_good _ field_of refusal_of _ field_good (λ x part is. done_good _ _ (field_made at d x part (field_of_is x part is))))
+fields_good at = sign_good _ 46 _ _ (λ d. seq_one_good _ field_of refusal_of _ _ field_good (λ x part is. done_good _ _ (field_made at d x part (field_of_is x part is))))
 
-packet_good : (at : ℕ) → Good (After at (codes "pkt")) (packet_at at)
+packet_good : (at : ℕ) → Good (After at (codes "pkt")) (packet_at at) (λ j. packet_at at)
 unfolding packet_at
-packet_good at = sign_good _ 46 _ (λ d. len_good _ _ (λ e. done_good _ _ (0, packet_length)))
+packet_good at = sign_good _ 46 _ _ (λ d. len_good _ _ _ (λ e. done_good _ _ (0, packet_length)))
 
 -- no deeper nesting is left
 record IsClosed (d : Deeper) : Type 0 where
@@ -220,37 +374,44 @@ record IsClosed (d : Deeper) : Type 0 where
   name : (at end : ℕ) (ts : List Lexeme) → d.name at end ts ≡ Err (faults.TooNested at)
 
 -- the readers one nesting deeper are good
-record IsOpen (d : Deeper) : Type 0 where
-  any : (at : ℕ) → Good (AnySpells or_level) (d.any at)
-  operand : (at : ℕ) → Good (AnySpells not_level) (d.operand at)
-  name : (at : ℕ) → Good (OneOf class_name) (d.name at)
+record IsOpen (d : Deeper) (ds : ℕ → Deeper) : Type 0 where
+  any : (at : ℕ) → Good (AnySpells or_level) (d.any at) (λ j. (ds j).any at)
+  operand : (at : ℕ) → Good (AnySpells not_level) (d.operand at) (λ j. (ds j).operand at)
+  name : (at : ℕ) → Good (OneOf class_name) (d.name at) (λ j. (ds j).name at)
+
+-- one of both, of readers and of those where so many more may be nested
+abbrev Nests : Deeper → (ℕ → Deeper) → Type 0
+Nests d ds = (IsClosed d × ((j : ℕ) → j ≡ 0 → IsClosed (ds j))) ⊎ IsOpen d ds
 
 -- at each number of tokens
-each_of : {B : Type 0} (P : List Lexeme → B → Type 0) (r : Reader B) → ((end : ℕ) → Comes P r end [] (r end [])) → ((x : Lexeme) (end : ℕ) (ts : List Lexeme) → Comes P r end (x ∷ ts) (r end (x ∷ ts))) → (end : ℕ) (ts : List Lexeme) → Comes P r end ts (r end ts)
-each_of P r none some end [] = none end
-each_of P r none some end (x ∷ ts) = some x end ts
+each_of : {B : Type 0} (P : List Lexeme → B → Type 0) (r : Reader B) (rs : ℕ → Reader B) → ((end : ℕ) → Comes P rs end [] (r end [])) → ((x : Lexeme) (end : ℕ) (ts : List Lexeme) → Comes P rs end (x ∷ ts) (r end (x ∷ ts))) → (end : ℕ) (ts : List Lexeme) → Comes P rs end ts (r end ts)
+each_of P r rs none some end [] = none end
+each_of P r rs none some end (x ∷ ts) = some x end ts
 
 missed : {B : Type 0} (f : ℕ → Reader B) (x : Lexeme) (end : ℕ) (ts : List Lexeme) → sign_at 40 x ≡ None → ◌≡◌ {A = Result (B × List Lexeme) SyntaxFault} (seq (sign_here 40) f end (x ∷ ts)) (Err (refusal_of x))
 missed f x end ts e = rw e refl
 
 -- after this bracket nothing may be nested
-closed_good : {B : Type 0} (P : List Lexeme → B → Type 0) (f : ℕ → Reader B) → ((at end : ℕ) (ts : List Lexeme) → ◌≡◌ {A = Result (B × List Lexeme) SyntaxFault} (f at end ts) (Err (faults.TooNested at))) → ((o : ℕ) → Begins P (SignAt o 40 ∷ [])) → Good P (seq (sign_here 40) f)
-closed_good {B} P f refuses some k =
+closed_good : {B : Type 0} (P : List Lexeme → B → Type 0) (f : ℕ → Reader B) (fs : ℕ → ℕ → Reader B) → ((at end : ℕ) (ts : List Lexeme) → ◌≡◌ {A = Result (B × List Lexeme) SyntaxFault} (f at end ts) (Err (faults.TooNested at))) → ((j : ℕ) → j ≡ 0 → (at end : ℕ) (ts : List Lexeme) → ◌≡◌ {A = Result (B × List Lexeme) SyntaxFault} (fs j at end ts) (Err (faults.TooNested at))) → ((o : ℕ) → Begins P (SignAt o 40 ∷ [])) → Good P (seq (sign_here 40) f) (λ j. seq (sign_here 40) (fs j))
+closed_good {B} P f fs refuses others some k =
     let begins : Begins P [] = (SignAt 0 40 ∷ (some 0).0, (some 0).1, (some 0).2) in
-    let other : (x : Lexeme) (end : ℕ) (ts : List Lexeme) → sign_at 40 x ≡ None → Comes P (seq (sign_here 40) f) end (x ∷ ts) (seq (sign_here 40) f end (x ∷ ts))
-    = λ x end ts e. subst (λ (v : Result (B × List Lexeme) SyntaxFault). Comes P (seq (sign_here 40) f) end (x ∷ ts) v) (sym (missed f x end ts e))
-        (stops_at P (seq (sign_here 40) f) x end ts (refusal_of x) begins (refusal_is (Begins P) end x ts) (λ us. missed f x end us e)) in
-    let opens : (o end : ℕ) (ts : List Lexeme) → Comes P (seq (sign_here 40) f) end (SignAt o 40 ∷ ts) (seq (sign_here 40) f end (SignAt o 40 ∷ ts))
-    = λ o end ts. subst (λ (v : Result (B × List Lexeme) SyntaxFault). Comes P (seq (sign_here 40) f) end (SignAt o 40 ∷ ts) v) (sym (refuses o end ts))
-        (stops_at P (seq (sign_here 40) f) (SignAt o 40) end ts (faults.TooNested o) begins (nested (SignAt o 40) ts refl (some o)) (λ us. refuses o end us)) in
-    let first : (x : Lexeme) (end : ℕ) (ts : List Lexeme) (answer : Option ℕ) → sign_at 40 x ≡ answer → Comes P (seq (sign_here 40) f) end (x ∷ ts) (seq (sign_here 40) f end (x ∷ ts))
-    = λ x end ts answer. elim answer as (λ v. sign_at 40 x ≡ v → Comes P (seq (sign_here 40) f) end (x ∷ ts) (seq (sign_here 40) f end (x ∷ ts))) [
+    let rs : ℕ → Reader B = λ j. seq (sign_here 40) (fs j) in
+    let other : (x : Lexeme) (end : ℕ) (ts : List Lexeme) → sign_at 40 x ≡ None → Comes P rs end (x ∷ ts) (seq (sign_here 40) f end (x ∷ ts))
+    = λ x end ts e. subst (λ (v : Result (B × List Lexeme) SyntaxFault). Comes P rs end (x ∷ ts) v) (sym (missed f x end ts e))
+        (stops_at P rs x end ts (refusal_of x) begins (refusal_is (Begins P) end x ts)
+        (λ j y us l. let same = plain_steady (sign_at 40) (sign_blind 40) j x y e l in missed (fs j) y end us same.0 ∙ ap (λ v. Err v) same.1)) in
+    let opens : (o end : ℕ) (ts : List Lexeme) → Comes P rs end (SignAt o 40 ∷ ts) (seq (sign_here 40) f end (SignAt o 40 ∷ ts))
+    = λ o end ts. subst (λ (v : Result (B × List Lexeme) SyntaxFault). Comes P rs end (SignAt o 40 ∷ ts) v) (sym (refuses o end ts))
+        (stops_at P rs (SignAt o 40) end ts (faults.TooNested o) begins (nested (SignAt o 40) ts refl (some o))
+        (λ j y us l. ap (λ v. rs j end (v ∷ us)) (sym l.1) ∙ others j l.0 o end us)) in
+    let first : (x : Lexeme) (end : ℕ) (ts : List Lexeme) (answer : Option ℕ) → sign_at 40 x ≡ answer → Comes P rs end (x ∷ ts) (seq (sign_here 40) f end (x ∷ ts))
+    = λ x end ts answer. elim answer as (λ v. sign_at 40 x ≡ v → Comes P rs end (x ∷ ts) (seq (sign_here 40) f end (x ∷ ts))) [
       | None ↦ λ e. other x end ts e
-      | Some o ↦ λ e. subst (λ v. Comes P (seq (sign_here 40) f) end (v ∷ ts) (seq (sign_here 40) f end (v ∷ ts))) (sym (sign_is 40 x o e)) (opens o end ts)
+      | Some o ↦ λ e. subst (λ v. Comes P rs end (v ∷ ts) (seq (sign_here 40) f end (v ∷ ts))) (sym (sign_is 40 x o e)) (opens o end ts)
     ] in
     record {
       some = begins;
-      each = λ end ts fits. each_of P (seq (sign_here 40) f) (λ end. at_the_end P (seq (sign_here 40) f) end begins refl) (λ x end ts. first x end ts (sign_at 40 x) refl) end ts;
+      each = λ end ts fits. each_of P (seq (sign_here 40) f) rs (λ end. at_the_end P rs end begins (λ j. refl)) (λ x end ts. first x end ts (sign_at 40 x) refl) end ts;
     }
 
 -- answers that go on alike
@@ -259,155 +420,205 @@ on_ok_same (Err fault) f g h = refl
 on_ok_same (Ok a) f g h = h a
 
 -- after the bracket, an operand one nesting deeper
-enters : {B : Type 0} (d : Deeper) → IsClosed d ⊎ IsOpen d → (P : List Lexeme → B → Type 0) (g : ℕ → Tree → Reader B) → ((o : ℕ) → Begins P (SignAt o 40 ∷ [])) → (((o : ℕ) → Good (AnySpells or_level) (d.any o)) → (o : ℕ) (a : Tree) (us : List Lexeme) → AnySpells or_level us a → Good (λ ws b. P (SignAt o 40 ∷ (us ++ ws)) b) (g o a)) → Good P (seq (sign_here 40) (λ o. seq (d.any o) (g o)))
-enters d (inl closed) P g some h = closed_good P (λ o. seq (d.any o) (g o)) (λ at end ts. ap (λ (v : Result (Tree × List Lexeme) SyntaxFault). on_ok v (λ x. g at x.0 end x.1)) (closed.any at end ts)) some
-enters d (inr opened) P g some h = sign_good P 40 (λ o. seq (d.any o) (g o)) (λ o. seq_good (AnySpells or_level) (λ ws b. P (SignAt o 40 ∷ ws) b) (d.any o) (g o) (opened.any o) (λ a us q. h opened.any o a us q))
+enters : {B : Type 0} (d : Deeper) (ds : ℕ → Deeper) → Nests d ds → (P : List Lexeme → B → Type 0) (g : ℕ → Tree → Reader B) (gs : ℕ → ℕ → Tree → Reader B) → ((o : ℕ) → Begins P (SignAt o 40 ∷ [])) → (((o : ℕ) → Good (AnySpells or_level) (d.any o) (λ j. (ds j).any o)) → (o : ℕ) (a : Tree) (us : List Lexeme) → AnySpells or_level us a → Good (λ ws b. P (SignAt o 40 ∷ (us ++ ws)) b) (g o a) (λ j. gs j o a)) → Good P (seq (sign_here 40) (λ o. seq (d.any o) (g o))) (λ j. seq (sign_here 40) (λ o. seq ((ds j).any o) (gs j o)))
+enters d ds (inl closed) P g gs some h =
+    closed_good P (λ o. seq (d.any o) (g o)) (λ j o. seq ((ds j).any o) (gs j o)) (λ at end ts. ap (λ (v : Result (Tree × List Lexeme) SyntaxFault). on_ok v (λ x. g at x.0 end x.1)) (closed.0.any at end ts))
+    (λ j none at end ts. ap (λ (v : Result (Tree × List Lexeme) SyntaxFault). on_ok v (λ x. gs j at x.0 end x.1)) ((closed.1 j none).any at end ts)) some
+enters d ds (inr opened) P g gs some h =
+    sign_good P 40 (λ o. seq (d.any o) (g o)) (λ j o. seq ((ds j).any o) (gs j o))
+    (λ o. seq_good (AnySpells or_level) (λ ws b. P (SignAt o 40 ∷ ws) b) (d.any o) (g o) (λ j. (ds j).any o) (λ j. gs j o) (opened.any o) (λ a us q. h opened.any o a us q))
 
 enter_is : {B : Type 0} (d : Deeper) (b : ℕ) (f : ℕ → Tree → Reader B) (end : ℕ) (ts : List Lexeme) → seq (sign_here 40) (λ o. seq (operand_then d o b) (f o)) end ts ≡ seq (sign_here 40) (λ o. seq (d.any o) (λ a. seq (sign_here b) (λ _. f o a))) end ts
-enter_is {B} d b f end ts =
-    let at : (answer : Result (ℕ × List Lexeme) SyntaxFault) → on_ok answer (λ x. seq (operand_then d x.0 b) (f x.0) end x.1) ≡ on_ok answer (λ x. seq (d.any x.0) (λ a. seq (sign_here b) (λ _. f x.0 a)) end x.1)
-    = λ answer. elim answer as (λ v. on_ok v (λ x. seq (operand_then d x.0 b) (f x.0) end x.1) ≡ on_ok v (λ x. seq (d.any x.0) (λ a. seq (sign_here b) (λ _. f x.0 a)) end x.1)) [
-      | Err fault ↦ refl
-      | Ok x ↦ before_is d x.0 b (f x.0) end x.1
-    ] in
-    at (sign_here 40 end ts)
+enter_is d b f end ts = on_ok_same (sign_here 40 end ts) (λ x. seq (operand_then d x.0 b) (f x.0) end x.1) (λ x. seq (d.any x.0) (λ a. seq (sign_here b) (λ _. f x.0 a)) end x.1) (λ x. before_is d x.0 b (f x.0) end x.1)
 
-module _ (d : Deeper) (g : IsClosed d ⊎ IsOpen d) where
-  first_good : {B : Type 0} (P : List Lexeme → B → Type 0) (b : ℕ) (f : ℕ → Tree → Reader B) → ((o : ℕ) → Begins P (SignAt o 40 ∷ [])) → (((o : ℕ) → Good (AnySpells or_level) (d.any o)) → (o : ℕ) (a : Tree) (us : List Lexeme) → AnySpells or_level us a → (c : ℕ) → Good (λ ws t. P (SignAt o 40 ∷ (us ++ SignAt c b ∷ ws)) t) (f o a)) → Good P (seq (sign_here 40) (λ o. seq (operand_then d o b) (f o)))
-  first_good P b f some h k =
-      same_good k P (seq (sign_here 40) (λ o. seq (operand_then d o b) (f o))) (seq (sign_here 40) (λ o. seq (d.any o) (λ a. seq (sign_here b) (λ _. f o a)))) (enter_is d b f)
-      (enters d g P (λ o a. seq (sign_here b) (λ _. f o a)) some (λ any o a us q. sign_good (λ ws t. P (SignAt o 40 ∷ (us ++ ws)) t) b (λ _. f o a) (h any o a us q)) k)
+one_is : (d : Deeper) (join : Tree → Tree) (end : ℕ) (ts : List Lexeme) → seq (operand_in_brackets d) (λ a. done (join a)) end ts ≡ seq (sign_here 40) (λ o. seq (operand_then d o 41) (λ a. done (join a))) end ts
+unfolding operand_in_brackets
+one_is d join end ts = on_ok_twice (sign_here 40 end ts) (λ x. operand_then d x.0 41 end x.1) (λ y. done (join y.0) end y.1)
 
-  next_good : {B : Type 0} (P : List Lexeme → B → Type 0) (o b : ℕ) (f : Tree → Reader B) → ((o : ℕ) → Good (AnySpells or_level) (d.any o)) → ((a : Tree) (us : List Lexeme) → AnySpells or_level us a → (c : ℕ) → Good (λ ws t. P (us ++ SignAt c b ∷ ws) t) (f a)) → Good P (seq (operand_then d o b) f)
-  next_good P o b f any h k =
-      same_good k P (seq (operand_then d o b) f) (seq (d.any o) (λ a. seq (sign_here b) (λ _. f a))) (before_is d o b f)
-      (seq_good (AnySpells or_level) P (d.any o) (λ a. seq (sign_here b) (λ _. f a)) (any o) (λ a us q. sign_good (λ ws t. P (us ++ ws) t) b (λ _. f a) (h a us q)) k)
+two_is : {B : Type 0} (d : Deeper) (f : Tree × Tree → Reader B) (end : ℕ) (ts : List Lexeme) → seq (operands_in_brackets d) f end ts ≡ seq (sign_here 40) (λ o. seq (operand_then d o 44) (λ a. seq (operand_then d o 41) (λ b. f (a, b)))) end ts
+unfolding operands_in_brackets
+two_is d f end ts =
+    on_ok_twice (sign_here 40 end ts) (λ x. seq (operand_then d x.0 44) (λ a. seq (operand_then d x.0 41) (λ b. done (a, b))) end x.1) (λ y. f y.0 end y.1)
+    ∙ on_ok_same (sign_here 40 end ts) _ _ (λ x.
+    on_ok_twice (operand_then d x.0 44 end x.1) (λ y. seq (operand_then d x.0 41) (λ b. done (y.0, b)) end y.1) (λ z. f z.0 end z.1)
+    ∙ on_ok_same (operand_then d x.0 44 end x.1) _ _ (λ y.
+    on_ok_twice (operand_then d x.0 41 end y.1) (λ z. done (y.0, z.0) end z.1) (λ z. f z.0 end z.1)))
 
-  group_good : Good (AnySpells primary_level) (group_at d)
+module _ (d : Deeper) (ds : ℕ → Deeper) (g : Nests d ds) where
+  first_good : {B : Type 0} (P : List Lexeme → B → Type 0) (b : ℕ) (f : ℕ → Tree → Reader B) (fs : ℕ → ℕ → Tree → Reader B) → ((o : ℕ) → Begins P (SignAt o 40 ∷ [])) → (((o : ℕ) → Good (AnySpells or_level) (d.any o) (λ j. (ds j).any o)) → (o : ℕ) (a : Tree) (us : List Lexeme) → AnySpells or_level us a → (c : ℕ) → Good (λ ws t. P (SignAt o 40 ∷ (us ++ SignAt c b ∷ ws)) t) (f o a) (λ j. fs j o a)) → Good P (seq (sign_here 40) (λ o. seq (operand_then d o b) (f o))) (λ j. seq (sign_here 40) (λ o. seq (operand_then (ds j) o b) (fs j o)))
+  first_good P b f fs some h k =
+      same_good k P (seq (sign_here 40) (λ o. seq (operand_then d o b) (f o))) (λ j. seq (sign_here 40) (λ o. seq (operand_then (ds j) o b) (fs j o))) (seq (sign_here 40) (λ o. seq (d.any o) (λ a. seq (sign_here b) (λ _. f o a)))) (λ j. seq (sign_here 40) (λ o. seq ((ds j).any o) (λ a. seq (sign_here b) (λ _. fs j o a)))) (enter_is d b f) (λ j. enter_is (ds j) b (fs j))
+      (enters d ds g P (λ o a. seq (sign_here b) (λ _. f o a)) (λ j o a. seq (sign_here b) (λ _. fs j o a)) some (λ any o a us q. sign_good (λ ws t. P (SignAt o 40 ∷ (us ++ ws)) t) b (λ _. f o a) (λ j _. fs j o a) (h any o a us q)) k)
+
+  next_good : {B : Type 0} (P : List Lexeme → B → Type 0) (o b : ℕ) (f : Tree → Reader B) (fs : ℕ → Tree → Reader B) → ((o : ℕ) → Good (AnySpells or_level) (d.any o) (λ j. (ds j).any o)) → ((a : Tree) (us : List Lexeme) → AnySpells or_level us a → (c : ℕ) → Good (λ ws t. P (us ++ SignAt c b ∷ ws) t) (f a) (λ j. fs j a)) → Good P (seq (operand_then d o b) f) (λ j. seq (operand_then (ds j) o b) (fs j))
+  next_good P o b f fs any h k =
+      same_good k P (seq (operand_then d o b) f) (λ j. seq (operand_then (ds j) o b) (fs j)) (seq (d.any o) (λ a. seq (sign_here b) (λ _. f a))) (λ j. seq ((ds j).any o) (λ a. seq (sign_here b) (λ _. fs j a))) (before_is d o b f) (λ j. before_is (ds j) o b (fs j))
+      (seq_good (AnySpells or_level) P (d.any o) (λ a. seq (sign_here b) (λ _. f a)) (λ j. (ds j).any o) (λ j a. seq (sign_here b) (λ _. fs j a)) (any o) (λ a us q. sign_good (λ ws t. P (us ++ ws) t) b (λ _. f a) (λ j _. fs j a) (h a us q)) k)
+
+  group_good : Good (AnySpells primary_level) (group_at d) (λ j. group_at (ds j))
   unfolding group_at
   group_good =
-      first_good (AnySpells primary_level) 41 (λ at a. done (Group at a)) (λ o. (StringAt 0 [] ∷ SignAt 0 41 ∷ [], Group o (Literal 0 []), (1, group 0 literal)))
+      first_good (AnySpells primary_level) 41 (λ at a. done (Group at a)) (λ j at a. done (Group at a)) (λ o. (StringAt 0 [] ∷ SignAt 0 41 ∷ [], Group o (Literal 0 []), (1, group 0 literal)))
       (λ any at a us q c. done_good _ _ (suc q.0, group c q.1))
 
-  one_is : (join : Tree → Tree) (end : ℕ) (ts : List Lexeme) → seq (operand_in_brackets d) (λ a. done (join a)) end ts ≡ seq (sign_here 40) (λ o. seq (operand_then d o 41) (λ a. done (join a))) end ts
-  unfolding operand_in_brackets
-  one_is join end ts = on_ok_twice (sign_here 40 end ts) (λ x. operand_then d x.0 41 end x.1) (λ y. done (join y.0) end y.1)
-
   -- one operand in brackets
-  one_good : (P : List Lexeme → Tree → Type 0) (join : Tree → Tree) → ((o c : ℕ) (us : List Lexeme) (a : Tree) → AnySpells or_level us a → P (SignAt o 40 ∷ (us ++ SignAt c 41 ∷ [])) (join a)) → Good P (seq (operand_in_brackets d) (λ a. done (join a)))
+  one_good : (P : List Lexeme → Tree → Type 0) (join : Tree → Tree) → ((o c : ℕ) (us : List Lexeme) (a : Tree) → AnySpells or_level us a → P (SignAt o 40 ∷ (us ++ SignAt c 41 ∷ [])) (join a)) → Good P (seq (operand_in_brackets d) (λ a. done (join a))) (λ j. seq (operand_in_brackets (ds j)) (λ a. done (join a)))
   one_good P join made k =
-      same_good k P (seq (operand_in_brackets d) (λ a. done (join a))) (seq (sign_here 40) (λ o. seq (operand_then d o 41) (λ a. done (join a)))) (one_is join)
-      (first_good P 41 (λ o a. done (join a)) (λ o. (StringAt 0 [] ∷ SignAt 0 41 ∷ [], join (Literal 0 []), made o 0 (StringAt 0 [] ∷ []) (Literal 0 []) (0, literal)))
+      same_good k P (seq (operand_in_brackets d) (λ a. done (join a))) (λ j. seq (operand_in_brackets (ds j)) (λ a. done (join a))) (seq (sign_here 40) (λ o. seq (operand_then d o 41) (λ a. done (join a)))) (λ j. seq (sign_here 40) (λ o. seq (operand_then (ds j) o 41) (λ a. done (join a)))) (one_is d join) (λ j. one_is (ds j) join)
+      (first_good P 41 (λ o a. done (join a)) (λ j o a. done (join a)) (λ o. (StringAt 0 [] ∷ SignAt 0 41 ∷ [], join (Literal 0 []), made o 0 (StringAt 0 [] ∷ []) (Literal 0 []) (0, literal)))
       (λ any o a us q c. done_good _ _ (made o c us a q)) k)
 
   -- two operands in brackets
-  two_is : {B : Type 0} (f : Tree × Tree → Reader B) (end : ℕ) (ts : List Lexeme) → seq (operands_in_brackets d) f end ts ≡ seq (sign_here 40) (λ o. seq (operand_then d o 44) (λ a. seq (operand_then d o 41) (λ b. f (a, b)))) end ts
-  unfolding operands_in_brackets
-  two_is f end ts =
-      on_ok_twice (sign_here 40 end ts) (λ x. seq (operand_then d x.0 44) (λ a. seq (operand_then d x.0 41) (λ b. done (a, b))) end x.1) (λ y. f y.0 end y.1)
-      ∙ on_ok_same (sign_here 40 end ts) _ _ (λ x.
-      on_ok_twice (operand_then d x.0 44 end x.1) (λ y. seq (operand_then d x.0 41) (λ b. done (y.0, b)) end y.1) (λ z. f z.0 end z.1)
-      ∙ on_ok_same (operand_then d x.0 44 end x.1) _ _ (λ y.
-      on_ok_twice (operand_then d x.0 41 end y.1) (λ z. done (y.0, z.0) end z.1) (λ z. f z.0 end z.1)))
-
-  two_good : (P : List Lexeme → Tree → Type 0) (join : Tree → Tree → Tree) → ((o c e : ℕ) (us vs : List Lexeme) (a b : Tree) → AnySpells or_level us a → AnySpells or_level vs b → P (SignAt o 40 ∷ (us ++ SignAt c 44 ∷ (vs ++ SignAt e 41 ∷ []))) (join a b)) → Good P (seq (operands_in_brackets d) (λ x. done (join x.0 x.1)))
+  two_good : (P : List Lexeme → Tree → Type 0) (join : Tree → Tree → Tree) → ((o c e : ℕ) (us vs : List Lexeme) (a b : Tree) → AnySpells or_level us a → AnySpells or_level vs b → P (SignAt o 40 ∷ (us ++ SignAt c 44 ∷ (vs ++ SignAt e 41 ∷ []))) (join a b)) → Good P (seq (operands_in_brackets d) (λ x. done (join x.0 x.1))) (λ j. seq (operands_in_brackets (ds j)) (λ x. done (join x.0 x.1)))
   two_good P join made k =
-      same_good k P (seq (operands_in_brackets d) (λ x. done (join x.0 x.1))) (seq (sign_here 40) (λ o. seq (operand_then d o 44) (λ a. seq (operand_then d o 41) (λ b. done (join a b))))) (two_is (λ x. done (join x.0 x.1)))
-      (first_good P 44 (λ o a. seq (operand_then d o 41) (λ b. done (join a b))) (λ o. (StringAt 0 [] ∷ SignAt 0 44 ∷ StringAt 0 [] ∷ SignAt 0 41 ∷ [], join (Literal 0 []) (Literal 0 []), made o 0 0 (StringAt 0 [] ∷ []) (StringAt 0 [] ∷ []) (Literal 0 []) (Literal 0 []) (0, literal) (0, literal)))
-      (λ any o a us q c. next_good _ o 41 (λ b. done (join a b)) any (λ b vs r e. done_good _ _ (made o c e us vs a b q r))) k)
+      same_good k P (seq (operands_in_brackets d) (λ x. done (join x.0 x.1))) (λ j. seq (operands_in_brackets (ds j)) (λ x. done (join x.0 x.1))) (seq (sign_here 40) (λ o. seq (operand_then d o 44) (λ a. seq (operand_then d o 41) (λ b. done (join a b))))) (λ j. seq (sign_here 40) (λ o. seq (operand_then (ds j) o 44) (λ a. seq (operand_then (ds j) o 41) (λ b. done (join a b))))) (two_is d (λ x. done (join x.0 x.1))) (λ j. two_is (ds j) (λ x. done (join x.0 x.1)))
+      (first_good P 44 (λ o a. seq (operand_then d o 41) (λ b. done (join a b))) (λ j o a. seq (operand_then (ds j) o 41) (λ b. done (join a b))) (λ o. (StringAt 0 [] ∷ SignAt 0 44 ∷ StringAt 0 [] ∷ SignAt 0 41 ∷ [], join (Literal 0 []) (Literal 0 []), made o 0 0 (StringAt 0 [] ∷ []) (StringAt 0 [] ∷ []) (Literal 0 []) (Literal 0 []) (0, literal) (0, literal)))
+      (λ any o a us q c. next_good _ o 41 (λ b. done (join a b)) (λ j b. done (join a b)) any (λ b vs r e. done_good _ _ (made o c e us vs a b q r))) k)
 
-  choice_good : (at : ℕ) → Good (After at (codes "ifelse")) (ifelse_at d at)
+  choice_good : (at : ℕ) → Good (After at (codes "ifelse")) (ifelse_at d at) (λ j. ifelse_at (ds j) at)
   unfolding ifelse_at
   choice_good at =
-      first_good (After at (codes "ifelse")) 44 (λ o t. seq (operand_then d o 44) (λ a. seq (operand_then d o 41) (λ b. done (IfElse at t a b))))
+      first_good (After at (codes "ifelse")) 44 (λ o t. seq (operand_then d o 44) (λ a. seq (operand_then d o 41) (λ b. done (IfElse at t a b)))) (λ j o t. seq (operand_then (ds j) o 44) (λ a. seq (operand_then (ds j) o 41) (λ b. done (IfElse at t a b))))
       (λ o. (StringAt 0 [] ∷ SignAt 0 44 ∷ StringAt 0 [] ∷ SignAt 0 44 ∷ StringAt 0 [] ∷ SignAt 0 41 ∷ [], IfElse at (Literal 0 []) (Literal 0 []) (Literal 0 []), (1, ifelse 0 0 0 literal literal literal)))
-      (λ any o t us q c. next_good _ o 44 _ any (λ a vs r e. next_good _ o 41 _ any (λ b ws s f. done_good _ _ (ifelse_all at o c e f us vs ws t a b q r s))))
+      (λ any o t us q c. next_good _ o 44 _ _ any (λ a vs r e. next_good _ o 41 _ _ any (λ b ws s f. done_good _ _ (ifelse_all at o c e f us vs ws t a b q r s))))
 
-  part_good : (at : ℕ) → Good (After at (codes "substring")) (substring_after d at)
+  part_good : (at : ℕ) → Good (After at (codes "substring")) (substring_after d at) (λ j. substring_after (ds j) at)
   unfolding substring_after
   part_good at =
-      first_good (After at (codes "substring")) 44 (λ o a. seq (wanted signed signed_refusal) (λ start. seq (sign_here 44) (λ _. seq (wanted length_of_part signed_refusal) (λ len. seq (sign_here 41) (λ _. done (Substring at a start len))))))
+      first_good (After at (codes "substring")) 44 (λ o a. seq (wanted signed signed_refusal) (λ start. seq (sign_here 44) (λ _. seq (wanted length_of_part signed_refusal) (λ len. seq (sign_here 41) (λ _. done (Substring at a start len)))))) (λ j o a. seq (wanted signed signed_refusal) (λ start. seq (sign_here 44) (λ _. seq (wanted length_of_part signed_refusal) (λ len. seq (sign_here 41) (λ _. done (Substring at a start len))))))
       (λ o. (StringAt 0 [] ∷ SignAt 0 44 ∷ NumberAt 0 0 ∷ SignAt 0 44 ∷ NumberAt 0 0 ∷ SignAt 0 41 ∷ [], Substring at (Literal 0 []) (pos 0) (Some (pos 0)), (1, substring 0 0 0 literal (signed_is (NumberAt 0 0) (pos 0) refl) (length_is (NumberAt 0 0) (Some (pos 0)) refl))))
-      (λ any o a us q c. seq_one_good _ signed signed_refusal _ signed_good (λ x start j. sign_good _ 44 _ (λ e.
-      seq_one_good _ length_of_part signed_refusal _ length_good (λ y len l. sign_good _ 41 _ (λ f.
-      done_good _ _ (suc q.0, substring c e f q.1 (signed_is x start j) (length_is y len l)))))))
+      (λ any o a us q c. seq_one_good _ signed signed_refusal _ _ signed_good (λ x start i. sign_good _ 44 _ _ (λ e.
+      seq_one_good _ length_of_part signed_refusal _ _ length_good (λ y len l. sign_good _ 41 _ _ (λ f.
+      done_good _ _ (suc q.0, substring c e f q.1 (signed_is x start i) (length_is y len l)))))))
 
 name_made : (at o k c : ℕ) (x : Lexeme) (s : List ℕ) → IsClassName x s → After at (codes "member") (SignAt o 40 ∷ x ∷ SignAt c 41 ∷ []) (Member at s)
 name_made at o k c _ _ (class_is least most) = (1, member least most)
 
-member_rest : (at o : ℕ) (s : List ℕ) (us : List Lexeme) → OneOf class_name us s → Good (λ ws t. After at (codes "member") (SignAt o 40 ∷ (us ++ ws)) t) (seq (sign_here 41) (λ _. done (Member at s)))
-member_rest at o s _ (is_one x e) = sign_good _ 41 _ (λ c. done_good _ _ (name_made at o 0 c x s (class_name_is x s e)))
+member_rest : (at o : ℕ) (s : List ℕ) (us : List Lexeme) → OneOf class_name us s → Good (λ ws t. After at (codes "member") (SignAt o 40 ∷ (us ++ ws)) t) (seq (sign_here 41) (λ _. done (Member at s))) (λ j. seq (sign_here 41) (λ _. done (Member at s)))
+member_rest at o s _ (is_one x e) = sign_good _ 41 _ _ (λ c. done_good _ _ (name_made at o 0 c x s (class_name_is x s e)))
 
-member_good : (d : Deeper) → IsClosed d ⊎ IsOpen d → (at : ℕ) → Good (After at (codes "member")) (member_at d at)
+member_good : (d : Deeper) (ds : ℕ → Deeper) → Nests d ds → (at : ℕ) → Good (After at (codes "member")) (member_at d at) (λ j. member_at (ds j) at)
 unfolding member_at
-member_good d (inl closed) at =
-    closed_good (After at (codes "member")) _ (λ o end ts. ap (λ (v : Result (List ℕ × List Lexeme) SyntaxFault). on_ok v (λ x. seq (sign_here 41) (λ _. done (Member at x.0)) end x.1)) (closed.name o end ts))
+member_good d ds (inl closed) at =
+    closed_good (After at (codes "member")) _ _ (λ o end ts. ap (λ (v : Result (List ℕ × List Lexeme) SyntaxFault). on_ok v (λ x. seq (sign_here 41) (λ _. done (Member at x.0)) end x.1)) (closed.0.name o end ts))
+    (λ j none o end ts. ap (λ (v : Result (List ℕ × List Lexeme) SyntaxFault). on_ok v (λ x. seq (sign_here 41) (λ _. done (Member at x.0)) end x.1)) ((closed.1 j none).name o end ts))
     (λ o. (StringAt 0 (97 ∷ []) ∷ SignAt 0 41 ∷ [], Member at (97 ∷ []), name_made at o 0 0 (StringAt 0 (97 ∷ [])) (97 ∷ []) (class_name_is (StringAt 0 (97 ∷ [])) (97 ∷ []) refl)))
-member_good d (inr opened) at = sign_good _ 40 _ (λ o. seq_good (OneOf class_name) _ (d.name o) _ (opened.name o) (λ s us q. member_rest at o s us q))
+member_good d ds (inr opened) at = sign_good _ 40 _ _ (λ o. seq_good (OneOf class_name) _ (d.name o) _ (λ j. (ds j).name o) _ (opened.name o) (λ s us q. member_rest at o s us q))
 
 -- what a reader comes to that goes on with another after a name, or refuses the name
-abbrev Named : Reader Tree → ℕ → List ℕ → Reader Tree → Type 0
-Named r at name s = ((end : ℕ) (us : List Lexeme) → r end (NameAt at name ∷ us) ≡ s end us) → (end : ℕ) (ts : List Lexeme) → Comes (AnySpells primary_level) r end (NameAt at name ∷ ts) (s end ts)
+abbrev Named : (ℕ → Reader Tree) → ℕ → List ℕ → Reader Tree → (ℕ → Reader Tree) → Type 0
+Named rs at name s ss = ((j end : ℕ) (us : List Lexeme) → rs j end (NameAt at name ∷ us) ≡ ss j end us) → (end : ℕ) (ts : List Lexeme) → Comes (AnySpells primary_level) rs end (NameAt at name ∷ ts) (s end ts)
 
-named_by : (r : Reader Tree) (at : ℕ) (name : List ℕ) (s : Reader Tree) → Good (After at name) s → Named r at name s
-named_by r at name s g same end ts = goes_on (AnySpells primary_level) r s (NameAt at name) end ts (same end) (s end ts) (comes (After at name) s g end ts)
+named_by : (rs : ℕ → Reader Tree) (at : ℕ) (name : List ℕ) (s : Reader Tree) (ss : ℕ → Reader Tree) → Good (After at name) s ss → Named rs at name s ss
+named_by rs at name s ss g same end ts = goes_on (AnySpells primary_level) rs ss (NameAt at name) end ts (λ j us. same j end us) (s end ts) (comes (After at name) s ss g end ts)
 
 begins_primary : Begins (AnySpells primary_level) []
 begins_primary = (StringAt 0 [] ∷ [], Literal 0 [], (0, string))
 
-unnamed : (r : Reader Tree) (at : ℕ) (name : List ℕ) → Named r at name (λ end ts. Err (faults.Expected at))
-unnamed r at name same end ts = stops_at (AnySpells primary_level) r (NameAt at name) end ts (faults.Expected at) begins_primary (unexpected (NameAt at name) ts refl) (same end)
+-- readers that do not take the names of options
+abbrev TakesNone : (ℕ → Reader Tree) → ℕ → Type 0
+TakesNone rs at = (j end code : ℕ) (known : List ℕ) (us : List Lexeme) → code_by_name known ≡ Some code → ◌≡◌ {A = Result (Tree × List Lexeme) SyntaxFault} (rs j end (NameAt at known ∷ us)) (Err (faults.Expected at))
 
-named_test : (r : Reader Tree) (at : ℕ) (name w : List ℕ) (s other : Reader Tree) → Good (After at w) s → Named r at name other → Named r at name (if bytes_eq name w then s else other)
-named_test r at name w s other g n =
-    let by : (v : Bool) → bytes_eq name w ≡ v → Named r at name (if v then s else other)
-    = λ v. elim v as (λ v. bytes_eq name w ≡ v → Named r at name (if v then s else other)) [
-      | true ↦ λ is. let F : List ℕ → Type 0 = λ u. Good (After at u) s in named_by r at name s (subst F (sym ((bytes_eq-Decides name w).0 is)) g)
+no_name : {C : Type 0} {p k at : ℕ} {name : List ℕ} → NumberAt p k ≡ NameAt at name → C
+no_name e = absurd (cc)
+
+no_minus : {C : Type 0} {p k at : ℕ} {name : List ℕ} → MinusAt p k ≡ NameAt at name → C
+no_minus e = absurd (cc)
+
+same_place : {p at : ℕ} {name other : List ℕ} → NameAt p other ≡ NameAt at name → p ≡ at
+same_place e = ap (λ v. place_of v) e
+
+unnamed_stays : (rs : ℕ → Reader Tree) (at : ℕ) (name : List ℕ) → TakesNone rs at → ((j end : ℕ) (us : List Lexeme) → ◌≡◌ {A = Result (Tree × List Lexeme) SyntaxFault} (rs j end (NameAt at name ∷ us)) (Err (faults.Expected at))) → (j end : ℕ) (x y : Lexeme) (us : List Lexeme) → x ≡ NameAt at name → IsLike x y → ◌≡◌ {A = Result (Tree × List Lexeme) SyntaxFault} (rs j end (y ∷ us)) (Err (faults.Expected at))
+unnamed_stays rs at name takes same j end x _ us is itself = ap (λ v. rs j end (v ∷ us)) is ∙ same j end us
+unnamed_stays rs at name takes same j end _ _ us is another_number = no_name is
+unnamed_stays rs at name takes same j end _ _ us is another_below_zero = no_minus is
+unnamed_stays rs at name takes same j end _ _ us is (an_option {at = p} {known = known} code e) = ap (λ v. rs j end (NameAt v known ∷ us)) (same_place is) ∙ takes j end code known us e
+
+unnamed : (rs : ℕ → Reader Tree) (at : ℕ) (name : List ℕ) → TakesNone rs at → Named rs at name (λ end ts. Err (faults.Expected at)) (λ j end ts. Err (faults.Expected at))
+unnamed rs at name takes same end ts = stops_at (AnySpells primary_level) rs (NameAt at name) end ts (faults.Expected at) begins_primary (unexpected (NameAt at name) ts refl) (λ j y us l. unnamed_stays rs at name takes same j end (NameAt at name) y us refl l)
+
+named_test : (rs : ℕ → Reader Tree) (at : ℕ) (name w : List ℕ) (s : Reader Tree) (ss : ℕ → Reader Tree) (other : Reader Tree) (others : ℕ → Reader Tree) → Good (After at w) s ss → Named rs at name other others → Named rs at name (if bytes_eq name w then s else other) (λ j. if bytes_eq name w then ss j else others j)
+named_test rs at name w s ss other others g n =
+    let by : (v : Bool) → bytes_eq name w ≡ v → Named rs at name (if v then s else other) (λ j. if v then ss j else others j)
+    = λ v. elim v as (λ v. bytes_eq name w ≡ v → Named rs at name (if v then s else other) (λ j. if v then ss j else others j)) [
+      | true ↦ λ is. let F : List ℕ → Type 0 = λ u. Good (After at u) s ss in named_by rs at name s ss (subst F (sym ((bytes_eq-Decides name w).0 is)) g)
       | false ↦ λ _. n
     ] in
     by (bytes_eq name w) refl
 
-form_named : (d : Deeper) → IsClosed d ⊎ IsOpen d → (r : Reader Tree) (at : ℕ) (name : List ℕ) → Named r at name (form_at d at name)
+form_named : (d : Deeper) (ds : ℕ → Deeper) → Nests d ds → (rs : ℕ → Reader Tree) (at : ℕ) (name : List ℕ) → TakesNone rs at → Named rs at name (form_at d at name) (λ j. form_at (ds j) at name)
 unfolding form_at
-form_named d g r at name =
-    named_test r at name (codes "substring") _ _ (part_good d g at)
-    (named_test r at name (codes "ifelse") _ _ (choice_good d g at)
-    (named_test r at name (codes "concat") _ _ (two_good d g _ (Concat at) (λ o c e us vs a b p q. concat_both at o c e us vs a b p q))
-    (named_test r at name (codes "hexstring") _ _ (two_good d g _ (HexString at) (λ o c e us vs a b p q. hexstring_both at o c e us vs a b p q))
-    (named_test r at name (codes "lcase") _ _ (one_good d g _ (Lower at) (λ o c us a q. (suc q.0, lcase c q.1)))
-    (named_test r at name (codes "ucase") _ _ (one_good d g _ (Upper at) (λ o c us a q. (suc q.0, ucase c q.1)))
-    (named_test r at name (codes "uint32totext") _ _ (one_good d g _ (IntToText at) (λ o c us a q. (suc q.0, uint32totext c q.1)))
-    (unnamed r at name)))))))
+form_named d ds g rs at name takes =
+    named_test rs at name (codes "substring") _ _ _ _ (part_good d ds g at)
+    (named_test rs at name (codes "ifelse") _ _ _ _ (choice_good d ds g at)
+    (named_test rs at name (codes "concat") _ _ _ _ (two_good d ds g _ (Concat at) (λ o c e us vs a b p q. concat_both at o c e us vs a b p q))
+    (named_test rs at name (codes "hexstring") _ _ _ _ (two_good d ds g _ (HexString at) (λ o c e us vs a b p q. hexstring_both at o c e us vs a b p q))
+    (named_test rs at name (codes "lcase") _ _ _ _ (one_good d ds g _ (Lower at) (λ o c us a q. (suc q.0, lcase c q.1)))
+    (named_test rs at name (codes "ucase") _ _ _ _ (one_good d ds g _ (Upper at) (λ o c us a q. (suc q.0, ucase c q.1)))
+    (named_test rs at name (codes "uint32totext") _ _ _ _ (one_good d ds g _ (IntToText at) (λ o c us a q. (suc q.0, uint32totext c q.1)))
+    (unnamed rs at name takes)))))))
 
-named_good : (d : Deeper) → IsClosed d ⊎ IsOpen d → (r : Reader Tree) (at : ℕ) (name : List ℕ) → Named r at name (named_at d at name)
+named_good : (d : Deeper) (ds : ℕ → Deeper) → Nests d ds → (rs : ℕ → Reader Tree) (at : ℕ) (name : List ℕ) → TakesNone rs at → Named rs at name (named_at d at name) (λ j. named_at (ds j) at name)
 unfolding named_at
-named_good d g r at name =
-    named_test r at name (codes "option") _ _ (option_good at)
-    (named_test r at name (codes "relay4") _ _ (relay_good at)
-    (named_test r at name (codes "pkt4") _ _ (fields_good at)
-    (named_test r at name (codes "pkt") _ _ (packet_good at)
-    (named_test r at name (codes "member") _ _ (member_good d g at)
-    (form_named d g r at name)))))
+named_good d ds g rs at name takes =
+    named_test rs at name (codes "option") _ _ _ _ (option_good at)
+    (named_test rs at name (codes "relay4") _ _ _ _ (relay_good at)
+    (named_test rs at name (codes "pkt4") _ _ _ _ (fields_good at)
+    (named_test rs at name (codes "pkt") _ _ _ _ (packet_good at)
+    (named_test rs at name (codes "member") _ _ _ _ (member_good d ds g at)
+    (form_named d ds g rs at name takes)))))
 
-number_comes : (d : Deeper) (at k end : ℕ) (ts : List Lexeme) (fits : Bool) → nat_lt k (2 ^ 32) ≡ fits → Comes (AnySpells primary_level) (primary_at d) end (NumberAt at k ∷ ts) (if fits then Ok (Int at k, ts) else Err (faults.NumberTooLarge at))
+-- no form has the name of an option
+takes_none : (ds : ℕ → Deeper) (at : ℕ) → TakesNone (λ j. primary_at (ds j)) at
+unfolding primary_at named_at form_at code_by_name
+takes_none ds at j end code known us e =
+    rw (not_named known (codes "option") code e refl, not_named known (codes "relay4") code e refl, not_named known (codes "pkt4") code e refl, not_named known (codes "pkt") code e refl, not_named known (codes "member") code e refl,
+    not_named known (codes "substring") code e refl, not_named known (codes "ifelse") code e refl, not_named known (codes "concat") code e refl, not_named known (codes "hexstring") code e refl, not_named known (codes "lcase") code e refl, not_named known (codes "ucase") code e refl, not_named known (codes "uint32totext") code e refl) refl
+
+number_comes : (d : Deeper) (ds : ℕ → Deeper) (at k end : ℕ) (ts : List Lexeme) (fits : Bool) → nat_lt k (2 ^ 32) ≡ fits → Comes (AnySpells primary_level) (λ j. primary_at (ds j)) end (NumberAt at k ∷ ts) (if fits then Ok (Int at k, ts) else Err (faults.NumberTooLarge at))
 unfolding primary_at
-number_comes d at k end ts true e = reads_one (AnySpells primary_level) (primary_at d) (NumberAt at k) end ts (Int at k) (0, number (ltb-true k (2 ^ 32) e)) (λ us. rw e refl)
-number_comes d at k end ts false e = stops_at (AnySpells primary_level) (primary_at d) (NumberAt at k) end ts (faults.NumberTooLarge at) begins_primary (too_large at k 0 ts ([], Int at 0, (0, number (ltb-true 0 (2 ^ 32) refl)))) (λ us. rw e refl)
+number_comes d ds at k end ts true e = reads_one (AnySpells primary_level) (λ j. primary_at (ds j)) (NumberAt at k) end ts (Int at k) (0, number (ltb-true k (2 ^ 32) e)) (λ j us. rw e refl)
+number_comes d ds at k end ts false e = stops_at (AnySpells primary_level) (λ j. primary_at (ds j)) (NumberAt at k) end ts (faults.NumberTooLarge at) begins_primary (too_large at k 0 ts ([], Int at 0, (0, number (ltb-true 0 (2 ^ 32) refl)))) (λ j y us l. subst (λ v. ◌≡◌ {A = Result (Tree × List Lexeme) SyntaxFault} (primary_at (ds j) end (v ∷ us)) (Err (faults.NumberTooLarge at))) l (rw e refl))
 
-primary_comes : (d : Deeper) → IsClosed d ⊎ IsOpen d → (end : ℕ) (ts : List Lexeme) → Comes (AnySpells primary_level) (primary_at d) end ts (primary_at d end ts)
+-- a number below zero at a place
+data IsMinusAt (at : ℕ) : Lexeme → Type 0 where
+  minus_there : (k : ℕ) → IsMinusAt at (MinusAt at k)
+
+minus_stays : (ds : ℕ → Deeper) (j end at : ℕ) (x y : Lexeme) (us : List Lexeme) → IsMinusAt at x → IsLike x y → ◌≡◌ {A = Result (Tree × List Lexeme) SyntaxFault} (primary_at (ds j) end (y ∷ us)) (Err (faults.Expected at))
 unfolding primary_at
-primary_comes d g end [] = at_the_end (AnySpells primary_level) (primary_at d) end begins_primary refl
-primary_comes d g end (StringAt at s ∷ ts) = reads_one (AnySpells primary_level) (primary_at d) (StringAt at s) end ts _ (0, string) (λ us. refl)
-primary_comes d g end (HexAt at s ∷ ts) = reads_one (AnySpells primary_level) (primary_at d) (HexAt at s) end ts _ (0, hexadecimal) (λ us. refl)
-primary_comes d g end (AddressAt at s ∷ ts) = reads_one (AnySpells primary_level) (primary_at d) (AddressAt at s) end ts _ (0, address) (λ us. refl)
-primary_comes d g end (NumberAt at k ∷ ts) = number_comes d at k end ts (nat_lt k (2 ^ 32)) refl
-primary_comes d g end (MinusAt at k ∷ ts) = stops_at (AnySpells primary_level) (primary_at d) (MinusAt at k) end ts _ begins_primary (unexpected (MinusAt at k) ts refl) (λ us. refl)
-primary_comes d g end (NameAt at name ∷ ts) = named_good d g (primary_at d) at name (λ end us. refl) end ts
-primary_comes d g end (SignAt at b ∷ ts) = head_same (AnySpells primary_level) (primary_at d) (group_at d) (SignAt at b) end ts (λ us. refl) (group_at d end (SignAt at b ∷ ts)) (comes (AnySpells primary_level) (group_at d) (group_good d g) end (SignAt at b ∷ ts))
-primary_comes d g end (BadAt at ∷ ts) = stops_at (AnySpells primary_level) (primary_at d) (BadAt at) end ts _ begins_primary (bad at ts) (λ us. refl)
+minus_stays ds j end at _ _ us (minus_there k) itself = refl
+minus_stays ds j end at _ _ us (minus_there k) another_below_zero = refl
 
-primary_good : (d : Deeper) → IsClosed d ⊎ IsOpen d → Good (AnySpells primary_level) (primary_at d)
-primary_good d g k = record { some = begins_primary; each = λ end ts fits. primary_comes d g end ts }
+sign_no_number : {C : Type 0} {p k at b : ℕ} → NumberAt p k ≡ SignAt at b → C
+sign_no_number e = absurd (cc)
+
+sign_no_minus : {C : Type 0} {p k at b : ℕ} → MinusAt p k ≡ SignAt at b → C
+sign_no_minus e = absurd (cc)
+
+sign_no_name : {C : Type 0} {p at b : ℕ} {name : List ℕ} → NameAt p name ≡ SignAt at b → C
+sign_no_name e = absurd (cc)
+
+sign_same : (ds : ℕ → Deeper) (j end at b : ℕ) (x y : Lexeme) (us : List Lexeme) → x ≡ SignAt at b → IsLike x y → primary_at (ds j) end (y ∷ us) ≡ group_at (ds j) end (y ∷ us)
+unfolding primary_at
+sign_same ds j end at b x _ us is itself = subst (λ v. primary_at (ds j) end (v ∷ us) ≡ group_at (ds j) end (v ∷ us)) (sym is) refl
+sign_same ds j end at b _ _ us is another_number = sign_no_number is
+sign_same ds j end at b _ _ us is another_below_zero = sign_no_minus is
+sign_same ds j end at b _ _ us is (an_option code e) = sign_no_name is
+
+primary_comes : (d : Deeper) (ds : ℕ → Deeper) → Nests d ds → (end : ℕ) (ts : List Lexeme) → Comes (AnySpells primary_level) (λ j. primary_at (ds j)) end ts (primary_at d end ts)
+unfolding primary_at
+primary_comes d ds g end [] = at_the_end (AnySpells primary_level) (λ j. primary_at (ds j)) end begins_primary (λ j. refl)
+primary_comes d ds g end (StringAt at s ∷ ts) = reads_one (AnySpells primary_level) (λ j. primary_at (ds j)) (StringAt at s) end ts _ (0, string) (λ j us. refl)
+primary_comes d ds g end (HexAt at s ∷ ts) = reads_one (AnySpells primary_level) (λ j. primary_at (ds j)) (HexAt at s) end ts _ (0, hexadecimal) (λ j us. refl)
+primary_comes d ds g end (AddressAt at s ∷ ts) = reads_one (AnySpells primary_level) (λ j. primary_at (ds j)) (AddressAt at s) end ts _ (0, address) (λ j us. refl)
+primary_comes d ds g end (NumberAt at k ∷ ts) = number_comes d ds at k end ts (nat_lt k (2 ^ 32)) refl
+primary_comes d ds g end (MinusAt at k ∷ ts) = stops_at (AnySpells primary_level) (λ j. primary_at (ds j)) (MinusAt at k) end ts (faults.Expected at) begins_primary (unexpected (MinusAt at k) ts refl) (λ j y us l. minus_stays ds j end at (MinusAt at k) y us (minus_there k) l)
+primary_comes d ds g end (NameAt at name ∷ ts) = named_good d ds g (λ j. primary_at (ds j)) at name (takes_none ds at) (λ j end us. refl) end ts
+primary_comes d ds g end (SignAt at b ∷ ts) = head_same (AnySpells primary_level) (λ j. primary_at (ds j)) (λ j. group_at (ds j)) (SignAt at b) end ts (λ j y us l. sign_same ds j end at b (SignAt at b) y us refl l) (group_at d end (SignAt at b ∷ ts)) (comes (AnySpells primary_level) (group_at d) (λ j. group_at (ds j)) (group_good d ds g) end (SignAt at b ∷ ts))
+primary_comes d ds g end (BadAt at ∷ ts) = stops_at (AnySpells primary_level) (λ j. primary_at (ds j)) (BadAt at) end ts (faults.BadToken at) begins_primary (bad at ts) (λ j y us l. subst (λ v. ◌≡◌ {A = Result (Tree × List Lexeme) SyntaxFault} (primary_at (ds j) end (v ∷ us)) (Err (faults.BadToken at))) l refl)
+
+primary_good : (d : Deeper) (ds : ℕ → Deeper) → Nests d ds → Good (AnySpells primary_level) (primary_at d) (λ j. primary_at (ds j))
+primary_good d ds g k = record { some = begins_primary; each = λ end ts fits. primary_comes d ds g end ts }
 
 -- a sign between two parts
 sign_joins : (b : ℕ) (l k : Level) (join : Tree → Tree → Tree) → ((o : ℕ) (us vs : List Lexeme) (a c : Tree) → AnySpells l us a → AnySpells k vs c → AnySpells l (us ++ SignAt o b ∷ vs) (join a c)) → (x : Lexeme) (o : ℕ) → sign_at b x ≡ Some o → (us vs : List Lexeme) (a c : Tree) → AnySpells l us a → AnySpells k vs c → AnySpells l (us ++ x ∷ vs) (join a c)
@@ -418,72 +629,92 @@ word_joins : (w : List ℕ) (l k : Level) (join : Tree → Tree → Tree) → ((
 word_joins w l k join more x o e us vs a c p q = subst (λ y. AnySpells l (us ++ y ∷ vs) (join a c)) (sym (word_is w x o e)) (more o us vs a c p q)
 
 -- the negation after its word
-negation_comes : (d : Deeper) → IsClosed d ⊎ IsOpen d → (r : Reader Tree) (end o : ℕ) (ts : List Lexeme) → ((us : List Lexeme) → r end (NameAt o (codes "not") ∷ us) ≡ seq (d.operand o) (λ a. done (Not o a)) end us) → Comes (AnySpells not_level) r end (NameAt o (codes "not") ∷ ts) (seq (d.operand o) (λ a. done (Not o a)) end ts)
-negation_comes d (inl closed) r end o ts same =
-    let refuses : (us : List Lexeme) → ◌≡◌ {A = Result (Tree × List Lexeme) SyntaxFault} (seq (d.operand o) (λ a. done (Not o a)) end us) (Err (faults.TooNested o))
-    = λ us. ap (λ (v : Result (Tree × List Lexeme) SyntaxFault). on_ok v (λ x. done (Not o x.0) end x.1)) (closed.operand o end us) in
+negation_comes : (d : Deeper) (ds : ℕ → Deeper) → Nests d ds → (rs : ℕ → Reader Tree) (end o : ℕ) (ts : List Lexeme) → ((j : ℕ) (us : List Lexeme) → rs j end (NameAt o (codes "not") ∷ us) ≡ seq ((ds j).operand o) (λ a. done (Not o a)) end us) → Comes (AnySpells not_level) rs end (NameAt o (codes "not") ∷ ts) (seq (d.operand o) (λ a. done (Not o a)) end ts)
+negation_comes d ds (inl closed) rs end o ts same =
+    let refuses : ◌≡◌ {A = Result (Tree × List Lexeme) SyntaxFault} (seq (d.operand o) (λ a. done (Not o a)) end ts) (Err (faults.TooNested o))
+    = ap (λ (v : Result (Tree × List Lexeme) SyntaxFault). on_ok v (λ x. done (Not o x.0) end x.1)) (closed.0.operand o end ts) in
+    let others : (j : ℕ) → j ≡ 0 → (us : List Lexeme) → ◌≡◌ {A = Result (Tree × List Lexeme) SyntaxFault} (seq ((ds j).operand o) (λ a. done (Not o a)) end us) (Err (faults.TooNested o))
+    = λ j none us. ap (λ (v : Result (Tree × List Lexeme) SyntaxFault). on_ok v (λ x. done (Not o x.0) end x.1)) ((closed.1 j none).operand o end us) in
     let operand : Spells not_level 0 (StringAt 0 [] ∷ []) (Literal 0 []) = not_none (compare_one (sum_one string)) in
-    subst (λ (v : Result (Tree × List Lexeme) SyntaxFault). Comes (AnySpells not_level) r end (NameAt o (codes "not") ∷ ts) v) (sym (refuses ts))
-    (stops_at (AnySpells not_level) r (NameAt o (codes "not")) end ts (faults.TooNested o) (StringAt 0 [] ∷ [], Literal 0 [], (0, operand))
-    (nested (NameAt o (codes "not")) ts refl (StringAt 0 [] ∷ [], Not o (Literal 0 []), (1, negated operand))) (λ us. same us ∙ refuses us))
-negation_comes d (inr opened) r end o ts same =
-    goes_on (AnySpells not_level) r (seq (d.operand o) (λ a. done (Not o a))) (NameAt o (codes "not")) end ts same (seq (d.operand o) (λ a. done (Not o a)) end ts)
-    (comes (λ ws t. AnySpells not_level (NameAt o (codes "not") ∷ ws) t) (seq (d.operand o) (λ a. done (Not o a)))
-    (seq_good (AnySpells not_level) (λ ws t. AnySpells not_level (NameAt o (codes "not") ∷ ws) t) (d.operand o) (λ a. done (Not o a)) (opened.operand o) (λ a us q.
+    subst (λ (v : Result (Tree × List Lexeme) SyntaxFault). Comes (AnySpells not_level) rs end (NameAt o (codes "not") ∷ ts) v) (sym refuses)
+    (stops_at (AnySpells not_level) rs (NameAt o (codes "not")) end ts (faults.TooNested o) (StringAt 0 [] ∷ [], Literal 0 [], (0, operand))
+    (nested (NameAt o (codes "not")) ts refl (StringAt 0 [] ∷ [], Not o (Literal 0 []), (1, negated operand)))
+    (λ j y us l. ap (λ v. rs j end (v ∷ us)) (sym l.1) ∙ (same j us ∙ others j l.0 us)))
+negation_comes d ds (inr opened) rs end o ts same =
+    goes_on (AnySpells not_level) rs (λ j. seq ((ds j).operand o) (λ a. done (Not o a))) (NameAt o (codes "not")) end ts same (seq (d.operand o) (λ a. done (Not o a)) end ts)
+    (comes (λ ws t. AnySpells not_level (NameAt o (codes "not") ∷ ws) t) (seq (d.operand o) (λ a. done (Not o a))) (λ j. seq ((ds j).operand o) (λ a. done (Not o a)))
+    (seq_good (AnySpells not_level) (λ ws t. AnySpells not_level (NameAt o (codes "not") ∷ ws) t) (d.operand o) (λ a. done (Not o a)) (λ j. (ds j).operand o) (λ j a. done (Not o a)) (opened.operand o) (λ a us q.
     done_good _ _ (subst (λ v. AnySpells not_level (NameAt o (codes "not") ∷ v) (Not o a)) (sym (append-nil us)) (suc q.0, negated q.1)))) end ts)
 
-module _ (d : Deeper) (g : IsClosed d ⊎ IsOpen d) where
-  sum_good : Good (AnySpells sum_level) (sum_at d)
+-- what a sound reader leaves is not longer
+sound_short : (P : List Lexeme → Tree → Type 0) (r : Reader Tree) → IsSound P r → IsShort r
+sound_short P r h end ts a rest e = let t = h end ts a rest e in rest_shorter t.front rest ts t.is
+
+module _ (d : Deeper) (ds : ℕ → Deeper) (g : Nests d ds) (ms : ℕ → ℕ) (ss : (j : ℕ) → DeeperIsSound (ms j) (ds j)) where
+  sum_good : Good (AnySpells sum_level) (sum_at d) (λ j. sum_at (ds j))
   unfolding sum_at
   sum_good =
-      chain_good (AnySpells sum_level) (AnySpells primary_level) (sign_at 43) (primary_at d) sum_of (primary_good d g)
+      chain_good (AnySpells sum_level) (AnySpells primary_level) (sign_at 43) (primary_at d) (λ j. primary_at (ds j)) sum_of (sign_blind 43) (primary_good d ds g) (λ j. sound_short _ (primary_at (ds j)) (primary_sound (ms j) (ds j) (ss j)))
       (λ us a h. (h.0, sum_one h.1)) (sign_joins 43 sum_level primary_level sum_of sum_both)
 
-  compare_good : Good (AnySpells compare_level) (compare_at d)
+  compare_good : Good (AnySpells compare_level) (compare_at d) (λ j. compare_at (ds j))
   unfolding compare_at
   compare_good =
-      seq_good (AnySpells sum_level) (AnySpells compare_level) (sum_at d) _ sum_good (λ a us h.
-      either_good (λ ws t. AnySpells compare_level (us ++ ws) t) (sign_at 61) _ (done a)
-      (λ x o e. seq_good (AnySpells sum_level) (λ ws t. AnySpells compare_level (us ++ x ∷ ws) t) (sum_at d) _ sum_good (λ b vs r.
+      seq_good (AnySpells sum_level) (AnySpells compare_level) (sum_at d) _ (λ j. sum_at (ds j)) _ sum_good (λ a us h.
+      either_good (λ ws t. AnySpells compare_level (us ++ ws) t) (sign_at 61) _ (done a) _ (λ j. done a) (sign_blind 61)
+      (λ x o e. seq_good (AnySpells sum_level) (λ ws t. AnySpells compare_level (us ++ x ∷ ws) t) (sum_at d) _ (λ j. sum_at (ds j)) _ sum_good (λ b vs r.
       done_good (λ ws t. AnySpells compare_level (us ++ x ∷ (vs ++ ws)) t) (Equal (at_of a) a b)
       (subst (λ v. AnySpells compare_level (us ++ x ∷ v) (Equal (at_of a) a b)) (sym (append-nil vs))
       (subst (λ y. AnySpells compare_level (us ++ y ∷ vs) (Equal (at_of a) a b)) (sym (sign_is 61 x o e)) (equal_both o us vs a b h r)))))
       (done_good (λ ws t. AnySpells compare_level (us ++ ws) t) a (subst (λ v. AnySpells compare_level v a) (sym (append-nil us)) (h.0, compare_one h.1))))
 
-  not_found : (end : ℕ) (x : Lexeme) (o : ℕ) → word_at (codes "not") x ≡ Some o → (ts : List Lexeme) → Comes (AnySpells not_level) (either (word_at (codes "not")) (λ at. seq (d.operand at) (λ a. done (Not at a))) (compare_at d)) end (x ∷ ts) (seq (d.operand o) (λ a. done (Not o a)) end ts)
+  not_found : (end : ℕ) (x : Lexeme) (o : ℕ) → word_at (codes "not") x ≡ Some o → (ts : List Lexeme) → Comes (AnySpells not_level) (λ j. either (word_at (codes "not")) (λ at. seq ((ds j).operand at) (λ a. done (Not at a))) (compare_at (ds j))) end (x ∷ ts) (seq (d.operand o) (λ a. done (Not o a)) end ts)
   not_found end x o e ts =
-      let r : Reader Tree = either (word_at (codes "not")) (λ at. seq (d.operand at) (λ a. done (Not at a))) (compare_at d) in
-      let F : Lexeme → Type 0 = λ y. Comes (AnySpells not_level) r end (y ∷ ts) (seq (d.operand o) (λ a. done (Not o a)) end ts) in
-      subst F (sym (word_is (codes "not") x o e)) (negation_comes d g r end o ts (λ us. refl))
+      let rs : ℕ → Reader Tree = λ j. either (word_at (codes "not")) (λ at. seq ((ds j).operand at) (λ a. done (Not at a))) (compare_at (ds j)) in
+      let F : Lexeme → Type 0 = λ y. Comes (AnySpells not_level) rs end (y ∷ ts) (seq (d.operand o) (λ a. done (Not o a)) end ts) in
+      subst F (sym (word_is (codes "not") x o e)) (negation_comes d ds g rs end o ts (λ j us. refl))
 
-  not_good : Good (AnySpells not_level) (not_at d)
+  not_good : Good (AnySpells not_level) (not_at d) (λ j. not_at (ds j))
   unfolding not_at
   not_good k =
-      either_good_to k (AnySpells not_level) (word_at (codes "not")) _ (compare_at d) (λ end x o e ts fits. not_found end x o e ts)
-      (weaker_good (AnySpells compare_level) (AnySpells not_level) (compare_at d) (λ us a h. (h.0, not_none h.1)) compare_good k)
+      either_good_to k (AnySpells not_level) (word_at (codes "not")) _ (compare_at d) (λ j at. seq ((ds j).operand at) (λ a. done (Not at a))) (λ j. compare_at (ds j)) (word_blind (codes "not") no_not) (λ end x o e ts fits. not_found end x o e ts)
+      (weaker_good (AnySpells compare_level) (AnySpells not_level) (compare_at d) (λ j. compare_at (ds j)) (λ us a h. (h.0, not_none h.1)) compare_good k)
 
-  and_good : Good (AnySpells and_level) (and_at d)
+  and_good : Good (AnySpells and_level) (and_at d) (λ j. and_at (ds j))
   unfolding and_at
   and_good =
-      chain_good (AnySpells and_level) (AnySpells not_level) (word_at (codes "and")) (not_at d) and_of not_good
+      chain_good (AnySpells and_level) (AnySpells not_level) (word_at (codes "and")) (not_at d) (λ j. not_at (ds j)) and_of (word_blind (codes "and") no_and) not_good (λ j. sound_short _ (not_at (ds j)) (not_sound (ms j) (ds j) (ss j)))
       (λ us a h. (h.0, and_one h.1)) (word_joins (codes "and") and_level not_level and_of and_both)
 
-  or_good : Good (AnySpells or_level) (or_at d)
+  or_good : Good (AnySpells or_level) (or_at d) (λ j. or_at (ds j))
   unfolding or_at
   or_good =
-      chain_good (AnySpells or_level) (AnySpells and_level) (word_at (codes "or")) (and_at d) or_of and_good
+      chain_good (AnySpells or_level) (AnySpells and_level) (word_at (codes "or")) (and_at d) (λ j. and_at (ds j)) or_of (word_blind (codes "or") no_or) and_good (λ j. sound_short _ (and_at (ds j)) (and_sound (ms j) (ds j) (ss j)))
       (λ us a h. (h.0, or_one h.1)) (word_joins (codes "or") or_level and_level or_of or_both)
 
--- the readers one nesting deeper, at each nesting
-below_good : (m : ℕ) → IsClosed (below m) ⊎ IsOpen (below m)
+-- so many more may be nested
+abbrev pub more_nested : ℕ → ℕ → ℕ
+more_nested zero j = j
+more_nested (suc n) j = suc (more_nested n j)
+
+pub more_is : (n j : ℕ) → more_nested n j ≡ n + j
+more_is zero j = omega arith
+more_is (suc n) j = let rest = more_is n j in omega (arith, rest)
+
+closed_below : IsClosed (below 0)
 unfolding below
-below_good zero = inl (record { any = λ at end ts. refl; operand = λ at end ts. refl; name = λ at end ts. refl })
+closed_below = record { any = λ at end ts. refl; operand = λ at end ts. refl; name = λ at end ts. refl }
+
+-- the readers one nesting deeper, at each nesting
+below_good : (m : ℕ) → Nests (below m) (λ j. below (more_nested m j))
+unfolding below
+below_good zero = inl (closed_below, λ j none. subst (λ v. IsClosed (below v)) (sym none) closed_below)
 below_good (suc n) = inr (record {
-  any = λ at. or_good (below n) (below_good n);
-  operand = λ at. not_good (below n) (below_good n);
+  any = λ at. or_good (below n) (λ j. below (more_nested n j)) (below_good n) (λ j. more_nested n j) (λ j. below_sound (more_nested n j));
+  operand = λ at. not_good (below n) (λ j. below (more_nested n j)) (below_good n) (λ j. more_nested n j) (λ j. below_sound (more_nested n j));
   name = λ at. class_good;
 })
 
 -- of a whole expression
-pub any_good : (m : ℕ) → Good (AnySpells or_level) (or_at (below m))
-any_good m = or_good (below m) (below_good m)
+pub any_good : (m : ℕ) → Good (AnySpells or_level) (or_at (below m)) (λ j. or_at (below (more_nested m j)))
+any_good m = or_good (below m) (λ j. below (more_nested m j)) (below_good m) (λ j. more_nested m j) (λ j. below_sound (more_nested m j))

@@ -33,27 +33,42 @@ BeginsSome ts =
 abbrev pub BeginsNone : ℕ → List Lexeme → Type 0
 BeginsNone n ts = (more : List Lexeme) (tree : Tree) → Spells or_level n (ts ++ more) tree → ⊥
 
--- the fault of a token after these, where another of its kind could stand or not
+-- no expression begins with these tokens, however deep it is nested
+abbrev pub BeginsNever : List Lexeme → Type 0
+BeginsNever ts = (n : ℕ) → BeginsNone n ts
+
+-- a token, or another of its kind at its place: another number, or the name of an option for a name
+pub data IsLike : Lexeme → Lexeme → Type 0 where
+  itself : {x : Lexeme} → IsLike x x
+  another_number : {at k m : ℕ} → IsLike (NumberAt at k) (NumberAt at m)
+  another_below_zero : {at k m : ℕ} → IsLike (MinusAt at k) (MinusAt at m)
+  an_option : {at : ℕ} {name known : List ℕ} (code : ℕ) → code_by_name known ≡ Some code
+      → IsLike (NameAt at name) (NameAt at known)
+
+-- the fault of the token after these
 pub data IsTokenFault (before : List Lexeme) : Lexeme → ExprFault → Type 0 where
   bad_token : {at : ℕ} → IsTokenFault before (BadAt at) (faults.BadToken at)
   unexpected : {x : Lexeme} → is_bad x ≡ false
+      → ((y : Lexeme) → IsLike x y → BeginsNever (before ++ y ∷ []))
       → IsTokenFault before x (faults.Expected (place_of x))
-  too_large : {at k : ℕ} (m : ℕ) → BeginsSome (before ++ NumberAt at m ∷ [])
+  too_large : {at k : ℕ} (m : ℕ) → BeginsNever (before ++ NumberAt at k ∷ [])
+      → BeginsSome (before ++ NumberAt at m ∷ [])
       → IsTokenFault before (NumberAt at k) (faults.NumberTooLarge at)
-  too_low : {at k : ℕ} (m : ℕ) → BeginsSome (before ++ MinusAt at m ∷ [])
+  too_low : {at k : ℕ} (m : ℕ) → BeginsNever (before ++ MinusAt at k ∷ [])
+      → BeginsSome (before ++ MinusAt at m ∷ [])
       → IsTokenFault before (MinusAt at k) (faults.NumberTooLarge at)
-  unknown : {at : ℕ} {name : List ℕ} (code : ℕ) (known : List ℕ) → code_by_name known ≡ Some code
+  unknown : {at : ℕ} {name : List ℕ} (code : ℕ) (known : List ℕ)
+      → BeginsNever (before ++ NameAt at name ∷ []) → code_by_name known ≡ Some code
       → BeginsSome (before ++ NameAt at known ∷ [])
       → IsTokenFault before (NameAt at name) (faults.UnknownName at)
-  nested : {x : Lexeme} → is_bad x ≡ false → BeginsSome (before ++ x ∷ [])
-      → IsTokenFault before x (faults.TooNested (place_of x))
+  nested : {x : Lexeme} → is_bad x ≡ false → BeginsNone 64 (before ++ x ∷ [])
+      → BeginsSome (before ++ x ∷ []) → IsTokenFault before x (faults.TooNested (place_of x))
 
--- the fault of the tokens that are left after these
+-- the fault of the tokens that are left after these, where the text ends at a place
 abbrev pub IsFaultAfter : List Lexeme → List Lexeme → ℕ → ExprFault → Type 0
 IsFaultAfter before [] end fault =
-    ((tree : Tree) → Spells or_level 64 before tree → ⊥) × (fault ≡ faults.Expected end)
-IsFaultAfter before (x ∷ after) end fault =
-    BeginsNone 64 (before ++ x ∷ []) × IsTokenFault before x fault
+    ((n : ℕ) (tree : Tree) → Spells or_level n before tree → ⊥) × (fault ≡ faults.Expected end)
+IsFaultAfter before (x ∷ after) end fault = IsTokenFault before x fault
 
 -- the first fault of a text that is no expression
 pub record IsFirstFault (text : List ℕ) (fault : ExprFault) : Type 0 where
