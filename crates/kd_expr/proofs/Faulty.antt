@@ -1,17 +1,16 @@
 -- What a reader of tokens comes to: what it gives has the fact; where it refuses a token, those before
 -- begin something that has it, and what follows the token does not matter. One lemma for each way of
 -- putting readers together.
-use Rattle.std.proofs.Common.{◌≡◌, ℕ, zero, suc, ◌+◌, ◌≤◌, ◌<◌, Bool, true, false, Option, Some, None, Result, Ok, Err, List, [], ◌∷◌, ◌++◌, length, refl, sym, ◌∙◌, ap, subst, append_assoc, append-nil, arith, length-append}
-use Rattle.kd_expr.specs.FirstFault.{place_of, is_bad, IsLike, itself, another_number, another_below_zero, an_option}
+use Rattle.std.proofs.Common.{◌≡◌, ℕ, zero, suc, ◌≤◌, false, Option, Some, None, Result, Ok, Err, List, [], ◌∷◌, ◌++◌, length, refl, sym, ◌∙◌, ap, subst, append_assoc, append-nil, arith, length-append}
+use Rattle.kd_expr.specs.FirstFault.{token_place, is_bad, IsLike, itself, another_number, another_below_zero, an_option}
 use Rattle.kd_expr.specs.Lexical.{Lexeme, StringAt, HexAt, AddressAt, NumberAt, MinusAt, NameAt, SignAt, BadAt}
 use Rattle.kd_expr.specs.Names.{code_by_name}
-use Rattle.kd_expr.specs.Reading.{Reader, and_then, or_else, on_ok, done, seq, either, one, wanted, operands_joined, chain}
+use Rattle.kd_expr.specs.Reading.{Reader, or_else, on_ok, done, seq, either, one, wanted, operands_joined, chain}
 use Rattle.kd_expr.specs.Refusals.{refused_at, refusal_of}
 use Rattle.kd_expr.specs.Tree.{Tree}
 use Rattle.kd_expr.specs.declared.fault.SyntaxFault.{SyntaxFault}
 use Rattle.kd_expr.specs.declared.fault.SyntaxFault.TheVariants as faults
 use Rattle.kd_expr.proofs.Complete.{joined_ends}
-use Rattle.kd_expr.proofs.Options.{none_is}
 use Rattle.kd_expr.proofs.Sound.{OneOf, is_one, Looks, ends, other, found, looks}
 
 -- tokens that may stand in place of those that are left: the first is like the first
@@ -47,11 +46,11 @@ Begins {A} P us = (more : List Lexeme) × (a : A) × P (us ++ more) a
 pub data Refused (B : List Lexeme → Type 0) (end : ℕ) (front : List Lexeme) : List Lexeme → SyntaxFault → Type 0 where
   at_end : Refused B end front [] (faults.Expected end)
   bad : (at : ℕ) (ts : List Lexeme) → Refused B end front (BadAt at ∷ ts) (faults.BadToken at)
-  unexpected : (x : Lexeme) (ts : List Lexeme) → is_bad x ≡ false → Refused B end front (x ∷ ts) (faults.Expected (place_of x))
+  unexpected : (x : Lexeme) (ts : List Lexeme) → is_bad x ≡ false → Refused B end front (x ∷ ts) (faults.Expected (token_place x))
   too_large : (at k m : ℕ) (ts : List Lexeme) → B (front ++ NumberAt at m ∷ []) → Refused B end front (NumberAt at k ∷ ts) (faults.NumberTooLarge at)
   too_low : (at k m : ℕ) (ts : List Lexeme) → B (front ++ MinusAt at m ∷ []) → Refused B end front (MinusAt at k ∷ ts) (faults.NumberTooLarge at)
   unknown : (at code : ℕ) (name known : List ℕ) (ts : List Lexeme) → code_by_name known ≡ Some code → B (front ++ NameAt at known ∷ []) → Refused B end front (NameAt at name ∷ ts) (faults.UnknownName at)
-  nested : (x : Lexeme) (ts : List Lexeme) → is_bad x ≡ false → B (front ++ x ∷ []) → Refused B end front (x ∷ ts) (faults.TooNested (place_of x))
+  nested : (x : Lexeme) (ts : List Lexeme) → is_bad x ≡ false → B (front ++ x ∷ []) → Refused B end front (x ∷ ts) (faults.TooNested (token_place x))
 
 -- the same fault, where more is known of what begins so
 pub refused_map : {B C : List Lexeme → Type 0} {end : ℕ} (front longer : List Lexeme) {left : List Lexeme} {fault : SyntaxFault} → ((us : List Lexeme) → B (front ++ us) → C (longer ++ us)) → Refused B end front left fault → Refused C end longer left fault
@@ -191,13 +190,13 @@ seq_good_to {A} {B} k Q P r f rs fs g h = record {
       let at : (answer : Result (A × List Lexeme) SyntaxFault) → Comes Q rs end ts answer → Comes P (λ j. seq (rs j) (fs j)) end ts (on_ok answer (λ x. f x.0 end x.1))
       = λ answer. elim answer as (λ v. Comes Q rs end ts v → Comes P (λ j. seq (rs j) (fs j)) end ts (on_ok v (λ x. f x.0 end x.1))) [
         | Err fault ↦ λ c. record {
-            front = c.front;
-            left = c.left;
-            is = c.is;
-            begins = begins_both Q P (λ a us q. (h a us q).some) c.front c.begins;
-            refused = refused_map c.front c.front (λ us b. begins_both Q P (λ a us q. (h a us q).some) (c.front ++ us) b) c.refused;
-            again = λ j us fo. ap (λ (v : Result (A × List Lexeme) SyntaxFault). on_ok v (λ x. fs j x.0 end x.1)) (c.again j us fo);
-          }
+          front = c.front;
+          left = c.left;
+          is = c.is;
+          begins = begins_both Q P (λ a us q. (h a us q).some) c.front c.begins;
+          refused = refused_map c.front c.front (λ us b. begins_both Q P (λ a us q. (h a us q).some) (c.front ++ us) b) c.refused;
+          again = λ j us fo. ap (λ (v : Result (A × List Lexeme) SyntaxFault). on_ok v (λ x. fs j x.0 end x.1)) (c.again j us fo);
+        }
         | Ok x ↦ λ c. seq_after Q P rs fs end ts x.1 x.0 c (f x.0 end x.1) ((h x.0 c.front c.holds).each end x.1 (omega (arith, fits, rest_shorter c.front x.1 ts c.is)))
       ] in
       at (r end ts) (g.each end ts fits);
@@ -399,13 +398,13 @@ weaker_good_to {A} k P Q r s w g = record {
       let at : (answer : Result (A × List Lexeme) SyntaxFault) → Comes P s end ts answer → Comes Q s end ts answer
       = λ answer. elim answer as (λ v. Comes P s end ts v → Comes Q s end ts v) [
         | Err fault ↦ λ c. record {
-            front = c.front;
-            left = c.left;
-            is = c.is;
-            begins = (c.begins.0, c.begins.1, w _ c.begins.1 c.begins.2);
-            refused = refused_map c.front c.front (λ us b. (b.0, b.1, w _ b.1 b.2)) c.refused;
-            again = c.again;
-          }
+          front = c.front;
+          left = c.left;
+          is = c.is;
+          begins = (c.begins.0, c.begins.1, w _ c.begins.1 c.begins.2);
+          refused = refused_map c.front c.front (λ us b. (b.0, b.1, w _ b.1 b.2)) c.refused;
+          again = c.again;
+        }
         | Ok x ↦ λ c. record { front = c.front; is = c.is; holds = w c.front x.0 c.holds; again = c.again }
       ] in
       at (r end ts) (g.each end ts fits);

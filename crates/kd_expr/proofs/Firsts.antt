@@ -1,14 +1,13 @@
 -- The fault that is answered is the first of the text.
-use Rattle.std.proofs.Common.{◌≡◌, ◌≢◌, ◌⊎◌, inl, inr, ℕ, ◌≤◌, Bool, true, false, Option, Some, None, Result, Ok, Err, List, [], ◌∷◌, ◌++◌, length, refl, sym, ◌∙◌, ap, subst, append_assoc, append-nil, arith}
+use Rattle.std.proofs.Common.{◌≡◌, ◌≢◌, ◌⊎◌, inl, inr, ℕ, ◌≤◌, Result, Ok, Err, List, [], ◌∷◌, ◌++◌, length, refl, sym, ◌∙◌, ap, subst, append_assoc, append-nil, arith}
 use Rattle.kd_expr.specs.Faults.{outer_fault}
-use Rattle.kd_expr.specs.FirstFault.{place_of, is_bad, IsLike, BeginsSome, BeginsNone, BeginsNever, IsTokenFault, bad_token, unexpected, too_large, too_low, unknown, nested, IsFaultAfter, IsFirstFault}
+use Rattle.kd_expr.specs.FirstFault.{token_place, IsLike, BeginsSome, BeginsNoneWithin, BeginsNever, bad_token, unexpected, too_large, too_low, unknown, nested, IsFaultAfter, IsTextFault}
 use Rattle.kd_expr.specs.Grammar.{Spells, or_level}
 use Rattle.kd_expr.specs.Lexical.{Lexeme}
 use Rattle.kd_expr.specs.Lexing.{tokens_from}
 use Rattle.kd_expr.specs.Reading.{or_at, below, on_ok, all_read, whole_at}
 use Rattle.kd_expr.specs.Refusals.{refusal_of}
 use Rattle.kd_expr.specs.Tree.{Tree}
-use Rattle.kd_expr.specs.declared.fault.ExprFault.{ExprFault}
 use Rattle.kd_expr.specs.declared.fault.ExprFault.TheVariants as outside
 use Rattle.kd_expr.specs.declared.fault.SyntaxFault.{SyntaxFault}
 use Rattle.kd_expr.specs.declared.fault.SyntaxFault.TheVariants as faults
@@ -94,7 +93,7 @@ some_of : (us : List Lexeme) → Begins (AnySpells or_level) us → BeginsSome u
 some_of us b = (b.0, b.2.0, b.1, b.2.1)
 
 -- no expression begins with a token that stays refused
-none_of : (end : ℕ) (before : List Lexeme) (x : Lexeme) (after : List Lexeme) (fault : SyntaxFault) → Again end before (x ∷ after) fault → (n j : ℕ) → n ≤ more_nested 64 j → (y : Lexeme) → Stays j fault x y → BeginsNone n (before ++ y ∷ [])
+none_of : (end : ℕ) (before : List Lexeme) (x : Lexeme) (after : List Lexeme) (fault : SyntaxFault) → Again end before (x ∷ after) fault → (n j : ℕ) → n ≤ more_nested 64 j → (y : Lexeme) → Stays j fault x y → BeginsNoneWithin n (before ++ y ∷ [])
 none_of end before x after fault again n j deep y stays more tree s =
     let spelled : Spells or_level (more_nested 64 j) (before ++ y ∷ more) tree = raised (more_nested 64 j) deep (subst (λ v. Spells or_level n v tree) (append_assoc before (y ∷ []) more) s) in
     err_is (sym (again j (y ∷ more) (token after more stays)) ∙ whole_spelled (more_nested 64 j) end (before ++ y ∷ more) tree spelled)
@@ -111,16 +110,16 @@ none_whole end before fault again n tree s =
 
 fault_after : (end : ℕ) (before left : List Lexeme) (fault : SyntaxFault) → Refused (Begins (AnySpells or_level)) end before left fault → Again end before left fault → IsFaultAfter before left end (outer_fault fault)
 fault_after end before _ _ faulty.at_end again = (none_whole end before (faults.Expected end) again, refl)
-fault_after end before _ _ (faulty.bad at ts) again = bad_token
-fault_after end before _ _ (faulty.unexpected x ts fine) again = unexpected fine (λ y l. never_of end before x ts (faults.Expected (place_of x)) again y (λ j. l))
+fault_after end before _ _ (faulty.bad at ts) again = bad_token (never_of end before _ ts (faults.BadToken at) again _ (λ j. refl))
+fault_after end before _ _ (faulty.unexpected x ts fine) again = unexpected fine (λ y l. never_of end before x ts (faults.Expected (token_place x)) again y (λ j. l))
 fault_after end before _ _ (faulty.too_large at k m ts b) again = too_large m (never_of end before _ ts (faults.NumberTooLarge at) again _ (λ j. refl)) (some_of _ b)
 fault_after end before _ _ (faulty.too_low at k m ts b) again = too_low m (never_of end before _ ts (faults.NumberTooLarge at) again _ (λ j. refl)) (some_of _ b)
 fault_after end before _ _ (faulty.unknown at code name known ts e b) again = unknown code known (never_of end before _ ts (faults.UnknownName at) again _ (λ j. refl)) e (some_of _ b)
 fault_after end before _ _ (faulty.nested x ts fine b) again =
     let size = more_is 64 0 in
-    nested fine (none_of end before x ts (faults.TooNested (place_of x)) again 64 0 (omega (arith, size)) x (refl, refl)) (some_of _ b)
+    nested fine (none_of end before x ts (faults.TooNested (token_place x)) again 64 0 (omega (arith, size)) x (refl, refl)) (some_of _ b)
 
-first_of : (text : List ℕ) (fault : SyntaxFault) → ◌≡◌ {A = Result Tree SyntaxFault} (whole_at (length text) (tokens_from (length text) 0 text)) (Err fault) → IsFirstFault text (outer_fault fault)
+first_of : (text : List ℕ) (fault : SyntaxFault) → ◌≡◌ {A = Result Tree SyntaxFault} (whole_at (length text) (tokens_from (length text) 0 text)) (Err fault) → IsTextFault text (outer_fault fault)
 first_of text fault e =
     let r = refuses (length text) (tokens_from (length text) 0 text) fault e in
     record {
@@ -134,7 +133,7 @@ first_of text fault e =
     }
 
 -- the fault that is answered, unless memory ran out
-pub first_fault : (text : List ℕ) (fault : SyntaxFault) → (fault ≢ faults.Memory → ◌≡◌ {A = Result Tree SyntaxFault} (whole_at (length text) (tokens_from (length text) 0 text)) (Err fault)) → (outer_fault fault ≡ outside.Memory) ⊎ ((outer_fault fault ≡ outside.TooLong) ⊎ IsFirstFault text (outer_fault fault))
+pub first_fault : (text : List ℕ) (fault : SyntaxFault) → (fault ≢ faults.Memory → ◌≡◌ {A = Result Tree SyntaxFault} (whole_at (length text) (tokens_from (length text) 0 text)) (Err fault)) → (outer_fault fault ≡ outside.Memory) ⊎ ((outer_fault fault ≡ outside.TooLong) ⊎ IsTextFault text (outer_fault fault))
 first_fault text faults.Memory h = inl refl
 first_fault text (faults.BadToken at) h = inr (inr (first_of text (faults.BadToken at) (h (λ e. cc))))
 first_fault text (faults.Expected at) h = inr (inr (first_of text (faults.Expected at) (h (λ e. cc))))

@@ -5,7 +5,7 @@ use Rattle.kd_expr.specs.Reading.{Reader, and_then, or_else, on_ok, done, seq, e
 use Rattle.kd_expr.specs.Refusals.{refused_at}
 use Rattle.kd_expr.specs.declared.fault.SyntaxFault.{SyntaxFault}
 use Rattle.kd_expr.specs.Tree.{Tree}
-use Rattle.kd_expr.proofs.Options.{some_pair, none_is, ok_pair, err_is}
+use Rattle.kd_expr.proofs.Options.{ok_pair, err_is}
 
 -- a front of the tokens has the fact, and the rest is left
 pub record Takes (fact : List Lexeme → Type 0) (ts rest : List Lexeme) : Type 0 where

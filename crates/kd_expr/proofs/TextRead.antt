@@ -1,5 +1,5 @@
 -- What is answered for a text is its tree, and a refusal other than for memory means that it has none.
-use Rattle.std.proofs.Common.{◌≡◌, ◌≢◌, ℕ, length, List, refl, sym, ◌∙◌, Ok, Err, Result}
+use Rattle.std.proofs.Common.{◌≡◌, ◌≢◌, ℕ, length, List, refl, sym, ◌∙◌, Ok, Err}
 use Rattle.kd_expr.specs.Grammar.{Parses}
 use Rattle.kd_expr.specs.Lexing.{tokens_from}
 use Rattle.kd_expr.specs.Reading.{whole_at}

@@ -1,7 +1,7 @@
 -- What the readers of forms refuse: the tokens before begin an expression, however deep it is nested.
-use Rattle.std.proofs.Common.{◌≡◌, ◌⊎◌, inl, inr, ℕ, zero, suc, ◌+◌, ◌≤◌, ◌<◌, ◌^◌, ℤ, pos, Bool, true, false, Option, Some, None, Result, Ok, Err, List, [], ◌∷◌, ◌++◌, length, refl, sym, ◌∙◌, ap, subst, append-nil, codes, bytes_eq, if◌then◌else◌, nat_lt, ltb-true, arith, eq-eqb}
-use Rattle.kd_expr.specs.FirstFault.{place_of, is_bad, IsLike, itself, another_number, another_below_zero, an_option}
-use Rattle.kd_expr.specs.Grammar.{Spells, Level, or_level, and_level, not_level, compare_level, sum_level, primary_level, or_one, or_more, and_one, and_more, not_none, negated, compare_one, equal, sum_one, sum_more, string, hexadecimal, address, number, group, option_hex, option_exists, relay_hex, relay_exists, field, packet_length, member, substring, concat, ifelse, hexstring, lcase, ucase, uint32totext, IsSigned, plain, IsLength, counted}
+use Rattle.std.proofs.Common.{◌≡◌, ◌⊎◌, inl, inr, ℕ, zero, suc, ◌+◌, ◌≤◌, ◌^◌, pos, Bool, true, false, Option, Some, None, Result, Ok, Err, List, [], ◌∷◌, ◌++◌, refl, sym, ◌∙◌, ap, subst, append-nil, codes, bytes_eq, if◌then◌else◌, nat_lt, ltb-true, arith, eq-eqb}
+use Rattle.kd_expr.specs.FirstFault.{token_place, IsLike, itself, another_number, another_below_zero, an_option}
+use Rattle.kd_expr.specs.Grammar.{Spells, Level, or_level, and_level, not_level, compare_level, sum_level, primary_level, or_one, or_more, and_one, and_more, not_none, negated, compare_one, equal, sum_one, sum_more, string, hexadecimal, address, number, group, option_hex, option_exists, relay_hex, relay_exists, field, packet_length, member, substring, concat, ifelse, hexstring, lcase, ucase, uint32totext}
 use Rattle.kd_expr.specs.Lexical.{Lexeme, StringAt, HexAt, AddressAt, NumberAt, MinusAt, NameAt, SignAt, BadAt}
 use Rattle.kd_expr.specs.Names.{code_by_name, field_by_name}
 use Rattle.kd_expr.specs.Reading.{Reader, Deeper, on_ok, seq, either, wanted, done, sign_here, word_here, sign_at, word_at, code_of_option, code_of_relay, suffix_of, field_of, signed, length_of_part, class_name, bracketed, option_at, relay_at, field_after, packet_at, member_at, operand_then, operand_in_brackets, group_at, operands_in_brackets, ifelse_at, substring_after, form_at, named_at, primary_at, sum_of, and_of, or_of, sum_at, compare_at, not_at, and_at, or_at, below}
@@ -10,11 +10,11 @@ use Rattle.kd_expr.specs.Tree.{Tree, Literal, Int, OptionValue, RelayValue, Fiel
 use Rattle.kd_expr.specs.declared.fault.SyntaxFault.{SyntaxFault}
 use Rattle.kd_expr.specs.declared.fault.SyntaxFault.TheVariants as faults
 use Rattle.kd_expr.specs.declared.node.Field.{Field}
-use Rattle.kd_expr.proofs.Faulty.{Stays, likes, IsBlind, IsSteady, IsShort, plain_steady, steady_same, rest_shorter, Begins, Refused, too_large, too_low, unknown, unexpected, nested, bad, refusal_is, Read, Stopped, Comes, Good, GoodTo, comes, same_good, done_good, seq_good, head_same, goes_on, stops_at, reads_one, either_found, either_good, either_good_to, wanted_good, seq_one_good, weaker_good, chain_good, at_the_end}
+use Rattle.kd_expr.proofs.Faulty.{IsBlind, IsSteady, IsShort, plain_steady, steady_same, rest_shorter, Begins, Refused, too_large, too_low, unknown, unexpected, nested, bad, refusal_is, Comes, Good, comes, same_good, done_good, seq_good, head_same, goes_on, stops_at, reads_one, either_good, either_good_to, wanted_good, seq_one_good, weaker_good, chain_good, at_the_end}
 use Rattle.kd_expr.proofs.Options.{none_is}
 use Rattle.kd_expr.proofs.Readings.{before_is, InBrackets, in_brackets, DeeperIsSound, primary_sound, not_sound, and_sound, below_sound}
 use Rattle.kd_expr.proofs.Sound.{OneOf, is_one, on_ok_twice, IsSound}
-use Rattle.kd_expr.proofs.Tokens.{sign_is, word_is, option_code_is, relay_code_is, IsRelayCode, relay_number, IsSuffix, hex, exists, suffix_is, IsPartName, part_name, field_of_is, signed_is, length_is, IsClassName, class_is, class_name_is}
+use Rattle.kd_expr.proofs.Tokens.{sign_is, word_is, option_code_is, relay_code_is, IsRelayCode, relay_number, hex, exists, suffix_is, IsPartName, part_name, field_of_is, signed_is, length_is, IsClassName, class_is, class_name_is}
 use Rattle.std.proofs.lemmas.Slice.Eq.{bytes_eq-Decides}
 
 -- spelled at some nesting
@@ -398,12 +398,12 @@ closed_good {B} P f fs refuses others some k =
     let rs : ℕ → Reader B = λ j. seq (sign_here 40) (fs j) in
     let other : (x : Lexeme) (end : ℕ) (ts : List Lexeme) → sign_at 40 x ≡ None → Comes P rs end (x ∷ ts) (seq (sign_here 40) f end (x ∷ ts))
     = λ x end ts e. subst (λ (v : Result (B × List Lexeme) SyntaxFault). Comes P rs end (x ∷ ts) v) (sym (missed f x end ts e))
-        (stops_at P rs x end ts (refusal_of x) begins (refusal_is (Begins P) end x ts)
-        (λ j y us l. let same = plain_steady (sign_at 40) (sign_blind 40) j x y e l in missed (fs j) y end us same.0 ∙ ap (λ v. Err v) same.1)) in
+    (stops_at P rs x end ts (refusal_of x) begins (refusal_is (Begins P) end x ts)
+    (λ j y us l. let same = plain_steady (sign_at 40) (sign_blind 40) j x y e l in missed (fs j) y end us same.0 ∙ ap (λ v. Err v) same.1)) in
     let opens : (o end : ℕ) (ts : List Lexeme) → Comes P rs end (SignAt o 40 ∷ ts) (seq (sign_here 40) f end (SignAt o 40 ∷ ts))
     = λ o end ts. subst (λ (v : Result (B × List Lexeme) SyntaxFault). Comes P rs end (SignAt o 40 ∷ ts) v) (sym (refuses o end ts))
-        (stops_at P rs (SignAt o 40) end ts (faults.TooNested o) begins (nested (SignAt o 40) ts refl (some o))
-        (λ j y us l. ap (λ v. rs j end (v ∷ us)) (sym l.1) ∙ others j l.0 o end us)) in
+    (stops_at P rs (SignAt o 40) end ts (faults.TooNested o) begins (nested (SignAt o 40) ts refl (some o))
+    (λ j y us l. ap (λ v. rs j end (v ∷ us)) (sym l.1) ∙ others j l.0 o end us)) in
     let first : (x : Lexeme) (end : ℕ) (ts : List Lexeme) (answer : Option ℕ) → sign_at 40 x ≡ answer → Comes P rs end (x ∷ ts) (seq (sign_here 40) f end (x ∷ ts))
     = λ x end ts answer. elim answer as (λ v. sign_at 40 x ≡ v → Comes P rs end (x ∷ ts) (seq (sign_here 40) f end (x ∷ ts))) [
       | None ↦ λ e. other x end ts e
@@ -526,7 +526,7 @@ no_minus : {C : Type 0} {p k at : ℕ} {name : List ℕ} → MinusAt p k ≡ Nam
 no_minus e = absurd (cc)
 
 same_place : {p at : ℕ} {name other : List ℕ} → NameAt p other ≡ NameAt at name → p ≡ at
-same_place e = ap (λ v. place_of v) e
+same_place e = ap (λ v. token_place v) e
 
 unnamed_stays : (rs : ℕ → Reader Tree) (at : ℕ) (name : List ℕ) → TakesNone rs at → ((j end : ℕ) (us : List Lexeme) → ◌≡◌ {A = Result (Tree × List Lexeme) SyntaxFault} (rs j end (NameAt at name ∷ us)) (Err (faults.Expected at))) → (j end : ℕ) (x y : Lexeme) (us : List Lexeme) → x ≡ NameAt at name → IsLike x y → ◌≡◌ {A = Result (Tree × List Lexeme) SyntaxFault} (rs j end (y ∷ us)) (Err (faults.Expected at))
 unnamed_stays rs at name takes same j end x _ us is itself = ap (λ v. rs j end (v ∷ us)) is ∙ same j end us
@@ -572,8 +572,20 @@ named_good d ds g rs at name takes =
 takes_none : (ds : ℕ → Deeper) (at : ℕ) → TakesNone (λ j. primary_at (ds j)) at
 unfolding primary_at named_at form_at code_by_name
 takes_none ds at j end code known us e =
-    rw (not_named known (codes "option") code e refl, not_named known (codes "relay4") code e refl, not_named known (codes "pkt4") code e refl, not_named known (codes "pkt") code e refl, not_named known (codes "member") code e refl,
-    not_named known (codes "substring") code e refl, not_named known (codes "ifelse") code e refl, not_named known (codes "concat") code e refl, not_named known (codes "hexstring") code e refl, not_named known (codes "lcase") code e refl, not_named known (codes "ucase") code e refl, not_named known (codes "uint32totext") code e refl) refl
+    rw (
+      not_named known (codes "option") code e refl,
+      not_named known (codes "relay4") code e refl,
+      not_named known (codes "pkt4") code e refl,
+      not_named known (codes "pkt") code e refl,
+      not_named known (codes "member") code e refl,
+      not_named known (codes "substring") code e refl,
+      not_named known (codes "ifelse") code e refl,
+      not_named known (codes "concat") code e refl,
+      not_named known (codes "hexstring") code e refl,
+      not_named known (codes "lcase") code e refl,
+      not_named known (codes "ucase") code e refl,
+      not_named known (codes "uint32totext") code e refl,
+    ) refl
 
 number_comes : (d : Deeper) (ds : ℕ → Deeper) (at k end : ℕ) (ts : List Lexeme) (fits : Bool) → nat_lt k (2 ^ 32) ≡ fits → Comes (AnySpells primary_level) (λ j. primary_at (ds j)) end (NumberAt at k ∷ ts) (if fits then Ok (Int at k, ts) else Err (faults.NumberTooLarge at))
 unfolding primary_at

@@ -1,6 +1,6 @@
--- Which fault a text has that is no expression, and where. The tokens before the fault's place are
--- the first of some expression; with the token there, they are those of none.
-use Rattle.std.specs.Prelude.{◌≡◌, ◌≢◌, ℕ, Bool, true, false, List, [], ◌∷◌, ◌++◌, length, Option, Some, None}
+-- Which fault a text has that is no expression, and where. Some expression begins with the tokens
+-- before the fault's place, and none with those and the token there.
+use Rattle.std.specs.Prelude.{◌≡◌, ℕ, Bool, true, false, List, [], ◌∷◌, ◌++◌, length, Some}
 use Rattle.kd_expr.specs.Grammar.{Spells, or_level}
 use Rattle.kd_expr.specs.Lexical.{Lexeme, StringAt, HexAt, AddressAt, NumberAt, MinusAt, NameAt, SignAt, BadAt, Scans}
 use Rattle.kd_expr.specs.Names.{code_by_name}
@@ -9,15 +9,15 @@ use Rattle.kd_expr.specs.declared.fault.ExprFault.{ExprFault}
 use Rattle.kd_expr.specs.declared.fault.ExprFault.TheVariants as faults
 
 -- the place of a token's first byte
-abbrev pub place_of : Lexeme → ℕ
-place_of (StringAt at bytes) = at
-place_of (HexAt at digits) = at
-place_of (AddressAt at bytes) = at
-place_of (NumberAt at number) = at
-place_of (MinusAt at number) = at
-place_of (NameAt at name) = at
-place_of (SignAt at byte) = at
-place_of (BadAt at) = at
+abbrev pub token_place : Lexeme → ℕ
+token_place (StringAt at bytes) = at
+token_place (HexAt at digits) = at
+token_place (AddressAt at bytes) = at
+token_place (NumberAt at number) = at
+token_place (MinusAt at number) = at
+token_place (NameAt at name) = at
+token_place (SignAt at byte) = at
+token_place (BadAt at) = at
 
 -- no word begins at the token's place
 abbrev pub is_bad : Lexeme → Bool
@@ -30,12 +30,12 @@ BeginsSome ts =
     (more : List Lexeme) × (n : ℕ) × (tree : Tree) × Spells or_level n (ts ++ more) tree
 
 -- no expression that is nested at most so deep begins with these tokens
-abbrev pub BeginsNone : ℕ → List Lexeme → Type 0
-BeginsNone n ts = (more : List Lexeme) (tree : Tree) → Spells or_level n (ts ++ more) tree → ⊥
+abbrev pub BeginsNoneWithin : ℕ → List Lexeme → Type 0
+BeginsNoneWithin n ts = (more : List Lexeme) (tree : Tree) → Spells or_level n (ts ++ more) tree → ⊥
 
 -- no expression begins with these tokens, however deep it is nested
 abbrev pub BeginsNever : List Lexeme → Type 0
-BeginsNever ts = (n : ℕ) → BeginsNone n ts
+BeginsNever ts = (n : ℕ) → BeginsNoneWithin n ts
 
 -- a token, or another of its kind at its place: another number, or the name of an option for a name
 pub data IsLike : Lexeme → Lexeme → Type 0 where
@@ -47,10 +47,11 @@ pub data IsLike : Lexeme → Lexeme → Type 0 where
 
 -- the fault of the token after these
 pub data IsTokenFault (before : List Lexeme) : Lexeme → ExprFault → Type 0 where
-  bad_token : {at : ℕ} → IsTokenFault before (BadAt at) (faults.BadToken at)
+  bad_token : {at : ℕ} → BeginsNever (before ++ BadAt at ∷ [])
+      → IsTokenFault before (BadAt at) (faults.BadToken at)
   unexpected : {x : Lexeme} → is_bad x ≡ false
       → ((y : Lexeme) → IsLike x y → BeginsNever (before ++ y ∷ []))
-      → IsTokenFault before x (faults.Expected (place_of x))
+      → IsTokenFault before x (faults.Expected (token_place x))
   too_large : {at k : ℕ} (m : ℕ) → BeginsNever (before ++ NumberAt at k ∷ [])
       → BeginsSome (before ++ NumberAt at m ∷ [])
       → IsTokenFault before (NumberAt at k) (faults.NumberTooLarge at)
@@ -61,8 +62,8 @@ pub data IsTokenFault (before : List Lexeme) : Lexeme → ExprFault → Type 0 w
       → BeginsNever (before ++ NameAt at name ∷ []) → code_by_name known ≡ Some code
       → BeginsSome (before ++ NameAt at known ∷ [])
       → IsTokenFault before (NameAt at name) (faults.UnknownName at)
-  nested : {x : Lexeme} → is_bad x ≡ false → BeginsNone 64 (before ++ x ∷ [])
-      → BeginsSome (before ++ x ∷ []) → IsTokenFault before x (faults.TooNested (place_of x))
+  nested : {x : Lexeme} → is_bad x ≡ false → BeginsNoneWithin 64 (before ++ x ∷ [])
+      → BeginsSome (before ++ x ∷ []) → IsTokenFault before x (faults.TooNested (token_place x))
 
 -- the fault of the tokens that are left after these, where the text ends at a place
 abbrev pub IsFaultAfter : List Lexeme → List Lexeme → ℕ → ExprFault → Type 0
@@ -71,7 +72,7 @@ IsFaultAfter before [] end fault =
 IsFaultAfter before (x ∷ after) end fault = IsTokenFault before x fault
 
 -- the first fault of a text that is no expression
-pub record IsFirstFault (text : List ℕ) (fault : ExprFault) : Type 0 where
+pub record IsTextFault (text : List ℕ) (fault : ExprFault) : Type 0 where
   pub tokens : List Lexeme
   pub scanned : Scans 0 text tokens
   pub before : List Lexeme

@@ -73,8 +73,8 @@ pub data Word : ℕ → List ℕ → List ℕ → Lexeme → Type 0 where
 abbrev pub NoWord : ℕ → List ℕ → Type 0
 NoWord at bytes = (word rest : List ℕ) (x : Lexeme) → bytes ≡ word ++ rest → Word at word rest x → ⊥
 
--- a text from a place on: blanks and words, and the tokens of the words; where no word begins, a bad
--- token is the last
+-- a text from a place on: blanks and words, and the tokens of the words; where no word begins, the
+-- last token is a bad one
 pub data Scans : ℕ → List ℕ → List Lexeme → Type 0 where
   finished : {at : ℕ} → Scans at [] []
   blank : {at b : ℕ} {bytes : List ℕ} {ts : List Lexeme} → a_blank b ≡ true

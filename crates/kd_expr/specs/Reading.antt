@@ -11,7 +11,7 @@ use Rattle.kd_expr.specs.declared.node.Field.TheVariants.{Length}
 use Rattle.kd_expr.specs.declared.fault.SyntaxFault.{SyntaxFault}
 use Rattle.kd_expr.specs.declared.fault.SyntaxFault.TheVariants as faults
 
--- what stands at the front of tokens, and what is left; or the fault, where the text ends at a place
+-- what stands at the front of tokens, and what is left, or the fault; where the text ends is known
 abbrev pub Reader : Type 0 → Type 0
 Reader A = ℕ → List Lexeme → Result (A × List Lexeme) SyntaxFault
 
@@ -112,8 +112,8 @@ abbrev pub class_name : Lexeme → Option (List ℕ)
 class_name (StringAt at s) = if nat_le 1 (length s) && nat_le (length s) 255 then Some s else None
 class_name _ = None
 
--- the readers one nesting deeper, after the bracket or `not` at a place: of a whole expression, of an
--- operand of `not`, and of a class's name
+-- the readers one nesting deeper, after the bracket or `not` at a place: of a whole expression, of
+-- an operand of `not`, and of a class's name
 pub record Deeper : Type 0 where
   pub any : ℕ → Reader Tree
   pub operand : ℕ → Reader Tree

@@ -236,7 +236,8 @@ pub(crate) fn signed_of<'t, 'a>(
     tokens: &'t [Token<'a>],
     end: usize,
 ) -> Result<(i32, &'t [Token<'a>]), SyntaxFault>
-    ensures reads { ReadsAs (λ x. (x.0, lexemes x.1.now)) result (wanted signed signed_refusal end (lexemes tokens.now)) }
+    ensures reads { ReadsAs (λ x. (x.0, lexemes x.1.now)) result
+        (wanted signed signed_refusal end (lexemes tokens.now)) }
     ensures shorter { IfOk result (λ x. length x.1.now < length tokens.now) }
 {
     let [first, rest @ ..] = tokens else {

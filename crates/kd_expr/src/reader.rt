@@ -1,5 +1,5 @@
 ghost use Rattle.std.specs.Prelude.{◌≡◌, ◌<◌, ◌≤◌, ◌↔◌, ◌⊎◌, IfErr, IfOk, MatchResult, length, Err, Ok};
-ghost use Rattle.kd_expr.specs.FirstFault.{IsFirstFault};
+ghost use Rattle.kd_expr.specs.FirstFault.{IsTextFault};
 ghost use Rattle.kd_expr.specs.Gives.{ReadsAs};
 ghost use Rattle.kd_expr.specs.Grammar.{Parses};
 ghost use Rattle.kd_expr.specs.Lexing.{tokens_from};
@@ -33,7 +33,7 @@ pub fn read(alloc: Global, text: &[u8]) -> Result<Expr, ExprFault>
     ensures only { (tree : Tree) → Parses text.now tree
         → MatchResult result (λ expr. tree_of expr ≡ tree) (λ fault. fault ≡ Memory) }
     ensures first { IfErr result (λ fault.
-        (fault ≡ Memory) ⊎ ((fault ≡ TooLong) ⊎ IsFirstFault text.now fault)) }
+        (fault ≡ Memory) ⊎ ((fault ≡ TooLong) ⊎ IsTextFault text.now fault)) }
     ensures long { (result ≡ Err TooLong) ↔ (4096 < length text.now) }
 {
     if text.len() > LONGEST_TEXT {

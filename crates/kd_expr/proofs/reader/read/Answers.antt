@@ -1,5 +1,5 @@
 use Rattle.std.proofs.Common.{◌≡◌, ◌⊎◌, ◌∙◌, sym, ap, subst}
-use Rattle.kd_expr.specs.FirstFault.{IsFirstFault}
+use Rattle.kd_expr.specs.FirstFault.{IsTextFault}
 use Rattle.kd_expr.specs.Grammar.{Parses}
 use Rattle.kd_expr.specs.View.{tree_of}
 use Rattle.kd_expr.specs.declared.node.Node.{Node}
@@ -28,5 +28,5 @@ returns-in-Err-clause-only c tree p =
 
 pub returns-in-Err-clause-first : goal.returns-in-Err-clause-first
 returns-in-Err-clause-first c =
-    subst (λ (v : ExprFault). (v ≡ Memory) ⊎ ((v ≡ TooLong) ⊎ IsFirstFault c.args.text.now v)) (sym c.seen_outside.ensures.same)
+    subst (λ (v : ExprFault). (v ≡ Memory) ⊎ ((v ≡ TooLong) ⊎ IsTextFault c.args.text.now v)) (sym c.seen_outside.ensures.same)
     (first_fault c.args.text.now c.in-Err.fault c.in-Err.ensures)
