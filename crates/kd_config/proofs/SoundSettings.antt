@@ -19,7 +19,7 @@ use Rattle.kd_config.specs.Reservation.{has_reservation_keys, one_identity, rese
 use Rattle.kd_config.specs.Rules.{may_stand}
 use Rattle.kd_config.specs.Settings.{has_dhcp4_keys, has_root_keys, whole_settings, server_given, dhcp4_settings, times_given}
 use Rattle.kd_config.specs.Sound.{AreOptions, AreTimes, IsClass, IsFrom, IsIdentity, IsPool, IsPrefix, IsRange, IsSound, IsSubnet}
-use Rattle.kd_config.specs.Subnet.{has_subnet_keys, subnet_prefix, subnet_of}
+use Rattle.kd_config.specs.Subnet.{has_subnet_keys, subnet_prefix, subnet_of, subnet_with}
 use Rattle.kd_config.specs.Values.{address_given, hex_bytes_in, bytes_if_given, number_if_given, text_if_given}
 use Rattle.kd_config.specs.declared.objects.class.ClassEntry.{ClassEntry}
 use Rattle.kd_config.specs.declared.pool.Pool.{Pool}
@@ -85,7 +85,7 @@ unfolding subnet_prefix
 prefix_in_sound d prefix e = let text = came_from (as_str d) prefix_spelled prefix e in prefix_sound text.first prefix text.gives
 
 subnet_sound : (d : Data) (subnet : Subnet) → subnet_of d ≡ Some subnet → IsSubnet subnet
-unfolding subnet_of
+unfolding subnet_of subnet_with
 subnet_sound d subnet e =
     let keys = passed (has_subnet_keys d) _ subnet e in
     let id = came_from (number_if_given 1 4294967294 1 (get (codes "id") d)) _ subnet keys.1 in

@@ -9,7 +9,7 @@ use Rattle.kd_config.specs.Configuration.{Configuration}
 use Rattle.kd_config.specs.Configured.{AreDefinitions, IsConfigured}
 use Rattle.kd_config.specs.Document.{accepted_settings, settings_spelled}
 use Rattle.kd_config.specs.Faults.{config_fault_number}
-use Rattle.kd_config.specs.FirstFault.{all_reserved, path_below, SubnetFails, SubnetsFail, IsFirstFault}
+use Rattle.kd_config.specs.FirstFault.{all_reserved, path_below, SubnetFails, SubnetsFail, IsFaultOfText}
 use Rattle.kd_config.specs.Parts.{classes_fault, settings_fault}
 use Rattle.kd_config.specs.Rules.{lies_within, may_stand}
 use Rattle.kd_config.specs.declared.fault.ConfigFault.{ConfigFault}
@@ -25,7 +25,7 @@ use Rattle.kd_config.specs.declared.token_file.TokenFile.{TokenFile}
 
 -- the text spells no settings
 pub first_of_settings : (text : List ℕ) (fault : SettingsFault)
-    → (fault ≢ settings.Memory → settings_spelled text ≡ None) → IsFirstFault text (settings_fault fault)
+    → (fault ≢ settings.Memory → settings_spelled text ≡ None) → IsFaultOfText text (settings_fault fault)
 first_of_settings text settings.Json h = h (λ e. cc)
 first_of_settings text (settings.Missing path) h = h (λ e. cc)
 first_of_settings text (settings.Unknown path) h = h (λ e. cc)
@@ -67,7 +67,7 @@ rule_number subnets fault h =
 pub first_of_rules : (text : List ℕ) (s : Settings) (fault : ConfigFault)
     → settings_spelled text ≡ Some s
     → (fault ≢ faults.Memory → SubnetsFail may_stand (codes "/Dhcp4/subnet4") s.subnets fault)
-    → IsFirstFault text fault
+    → IsFaultOfText text fault
 first_of_rules text s faults.Json e h =
     let n = rule_number s.subnets faults.Json (h (λ k. cc)) in absurd (omega (arith, n.0))
 first_of_rules text s (faults.Missing path) e h =
@@ -94,7 +94,7 @@ first_of_rules text s faults.Memory e h = tt
 
 -- the settings may stand
 pub first_of_classes : (text : List ℕ) (s : Settings) (fault : ClassesFault)
-    → accepted_settings text ≡ Some s → IsFirstFault text (classes_fault fault)
+    → accepted_settings text ≡ Some s → IsFaultOfText text (classes_fault fault)
 first_of_classes text s (classes.Expression number why) e = record { settings = s; accepted = e }
 first_of_classes text s (classes.Tokens number why) e = record { settings = s; accepted = e }
 first_of_classes text s (classes.Class why) e = record { settings = s; accepted = e }

@@ -101,17 +101,17 @@ pub record KeepsRules (text : List ℕ) : Type 0 where
   pub settings : Settings
   pub accepted : accepted_settings text ≡ Some settings
 
--- a fault is the first of a text: of its settings, of the rules, of its classes
-abbrev pub IsFirstFault : List ℕ → ConfigFault → Type 0
-IsFirstFault text faults.Json = settings_spelled text ≡ None
-IsFirstFault text (faults.Missing path) = settings_spelled text ≡ None
-IsFirstFault text (faults.Unknown path) = settings_spelled text ≡ None
-IsFirstFault text (faults.BadValue path) = settings_spelled text ≡ None
-IsFirstFault text (faults.PoolOutside path) = BreaksRule text (faults.PoolOutside path)
-IsFirstFault text (faults.Overlap path) = BreaksRule text (faults.Overlap path)
-IsFirstFault text (faults.DuplicateReservation path) =
+-- the first fault of a text is this one: of its settings, of the rules, or of its classes
+abbrev pub IsFaultOfText : List ℕ → ConfigFault → Type 0
+IsFaultOfText text faults.Json = settings_spelled text ≡ None
+IsFaultOfText text (faults.Missing path) = settings_spelled text ≡ None
+IsFaultOfText text (faults.Unknown path) = settings_spelled text ≡ None
+IsFaultOfText text (faults.BadValue path) = settings_spelled text ≡ None
+IsFaultOfText text (faults.PoolOutside path) = BreaksRule text (faults.PoolOutside path)
+IsFaultOfText text (faults.Overlap path) = BreaksRule text (faults.Overlap path)
+IsFaultOfText text (faults.DuplicateReservation path) =
     BreaksRule text (faults.DuplicateReservation path)
-IsFirstFault text (faults.Expression number why) = KeepsRules text
-IsFirstFault text (faults.Tokens number why) = KeepsRules text
-IsFirstFault text (faults.Class why) = KeepsRules text
-IsFirstFault text faults.Memory = Unit {0}
+IsFaultOfText text (faults.Expression number why) = KeepsRules text
+IsFaultOfText text (faults.Tokens number why) = KeepsRules text
+IsFaultOfText text (faults.Class why) = KeepsRules text
+IsFaultOfText text faults.Memory = Unit {0}

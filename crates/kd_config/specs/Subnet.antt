@@ -1,5 +1,5 @@
 -- A subnet: a prefix, its class, pools, reservations and options.
-use Rattle.std.specs.Prelude.{Bool, [], ◌∷◌, codes, Option, Some}
+use Rattle.std.specs.Prelude.{ℕ, Bool, List, [], ◌∷◌, codes, Option, Some}
 use Rattle.serde_json.specs.Data.{Data}
 use Rattle.serde_json.specs.Find.{as_str, get}
 use Rattle.kd_config.specs.Address.{prefix_spelled}
@@ -23,6 +23,14 @@ has_subnet_keys d =
 unfoldable pub subnet_prefix : Data → Option Prefix
 subnet_prefix d = as_str d >>= prefix_spelled
 
+-- the subnet of a prefix and a class with the lists that a value means
+unfoldable pub subnet_with : Prefix → Option (List ℕ) → Data → Option Subnet
+subnet_with prefix class d = do
+  pools ← list_of 64 pool_of (get (codes "pools") d)
+  reservations ← list_of 4096 reservation_of (get (codes "reservations") d)
+  options ← option_list_in (get (codes "option-data") d)
+  Some (record { prefix = prefix; class = class; pools = pools; reservations = reservations; options = options })
+
 -- the subnet that a value means; its number is not used
 unfoldable pub subnet_of : Data → Option Subnet
 subnet_of d = do
@@ -30,7 +38,4 @@ subnet_of d = do
   _ ← number_if_given 1 4294967294 1 (get (codes "id") d)
   prefix ← get (codes "subnet") d >>= subnet_prefix
   class ← text_if_given (get (codes "client-class") d)
-  pools ← list_of 64 pool_of (get (codes "pools") d)
-  reservations ← list_of 4096 reservation_of (get (codes "reservations") d)
-  options ← option_list_in (get (codes "option-data") d)
-  Some (record { prefix = prefix; class = class; pools = pools; reservations = reservations; options = options })
+  subnet_with prefix class d

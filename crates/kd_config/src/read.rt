@@ -1,7 +1,7 @@
 ghost use Rattle.std.specs.Prelude.{◌≡◌, ◌≢◌, IfErr, IfOk};
 ghost use Rattle.kd_config.specs.Configuration.{Configuration};
 ghost use Rattle.kd_config.specs.Configured.{IsConfigured};
-ghost use Rattle.kd_config.specs.FirstFault.{IsFirstFault};
+ghost use Rattle.kd_config.specs.FirstFault.{IsFaultOfText};
 ghost use Rattle.kd_config.specs.declared.fault.ConfigFault.TheVariants.{Memory};
 
 use crate::config::Config;
@@ -27,7 +27,7 @@ impl Config {
         ensures refused { IfErr result
             (λ fault. fault ≢ Memory → (c : Configuration) → IsConfigured text.now files.now c
             → ⊥) }
-        ensures first { IfErr result (λ fault. IsFirstFault text.now fault) }
+        ensures first { IfErr result (λ fault. IsFaultOfText text.now fault) }
     {
         let Settings {
             server,

@@ -2,7 +2,7 @@ ghost use Rattle.std.specs.Prelude.{◌≡◌};
 ghost use Rattle.serde_json.specs.View.{view};
 ghost use Rattle.kd_config.specs.Gives.{Means};
 ghost use Rattle.kd_config.specs.Steps.{must};
-ghost use Rattle.kd_config.specs.Subnet.{has_subnet_keys, subnet_prefix, subnet_of};
+ghost use Rattle.kd_config.specs.Subnet.{has_subnet_keys, subnet_of, subnet_prefix, subnet_with};
 ghost use Rattle.kd_config.specs.declared.objects.faults.SettingsFault.TheVariants.{Memory};
 
 use crate::entries::Entries;
@@ -45,17 +45,31 @@ impl Entry for Subnet {
             return Err(bad_value(alloc, at, "subnet"));
         };
         let class = text_or_none(alloc, value, at, "client-class")?;
-        let pools = entries_of(alloc, value, at, "pools", 64)?;
-        let reservations = entries_of(alloc, value, at, "reservations", 4096)?;
-        let options = options_of(alloc, value, at)?;
-        Ok(Subnet {
-            prefix,
-            class,
-            pools,
-            reservations,
-            options,
-        })
+        subnet_of_lists(alloc, value, at, prefix, class)
     }
+}
+
+// The subnet of a prefix and a class with the lists that a value means.
+#[tactic(auto, unfolding(crate::specs::Subnet::subnet_with))]
+fn subnet_of_lists(
+    alloc: Global,
+    value: &Value,
+    at: &Place<'_>,
+    prefix: Prefix,
+    class: Option<Bytes>,
+) -> Result<Subnet, SettingsFault>
+    ensures { Means Memory result (subnet_with prefix class (view value.now)) }
+{
+    let pools = entries_of(alloc, value, at, "pools", 64)?;
+    let reservations = entries_of(alloc, value, at, "reservations", 4096)?;
+    let options = options_of(alloc, value, at)?;
+    Ok(Subnet {
+        prefix,
+        class,
+        pools,
+        reservations,
+        options,
+    })
 }
 
 // The value is an object with the keys of a subnet.

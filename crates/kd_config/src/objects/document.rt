@@ -1,7 +1,7 @@
 ghost use Rattle.std.specs.Prelude.{◌≡◌, ◌≢◌, IfErr, codes};
 ghost use Rattle.serde_json.specs.View.{view};
 ghost use Rattle.kd_config.specs.Document.{accepted_settings, value_spelled, settings_spelled};
-ghost use Rattle.kd_config.specs.FirstFault.{SubnetsFail, IsFirstFault};
+ghost use Rattle.kd_config.specs.FirstFault.{SubnetsFail, IsFaultOfText};
 ghost use Rattle.kd_config.specs.Gives.{Means, GivesAs};
 ghost use Rattle.kd_config.specs.Rules.{may_stand};
 ghost use Rattle.kd_config.specs.Steps.{must};
@@ -20,7 +20,7 @@ use std::alloc::Global;
 #[tactic(auto, unfolding(crate::specs::Document::accepted_settings))]
 pub(crate) fn settings_in(alloc: Global, text: &[u8]) -> Result<Settings, ConfigFault>
     ensures meant { Means faults.Memory result (accepted_settings text.now) }
-    ensures first { IfErr result (λ fault. IsFirstFault text.now fault) }
+    ensures first { IfErr result (λ fault. IsFaultOfText text.now fault) }
 {
     let settings = written_settings(alloc, text)?;
     check_subnets(alloc, &settings)?;
