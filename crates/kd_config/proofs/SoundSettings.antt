@@ -15,9 +15,9 @@ use Rattle.kd_config.specs.Document.{accepted_settings, value_spelled, settings_
 use Rattle.kd_config.specs.Lists.{list_of}
 use Rattle.kd_config.specs.Options.{option_list_in}
 use Rattle.kd_config.specs.Pool.{has_pool_keys, pool_of, pool_range}
-use Rattle.kd_config.specs.Reservation.{has_reservation_keys, one_identity, reservation_of}
+use Rattle.kd_config.specs.Reservation.{has_reservation_keys, identity_given, one_identity, reservation_of}
 use Rattle.kd_config.specs.Rules.{may_stand}
-use Rattle.kd_config.specs.Settings.{has_dhcp4_keys, has_root_keys, whole_settings, server_given, dhcp4_settings, times_given}
+use Rattle.kd_config.specs.Settings.{has_dhcp4_keys, has_root_keys, whole_settings, server_given, dhcp4_settings, settings_with, times_given}
 use Rattle.kd_config.specs.Sound.{AreOptions, AreTimes, IsClass, IsFrom, IsIdentity, IsPool, IsPrefix, IsRange, IsSound, IsSubnet}
 use Rattle.kd_config.specs.Subnet.{has_subnet_keys, subnet_prefix, subnet_of, subnet_with}
 use Rattle.kd_config.specs.Values.{address_given, hex_bytes_in, bytes_if_given, number_if_given, text_if_given}
@@ -66,19 +66,23 @@ identity_sound None (Some c) identity f g e = subst IsIdentity (some_is (ClientI
 identity_sound None None identity f g e = absurd (cc)
 identity_sound (Some h) (Some c) identity f g e = absurd (cc)
 
+given_sound : (d : Data) (identity : Identity) → identity_given d ≡ Some identity → IsIdentity identity
+unfolding identity_given
+given_sound d identity e =
+    let hardware = came_from (bytes_if_given 1 16 (get (codes "hw-address") d)) _ identity e in
+    let client = came_from (bytes_if_given 1 255 (get (codes "client-id") d)) _ identity hardware.gives in
+    identity_sound hardware.first client.first identity
+    (λ b h. meant_bytes 16 (get (codes "hw-address") d) b (subst (λ o. bytes_if_given 1 16 (get (codes "hw-address") d) ≡ Some o) h hardware.is))
+    (λ b h. meant_bytes 255 (get (codes "client-id") d) b (subst (λ o. bytes_if_given 1 255 (get (codes "client-id") d) ≡ Some o) h client.is))
+    client.gives
+
 reservation_sound : (d : Data) (reservation : Reservation) → reservation_of d ≡ Some reservation → IsIdentity reservation.identity
 unfolding reservation_of
 reservation_sound d reservation e =
     let keys = passed (has_reservation_keys d) _ reservation e in
-    let hardware = came_from (bytes_if_given 1 16 (get (codes "hw-address") d)) _ reservation keys.1 in
-    let client = came_from (bytes_if_given 1 255 (get (codes "client-id") d)) _ reservation hardware.gives in
-    let identity = came_from (one_identity hardware.first client.first) _ reservation client.gives in
+    let identity = came_from (identity_given d) _ reservation keys.1 in
     let address = came_from (option_and_then address_given (get (codes "ip-address") d)) _ reservation identity.gives in
-    subst (λ r. IsIdentity r.identity) (some_is _ reservation address.gives)
-    (identity_sound hardware.first client.first identity.first
-    (λ b h. meant_bytes 16 (get (codes "hw-address") d) b (subst (λ o. bytes_if_given 1 16 (get (codes "hw-address") d) ≡ Some o) h hardware.is))
-    (λ b h. meant_bytes 255 (get (codes "client-id") d) b (subst (λ o. bytes_if_given 1 255 (get (codes "client-id") d) ≡ Some o) h client.is))
-    identity.is)
+    subst (λ r. IsIdentity r.identity) (some_is _ reservation address.gives) (given_sound d identity.first identity.is)
 
 prefix_in_sound : (d : Data) (prefix : Prefix) → subnet_prefix d ≡ Some prefix → IsPrefix prefix
 unfolding subnet_prefix
@@ -151,7 +155,7 @@ server_sound d server e =
     subst (λ n. 1 ≤ n) test.1 (some_server address.first test.0)
 
 settings_sound : (d : Data) (s : Settings) → dhcp4_settings d ≡ Some s → AreSettings s
-unfolding dhcp4_settings
+unfolding dhcp4_settings settings_with
 settings_sound d s e =
     let keys = passed (has_dhcp4_keys d) _ s e in
     let server = came_from (option_and_then server_given (get (codes "server-address") d)) _ s keys.1 in

@@ -21,12 +21,17 @@ one_identity (Some hardware) None = Some (Hardware hardware)
 one_identity None (Some client) = Some (ClientId client)
 one_identity _ _ = None
 
+-- the client of a reservation
+unfoldable pub identity_given : Data → Option Identity
+identity_given d = do
+  hardware ← bytes_if_given 1 16 (get (codes "hw-address") d)
+  client ← bytes_if_given 1 255 (get (codes "client-id") d)
+  one_identity hardware client
+
 -- the reservation that a value means
 unfoldable pub reservation_of : Data → Option Reservation
 reservation_of d = do
   _ ← must (has_reservation_keys d)
-  hardware ← bytes_if_given 1 16 (get (codes "hw-address") d)
-  client ← bytes_if_given 1 255 (get (codes "client-id") d)
-  identity ← one_identity hardware client
+  identity ← identity_given d
   address ← get (codes "ip-address") d >>= address_given
   Some (record { identity = identity; address = address })

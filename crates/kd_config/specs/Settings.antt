@@ -48,16 +48,21 @@ times_given d = do
   decline_hold ← number_if_given 1 31536000 86400 (get (codes "decline-hold") d)
   Some (record { lifetime = lifetime; renew = renew; rebind = rebind; offer_hold = offer_hold; decline_hold = decline_hold })
 
+-- the settings of a server and times with the lists that the value of `Dhcp4` means
+unfoldable pub settings_with : ℕ → Times → Data → Option Settings
+settings_with server times d = do
+  options ← option_list_in (get (codes "option-data") d)
+  classes ← list_of 256 class_of (get (codes "client-classes") d)
+  subnets ← list_of 256 subnet_of (get (codes "subnet4") d)
+  Some (record { server = server; times = times; options = options; classes = classes; subnets = subnets })
+
 -- the settings that the value of `Dhcp4` means
 unfoldable pub dhcp4_settings : Data → Option Settings
 dhcp4_settings d = do
   _ ← must (has_dhcp4_keys d)
   server ← get (codes "server-address") d >>= server_given
   times ← times_given d
-  options ← option_list_in (get (codes "option-data") d)
-  classes ← list_of 256 class_of (get (codes "client-classes") d)
-  subnets ← list_of 256 subnet_of (get (codes "subnet4") d)
-  Some (record { server = server; times = times; options = options; classes = classes; subnets = subnets })
+  settings_with server times d
 
 -- the settings that a whole text's value means
 unfoldable pub whole_settings : Data → Option Settings

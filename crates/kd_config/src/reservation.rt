@@ -1,7 +1,7 @@
 ghost use Rattle.std.specs.Prelude.{◌≡◌};
 ghost use Rattle.serde_json.specs.View.{view};
 ghost use Rattle.kd_config.specs.Gives.{Means};
-ghost use Rattle.kd_config.specs.Reservation.{has_reservation_keys, one_identity, reservation_of};
+ghost use Rattle.kd_config.specs.Reservation.{has_reservation_keys, identity_given, one_identity, reservation_of};
 ghost use Rattle.kd_config.specs.Steps.{must};
 ghost use Rattle.kd_config.specs.declared.objects.faults.SettingsFault.TheVariants.{Memory};
 
@@ -37,13 +37,11 @@ impl Entry for Reservation {
     #[tactic(auto, unfolding(crate::specs::Reservation::reservation_of))]
     fn read(alloc: Global, value: &Value, at: &Place<'_>) -> Result<Reservation, SettingsFault> {
         check_reservation(alloc, value, at)?;
-        let hardware = bytes_or_none(alloc, value, at, "hw-address", 16)?;
-        let client = bytes_or_none(alloc, value, at, "client-id", 255)?;
-        let identity = identity_of(alloc, at, hardware, client)?;
-        let Some(address) = value.get("ip-address").and_then(address_in) else {
-            return Err(bad_value(alloc, at, "ip-address"));
-        };
-        Ok(Reservation { identity, address })
+        let identity = identity_in(alloc, value, at)?;
+        match value.get("ip-address").and_then(address_in) {
+            Some(address) => Ok(Reservation { identity, address }),
+            None => Err(bad_value(alloc, at, "ip-address")),
+        }
     }
 }
 
@@ -54,6 +52,16 @@ fn check_reservation(alloc: Global, value: &Value, at: &Place<'_>) -> Result<(),
 {
     let known = ["hw-address", "client-id", "ip-address"];
     check_keys(alloc, value, at, &known, &["ip-address"])
+}
+
+// The client of a reservation.
+#[tactic(auto, unfolding(crate::specs::Reservation::identity_given))]
+fn identity_in(alloc: Global, value: &Value, at: &Place<'_>) -> Result<Identity, SettingsFault>
+    ensures { Means Memory result (identity_given (view value.now)) }
+{
+    let hardware = bytes_or_none(alloc, value, at, "hw-address", 16)?;
+    let client = bytes_or_none(alloc, value, at, "client-id", 255)?;
+    identity_of(alloc, at, hardware, client)
 }
 
 // One of the two identities, and not both.

@@ -1,7 +1,7 @@
 ghost use Rattle.std.specs.Prelude.{◌≡◌};
 ghost use Rattle.serde_json.specs.View.{view};
 ghost use Rattle.kd_config.specs.Gives.{Means};
-ghost use Rattle.kd_config.specs.Settings.{has_dhcp4_keys, has_root_keys, whole_settings, server_given, dhcp4_settings};
+ghost use Rattle.kd_config.specs.Settings.{has_dhcp4_keys, has_root_keys, whole_settings, server_given, dhcp4_settings, settings_with};
 ghost use Rattle.kd_config.specs.Steps.{must};
 ghost use Rattle.kd_config.specs.declared.objects.faults.SettingsFault.TheVariants.{Memory};
 
@@ -56,6 +56,20 @@ fn settings_of(alloc: Global, value: &Value, at: &Place<'_>) -> Result<Settings,
         return Err(bad_value(alloc, at, "server-address"));
     };
     let times = times_of(alloc, value, at)?;
+    settings_of_lists(alloc, value, at, server, times)
+}
+
+// The settings of a server and times with the lists that the value of `Dhcp4` means.
+#[tactic(auto, unfolding(crate::specs::Settings::settings_with))]
+fn settings_of_lists(
+    alloc: Global,
+    value: &Value,
+    at: &Place<'_>,
+    server: u32,
+    times: Times,
+) -> Result<Settings, SettingsFault>
+    ensures { Means Memory result (settings_with server times (view value.now)) }
+{
     let options = options_of(alloc, value, at)?;
     let classes = entries_of(alloc, value, at, "client-classes", 256)?;
     let subnets = entries_of(alloc, value, at, "subnet4", 256)?;
