@@ -2,7 +2,7 @@
 -- begin something that has it, and what follows the token does not matter. One lemma for each way of
 -- putting readers together.
 use Rattle.std.proofs.Common.{◌≡◌, ℕ, zero, suc, ◌≤◌, false, Option, Some, None, Result, Ok, Err, List, [], ◌∷◌, ◌++◌, length, refl, sym, ◌∙◌, ap, subst, append_assoc, append-nil, arith, length-append}
-use Rattle.kd_expr.specs.FirstFault.{token_place, is_bad, IsLike, itself, another_number, another_below_zero, an_option}
+use Rattle.kd_expr.specs.FirstFault.{IsNesting, token_place, is_bad, IsLike, itself, another_number, another_below_zero, an_option}
 use Rattle.kd_expr.specs.Lexical.{Lexeme, StringAt, HexAt, AddressAt, NumberAt, MinusAt, NameAt, SignAt, BadAt}
 use Rattle.kd_expr.specs.Names.{code_by_name}
 use Rattle.kd_expr.specs.Reading.{Reader, or_else, on_ok, done, seq, either, one, wanted, operands_joined, chain}
@@ -50,7 +50,7 @@ pub data Refused (B : List Lexeme → Type 0) (end : ℕ) (front : List Lexeme) 
   too_large : (at k m : ℕ) (ts : List Lexeme) → B (front ++ NumberAt at m ∷ []) → Refused B end front (NumberAt at k ∷ ts) (faults.NumberTooLarge at)
   too_low : (at k m : ℕ) (ts : List Lexeme) → B (front ++ MinusAt at m ∷ []) → Refused B end front (MinusAt at k ∷ ts) (faults.NumberTooLarge at)
   unknown : (at code : ℕ) (name known : List ℕ) (ts : List Lexeme) → code_by_name known ≡ Some code → B (front ++ NameAt at known ∷ []) → Refused B end front (NameAt at name ∷ ts) (faults.UnknownName at)
-  nested : (x : Lexeme) (ts : List Lexeme) → is_bad x ≡ false → B (front ++ x ∷ []) → Refused B end front (x ∷ ts) (faults.TooNested (token_place x))
+  nested : (x : Lexeme) (ts : List Lexeme) → IsNesting x → B (front ++ x ∷ []) → Refused B end front (x ∷ ts) (faults.TooNested (token_place x))
 
 -- the same fault, where more is known of what begins so
 pub refused_map : {B C : List Lexeme → Type 0} {end : ℕ} (front longer : List Lexeme) {left : List Lexeme} {fault : SyntaxFault} → ((us : List Lexeme) → B (front ++ us) → C (longer ++ us)) → Refused B end front left fault → Refused C end longer left fault

@@ -17,7 +17,7 @@ use Rattle.kd_expr.proofs.Faulty.{Begins, Refused, Comes, Follows, Stays, likes,
 use Rattle.kd_expr.proofs.Productions.{complete}
 use Rattle.kd_expr.proofs.Options.{err_is, fault_is}
 use Rattle.kd_expr.proofs.Texts.{tokens_sound}
-use Rattle.kd_expr.proofs.Viable.{AnySpells, raised, more_nested, more_is, any_good}
+use Rattle.kd_expr.proofs.Viable.{raised, more_nested, more_is, any_good}
 
 -- the tree of all tokens, where so many may be nested
 abbrev whole_in : ℕ → ℕ → List Lexeme → Result Tree SyntaxFault
@@ -36,8 +36,8 @@ record Refuses (end : ℕ) (ts : List Lexeme) (fault : SyntaxFault) : Type 0 whe
   before : List Lexeme
   left : List Lexeme
   parts : ts ≡ before ++ left
-  begins : Begins (AnySpells or_level) before
-  refused : Refused (Begins (AnySpells or_level)) end before left fault
+  begins : Begins (Spells or_level 65) before
+  refused : Refused (Begins (Spells or_level 65)) end before left fault
   again : Again end before left fault
 
 -- a tree is no fault
@@ -53,7 +53,7 @@ left_again : (tree : Tree) (x : Lexeme) (rest us : List Lexeme) (fault : SyntaxF
 left_again tree _ rest _ fault (token {x = x} {y = y} ts us l) is = ap (λ v. Err v) (refusal_like x y l ∙ is)
 
 -- what is left after an expression is refused
-left_over : (end : ℕ) (ts : List Lexeme) (fault : SyntaxFault) (tree : Tree) (rest : List Lexeme) (c : faulty.Read (AnySpells or_level) (λ j. or_at (below (more_nested 64 j))) end ts tree rest) → ◌≡◌ {A = Result Tree SyntaxFault} (all_read tree rest) (Err fault) → Refuses end ts fault
+left_over : (end : ℕ) (ts : List Lexeme) (fault : SyntaxFault) (tree : Tree) (rest : List Lexeme) (c : faulty.Read (Spells or_level 65) (λ j. or_at (below (more_nested 64 j))) end ts tree rest) → ◌≡◌ {A = Result Tree SyntaxFault} (all_read tree rest) (Err fault) → Refuses end ts fault
 left_over end ts fault tree [] c e = no_fault e
 left_over end ts fault tree (x ∷ rest) c e =
     let is : refusal_of x ≡ fault = fault_is e in
@@ -61,14 +61,14 @@ left_over end ts fault tree (x ∷ rest) c e =
       before = c.front;
       left = x ∷ rest;
       parts = c.is;
-      begins = ([], tree, subst (λ v. AnySpells or_level v tree) (sym (append-nil c.front)) c.holds);
-      refused = subst (λ v. Refused (Begins (AnySpells or_level)) end c.front (x ∷ rest) v) is (refusal_is (Begins (AnySpells or_level)) end x rest);
+      begins = ([], tree, subst (λ v. Spells or_level 65 v tree) (sym (append-nil c.front)) c.holds);
+      refused = subst (λ v. Refused (Begins (Spells or_level 65)) end c.front (x ∷ rest) v) is (refusal_is (Begins (Spells or_level 65)) end x rest);
       again = λ j us fo. let like = follows_like j fault (x ∷ rest) us fo in
           ap (λ (v : Result (Tree × List Lexeme) SyntaxFault). on_ok v (λ y. all_read y.0 y.1)) (c.again j us like) ∙ left_again tree x rest us fault like is;
     }
 
 -- a fault of the reader is one of all tokens
-stopped : (end : ℕ) (ts : List Lexeme) (fault : SyntaxFault) → faulty.Stopped (AnySpells or_level) (λ j. or_at (below (more_nested 64 j))) end ts fault → Refuses end ts fault
+stopped : (end : ℕ) (ts : List Lexeme) (fault : SyntaxFault) → faulty.Stopped (Spells or_level 65) (λ j. or_at (below (more_nested 64 j))) end ts fault → Refuses end ts fault
 stopped end ts fault c = record {
   before = c.front;
   left = c.left;
@@ -81,16 +81,16 @@ stopped end ts fault c = record {
 refuses : (end : ℕ) (ts : List Lexeme) (fault : SyntaxFault) → ◌≡◌ {A = Result Tree SyntaxFault} (whole_at end ts) (Err fault) → Refuses end ts fault
 unfolding whole_at
 refuses end ts fault e =
-    let at : (answer : Result (Tree × List Lexeme) SyntaxFault) → Comes (AnySpells or_level) (λ j. or_at (below (more_nested 64 j))) end ts answer → ◌≡◌ {A = Result Tree SyntaxFault} (on_ok answer (λ x. all_read x.0 x.1)) (Err fault) → Refuses end ts fault
-    = λ answer. elim answer as (λ v. Comes (AnySpells or_level) (λ j. or_at (below (more_nested 64 j))) end ts v → ◌≡◌ {A = Result Tree SyntaxFault} (on_ok v (λ x. all_read x.0 x.1)) (Err fault) → Refuses end ts fault) [
+    let at : (answer : Result (Tree × List Lexeme) SyntaxFault) → Comes (Spells or_level 65) (λ j. or_at (below (more_nested 64 j))) end ts answer → ◌≡◌ {A = Result Tree SyntaxFault} (on_ok answer (λ x. all_read x.0 x.1)) (Err fault) → Refuses end ts fault
+    = λ answer. elim answer as (λ v. Comes (Spells or_level 65) (λ j. or_at (below (more_nested 64 j))) end ts v → ◌≡◌ {A = Result Tree SyntaxFault} (on_ok v (λ x. all_read x.0 x.1)) (Err fault) → Refuses end ts fault) [
       | Ok x ↦ λ c k. left_over end ts fault x.0 x.1 c k
       | Err other ↦ λ c k. subst (λ v. Refuses end ts v) (fault_is k) (stopped end ts other c)
     ] in
-    at (or_at (below 64) end ts) (comes (AnySpells or_level) (or_at (below 64)) (λ j. or_at (below (more_nested 64 j))) (any_good 64) end ts) e
+    at (or_at (below 64) end ts) (comes (Spells or_level 65) (or_at (below 64)) (λ j. or_at (below (more_nested 64 j))) (any_good 64) end ts) e
 
--- what begins at some nesting
-some_of : (us : List Lexeme) → Begins (AnySpells or_level) us → BeginsSome us
-some_of us b = (b.0, b.2.0, b.1, b.2.1)
+-- what begins at the nesting of one more
+some_of : (us : List Lexeme) → Begins (Spells or_level 65) us → BeginsSome us
+some_of us b = b
 
 -- no expression begins with a token that stays refused
 none_of : (end : ℕ) (before : List Lexeme) (x : Lexeme) (after : List Lexeme) (fault : SyntaxFault) → Again end before (x ∷ after) fault → (n j : ℕ) → n ≤ more_nested 64 j → (y : Lexeme) → Stays j fault x y → BeginsNoneWithin n (before ++ y ∷ [])
@@ -108,7 +108,7 @@ none_whole end before fault again n tree s =
     let same : ◌≡◌ {A = Result Tree SyntaxFault} (whole_in m end before) (Err fault) = ap (λ v. whole_in m end v) (sym (append-nil before)) ∙ again n [] nothing in
     err_is (sym same ∙ whole_spelled m end before tree (raised m (omega (arith, size)) s))
 
-fault_after : (end : ℕ) (before left : List Lexeme) (fault : SyntaxFault) → Refused (Begins (AnySpells or_level)) end before left fault → Again end before left fault → IsFaultAfter before left end (outer_fault fault)
+fault_after : (end : ℕ) (before left : List Lexeme) (fault : SyntaxFault) → Refused (Begins (Spells or_level 65)) end before left fault → Again end before left fault → IsFaultAfter before left end (outer_fault fault)
 fault_after end before _ _ faulty.at_end again = (none_whole end before (faults.Expected end) again, refl)
 fault_after end before _ _ (faulty.bad at ts) again = bad_token (never_of end before _ ts (faults.BadToken at) again _ (λ j. refl))
 fault_after end before _ _ (faulty.unexpected x ts fine) again = unexpected fine (λ y l. never_of end before x ts (faults.Expected (token_place x)) again y (λ j. l))

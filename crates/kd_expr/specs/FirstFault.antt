@@ -1,7 +1,7 @@
 -- Which fault a text has that is no expression, and where. Some expression begins with the tokens
 -- before the fault's place, and none with those and the token there.
-use Rattle.std.specs.Prelude.{◌≡◌, ℕ, Bool, true, false, List, [], ◌∷◌, ◌++◌, length, Some}
-use Rattle.kd_expr.specs.Grammar.{Spells, or_level}
+use Rattle.std.specs.Prelude.{◌≡◌, ℕ, Bool, true, false, List, [], ◌∷◌, ◌++◌, length, codes, Some}
+use Rattle.kd_expr.specs.Grammar.{Spells, or_level, OpenAt}
 use Rattle.kd_expr.specs.Lexical.{Lexeme, StringAt, HexAt, AddressAt, NumberAt, MinusAt, NameAt, SignAt, BadAt, Scans}
 use Rattle.kd_expr.specs.Names.{code_by_name}
 use Rattle.kd_expr.specs.Tree.{Tree}
@@ -24,10 +24,10 @@ abbrev pub is_bad : Lexeme → Bool
 is_bad (BadAt at) = true
 is_bad token = false
 
--- some expression begins with these tokens, however deep it is nested
+-- some expression begins with these tokens; it may be nested one deeper than a text's, since a form's
+-- name may stand at the deepest nesting, and the bracket after it may not
 abbrev pub BeginsSome : List Lexeme → Type 0
-BeginsSome ts =
-    (more : List Lexeme) × (n : ℕ) × (tree : Tree) × Spells or_level n (ts ++ more) tree
+BeginsSome ts = (more : List Lexeme) × (tree : Tree) × Spells or_level 65 (ts ++ more) tree
 
 -- no expression that is nested at most so deep begins with these tokens
 abbrev pub BeginsNoneWithin : ℕ → List Lexeme → Type 0
@@ -44,6 +44,11 @@ pub data IsLike : Lexeme → Lexeme → Type 0 where
   another_below_zero : {at k m : ℕ} → IsLike (MinusAt at k) (MinusAt at m)
   an_option : {at : ℕ} {name known : List ℕ} (code : ℕ) → code_by_name known ≡ Some code
       → IsLike (NameAt at name) (NameAt at known)
+
+-- a token that nests what follows it: a bracket, or `not`
+pub data IsNesting : Lexeme → Type 0 where
+  bracket : {at : ℕ} → IsNesting (OpenAt at)
+  negation : {at : ℕ} → IsNesting (NameAt at (codes "not"))
 
 -- the fault of the token after these
 pub data IsTokenFault (before : List Lexeme) : Lexeme → ExprFault → Type 0 where
@@ -62,7 +67,7 @@ pub data IsTokenFault (before : List Lexeme) : Lexeme → ExprFault → Type 0 w
       → BeginsNever (before ++ NameAt at name ∷ []) → code_by_name known ≡ Some code
       → BeginsSome (before ++ NameAt at known ∷ [])
       → IsTokenFault before (NameAt at name) (faults.UnknownName at)
-  nested : {x : Lexeme} → is_bad x ≡ false → BeginsNoneWithin 64 (before ++ x ∷ [])
+  nested : {x : Lexeme} → IsNesting x → BeginsNoneWithin 64 (before ++ x ∷ [])
       → BeginsSome (before ++ x ∷ []) → IsTokenFault before x (faults.TooNested (token_place x))
 
 -- the fault of the tokens that are left after these, where the text ends at a place

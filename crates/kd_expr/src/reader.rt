@@ -25,9 +25,10 @@ const DEEPEST_NESTING: u8 = 64;
 ///
 /// # Errors
 ///
-/// `TooLong`; otherwise the fault at the first token with which the text so far begins no
-/// expression: the first of `BadToken`, `Expected`, `NumberTooLarge`, `UnknownName` and `TooNested`
-/// that applies there; or `Memory` in place of any of these but `TooLong`.
+/// `TooLong`; otherwise the fault of the first token with which the text so far begins no
+/// expression, or of the end: `BadToken`; `NumberTooLarge` or `UnknownName` where another number or
+/// an option's name could stand there; `TooNested` of a bracket or `not`; else `Expected`. Or
+/// `Memory` in place of any of these but `TooLong`.
 pub fn read(alloc: Global, text: &[u8]) -> Result<Expr, ExprFault>
     ensures found { IfOk result (λ expr. Parses text.now (tree_of expr)) }
     ensures only { (tree : Tree) → Parses text.now tree
