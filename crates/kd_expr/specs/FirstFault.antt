@@ -24,8 +24,8 @@ abbrev pub is_bad : Lexeme → Bool
 is_bad (BadAt at) = true
 is_bad token = false
 
--- some expression begins with these tokens; it may be nested one deeper than a text's, since a form's
--- name may stand at the deepest nesting, and the bracket after it may not
+-- some expression begins with these tokens; it may be nested one deeper than a text's, since the
+-- name of a form may stand at the deepest nesting, and the bracket after it may not
 abbrev pub BeginsSome : List Lexeme → Type 0
 BeginsSome ts = (more : List Lexeme) × (tree : Tree) × Spells or_level 65 (ts ++ more) tree
 
