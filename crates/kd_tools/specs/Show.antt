@@ -1,6 +1,6 @@
 -- What `show` prints of a datagram: its header (RFC 2131 section 2), its joined options and the
 -- sub-options of its relay information (RFC 3046), a line each.
-use Rattle.std.specs.Prelude.{ℕ, ◌++◌, List, [], ◌∷◌, Option, Some, None, codes}
+use Rattle.std.specs.Prelude.{ℕ, ◌++◌, List, [], ◌∷◌, codes}
 use Rattle.std.specs.Fmt.{decimal}
 use Rattle.std.specs.List.{flat_map}
 use Rattle.byteorder.specs.Endian.{big_bytes}
