@@ -174,7 +174,8 @@ fn put(tier: &mut VecDeque<u32>, place: usize, number: u32) -> Option<u32>
     requires within { place < 1024 }
     ensures items { insert tier.old.items place number ≡ tier.new.items ++ option_to_list result }
     ensures room { 1024 ≤ deque_capacity tier.new }
-    ensures len { length tier.new.items + length (option_to_list result) ≡ length tier.old.items + 1 }
+    ensures len { length tier.new.items + length (option_to_list result)
+        ≡ length tier.old.items + 1 }
     ensures full { length tier.new.items ≤ 1024 }
     ensures over { 0 < length (option_to_list result) → length tier.new.items ≡ 1024 }
 {
@@ -206,7 +207,8 @@ fn push(tier: &mut VecDeque<u32>, number: u32) -> Option<u32>
     requires len { length tier.old.items ≤ 1024 }
     ensures items { number ∷ tier.old.items ≡ tier.new.items ++ option_to_list result }
     ensures room { 1024 ≤ deque_capacity tier.new }
-    ensures len { length tier.new.items + length (option_to_list result) ≡ length tier.old.items + 1 }
+    ensures len { length tier.new.items + length (option_to_list result)
+        ≡ length tier.old.items + 1 }
     ensures full { length tier.new.items ≤ 1024 }
     ensures over { 0 < length (option_to_list result) → length tier.new.items ≡ 1024 }
 {

@@ -132,8 +132,8 @@ accepted_line c =
     ++ codes " length " ++ decimal c.bound
     ++ codes " tokens " ++ decimal (length c.tokens) ++ line_feed
 
--- a program is refused for the first fault that it has, and that is the one there; it is not want of
--- memory
+-- a program is refused for the first fault that it has, and that is the one there; it is not want
+-- of memory
 pub record IsUnaccepted (c : Code) (p : Printed) : Type 0 where
   pub fault : VerifyFault
   pub first : IsVerifyFault c fault

@@ -167,7 +167,8 @@ pub(crate) fn number_or(
     most: u32,
     default: u32,
 ) -> Result<u32, SettingsFault>
-    ensures { Means Memory result (number_if_given least most default (get key.now (view object.now))) }
+    ensures { Means Memory result
+        (number_if_given least most default (get key.now (view object.now))) }
 {
     match object.get(key) {
         Some(value) => match number_in(value, least, most) {
