@@ -10,49 +10,49 @@ use Rattle.kd_rows.specs.Tiers.{AreTiers}
 
 -- the lengths of tiers, each of which has as many of n numbers as it can
 abbrev pub Full : {T : Type 0} → (T → List ℕ) → ℕ → List T → Type 0
-Full {T} f n ts = (i : ℕ) (d : T) → i < length ts → length (f (get_or ts i d)) ≡ min 1024 (n - 1024 * i)
+Full {T} f n ts = (i : ℕ) (d : T) → i < length ts → length (f (get_or ts i d)) ≡ min 4096 (n - 4096 * i)
 
 -- the same without the first tier
-full_rest : {T : Type 0} (f : T → List ℕ) (n : ℕ) (t : T) (ts : List T) → Full f n (t ∷ ts) → Full f (n - 1024) ts
+full_rest : {T : Type 0} (f : T → List ℕ) (n : ℕ) (t : T) (ts : List T) → Full f n (t ∷ ts) → Full f (n - 4096) ts
 full_rest f n t ts full i d inside = let h = full (suc i) d (omega arith) in omega (arith, h)
 
 -- all n numbers stand in the tiers
-pub flat_length : {T : Type 0} (f : T → List ℕ) (n : ℕ) (ts : List T) → Full f n ts → n ≤ 1024 * length ts → length (flat_map f ts) ≡ n
+pub flat_length : {T : Type 0} (f : T → List ℕ) (n : ℕ) (ts : List T) → Full f n ts → n ≤ 4096 * length ts → length (flat_map f ts) ≡ n
 flat_length f n [] full most = omega (arith, most)
 flat_length f n (t ∷ ts) full most =
     let first = full 0 t (omega arith) in
-    let rest = flat_length f (n - 1024) ts (full_rest f n t ts full) (omega (arith, most)) in
+    let rest = flat_length f (n - 4096) ts (full_rest f n t ts full) (omega (arith, most)) in
     let both = length-append (f t) (flat_map f ts) in
     omega (arith, first, rest, both)
 
 -- there are no more than the tiers have room for
-pub flat_most : {T : Type 0} (f : T → List ℕ) (n : ℕ) (ts : List T) → Full f n ts → length (flat_map f ts) ≤ 1024 * length ts
+pub flat_most : {T : Type 0} (f : T → List ℕ) (n : ℕ) (ts : List T) → Full f n ts → length (flat_map f ts) ≤ 4096 * length ts
 flat_most f n [] full = omega arith
 flat_most f n (t ∷ ts) full =
     let first = full 0 t (omega arith) in
-    let rest = flat_most f (n - 1024) ts (full_rest f n t ts full) in
+    let rest = flat_most f (n - 4096) ts (full_rest f n t ts full) in
     let both = length-append (f t) (flat_map f ts) in
     omega (arith, first, rest, both)
 
 -- the tiers before one that is reached are full
-pub before : {T : Type 0} (f : T → List ℕ) (n : ℕ) (ts : List T) (i : ℕ) → Full f n ts → i ≤ length ts → 1024 * i ≤ n → length (flat_map f (take i ts)) ≡ 1024 * i
+pub before : {T : Type 0} (f : T → List ℕ) (n : ℕ) (ts : List T) (i : ℕ) → Full f n ts → i ≤ length ts → 4096 * i ≤ n → length (flat_map f (take i ts)) ≡ 4096 * i
 before f n ts zero full inside reached = omega arith
 before f n [] (suc i) full inside reached = absurd (omega (arith, inside))
 before f n (t ∷ ts) (suc i) full inside reached =
     let first = full 0 t (omega arith) in
-    let rest = before f (n - 1024) ts i (full_rest f n t ts full) (omega (arith, inside)) (omega (arith, reached)) in
+    let rest = before f (n - 4096) ts i (full_rest f n t ts full) (omega (arith, inside)) (omega (arith, reached)) in
     let both = length-append (f t) (flat_map f (take i ts)) in
     omega (arith, first, rest, both)
 
 -- the number at a place
-pub at_place : {T : Type 0} (f : T → List ℕ) (ts : List T) (place : ℕ) (e : T) (d : ℕ) → Full f (length (flat_map f ts)) ts → place < length (flat_map f ts) → get_or (flat_map f ts) place d ≡ get_or (f (get_or ts (place / 1024) e)) (place % 1024) d
+pub at_place : {T : Type 0} (f : T → List ℕ) (ts : List T) (place : ℕ) (e : T) (d : ℕ) → Full f (length (flat_map f ts)) ts → place < length (flat_map f ts) → get_or (flat_map f ts) place d ≡ get_or (f (get_or ts (place / 4096) e)) (place % 4096) d
 at_place f ts place e d full within =
     let most = flat_most f (length (flat_map f ts)) ts full in
-    let inside : place / 1024 < length ts = omega (arith, most, within) in
-    let long = full (place / 1024) e inside in
-    let first = before f (length (flat_map f ts)) ts (place / 1024) full (omega (arith, inside)) (omega (arith, within)) in
-    let is : place ≡ length (flat_map f (take (place / 1024) ts)) + place % 1024 = omega (arith, first) in
-    ap (λ (i : ℕ). get_or (flat_map f ts) i d) is ∙ get_or-flat_map f ts (place / 1024) (place % 1024) e d inside (omega (arith, long, within))
+    let inside : place / 4096 < length ts = omega (arith, most, within) in
+    let long = full (place / 4096) e inside in
+    let first = before f (length (flat_map f ts)) ts (place / 4096) full (omega (arith, inside)) (omega (arith, within)) in
+    let is : place ≡ length (flat_map f (take (place / 4096) ts)) + place % 4096 = omega (arith, first) in
+    ap (λ (i : ℕ). get_or (flat_map f ts) i d) is ∙ get_or-flat_map f ts (place / 4096) (place % 4096) e d inside (omega (arith, long, within))
 
 -- the numbers before a tier, of it, and after it
 pub split : {T : Type 0} (f : T → List ℕ) (ts : List T) (i : ℕ) (d : T) → i < length ts → flat_map f ts ≡ flat_map f (take i ts) ++ (f (get_or ts i d) ++ flat_map f (drop (i + 1) ts))
@@ -79,44 +79,44 @@ exchanged {T} f ts i t all new over inside is same =
           ∙ ap (λ (ys : List ℕ). a ++ ys) (append-nil (f t))
 
 -- a number is put into the tier of its place
-pub begun : {T : Type 0} (f : T → List ℕ) (ts : List T) (place number : ℕ) (d : T) → Full f (length (flat_map f ts)) ts → place ≤ length (flat_map f ts) → place / 1024 < length ts → insert (flat_map f ts) place number ≡ flat_map f (take (place / 1024) ts) ++ (insert (f (get_or ts (place / 1024) d)) (place % 1024) number ++ flat_map f (drop (place / 1024 + 1) ts))
+pub begun : {T : Type 0} (f : T → List ℕ) (ts : List T) (place number : ℕ) (d : T) → Full f (length (flat_map f ts)) ts → place ≤ length (flat_map f ts) → place / 4096 < length ts → insert (flat_map f ts) place number ≡ flat_map f (take (place / 4096) ts) ++ (insert (f (get_or ts (place / 4096) d)) (place % 4096) number ++ flat_map f (drop (place / 4096 + 1) ts))
 begun f ts place number d full most inside =
-    ap (λ (ys : List ℕ). insert ys place number) (split f ts (place / 1024) d inside)
-    ∙ insert-append_right (flat_map f (take (place / 1024) ts)) (here ++ after) (1024 * (place / 1024)) place number first (omega arith)
-    ∙ ap (λ (i : ℕ). flat_map f (take (place / 1024) ts) ++ insert (here ++ after) i number) (omega arith)
-    ∙ ap (λ (ys : List ℕ). flat_map f (take (place / 1024) ts) ++ ys) (insert-append_left here after (place % 1024) number (omega (arith, long, most))) where
+    ap (λ (ys : List ℕ). insert ys place number) (split f ts (place / 4096) d inside)
+    ∙ insert-append_right (flat_map f (take (place / 4096) ts)) (here ++ after) (4096 * (place / 4096)) place number first (omega arith)
+    ∙ ap (λ (i : ℕ). flat_map f (take (place / 4096) ts) ++ insert (here ++ after) i number) (omega arith)
+    ∙ ap (λ (ys : List ℕ). flat_map f (take (place / 4096) ts) ++ ys) (insert-append_left here after (place % 4096) number (omega (arith, long, most))) where
       here : List ℕ
-      here = f (get_or ts (place / 1024) d)
+      here = f (get_or ts (place / 4096) d)
 
       after : List ℕ
-      after = flat_map f (drop (place / 1024 + 1) ts)
+      after = flat_map f (drop (place / 4096 + 1) ts)
 
-      long : length here ≡ min 1024 (length (flat_map f ts) - 1024 * (place / 1024))
-      long = full (place / 1024) d inside
+      long : length here ≡ min 4096 (length (flat_map f ts) - 4096 * (place / 4096))
+      long = full (place / 4096) d inside
 
-      first : length (flat_map f (take (place / 1024) ts)) ≡ 1024 * (place / 1024)
-      first = before f (length (flat_map f ts)) ts (place / 1024) full (omega (arith, inside)) (omega (arith, most))
+      first : length (flat_map f (take (place / 4096) ts)) ≡ 4096 * (place / 4096)
+      first = before f (length (flat_map f ts)) ts (place / 4096) full (omega (arith, inside)) (omega (arith, most))
 
 -- the lengths of tiers once one is exchanged, where those before it have as many of m numbers as they can
-pub full_before : {T : Type 0} (f : T → List ℕ) (m : ℕ) (ts : List T) (i : ℕ) (t : T) → i < length ts → length (f t) ≡ min 1024 (m - 1024 * i) → ((j : ℕ) (d : T) → j < i → length (f (get_or ts j d)) ≡ min 1024 (m - 1024 * j)) → (j : ℕ) (d : T) → j < i + 1 → length (f (get_or (set ts i t) j d)) ≡ min 1024 (m - 1024 * j)
+pub full_before : {T : Type 0} (f : T → List ℕ) (m : ℕ) (ts : List T) (i : ℕ) (t : T) → i < length ts → length (f t) ≡ min 4096 (m - 4096 * i) → ((j : ℕ) (d : T) → j < i → length (f (get_or ts j d)) ≡ min 4096 (m - 4096 * j)) → (j : ℕ) (d : T) → j < i + 1 → length (f (get_or (set ts i t) j d)) ≡ min 4096 (m - 4096 * j)
 full_before f m ts i t inside long below j d under = ⊎_elim
-    (λ e. ap (λ (k : ℕ). length (f (get_or (set ts i t) k d))) e ∙ ap (λ (x : _). length (f x)) (get_or-set_same ts i t d inside) ∙ long ∙ ap (λ (k : ℕ). min 1024 (m - 1024 * k)) (sym e))
+    (λ e. ap (λ (k : ℕ). length (f (get_or (set ts i t) k d))) e ∙ ap (λ (x : _). length (f x)) (get_or-set_same ts i t d inside) ∙ long ∙ ap (λ (k : ℕ). min 4096 (m - 4096 * k)) (sym e))
     (λ other. ap (λ (x : _). length (f x)) (get_or-set_other ts i j t d other) ∙ below j d (omega (arith, under, other)))
     (cases_eq j i)
 
 -- the lengths of the tiers after it stay
-pub full_after : {T : Type 0} (f : T → List ℕ) (n : ℕ) (ts : List T) (i : ℕ) (t : T) → ((j : ℕ) (d : T) → i ≤ j → j < length ts → length (f (get_or ts j d)) ≡ min 1024 (n - 1024 * j)) → (j : ℕ) (d : T) → i < j → j < length (set ts i t) → length (f (get_or (set ts i t) j d)) ≡ min 1024 (n - 1024 * j)
+pub full_after : {T : Type 0} (f : T → List ℕ) (n : ℕ) (ts : List T) (i : ℕ) (t : T) → ((j : ℕ) (d : T) → i ≤ j → j < length ts → length (f (get_or ts j d)) ≡ min 4096 (n - 4096 * j)) → (j : ℕ) (d : T) → i < j → j < length (set ts i t) → length (f (get_or (set ts i t) j d)) ≡ min 4096 (n - 4096 * j)
 full_after f n ts i t above j d over inside =
     let long = length-set ts i t in
     ap (λ (x : _). length (f x)) (get_or-set_other ts i j t d (omega (arith, over))) ∙ above j d (omega (arith, over)) (omega (arith, inside, long))
 
 -- room stays where a tier is exchanged for one with room
-pub roomy_set : {T : Type 0} (capacity : T → ℕ) (ts : List T) (i : ℕ) (t : T) → 1024 ≤ capacity t → All (λ t. 1024 ≤ capacity t) ts → All (λ t. 1024 ≤ capacity t) (set ts i t)
+pub roomy_set : {T : Type 0} (capacity : T → ℕ) (ts : List T) (i : ℕ) (t : T) → 4096 ≤ capacity t → All (λ t. 4096 ≤ capacity t) ts → All (λ t. 4096 ≤ capacity t) (set ts i t)
 roomy_set capacity ts i t room roomy k d inside =
     let long = length-set ts i t in
     ⊎_elim
-    (λ e. subst (λ (x : _). 1024 ≤ capacity x) (sym (ap (λ (j : ℕ). get_or (set ts i t) j d) e ∙ get_or-set_same ts i t d (omega (arith, inside, long, e)))) room)
-    (λ other. subst (λ (x : _). 1024 ≤ capacity x) (sym (get_or-set_other ts i k t d other)) (roomy k d (omega (arith, inside, long))))
+    (λ e. subst (λ (x : _). 4096 ≤ capacity x) (sym (ap (λ (j : ℕ). get_or (set ts i t) j d) e ∙ get_or-set_same ts i t d (omega (arith, inside, long, e)))) room)
+    (λ other. subst (λ (x : _). 4096 ≤ capacity x) (sym (get_or-set_other ts i k t d other)) (roomy k d (omega (arith, inside, long))))
     (cases_eq k i)
 
 -- a number is put among others: the tiers up to one have it, and what came out of that one goes on
@@ -125,39 +125,39 @@ pub record IsCarried {T : Type 0} (f : T → List ℕ) (capacity : T → ℕ) (o
   pub count : length now ≡ length old
   pub most : length over ≤ 1
   pub same : insert (flat_map f old) place number ≡ flat_map f (take (i + 1) now) ++ (over ++ flat_map f (drop (i + 1) now))
-  pub below : (j : ℕ) (d : T) → j < i + 1 → length (f (get_or now j d)) ≡ min 1024 (length (flat_map f old) + 1 - 1024 * j)
-  pub above : (j : ℕ) (d : T) → i < j → j < length now → length (f (get_or now j d)) ≡ min 1024 (length (flat_map f old) - 1024 * j)
-  pub some : 0 < length over → 1024 * (i + 1) ≤ length (flat_map f old)
-  pub none : length over ≡ 0 → length (flat_map f old) < 1024 * (i + 1)
-  pub roomy : All (λ t. 1024 ≤ capacity t) now
+  pub below : (j : ℕ) (d : T) → j < i + 1 → length (f (get_or now j d)) ≡ min 4096 (length (flat_map f old) + 1 - 4096 * j)
+  pub above : (j : ℕ) (d : T) → i < j → j < length now → length (f (get_or now j d)) ≡ min 4096 (length (flat_map f old) - 4096 * j)
+  pub some : 0 < length over → 4096 * (i + 1) ≤ length (flat_map f old)
+  pub none : length over ≡ 0 → length (flat_map f old) < 4096 * (i + 1)
+  pub roomy : All (λ t. 4096 ≤ capacity t) now
 
 -- a tier has as many as it can once one came into it, and what it had no room for came out
-grown : {T : Type 0} (f : T → List ℕ) (n i : ℕ) (d t : T) (over : List ℕ) → length (f d) ≡ min 1024 (n - 1024 * i) → 1024 * i ≤ n → length (f t) + length over ≡ length (f d) + 1 → length (f t) ≤ 1024 → (0 < length over → length (f t) ≡ 1024) → length over ≤ 1 → length (f t) ≡ min 1024 (n + 1 - 1024 * i)
+grown : {T : Type 0} (f : T → List ℕ) (n i : ℕ) (d t : T) (over : List ℕ) → length (f d) ≡ min 4096 (n - 4096 * i) → 4096 * i ≤ n → length (f t) + length over ≡ length (f d) + 1 → length (f t) ≤ 4096 → (0 < length over → length (f t) ≡ 4096) → length over ≤ 1 → length (f t) ≡ min 4096 (n + 1 - 4096 * i)
 grown f n i d t over was reached long low full one = ⊎_elim
     (λ none. omega (arith, was, none, long, low, reached))
     (λ some. let all = full (omega (arith, some)) in omega (arith, was, all, long, one, some, reached))
     (cases_eq (length over) 0)
 
 -- it comes into its tier
-pub carried_first : {T : Type 0} (f : T → List ℕ) (capacity : T → ℕ) (old : List T) (place number : ℕ) (d t : T) (over : List ℕ) → AreTiers f capacity old → place ≤ length (flat_map f old) → length (flat_map f old) < 1024 * length old → d ≡ get_or old (place / 1024) d → insert (f d) (place % 1024) number ≡ f t ++ over → length (f t) + length over ≡ length (f d) + 1 → length (f t) ≤ 1024 → (0 < length over → length (f t) ≡ 1024) → length over ≤ 1 → 1024 ≤ capacity t → IsCarried f capacity old (set old (place / 1024) t) place number (place / 1024) over
+pub carried_first : {T : Type 0} (f : T → List ℕ) (capacity : T → ℕ) (old : List T) (place number : ℕ) (d t : T) (over : List ℕ) → AreTiers f capacity old → place ≤ length (flat_map f old) → length (flat_map f old) < 4096 * length old → d ≡ get_or old (place / 4096) d → insert (f d) (place % 4096) number ≡ f t ++ over → length (f t) + length over ≡ length (f d) + 1 → length (f t) ≤ 4096 → (0 < length over → length (f t) ≡ 4096) → length over ≤ 1 → 4096 ≤ capacity t → IsCarried f capacity old (set old (place / 4096) t) place number (place / 4096) over
 carried_first f capacity old place number d t over are most room read is long low full one roomy =
-    let n = length-set old (place / 1024) t in
-    let inside : place / 1024 < length old = omega (arith, most, room) in
-    let was = ap (λ (x : _). length (f x)) read ∙ are.full (place / 1024) d inside in
+    let n = length-set old (place / 4096) t in
+    let inside : place / 4096 < length old = omega (arith, most, room) in
+    let was = ap (λ (x : _). length (f x)) read ∙ are.full (place / 4096) d inside in
     record {
       inside = omega (arith, n, inside);
       count = n;
       most = one;
-      same = exchanged f old (place / 1024) t _ (insert (f d) (place % 1024) number) over inside is (begun f old place number d are.full most inside ∙ ap (λ (x : _). flat_map f (take (place / 1024) old) ++ (insert (f x) (place % 1024) number ++ flat_map f (drop (place / 1024 + 1) old))) (sym read));
-      below = full_before f (length (flat_map f old) + 1) old (place / 1024) t inside (grown f (length (flat_map f old)) (place / 1024) d t over was (omega (arith, most)) long low full one) (λ j e under. let h = are.full j e (omega (arith, under, inside)) in omega (arith, h, under, most));
-      above = full_after f (length (flat_map f old)) old (place / 1024) t (λ j e above within. are.full j e within);
+      same = exchanged f old (place / 4096) t _ (insert (f d) (place % 4096) number) over inside is (begun f old place number d are.full most inside ∙ ap (λ (x : _). flat_map f (take (place / 4096) old) ++ (insert (f x) (place % 4096) number ++ flat_map f (drop (place / 4096 + 1) old))) (sym read));
+      below = full_before f (length (flat_map f old) + 1) old (place / 4096) t inside (grown f (length (flat_map f old)) (place / 4096) d t over was (omega (arith, most)) long low full one) (λ j e under. let h = are.full j e (omega (arith, under, inside)) in omega (arith, h, under, most));
+      above = full_after f (length (flat_map f old)) old (place / 4096) t (λ j e above within. are.full j e within);
       some = λ h. let it = full h in omega (arith, was, it, long, h, one);
       none = λ h. omega (arith, was, long, low, h);
-      roomy = roomy_set capacity old (place / 1024) t roomy are.roomy;
+      roomy = roomy_set capacity old (place / 4096) t roomy are.roomy;
     }
 
 -- what came out of a tier comes into the next
-pub carried_more : {T : Type 0} (f : T → List ℕ) (capacity : T → ℕ) (old now : List T) (place number i last : ℕ) (d t : T) (over : List ℕ) → IsCarried f capacity old now place number i (last ∷ []) → i + 1 < length now → d ≡ get_or now (i + 1) d → last ∷ f d ≡ f t ++ over → length (f t) + length over ≡ length (f d) + 1 → length (f t) ≤ 1024 → (0 < length over → length (f t) ≡ 1024) → length over ≤ 1 → 1024 ≤ capacity t → IsCarried f capacity old (set now (i + 1) t) place number (i + 1) over
+pub carried_more : {T : Type 0} (f : T → List ℕ) (capacity : T → ℕ) (old now : List T) (place number i last : ℕ) (d t : T) (over : List ℕ) → IsCarried f capacity old now place number i (last ∷ []) → i + 1 < length now → d ≡ get_or now (i + 1) d → last ∷ f d ≡ f t ++ over → length (f t) + length over ≡ length (f d) + 1 → length (f t) ≤ 4096 → (0 < length over → length (f t) ≡ 4096) → length over ≤ 1 → 4096 ≤ capacity t → IsCarried f capacity old (set now (i + 1) t) place number (i + 1) over
 carried_more {T} f capacity old now place number i last d t over it inside read is long low full one roomy =
     let n = length-set now (i + 1) t in
     let was = ap (λ (x : T). length (f x)) read ∙ it.above (i + 1) d (omega arith) inside in
@@ -183,7 +183,7 @@ carried_all f capacity old now place number i most it = (record { full = full; r
   count : length (flat_map f now) ≡ length (flat_map f old) + 1
   count = ap length is ∙ length-insert (flat_map f old) place number most
 
-  full : (j : ℕ) (d : _) → j < length now → length (f (get_or now j d)) ≡ min 1024 (length (flat_map f now) - 1024 * j)
+  full : (j : ℕ) (d : _) → j < length now → length (f (get_or now j d)) ≡ min 4096 (length (flat_map f now) - 4096 * j)
   full j d inside = ⊎_elim
       (λ low. let h = it.below j d low in omega (arith, h, count))
       (λ high. let h = it.above j d (omega (arith, high)) inside in let none = it.none refl in omega (arith, h, count, none, high))
@@ -195,20 +195,20 @@ at_most_one None = omega arith
 at_most_one (Some x) = omega arith
 
 -- what is read at a place
-pub read_at : {T : Type 0} (f : T → List ℕ) (ts : List T) (numbers : List ℕ) (place : ℕ) (t : T) (number : ℕ) → Full f (length (flat_map f ts)) ts → flat_map f ts ≡ numbers → place < length numbers → t ≡ get_or ts (place / 1024) t → number ≡ get_or (f t) (place % 1024) number → number ≡ get_or numbers place number
+pub read_at : {T : Type 0} (f : T → List ℕ) (ts : List T) (numbers : List ℕ) (place : ℕ) (t : T) (number : ℕ) → Full f (length (flat_map f ts)) ts → flat_map f ts ≡ numbers → place < length numbers → t ≡ get_or ts (place / 4096) t → number ≡ get_or (f t) (place % 4096) number → number ≡ get_or numbers place number
 read_at f ts numbers place t number full are within tier read =
     let inside : place < length (flat_map f ts) = subst (λ (ns : List ℕ). place < length ns) (sym are) within in
-    read ∙ ap (λ (x : _). get_or (f x) (place % 1024) number) tier ∙ sym (at_place f ts place t number full inside)
+    read ∙ ap (λ (x : _). get_or (f x) (place % 4096) number) tier ∙ sym (at_place f ts place t number full inside)
     ∙ ap (λ (ns : List ℕ). get_or ns place number) are
 
 -- a number is taken: the tiers before one have as many as they can but for the last of them, which lacks one
 pub record IsDrawn {T : Type 0} (f : T → List ℕ) (capacity : T → ℕ) (old now : List T) (place i : ℕ) : Type 0 where
   pub count : length now ≡ length old
   pub same : flat_map f now ≡ remove (flat_map f old) place
-  pub below : (j : ℕ) (d : T) → j + 1 < i → length (f (get_or now j d)) ≡ min 1024 (length (flat_map f old) - 1 - 1024 * j)
-  pub short : (j : ℕ) (d : T) → j + 1 ≡ i → length (f (get_or now j d)) + 1 ≡ min 1024 (length (flat_map f old) - 1024 * j)
-  pub above : (j : ℕ) (d : T) → i ≤ j → j < length now → length (f (get_or now j d)) ≡ min 1024 (length (flat_map f old) - 1024 * j)
-  pub roomy : All (λ t. 1024 ≤ capacity t) now
+  pub below : (j : ℕ) (d : T) → j + 1 < i → length (f (get_or now j d)) ≡ min 4096 (length (flat_map f old) - 1 - 4096 * j)
+  pub short : (j : ℕ) (d : T) → j + 1 ≡ i → length (f (get_or now j d)) + 1 ≡ min 4096 (length (flat_map f old) - 4096 * j)
+  pub above : (j : ℕ) (d : T) → i ≤ j → j < length now → length (f (get_or now j d)) ≡ min 4096 (length (flat_map f old) - 4096 * j)
+  pub roomy : All (λ t. 4096 ≤ capacity t) now
   pub inside : i ≤ length now
 
 -- all numbers where a tier is exchanged
@@ -218,34 +218,34 @@ flat_set f ts i t inside =
     ∙ ap (λ (k : ℕ). flat_map f (take i ts) ++ (f t ++ flat_map f (drop k ts))) {x = suc i} {y = i + 1} (omega arith)
 
 -- it is taken from its tier
-pub drawn_first : {T : Type 0} (f : T → List ℕ) (capacity : T → ℕ) (old : List T) (place : ℕ) (d t : T) → AreTiers f capacity old → place < length (flat_map f old) → d ≡ get_or old (place / 1024) d → f t ≡ remove (f d) (place % 1024) → capacity t ≡ capacity d → IsDrawn f capacity old (set old (place / 1024) t) place (place / 1024 + 1)
+pub drawn_first : {T : Type 0} (f : T → List ℕ) (capacity : T → ℕ) (old : List T) (place : ℕ) (d t : T) → AreTiers f capacity old → place < length (flat_map f old) → d ≡ get_or old (place / 4096) d → f t ≡ remove (f d) (place % 4096) → capacity t ≡ capacity d → IsDrawn f capacity old (set old (place / 4096) t) place (place / 4096 + 1)
 drawn_first {T} f capacity old place d t are within read is room =
     record {
       count = n;
-      same = flat_set f old i t inside ∙ ap (λ (ys : List ℕ). flat_map f (take i old) ++ (ys ++ flat_map f (drop (i + 1) old))) (is ∙ ap (λ (x : T). remove (f x) (place % 1024)) read) ∙ sym whole;
+      same = flat_set f old i t inside ∙ ap (λ (ys : List ℕ). flat_map f (take i old) ++ (ys ++ flat_map f (drop (i + 1) old))) (is ∙ ap (λ (x : T). remove (f x) (place % 4096)) read) ∙ sym whole;
       below = λ j e under. let h = are.full j e (omega (arith, under, inside)) in ap (λ (x : T). length (f x)) (get_or-set_other old i j t e (omega (arith, under))) ∙ omega (arith, h, under, within);
-      short = λ j e last. let same : j ≡ i = omega (arith, last) in ap (λ (k : ℕ). length (f (get_or (set old i t) k e)) + 1) same ∙ ap (λ (x : T). length (f x) + 1) (get_or-set_same old i t e inside) ∙ fewer ∙ was ∙ ap (λ (k : ℕ). min 1024 (length (flat_map f old) - 1024 * k)) (sym same);
+      short = λ j e last. let same : j ≡ i = omega (arith, last) in ap (λ (k : ℕ). length (f (get_or (set old i t) k e)) + 1) same ∙ ap (λ (x : T). length (f x) + 1) (get_or-set_same old i t e inside) ∙ fewer ∙ was ∙ ap (λ (k : ℕ). min 4096 (length (flat_map f old) - 4096 * k)) (sym same);
       above = λ j e over low. ap (λ (x : T). length (f x)) (get_or-set_other old i j t e (omega (arith, over))) ∙ are.full j e (omega (arith, low, n));
-      roomy = roomy_set capacity old i t (subst (λ (c : ℕ). 1024 ≤ c) (sym (room ∙ ap capacity read)) (are.roomy i d inside)) are.roomy;
+      roomy = roomy_set capacity old i t (subst (λ (c : ℕ). 4096 ≤ c) (sym (room ∙ ap capacity read)) (are.roomy i d inside)) are.roomy;
       inside = omega (arith, n, inside);
     } where
       i : ℕ
-      i = place / 1024
+      i = place / 4096
 
       n : length (set old i t) ≡ length old
       n = length-set old i t
 
-      most : length (flat_map f old) ≤ 1024 * length old
+      most : length (flat_map f old) ≤ 4096 * length old
       most = flat_most f (length (flat_map f old)) old are.full
 
       inside : i < length old
       inside = omega (arith, most, within)
 
-      was : length (f d) ≡ min 1024 (length (flat_map f old) - 1024 * i)
+      was : length (f d) ≡ min 4096 (length (flat_map f old) - 4096 * i)
       was = ap (λ (x : T). length (f x)) read ∙ are.full i d inside
 
       fewer : length (f t) + 1 ≡ length (f d)
-      fewer = ap (λ (ys : List ℕ). length ys + 1) is ∙ length-remove (f d) (place % 1024) (omega (arith, was, within))
+      fewer = ap (λ (ys : List ℕ). length ys + 1) is ∙ length-remove (f d) (place % 4096) (omega (arith, was, within))
 
       here : List ℕ
       here = f (get_or old i d)
@@ -253,15 +253,15 @@ drawn_first {T} f capacity old place d t are within read is room =
       after : List ℕ
       after = flat_map f (drop (i + 1) old)
 
-      first : length (flat_map f (take i old)) ≡ 1024 * i
+      first : length (flat_map f (take i old)) ≡ 4096 * i
       first = before f (length (flat_map f old)) old i are.full (omega (arith, inside)) (omega (arith, within))
 
-      whole : remove (flat_map f old) place ≡ flat_map f (take i old) ++ (remove here (place % 1024) ++ after)
+      whole : remove (flat_map f old) place ≡ flat_map f (take i old) ++ (remove here (place % 4096) ++ after)
       whole =
           ap (λ (ys : List ℕ). remove ys place) (split f old i d inside)
-          ∙ remove-append_right (flat_map f (take i old)) (here ++ after) (1024 * i) place first (omega arith)
+          ∙ remove-append_right (flat_map f (take i old)) (here ++ after) (4096 * i) place first (omega arith)
           ∙ ap (λ (k : ℕ). flat_map f (take i old) ++ remove (here ++ after) k) (omega arith)
-          ∙ ap (λ (ys : List ℕ). flat_map f (take i old) ++ ys) (remove-append_left here after (place % 1024) (omega (arith, are.full i d inside, within)))
+          ∙ ap (λ (ys : List ℕ). flat_map f (take i old) ++ ys) (remove-append_left here after (place % 4096) (omega (arith, are.full i d inside, within)))
 
 -- the first number of a tier goes to the end of the one before
 pub drawn_more : {T : Type 0} (f : T → List ℕ) (capacity : T → ℕ) (old now : List T) (place i first : ℕ) (d e t s : T) → IsDrawn f capacity old now place (i + 1) → i + 1 < length now → d ≡ get_or now (i + 1) d → f d ≡ first ∷ f t → capacity t ≡ capacity d → e ≡ get_or (set now (i + 1) t) i e → f s ≡ f e ++ first ∷ [] → capacity s ≡ capacity e → IsDrawn f capacity old (set (set now (i + 1) t) i s) place (i + 1 + 1)
@@ -270,12 +270,12 @@ drawn_more {T} f capacity old now place i first d e t s it inside read is room r
       count = n ∙ m ∙ it.count;
       same = whole ∙ it.same;
       below = λ j x under. ⊎_elim
-          (λ same. ap (λ (k : ℕ). length (f (get_or next k x))) same ∙ ap (λ (y : T). length (f y)) (get_or-set_same middle i s x (omega (arith, m, inside))) ∙ filled ∙ ap (λ (k : ℕ). min 1024 (length (flat_map f old) - 1 - 1024 * k)) (sym same))
+          (λ same. ap (λ (k : ℕ). length (f (get_or next k x))) same ∙ ap (λ (y : T). length (f y)) (get_or-set_same middle i s x (omega (arith, m, inside))) ∙ filled ∙ ap (λ (k : ℕ). min 4096 (length (flat_map f old) - 1 - 4096 * k)) (sym same))
           (λ other. ap (λ (y : T). length (f y)) (get_or-set_other middle i j s x other ∙ get_or-set_other now (i + 1) j t x (omega (arith, under, other))) ∙ it.below j x (omega (arith, under, other)))
           (cases_eq j i);
-      short = λ j x last. let same : j ≡ i + 1 = omega (arith, last) in ap (λ (k : ℕ). length (f (get_or next k x)) + 1) same ∙ ap (λ (y : T). length (f y) + 1) (get_or-set_other middle i (i + 1) s x (omega arith) ∙ get_or-set_same now (i + 1) t x inside) ∙ omega (arith, was, shorter) ∙ ap (λ (k : ℕ). min 1024 (length (flat_map f old) - 1024 * k)) (sym same);
+      short = λ j x last. let same : j ≡ i + 1 = omega (arith, last) in ap (λ (k : ℕ). length (f (get_or next k x)) + 1) same ∙ ap (λ (y : T). length (f y) + 1) (get_or-set_other middle i (i + 1) s x (omega arith) ∙ get_or-set_same now (i + 1) t x inside) ∙ omega (arith, was, shorter) ∙ ap (λ (k : ℕ). min 4096 (length (flat_map f old) - 4096 * k)) (sym same);
       above = λ j x over within. ap (λ (y : T). length (f y)) (get_or-set_other middle i j s x (omega (arith, over)) ∙ get_or-set_other now (i + 1) j t x (omega (arith, over))) ∙ it.above j x (omega (arith, over)) (omega (arith, within, n, m));
-      roomy = roomy_set capacity middle i s (subst (λ (c : ℕ). 1024 ≤ c) (sym (room_low ∙ ap capacity read_low)) (roomy_middle i e (omega (arith, m, inside)))) roomy_middle;
+      roomy = roomy_set capacity middle i s (subst (λ (c : ℕ). 4096 ≤ c) (sym (room_low ∙ ap capacity read_low)) (roomy_middle i e (omega (arith, m, inside)))) roomy_middle;
       inside = omega (arith, n, m, inside);
     } where
       middle : List T
@@ -290,10 +290,10 @@ drawn_more {T} f capacity old now place i first d e t s it inside read is room r
       m : length middle ≡ length now
       m = length-set now (i + 1) t
 
-      roomy_middle : All (λ t. 1024 ≤ capacity t) middle
-      roomy_middle = roomy_set capacity now (i + 1) t (subst (λ (c : ℕ). 1024 ≤ c) (sym (room ∙ ap capacity read)) (it.roomy (i + 1) d inside)) it.roomy
+      roomy_middle : All (λ t. 4096 ≤ capacity t) middle
+      roomy_middle = roomy_set capacity now (i + 1) t (subst (λ (c : ℕ). 4096 ≤ c) (sym (room ∙ ap capacity read)) (it.roomy (i + 1) d inside)) it.roomy
 
-      was : length (f d) ≡ min 1024 (length (flat_map f old) - 1024 * (i + 1))
+      was : length (f d) ≡ min 4096 (length (flat_map f old) - 4096 * (i + 1))
       was = ap (λ (x : T). length (f x)) read ∙ it.above (i + 1) d (omega arith) inside
 
       shorter : length (f d) ≡ length (f t) + 1
@@ -302,7 +302,7 @@ drawn_more {T} f capacity old now place i first d e t s it inside read is room r
       low_is : e ≡ get_or now i e
       low_is = read_low ∙ get_or-set_other now (i + 1) i t e (omega arith)
 
-      filled : length (f s) ≡ min 1024 (length (flat_map f old) - 1 - 1024 * i)
+      filled : length (f s) ≡ min 4096 (length (flat_map f old) - 1 - 4096 * i)
       filled =
           let h = ap (λ (x : T). length (f x) + 1) low_is ∙ it.short i e refl in
           let k = ap length low ∙ length_push (f e) first in
@@ -325,12 +325,12 @@ drawn_more {T} f capacity old now place i first d e t s it inside read is room r
           ∙ sym (split f now i e (omega (arith, inside)))
 
 -- there are no tiers left, or an empty one: the numbers stand without the one that was taken
-pub drawn_all : {T : Type 0} (f : T → List ℕ) (capacity : T → ℕ) (old now : List T) (place i : ℕ) → place < length (flat_map f old) → IsDrawn f capacity old now place i → length (flat_map f old) ≤ 1024 * i → AreTiers f capacity now
+pub drawn_all : {T : Type 0} (f : T → List ℕ) (capacity : T → ℕ) (old now : List T) (place i : ℕ) → place < length (flat_map f old) → IsDrawn f capacity old now place i → length (flat_map f old) ≤ 4096 * i → AreTiers f capacity now
 drawn_all {T} f capacity old now place i within it done = record { full = full; roomy = it.roomy } where
   count : length (flat_map f now) + 1 ≡ length (flat_map f old)
   count = ap (λ (ys : List ℕ). length ys + 1) it.same ∙ length-remove (flat_map f old) place within
 
-  full : (j : ℕ) (d : T) → j < length now → length (f (get_or now j d)) ≡ min 1024 (length (flat_map f now) - 1024 * j)
+  full : (j : ℕ) (d : T) → j < length now → length (f (get_or now j d)) ≡ min 4096 (length (flat_map f now) - 4096 * j)
   full j d inside = ⊎_elim
       (λ low. let h = it.below j d low in omega (arith, h, count))
       (λ high. ⊎_elim
@@ -340,10 +340,10 @@ drawn_all {T} f capacity old now place i within it done = record { full = full; 
       (cases_lt (j + 1) i)
 
 -- a number of its tier is at its place
-pub within_tier : {T : Type 0} (f : T → List ℕ) (ts : List T) (place : ℕ) (d : T) → Full f (length (flat_map f ts)) ts → place < length (flat_map f ts) → d ≡ get_or ts (place / 1024) d → place % 1024 < length (f d)
+pub within_tier : {T : Type 0} (f : T → List ℕ) (ts : List T) (place : ℕ) (d : T) → Full f (length (flat_map f ts)) ts → place < length (flat_map f ts) → d ≡ get_or ts (place / 4096) d → place % 4096 < length (f d)
 within_tier f ts place d full within read =
     let most = flat_most f (length (flat_map f ts)) ts full in
-    let long = ap (λ (x : _). length (f x)) read ∙ full (place / 1024) d (omega (arith, most, within)) in
+    let long = ap (λ (x : _). length (f x)) read ∙ full (place / 4096) d (omega (arith, most, within)) in
     omega (arith, long, within)
 
 -- the same, by the number of the tier that gives its first number

@@ -13,13 +13,13 @@ pub record AreTiers {T : Type 0} (numbers : T → List ℕ) (capacity : T → �
     : Type 0 where
   pub full : (i : ℕ) (d : T) → i < length tiers
       → length (numbers (slice_index_or tiers i d))
-      ≡ min 1024 (length (flat_map numbers tiers) - 1024 * i)
-  pub roomy : All (λ tier. 1024 ≤ capacity tier) tiers
+      ≡ min 4096 (length (flat_map numbers tiers) - 4096 * i)
+  pub roomy : All (λ tier. 4096 ≤ capacity tier) tiers
 
 -- tiers with so many numbers and so much room
 pub record IsTiered {T : Type 0} (numbers : T → List ℕ) (capacity : T → ℕ) (tiers : List T)
     (len room : ℕ) : Type 0 where
   pub stand : AreTiers numbers capacity tiers
   pub counted : len ≡ length (flat_map numbers tiers)
-  pub spare : len + room ≡ 1024 * length tiers
+  pub spare : len + room ≡ 4096 * length tiers
   pub bound : len + room < 2 ^ 64

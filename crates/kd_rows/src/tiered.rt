@@ -9,7 +9,7 @@ use std::collections::VecDeque;
 use std::marker::Model;
 
 // For how many numbers a tier has room.
-const SIZE: usize = 1024;
+const SIZE: usize = 4096;
 
 // A list of numbers in tiers of one size, of which each has as many as it can. Where a number is
 // put among the others, those after it in its tier make room, and of each full tier the last one
@@ -128,7 +128,7 @@ impl Tiered {
 fn put_among(tiers: &mut Vec<VecDeque<u32>>, place: usize, number: u32)
     requires tiers { AreTiers deque_items deque_capacity tiers.old.items }
     requires place { place ≤ length (flat_map deque_items tiers.old.items) }
-    requires room { length (flat_map deque_items tiers.old.items) < 1024 * length tiers.old.items }
+    requires room { length (flat_map deque_items tiers.old.items) < 4096 * length tiers.old.items }
     ensures tiers { AreTiers deque_items deque_capacity tiers.new.items }
     ensures count { length tiers.new.items ≡ length tiers.old.items }
     ensures numbers { flat_map deque_items tiers.new.items
@@ -168,16 +168,16 @@ fn take_among(tiers: &mut Vec<VecDeque<u32>>, place: usize) -> u32
 
 // Puts a number at a place of a tier; where the tier is full, its last number comes out.
 fn put(tier: &mut VecDeque<u32>, place: usize, number: u32) -> Option<u32>
-    requires room { 1024 ≤ deque_capacity tier.old }
-    requires len { length tier.old.items ≤ 1024 }
+    requires room { 4096 ≤ deque_capacity tier.old }
+    requires len { length tier.old.items ≤ 4096 }
     requires place { place ≤ length tier.old.items }
-    requires within { place < 1024 }
+    requires within { place < 4096 }
     ensures items { insert tier.old.items place number ≡ tier.new.items ++ option_to_list result }
-    ensures room { 1024 ≤ deque_capacity tier.new }
+    ensures room { 4096 ≤ deque_capacity tier.new }
     ensures len { length tier.new.items + length (option_to_list result)
         ≡ length tier.old.items + 1 }
-    ensures full { length tier.new.items ≤ 1024 }
-    ensures over { 0 < length (option_to_list result) → length tier.new.items ≡ 1024 }
+    ensures full { length tier.new.items ≤ 4096 }
+    ensures over { 0 < length (option_to_list result) → length tier.new.items ≡ 4096 }
 {
     let over = last_of_full(tier);
     match tier.insert(place, number) {
@@ -188,11 +188,11 @@ fn put(tier: &mut VecDeque<u32>, place: usize, number: u32) -> Option<u32>
 
 // Takes the last number of a full tier.
 fn last_of_full(tier: &mut VecDeque<u32>) -> Option<u32>
-    requires { length tier.old.items ≤ 1024 }
+    requires { length tier.old.items ≤ 4096 }
     ensures items { tier.old.items ≡ tier.new.items ++ option_to_list result }
     ensures room { deque_capacity tier.new ≡ deque_capacity tier.old }
-    ensures len { length tier.new.items < 1024 }
-    ensures full { 0 < length (option_to_list result) → length tier.old.items ≡ 1024 }
+    ensures len { length tier.new.items < 4096 }
+    ensures full { 0 < length (option_to_list result) → length tier.old.items ≡ 4096 }
 {
     if tier.len() == SIZE {
         tier.pop_back()
@@ -203,14 +203,14 @@ fn last_of_full(tier: &mut VecDeque<u32>) -> Option<u32>
 
 // Puts a number at the front of a tier; where the tier is full, its last number comes out.
 fn push(tier: &mut VecDeque<u32>, number: u32) -> Option<u32>
-    requires room { 1024 ≤ deque_capacity tier.old }
-    requires len { length tier.old.items ≤ 1024 }
+    requires room { 4096 ≤ deque_capacity tier.old }
+    requires len { length tier.old.items ≤ 4096 }
     ensures items { number ∷ tier.old.items ≡ tier.new.items ++ option_to_list result }
-    ensures room { 1024 ≤ deque_capacity tier.new }
+    ensures room { 4096 ≤ deque_capacity tier.new }
     ensures len { length tier.new.items + length (option_to_list result)
         ≡ length tier.old.items + 1 }
-    ensures full { length tier.new.items ≤ 1024 }
-    ensures over { 0 < length (option_to_list result) → length tier.new.items ≡ 1024 }
+    ensures full { length tier.new.items ≤ 4096 }
+    ensures over { 0 < length (option_to_list result) → length tier.new.items ≡ 4096 }
 {
     let over = last_of_full(tier);
     tier.push_front_reserved(number);
