@@ -1,5 +1,6 @@
 pub mod Bounds
 pub mod Ends
+pub mod Fulls
 pub mod Indexes
 pub mod Keys
 pub mod Maps

@@ -7,8 +7,10 @@ use Rattle.std.specs.Ordering.{nat_cmp, ordering_then}
 use Rattle.std.specs.declared.cmp.Ordering.{Ordering}
 use Rattle.std.specs.declared.cmp.Ordering.TheVariants.{Less}
 use Rattle.kd_rows.specs.declared.blocks.Bound.{Bound}
+use Rattle.kd_rows.specs.declared.full.Run.{Run}
 use Rattle.kd_rows.specs.declared.row.Row.{Row}
 use Rattle.kd_rows.specs.declared.row.State.TheVariants.{Offered}
+use Rattle.kd_rows.specs.Full.{AreFull}
 use Rattle.kd_rows.specs.Row.{IsInRange}
 use Rattle.kd_rows.specs.Table.{Rise, row_at, latest_of}
 
@@ -140,13 +142,14 @@ IsNow rows block (Some kept) least = least ≡ kept
 
 -- what is true of the fields of a table
 pub record IsKept (rows : List Row) (latest least : ℕ) (index : List ℕ) (bounds : List Row)
-    (room most : ℕ) : Type 0 where
+    (runs : List Run) (room most : ℕ) : Type 0 where
   pub rise : Rise rows
   pub ranged : All IsInRange rows
   pub newest : latest ≡ latest_of rows
   pub ends : All (λ row. least ≤ row.ends) rows
   pub indexed : IsIndex rows index
   pub bounded : IsBounded rows bounds
+  pub full : AreFull rows runs
   pub enough : room ≤ most
 
 -- the rows before a place have lesser addresses, and those from it on do not

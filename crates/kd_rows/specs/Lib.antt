@@ -3,3 +3,4 @@ pub mod Table
 pub mod Index
 pub mod Laws
 pub mod Tiers
+pub mod Full

@@ -7,7 +7,7 @@ pub record Roomy : Type 0 where
   pub numbers : List ℕ
   pub room : ℕ
 
--- tiers have room for 1,024 numbers each, and each has as many as it can: what is left stands in
+-- tiers have room for 4,096 numbers each, and each has as many as it can: what is left stands in
 -- those after it
 pub record AreTiers {T : Type 0} (numbers : T → List ℕ) (capacity : T → ℕ) (tiers : List T)
     : Type 0 where

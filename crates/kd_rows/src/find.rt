@@ -18,23 +18,15 @@ pub(crate) fn find(rows: &Sorted, address: u32) -> Option<usize>
 }
 
 // The least address from `first` to `last` that has no row. From the place of `first` on, the rows
-// stand at `first`, `first + 1` and so on up to the gap, and above such an address from there on; where
-// the range is full, `last` stands at the end.
+// stand at `first`, `first + 1` and so on up to the gap, and above such an address from there on.
 pub(crate) fn gap_in(rows: &Sorted, first: u32, last: u32) -> Option<u32>
     requires rise { Rise rows.now.rows }
     requires order { first ≤ last }
     ensures { IsFirstGap rows.now.rows first last result }
 {
-    let most = (last - first) as usize;
     let start = rows.place_of(first);
     let mut low = start;
     let mut high = rows.len();
-    if most < high - start {
-        if (rows.row(start + most).address - first) as usize == most {
-            return None;
-        }
-        high = start + most;
-    }
     'halves: while low < high {
         let middle = low + (high - low) / 2;
         if (rows.row(middle).address - first) as usize == middle - start {
@@ -44,7 +36,7 @@ pub(crate) fn gap_in(rows: &Sorted, first: u32, last: u32) -> Option<u32>
         }
     }
     let run = low - start;
-    if run <= most {
+    if run <= (last - first) as usize {
         Some(first + run as u32)
     } else {
         None

@@ -8,6 +8,7 @@
 mod blocks;
 mod ended;
 mod find;
+mod full;
 mod index;
 pub mod laws;
 mod numbers;

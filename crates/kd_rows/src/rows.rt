@@ -8,6 +8,7 @@ ghost use Rattle.kd_rows.specs.Table.{IsFirstGap, IsNext, IsNextEnded, Rise, add
 use crate::blocks::{Blocks, Bound, block_of, bound_all, bound_now, kept_bound};
 use crate::ended::next_ended;
 use crate::find::{find, gap_in};
+use crate::full::{Full, full_of};
 use crate::index::nth_of;
 use crate::put::put_row;
 use crate::row::Row;
@@ -21,6 +22,8 @@ pub struct Rows {
     rows: Sorted,
     // The bound of each block that has rows.
     blocks: Blocks,
+    // Addresses that all have rows.
+    full: Full,
     latest: u64,
     least: u64,
     // For how many new addresses both have room.
@@ -36,8 +39,8 @@ impl Model for Rows {
 
     ghost view = { λ t. record { rows = t.rows.rows; least = t.least; room = t.room } };
 
-    ghost invariant = { λ t. IsKept t.rows.rows t.latest t.least t.rows.index t.blocks.rows t.room
-        (min t.rows.room t.blocks.room) };
+    ghost invariant = { λ t. IsKept t.rows.rows t.latest t.least t.rows.index t.blocks.rows t.full
+        t.room (min t.rows.room t.blocks.room) };
 }
 
 impl Rows {
@@ -69,13 +72,16 @@ impl Rows {
     {
         let latest = latest_in(&rows);
         let least = least_in(&rows);
-        let mut blocks = Blocks::new(*rows.allocator());
+        let alloc = *rows.allocator();
+        let mut blocks = Blocks::new(alloc);
         let sorted = Sorted::new(rows)?;
         bound_all(&mut blocks, &sorted)?;
+        let full = full_of(alloc, &sorted)?;
         Ok(Rows {
             room: sorted.room().min(blocks.room()),
             rows: sorted,
             blocks,
+            full,
             latest,
             least,
         })
@@ -142,11 +148,19 @@ impl Rows {
     }
 
     /// The least address from `first` to `last` that has no row.
+    #[tactic(auto, using(crate::proofs::Fulls::gap_after))]
     pub fn first_gap(&self, first: u32, last: u32) -> Option<u32>
         requires { first ≤ last }
         ensures { IsFirstGap self.now.rows first last result }
     {
-        gap_in(&self.rows, first, last)
+        let mut from = first;
+        'full: while let Some(end) = self.full.last_from(from) {
+            if end >= last {
+                return None;
+            }
+            from = end + 1;
+        }
+        gap_in(&self.rows, from, last)
     }
 
     /// The row of the least address that is this one or above it.
@@ -213,6 +227,7 @@ impl Rows {
         put_row(&mut self.rows, row);
         let least = bound_now(&self.rows, address, kept);
         self.blocks.set(Bound { block, least });
+        self.full.add(address, replaced.is_none());
     }
 }
 

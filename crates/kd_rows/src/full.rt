@@ -1,0 +1,127 @@
+ghost use Rattle.std.specs.Prelude.{◌≡◌, ◌≤◌, ◌<◌, ◌+◌, [], IfOk, IfSome, IsSome, List, length, slice_index_or};
+ghost use Rattle.kd_rows.specs.Full.{AreFull, HasAll};
+ghost use Rattle.kd_rows.specs.declared.row.Row.{Row};
+ghost use Rattle.kd_rows.specs.Table.{Rise, row_at};
+
+use crate::sorted::Sorted;
+use std::alloc::{AllocError, Global};
+use std::marker::Model;
+
+// How many runs there are at most.
+const MOST: usize = 64;
+
+// The addresses from one to another.
+#[derive(Clone, Copy)]
+pub(crate) struct Run {
+    pub(crate) first: u32,
+    pub(crate) last: u32,
+}
+
+// Runs of addresses that all have rows, so that what is full need not be searched. Rows are never
+// removed, so a run stays true. Not every address that has a row is in one.
+#[derive(Drop)]
+pub(crate) struct Full {
+    runs: Vec<Run>,
+}
+
+impl Model for Full {
+    ghost use Rattle.std.specs.Prelude.{◌≤◌, List, vec_capacity};
+    ghost use Rattle.kd_rows.specs.declared.full.Run.{Run};
+
+    ghost Value = { List Run };
+
+    ghost view = { λ s. s.runs.items };
+
+    ghost invariant = { λ s. 64 ≤ vec_capacity s.runs };
+}
+
+impl Full {
+    // No runs.
+    pub(crate) fn new(alloc: Global) -> Result<Full, AllocError>
+        ensures { IfOk result (λ full. full ≡ []) }
+    {
+        Ok(Full {
+            runs: Vec::with_capacity(alloc, MOST)?,
+        })
+    }
+
+    // The last address of a run that has this one.
+    pub(crate) fn last_from(&self, address: u32) -> Option<u32>
+        ensures { (rows : List Row) → AreFull rows self.now
+            → IfSome result (λ last. (address ≤ last) × HasAll rows address last) }
+    {
+        for run in self.runs.as_slice() {
+            if run.first <= address && address <= run.last {
+                return Some(run.last);
+            }
+        }
+        None
+    }
+
+    // An address has a row from now on, where `new`, or has had one.
+    pub(crate) fn add(&mut self, address: u32, new: bool)
+        ensures { (rows : List Row) → AreFull rows self.old → IsSome (row_at rows address)
+            → AreFull rows self.new }
+    {
+        if new {
+            match self.ending_before(address) {
+                Some(place) => self.runs[place].last = address,
+                None => self.begin(address),
+            }
+        }
+    }
+
+    // A run begins at an address that has a row.
+    fn begin(&mut self, address: u32)
+        ensures { (rows : List Row) → AreFull rows self.old → IsSome (row_at rows address)
+            → AreFull rows self.new }
+    {
+        match self.beginning_after(address) {
+            Some(place) => self.runs[place].first = address,
+            None if self.runs.len() < MOST => self.runs.push_reserved(Run {
+                first: address,
+                last: address,
+            }),
+            None => {}
+        }
+    }
+
+    // The place of a run that ends right before an address.
+    fn ending_before(&self, address: u32) -> Option<usize>
+        ensures { IfSome result (λ place. (place < length self.now)
+            × ((d : Run) → (slice_index_or self.now place d).last + 1 ≡ address)) }
+    {
+        for place in 0..self.runs.len() {
+            if self.runs[place].last.checked_add(1) == Some(address) {
+                return Some(place);
+            }
+        }
+        None
+    }
+
+    // The place of a run that begins right after an address.
+    fn beginning_after(&self, address: u32) -> Option<usize>
+        ensures { IfSome result (λ place. (place < length self.now)
+            × ((d : Run) → (slice_index_or self.now place d).first ≡ address + 1)) }
+    {
+        for place in 0..self.runs.len() {
+            if address.checked_add(1) == Some(self.runs[place].first) {
+                return Some(place);
+            }
+        }
+        None
+    }
+}
+
+// The runs of the addresses of rows.
+#[tactic(auto, using(crate::proofs::Fulls::has_at))]
+pub(crate) fn full_of(alloc: Global, rows: &Sorted) -> Result<Full, AllocError>
+    requires { Rise rows.now.rows }
+    ensures { IfOk result (λ full. AreFull rows.now.rows full) }
+{
+    let mut full = Full::new(alloc)?;
+    for place in 0..rows.len() {
+        full.add(rows.row(place).address, true);
+    }
+    Ok(full)
+}
