@@ -1,6 +1,6 @@
 // Programs of the token machine, run many times.
 
-use crate::{discover, head};
+use crate::reading::{discover, head};
 use kd_machine::{Held, eval};
 use kd_options::Message;
 use kd_token::{Program, verify};

@@ -1,126 +1,108 @@
-//! Does one piece of work many times, so that its time can be taken from outside: `kd_bench
-//! discover 2000000` or `kd_bench pieces 100000` reads a datagram, `kd_bench file 10000` a token
-//! file, `kd_bench verify 10000` verifies what it reads too, `kd_bench short 1000000`, `long` and
-//! `digits` run a program, and `kd_bench strings 1000`, `members` and `choices` compile a class
-//! test. It prints how often that was done, and no time.
+//! Does one piece of work many times, so that its time can be taken from outside, and prints how
+//! often that was done, and no time.
+//!
+//! `kd_bench discover 2000000` or `kd_bench pieces 100000` reads a datagram, `kd_bench file 10000`
+//! a token file, `kd_bench verify 10000` verifies what it reads too, `kd_bench short 1000000`,
+//! `long` and `digits` run a program, and `kd_bench strings 1000`, `members` and `choices` compile
+//! a class test.
+//!
+//! `kd_bench get 60000 1000000` makes a table of 60,000 rows of leases and reads a row of it a
+//! million times. So do `open`, which makes the table alone, `client`, which finds a client's
+//! address, `gap`, which finds the first free address, `renew`, which sets a row anew, and `add`,
+//! which sets one at a new address.
+//!
+//! `kd_bench new 5000 1000000` answers a million DISCOVERs of clients without a row, under a
+//! configuration of 5,000 reservations, over a table of 60,000 rows in a pool of 65,536 addresses
+//! with gaps. So do `read`, which reads the message alone; `known`, a DISCOVER of a client with a
+//! lease; `request`, the REQUEST for its lease; `kept`, a DISCOVER of a client without a row where
+//! the first gaps of the pool are the reserved addresses; `full`, the same in a pool that has a row
+//! at each address; and `past`, in a full pool whose rows have not ended, though an earlier one
+//! had. It prints how often there was a reply: never in the last two.
+//!
+//! `kd_bench each` does each work ten times, over sizes of 100.
 #![tactic(auto)]
 
 mod compiling;
+mod deciding;
 mod machine;
+mod reading;
+mod rows;
 
-use kd_options::Message;
-use kd_token::Program;
+use crate::reading::{branches, discover, file_again, pieces, read_again, verify_again};
+use kd_config::ConfigFault;
 use std::alloc::{AllocError, Global};
 use std::io;
 
+// The works over datagrams, token files, programs and class tests, over a table, and of deciding.
+const WORKS: [&str; 23] = [
+    "discover", "pieces", "file", "verify", "short", "long", "digits", "strings", "members",
+    "choices", "open", "client", "gap", "renew", "add", "get", "read", "new", "known", "request",
+    "kept", "full", "past",
+];
+
 fn main(rt: HostRuntime) -> io::Result<()> {
     let words: Vec<String> = std::env::args(&rt)?.collect(rt.alloc())?;
-    let work = words.get(1).map_or("discover", |word| word.as_str());
-    let rounds = words
-        .get(2)
-        .and_then(|word| word.parse().ok())
-        .unwrap_or(10);
-    let done = match work {
-        "pieces" => read_again(rt.alloc(), pieces(rt.alloc())?.as_slice(), rounds),
-        "file" => file_again(rt.alloc(), branches(rt.alloc())?.as_slice(), rounds),
-        "verify" => verify_again(rt.alloc(), branches(rt.alloc())?.as_slice(), rounds),
-        "short" => machine::short(rt.alloc(), rounds)?,
-        "long" => machine::long(rt.alloc(), rounds)?,
-        "digits" => machine::digits(rt.alloc(), rounds)?,
-        "strings" => compiling::strings(rt.alloc(), rounds)?,
-        "members" => compiling::members(rt.alloc(), rounds)?,
-        "choices" => compiling::choices(rt.alloc(), rounds)?,
-        _ => read_again(rt.alloc(), discover(rt.alloc())?.as_slice(), rounds),
-    };
-    println!(rt; "{done}")
-}
-
-// How often the datagram was read with an option 60, of so many rounds.
-fn read_again(alloc: Global, bytes: &[u8], rounds: u32) -> u32 {
-    let mut read = 0u32;
-    for _ in 0..rounds {
-        if let Ok(message) = Message::read(alloc, bytes) {
-            if message.option(60).is_some() {
-                read = read.wrapping_add(1);
-            }
+    let work = words.get(1).map_or("each", |word| word.as_str());
+    let first = number_at(&words, 2);
+    let second = number_at(&words, 3);
+    if work != "each" {
+        return match worked(rt.alloc(), work, first, second) {
+            Ok(done) => println!(rt; "{done}"),
+            Err(fault) => println!(rt; "{fault}"),
+        };
+    }
+    for work in WORKS {
+        match worked(rt.alloc(), work, None, None) {
+            Ok(done) => println!(rt; "{work} {done}")?,
+            Err(fault) => println!(rt; "{work} {fault}")?,
         }
     }
-    read
+    Ok(())
 }
 
-// The header of a client's datagram, and the cookie.
-fn head(alloc: Global) -> Result<Vec<u8>, AllocError> {
-    let mut bytes = Vec::from_slice(alloc, &[1, 1, 6, 0, 0, 0, 0, 1])?;
-    bytes.resize(28, 0)?;
-    bytes.extend_from_slice(&[10, 0, 0, 0, 0, 1])?;
-    bytes.resize(236, 0)?;
-    bytes.extend_from_slice(&[99, 130, 83, 99])?;
-    Ok(bytes)
+// The number that a word spells, where there is such a word and number.
+fn number_at(words: &[String], place: usize) -> Option<u32> {
+    words.get(place).and_then(|word| word.parse().ok())
 }
 
-// A DISCOVER of 300 bytes with 8 options.
-fn discover(alloc: Global) -> Result<Vec<u8>, AllocError> {
-    let mut bytes = head(alloc)?;
-    bytes.extend_from_slice(
-        b"\x35\x01\x01\x3d\x07\x01\x0a\x00\x00\x00\x00\x01\x32\x04\xc0\x00\x02\x0a",
-    )?;
-    bytes.extend_from_slice(
-        b"\x39\x02\x05\xdc\x3c\x06udhcp1\x0c\x03box\x37\x04\x01\x03\x06\x0f\x74\x01\x01\xff",
-    )?;
-    bytes.resize(300, 0)?;
-    Ok(bytes)
-}
-
-// A datagram of 4,096 bytes in 100 pieces: a type, and 99 pieces of 36 bytes over 33 codes.
-fn pieces(alloc: Global) -> Result<Vec<u8>, AllocError> {
-    let mut bytes = head(alloc)?;
-    bytes.extend_from_slice(&[53, 1, 1])?;
-    for _ in 0..3 {
-        for code in 60..93u8 {
-            bytes.extend_from_slice(&[code, 36])?;
-            bytes.extend_from_slice(&[code; 36])?;
+// How often a work was done: of so many rounds, or over so much of so many.
+fn worked(
+    alloc: Global,
+    work: &str,
+    first: Option<u32>,
+    second: Option<u32>,
+) -> Result<u32, ConfigFault> {
+    let size = first.unwrap_or(100);
+    let rounds = second.unwrap_or(10);
+    match work {
+        "open" | "client" | "gap" | "renew" | "add" | "get" => {
+            Ok(rows::worked(alloc, work, size, rounds)?)
         }
-    }
-    bytes.resize(4096, 0)?;
-    Ok(bytes)
-}
-
-// How often the token file was read, of so many rounds.
-fn file_again(alloc: Global, bytes: &[u8], rounds: u32) -> u32 {
-    let mut read = 0u32;
-    for _ in 0..rounds {
-        if Program::read(alloc, bytes).is_ok() {
-            read = read.wrapping_add(1);
+        "read" | "new" | "known" | "request" | "kept" | "full" | "past" => {
+            deciding::worked(alloc, work, size, rounds)
         }
+        _ => Ok(again(alloc, work, first.unwrap_or(10))?),
     }
-    read
 }
 
-// How often the token file was read and its program accepted, of so many rounds.
-fn verify_again(alloc: Global, bytes: &[u8], rounds: u32) -> u32 {
-    let mut accepted = 0u32;
-    for _ in 0..rounds {
-        if let Ok(program) = Program::read(alloc, bytes) {
-            if kd_token::verify(alloc, program).is_ok() {
-                accepted = accepted.wrapping_add(1);
-            }
-        }
+// How often a work over a datagram, a token file, a program or a class test was done, of so many
+// rounds.
+fn again(alloc: Global, work: &str, rounds: u32) -> Result<u32, AllocError> {
+    match work {
+        "pieces" => Ok(read_again(alloc, pieces(alloc)?.as_slice(), rounds)),
+        "file" => Ok(file_again(alloc, branches(alloc)?.as_slice(), rounds)),
+        "verify" => Ok(verify_again(alloc, branches(alloc)?.as_slice(), rounds)),
+        "short" => machine::short(alloc, rounds),
+        "long" => machine::long(alloc, rounds),
+        "digits" => machine::digits(alloc, rounds),
+        "strings" => compiling::strings(alloc, rounds),
+        "members" => compiling::members(alloc, rounds),
+        "choices" => compiling::choices(alloc, rounds),
+        _ => Ok(read_again(alloc, discover(alloc)?.as_slice(), rounds)),
     }
-    accepted
 }
 
-// A token file of 1,024 tokens over a stack of up to 64 values, with as many places where two ways
-// meet as a program can have: 62 values, 450 values that a branch over nothing takes, and 62 tokens
-// that join what is left.
-fn branches(alloc: Global) -> Result<Vec<u8>, AllocError> {
-    let mut bytes = Vec::from_slice(alloc, b"K4TK\x02\x04\x00\x40\x00\x00\x00\x04\x00")?;
-    for _ in 0..62 {
-        bytes.extend_from_slice(b"\x06\x3c")?;
-    }
-    for _ in 0..450 {
-        bytes.extend_from_slice(b"\x06\x3c\x21\x00\x00")?;
-    }
-    bytes.resize(bytes.len() + 61, 0x0b)?;
-    bytes.push(0x0a)?;
-    Ok(bytes)
+// Numbers below 2^32 in mixed order, each once.
+pub(crate) fn mixed(number: u32) -> u32 {
+    number.wrapping_mul(2_654_435_761)
 }

@@ -7,11 +7,8 @@ use kd_replay::ServeFault;
 use kd_rows::Row;
 use kd_server::Server;
 use kd_store::Store;
-use sqlite::{Connection, FileStore, Files, Options};
+use sqlite::{Alter, Connection, FileStore, Files, Options};
 use std::alloc::{AllocError, Global};
-
-/// A server whose store is over files that may stop.
-pub(crate) type Serving = Server<Store<FileStore<Device>>>;
 
 const PORTS: Ports = Ports {
     server: 67,
@@ -29,13 +26,8 @@ fn options() -> Options {
     }
 }
 
-// What a connection leaves of its files when it is dropped without a word.
-fn let_go(conn: Connection<FileStore<Device>>) -> Files<Device> {
-    conn.into_store().close()
-}
-
-// The connection to the files, or the files.
-fn connected(
+/// The connection to the files, or the files.
+pub(crate) fn connected(
     alloc: Global,
     files: Files<Device>,
 ) -> Result<Connection<FileStore<Device>>, Files<Device>> {
@@ -48,48 +40,47 @@ fn connected(
     }
 }
 
-// The store over a connection, or the files.
-fn stored(
-    alloc: Global,
-    conn: Connection<FileStore<Device>>,
-) -> Result<Store<FileStore<Device>>, Files<Device>> {
+// The store over a connection, or what lies below it. This and what follows is over any store of
+// SQLite's: over files alone each would be proved against all parts of a connection, which takes
+// the prover a minute.
+fn stored<S: Alter + Drop>(alloc: Global, conn: Connection<S>) -> Result<Store<S>, S> {
     if !conn.is_autocommit() {
-        return Err(let_go(conn));
+        return Err(conn.into_store());
     }
     match Store::open(alloc, conn) {
         Ok(store) => Ok(store),
-        Err((_, conn)) => Err(let_go(conn)),
+        Err((_, conn)) => Err(conn.into_store()),
     }
 }
 
-// The server over a store, or the files.
-fn served(
+// The server over a store, or what lies below it.
+fn served<S: Alter + Drop>(
     alloc: Global,
     config: Config,
-    store: Store<FileStore<Device>>,
-) -> Result<Serving, Files<Device>> {
+    store: Store<S>,
+) -> Result<Server<Store<S>>, S> {
     if store.failed() {
-        return Err(let_go(store.close()));
+        return Err(store.close().into_store());
     }
     match Server::open(alloc, config, store, PORTS) {
         Ok(server) => Ok(server),
-        Err((_, _, store)) => Err(let_go(store.close())),
+        Err((_, _, store)) => Err(store.close().into_store()),
     }
 }
 
-/// The server over the files, or the files.
-pub(crate) fn opened(
+/// The server over a connection, or what lies below it.
+pub(crate) fn opened<S: Alter + Drop>(
     alloc: Global,
     config: Config,
-    files: Files<Device>,
-) -> Result<Serving, Files<Device>> {
-    served(alloc, config, stored(alloc, connected(alloc, files)?)?)
+    conn: Connection<S>,
+) -> Result<Server<Store<S>>, S> {
+    served(alloc, config, stored(alloc, conn)?)
 }
 
-/// The files of a server.
-pub(crate) fn files_of(server: Serving) -> Files<Device> {
+/// What lies below a server, which is dropped without a word.
+pub(crate) fn let_go<S: Alter + Drop>(server: Server<Store<S>>) -> S {
     let (_, store) = server.close();
-    let_go(store.close())
+    store.close().into_store()
 }
 
 // The datagram of a message.
@@ -132,7 +123,11 @@ fn received(response: &Response) -> Got {
 }
 
 /// What comes back for a message, or the fault.
-pub(crate) fn sent(alloc: Global, server: &mut Serving, message: Sent) -> Result<Got, ServeFault> {
+pub(crate) fn sent<S: Keeps>(
+    alloc: Global,
+    server: &mut Server<S>,
+    message: Sent,
+) -> Result<Got, ServeFault> {
     let bytes = datagram(alloc, message)?;
     let handled = server.handle(message.0, bytes.as_slice())?;
     Ok(received(&handled.response))
@@ -149,7 +144,10 @@ fn is_row_of(row: &Row, lease: Lease) -> bool {
 }
 
 /// The server's table is this one.
-pub(crate) fn stands_at(server: &Serving, leases: &[Lease]) -> Result<bool, ServeFault> {
+pub(crate) fn stands_at<S: Keeps>(
+    server: &Server<S>,
+    leases: &[Lease],
+) -> Result<bool, ServeFault> {
     let rows = server.leases(0)?;
     if rows.len() != leases.len() {
         return Ok(false);

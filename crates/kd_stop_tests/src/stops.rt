@@ -1,10 +1,12 @@
 use crate::days::{Day, FIRST, Got, INFORMED, INFORMS, Lease, NEXT, RENEWED, SHARED, Step};
 use crate::device::{Device, LOSSES, Left, Loss, files, files_left, left_of};
-use crate::serving::{Serving, files_of, opened, sent, stands_at};
+use crate::serving::{connected, let_go, opened, sent, stands_at};
 use kd_config::Config;
 use kd_event::Reason;
+use kd_keeps::Keeps;
 use kd_replay::ServeFault;
-use sqlite::Files;
+use kd_server::Server;
+use sqlite::{Alter, Connection, Files};
 use std::alloc::Global;
 use std::test::Fail;
 
@@ -42,14 +44,19 @@ fn is_right(got: Got, want: Got, again: bool) -> bool {
 }
 
 // It is a fault of the store, and Failed is all that comes after it.
-fn is_stop(alloc: Global, server: &mut Serving, fault: ServeFault) -> bool {
+fn is_stop<S: Keeps>(alloc: Global, server: &mut Server<S>, fault: ServeFault) -> bool {
     matches!(fault, ServeFault::Store(_))
         && matches!(sent(alloc, server, INFORMED), Err(ServeFault::Failed))
         && matches!(server.leases(0), Err(ServeFault::Failed))
 }
 
 // Sends a step: whether it is answered, or stops.
-fn is_answered(alloc: Global, server: &mut Serving, step: Step, again: bool) -> Result<bool, Fail> {
+fn is_answered<S: Keeps>(
+    alloc: Global,
+    server: &mut Server<S>,
+    step: Step,
+    again: bool,
+) -> Result<bool, Fail> {
     let (message, want, leases) = step;
     match sent(alloc, server, message) {
         Ok(got) => {
@@ -69,9 +76,9 @@ fn is_answered(alloc: Global, server: &mut Serving, step: Step, again: bool) -> 
 
 // Sends the steps of a day from one on, which may have been sent before, up to the first that
 // stops.
-fn sent_from(
+fn sent_from<S: Keeps>(
     alloc: Global,
-    server: &mut Serving,
+    server: &mut Server<S>,
     steps: &[Step],
     from: usize,
 ) -> Result<End, Fail> {
@@ -83,19 +90,35 @@ fn sent_from(
     Ok(End::Whole)
 }
 
-// The steps of a day from one on, over files, up to the first that stops: where that is, and the
-// files.
+// The steps of a day from one on, over a connection, up to the first that stops: where that is, and
+// what lies below.
+fn day_of<S: Alter + Drop>(
+    alloc: Global,
+    day: Day,
+    conn: Connection<S>,
+    from: usize,
+) -> Result<(End, S), Fail> {
+    let (config, steps) = day;
+    match opened(alloc, Config::read(alloc, config, &[])?, conn) {
+        Ok(mut server) => {
+            let end = sent_from(alloc, &mut server, steps, from)?;
+            Ok((end, let_go(server)))
+        }
+        Err(left) => Ok((End::Unopened, left)),
+    }
+}
+
+// The same over files: where it stops, and the files.
 fn day_over(
     alloc: Global,
     day: Day,
     files: Files<Device>,
     from: usize,
 ) -> Result<(End, Files<Device>), Fail> {
-    let (config, steps) = day;
-    match opened(alloc, Config::read(alloc, config, &[])?, files) {
-        Ok(mut server) => {
-            let end = sent_from(alloc, &mut server, steps, from)?;
-            Ok((end, files_of(server)))
+    match connected(alloc, files) {
+        Ok(conn) => {
+            let (end, left) = day_of(alloc, day, conn, from)?;
+            Ok((end, left.close()))
         }
         Err(files) => Ok((End::Unopened, files)),
     }
@@ -120,7 +143,7 @@ fn table_before(steps: &[Step], at: usize) -> &'static [Lease] {
 
 // The server stands at the table from before the step that stopped, or at the one after it. In the
 // table from before stands the row of each reply that was handed out.
-fn is_beside(server: &Serving, steps: &[Step], end: End) -> Result<bool, Fail> {
+fn is_beside<S: Keeps>(server: &Server<S>, steps: &[Step], end: End) -> Result<bool, Fail> {
     let next = next_of(end, steps);
     if stands_at(server, table_before(steps, next))? {
         return Ok(true);
@@ -128,12 +151,15 @@ fn is_beside(server: &Serving, steps: &[Step], end: End) -> Result<bool, Fail> {
     Ok(end == End::At(next) && next < steps.len() && stands_at(server, steps[next].2)?)
 }
 
-// With what a loss leaves of the files, the day goes on from the step that stopped, and ends as it
-// was worked out.
-fn goes_on(alloc: Global, day: Day, left: &Left, loss: Loss, end: End) -> Result<(), Fail> {
+// Over a connection, the day goes on from the step that stopped, and ends as it was worked out.
+fn goes_on_over<S: Alter + Drop>(
+    alloc: Global,
+    day: Day,
+    conn: Connection<S>,
+    end: End,
+) -> Result<(), Fail> {
     let (config, steps) = day;
-    let files = files_left(alloc, left, loss, (u64::MAX, u64::MAX))?;
-    let Ok(mut server) = opened(alloc, Config::read(alloc, config, &[])?, files) else {
+    let Ok(mut server) = opened(alloc, Config::read(alloc, config, &[])?, conn) else {
         return Err("what a stop left is not opened".into());
     };
     if !is_beside(&server, steps, end)? {
@@ -143,6 +169,15 @@ fn goes_on(alloc: Global, day: Day, left: &Left, loss: Loss, end: End) -> Result
         return Err("the day stops with no stop of its device".into());
     }
     Ok(())
+}
+
+// So it does with what a loss leaves of the files.
+fn goes_on(alloc: Global, day: Day, left: &Left, loss: Loss, end: End) -> Result<(), Fail> {
+    let files = files_left(alloc, left, loss, (u64::MAX, u64::MAX))?;
+    match connected(alloc, files) {
+        Ok(conn) => goes_on_over(alloc, day, conn, end),
+        Err(_) => Err("what a stop left is not opened".into()),
+    }
 }
 
 // Stops a file at each call, upwards until the day is whole: how many stops there were, and at how

@@ -2,16 +2,13 @@ use crate::leases::{Lease, are_rows_of, row};
 use kd_keeps::Keeps;
 use kd_rows::State;
 use kd_store::Store;
-use sqlite::{Connection, FileStore, Files, Options};
+use sqlite::{Alter, Connection, FileStore, Files, Options};
 use sqlite_disk::{Crash, Fuse, Memory};
 use std::alloc::Global;
 use std::test::Fail;
 
 // A file in memory that answers so many calls and fails at each one after.
 type Device = Fuse<Memory>;
-
-// The store over a database in files.
-type Stored = Store<FileStore<Device>>;
 
 // New files, each of which answers so many calls.
 fn files(alloc: Global, of_log: u64, of_db: u64) -> Files<Device> {
@@ -35,25 +32,16 @@ fn connected(
     }
 }
 
-// What a connection leaves of its files when it is dropped without a word.
-fn let_go(conn: Connection<FileStore<Device>>) -> Files<Device> {
-    conn.into_store().close()
-}
-
-// The store over a connection, or the files.
-fn over(alloc: Global, conn: Connection<FileStore<Device>>) -> Result<Stored, Files<Device>> {
+// The store over a connection, or what lies below it. Over any store of SQLite's: over files alone
+// this would be proved against all parts of a connection, which takes the prover a minute.
+fn over<S: Alter + Drop>(alloc: Global, conn: Connection<S>) -> Result<Store<S>, S> {
     if !conn.is_autocommit() {
-        return Err(let_go(conn));
+        return Err(conn.into_store());
     }
     match Store::open(alloc, conn) {
         Ok(store) => Ok(store),
-        Err((_, conn)) => Err(let_go(conn)),
+        Err((_, conn)) => Err(conn.into_store()),
     }
-}
-
-// The store in the files, or the files.
-fn opened(alloc: Global, files: Files<Device>) -> Result<Stored, Files<Device>> {
-    over(alloc, connected(alloc, files)?)
 }
 
 // Two leases of one address.
@@ -65,7 +53,7 @@ const SECOND: Lease = (7, b"c", State::Released, 4, 60);
 const TABLES: [&[Lease]; 3] = [&[], &[FIRST], &[SECOND]];
 
 // Whether a lease is put without a fault.
-fn is_put(alloc: Global, store: &mut Stored, lease: Lease) -> Result<bool, Fail> {
+fn is_put<S: Keeps>(alloc: Global, store: &mut S, lease: Lease) -> Result<bool, Fail> {
     let row = row(alloc, lease)?;
     if store.failed() || !row.is_in_range() {
         return Ok(false);
@@ -74,7 +62,7 @@ fn is_put(alloc: Global, store: &mut Stored, lease: Lease) -> Result<bool, Fail>
 }
 
 // Whether the rows are read without a fault.
-fn are_read(store: &mut Stored) -> bool {
+fn are_read<S: Keeps>(store: &mut S) -> bool {
     if store.failed() {
         return false;
     }
@@ -83,7 +71,7 @@ fn are_read(store: &mut Stored) -> bool {
 
 // How many calls are answered up to the first fault, with the one that opened the store: puts and
 // reads twice.
-fn answered(alloc: Global, store: &mut Stored) -> Result<usize, Fail> {
+fn answered<S: Keeps>(alloc: Global, store: &mut S) -> Result<usize, Fail> {
     if !is_put(alloc, store, FIRST)? {
         return Ok(1);
     }
@@ -99,25 +87,37 @@ fn answered(alloc: Global, store: &mut Stored) -> Result<usize, Fail> {
     Ok(5)
 }
 
-// Makes the five calls up to the first fault: what is left of the files, and how many are answered.
-fn stopped(alloc: Global, files: Files<Device>) -> Result<(Files<Device>, usize), Fail> {
-    let mut store = match opened(alloc, files) {
+// Makes the five calls up to the first fault: what is left below the connection, and how many are
+// answered.
+fn stopped_over<S: Alter + Drop>(alloc: Global, conn: Connection<S>) -> Result<(S, usize), Fail> {
+    let mut store = match over(alloc, conn) {
         Ok(store) => store,
         Err(left) => return Ok((left, 0)),
     };
     let calls = answered(alloc, &mut store)?;
-    Ok((let_go(store.close()), calls))
+    Ok((store.close().into_store(), calls))
+}
+
+// The same over files: what is left of them, and how many are answered.
+fn stopped(alloc: Global, files: Files<Device>) -> Result<(Files<Device>, usize), Fail> {
+    let conn = match connected(alloc, files) {
+        Ok(conn) => conn,
+        Err(left) => return Ok((left, 0)),
+    };
+    let (left, calls) = stopped_over(alloc, conn)?;
+    Ok((left.close(), calls))
 }
 
 // Of so many answered calls, the numbers of the tables before and after the next.
 const LEFT: [(usize, usize); 6] = [(0, 0), (0, 1), (1, 1), (1, 2), (2, 2), (2, 2)];
 
-// After a crash the store in the files is at the table before the next call, or at the one after
-// it.
-fn is_left(alloc: Global, mut files: Files<Device>, answered: usize) -> Result<bool, Fail> {
-    files.log.crash();
-    files.db.crash();
-    let Ok(mut store) = opened(alloc, files) else {
+// The store over a connection is at the table before the next call, or at the one after it.
+fn is_beside<S: Alter + Drop>(
+    alloc: Global,
+    conn: Connection<S>,
+    answered: usize,
+) -> Result<bool, Fail> {
+    let Ok(mut store) = over(alloc, conn) else {
         return Ok(false);
     };
     if store.failed() || answered >= LEFT.len() {
@@ -129,6 +129,17 @@ fn is_left(alloc: Global, mut files: Files<Device>, answered: usize) -> Result<b
         are_rows_of(rows.as_slice(), TABLES[before % 3])
             || are_rows_of(rows.as_slice(), TABLES[after % 3]),
     )
+}
+
+// After a crash the store in the files is at the table before the next call, or at the one after
+// it.
+fn is_left(alloc: Global, mut files: Files<Device>, answered: usize) -> Result<bool, Fail> {
+    files.log.crash();
+    files.db.crash();
+    match connected(alloc, files) {
+        Ok(conn) => is_beside(alloc, conn, answered),
+        Err(_) => Ok(false),
+    }
 }
 
 #[test]

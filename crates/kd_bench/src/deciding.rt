@@ -1,44 +1,27 @@
-//! Decides one message many times, so that its time can be taken from outside: `kd_decide_bench new
-//! 5000 1000000` answers a million DISCOVERs of clients without a row, under a configuration of
-//! 5,000 reservations, over a table of 60,000 rows in a pool of 65,536 addresses with gaps. The
-//! other works are `read`, which reads the message alone; `known`, a DISCOVER of a client with a
-//! lease; `request`, the REQUEST for its lease; `kept`, a DISCOVER of a client without a row where
-//! the first gaps of the pool are the reserved addresses; `full`, the same in a pool that has a row
-//! at each address; and `past`, in a full pool whose rows have not ended, though an earlier one
-//! had. It prints how often there was a reply, and no time.
-#![tactic(auto)]
+// Messages, decided many times.
 
 mod message;
 mod settings;
 mod table;
 
-use crate::message::{discover, request};
-use crate::settings::{Place, config_of};
-use crate::table::{MOMENT, address_of, full_table, gap_table, past_table};
+use crate::mixed;
 use kd_config::{Config, ConfigFault};
 use kd_lease::{Answer, PlanKind, decide};
 use kd_options::Message;
 use kd_rows::Rows;
+use message::{discover, request};
+use settings::{Place, config_of};
 use std::alloc::{AllocError, Global};
-use std::io;
-
-fn main(rt: HostRuntime) -> io::Result<()> {
-    let words: Vec<String> = std::env::args(&rt)?.collect(rt.alloc())?;
-    let work = words.get(1).map_or("new", |word| word.as_str());
-    let count = words.get(2).and_then(|word| word.parse().ok()).unwrap_or(0);
-    let rounds = words
-        .get(3)
-        .and_then(|word| word.parse().ok())
-        .unwrap_or(10);
-    match worked(rt.alloc(), work, count, rounds) {
-        Ok(done) => println!(rt; "{done}"),
-        Err(_) => println!(rt; "no configuration"),
-    }
-}
+use table::{MOMENT, address_of, full_table, gap_table, past_table};
 
 // How often the work gave what it wants, of so many rounds, under a configuration with so many
 // reservations.
-fn worked(alloc: Global, work: &str, count: u32, rounds: u32) -> Result<u32, ConfigFault> {
+pub(crate) fn worked(
+    alloc: Global,
+    work: &str,
+    count: u32,
+    rounds: u32,
+) -> Result<u32, ConfigFault> {
     let place = match work {
         "kept" => Place::Gaps,
         _ => Place::Outside,
@@ -77,11 +60,6 @@ fn asked(asks: Asks, round: u32) -> [u8; 300] {
         Asks::Known => discover(number),
         Asks::Lease => request(number, address_of(number)),
     }
-}
-
-// Numbers below 2^32 in mixed order, each once.
-fn mixed(number: u32) -> u32 {
-    number.wrapping_mul(2_654_435_761)
 }
 
 // How often the message was read with a type, of so many rounds.

@@ -1,32 +1,12 @@
-//! Does one piece of work on a table of leases many times, so that its time can be taken from
-//! outside: `kd_table_bench get 60000 1000000` makes a table of 60,000 rows and reads a row of it a
-//! million times. The other works are `open`, which makes the table alone, `client`, which finds a
-//! client's address, `gap`, which finds the first free address, `renew`, which sets a row anew, and
-//! `add`, which sets one at a new address. It prints how often that was done, and no time.
-#![tactic(auto)]
+// Works over a table of leases.
 
+use crate::mixed;
 use kd_rows::{Row, Rows, State};
 use kd_wire::Bytes;
 use std::alloc::{AllocError, Global};
-use std::io;
-
-fn main(rt: HostRuntime) -> io::Result<()> {
-    let words: Vec<String> = std::env::args(&rt)?.collect(rt.alloc())?;
-    let work = words.get(1).map_or("open", |word| word.as_str());
-    let size = words
-        .get(2)
-        .and_then(|word| word.parse().ok())
-        .unwrap_or(100);
-    let rounds = words
-        .get(3)
-        .and_then(|word| word.parse().ok())
-        .unwrap_or(10);
-    let done = worked(rt.alloc(), work, size, rounds)?;
-    println!(rt; "{done}")
-}
 
 // How often the work was done, of so many rounds, on a table of so many rows.
-fn worked(alloc: Global, work: &str, size: u32, rounds: u32) -> Result<u32, AllocError> {
+pub(crate) fn worked(alloc: Global, work: &str, size: u32, rounds: u32) -> Result<u32, AllocError> {
     let mut rows = table(alloc, size)?;
     let mut done = 0u32;
     for round in 0..rounds {
@@ -50,11 +30,6 @@ fn worked(alloc: Global, work: &str, size: u32, rounds: u32) -> Result<u32, Allo
         }
     }
     Ok(done)
-}
-
-// Numbers below 2^32 in mixed order, each once.
-fn mixed(number: u32) -> u32 {
-    number.wrapping_mul(2_654_435_761)
 }
 
 // The client with a number: nine bytes, in another order than the numbers.

@@ -1,4 +1,4 @@
-use crate::table::gap;
+use crate::deciding::table::gap;
 use kd_config::{Config, ConfigFault};
 use std::alloc::{AllocError, Global};
 use std::fmt::Write;
