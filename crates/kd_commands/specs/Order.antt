@@ -100,14 +100,19 @@ abbrev pub program_line : App
 program_line = on_top (λ s. record s { no_binary_name = true; subcommand_required = true })
     (new_app (codes "kdhcp"))
 
+-- the command line up to its subcommands of one text
+abbrev pub tools_line : App
+tools_line =
+    with_subcommand (with_subcommand
+    (with_subcommand (with_subcommand program_line show_line.top) expr_line.top) compile_line.top)
+    verify_line.top
+
 -- the whole command line
 abbrev pub command_line : App
 command_line =
     with_subcommand (with_subcommand
-    (with_subcommand (with_subcommand (with_subcommand (with_subcommand
-    (with_subcommand (with_subcommand program_line show_line.top) expr_line.top) compile_line.top)
-    verify_line.top)
-    eval_line.top) replay_line.top) leases_line.top) serve_line.top
+    (with_subcommand (with_subcommand tools_line eval_line.top) replay_line.top) leases_line.top)
+    serve_line.top
 
 -- ---- what the words ask for
 

@@ -7,7 +7,8 @@ ghost use Rattle.clap.specs.declared.builder.command.Command.TheViews.{out-Comma
 ghost use Rattle.kd_commands.specs.Line.{IsHelpLine, IsLine};
 ghost use Rattle.kd_commands.specs.Order.{Asked, Asks, AsksFor, GivesUnlessFull, HasFault, HelpsUnlessFull};
 ghost use Rattle.kd_commands.specs.Order.{asked_of, command_line, compile_line, eval_line, expr_line, files_line};
-ghost use Rattle.kd_commands.specs.Order.{leases_line, program_line, replay_line, show_line, verify_line};
+ghost use Rattle.kd_commands.specs.Order.{leases_line, program_line, replay_line, show_line, tools_line};
+ghost use Rattle.kd_commands.specs.Order.{verify_line};
 ghost use Rattle.kd_commands.specs.Order.{compiles, evaluates, evaluation_of, flag_rule, given_by, flag_is_given};
 ghost use Rattle.kd_commands.specs.Order.{listening_of, listing_of, needed_rule, needed_value};
 ghost use Rattle.kd_commands.specs.Order.{replays, serve_line, serving_of, shows, tests, types, value_rule, verifies};
@@ -57,15 +58,22 @@ pub fn order(alloc: Global, words: &[String]) -> Result<Order, LineFault>
 fn kdhcp<'a>(alloc: Global) -> Result<Command<'a>, AllocError>
     ensures { IfOk result (λ c. app_of c ≡ command_line) }
 {
-    program(alloc)?
-        .subcommand(show(alloc)?)?
-        .subcommand(expr(alloc)?)?
-        .subcommand(compile(alloc)?)?
-        .subcommand(verify(alloc)?)?
+    tools(alloc)?
         .subcommand(eval(alloc)?)?
         .subcommand(replay(alloc)?)?
         .subcommand(leases(alloc)?)?
         .subcommand(serve(alloc)?)
+}
+
+// The command line up to its subcommands of one text.
+fn tools<'a>(alloc: Global) -> Result<Command<'a>, AllocError>
+    ensures { IfOk result (λ c. app_of c ≡ tools_line) }
+{
+    program(alloc)?
+        .subcommand(show(alloc)?)?
+        .subcommand(expr(alloc)?)?
+        .subcommand(compile(alloc)?)?
+        .subcommand(verify(alloc)?)
 }
 
 // The command line before its subcommands.
@@ -273,23 +281,18 @@ fn serve<'a>(alloc: Global) -> Result<Command<'a>, AllocError>
     ensures app { IfOk result (λ c. app_of c ≡ serve_line) }
     ensures local { IfOk result (λ c. (out-Command c).has_globals ≡ false) }
 {
-    let bind = valued(alloc, "bind", "A", "The socket's address, or 127.0.0.1");
-    let port = valued(alloc, "port", "P", "The socket's UDP port, or 67");
-    let client_port = valued(alloc, "client-port", "Q", "The clients' UDP port, or 68");
-    let everyone = valued(alloc, "broadcast-as", "A", "Stands in for 255.255.255.255");
-    let mirror = flag(alloc, "mirror", "Reply to the sender of a datagram");
     over_files(
         alloc,
         "serve",
         "Serve datagrams on a UDP socket",
         SERVE_EXAMPLE,
     )?
-    .arg(bind)?
-    .arg(port)?
-    .arg(client_port)?
+    .arg(valued(alloc, "bind", "A", "The socket's address, or 127.0.0.1"))?
+    .arg(valued(alloc, "port", "P", "The socket's UDP port, or 67"))?
+    .arg(valued(alloc, "client-port", "Q", "The clients' UDP port, or 68"))?
     .arg(count(alloc))?
-    .arg(everyone)?
-    .arg(mirror)
+    .arg(valued(alloc, "broadcast-as", "A", "Stands in for 255.255.255.255"))?
+    .arg(flag(alloc, "mirror", "Reply to the sender of a datagram"))
 }
 
 // What matches of the command line ask for.

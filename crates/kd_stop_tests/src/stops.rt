@@ -151,7 +151,23 @@ fn is_beside<S: Keeps>(server: &Server<S>, steps: &[Step], end: End) -> Result<b
     Ok(end == End::At(next) && next < steps.len() && stands_at(server, steps[next].2)?)
 }
 
-// Over a connection, the day goes on from the step that stopped, and ends as it was worked out.
+// The day goes on from the step that stopped, and ends as it was worked out.
+fn goes_on_at<S: Keeps>(
+    alloc: Global,
+    server: &mut Server<S>,
+    steps: &[Step],
+    end: End,
+) -> Result<(), Fail> {
+    if !is_beside(server, steps, end)? {
+        return Err("a stop left neither the table before nor the one behind".into());
+    }
+    if sent_from(alloc, server, steps, next_of(end, steps))? != End::Whole {
+        return Err("the day stops with no stop of its device".into());
+    }
+    Ok(())
+}
+
+// So it does over a connection.
 fn goes_on_over<S: Alter + Drop>(
     alloc: Global,
     day: Day,
@@ -159,19 +175,13 @@ fn goes_on_over<S: Alter + Drop>(
     end: End,
 ) -> Result<(), Fail> {
     let (config, steps) = day;
-    let Ok(mut server) = opened(alloc, Config::read(alloc, config, &[])?, conn) else {
-        return Err("what a stop left is not opened".into());
-    };
-    if !is_beside(&server, steps, end)? {
-        return Err("a stop left neither the table before nor the one behind".into());
+    match opened(alloc, Config::read(alloc, config, &[])?, conn) {
+        Ok(mut server) => goes_on_at(alloc, &mut server, steps, end),
+        Err(_) => Err("what a stop left is not opened".into()),
     }
-    if sent_from(alloc, &mut server, steps, next_of(end, steps))? != End::Whole {
-        return Err("the day stops with no stop of its device".into());
-    }
-    Ok(())
 }
 
-// So it does with what a loss leaves of the files.
+// And so it does with what a loss leaves of the files.
 fn goes_on(alloc: Global, day: Day, left: &Left, loss: Loss, end: End) -> Result<(), Fail> {
     let files = files_left(alloc, left, loss, (u64::MAX, u64::MAX))?;
     match connected(alloc, files) {
