@@ -58,10 +58,7 @@ impl<'a> Host for Machine<'a> {
         Ok(Volatile::new(self.rt.alloc()))
     }
 
-    // By a call, so that this function is not proved against all parts of a connection.
-    fn close(&mut self, _path: &str, store: Store<InFile>) {
-        drop(store);
-    }
+    fn close(&mut self, _path: &str, _store: Store<InFile>) {}
 
     fn socket(&mut self, listening: Listening) -> Result<Socket, EndFailed> {
         let sending = Sending {
