@@ -72,7 +72,7 @@ pub fn store_from<F: Start>(
 {
     match Connection::open_from(rt, path, false, start) {
         Ok(conn) => store_over(rt.alloc(), conn),
-        Err(failed) => Err(unopened(failed)),
+        Err((error, _)) => Err(StoreFault::Sql(cause_of(&error))),
     }
 }
 
@@ -116,13 +116,6 @@ pub fn restarts<D: Disk, E: Disk>()
     ensures { Restarts D.Disk E.Disk }
 {
     kd_store::laws::reopens::<D, E>();
-}
-
-// That a file is not opened, and why; what is left of it is closed. Of any that is left, so that
-// `store_from` is not proved against all parts of it.
-fn unopened<L: Drop>(failed: (Error, L)) -> StoreFault {
-    let (error, _) = failed;
-    StoreFault::Sql(cause_of(&error))
 }
 
 // Why a file is not opened.

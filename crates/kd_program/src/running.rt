@@ -1,6 +1,6 @@
 ghost use Rattle.std.specs.Prelude.{◌≡◌, false, map, string_bytes};
 ghost use Rattle.kd_program.specs.Streams.{streams};
-ghost use Rattle.kd_program.specs.Running.{Carries, CarriesOut, Starts};
+ghost use Rattle.kd_program.specs.Running.{Carries, CarriesOut};
 
 use crate::ends::Ends;
 use crate::host::Host;
@@ -50,27 +50,33 @@ fn carried_out<H: Host, R: Source, O: Sink, E: Sink>(
             config,
             token_dir,
             store,
-        } => {
-            let files = Files {
+        } => served(
+            alloc,
+            host,
+            ends,
+            &Files {
                 config,
                 token_dir,
                 store,
-            };
-            served_for(alloc, host, ends, files, Work::Replay)
-        }
+            },
+            Work::Replay,
+        ),
         Order::Leases {
             config,
             token_dir,
             store,
             at,
-        } => {
-            let files = Files {
+        } => served(
+            alloc,
+            host,
+            ends,
+            &Files {
                 config,
                 token_dir,
                 store,
-            };
-            served_for(alloc, host, ends, files, Work::Leases(at))
-        }
+            },
+            Work::Leases(at),
+        ),
         Order::Serve {
             config,
             token_dir,
@@ -83,28 +89,11 @@ fn carried_out<H: Host, R: Source, O: Sink, E: Sink>(
                 token_dir,
                 store,
             };
-            served_for(alloc, host, ends, files, Work::Serve(listening, count))
+            served(alloc, host, ends, &files, Work::Serve(listening, count))
         }
         other => match answer(alloc, &other) {
             Ok(printed) => print(ends, &printed),
             Err(_) => refuse_memory(&mut ends.faults),
         },
     }
-}
-
-// Does a work as `served` does, and gives the paths up, so that no arm above has to.
-fn served_for<H: Host, R: Source, O: Sink, E: Sink>(
-    alloc: Global,
-    host: &mut H,
-    ends: &mut Ends<R, O, E>,
-    files: Files,
-    work: Work,
-) -> u8
-    requires input { R.has_failed ends.old.input ≡ false }
-    requires output { O.has_failed ends.old.output ≡ false }
-    ensures { Starts H.Host H.Named.Keeps H.Unnamed.Keeps H.Socket.Link
-        files work host.old host.new result
-        (streams R.Source O.Sink E.Sink ends.old) (streams R.Source O.Sink E.Sink ends.new) }
-{
-    served(alloc, host, ends, &files, work)
 }
