@@ -1,4 +1,5 @@
-use sqlite::Files;
+use kd_store::Store;
+use sqlite::{Alter, Connection, FileStore, Files, Options};
 use sqlite_disk::{Crash, Disk, Fuse, Memory};
 use std::alloc::{AllocError, Global};
 use std::io;
@@ -11,6 +12,34 @@ pub(crate) fn files(alloc: Global, calls: (u64, u64)) -> Files<Device> {
     Files {
         log: Fuse::new(Memory::new(alloc), calls.0),
         db: Fuse::new(Memory::new(alloc), calls.1),
+    }
+}
+
+/// The connection to the files, or the files.
+pub(crate) fn connected(
+    alloc: Global,
+    files: Files<Device>,
+    options: Options,
+) -> Result<Connection<FileStore<Device>>, Files<Device>> {
+    if !files.may_be_used() {
+        return Err(files);
+    }
+    match Connection::open_files(alloc, files, options) {
+        Ok(conn) => Ok(conn),
+        Err((_, left)) => Err(left.into_files()),
+    }
+}
+
+/// The store over a connection, or what lies below it. This and what stands on it is over any store
+/// of SQLite's: over files alone each would be proved against all parts of a connection, which
+/// takes the prover a minute.
+pub(crate) fn stored<S: Alter + Drop>(alloc: Global, conn: Connection<S>) -> Result<Store<S>, S> {
+    if !conn.is_autocommit() {
+        return Err(conn.into_store());
+    }
+    match Store::open(alloc, conn) {
+        Ok(store) => Ok(store),
+        Err((_, conn)) => Err(conn.into_store()),
     }
 }
 
@@ -95,8 +124,8 @@ pub(crate) fn left_of(alloc: Global, files: Files<Device>) -> Result<Left, Alloc
     })
 }
 
-// The byte at a place, and 0 after the end.
-fn byte_at(bytes: &[u8], at: usize) -> u8 {
+/// The byte at a place, and 0 after the end.
+pub(crate) fn byte_at(bytes: &[u8], at: usize) -> u8 {
     match bytes.get(at) {
         Some(byte) => *byte,
         None => 0,

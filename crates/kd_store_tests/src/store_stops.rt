@@ -1,48 +1,11 @@
+use crate::device::{Device, connected, files, stored};
 use crate::leases::{Lease, are_rows_of, row};
 use kd_keeps::Keeps;
 use kd_rows::State;
-use kd_store::Store;
-use sqlite::{Alter, Connection, FileStore, Files, Options};
-use sqlite_disk::{Crash, Fuse, Memory};
+use sqlite::{Alter, Connection, Files, Options};
+use sqlite_disk::Crash;
 use std::alloc::Global;
 use std::test::Fail;
-
-// A file in memory that answers so many calls and fails at each one after.
-type Device = Fuse<Memory>;
-
-// New files, each of which answers so many calls.
-fn files(alloc: Global, of_log: u64, of_db: u64) -> Files<Device> {
-    Files {
-        log: Fuse::new(Memory::new(alloc), of_log),
-        db: Fuse::new(Memory::new(alloc), of_db),
-    }
-}
-
-// The connection to the files, or the files.
-fn connected(
-    alloc: Global,
-    files: Files<Device>,
-) -> Result<Connection<FileStore<Device>>, Files<Device>> {
-    if !files.may_be_used() {
-        return Err(files);
-    }
-    match Connection::open_files(alloc, files, Options::new(1)) {
-        Ok(conn) => Ok(conn),
-        Err((_, left)) => Err(left.into_files()),
-    }
-}
-
-// The store over a connection, or what lies below it. Over any store of SQLite's: over files alone
-// this would be proved against all parts of a connection, which takes the prover a minute.
-fn over<S: Alter + Drop>(alloc: Global, conn: Connection<S>) -> Result<Store<S>, S> {
-    if !conn.is_autocommit() {
-        return Err(conn.into_store());
-    }
-    match Store::open(alloc, conn) {
-        Ok(store) => Ok(store),
-        Err((_, conn)) => Err(conn.into_store()),
-    }
-}
 
 // Two leases of one address.
 const FIRST: Lease = (7, b"a", State::Offered, 5, 5);
@@ -90,7 +53,7 @@ fn answered<S: Keeps>(alloc: Global, store: &mut S) -> Result<usize, Fail> {
 // Makes the five calls up to the first fault: what is left below the connection, and how many are
 // answered.
 fn stopped_over<S: Alter + Drop>(alloc: Global, conn: Connection<S>) -> Result<(S, usize), Fail> {
-    let mut store = match over(alloc, conn) {
+    let mut store = match stored(alloc, conn) {
         Ok(store) => store,
         Err(left) => return Ok((left, 0)),
     };
@@ -100,7 +63,7 @@ fn stopped_over<S: Alter + Drop>(alloc: Global, conn: Connection<S>) -> Result<(
 
 // The same over files: what is left of them, and how many are answered.
 fn stopped(alloc: Global, files: Files<Device>) -> Result<(Files<Device>, usize), Fail> {
-    let conn = match connected(alloc, files) {
+    let conn = match connected(alloc, files, Options::new(1)) {
         Ok(conn) => conn,
         Err(left) => return Ok((left, 0)),
     };
@@ -117,7 +80,7 @@ fn is_beside<S: Alter + Drop>(
     conn: Connection<S>,
     answered: usize,
 ) -> Result<bool, Fail> {
-    let Ok(mut store) = over(alloc, conn) else {
+    let Ok(mut store) = stored(alloc, conn) else {
         return Ok(false);
     };
     if store.failed() || answered >= LEFT.len() {
@@ -136,7 +99,7 @@ fn is_beside<S: Alter + Drop>(
 fn is_left(alloc: Global, mut files: Files<Device>, answered: usize) -> Result<bool, Fail> {
     files.log.crash();
     files.db.crash();
-    match connected(alloc, files) {
+    match connected(alloc, files, Options::new(1)) {
         Ok(conn) => is_beside(alloc, conn, answered),
         Err(_) => Ok(false),
     }
@@ -145,7 +108,7 @@ fn is_left(alloc: Global, mut files: Files<Device>, answered: usize) -> Result<b
 #[test]
 fn a_stop_of_the_log_leaves_the_table_before_or_after(rt: HostRuntime) -> Result<(), Fail> {
     for calls in 0..1000u64 {
-        let (left, answered) = stopped(rt.alloc(), files(rt.alloc(), calls, u64::MAX))?;
+        let (left, answered) = stopped(rt.alloc(), files(rt.alloc(), (calls, u64::MAX)))?;
         assert!(rt; is_left(rt.alloc(), left, answered)?, "at {calls}");
         if answered == 5 {
             assert!(rt; calls > 20, "at {calls}");
@@ -158,7 +121,7 @@ fn a_stop_of_the_log_leaves_the_table_before_or_after(rt: HostRuntime) -> Result
 #[test]
 fn a_stop_of_the_database_leaves_the_table_before_or_after(rt: HostRuntime) -> Result<(), Fail> {
     for calls in 0..1000u64 {
-        let (left, answered) = stopped(rt.alloc(), files(rt.alloc(), u64::MAX, calls))?;
+        let (left, answered) = stopped(rt.alloc(), files(rt.alloc(), (u64::MAX, calls)))?;
         assert!(rt; is_left(rt.alloc(), left, answered)?, "at {calls}");
         if answered == 5 {
             assert!(rt; calls > 0, "at {calls}");

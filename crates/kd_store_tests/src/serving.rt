@@ -1,5 +1,5 @@
 use crate::days::{Got, Lease, Sent};
-use crate::device::Device;
+use crate::device::{byte_at, stored};
 use kd_config::Config;
 use kd_event::{Ports, Response};
 use kd_keeps::Keeps;
@@ -7,51 +7,13 @@ use kd_replay::ServeFault;
 use kd_rows::Row;
 use kd_server::Server;
 use kd_store::Store;
-use sqlite::{Alter, Connection, FileStore, Files, Options};
+use sqlite::{Alter, Connection};
 use std::alloc::{AllocError, Global};
 
 const PORTS: Ports = Ports {
     server: 67,
     client: 68,
 };
-
-// How the database is kept: with few pages in memory, and a log that goes into the database file
-// after each few commits, so that this one is written too.
-fn options() -> Options {
-    Options {
-        cache_pages: 8,
-        spill_pages: 8,
-        checkpoint_frames: 2,
-        seed: 1,
-    }
-}
-
-/// The connection to the files, or the files.
-pub(crate) fn connected(
-    alloc: Global,
-    files: Files<Device>,
-) -> Result<Connection<FileStore<Device>>, Files<Device>> {
-    if !files.may_be_used() {
-        return Err(files);
-    }
-    match Connection::open_files(alloc, files, options()) {
-        Ok(conn) => Ok(conn),
-        Err((_, left)) => Err(left.into_files()),
-    }
-}
-
-// The store over a connection, or what lies below it. This and what follows is over any store of
-// SQLite's: over files alone each would be proved against all parts of a connection, which takes
-// the prover a minute.
-fn stored<S: Alter + Drop>(alloc: Global, conn: Connection<S>) -> Result<Store<S>, S> {
-    if !conn.is_autocommit() {
-        return Err(conn.into_store());
-    }
-    match Store::open(alloc, conn) {
-        Ok(store) => Ok(store),
-        Err((_, conn)) => Err(conn.into_store()),
-    }
-}
 
 // The server over a store, or what lies below it.
 fn served<S: Alter + Drop>(
@@ -94,14 +56,6 @@ fn datagram(alloc: Global, message: Sent) -> Result<Vec<u8>, AllocError> {
     bytes.extend_from_slice(&[99, 130, 83, 99])?;
     bytes.extend_from_slice(options)?;
     Ok(bytes)
-}
-
-// The byte at a place, and 0 after the end.
-fn byte_at(bytes: &[u8], at: usize) -> u8 {
-    match bytes.get(at) {
-        Some(byte) => *byte,
-        None => 0,
-    }
 }
 
 // What a response is: of a reply its type, the byte after the cookie and two more, and yiaddr, its

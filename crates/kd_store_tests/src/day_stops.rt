@@ -1,12 +1,12 @@
 use crate::days::{Day, FIRST, Got, INFORMED, INFORMS, Lease, NEXT, RENEWED, SHARED, Step};
-use crate::device::{Device, LOSSES, Left, Loss, files, files_left, left_of};
-use crate::serving::{connected, let_go, opened, sent, stands_at};
+use crate::device::{Device, LOSSES, Left, Loss, connected, files, files_left, left_of};
+use crate::serving::{let_go, opened, sent, stands_at};
 use kd_config::Config;
 use kd_event::Reason;
 use kd_keeps::Keeps;
 use kd_replay::ServeFault;
 use kd_server::Server;
-use sqlite::{Alter, Connection, Files};
+use sqlite::{Alter, Connection, Files, Options};
 use std::alloc::Global;
 use std::test::Fail;
 
@@ -26,6 +26,17 @@ enum End {
 enum Stopped {
     Log,
     Database,
+}
+
+// How the database is kept: with few pages in memory, and a log that goes into the database file
+// after each few commits, so that this one is written too.
+fn options() -> Options {
+    Options {
+        cache_pages: 8,
+        spill_pages: 8,
+        checkpoint_frames: 2,
+        seed: 1,
+    }
 }
 
 // How many calls log and database answer.
@@ -115,7 +126,7 @@ fn day_over(
     files: Files<Device>,
     from: usize,
 ) -> Result<(End, Files<Device>), Fail> {
-    match connected(alloc, files) {
+    match connected(alloc, files, options()) {
         Ok(conn) => {
             let (end, left) = day_of(alloc, day, conn, from)?;
             Ok((end, left.close()))
@@ -159,7 +170,7 @@ fn goes_on_at<S: Keeps>(
     end: End,
 ) -> Result<(), Fail> {
     if !is_beside(server, steps, end)? {
-        return Err("a stop left neither the table before nor the one behind".into());
+        return Err("a stop left neither the table before nor the one after".into());
     }
     if sent_from(alloc, server, steps, next_of(end, steps))? != End::Whole {
         return Err("the day stops with no stop of its device".into());
@@ -184,7 +195,7 @@ fn goes_on_over<S: Alter + Drop>(
 // And so it does with what a loss leaves of the files.
 fn goes_on(alloc: Global, day: Day, left: &Left, loss: Loss, end: End) -> Result<(), Fail> {
     let files = files_left(alloc, left, loss, (u64::MAX, u64::MAX))?;
-    match connected(alloc, files) {
+    match connected(alloc, files, options()) {
         Ok(conn) => goes_on_over(alloc, day, conn, end),
         Err(_) => Err("what a stop left is not opened".into()),
     }
@@ -221,7 +232,7 @@ const DAYS: [(Day, usize); 5] = [
 ];
 
 #[test]
-fn a_stop_of_the_log_leaves_the_table_before_or_behind(rt: HostRuntime) -> Result<(), Fail> {
+fn in_a_day_a_stop_of_the_log_leaves_the_table_before_or_after(rt: HostRuntime) -> Result<(), Fail> {
     for (day, places) in DAYS {
         let (calls, stopped) = stops(rt.alloc(), day, Stopped::Log)?;
         assert!(rt;
@@ -233,7 +244,7 @@ fn a_stop_of_the_log_leaves_the_table_before_or_behind(rt: HostRuntime) -> Resul
 }
 
 #[test]
-fn a_stop_of_the_database_leaves_the_table_before_or_behind(rt: HostRuntime) -> Result<(), Fail> {
+fn in_a_day_a_stop_of_the_database_leaves_the_table_before_or_after(rt: HostRuntime) -> Result<(), Fail> {
     for (day, _) in DAYS {
         let (calls, stopped) = stops(rt.alloc(), day, Stopped::Database)?;
         assert!(rt;
@@ -262,7 +273,7 @@ fn stops_again(alloc: Global, day: Day, left: &Left, end: End) -> Result<u64, Fa
 
 // The first stop is at each seventh call, so that the test is short.
 #[test]
-fn a_stop_after_a_stop_leaves_the_table_before_or_behind(rt: HostRuntime) -> Result<(), Fail> {
+fn in_a_day_a_stop_after_a_stop_leaves_the_table_before_or_after(rt: HostRuntime) -> Result<(), Fail> {
     for calls in (0..1000u64).step_by(7) {
         let files = files(rt.alloc(), answered(Stopped::Log, calls));
         let (end, files) = day_over(rt.alloc(), FIRST, files, 0)?;
