@@ -1,6 +1,6 @@
 ghost use Rattle.std.specs.Prelude.{◌≡◌, IfOk, false};
 
-use kd_io::{InMemory, store_in_memory, store_over};
+use kd_database::{InMemory, store_in_memory, store_over};
 use kd_keeps::StoreFault;
 use kd_store::Store;
 use std::alloc::{AllocError, Global};

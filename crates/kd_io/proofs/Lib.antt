@@ -1,3 +1,2 @@
-mod Opening
 mod Starting
 mod Wholes

@@ -1,4 +1,3 @@
 pub mod Faults
 pub mod Sending
 pub mod Start
-pub mod Stores

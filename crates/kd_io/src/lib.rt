@@ -4,23 +4,15 @@
 //! bytes, and a writer a sink with the writer's, each failed once a call of it has failed, and by
 //! nothing else. A file is read whole, and the token files of a folder by their names; what a file
 //! system gave, no proof knows. A socket is the link of a server (`specs/Sending.antt`): what it
-//! receives and sends, no proof knows either. A store of leases is opened in memory, at the empty
-//! table, or in a file, at the table of the database that it holds (`specs/Stores.antt`); on what a
-//! crash left, at the table from before the last call or at the one after it.
+//! receives and sends, no proof knows either.
 #![tactic(auto)]
 
 mod files;
 mod link;
 mod start;
-mod stores;
 mod streams;
-mod volatile;
 
 pub use files::{InputFault, MOST_BYTES, read_file, read_whole, token_files};
 pub use link::{HostClock, Sending, Socket};
 pub use start::{StartFault, configuration, configured};
-pub use stores::{
-    InFile, InMemory, restarts, store_from, store_in_file, store_in_memory, store_over,
-};
 pub use streams::{Input, Output};
-pub use volatile::Volatile;

@@ -4,11 +4,13 @@
 //! table of leases, sets one row a call, and says what a crash may leave. Clauses on tables hold
 //! where the disk is clean at the end of a call; the disk was clean then at every call before it,
 //! so that a day of many calls has this one premise. `specs/Fault.antt` has the numbers of the
-//! faults.
+//! faults. `Volatile` is the store that keeps no row.
 #![tactic(auto)]
 
 mod fault;
 mod keeps;
+mod volatile;
 
 pub use fault::{Cause, StoreFault};
 pub use keeps::Keeps;
+pub use volatile::Volatile;

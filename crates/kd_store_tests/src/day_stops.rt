@@ -232,7 +232,9 @@ const DAYS: [(Day, usize); 5] = [
 ];
 
 #[test]
-fn in_a_day_a_stop_of_the_log_leaves_the_table_before_or_after(rt: HostRuntime) -> Result<(), Fail> {
+fn in_a_day_a_stop_of_the_log_leaves_the_table_before_or_after(
+    rt: HostRuntime,
+) -> Result<(), Fail> {
     for (day, places) in DAYS {
         let (calls, stopped) = stops(rt.alloc(), day, Stopped::Log)?;
         assert!(rt;
@@ -244,7 +246,9 @@ fn in_a_day_a_stop_of_the_log_leaves_the_table_before_or_after(rt: HostRuntime) 
 }
 
 #[test]
-fn in_a_day_a_stop_of_the_database_leaves_the_table_before_or_after(rt: HostRuntime) -> Result<(), Fail> {
+fn in_a_day_a_stop_of_the_database_leaves_the_table_before_or_after(
+    rt: HostRuntime,
+) -> Result<(), Fail> {
     for (day, _) in DAYS {
         let (calls, stopped) = stops(rt.alloc(), day, Stopped::Database)?;
         assert!(rt;
@@ -273,7 +277,9 @@ fn stops_again(alloc: Global, day: Day, left: &Left, end: End) -> Result<u64, Fa
 
 // The first stop is at each seventh call, so that the test is short.
 #[test]
-fn in_a_day_a_stop_after_a_stop_leaves_the_table_before_or_after(rt: HostRuntime) -> Result<(), Fail> {
+fn in_a_day_a_stop_after_a_stop_leaves_the_table_before_or_after(
+    rt: HostRuntime,
+) -> Result<(), Fail> {
     for calls in (0..1000u64).step_by(7) {
         let files = files(rt.alloc(), answered(Stopped::Log, calls));
         let (end, files) = day_over(rt.alloc(), FIRST, files, 0)?;

@@ -1,9 +1,8 @@
 use kd_commands::Listening;
 use kd_config::Config;
-use kd_io::{
-    HostClock, InFile, Sending, Socket, StartFault, Volatile, configuration, store_in_file,
-};
-use kd_keeps::StoreFault;
+use kd_database::{InFile, store_in_file};
+use kd_io::{HostClock, Sending, Socket, StartFault, configuration};
+use kd_keeps::{StoreFault, Volatile};
 use kd_program::Host;
 use kd_replay::EndFailed;
 use kd_store::Store;

@@ -6,7 +6,7 @@ ghost use Rattle.sqlite.specs.Steps.{over_memory};
 ghost use Rattle.kd_rows.specs.declared.row.Row.{Row as LeaseRow};
 ghost use Rattle.kd_store.specs.Lease.{lease_schema, no_schema};
 ghost use Rattle.kd_store.specs.Stands.{Finds, Stands};
-ghost use Rattle.kd_io.specs.Stores.{IsStoreIn, Restarts, StandsAsHeld, StandsNew, no_bytes};
+ghost use Rattle.kd_database.specs.Stores.{IsStoreIn, Restarts, StandsAsHeld, StandsNew, no_bytes};
 
 use kd_keeps::{Cause, StoreFault};
 use kd_store::Store;

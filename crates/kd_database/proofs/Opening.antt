@@ -19,7 +19,7 @@ use Rattle.kd_store.specs.Kept.{Kept}
 use Rattle.kd_store.specs.Laws.{IsOpenedOn, LetGo, Reopens}
 use Rattle.kd_store.specs.Lease.{lease_schema, no_schema}
 use Rattle.kd_store.specs.Stands.{Finds, Holds, Stands}
-use Rattle.kd_io.specs.Stores.{IsStoreIn, Restarts, StandsAsHeld, StandsNew}
+use Rattle.kd_database.specs.Stores.{IsStoreIn, Restarts, StandsAsHeld, StandsNew}
 
 -- over a new database in memory a store stands at the empty table
 pub at_none : {V X : Type 0} (opened : Held MemStore) (conn : V → Held MemStore) (r : Result V X) → IsEmpty (state over_memory opened)

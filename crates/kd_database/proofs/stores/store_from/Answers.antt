@@ -1,7 +1,7 @@
 use Rattle.sqlite_wal.specs.Files.{image_at}
 use Rattle.kd_store.specs.Laws.{IsOpenedOn}
-use Rattle.kd_io.proofs.Opening.{all_held, all_new, store_in}
-use Rattle.kd_io.proofs.stores.store_from.Goals as goal
+use Rattle.kd_database.proofs.Opening.{all_held, all_new, store_in}
+use Rattle.kd_database.proofs.stores.store_from.Goals as goal
 
 pub returns-in-Ok-clause-opened : goal.returns-in-Ok-clause-opened
 returns-in-Ok-clause-opened g c =

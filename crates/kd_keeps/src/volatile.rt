@@ -1,6 +1,7 @@
 ghost use Rattle.std.specs.Prelude.{◌≡◌, false, true};
 
-use kd_keeps::{Cause, Keeps, StoreFault};
+use crate::fault::{Cause, StoreFault};
+use crate::keeps::Keeps;
 use kd_rows::Row;
 use std::alloc::Global;
 

@@ -1,5 +1,0 @@
-use Rattle.kd_io.proofs.Opening.{restarts}
-use Rattle.kd_io.proofs.stores.restarts.Goals as goal
-
-pub returns : goal.returns
-returns g c = restarts g.D.Disk g.E.Disk c.reopens.ensures
