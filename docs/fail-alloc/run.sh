@@ -101,7 +101,8 @@ SHORT_IO=1 LD_PRELOAD=$room/fail.so crates/kdhcp/out/kdhcp replay <examples/repl
 echo "replay byte by byte: the same"
 
 all=0 passed=0 building=0 second=0 other=0
-for test in kd_tests:{answer,classes,compile,config,expr,machine,message,replay,reply,server,token} kd_{table_tests:rows,store_tests:memory}; do
+for test in kd_tests:{answer,classes,compile,expr,machine,message,reply,token} kd_server_tests:{config,replay,server} \
+    kd_{table_tests:rows,store_tests:memory}; do
     name=${test%:*}
     run=("crates/$name/out/${name}_tests" "${test#*:}::want_of_memory_is_answered_as_such")
     for n in $(seq 1 "$(asked_by "${run[@]}")"); do

@@ -1,6 +1,6 @@
-//! Tests of the libraries by what a value alone can show: an allocator that refuses, sources and
-//! sinks that fail in mid-stream, laws, and readers that no command of the program reaches. All
-//! else is data: `kd_cases/data`.
+//! Tests of messages, class tests and their programs by what a value alone can show: an allocator
+//! that refuses, laws, and readers that no command of the program reaches. All else is data:
+//! `kd_cases/data`.
 //!
 //! They are a crate of their own since a crate is proved once more with its tests: so these are
 //! proved alone.
@@ -13,25 +13,13 @@ mod classes;
 #[cfg(test)]
 mod compile;
 #[cfg(test)]
-mod config;
-#[cfg(test)]
-mod doubles;
-#[cfg(test)]
-mod ends;
-#[cfg(test)]
 mod expr;
 #[cfg(test)]
 mod machine;
 #[cfg(test)]
 mod message;
 #[cfg(test)]
-mod replay;
-#[cfg(test)]
 mod reply;
-#[cfg(test)]
-mod server;
-#[cfg(test)]
-mod serving;
 #[cfg(test)]
 mod support;
 #[cfg(test)]

@@ -1,12 +1,8 @@
 use kd_classes::ClassFault;
 use kd_compile::CompileFault;
-use kd_config::Config;
-use kd_event::Ports;
 use kd_expr::ExprFault;
 use kd_machine::EvalFault;
 use kd_options::ReadFault;
-use kd_server::Server;
-use kd_table_tests::Fused;
 use kd_token::{FileFault, Program, Verified, VerifyFault, verify};
 use std::alloc::{AllocError, Global};
 
@@ -144,14 +140,5 @@ impl From<CompileFault> for Fault {
             CompileFault::Memory => Fault::Memory,
             _ => Fault::Other,
         }
-    }
-}
-
-/// A server of the built-in configuration on these ports, over an empty store.
-pub(crate) fn server_on(alloc: Global, ports: Ports) -> Result<Server<Fused>, AllocError> {
-    let store = Fused::new(alloc, u64::MAX)?;
-    match Server::open(alloc, Config::builtin(alloc)?, store, ports) {
-        Ok(server) => Ok(server),
-        Err(_) => Err(AllocError),
     }
 }

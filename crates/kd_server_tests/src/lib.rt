@@ -1,0 +1,20 @@
+//! Tests of the server by what a value alone can show: an allocator that refuses, configurations
+//! that no text gives, files and folders, sources and sinks that fail in mid-stream, sockets.
+//!
+//! They stand beside `kd_tests`, whose crates are below the server's.
+#![tactic(auto)]
+
+#[cfg(test)]
+mod config;
+#[cfg(test)]
+mod doubles;
+#[cfg(test)]
+mod ends;
+#[cfg(test)]
+mod replay;
+#[cfg(test)]
+mod server;
+#[cfg(test)]
+mod serving;
+#[cfg(test)]
+mod support;
