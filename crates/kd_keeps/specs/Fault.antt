@@ -1,6 +1,5 @@
 -- The numbers of a store's faults.
 use Rattle.std.specs.Prelude.{ℕ}
-use Rattle.kd_keeps.specs.declared.fault.Cause.{Cause}
 use Rattle.kd_keeps.specs.declared.fault.StoreFault.{StoreFault}
 use Rattle.kd_keeps.specs.declared.fault.StoreFault.TheVariants.{Schema, Sql}
 

@@ -1,4 +1,4 @@
-use Rattle.std.proofs.Common.{◌≡◌, List, [], ◌∷◌, ◌++◌, ap, sym, take, ◌∙◌}
+use Rattle.std.proofs.Common.{List, [], ◌∷◌, ◌++◌, ap, sym, take, ◌∙◌}
 use Rattle.kd_rows.specs.declared.row.Row.{Row}
 use Rattle.kd_table_tests.proofs.Copies.{one_more}
 use Rattle.kd_table_tests.proofs.fused.all_of.Goals as goal
