@@ -1,6 +1,7 @@
 #!/usr/bin/env python3
 """Measures servers in turn on loopback; serve.sh calls it: serve.py ROOM KDHCP PICTURE, in a network namespace. With the
-word `million` in place of the picture it measures one round over 1,000,000 leases."""
+word `million` in place of the picture it measures one round over 1,000,000 leases, and with the word `durable` the two
+servers that sync a lease before they answer, kdhcp with a store and coredhcp."""
 import json
 import os
 import statistics
@@ -12,7 +13,9 @@ SERVER, RELAY, POOL = "10.0.0.1", "10.0.0.2", "10.1.0.0-10.17.255.255"
 LEVELS = [0, 1_000, 60_000, 250_000]
 TESTS = [0, 50, 250]
 ROUNDS, MEASURED = 3, 5_000
+BESIDE_KEA, DURABLE = ["kea", "kea3", "memory", "file"], ["file", "coredhcp"]
 NAMES = {"kea": "Kea, one thread", "kea3": "Kea, three threads", "memory": "kdhcp, memory", "file": "kdhcp, file"}
+NAMES["coredhcp"] = "coredhcp"
 
 
 def tests_of(count):
@@ -50,13 +53,24 @@ def kdhcp_words(room, kdhcp, tests, store):
     return words + (["--store", f"{room}/leases.db"] if store else [])
 
 
+def coredhcp_words(room):
+    """Its range of addresses is kept in a file of text, of which each new line is synced before the reply; JSON is YAML."""
+    plugins = [{"lease_time": "3600s"}, {"server_id": SERVER}, {"netmask": "255.0.0.0"}]
+    plugins.append({"range": f"{room}/leases.txt {POOL.replace('-', ' ')} 3600s"})
+    with open(f"{room}/coredhcp.yml", "w", encoding="utf-8") as it:
+        json.dump({"server4": {"listen": [SERVER], "plugins": plugins}}, it)
+    return ["coredhcp", "--conf", f"{room}/coredhcp.yml", "--loglevel", "error"]
+
+
 def started(room, kdhcp, which, tests):
     """A server that has begun to answer, on the first processor, or on three where it has three threads."""
     for name in os.listdir(room):
-        if name.startswith(("kea.csv", "leases.db")):
+        if name.startswith(("kea.csv", "leases.db", "leases.txt")):
             os.remove(f"{room}/{name}")
     if which.startswith("kea"):
         words = kea_words(room, 3 if which == "kea3" else 1, tests)
+    elif which == "coredhcp":
+        words = coredhcp_words(room)
     else:
         words = kdhcp_words(room, kdhcp, tests, which == "file")
     cpus = "0,2,3" if which == "kea3" else "0"
@@ -100,7 +114,7 @@ def climbed(room, kdhcp, which):
             base = level
         found.append(loaded(room, server, base, MEASURED, ""))
         base += MEASURED
-        if which == "file":
+        if which in DURABLE:
             found[-1]["commit_us"] = commit_us(room)
     server.terminate()
     server.wait()
@@ -134,7 +148,7 @@ def table(title, heads, rounds, read, form):
 
 def picture(path, rounds):
     """DORA a second over the number of leases, a line a server."""
-    colours = dict(zip(NAMES, ["#888888", "#444444", "#1f77b4", "#d62728"]))
+    colours = dict(zip(BESIDE_KEA, ["#888888", "#444444", "#1f77b4", "#d62728"]))
     lines = {which: [middle(all_rounds, i, lambda it: it["per_s"]) for i in range(len(LEVELS))] for which, all_rounds in rounds.items()}
     most = max(max(line) for line in lines.values()) * 1.1
     out = ['<svg xmlns="http://www.w3.org/2000/svg" width="640" height="360" font-family="sans-serif" font-size="12">']
@@ -177,27 +191,45 @@ def million(room, kdhcp):
         print(f"| {NAMES[which]} | {' | '.join(numbers)} |", flush=True)
 
 
-def main(room, kdhcp, path):
-    laid_out()
-    levels, tests = {which: [] for which in NAMES}, {which: [] for which in NAMES}
-    for _ in range(ROUNDS):
-        for which in NAMES:
-            levels[which].append(climbed(room, kdhcp, which))
-            tests[which].append(tested(room, kdhcp, which))
-    whole = lambda n: f"{n:,.0f}"
-    table("DORA a second, leases before", LEVELS, levels, lambda it: it["per_s"], whole)
+def tables_of_levels(levels):
+    table("DORA a second, leases before", LEVELS, levels, lambda it: it["per_s"], lambda n: f"{n:,.0f}")
     table("Processor us a DORA, leases before", LEVELS, levels, lambda it: it["server"]["cpu_us_per_done"], lambda n: f"{n:.1f}")
     table("Resident memory in MB, leases before", LEVELS, levels, lambda it: it["server"]["rss_kb"] / 1000, lambda n: f"{n:.0f}")
-    table("DORA a second, class tests", TESTS, tests, lambda it: it["per_s"], whole)
+
+
+def tables_of_commits(levels):
+    table("A commit of SQLite's library, us, leases before", LEVELS, levels, lambda it: it["commit_us"], lambda n: f"{n:.0f}")
+    table("A DORA's time over two such commits'", LEVELS, levels, lambda it: 1e6 / it["per_s"] / 2 / it["commit_us"], lambda n: f"{n:.2f}")
+
+
+def durable(room, kdhcp):
+    """Rounds of the servers that sync each lease, in turn, at each number of leases."""
+    laid_out()
+    levels = {which: [] for which in DURABLE}
+    for _ in range(ROUNDS):
+        for which in DURABLE:
+            levels[which].append(climbed(room, kdhcp, which))
+    tables_of_levels(levels)
+    tables_of_commits(levels)
+
+
+def main(room, kdhcp, path):
+    laid_out()
+    levels, tests = {which: [] for which in BESIDE_KEA}, {which: [] for which in BESIDE_KEA}
+    for _ in range(ROUNDS):
+        for which in BESIDE_KEA:
+            levels[which].append(climbed(room, kdhcp, which))
+            tests[which].append(tested(room, kdhcp, which))
+    tables_of_levels(levels)
+    table("DORA a second, class tests", TESTS, tests, lambda it: it["per_s"], lambda n: f"{n:,.0f}")
     table("Processor us a DORA, class tests", TESTS, tests, lambda it: it["server"]["cpu_us_per_done"], lambda n: f"{n:.1f}")
-    in_file = {"file": levels["file"]}
-    table("A commit of SQLite's library, us, leases before", LEVELS, in_file, lambda it: it["commit_us"], lambda n: f"{n:.0f}")
-    table("A DORA's time over two such commits'", LEVELS, in_file, lambda it: 1e6 / it["per_s"] / 2 / it["commit_us"], lambda n: f"{n:.2f}")
+    tables_of_commits({"file": levels["file"]})
     picture(path, levels)
 
 
 if __name__ == "__main__":
-    if sys.argv[3] == "million":
-        million(*sys.argv[1:3])
+    works = {"million": million, "durable": durable}
+    if sys.argv[3] in works:
+        works[sys.argv[3]](*sys.argv[1:3])
     else:
         main(*sys.argv[1:])
