@@ -191,8 +191,12 @@ def million(room, kdhcp):
         print(f"| {NAMES[which]} | {' | '.join(numbers)} |", flush=True)
 
 
+def whole(number):
+    return f"{number:,.0f}"
+
+
 def tables_of_levels(levels):
-    table("DORA a second, leases before", LEVELS, levels, lambda it: it["per_s"], lambda n: f"{n:,.0f}")
+    table("DORA a second, leases before", LEVELS, levels, lambda it: it["per_s"], whole)
     table("Processor us a DORA, leases before", LEVELS, levels, lambda it: it["server"]["cpu_us_per_done"], lambda n: f"{n:.1f}")
     table("Resident memory in MB, leases before", LEVELS, levels, lambda it: it["server"]["rss_kb"] / 1000, lambda n: f"{n:.0f}")
 
@@ -221,7 +225,7 @@ def main(room, kdhcp, path):
             levels[which].append(climbed(room, kdhcp, which))
             tests[which].append(tested(room, kdhcp, which))
     tables_of_levels(levels)
-    table("DORA a second, class tests", TESTS, tests, lambda it: it["per_s"], lambda n: f"{n:,.0f}")
+    table("DORA a second, class tests", TESTS, tests, lambda it: it["per_s"], whole)
     table("Processor us a DORA, class tests", TESTS, tests, lambda it: it["server"]["cpu_us_per_done"], lambda n: f"{n:.1f}")
     tables_of_commits({"file": levels["file"]})
     picture(path, levels)
