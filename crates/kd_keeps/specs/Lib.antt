@@ -1,1 +1,3 @@
 pub mod Fault
+pub mod Moves
+pub mod Reading

@@ -1,4 +1,5 @@
 ghost use Rattle.std.specs.Prelude.{◌≡◌};
+ghost use Rattle.std.specs.Result.{result_err};
 ghost use Rattle.kd_keeps.specs.Fault.{store_fault_number};
 
 use std::fmt;
@@ -47,5 +48,15 @@ impl StoreFault {
             StoreFault::Schema => 80,
             StoreFault::Sql(_) => 81,
         }
+    }
+}
+
+/// The fault with which a call has failed, if it has.
+pub fn fault_in<T>(answer: &Result<T, StoreFault>) -> Option<StoreFault>
+    ensures { result ≡ result_err answer.now }
+{
+    match answer {
+        Ok(_) => None,
+        Err(fault) => Some(*fault),
     }
 }

@@ -3,8 +3,11 @@ use kd_rows::Row;
 
 /// A store that keeps the table of leases: rows one an address, in rising address.
 pub trait Keeps {
-    ghost use Rattle.std.specs.Prelude.{◌≡◌, Bool, IfOk, List, OnErr, OnOk, false, is_err};
+    ghost use Rattle.std.specs.Prelude.{◌≡◌, IfOk, List, Option, false, is_some};
     ghost use Rattle.std.specs.List.{All};
+    ghost use Rattle.std.specs.Result.{result_err};
+    ghost use Rattle.kd_keeps.specs.Moves.{Moves};
+    ghost use Rattle.kd_keeps.specs.declared.fault.StoreFault.{StoreFault};
     ghost use Rattle.kd_rows.specs.Row.{IsInRange};
     ghost use Rattle.kd_rows.specs.Table.{Rise, with_row};
     ghost use Rattle.kd_rows.specs.declared.row.Row.{Row as LeaseRow};
@@ -21,8 +24,9 @@ pub trait Keeps {
     /// No failure of the disk has closed the store.
     ghost is_open: { Self → Type 0 };
 
-    /// A call has failed: the store is to be closed and opened again.
-    ghost has_failed: { Self → Bool };
+    /// The fault with which a call has failed, if one has: the store is to be closed then, and
+    /// opened again.
+    ghost fault: { Self → Option StoreFault };
 
     /// Sets a row, in place of the row of its address or as a new one, and commits it.
     ///
@@ -31,18 +35,13 @@ pub trait Keeps {
     /// The store has failed; it holds the table from before or the one with the row. While it is
     /// still open it holds the one from before.
     fn put(&mut self, row: &Row) -> Result<(), StoreFault>
-        requires ready { has_failed self.old ≡ false }
+        requires ready { is_some (fault self.old) ≡ false }
         requires range { IsInRange row.now }
         ensures clean { has_clean_disk self.new → has_clean_disk self.old }
         ensures put { has_clean_disk self.new → (table : List LeaseRow) → stands self.old table
-            → OnOk result (stands self.new (with_row row.now table)) }
-        ensures settled { has_clean_disk self.new → (table : List LeaseRow) → stands self.old table
-            → OnOk result (leaves self.new (with_row row.now table) (with_row row.now table)) }
-        ensures fault { has_clean_disk self.new → (table : List LeaseRow) → stands self.old table
-            → OnErr result (is_open self.new → stands self.new table) }
-        ensures crash { has_clean_disk self.new → (table : List LeaseRow) → stands self.old table
-            → leaves self.new table (with_row row.now table) }
-        ensures failed { has_failed self.new ≡ is_err result };
+            → Moves (stands self.new) (leaves self.new) (is_open self.new)
+            table (with_row row.now table) result }
+        ensures failed { fault self.new ≡ result_err result };
 
     /// All rows, in rising address, one an address, each in its ranges.
     ///
@@ -50,19 +49,17 @@ pub trait Keeps {
     ///
     /// The store has failed; it holds the table from before.
     fn rows(&mut self) -> Result<Vec<Row>, StoreFault>
-        requires ready { has_failed self.old ≡ false }
+        requires ready { is_some (fault self.old) ≡ false }
         ensures clean { has_clean_disk self.new → has_clean_disk self.old }
         ensures rise { IfOk result (λ rows. Rise rows.items) }
         ensures ranges { IfOk result (λ rows. All IsInRange rows.items) }
-        ensures rows { has_clean_disk self.new → (table : List LeaseRow) → stands self.old table
-            → IfOk result (λ rows. (rows.items ≡ table) × stands self.new table) }
-        ensures fault { has_clean_disk self.new → (table : List LeaseRow) → stands self.old table
-            → OnErr result (is_open self.new → stands self.new table) }
-        ensures crash { has_clean_disk self.new → (table : List LeaseRow) → stands self.old table
-            → leaves self.new table table }
-        ensures failed { has_failed self.new ≡ is_err result };
+        ensures found { has_clean_disk self.new → (table : List LeaseRow) → stands self.old table
+            → IfOk result (λ rows. rows.items ≡ table) }
+        ensures stays { has_clean_disk self.new → (table : List LeaseRow) → stands self.old table
+            → Moves (stands self.new) (leaves self.new) (is_open self.new) table table result }
+        ensures failed { fault self.new ≡ result_err result };
 
     /// Whether a call has failed.
     fn failed(&self) -> bool
-        ensures { result ≡ has_failed self.now };
+        ensures { result ≡ is_some (fault self.now) };
 }

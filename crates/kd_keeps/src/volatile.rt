@@ -1,4 +1,4 @@
-ghost use Rattle.std.specs.Prelude.{◌≡◌, false, true};
+ghost use Rattle.std.specs.Prelude.{◌≡◌, true};
 
 use crate::fault::{Cause, StoreFault};
 use crate::keeps::Keeps;
@@ -11,19 +11,19 @@ use std::alloc::Global;
 pub struct Volatile {
     alloc: Global,
     is_new: bool,
-    failed: bool,
+    fault: Option<StoreFault>,
 }
 
 impl Volatile {
     /// A new one, at the empty table.
     pub fn new(alloc: Global) -> Volatile
         ensures new { result.is_new ≡ true }
-        ensures failed { result.failed ≡ false }
+        ensures fault { result.fault ≡ None }
     {
         Volatile {
             alloc,
             is_new: true,
-            failed: false,
+            fault: None,
         }
     }
 }
@@ -39,7 +39,7 @@ impl Keeps for Volatile {
 
     ghost is_open = { λ _. Unit {0} };
 
-    ghost has_failed = { λ s. s.failed };
+    ghost fault = { λ s. s.fault };
 
     fn put(&mut self, _row: &Row) -> Result<(), StoreFault> {
         self.is_new = false;
@@ -50,11 +50,12 @@ impl Keeps for Volatile {
         if self.is_new {
             return Ok(Vec::new(self.alloc));
         }
-        self.failed = true;
-        Err(StoreFault::Sql(Cause::Closed))
+        let fault = StoreFault::Sql(Cause::Closed);
+        self.fault = Some(fault);
+        Err(fault)
     }
 
     fn failed(&self) -> bool {
-        self.failed
+        self.fault.is_some()
     }
 }

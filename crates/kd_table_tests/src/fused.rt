@@ -1,9 +1,9 @@
-ghost use Rattle.std.specs.Prelude.{◌≡◌, [], OnErr, OnOk, IfOk, false};
+ghost use Rattle.std.specs.Prelude.{◌≡◌, [], OnErr, OnOk, IfOk};
 ghost use Rattle.std.specs.List.{All};
 ghost use Rattle.kd_rows.specs.Row.{IsInRange};
 ghost use Rattle.kd_rows.specs.Table.{Rise, with_row};
 
-use kd_keeps::{Cause, Keeps, StoreFault};
+use kd_keeps::{Cause, Keeps, StoreFault, fault_in};
 use kd_rows::{Row, Rows};
 use kd_wire::Bytes;
 use std::alloc::{AllocError, Global};
@@ -16,7 +16,7 @@ pub struct Fused {
     rows: Rows,
     // How many calls it answers before one fails.
     calls: u64,
-    failed: bool,
+    fault: Option<StoreFault>,
     alloc: Global,
 }
 
@@ -25,7 +25,7 @@ impl Model for Fused {
 
     ghost Value = { Fused };
 
-    ghost view = { λ s. record { table = s.rows.rows; failed = s.failed } };
+    ghost view = { λ s. record { table = s.rows.rows; fault = s.fault } };
 }
 
 impl Fused {
@@ -35,12 +35,12 @@ impl Fused {
     ///
     /// There is no memory.
     pub fn new(alloc: Global, calls: u64) -> Result<Fused, AllocError>
-        ensures { IfOk result (λ s. s ≡ record { table = []; failed = false }) }
+        ensures { IfOk result (λ s. s ≡ record { table = []; fault = None }) }
     {
         Ok(Fused {
             rows: Rows::new(Vec::new(alloc))?,
             calls,
-            failed: false,
+            fault: None,
             alloc,
         })
     }
@@ -58,7 +58,7 @@ impl Fused {
 
     fn try_put(&mut self, row: &Row) -> Result<(), StoreFault>
         requires { IsInRange row.now }
-        ensures failed { self.new.failed ≡ self.old.failed }
+        ensures fault { self.new.fault ≡ self.old.fault }
         ensures put { OnOk result (self.new.table ≡ with_row row.now self.old.table) }
         ensures stays { OnErr result (self.new.table ≡ self.old.table) }
     {
@@ -120,7 +120,7 @@ fn all_of(alloc: Global, rows: &Rows) -> Result<Vec<Row>, AllocError>
 }
 
 impl Keeps for Fused {
-    ghost use Rattle.std.specs.Prelude.{◌≡◌, ◌⊎◌, false};
+    ghost use Rattle.std.specs.Prelude.{◌≡◌, ◌⊎◌};
 
     ghost stands = { λ s table. s.table ≡ table };
 
@@ -130,21 +130,21 @@ impl Keeps for Fused {
 
     ghost is_open = { λ _. Unit {0} };
 
-    ghost has_failed = { λ s. s.failed };
+    ghost fault = { λ s. s.fault };
 
     fn put(&mut self, row: &Row) -> Result<(), StoreFault> {
         let result = self.try_put(row);
-        self.failed = result.is_err();
+        self.fault = fault_in(&result);
         result
     }
 
     fn rows(&mut self) -> Result<Vec<Row>, StoreFault> {
         let result = self.try_rows();
-        self.failed = result.is_err();
+        self.fault = fault_in(&result);
         result
     }
 
     fn failed(&self) -> bool {
-        self.failed
+        self.fault.is_some()
     }
 }

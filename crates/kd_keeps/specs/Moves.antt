@@ -1,0 +1,15 @@
+-- What a call does to a store that keeps a table of leases.
+use Rattle.std.specs.Prelude.{List, OnErr, OnOk, Result}
+use Rattle.kd_keeps.specs.declared.fault.StoreFault.{StoreFault}
+use Rattle.kd_rows.specs.declared.row.Row.{Row}
+
+-- a call on a store that stood at the table before, by the tables at which the store stands then, of
+-- which a crash leaves one, and whether it is open: where the call is done the store stands at the
+-- table after, and a crash leaves that one; where it fails the store stands where it stood, while it
+-- is open; whatever it answers, a crash leaves one of the two
+pub record Moves {A : Type 0} (stands : List Row → Type 0) (leaves : List Row → List Row → Type 0)
+    (is_open : Type 0) (before after : List Row) (result : Result A StoreFault) : Type 0 where
+  pub done : OnOk result (stands after)
+  pub settled : OnOk result (leaves after after)
+  pub failed : OnErr result (is_open → stands before)
+  pub crash : leaves before after
