@@ -10,8 +10,10 @@
 
 mod fault;
 mod keeps;
+mod opened;
 mod volatile;
 
 pub use fault::{Cause, StoreFault, fault_in};
 pub use keeps::Keeps;
+pub use opened::Opened;
 pub use volatile::Volatile;
