@@ -321,8 +321,8 @@ module _ {S : Type 0} (g : Ghosts S) where
     λ link output fault count old new before after stops. ⊎_elim
         (λ none. ([], none.1))
         (λ (e : EndsAfter (Steps g) (Refuses g) (link ≡ true) (output ≡ true) fault count old new before after).
-            let last = ended_called link output fault e.mid new e.between after e.ends in
-            served_called e.done old e.mid new before e.between last.0 e.served last.1)
+        let last = ended_called link output fault e.mid new e.between after e.ends in
+        served_called e.done old e.mid new before e.between last.0 e.served last.1)
         stops,
   )
 

@@ -7,7 +7,7 @@ ghost use Rattle.kd_replay.specs.History.{Runs};
 ghost use Rattle.kd_replay.specs.Text.{IsSmall};
 ghost use Rattle.kd_replay.specs.declared.fault.ServeFault.TheVariants as faults;
 ghost use Rattle.kd_rows.specs.Row.{IsInRange};
-ghost use Rattle.kd_rows.specs.Table.{Rise, with_row};
+ghost use Rattle.kd_rows.specs.Table.{Rise, latest_of, with_row};
 ghost use Rattle.kd_server.specs.Keeping.{IsUnopened, Opens, Refuses, Steps, StillHolds};
 ghost use Rattle.kd_server.specs.Leases.{IsNoList, leases_of_rows};
 ghost use Rattle.kd_server.specs.Unkept.{IsSettable, IsUnkept};
@@ -104,6 +104,13 @@ impl<S: Keeps> Server<S> {
         ensures { result ≡ length self.now.rows }
     {
         self.rows.len()
+    }
+
+    /// The latest change of a row, in whole seconds; 0 without rows.
+    pub fn latest_change(&self) -> u64
+        ensures { result ≡ latest_of self.now.rows }
+    {
+        self.rows.latest()
     }
 
     /// The leases at a moment, in whole seconds: the rows in rising address, and which of them have
