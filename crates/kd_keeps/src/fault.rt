@@ -20,6 +20,8 @@ pub enum Cause {
     DatabaseCorrupt,
     /// An earlier failure of the disk has closed the database.
     Closed,
+    /// The database refuses the statement.
+    Refused,
 }
 
 /// Why a store does not answer.

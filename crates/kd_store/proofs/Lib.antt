@@ -2,7 +2,9 @@ pub mod Texts
 pub mod Tables
 pub mod Puts
 pub mod States
+pub mod Strange
 pub mod Streaming
 pub mod Reading
 pub mod Making
+pub mod Opening
 pub mod Reopening

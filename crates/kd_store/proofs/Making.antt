@@ -15,10 +15,10 @@ use Rattle.sqlite.proofs.Callers.{IsPlain, command_of, statement_of, runs_as}
 use Rattle.kd_rows.specs.declared.row.Row.{Row}
 use Rattle.kd_store.specs.Lease.{lease, lease_schema, no_schema, make_text}
 use Rattle.kd_store.specs.Stands.{columns_in, Lists, Holds, Stands, Finds}
-use Rattle.kd_store.specs.Statement.{IsReady}
+use Rattle.kd_store.specs.Statement.{IsSettled}
 use Rattle.kd_store.proofs.Texts.{make_is, make_again, make_plain, again_plain}
 use Rattle.kd_store.proofs.Puts.{went, same_value}
-use Rattle.kd_store.proofs.States.{Rests, after_error}
+use Rattle.kd_store.proofs.States.{IsReady, Rests, after_error}
 
 -- the text makes our schema of none, and an empty table
 made_of : (old : State) (after : Database) (text : List ℕ) (tally : Tally) → text ≡ make_text → old.now.schema ≡ no_schema → Does old.step_limit (mode_of old) [] old.now text None CreateTable (Ok (tally, after))
@@ -48,9 +48,6 @@ makes old new count ready has ran =
       holds = (subst (λ s. IsSound s new.now.trees) made.0 w.sound, lists_none new.now.trees made.1);
       settled = rw ready at w.shown.committed_is;
     }
-
-abbrev pub IsSettled : State → Type 0
-IsSettled s = IsTrue s.is_open → s.now ≡ s.committed
 
 pub again : (old new : State) (count : ℕ) → old.in_transaction ≡ false → old.now.schema ≡ lease_schema → IsLive old → IsSettled old → Executes make_text [] old new (Ok count) → IsReady new × IsUnchanged old new
 again old new count ready has live settled ran =
@@ -111,7 +108,3 @@ make_commits old table db live (inr there) h =
 
 pub make_leaves : (old new : State) (table : List Row) → IsLive old → HasCleanDisk new → Finds old table → Survives old new (CommitsBy make_text [] old) → (db : Trees) → new.may_leave db → old.may_leave db ⊎ Holds db table
 make_leaves old new table live clean h survives db may = elim (survives.crash clean db may) [ inl before ↦ inl before | inr commits ↦ inr (make_commits old table db live h commits) ]
-
--- the table at which a connection stands was found, where nothing has changed since
-pub opened : (old mid new : State) (table : List Row) → IsUnchanged old mid → Stands mid table × Stands new table → (t : List Row) × Finds old t × Stands new t
-opened old mid new table u h = (table, inr (u.0.was_open, subst (λ (d : Database). Holds d.trees table) u.0.now_is h.0.holds), h.1)

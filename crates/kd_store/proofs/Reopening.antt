@@ -1,5 +1,5 @@
 -- What a connection finds that is opened on what a crash left.
-use Rattle.std.proofs.Common.{◌≡◌, ◌⊎◌, inl, inr, ℕ, Result, Ok, Err, IfOk, Bool, true, false, ◌&&◌, ◌==◌, List, [], ◌∷◌, length, refl, sym, ap, ap₂, subst, ◌∙◌, true≢false, arith}
+use Rattle.std.proofs.Common.{◌≡◌, ◌⊎◌, inl, inr, ℕ, Bool, true, false, ◌&&◌, ◌==◌, List, [], ◌∷◌, length, refl, sym, ap, ap₂, subst, ◌∙◌, true≢false, arith}
 use Rattle.std.proofs.Math.Logic.{∥∥₁_elim, ∥∥₁_map, ⊎_elim}
 use Rattle.std.proofs.lemmas.Bool.Decides.{nat_tests}
 use Rattle.sqlite_disk.specs.declared.Disk.{Ghosts}
@@ -8,16 +8,15 @@ use Rattle.std.specs.Coded.{Coded-set}
 use Rattle.sqlite_schema.specs.contracts.schema.Schema as schema
 use Rattle.sqlite_schema.specs.declared.schema.Schema.{Schema}
 use Rattle.sqlite.specs.Effect.{Database}
-use Rattle.sqlite.specs.State.{State, HasCleanDisk, IsLive, Opens}
-use Rattle.sqlite.specs.Held.{Held}
-use Rattle.sqlite.specs.Files.{file_state}
-use Rattle.sqlite_store.specs.declared.store.FileStore.{FileStore}
+use Rattle.sqlite.specs.State.{State, IsLive, Opens}
+use Rattle.sqlite.specs.Held.{AreDatabases}
+use Rattle.sqlite_store.specs.FileStore as files
 use Rattle.sqlite.proofs.Theorems.{next_run}
 use Rattle.kd_rows.specs.declared.row.Row.{Row}
 use Rattle.kd_rows.specs.Row.{state_number}
 use Rattle.kd_store.specs.Lease.{lease_schema, no_schema}
 use Rattle.kd_store.specs.Stands.{Holds, Finds, Stands}
-use Rattle.kd_store.specs.Laws.{Reopens, StandsAgain}
+use Rattle.kd_store.specs.Laws.{Reopens}
 use Rattle.kd_store.proofs.Tables.{one_table, state_once}
 
 -- what is found is what is held
@@ -97,31 +96,13 @@ ours_held : (s : State) (table : List Row) → Opens s → IsLive s → Holds s.
 ours_held s table opens live h = lists_once _ s.now.schema lease_schema (live opens.is_open).0.lists (subst (λ (d : Database). Holds d.trees table) (sym opens.clean) h).0.lists
 
 pub reopens : {D E : Type 0} (g : Ghosts D) (h : Ghosts E) → Reopens g h
-reopens g h it before after leaves image may opened is finds_in =
-    let left = next_run it leaves.numbered leaves.sound image may _ finds_in in (
-      ∥∥₁_elim left (Coded-set schema.the_row.coded _ _) (λ db. ⊎_elim (ours_held _ before is.0 is.1) (ours_held _ after is.0 is.1) (leaves.one _ db)),
+reopens g h it before after numbered one image may opened is finds_in =
+    let sound : AreDatabases (files.recovers it) = λ db from. (lease_schema, ⊎_elim (λ was. was.0) (λ now. now.0) (one db from)) in
+    let left = next_run it numbered sound image may _ finds_in in (
+      ∥∥₁_elim left (Coded-set schema.the_row.coded _ _) (λ db. ⊎_elim (ours_held _ before is.0 is.1) (ours_held _ after is.0 is.1) (one _ db)),
       λ found finds.
-          one_of found before after (∥∥₁_map left (λ db. ⊎_elim (λ was. inl (found_held _ found before is.0 is.1 finds was)) (λ now. inr (found_held _ found after is.0 is.1 finds now)) (leaves.one _ db))),
+          one_of found before after (∥∥₁_map left (λ db. ⊎_elim (λ was. inl (found_held _ found before is.0 is.1 finds was)) (λ now. inr (found_held _ found after is.0 is.1 finds now)) (one _ db))),
     )
-
--- a store that `open` gives: where its disk is clean, it was clean before, and the store stands at a table that is found
-pub stands_again : {D E : Type 0} (g : Ghosts D) (h : Ghosts E) (opened conn : Held (FileStore E h)) → (HasCleanDisk (file_state conn) → HasCleanDisk (file_state opened))
-    → (HasCleanDisk (file_state conn) → ((file_state opened).now.schema ≡ no_schema) ⊎ ((file_state opened).now.schema ≡ lease_schema)
-    → (table : List Row) × Finds (file_state opened) table × Stands (file_state conn) table)
-    → StandsAgain g h opened conn
-stands_again g h opened conn clean stands it before after leaves image may on done =
-    let before_clean = clean done in
-    let law = reopens g h it before after leaves image may opened (on.is_opened before_clean) (on.found before_clean) in
-    let s = stands done (inr law.0) in (s.0, s.2, law.1 s.0 s.1)
-
--- the same of an answer that may be an error
-pub answers_again : {D E V X : Type 0} (g : Ghosts D) (h : Ghosts E) (opened : Held (FileStore E h)) (conn : V → Held (FileStore E h)) (r : Result V X)
-    → IfOk r (λ store. HasCleanDisk (file_state (conn store)) → HasCleanDisk (file_state opened))
-    → IfOk r (λ store. HasCleanDisk (file_state (conn store)) → ((file_state opened).now.schema ≡ no_schema) ⊎ ((file_state opened).now.schema ≡ lease_schema)
-    → (table : List Row) × Finds (file_state opened) table × Stands (file_state (conn store)) table)
-    → IfOk r (λ store. StandsAgain g h opened (conn store))
-answers_again g h opened conn (Ok store) clean stands = stands_again g h opened (conn store) clean stands
-answers_again g h opened conn (Err e) clean stands = tt
 
 -- a connection stands at one table only
 pub stands_once : (s : State) (table other : List Row) → Stands s table → Stands s other → table ≡ other

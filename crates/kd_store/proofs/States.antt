@@ -1,5 +1,5 @@
 -- What a call leaves of a connection that stands at a table.
-use Rattle.std.proofs.Common.{◌≡◌, ◌⊎◌, inl, inr, ℕ, false, List, Some, None, Option, Ok, Err, Result, OnOk, IsTrue, sym, ap, subst, ◌∙◌, append-nil}
+use Rattle.std.proofs.Common.{◌≡◌, ◌⊎◌, inl, inr, ℕ, false, List, Some, None, Option, Ok, Err, IsTrue, sym, ap, subst, ◌∙◌, append-nil}
 use Rattle.std.proofs.lemmas.Bool.{cases_Bool}
 use Rattle.sqlite_value.specs.Order.{Row as Columns}
 use Rattle.sqlite_trees.specs.Tree.{Trees}
@@ -10,7 +10,7 @@ use Rattle.sqlite.specs.declared.error.Error.{Error}
 use Rattle.sqlite.specs.Effect.{Database}
 use Rattle.sqlite.specs.Clock.{timed}
 use Rattle.sqlite.specs.Listing.{understood}
-use Rattle.sqlite.specs.State.{State, HasCleanDisk, IsUnchanged, IsRolledBack, Survives, IsNotRun, ExecutesIn, Executes, CommitsBy, MayCommit, text_of, shows_rows, RunsCommand, FailsToQuery, FailsToShow, Shown, ShowsRows}
+use Rattle.sqlite.specs.State.{State, HasCleanDisk, IsUnchanged, IsRolledBack, Survives, IsNotRun, ExecutesIn, Executes, CommitsBy, MayCommit, text_of, shows_rows, RunsCommand, FailsToQuery, FailsToShow}
 use Rattle.sqlite.proofs.Callers.{IsPlain, command_of, statement_of, runs_as}
 use Rattle.kd_rows.specs.declared.row.Row.{Row}
 use Rattle.kd_rows.specs.Table.{with_row}
@@ -30,9 +30,13 @@ left_of s table law h db may = subst (λ trees. Holds trees table) (sym (law db 
 pub leaves_one : (s : State) (table : List Row) → Settles s → Stands s table → Leaves s table table
 leaves_one s table law h db may = inl (left_of s table law h db may)
 
-pub leaves_on_ok : {V E : Type 0} (r : Result V E) (s : State) (table : List Row) → Settles s → OnOk r (Stands s table) → OnOk r (Leaves s table table)
-leaves_on_ok (Ok v) s table law h = leaves_one s table law h
-leaves_on_ok (Err e) s table law h = tt
+-- a connection is open, in no transaction, and what it has committed is a database with our schema
+pub record IsReady (s : State) : Type 0 where
+  pub is_open : IsTrue s.is_open
+  pub ready : s.in_transaction ≡ false
+  pub schema : s.now.schema ≡ lease_schema
+  pub sound : IsSound lease_schema s.now.trees
+  pub settled : s.committed ≡ s.now
 
 -- ---- nothing has changed, or all is undone
 
@@ -44,6 +48,14 @@ stands_same old new table h u = record {
   holds = subst (λ (d : Database). Holds d.trees table) (sym u.0.now_is) h.holds;
   settled = u.0.committed_is ∙ h.settled ∙ sym u.0.now_is;
 }
+
+-- what has not changed since had not before
+pub same_back : (old new : State) → IsUnchanged old new → IsUnchanged new old
+same_back old new u = (
+  record { was_open = u.0.is_open; is_open = u.0.was_open; now_is = sym u.0.now_is; committed_is = sym u.0.committed_is; mode = sym u.0.mode },
+  record { changes = sym u.1.changes; last_rowid = sym u.1.last_rowid },
+  sym u.2,
+)
 
 pub stands_back : (old new : State) (table : List Row) → Stands old table → IsRolledBack old new → IsTrue new.is_open → Stands new table
 stands_back old new table h u is_open =
@@ -89,12 +101,6 @@ after_query_error old new sql params e (inr h) = by h.0.returning h.2
     by : (returning : Option Returning) → FailsToShow old new sql h.0 (timed params h.0.formats h.1.now) e returning → Rests old new
     by None k = inl k.3
     by (Some what) k = refused old new sql h.0 _ e k
-
-pub after_query : (old new : State) (sql : List ℕ) (params : Columns) (rows : List Columns) → IsPlain (understood old.now.schema sql) → Shown sql params old new rows → IsUnchanged old new
-unfolding Shown
-after_query old new sql params rows plain h =
-    let none = (subst IsPlain h.1.is plain).0 in
-    (subst (ShowsRows old new sql h.0 (timed params h.0.formats h.1.now) rows) none h.2).3
 
 -- ---- a row is set
 

@@ -1,5 +1,5 @@
 -- The query's rows, read one at a time.
-use Rattle.std.proofs.Common.{◌≡◌, ◌≤◌, inl, inr, ℕ, true, false, Bool, List, [], Some, None, Option, Ok, Err, Result, IfOk, IfErr, IsTrue, refl, sym, subst, ◌∙◌, if◌then◌else◌}
+use Rattle.std.proofs.Common.{◌≡◌, ◌≤◌, inl, inr, ℕ, true, false, Bool, List, [], ◌∷◌, ◌++◌, Some, None, Option, Ok, Err, Result, IfOk, IsTrue, refl, sym, subst, ◌∙◌, if◌then◌else◌}
 use Rattle.std.specs.Prelude.{IsSome}
 use Rattle.sqlite_value.specs.Order.{Row as Columns}
 use Rattle.sqlite_trees.specs.Tree.{Trees}
@@ -18,14 +18,17 @@ use Rattle.sqlite.specs.Clock.{timed}
 use Rattle.sqlite.specs.Held.{Held, state}
 use Rattle.sqlite.specs.Given.{Returns, HasGiven, HasBegun}
 use Rattle.sqlite.specs.Listing.{listing_schema, is_select, if_select, reads_listing, understood, IsSourceOf}
-use Rattle.sqlite.specs.State.{State, IsUnchanged, Survives, IsStatement, IsNotRun, FailsToShow, FailsToQuery, Shown, ShowsRows, CommitsShowing}
-use Rattle.sqlite.proofs.Callers.{unchanged_then}
+use Rattle.sqlite.specs.State.{State, IsUnchanged, Survives, IsStatement, IsNotRun, FailsToShow, FailsToQuery, Shown, ShowsRows, Begins, CommitsShowing}
+use Rattle.sqlite.proofs.Callers.{given_begin, unchanged_then}
 use Rattle.sqlite.proofs.StateLemmas.{survives_then, survives_weaker}
 use Rattle.sqlite.proofs.StreamLemmas.{fails_since}
 use Rattle.kd_keeps.specs.declared.fault.StoreFault.{StoreFault}
 use Rattle.kd_rows.specs.declared.row.Row.{Row}
 use Rattle.kd_store.specs.Lease.{rows_text}
-use Rattle.kd_store.specs.Statement.{AreUnread, AreShown}
+use Rattle.kd_keeps.specs.declared.fault.StoreFault.TheVariants as faults
+use Rattle.kd_store.specs.Fault.{IsStrange, IsUnread}
+use Rattle.kd_store.specs.Statement.{AreShown, GoesOn, Reads}
+use Rattle.kd_store.proofs.Strange.{strange_row}
 
 -- ---- whatever the schema is, the query's text is no write
 
@@ -105,7 +108,7 @@ rows_begun g old new (inr h) = absurd (rows_only_read old.schema h.0)
 
 -- ---- what it shows after calls that changed nothing, it shows of the connection as it was before them
 
-module _ (old mid new : State) (same : IsUnchanged old mid) (counts : old.faults ≤ mid.faults) (limit : mid.step_limit ≡ old.step_limit) where
+module _ (old mid new : State) (same : IsUnchanged old mid) where
   abbrev since : (c : Compiled) → IsStatement mid rows_text [] c → IsStatement old rows_text [] c
   since c h = record { is = subst (λ (d : Database). understood d.schema rows_text ≡ Ok c) same.0.now_is h.is; whole = h.whole; given = h.given; now = h.now }
 
@@ -120,56 +123,64 @@ module _ (old mid new : State) (same : IsUnchanged old mid) (counts : old.faults
       let it = subst (ShowsRows mid new rows_text h.0 full rows) none h.2 in
       (h.0, since h.0 h.1, subst (ShowsRows old new rows_text h.0 full rows) (sym none) (it.0, source_since it.0 it.1, it.2, unchanged_then old mid new same it.3))
 
-  pub fails_to_query_since : (e : Error) → FailsToQuery rows_text [] mid new e → FailsToQuery rows_text [] old new e
-  unfolding FailsToQuery IsNotRun
-  fails_to_query_since e (inl (inl h)) = inl (inl (rw (← same.0.now_is) h.0, unchanged_then old mid new same h.1))
-  fails_to_query_since e (inl (inr h)) = inl (inr (fails_since old mid new same counts e h))
-  fails_to_query_since e (inr h) =
-      let none = none_returned mid.now.schema h.0 h.1.is in
-      let full = timed [] h.0.formats h.1.now in
-      let it = subst (FailsToShow mid new rows_text h.0 full e) none h.2 in
-      inr (
-        h.0,
-        since h.0 h.1,
-        subst (FailsToShow old new rows_text h.0 full e) (sym none)
-            (it.0, source_since it.0 it.1, subst (λ l. RefusesToRead l h.0.command it.0 full e) limit it.2, unchanged_then old mid new same it.3),
-      )
+  pub begins_since : (rows : List Columns) → Begins rows_text [] mid rows → Begins rows_text [] old rows
+  unfolding Begins
+  begins_since rows h = (h.0, since h.0 h.1, h.2, h.3, source_since h.3 h.4, h.5)
 
-  pub unread_since : (fault : StoreFault) → AreUnread mid new fault → AreUnread old new fault
-  unread_since fault (inl h) = inl (h.0, unchanged_then old mid new same h.1)
-  unread_since fault (inr h) = inr (h.0, h.1, fails_to_query_since h.0 h.2)
+  module _ (counts : old.faults ≤ mid.faults) (limit : mid.step_limit ≡ old.step_limit) where
+    pub fails_to_query_since : (e : Error) → FailsToQuery rows_text [] mid new e → FailsToQuery rows_text [] old new e
+    unfolding FailsToQuery IsNotRun
+    fails_to_query_since e (inl (inl h)) = inl (inl (rw (← same.0.now_is) h.0, unchanged_then old mid new same h.1))
+    fails_to_query_since e (inl (inr h)) = inl (inr (fails_since old mid new same counts e h))
+    fails_to_query_since e (inr h) =
+        let none = none_returned mid.now.schema h.0 h.1.is in
+        let full = timed [] h.0.formats h.1.now in
+        let it = subst (FailsToShow mid new rows_text h.0 full e) none h.2 in
+        inr (
+          h.0,
+          since h.0 h.1,
+          subst (FailsToShow old new rows_text h.0 full e) (sym none)
+              (it.0, source_since it.0 it.1, subst (λ l. RefusesToRead l h.0.command it.0 full e) limit it.2, unchanged_then old mid new same it.3),
+        )
 
-  pub all_since : (rows : List Row) → AreShown mid new rows → AreShown old new rows
-  all_since rows h = (h.0, shown_since h.0 h.1, h.2)
+    pub all_since : {V : Type 0} (items : V → List Row) (r : Result V StoreFault) → Reads items mid new r → Reads items old new r
+    all_since items (Ok v) h = (h.0, shown_since h.0 h.1, h.2)
+    all_since items (Err fault) (inl h) = inl (h.0, h.1, fails_to_query_since h.0 h.2)
+    all_since items (Err fault) (inr h) = inr (unchanged_then old mid new same h.0, elim h.1 [ inl memory ↦ inl memory | inr strange ↦ inr (strange.0, strange.1, begins_since strange.1 strange.2, strange.3) ])
+
+-- rows that it gives first, of which nothing has changed since, and that begin no table of leases
+pub strange_since : {S : Type 0} (g : Ghosts S) (old new : Held S) (given : List Columns) → IsUnchanged (state g old) (state g new) → HasGiven g rows_text [] new given → IsStrange given
+    → IsUnread (state g old) (state g new) faults.Schema
+strange_since g old new given same has strange = inr (same, inr (refl, given, begins_since (state g old) (state g new) (state g new) same given (given_begin g rows_text [] new given has), strange))
+
+-- the next row is not read
+pub next_unread : {S : Type 0} (g : Ghosts S) (old mid new : Held S) (given : List Columns) (fault : StoreFault) → IsUnchanged (state g old) (state g mid) → (state g old).faults ≤ (state g mid).faults
+    → (state g mid).step_limit ≡ (state g old).step_limit → GoesOn g mid new given (Err fault) → IsUnread (state g old) (state g new) fault
+next_unread g old mid new given fault same counts limit (inl h) = inl (h.0, h.1, fails_to_query_since (state g old) (state g mid) (state g new) same counts limit h.0 h.2)
+next_unread g old mid new given fault same counts limit (inr h) =
+    let still = unchanged_then (state g old) (state g mid) (state g new) same h.3 in
+    elim h.1 [
+      | inl memory ↦ inr (still, inl memory)
+      | inr strange ↦ subst (IsUnread (state g old) (state g new)) (sym strange.0) (strange_since g old new (given ++ h.0 ∷ []) still h.2 (strange_row given h.0 strange.1))
+    ]
+
+-- the answer of the query changes nothing
+pub shown_same : (old new : State) (rows : List Row) → AreShown old new rows → IsUnchanged old new
+unfolding Shown
+shown_same old new rows h =
+    let it = h.1 in
+    let none = none_returned old.now.schema it.0 it.1.is in
+    (subst (ShowsRows old new rows_text it.0 (timed [] it.0.formats it.1.now) h.0) none it.2).3
 
 -- ---- all the rows of a query that has just begun
 
-pub all_read : {S V E : Type 0} (g : Ghosts S) (items : V → List Row) (r : Result V E) (old mid new : Held S) → HasBegun g rows_text [] old mid
+pub all_read : {S V : Type 0} (g : Ghosts S) (items : V → List Row) (r : Result V StoreFault) (old mid new : Held S) → HasBegun g rows_text [] old mid
     → Survives (state g old) (state g mid) (CommitsShowing rows_text [] (state g old))
-    → (HasGiven g rows_text [] mid [] → IsTrue (state g mid).is_open → IfOk r (λ v. AreShown (state g mid) (state g new) (items v))) → IfOk r (λ v. AreShown (state g old) (state g new) (items v))
+    → (HasGiven g rows_text [] mid [] → IsTrue (state g mid).is_open → Reads items (state g mid) (state g new) r) → Reads items (state g old) (state g new) r
 all_read g items r old mid new begun one h =
     let has = rows_begun g old mid begun in
-    weaker _ _ r (λ v. all_since (state g old) (state g mid) (state g new) has.1 one.counts one.limit (items v)) (h has.0 has.1.0.is_open)
-
-pub none_read : {S V : Type 0} (g : Ghosts S) (r : Result V StoreFault) (old mid new : Held S) → HasBegun g rows_text [] old mid → Survives (state g old) (state g mid) (CommitsShowing rows_text [] (state g old))
-    → (HasGiven g rows_text [] mid [] → IsTrue (state g mid).is_open → IfErr r (AreUnread (state g mid) (state g new))) → IfErr r (AreUnread (state g old) (state g new))
-none_read g (Ok v) old mid new begun one h = tt
-none_read g (Err fault) old mid new begun one h =
-    let has = rows_begun g old mid begun in
-    unread_since (state g old) (state g mid) (state g new) has.1 one.counts one.limit fault (h has.0 has.1.0.is_open)
+    all_since (state g old) (state g mid) (state g new) has.1 one.counts one.limit items r (h has.0 has.1.0.is_open)
 
 -- it commits nothing
 pub rows_survive_all : (old mid new : State) → Survives old mid (CommitsShowing rows_text [] old) → Survives mid new (λ _. ⊥) → Survives old new (λ _. ⊥)
 rows_survive_all old mid new one two = survives_then old mid new _ _ _ (λ _ db none. none) (λ _ db none. none) (rows_survive old mid one) two
-
-pub ok_first : {V E : Type 0} (r : Result V E) (A B : V → Type 0) → IfOk r (λ v. A v × B v) → IfOk r A
-ok_first (Ok v) A B h = h.0
-ok_first (Err e) A B h = tt
-
-pub ok_second : {V E : Type 0} (r : Result V E) (A B : V → Type 0) → IfOk r (λ v. A v × B v) → IfOk r B
-ok_second (Ok v) A B h = h.1
-ok_second (Err e) A B h = tt
-
-pub ok_both : {V E : Type 0} (r : Result V E) (A B : V → Type 0) → IfOk r A → IfOk r B → IfOk r (λ v. A v × B v)
-ok_both (Ok v) A B a b = (a, b)
-ok_both (Err e) A B a b = tt

@@ -1,7 +1,6 @@
 -- Lists of rows in rising address, and the columns by which they are stored.
-use Rattle.std.proofs.Common.{◌≡◌, ℕ, ◌+◌, ◌<◌, ◌≤◌, pos, Bool, true, false, not, List, [], ◌∷◌, ◌++◌, map, refl, sym, ap, ap₂, subst, subst₂, ◌∙◌, arith, if◌then◌else◌, ◌==◌, nat_lt, Ordering, Less, Equal, Greater, nat_cmp, true≢false}
+use Rattle.std.proofs.Common.{◌^◌, ◌≡◌, ℕ, ◌+◌, ◌<◌, ◌≤◌, pos, Bool, true, false, not, List, [], ◌∷◌, map, refl, sym, ap, ap₂, subst, subst₂, ◌∙◌, arith, if◌then◌else◌, ◌==◌, nat_lt, Ordering, Less, Equal, Greater, nat_cmp, true≢false}
 use Rattle.std.specs.Prelude.{IsPermutation, filter}
-use Rattle.std.specs.List.{AllByRecursion}
 use Rattle.std.specs.Ordering.{is_eq, match_ordering}
 use Rattle.std.proofs.lemmas.Bool.{eqb-true}
 use Rattle.std.proofs.lemmas.Bool.Decides.{nat_tests}
@@ -10,14 +9,14 @@ use Rattle.sqlite_value.specs.declared.value.Value.TheVariants.{Null, Int, Blob 
 use Rattle.sqlite_value.specs.Order.{Row as Columns, value_cmp}
 use Rattle.sqlite_value.proofs.OrderLemmas.{value_cmp-Int}
 use Rattle.sqlite_trees.specs.Tree.{Trees, rowid, has_rowid, put_row, without_rowid}
-use Rattle.sqlite_trees.proofs.ListLemmas.{filter-map, IsPermutation-filter, all_weaker, all-append}
+use Rattle.sqlite_trees.proofs.ListLemmas.{filter-map, IsPermutation-filter}
 use Rattle.sqlite_rules.specs.Edit.{is_taken}
 use Rattle.sqlite.proofs.Callers.{one_permutation}
 use Rattle.kd_rows.specs.declared.row.Row.{Row}
 use Rattle.kd_rows.specs.declared.row.State.{State}
 use Rattle.kd_rows.specs.declared.row.State.TheVariants.{Offered, Bound, Released, Declined}
 use Rattle.kd_rows.specs.Row.{state_number}
-use Rattle.kd_rows.specs.Table.{Rise, RiseFrom, with_row}
+use Rattle.kd_rows.specs.Table.{RiseFrom, with_row}
 use Rattle.kd_store.specs.Lease.{columns_of}
 use Rattle.kd_store.specs.Stands.{columns_in, Lists}
 
@@ -120,6 +119,12 @@ state_once Declined Bound e = absurd (omega arith)
 state_once Declined Released e = absurd (omega arith)
 state_once Declined Declined e = refl
 
+pub state_small : (s : State) → state_number s < 2 ^ 32
+state_small Offered = omega arith
+state_small Bound = omega arith
+state_small Released = omega arith
+state_small Declined = omega arith
+
 pub row_once : (a b : Row) → columns_of a ≡ columns_of b → a ≡ b
 row_once a b e =
     let address : a.address ≡ b.address = cc in
@@ -174,15 +179,3 @@ pub one_table : (trees : Trees) (a b : List Row) → Lists trees a → Lists tre
 one_table trees a b h k = one_order 0 0 a b h.rise k.rise (IsPermutation-trans _ _ _ h.same (IsPermutation-sym _ _ k.same))
 
 -- ---- rows that are read in turn
-
--- a row above all others goes to the end
-rise_from_push : (n : ℕ) (rows : List Row) (row : Row) → RiseFrom n rows → n ≤ row.address → AllByRecursion (λ y. y.address < row.address) rows → RiseFrom n (rows ++ row ∷ [])
-rise_from_push n [] row rise le below = (le, tt)
-rise_from_push n (y ∷ rows) row rise le below = (rise.0, rise_from_push (y.address + 1) rows row rise.1 (omega (arith, below.0)) below.1)
-
-pub rise_push : (rows : List Row) (row : Row) (least : ℕ) → Rise rows → AllByRecursion (λ y. y.address < least) rows → least ≤ row.address
-    → Rise (rows ++ row ∷ []) × AllByRecursion (λ y. y.address < row.address + 1) (rows ++ row ∷ [])
-rise_push rows row least rise below le = (
-  rise_from_push 0 rows row rise (omega arith) (all_weaker _ (λ y. y.address < row.address) (λ y lt. omega (arith, lt, le)) rows below),
-  all-append _ rows (row ∷ []) (all_weaker _ (λ y. y.address < row.address + 1) (λ y lt. omega (arith, lt, le)) rows below) (omega arith, tt),
-)

@@ -1,42 +1,46 @@
--- The columns of a row that a query shows, why it is not read, what reading the rows one at a time
--- gives, and a connection that is ready for a query: words of private contracts alone.
-use Rattle.std.specs.Prelude.{◌≡◌, ◌⊎◌, false, List, [], ◌∷◌, ◌++◌, map, Option, Some, None, IsTrue}
-use Rattle.sqlite.specs.Order.{Row as Columns, column}
+-- What a connection keeps true of itself, and what reading the rows one at a time gives: words of
+-- private contracts alone.
+use Rattle.std.specs.Prelude.{◌≡◌, ◌⊎◌, List, [], ◌∷◌, ◌++◌, map, Option, Some, None, Result, Ok, Err, IsTrue}
+use Rattle.sqlite.specs.Order.{Row as Columns}
 use Rattle.sqlite.specs.State.{State, IsUnchanged, Shown, FailsToQuery}
 use Rattle.sqlite.specs.Held.{Held, state}
 use Rattle.sqlite.specs.Given.{HasGiven}
 use Rattle.sqlite.specs.declared.error.Error.{Error}
 use Rattle.sqlite_trees.specs.declared.store.Store.{Ghosts}
-use Rattle.sqlite_catalog.specs.Listing.{IsSound}
 use Rattle.kd_keeps.specs.declared.fault.Cause.TheVariants.{OutOfMemory}
 use Rattle.kd_keeps.specs.declared.fault.StoreFault.{StoreFault}
 use Rattle.kd_keeps.specs.declared.fault.StoreFault.TheVariants.{Schema, Sql}
 use Rattle.kd_rows.specs.declared.row.Row.{Row}
-use Rattle.kd_store.specs.Lease.{lease_schema, columns_of, rows_text}
-use Rattle.kd_store.specs.Fault.{store_fault}
+use Rattle.kd_store.specs.Lease.{columns_of, rows_text}
+use Rattle.kd_store.specs.Fault.{IsLease, IsUnread, first_five, reading_fault}
 
--- the first five columns
-abbrev pub first_five : Columns → Columns
-first_five c = column c 0 ∷ column c 1 ∷ column c 2 ∷ column c 3 ∷ column c 4 ∷ []
+-- outside a transaction what a connection shows is committed
+abbrev pub IsSettled : State → Type 0
+IsSettled s = IsTrue s.is_open → s.now ≡ s.committed
 
--- why a row is not read: it is none of ours, or there is no memory for it
-abbrev pub IsUnreadRow : StoreFault → Type 0
-IsUnreadRow fault = (fault ≡ Schema) ⊎ (fault ≡ Sql OutOfMemory)
+-- the columns of no lease
+abbrev pub IsNoRow : Columns → Type 0
+IsNoRow shown = (row : Row) → IsLease row → ¬ (columns_of row ≡ first_five shown)
 
--- why rows are not read: one of them is not, and nothing has changed, or the query failed with the
--- error of that fault
-abbrev pub AreUnread : State → State → StoreFault → Type 0
-AreUnread old new fault =
-    (IsUnreadRow fault × IsUnchanged old new)
-    ⊎ ((error : Error) × (fault ≡ store_fault error) × FailsToQuery rows_text [] old new error)
+-- why columns are not read as a row: there is no memory for it, or they are those of no lease
+abbrev pub IsUnreadRow : Columns → StoreFault → Type 0
+IsUnreadRow shown fault = (fault ≡ Sql OutOfMemory) ⊎ ((fault ≡ Schema) × IsNoRow shown)
 
--- after the rows that it gave, the query gives one more, which is read, or those were its answer
-abbrev pub GoesOn : {S : Type 0} → Ghosts S → Held S → Held S → List Columns → Option Row → Type 0
-GoesOn g old new given (Some row) =
+-- after the rows that it gave, the query gives one more, which is read, or those were its answer, or
+-- it fails, or gives one that is not read
+abbrev pub GoesOn : {S : Type 0} → Ghosts S → Held S → Held S → List Columns
+    → Result (Option Row) StoreFault → Type 0
+GoesOn g old new given (Ok (Some row)) =
     (shown : Columns) × (columns_of row ≡ first_five shown)
     × HasGiven g rows_text [] new (given ++ shown ∷ [])
     × IsUnchanged (state g old) (state g new)
-GoesOn g old new given None = Shown rows_text [] (state g old) (state g new) given
+GoesOn g old new given (Ok None) = Shown rows_text [] (state g old) (state g new) given
+GoesOn g old new given (Err fault) =
+    ((error : Error) × (fault ≡ reading_fault error)
+    × FailsToQuery rows_text [] (state g old) (state g new) error)
+    ⊎ ((shown : Columns) × IsUnreadRow shown fault
+    × HasGiven g rows_text [] new (given ++ shown ∷ [])
+    × IsUnchanged (state g old) (state g new))
 
 -- the query's answer is the columns of these rows
 abbrev pub AreShown : State → State → List Row → Type 0
@@ -44,10 +48,7 @@ AreShown old new rows =
     (shown : List Columns) × Shown rows_text [] old new shown
     × (map columns_of rows ≡ map first_five shown)
 
--- a connection is open, in no transaction, and what it has committed is a database with our schema
-pub record IsReady (s : State) : Type 0 where
-  pub is_open : IsTrue s.is_open
-  pub ready : s.in_transaction ≡ false
-  pub schema : s.now.schema ≡ lease_schema
-  pub sound : IsSound lease_schema s.now.trees
-  pub settled : s.committed ≡ s.now
+-- the rows are the query's answer, or there is a reason why they were not read
+abbrev pub Reads : {V : Type 0} → (V → List Row) → State → State → Result V StoreFault → Type 0
+Reads items old new (Ok rows) = AreShown old new (items rows)
+Reads items old new (Err fault) = IsUnread old new fault

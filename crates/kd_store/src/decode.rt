@@ -1,11 +1,13 @@
-ghost use Rattle.std.specs.Prelude.{◌≡◌, IfOk, IfErr};
-ghost use Rattle.kd_rows.specs.Row.{IsInRange, state_number};
+ghost use Rattle.std.specs.Prelude.{◌≡◌, ◌⊎◌, ◌<◌, length, IfOk, IfErr};
+ghost use Rattle.kd_rows.specs.Row.{state_number};
+ghost use Rattle.kd_rows.specs.declared.row.State.{State as LeaseState};
+ghost use Rattle.kd_store.specs.Fault.{IsLease, first_five};
 ghost use Rattle.kd_store.specs.Lease.{columns_of};
-ghost use Rattle.kd_store.specs.Statement.{IsUnreadRow, first_five};
+ghost use Rattle.kd_store.specs.Statement.{IsUnreadRow};
 ghost use Rattle.sqlite.specs.Order.{column};
 
-use crate::fault::fault_of;
-use kd_keeps::StoreFault;
+use crate::fault::fault_of_reading;
+use kd_keeps::{Cause, StoreFault};
 use kd_rows::{Row, State};
 use kd_wire::Bytes;
 use sqlite::types::FromSql;
@@ -13,18 +15,21 @@ use sqlite::types::FromSql;
 // The value of a column.
 fn column_at<T: FromSql>(columns: &sqlite::Row, at: usize) -> Result<T, StoreFault>
     ensures value { IfOk result (λ value. T.FromSql.reads_as (column columns.now at) value) }
-    ensures fault { IfErr result IsUnreadRow }
+    ensures fault { IfErr result (λ fault. (fault ≡ StoreFault.Sql Cause.OutOfMemory)
+        ⊎ ((fault ≡ StoreFault.Schema)
+        × (at < length columns.now → ¬ T.FromSql.is_readable (column columns.now at)))) }
 {
     match columns.get(at) {
         Ok(value) => Ok(value),
-        Err(error) => Err(fault_of(error)),
+        Err(error) => Err(fault_of_reading(error)),
     }
 }
 
 // The state that a number stands for.
 fn state_of(number: u32) -> Result<State, StoreFault>
     ensures value { IfOk result (λ state. number ≡ state_number state) }
-    ensures fault { IfErr result IsUnreadRow }
+    ensures fault { IfErr result (λ fault. (fault ≡ StoreFault.Schema)
+        × ((state : LeaseState) → ¬ (number ≡ state_number state))) }
 {
     let known = match u8::try_from(number) {
         Ok(number) => State::of_number(number),
@@ -39,8 +44,8 @@ fn state_of(number: u32) -> Result<State, StoreFault>
 // The row that the columns spell, where it is in range.
 pub(crate) fn decode(columns: &sqlite::Row) -> Result<Row, StoreFault>
     ensures columns { IfOk result (λ row. columns_of row ≡ first_five columns.now) }
-    ensures range { IfOk result IsInRange }
-    ensures fault { IfErr result IsUnreadRow }
+    ensures range { IfOk result IsLease }
+    ensures fault { IfErr result (IsUnreadRow columns.now) }
 {
     let address: u32 = column_at(columns, 0)?;
     let client: Vec<u8> = column_at(columns, 1)?;

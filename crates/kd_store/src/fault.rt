@@ -1,5 +1,5 @@
 ghost use Rattle.std.specs.Prelude.{◌≡◌};
-ghost use Rattle.kd_store.specs.Fault.{store_fault};
+ghost use Rattle.kd_store.specs.Fault.{cause_of, fault_of_cause};
 
 use kd_keeps::{Cause, StoreFault};
 use sqlite::{Error, ErrorCode};
@@ -7,20 +7,30 @@ use sqlite::{Error, ErrorCode};
 // There is no memory for the rows.
 pub(crate) const NO_MEMORY: StoreFault = StoreFault::Sql(Cause::OutOfMemory);
 
-// What an error of the database says to the layer above.
-pub(crate) fn fault_of(error: Error) -> StoreFault
-    ensures { result ≡ store_fault error }
+// Why the database has refused a statement.
+pub(crate) fn cause_of_error(error: Error) -> Cause
+    ensures { result ≡ cause_of error }
 {
     let Error::SqliteFailure(code) = error else {
-        return StoreFault::Schema;
+        return Cause::Refused;
     };
     match code {
-        ErrorCode::OutOfMemory => StoreFault::Sql(Cause::OutOfMemory),
-        ErrorCode::SystemIoFailure => StoreFault::Sql(Cause::SystemIoFailure),
-        ErrorCode::DatabaseCorrupt => StoreFault::Sql(Cause::DatabaseCorrupt),
-        ErrorCode::DiskFull => StoreFault::Sql(Cause::DiskFull),
-        ErrorCode::Closed => StoreFault::Sql(Cause::Closed),
-        ErrorCode::TooBig => StoreFault::Sql(Cause::TooBig),
-        _ => StoreFault::Schema,
+        ErrorCode::OutOfMemory => Cause::OutOfMemory,
+        ErrorCode::SystemIoFailure => Cause::SystemIoFailure,
+        ErrorCode::DatabaseCorrupt => Cause::DatabaseCorrupt,
+        ErrorCode::DiskFull => Cause::DiskFull,
+        ErrorCode::Closed => Cause::Closed,
+        ErrorCode::TooBig => Cause::TooBig,
+        _ => Cause::Refused,
+    }
+}
+
+// What a reading says that was refused: a table that is damaged or refused is none of ours.
+pub(crate) fn fault_of_reading(error: Error) -> StoreFault
+    ensures { result ≡ fault_of_cause (cause_of error) }
+{
+    match cause_of_error(error) {
+        Cause::DatabaseCorrupt | Cause::Refused => StoreFault::Schema,
+        cause => StoreFault::Sql(cause),
     }
 }

@@ -3,9 +3,10 @@
 //! What this layer promises to the one above: a store stands at a table of leases, and `put` moves
 //! it to that table with the row set, in one statement and one commit. A crash leaves the table
 //! from before a call or the one after it, and no other, and a store that is opened on what a crash
-//! left stands at it. `specs/Stands.antt` has the words for it, `specs/Lease.antt` the texts of the
-//! statements and the columns, `specs/Fault.antt` the faults, `specs/Laws.antt` what holds over a
-//! crash.
+//! left stands at it. A store is closed, not dropped: so nothing is done to it on the way.
+//! `specs/Stands.antt` has the words for it, `specs/Opening.antt` what an opening says,
+//! `specs/Fault.antt` the faults, `specs/Lease.antt` the texts of the statements and the columns,
+//! `specs/Laws.antt` what holds over a crash.
 #![tactic(auto)]
 
 mod decode;

@@ -1,22 +1,20 @@
-ghost use Rattle.std.specs.Prelude.{◌≡◌, ◌⊎◌, ◌≤◌, ◌<◌, ◌^◌, pos, false, List, [], IsTrue, IfOk, IfErr, IfSome, OnOk, OnErr, Err};
+ghost use Rattle.std.specs.Prelude.{◌≡◌, ◌<◌, ◌^◌, pos, false, List, [], IsTrue, IfOk, IfErr, IfSome};
 ghost use Rattle.std.specs.List.{All};
 ghost use Rattle.sqlite.specs.Held.{state};
-ghost use Rattle.sqlite.specs.State.{CommitsBy, Executes, FailsToQuery, HasCleanDisk, IsUnchanged, Survives};
-ghost use Rattle.sqlite.specs.View.{doubt};
+ghost use Rattle.sqlite.specs.State.{CommitsBy, Executes, HasCleanDisk, IsLive, Survives};
 ghost use Rattle.sqlite.specs.Given.{HasGiven};
 ghost use Rattle.sqlite.specs.Order.{Row as Columns};
+ghost use Rattle.kd_keeps.specs.Moves.{Moves};
 ghost use Rattle.kd_rows.specs.Row.{IsInRange};
 ghost use Rattle.kd_rows.specs.Table.{Rise, with_row};
 ghost use Rattle.kd_rows.specs.declared.row.Row.{Row as LeaseRow};
-ghost use Rattle.kd_store.specs.Lease.{columns_of, lease_schema, make_text, no_schema, put_text, rows_text};
-ghost use Rattle.kd_store.specs.Stands.{Finds, Holds, Leaves, Stands};
-ghost use Rattle.kd_store.specs.Statement.{AreShown, AreUnread, GoesOn, IsReady, IsUnreadRow};
-ghost use Rattle.kd_store.specs.Fault.{store_fault};
-ghost use Rattle.sqlite.specs.declared.error.Error.{Error};
-ghost use Rattle.sqlite.specs.Tree.{Trees};
+ghost use Rattle.kd_store.specs.Fault.{IsLease, IsRefused};
+ghost use Rattle.kd_store.specs.Lease.{columns_of, make_text, put_text, rows_text};
+ghost use Rattle.kd_store.specs.Stands.{Leaves, Stands};
+ghost use Rattle.kd_store.specs.Statement.{GoesOn, IsSettled, Reads};
 
 use crate::decode::decode;
-use crate::fault::{NO_MEMORY, fault_of};
+use crate::fault::{NO_MEMORY, cause_of_error, fault_of_reading};
 use kd_keeps::StoreFault;
 use kd_rows::Row;
 use sqlite::{Alter, Connection, Error, Rows, params};
@@ -33,38 +31,18 @@ const ROWS: &str = "SELECT address, client, state, changed, ends FROM lease ORDE
 // Makes the table where there is none. The two questions before it tell what the connection keeps
 // true of itself: the database obeys its schema, and what it shows outside a transaction is
 // committed.
-pub(crate) fn make<S: Alter>(conn: &mut Connection<S>) -> Result<(), StoreFault>
+pub(crate) fn make<S: Alter>(conn: &mut Connection<S>) -> Result<usize, Error>
     requires { (state S.Store conn.old).in_transaction ≡ false }
-    ensures clean { doubt (state S.Store conn.old).is_clean
-        ≤ doubt (state S.Store conn.new).is_clean }
-    ensures made { HasCleanDisk (state S.Store conn.new)
-        → (state S.Store conn.old).now.schema ≡ no_schema
-        → OnOk result (Stands (state S.Store conn.new) []) }
-    ensures same { HasCleanDisk (state S.Store conn.new)
-        → (state S.Store conn.old).now.schema ≡ lease_schema
-        → OnOk result (IsReady (state S.Store conn.new)
-        × IsUnchanged (state S.Store conn.old) (state S.Store conn.new)) }
-    ensures table { HasCleanDisk (state S.Store conn.new) → (table : List LeaseRow)
-        → Finds (state S.Store conn.old) table
-        → OnOk result (Stands (state S.Store conn.new) table) }
-    ensures fault { HasCleanDisk (state S.Store conn.new) → (table : List LeaseRow)
-        → Finds (state S.Store conn.old) table
-        → OnErr result (IsTrue (state S.Store conn.new).is_open
-        → Finds (state S.Store conn.new) table) }
-    ensures told { HasCleanDisk (state S.Store conn.new)
-        → IfErr result (λ fault. (error : Error) × (fault ≡ store_fault error)
-        × Executes make_text [] (state S.Store conn.old) (state S.Store conn.new) (Err error)) }
-    ensures crash { HasCleanDisk (state S.Store conn.new) → (table : List LeaseRow)
-        → Finds (state S.Store conn.old) table → (db : Trees)
-        → (state S.Store conn.new).may_leave db → (state S.Store conn.old).may_leave db
-        ⊎ Holds db table }
+    ensures live { IsLive (state S.Store conn.old) }
+    ensures settled { IsSettled (state S.Store conn.old) }
+    ensures runs { HasCleanDisk (state S.Store conn.new)
+        → Executes make_text [] (state S.Store conn.old) (state S.Store conn.new) result }
+    ensures survives { Survives (state S.Store conn.old) (state S.Store conn.new)
+        (CommitsBy make_text [] (state S.Store conn.old)) }
 {
     let _idle = conn.is_autocommit();
     let _schema = conn.schema();
-    match conn.execute(MAKE, &[]) {
-        Ok(_) => Ok(()),
-        Err(error) => Err(fault_of(error)),
-    }
+    conn.execute(MAKE, &[])
 }
 
 // A number as SQL has it, where an integer has a sign.
@@ -96,26 +74,18 @@ fn execute_put<S: Alter>(conn: &mut Connection<S>, row: &Row) -> Result<usize, E
 // Sets a row, in one statement and one commit.
 pub(crate) fn put<S: Alter>(conn: &mut Connection<S>, row: &Row) -> Result<(), StoreFault>
     requires { IsInRange row.now }
-    ensures clean { doubt (state S.Store conn.old).is_clean
-        ≤ doubt (state S.Store conn.new).is_clean }
+    ensures clean { HasCleanDisk (state S.Store conn.new) → HasCleanDisk (state S.Store conn.old) }
     ensures put { HasCleanDisk (state S.Store conn.new) → (table : List LeaseRow)
         → Stands (state S.Store conn.old) table
-        → OnOk result (Stands (state S.Store conn.new) (with_row row.now table)) }
-    ensures fault { HasCleanDisk (state S.Store conn.new) → (table : List LeaseRow)
-        → Stands (state S.Store conn.old) table
-        → OnErr result (IsTrue (state S.Store conn.new).is_open
-        → Stands (state S.Store conn.new) table) }
+        → Moves (Stands (state S.Store conn.new)) (Leaves (state S.Store conn.new))
+        (IsTrue (state S.Store conn.new).is_open) table (with_row row.now table) result }
     ensures told { HasCleanDisk (state S.Store conn.new)
-        → IfErr result (λ fault. (error : Error) × (fault ≡ store_fault error)
-        × Executes put_text (columns_of row.now) (state S.Store conn.old)
-        (state S.Store conn.new) (Err error)) }
-    ensures crash { HasCleanDisk (state S.Store conn.new) → (table : List LeaseRow)
-        → Stands (state S.Store conn.old) table
-        → Leaves (state S.Store conn.new) table (with_row row.now table) }
+        → IfErr result (IsRefused put_text (columns_of row.now) (state S.Store conn.old)
+        (state S.Store conn.new)) }
 {
     match execute_put(conn, row) {
         Ok(_) => Ok(()),
-        Err(error) => Err(fault_of(error)),
+        Err(error) => Err(StoreFault::Sql(cause_of_error(error))),
     }
 }
 
@@ -124,17 +94,13 @@ fn next<S: Alter>(shown: &mut Rows<'_, S>) -> Result<Option<Row>, StoreFault>
     ensures same_reference { shown.new.conn.ghost_name ≡ shown.old.conn.ghost_name }
     ensures survives { Survives (state S.Store shown.old.conn.now)
         (state S.Store shown.new.conn.now) (λ _. ⊥) }
-    ensures row { HasCleanDisk (state S.Store shown.new.conn.now) → (given : List Columns)
+    ensures next { HasCleanDisk (state S.Store shown.new.conn.now) → (given : List Columns)
         → HasGiven S.Store rows_text [] shown.old.conn.now given
-        → IfOk result (GoesOn S.Store shown.old.conn.now shown.new.conn.now given) }
-    ensures fault { HasCleanDisk (state S.Store shown.new.conn.now) → (given : List Columns)
-        → HasGiven S.Store rows_text [] shown.old.conn.now given
-        → IfErr result (AreUnread (state S.Store shown.old.conn.now)
-        (state S.Store shown.new.conn.now)) }
-    ensures range { IfOk result (λ row. IfSome row IsInRange) }
+        → GoesOn S.Store shown.old.conn.now shown.new.conn.now given result }
+    ensures range { IfOk result (λ row. IfSome row IsLease) }
 {
     if let Err(error) = shown.advance() {
-        return Err(fault_of(error));
+        return Err(fault_of_reading(error));
     }
     match shown.get() {
         Some(columns) => match decode(columns) {
@@ -150,16 +116,11 @@ fn gather<S: Alter>(alloc: Global, shown: &mut Rows<'_, S>) -> Result<Vec<Row>, 
     ensures same_reference { shown.new.conn.ghost_name ≡ shown.old.conn.ghost_name }
     ensures survives { Survives (state S.Store shown.old.conn.now)
         (state S.Store shown.new.conn.now) (λ _. ⊥) }
-    ensures shown { HasCleanDisk (state S.Store shown.new.conn.now)
+    ensures read { HasCleanDisk (state S.Store shown.new.conn.now)
         → HasGiven S.Store rows_text [] shown.old.conn.now []
         → IsTrue (state S.Store shown.old.conn.now).is_open
-        → IfOk result (λ rows. AreShown (state S.Store shown.old.conn.now)
-        (state S.Store shown.new.conn.now) rows.items) }
-    ensures fault { HasCleanDisk (state S.Store shown.new.conn.now)
-        → HasGiven S.Store rows_text [] shown.old.conn.now []
-        → IsTrue (state S.Store shown.old.conn.now).is_open
-        → IfErr result (AreUnread (state S.Store shown.old.conn.now)
-        (state S.Store shown.new.conn.now)) }
+        → Reads (λ rows. rows.items) (state S.Store shown.old.conn.now)
+        (state S.Store shown.new.conn.now) result }
     ensures rise { IfOk result (λ rows. Rise rows.items) }
     ensures ranges { IfOk result (λ rows. All IsInRange rows.items) }
 {
@@ -188,30 +149,14 @@ pub(crate) fn read<S: Alter>(
     alloc: Global,
     conn: &mut Connection<S>,
 ) -> Result<Vec<Row>, StoreFault>
-    ensures clean { doubt (state S.Store conn.old).is_clean
-        ≤ doubt (state S.Store conn.new).is_clean }
+    ensures survives { Survives (state S.Store conn.old) (state S.Store conn.new) (λ _. ⊥) }
+    ensures read { HasCleanDisk (state S.Store conn.new)
+        → Reads (λ rows. rows.items) (state S.Store conn.old) (state S.Store conn.new) result }
     ensures rise { IfOk result (λ rows. Rise rows.items) }
     ensures ranges { IfOk result (λ rows. All IsInRange rows.items) }
-    ensures found { HasCleanDisk (state S.Store conn.new) → IsReady (state S.Store conn.old)
-        → IfOk result (λ rows. Stands (state S.Store conn.old) rows.items
-        × Stands (state S.Store conn.new) rows.items) }
-    ensures rows { HasCleanDisk (state S.Store conn.new) → (table : List LeaseRow)
-        → Stands (state S.Store conn.old) table
-        → IfOk result (λ rows. (rows.items ≡ table) × Stands (state S.Store conn.new) table) }
-    ensures fault { HasCleanDisk (state S.Store conn.new) → (table : List LeaseRow)
-        → Stands (state S.Store conn.old) table
-        → OnErr result (IsTrue (state S.Store conn.new).is_open
-        → Stands (state S.Store conn.new) table) }
-    ensures told { HasCleanDisk (state S.Store conn.new)
-        → IfErr result (λ fault. IsUnreadRow fault
-        ⊎ ((error : Error) × (fault ≡ store_fault error)
-        × FailsToQuery rows_text [] (state S.Store conn.old)
-        (state S.Store conn.new) error)) }
-    ensures crash { HasCleanDisk (state S.Store conn.new) → (table : List LeaseRow)
-        → Stands (state S.Store conn.old) table → Leaves (state S.Store conn.new) table table }
 {
     match conn.query(ROWS, &[]) {
         Ok(mut shown) => gather(alloc, &mut shown),
-        Err(error) => Err(fault_of(error)),
+        Err(error) => Err(fault_of_reading(error)),
     }
 }

@@ -1,36 +1,32 @@
-ghost use Rattle.std.specs.Prelude.{◌≡◌, ◌⊎◌, ◌≤◌, false, List, [], IsTrue, IfOk, IfErr, OnOk, OnErr, is_err};
+ghost use Rattle.std.specs.Prelude.{◌≡◌, None, false, List, IsTrue, IfOk, IfErr, is_some};
+ghost use Rattle.std.specs.List.{All};
+ghost use Rattle.std.specs.Result.{result_err};
 ghost use Rattle.sqlite.specs.Held.{state};
 ghost use Rattle.sqlite.specs.State.{HasCleanDisk};
-ghost use Rattle.sqlite.specs.View.{doubt};
+ghost use Rattle.kd_keeps.specs.Moves.{Moves};
+ghost use Rattle.kd_keeps.specs.Reading.{AreRead};
+ghost use Rattle.kd_rows.specs.Row.{IsInRange};
+ghost use Rattle.kd_rows.specs.Table.{Rise, with_row};
 ghost use Rattle.kd_rows.specs.declared.row.Row.{Row as LeaseRow};
-ghost use Rattle.kd_store.specs.Lease.{lease_schema, no_schema};
-ghost use Rattle.kd_store.specs.Stands.{Finds, Holds, Stands};
-ghost use Rattle.sqlite.specs.Tree.{Trees};
+ghost use Rattle.kd_store.specs.Fault.{IsRefused, IsUnread};
+ghost use Rattle.kd_store.specs.Lease.{columns_of, put_text};
+ghost use Rattle.kd_store.specs.Opening.{GivesBack, OpensAt};
+ghost use Rattle.kd_store.specs.Stands.{Leaves, Stands};
 
+use crate::fault::cause_of_error;
 use crate::statement::{make, put, read};
-use kd_keeps::{Keeps, StoreFault};
+use kd_keeps::{Keeps, Opened, StoreFault, fault_in};
 use kd_rows::Row;
 use sqlite::{Alter, Connection};
 use std::alloc::Global;
 use std::marker::Model;
 
-/// The table of leases in a database, over its connection. In a contract a store is a record:
-/// `conn`, what the connection shows, and `failed`.
+/// The table of leases in a database, over its connection. A store has to be closed. In a contract
+/// it is a record: `conn`, what the connection shows, and `fault`, with which it has failed.
 pub struct Store<S: Alter> {
     conn: Connection<S>,
-    failed: bool,
+    fault: Option<StoreFault>,
     alloc: Global,
-}
-
-// It is written out, so that a caller does not prove again how each part is dropped.
-impl<S: Alter + Drop> Drop for Store<S> {
-    fn drop(self) {
-        let Store {
-            conn: _,
-            failed: _,
-            alloc: _,
-        } = self;
-    }
 }
 
 impl<S: Alter> Model for Store<S> {
@@ -40,7 +36,7 @@ impl<S: Alter> Model for Store<S> {
 
     ghost coded = { kept_code S.code };
 
-    ghost view = { λ s. record { conn = s.conn; failed = s.failed } };
+    ghost view = { λ s. record { conn = s.conn; fault = s.fault } };
 }
 
 impl<S: Alter> Store<S> {
@@ -49,46 +45,47 @@ impl<S: Alter> Store<S> {
     ///
     /// # Errors
     ///
-    /// The database has a table `lease` that is not ours or a row out of range (`Schema`), or does
-    /// not answer (`Sql`). The connection comes back; while it is open it finds the table that it
-    /// found before. A table that was not there may have been made.
-    pub fn open(
+    /// `Schema`: the database has a table `lease` that can not be read as ours, or a row that is out
+    /// of range. `Sql`: it does not answer, or refuses to make the table. The connection comes back;
+    /// while it is open it finds the table that it found before. A table that was not there may have
+    /// been made.
+    pub fn open(alloc: Global, conn: Connection<S>) -> Result<Store<S>, (StoreFault, Connection<S>)>
+        requires ready { (state S.Store conn).in_transaction ≡ false }
+        ensures opened { IfOk result (λ store. (store.fault ≡ None)
+            × OpensAt (state S.Store conn) (state S.Store store.conn)) }
+        ensures refused { IfErr result (λ back. GivesBack S.Store back.0 conn back.1) }
+    {
+        let Opened { store, rows: _ } = Store::open_with_rows(alloc, conn)?;
+        Ok(store)
+    }
+
+    /// The same, with the rows of the table, which is read once.
+    ///
+    /// # Errors
+    ///
+    /// Those of `open`.
+    pub fn open_with_rows(
         alloc: Global,
         mut conn: Connection<S>,
-    ) -> Result<Store<S>, (StoreFault, Connection<S>)>
+    ) -> Result<Opened<Store<S>>, (StoreFault, Connection<S>)>
         requires ready { (state S.Store conn).in_transaction ≡ false }
-        ensures clean { IfOk result
-            (λ store. HasCleanDisk (state S.Store store.conn) → HasCleanDisk (state S.Store conn)) }
-        ensures err_clean { IfErr result
-            (λ e. HasCleanDisk (state S.Store e.1) → HasCleanDisk (state S.Store conn)) }
-        ensures table { IfOk result
-            (λ store. HasCleanDisk (state S.Store store.conn) → (table : List LeaseRow)
-            → Finds (state S.Store conn) table → Stands (state S.Store store.conn) table) }
-        ensures stands { IfOk result
-            (λ store. HasCleanDisk (state S.Store store.conn)
-            → ((state S.Store conn).now.schema ≡ no_schema)
-            ⊎ ((state S.Store conn).now.schema ≡ lease_schema)
-            → (table : List LeaseRow) × Finds (state S.Store conn) table
-            × Stands (state S.Store store.conn) table) }
-        ensures fault { IfErr result
-            (λ e. HasCleanDisk (state S.Store e.1) → (table : List LeaseRow)
-            → Finds (state S.Store conn) table → IsTrue (state S.Store e.1).is_open
-            → Finds (state S.Store e.1) table) }
-        ensures crash { IfErr result
-            (λ e. HasCleanDisk (state S.Store e.1) → (table : List LeaseRow)
-            → Finds (state S.Store conn) table → (db : Trees) → (state S.Store e.1).may_leave db
-            → (state S.Store conn).may_leave db ⊎ Holds db table) }
-        ensures failed { IfOk result (λ store. store.failed ≡ false) }
+        ensures opened { IfOk result (λ it. (it.store.fault ≡ None)
+            × OpensAt (state S.Store conn) (state S.Store it.store.conn)) }
+        ensures rows { IfOk result (λ it. AreRead ⟦<Store<S> as Keeps>⟧ it.store it.rows.items) }
+        ensures refused { IfErr result (λ back. GivesBack S.Store back.0 conn back.1) }
     {
-        if let Err(fault) = make(&mut conn) {
-            return Err((fault, conn));
+        if let Err(error) = make(&mut conn) {
+            return Err((StoreFault::Sql(cause_of_error(error)), conn));
         }
         match read(alloc, &mut conn) {
-            Ok(_) => Ok(Store {
-                conn,
-                failed: false,
-                alloc,
-            }),
+            Ok(rows) => {
+                let store = Store {
+                    conn,
+                    fault: None,
+                    alloc,
+                };
+                Ok(Opened { store, rows })
+            }
             Err(fault) => Err((fault, conn)),
         }
     }
@@ -99,7 +96,7 @@ impl<S: Alter> Store<S> {
     {
         let Store {
             conn: connection,
-            failed: _,
+            fault: _,
             alloc: _,
         } = self;
         connection
@@ -120,21 +117,51 @@ impl<S: Alter> Keeps for Store<S> {
 
     ghost is_open = { λ s. IsTrue (state S.Store s.conn).is_open };
 
-    ghost has_failed = { λ s. s.failed };
+    ghost fault = { λ s. s.fault };
 
-    fn put(&mut self, row: &Row) -> Result<(), StoreFault> {
+    fn put(&mut self, row: &Row) -> Result<(), StoreFault>
+        requires ready { is_some self.old.fault ≡ false }
+        requires range { IsInRange row.now }
+        ensures clean { HasCleanDisk (state S.Store self.new.conn)
+            → HasCleanDisk (state S.Store self.old.conn) }
+        ensures put { HasCleanDisk (state S.Store self.new.conn) → (table : List LeaseRow)
+            → Stands (state S.Store self.old.conn) table
+            → Moves (Stands (state S.Store self.new.conn)) (Leaves (state S.Store self.new.conn))
+            (IsTrue (state S.Store self.new.conn).is_open) table (with_row row.now table) result }
+        ensures failed { self.new.fault ≡ result_err result }
+        ensures told { HasCleanDisk (state S.Store self.new.conn)
+            → IfErr result (IsRefused put_text (columns_of row.now)
+            (state S.Store self.old.conn) (state S.Store self.new.conn)) }
+    {
         let done = put(&mut self.conn, row);
-        self.failed = done.is_err();
+        self.fault = fault_in(&done);
         done
     }
 
-    fn rows(&mut self) -> Result<Vec<Row>, StoreFault> {
+    fn rows(&mut self) -> Result<Vec<Row>, StoreFault>
+        requires ready { is_some self.old.fault ≡ false }
+        ensures clean { HasCleanDisk (state S.Store self.new.conn)
+            → HasCleanDisk (state S.Store self.old.conn) }
+        ensures rise { IfOk result (λ rows. Rise rows.items) }
+        ensures ranges { IfOk result (λ rows. All IsInRange rows.items) }
+        ensures found { HasCleanDisk (state S.Store self.new.conn) → (table : List LeaseRow)
+            → Stands (state S.Store self.old.conn) table
+            → IfOk result (λ rows. rows.items ≡ table) }
+        ensures stays { HasCleanDisk (state S.Store self.new.conn) → (table : List LeaseRow)
+            → Stands (state S.Store self.old.conn) table
+            → Moves (Stands (state S.Store self.new.conn)) (Leaves (state S.Store self.new.conn))
+            (IsTrue (state S.Store self.new.conn).is_open) table table result }
+        ensures failed { self.new.fault ≡ result_err result }
+        ensures told { HasCleanDisk (state S.Store self.new.conn)
+            → IfErr result (IsUnread (state S.Store self.old.conn)
+            (state S.Store self.new.conn)) }
+    {
         let found = read(self.alloc, &mut self.conn);
-        self.failed = found.is_err();
+        self.fault = fault_in(&found);
         found
     }
 
     fn failed(&self) -> bool {
-        self.failed
+        self.fault.is_some()
     }
 }

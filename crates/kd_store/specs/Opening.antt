@@ -1,0 +1,40 @@
+-- What a connection is, once a store was opened over it or was not.
+use Rattle.std.specs.Prelude.{◌≡◌, ◌⊎◌, ℕ, List, [], Ok, IsTrue}
+use Rattle.sqlite.specs.Held.{Held, state}
+use Rattle.sqlite.specs.State.{State, HasCleanDisk, Executes}
+use Rattle.sqlite.specs.Tree.{Trees}
+use Rattle.sqlite_trees.specs.declared.store.Store.{Ghosts}
+use Rattle.kd_keeps.specs.declared.fault.StoreFault.{StoreFault}
+use Rattle.kd_rows.specs.declared.row.Row.{Row}
+use Rattle.kd_store.specs.Fault.{IsRefused, IsUnread}
+use Rattle.kd_store.specs.Lease.{lease_schema, make_text, no_schema}
+use Rattle.kd_store.specs.Stands.{Finds, Holds, Stands}
+
+-- a database has our schema, or an empty one
+abbrev pub IsOurs : State → Type 0
+IsOurs s = (s.now.schema ≡ no_schema) ⊎ (s.now.schema ≡ lease_schema)
+
+-- a store was opened over a connection: it stands at whatever table the connection found, and there
+-- was one where the database had our schema, or an empty one
+pub record OpensAt (old new : State) : Type 0 where
+  pub clean : HasCleanDisk new → HasCleanDisk old
+  pub stands : HasCleanDisk new → (table : List Row) → Finds old table → Stands new table
+  pub finds : HasCleanDisk new → IsOurs old → (table : List Row) × Finds old table
+
+-- why none was opened: the table was not made, or it was and its rows were not read
+abbrev pub IsUnopened : {S : Type 0} → Ghosts S → StoreFault → Held S → Held S → Type 0
+IsUnopened {S} g fault old new =
+    IsRefused make_text [] (state g old) (state g new) fault
+    ⊎ ((made : Held S) × (count : ℕ) × Executes make_text [] (state g old) (state g made) (Ok count)
+    × IsUnread (state g made) (state g new) fault)
+
+-- a connection comes back over which none was opened: while it is open it finds the table that it
+-- found before, and a crash leaves what it left before, or that table
+pub record GivesBack {S : Type 0} (g : Ghosts S) (fault : StoreFault)
+    (old new : Held S) : Type 0 where
+  pub clean : HasCleanDisk (state g new) → HasCleanDisk (state g old)
+  pub found : HasCleanDisk (state g new) → (table : List Row) → Finds (state g old) table
+      → IsTrue (state g new).is_open → Finds (state g new) table
+  pub crash : HasCleanDisk (state g new) → (table : List Row) → Finds (state g old) table
+      → (db : Trees) → (state g new).may_leave db → (state g old).may_leave db ⊎ Holds db table
+  pub why : HasCleanDisk (state g new) → IsUnopened g fault old new
