@@ -1,18 +1,27 @@
--- Where a store of leases stands that is opened in files.
-use Rattle.std.specs.Prelude.{◌≡◌, ◌⊎◌, List, []}
+-- Where a store of leases stands that is opened in files, and why one is not opened.
+use Rattle.std.specs.Prelude.{◌≡◌, ◌⊎◌, false, List, [], IsTrue}
 use Rattle.sqlite_disk.specs.declared.Disk.{Ghosts}
 use Rattle.sqlite_wal.specs.Recovery.{Image}
 use Rattle.sqlite_trees.specs.Tree.{Trees}
 use Rattle.sqlite_store.specs.declared.store.FileStore.{FileStore}
 use Rattle.sqlite_store.specs.FileStore as files
+use Rattle.sqlite.specs.declared.error.Error.{Error}
+use Rattle.sqlite.specs.declared.error.Error.TheVariants.{SqliteFailure}
+use Rattle.sqlite.specs.declared.error.ErrorCode.TheVariants.{CannotOpen, DatabaseBusy, NotADatabase}
 use Rattle.sqlite.specs.Held.{Held}
+use Rattle.sqlite.specs.Opening.{is_open_error}
+use Rattle.sqlite.specs.Start.{FindsIn}
 use Rattle.sqlite.specs.State.{HasCleanDisk}
-use Rattle.sqlite.specs.Files.{HoldsDatabase, over_files, file_state}
+use Rattle.sqlite.specs.Files.{HoldsDatabase, IsOpened, over_files, file_state}
+use Rattle.kd_keeps.specs.declared.fault.Cause.{Cause}
+use Rattle.kd_keeps.specs.declared.fault.Cause.TheVariants as cause
+use Rattle.kd_keeps.specs.declared.fault.StoreFault.{StoreFault}
+use Rattle.kd_keeps.specs.declared.fault.StoreFault.TheVariants.{Sql}
 use Rattle.kd_rows.specs.declared.row.Row.{Row}
+use Rattle.kd_store.specs.Fault.{cause_of}
 use Rattle.kd_store.specs.Kept.{Kept}
-use Rattle.kd_store.specs.Laws.{IsOpenedOn, LetGo}
-use Rattle.kd_store.specs.Lease.{lease_schema, no_schema}
-use Rattle.kd_store.specs.Stands.{Finds, Holds, Stands}
+use Rattle.kd_store.specs.Opening.{GivesBack, OpensAt}
+use Rattle.kd_store.specs.Stands.{Holds, Stands}
 
 -- a file and a log without a byte
 abbrev pub no_bytes : Image
@@ -29,32 +38,33 @@ abbrev pub StandsNew : {D : Type 0} {g : Ghosts D} → Image → Kept (FileStore
 StandsNew image store =
     HasCleanDisk (file_state store.conn) → image.db ≡ [] → Stands (file_state store.conn) []
 
--- a store over a connection that was opened on what files held: it stands at the table that this
--- connection finds, and there is one where the schema is ours or empty
+-- a connection was opened on what files held: where their disk gave back what was written, it is
+-- open and finds that, and the pages of a new file have no sums
+pub record IsOpenedOn {D : Type 0} {g : Ghosts D} (image : Image)
+    (opened : Held (FileStore D g)) : Type 0 where
+  pub is_opened : HasCleanDisk (file_state opened) → IsOpened opened
+  pub found : HasCleanDisk (file_state opened) → FindsIn image (file_state opened)
+  pub plain : HasCleanDisk (file_state opened) → image.db ≡ []
+      → (files.view opened.store).has_sums ≡ false
+
+-- a store over a connection that was opened on what files held
 pub record IsStoreIn {D : Type 0} {g : Ghosts D} (image : Image)
     (store : Kept (FileStore D g)) : Type 0 where
   pub opened : Held (FileStore D g)
   pub on : IsOpenedOn image opened
-  pub clean : HasCleanDisk (file_state store.conn) → HasCleanDisk (file_state opened)
-  pub table : HasCleanDisk (file_state store.conn) → (table : List Row)
-      → Finds (file_state opened) table → Stands (file_state store.conn) table
-  pub stands : HasCleanDisk (file_state store.conn) → ((file_state opened).now.schema ≡ no_schema)
-      ⊎ ((file_state opened).now.schema ≡ lease_schema)
-      → (table : List Row) × Finds (file_state opened) table × Stands (file_state store.conn) table
+  pub opens : OpensAt (file_state opened) (file_state store.conn)
 
--- a store stands at one table, which is one of any two that a crash could leave of files that were
--- let go
-abbrev pub StandsWhereLeft : {D E : Type 0} {g : Ghosts D} {h : Ghosts E} → FileStore D g
-    → Kept (FileStore E h) → Type 0
-StandsWhereLeft it store =
-    (found : List Row) × Stands (file_state store.conn) found
-    × ((before after : List Row) → LetGo over_files it before after → (found ≡ before)
-    ⊎ (found ≡ after))
+-- the cause of an error with which files are not opened: what is no database is damaged, and what
+-- is not opened at all, or open elsewhere, can not be read
+abbrev pub opening_cause : Error → Cause
+opening_cause (SqliteFailure NotADatabase) = cause.DatabaseCorrupt
+opening_cause (SqliteFailure CannotOpen) = cause.SystemIoFailure
+opening_cause (SqliteFailure DatabaseBusy) = cause.SystemIoFailure
+opening_cause error = cause_of error
 
--- so does one in files that are what a crash left of them
-abbrev pub Restarts : {D E : Type 0} → Ghosts D → Ghosts E → Type 0
-Restarts {D} {E} g h =
-    (it : FileStore D g) (before after : List Row) → LetGo over_files it before after
-    → (image : Image) → (files.state it).may_leave image → (store : Kept (FileStore E h))
-    → IsStoreIn image store
-    → HasCleanDisk (file_state store.conn) → StandsWhereLeft it store
+-- why there is no store: the files were not opened, or there was none over the connection to them
+abbrev pub IsNoStoreIn : {D : Type 0} → Ghosts D → Image → StoreFault → Type 0
+IsNoStoreIn {D} g image fault =
+    ((error : Error) × IsTrue (is_open_error error) × (fault ≡ Sql (opening_cause error)))
+    ⊎ ((opened back : Held (FileStore D g)) × IsOpenedOn image opened
+    × GivesBack over_files fault opened back)

@@ -1,12 +1,13 @@
 //! The database of leases that a program opens.
 //!
 //! What this layer promises to the one above: a store of leases is opened in memory, at the empty
-//! table, or in a file, at the table of the database that it holds (`specs/Stores.antt`); on what a
-//! crash left, at the table from before the last call or at the one after it.
+//! table, or in a file, at the table of the database that it holds, with the rows of that table
+//! (`specs/Stores.antt`); on what a crash left, at the table from before the last call or at the one
+//! after it (`specs/Stops.antt`).
 #![tactic(auto)]
 
+mod stops;
 mod stores;
 
-pub use stores::{
-    InFile, InMemory, restarts, store_from, store_in_file, store_in_memory, store_over,
-};
+pub use stops::{kills, let_go, restarts};
+pub use stores::{InFile, InMemory, store_from, store_in_file, store_in_memory, store_over};

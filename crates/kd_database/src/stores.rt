@@ -1,20 +1,21 @@
-ghost use Rattle.std.specs.Prelude.{◌≡◌, ◌⊎◌, IfOk, List, [], true, false};
+ghost use Rattle.std.specs.Prelude.{◌≡◌, ◌⊎◌, IfErr, IfOk, [], true, false};
 ghost use Rattle.sqlite_wal.specs.Files.{image_at};
-ghost use Rattle.sqlite.specs.Held.{state};
-ghost use Rattle.sqlite.specs.State.{HasCleanDisk};
+ghost use Rattle.sqlite.specs.Held.{Held, state};
 ghost use Rattle.sqlite.specs.Steps.{over_memory};
-ghost use Rattle.kd_rows.specs.declared.row.Row.{Row as LeaseRow};
-ghost use Rattle.kd_store.specs.Lease.{lease_schema, no_schema};
-ghost use Rattle.kd_store.specs.Stands.{Finds, Stands};
-ghost use Rattle.kd_database.specs.Stores.{IsStoreIn, Restarts, StandsAsHeld, StandsNew, no_bytes};
+ghost use Rattle.kd_keeps.specs.Reading.{AreRead};
+ghost use Rattle.kd_store.specs.Opening.{GivesBack, OpensAt};
+ghost use Rattle.kd_store.specs.Stands.{Stands};
+ghost use Rattle.kd_database.specs.Stores.{IsNoStoreIn, IsStoreIn, StandsAsHeld, StandsNew, no_bytes, opening_cause};
 
-use kd_keeps::{Cause, StoreFault};
+use kd_keeps::{Cause, Keeps, Opened, StoreFault};
 use kd_store::Store;
 use sqlite::{
     Alter, Connection, Error, ErrorCode, File, FileFrom, FileStore, MemStore, Start, Unknown,
 };
 use sqlite_disk::Disk;
 use std::alloc::Global;
+use std::fs::OpenOptions;
+use std::os::unix::fs::OpenOptionsExt;
 
 /// What the leases of a file are kept in.
 pub type InFile = FileStore<File>;
@@ -27,9 +28,10 @@ pub type InMemory = MemStore;
 /// # Errors
 ///
 /// There is no memory for it.
-pub fn store_in_memory(alloc: Global) -> Result<Store<InMemory>, StoreFault>
-    ensures failed { IfOk result (λ store. store.failed ≡ false) }
-    ensures stands { IfOk result (λ store. Stands (state over_memory store.conn) []) }
+pub fn store_in_memory(alloc: Global) -> Result<Opened<Store<InMemory>>, StoreFault>
+    ensures fault { IfOk result (λ it. it.store.fault ≡ None) }
+    ensures stands { IfOk result (λ it. Stands (state over_memory it.store.conn) []) }
+    ensures rows { IfOk result (λ it. it.rows.items ≡ []) }
 {
     match Connection::open_in_memory(alloc) {
         Ok(conn) => store_over(alloc, conn),
@@ -37,19 +39,20 @@ pub fn store_in_memory(alloc: Global) -> Result<Store<InMemory>, StoreFault>
     }
 }
 
-/// The store of leases in the file at a path, a database of SQLite, which is made where there is
-/// none. This is `store_from` for a program: what a clause says of a file's bytes, it says here of
-/// an empty one, and there of any.
+/// The store of leases in the file at a path, a database of SQLite. One that is not there is made,
+/// for this user alone. This is `store_from` for a program: what a clause says of a file's bytes, it
+/// says here of an empty one, and there of any.
 ///
 /// # Errors
 ///
 /// `Sql` where the file is not opened or does not answer, and `Schema` where its table `lease` is
 /// not ours or has a row that is out of range.
-pub fn store_in_file(rt: &HostRuntime, path: &str) -> Result<Store<InFile>, StoreFault>
-    ensures failed { IfOk result (λ store. store.failed ≡ false) }
-    ensures held { IfOk result (λ store. StandsAsHeld no_bytes store) }
-    ensures new { IfOk result (λ store. StandsNew no_bytes store) }
-    ensures opened { IfOk result (λ store. IsStoreIn no_bytes store) }
+pub fn store_in_file(rt: &HostRuntime, path: &str) -> Result<Opened<Store<InFile>>, StoreFault>
+    ensures fault { IfOk result (λ it. it.store.fault ≡ None) }
+    ensures held { IfOk result (λ it. StandsAsHeld no_bytes it.store) }
+    ensures new { IfOk result (λ it. StandsNew no_bytes it.store) }
+    ensures opened { IfOk result (λ it. IsStoreIn no_bytes it.store) }
+    ensures rows { IfOk result (λ it. AreRead ⟦<Store<InFile> as Keeps>⟧ it.store it.rows.items) }
 {
     store_from(rt, path, Unknown)
 }
@@ -64,15 +67,19 @@ pub fn store_from<F: Start>(
     rt: &HostRuntime,
     path: &str,
     start: F,
-) -> Result<Store<FileStore<FileFrom<F>>>, StoreFault>
-    ensures failed { IfOk result (λ store. store.failed ≡ false) }
-    ensures held { IfOk result (λ store. StandsAsHeld (image_at F.Start) store) }
-    ensures new { IfOk result (λ store. StandsNew (image_at F.Start) store) }
-    ensures opened { IfOk result (λ store. IsStoreIn (image_at F.Start) store) }
+) -> Result<Opened<Store<FileStore<FileFrom<F>>>>, StoreFault>
+    ensures fault { IfOk result (λ it. it.store.fault ≡ None) }
+    ensures held { IfOk result (λ it. StandsAsHeld (image_at F.Start) it.store) }
+    ensures new { IfOk result (λ it. StandsNew (image_at F.Start) it.store) }
+    ensures opened { IfOk result (λ it. IsStoreIn (image_at F.Start) it.store) }
+    ensures rows { IfOk result (λ it.
+        AreRead ⟦<Store<FileStore<FileFrom<F>>> as Keeps>⟧ it.store it.rows.items) }
+    ensures refused { IfErr result (IsNoStoreIn ⟦<FileFrom<F> as Disk>⟧ (image_at F.Start)) }
 {
+    make_file(rt, path);
     match Connection::open_from(rt, path, false, start) {
         Ok(conn) => store_over(rt.alloc(), conn),
-        Err((error, _)) => Err(StoreFault::Sql(cause_of(&error))),
+        Err((error, _)) => Err(StoreFault::Sql(cause_of(error))),
     }
 }
 
@@ -84,45 +91,52 @@ pub fn store_from<F: Start>(
 pub fn store_over<S: Alter + Drop>(
     alloc: Global,
     conn: Connection<S>,
-) -> Result<Store<S>, StoreFault>
-    ensures failed { IfOk result (λ store. store.failed ≡ false) }
-    ensures clean { IfOk result
-        (λ store. HasCleanDisk (state S.Store store.conn) → HasCleanDisk (state S.Store conn)) }
-    ensures table { IfOk result
-        (λ store. HasCleanDisk (state S.Store store.conn) → (table : List LeaseRow)
-        → Finds (state S.Store conn) table → Stands (state S.Store store.conn) table) }
-    ensures stands { IfOk result
-        (λ store. HasCleanDisk (state S.Store store.conn)
-        → ((state S.Store conn).now.schema ≡ no_schema)
-        ⊎ ((state S.Store conn).now.schema ≡ lease_schema)
-        → (table : List LeaseRow) × Finds (state S.Store conn) table
-        × Stands (state S.Store store.conn) table) }
+) -> Result<Opened<Store<S>>, StoreFault>
+    ensures opened { IfOk result (λ it. (it.store.fault ≡ None)
+        × OpensAt (state S.Store conn) (state S.Store it.store.conn)) }
+    ensures rows { IfOk result (λ it. AreRead ⟦<Store<S> as Keeps>⟧ it.store it.rows.items) }
     ensures busy { (state S.Store conn).in_transaction ≡ true
         → result ≡ Err (StoreFault.Sql Cause.Closed) }
+    ensures refused { (state S.Store conn).in_transaction ≡ false
+        → IfErr result (λ fault. (back : Held S) × GivesBack S.Store fault conn back) }
 {
     if !conn.is_autocommit() {
         return Err(StoreFault::Sql(Cause::Closed));
     }
-    match Store::open(alloc, conn) {
-        Ok(store) => Ok(store),
+    match Store::open_with_rows(alloc, conn) {
+        Ok(opened) => Ok(opened),
         Err((fault, _)) => Err(fault),
     }
 }
 
-/// A store in files on what a crash left of others stands at the table from before the last call on
-/// those, or at the one after it. The function does nothing but name the law it rests on: its
-/// contract is the law.
-pub fn restarts<D: Disk, E: Disk>()
-    ensures { Restarts D.Disk E.Disk }
-{
-    kd_store::laws::reopens::<D, E>();
+// Makes the file where there is none, for this user alone; the log gets the rights of its file. What
+// stands in the way is found again when the file is opened. These two names are no files there.
+fn make_file(rt: &HostRuntime, path: &str) {
+    if path != ":memory:" && !path.starts_with("file:") {
+        let _made = OpenOptions::new()
+            .write(true)
+            .create_new(true)
+            .mode(0o600)
+            .open(rt, path);
+    }
 }
 
 // Why a file is not opened.
-fn cause_of(error: &Error) -> Cause {
-    match error {
-        Error::SqliteFailure(ErrorCode::OutOfMemory) => Cause::OutOfMemory,
-        Error::SqliteFailure(ErrorCode::DatabaseCorrupt) => Cause::DatabaseCorrupt,
-        _ => Cause::SystemIoFailure,
+fn cause_of(error: Error) -> Cause
+    ensures { result ≡ opening_cause error }
+{
+    let Error::SqliteFailure(code) = error else {
+        return Cause::Refused;
+    };
+    match code {
+        ErrorCode::NotADatabase | ErrorCode::DatabaseCorrupt => Cause::DatabaseCorrupt,
+        ErrorCode::CannotOpen | ErrorCode::DatabaseBusy | ErrorCode::SystemIoFailure => {
+            Cause::SystemIoFailure
+        }
+        ErrorCode::OutOfMemory => Cause::OutOfMemory,
+        ErrorCode::DiskFull => Cause::DiskFull,
+        ErrorCode::Closed => Cause::Closed,
+        ErrorCode::TooBig => Cause::TooBig,
+        _ => Cause::Refused,
     }
 }

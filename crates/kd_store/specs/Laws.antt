@@ -7,7 +7,6 @@ use Rattle.sqlite_store.specs.declared.store.FileStore.{FileStore}
 use Rattle.sqlite_store.specs.FileStore as files
 use Rattle.sqlite.specs.Held.{Held}
 use Rattle.sqlite.specs.Files.{file_state, IsOpened}
-use Rattle.sqlite.specs.State.{HasCleanDisk}
 use Rattle.sqlite.specs.Start.{FindsIn}
 use Rattle.kd_rows.specs.declared.row.Row.{Row}
 use Rattle.kd_store.specs.Lease.{lease_schema}
@@ -30,10 +29,3 @@ abbrev pub StandsOnce : {E : Type 0} → Ghosts E → Type 0
 StandsOnce {E} h =
     (conn : Held (FileStore E h)) (table other : List Row)
     → Stands (file_state conn) table → Stands (file_state conn) other → table ≡ other
-
--- a connection was opened on what files held: where their disk gave back what was written, it is
--- open and finds that
-pub record IsOpenedOn {E : Type 0} {h : Ghosts E} (image : Image)
-    (opened : Held (FileStore E h)) : Type 0 where
-  pub is_opened : HasCleanDisk (file_state opened) → IsOpened opened
-  pub found : HasCleanDisk (file_state opened) → FindsIn image (file_state opened)

@@ -1,0 +1,29 @@
+ghost use Rattle.sqlite_store.specs.FileStore.{view};
+ghost use Rattle.sqlite_trees.specs.View.{IsClean};
+ghost use Rattle.kd_database.specs.Stops.{IsBelow, Kills, Restarts};
+
+use kd_store::Store;
+use sqlite::FileStore;
+use sqlite_disk::Disk;
+
+/// What lies below a store that is let go.
+pub fn let_go<D: Disk + Drop>(store: Store<FileStore<D>>) -> FileStore<D>
+    ensures { IsClean (view result) → IsBelow store.conn result }
+{
+    store.close().into_store()
+}
+
+/// A store in files on what a crash left of others stands at the table from before the last call on
+/// those, or at the one after it. The function does nothing but name the law it rests on: its
+/// contract is the law.
+pub fn restarts<D: Disk, E: Disk>()
+    ensures { Restarts D.Disk E.Disk }
+{
+    kd_store::laws::reopens::<D, E>();
+}
+
+/// Of a process that is killed between two calls a crash leaves what it left of the connection. That
+/// the store of a connection is numbered is true of each one, but told only of one that is let go.
+pub fn kills<D: Disk>()
+    ensures { Kills D.Disk }
+{}
