@@ -71,8 +71,9 @@ module _ {D E : Type 0} {d : Disks D} {e : Disks E} (k : Ghosts (Kept (FileStore
           ),
         )
 
-    pub runs : {H U L C : Type 0} (h : Hosts H (Kept (FileStore D d)) U L C) (l : Links L) → CommandsAreOpenings h l k → Held → RunsAreHistories k m h l
-    runs h l openings held image files work status old new left s clean db table database holds =
+    -- the law of the later store tells its type alone
+    pub runs : {H U L C : Type 0} (h : Hosts H (Kept (FileStore D d)) U L C) (l : Links L) → OpeningsEnd m → CommandsAreOpenings h l k → Held → RunsAreHistories k m h l
+    runs h l later_ends openings held image files work status old new left s clean db table database holds =
         let done = openings work s.config s.store s.back s.before s.after status old new s.serves in
         let first_clean = (ends s.config (ports_asked work) done.0 s.store s.back done.1 clean).0 in
         let stands = held image s.store s.held first_clean db table database holds in (

@@ -1,5 +1,5 @@
 -- A command over files, by what the machine says of its answers.
-use Rattle.std.proofs.Common.{◌≡◌, ◌⊎◌, inl, inr, ⊎_elim, ℕ, List, Option, None, Some, Ok, is_some, option_map, string_bytes, refl, subst, sym}
+use Rattle.std.proofs.Common.{◌≡◌, ◌⊎◌, inl, inr, ℕ, List, Option, None, Some, Result, Ok, Err, IfOk, MatchResult, is_some, option_map, string_bytes, refl, subst, sym}
 use Rattle.sqlite_disk.specs.declared.Disk.{Ghosts as Disks}
 use Rattle.sqlite_store.specs.FileStore.{view}
 use Rattle.sqlite_store.specs.declared.store.FileStore.{FileStore}
@@ -9,7 +9,7 @@ use Rattle.kd_commands.specs.declared.orders.Order.{Order}
 use Rattle.kd_config.specs.Configuration.{Configuration}
 use Rattle.kd_database.specs.Stops.{IsBelow}
 use Rattle.kd_database.specs.Stores.{IsStoreIn, StandsAsHeld}
-use Rattle.kd_host.specs.OnFiles.{RunsOnFiles, ServesFiles, order_of}
+use Rattle.kd_host.specs.OnFiles.{IsStatusOnFiles, RunsOnFiles, ServesFiles, order_of}
 use Rattle.kd_io.specs.Faults.{start_fault_number}
 use Rattle.kd_io.specs.Start.{IsOfFiles}
 use Rattle.kd_keeps.specs.Fault.{store_fault_number}
@@ -86,10 +86,23 @@ module _ {D H U L C : Type 0} (d : Disks D) (h : Hosts H (Kept (FileStore D d)) 
 
   pub on_files : Says → (words : List (List ℕ)) (before after : H) (status : ℕ) (old new : Streams) → Carries h k unnamed l words before after status old new
       → RunsOnFiles d h k l image words status old new (left_of after)
-  on_files says words before after status old new (inl c) = inl (c.0, c.1, c.3)
-  on_files says words before after status old new (inr c) = inr (
-    c.0,
-    c.1,
-    λ files work path is named. ordered says files work path before after status old new named
-        (subst (λ (order : Order). CarriesOut h k unnamed l order before after status old new) is c.2),
-  )
+  on_files says words before after status old new (inl c) = record { comes_to = inl (c.0, c.1, c.3) }
+  on_files says words before after status old new (inr c) = record {
+    comes_to =
+        inr (
+          c.0,
+          c.1,
+          λ files work path is named. ordered says files work path before after status old new named
+              (subst (λ (order : Order). CarriesOut h k unnamed l order before after status old new) is c.2),
+        );
+  }
+
+-- what a store says of an answer, of both cases
+pub given_store : {V E : Type 0} (P Q : V → Type 0) (r : Result V E) → IfOk r P → IfOk r Q → MatchResult r (λ v. P v × Q v) (λ e. Unit {0})
+given_store P Q (Ok v) p q = (p, q)
+given_store P Q (Err e) p q = tt
+
+-- a command that was carried out over some streams ends with a status over some
+pub some_streams : {D H U L C : Type 0} {d : Disks D} {h : Hosts H (Kept (FileStore D d)) U L C} {k : Ghosts (Kept (FileStore D d))} {l : Links L} {image : Image} {words : List (List ℕ)} {status : ℕ}
+    {old new : Streams} {left : Option (FileStore D d)} → RunsOnFiles d h k l image words status old new left → IsStatusOnFiles d h k l image words status
+some_streams {old = old} {new = new} {left = left} r = (old, new, left, r)

@@ -17,13 +17,14 @@ use Rattle.kd_io.specs.Start.{IsOfFiles}
 use Rattle.kd_io.specs.declared.link.Sending.{Sending}
 use Rattle.kd_keeps.specs.declared.keeps.Keeps.{Ghosts}
 use Rattle.kd_program.specs.Running.{Serves}
-use Rattle.kd_program.specs.Streams.{Streams, Tells}
+use Rattle.kd_program.specs.Streams.{Stream, Streams, Tells, TellsWith}
 use Rattle.kd_program.specs.declared.host.Host.{Ghosts as Hosts}
 use Rattle.kd_program.specs.declared.serving.Files.{Files}
 use Rattle.kd_program.specs.declared.serving.Work.{Work}
 use Rattle.kd_program.specs.declared.serving.Work.TheVariants as works
 use Rattle.kd_replay.specs.declared.link.Link.{Ghosts as Links}
 use Rattle.kd_store.specs.Kept.{Kept}
+use Rattle.kd_tools.specs.Status.{status_of}
 
 -- how a socket sends: each reply to its sender, or those to all hosts to another address
 abbrev pub sending_of : Listening → Sending
@@ -59,15 +60,25 @@ module _ {D H U L C : Type 0} (d : Disks D) (h : Hosts H (Kept (FileStore D d)) 
     pub left_is : left ≡ Some it
     pub below : IsClean (view it) → IsBelow back.conn it
 
-  -- what words do that name a store: a server works over its files, or a fault is told; and words
-  -- that are no order have a fault
-  abbrev pub RunsOnFiles : Image → List (List ℕ) → ℕ → Streams → Streams
-      → Option (FileStore D d) → Type 0
-  RunsOnFiles image words status old new left =
-      ((fault : LineFault) × HasFault words fault
-      × Tells (line_fault_number fault) status old new)
-      ⊎ ((order : Order) × AsksFor words order
-      × ((files : Files) (work : Work) (path : List ℕ) → order ≡ order_of files work
-      → option_map string_bytes files.store ≡ Some path
-      → ServesFiles image files work status old new left
-      ⊎ ((number : ℕ) × Tells number status old new)))
+  -- what words do: words that are no order have a fault, which is told; and where they name a store
+  -- a server works over its files, or a fault is told
+  pub record RunsOnFiles (image : Image) (words : List (List ℕ)) (status : ℕ) (old new : Streams)
+      (left : Option (FileStore D d)) : Type 0 where
+    pub comes_to : ((fault : LineFault) × HasFault words fault
+        × Tells (line_fault_number fault) status old new)
+        ⊎ ((order : Order) × AsksFor words order
+        × ((files : Files) (work : Work) (path : List ℕ) → order ≡ order_of files work
+        → option_map string_bytes files.store ≡ Some path
+        → ServesFiles image files work status old new left
+        ⊎ ((number : ℕ) × Tells number status old new)))
+
+  -- a command over some streams ends with this status
+  abbrev pub IsStatusOnFiles : Image → List (List ℕ) → ℕ → Type 0
+  IsStatusOnFiles image words status =
+      (old : Streams) × (new : Streams) × (left : Option (FileStore D d))
+      × RunsOnFiles image words status old new left
+
+-- a fault with this number is told on some stream, with this status
+abbrev pub IsStatusOf : ℕ → ℕ → Type 0
+IsStatusOf number status =
+    (old : Stream) × (new : Stream) × TellsWith number (status_of number) status old new

@@ -11,7 +11,7 @@ use kd_program::laws::commands_are_openings;
 use kd_replay::Link;
 use kd_server::laws::{openings_are_histories, openings_end};
 use kd_store::Store;
-use sqlite::{FileStore, Start};
+use sqlite::{FileFrom, FileStore, Start};
 use sqlite_disk::Disk;
 
 /// Two openings of a server, the second on what a crash left of the files of the first, are one
@@ -36,5 +36,6 @@ pub fn runs_are_histories<'a, F: Start, E: Disk>()
     commands_are_openings::<Machine<'a, F, Below<F>>, Store<Below<F>>>();
     openings_are_histories::<Store<Below<F>>>();
     openings_end::<Store<Below<F>>>();
-    restarts::<sqlite::FileFrom<F>, E>();
+    openings_end::<Store<FileStore<E>>>();
+    restarts::<FileFrom<F>, E>();
 }

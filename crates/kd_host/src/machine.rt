@@ -15,7 +15,7 @@ pub type Below<F> = FileStore<FileFrom<F>>;
 /// and serves for one opening.
 #[derive(Drop)]
 pub struct Machine<'a, F: Start, L: Drop> {
-    rt: &'a HostRuntime,
+    pub(crate) rt: &'a HostRuntime,
     start: Option<F>,
     left: Option<L>,
 }

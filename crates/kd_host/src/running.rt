@@ -1,8 +1,9 @@
-ghost use Rattle.std.specs.Prelude.{◌≡◌, MatchResult, None, false, map, string_bytes};
+ghost use Rattle.std.specs.Prelude.{◌≡◌, MatchResult, false, map, string_bytes};
 ghost use Rattle.sqlite_wal.specs.Files.{image_at};
 ghost use Rattle.kd_program.specs.Running.{Carries};
 ghost use Rattle.kd_program.specs.Streams.{streams};
-ghost use Rattle.kd_host.specs.OnFiles.{RunsOnFiles};
+ghost use Rattle.kd_commands.specs.Order.{line_fault_number};
+ghost use Rattle.kd_host.specs.OnFiles.{IsStatusOf, IsStatusOnFiles, RunsOnFiles};
 
 use crate::machine::{Below, Machine};
 use kd_commands::LineFault;
@@ -36,4 +37,29 @@ pub fn run_on<'a, F: Start, R: Source, O: Sink, E: Sink>(
         machine.new.left }
 {
     run(machine.rt.alloc(), words, machine, ends)
+}
+
+/// Carries out the words after the program's name over this machine and its standard streams, and
+/// says the exit status; where there are no words, the fault is told.
+pub fn carry_out<'a, F: Start>(
+    rt: &'a HostRuntime,
+    start: F,
+    words: Result<Vec<String>, LineFault>,
+) -> u8
+    ensures { MatchResult words
+        (λ words. IsStatusOnFiles ⟦<FileFrom<F> as Disk>⟧ ⟦<Machine<'a, F, Below<F>> as Host>⟧
+        ⟦<Store<Below<F>> as Keeps>⟧ ⟦<Socket as Link>⟧ (image_at F.Start)
+        (map string_bytes words.items) result)
+        (λ fault. IsStatusOf (line_fault_number fault) result) }
+{
+    let stderr = rt.stderr();
+    let mut ends = Ends {
+        input: Input::over(rt.reader()),
+        output: Output::over(io::writer(rt)),
+        faults: Output::over(io::writer(&stderr)),
+    };
+    match words {
+        Ok(words) => run_on(&mut Machine::of(rt, start), &words, &mut ends),
+        Err(fault) => refuse_words(rt.alloc(), &mut ends.faults, fault),
+    }
 }
