@@ -5,7 +5,7 @@ use kd_commands::Listening;
 use kd_config::Config;
 use kd_database::InMemory;
 use kd_io::StartFault;
-use kd_keeps::{StoreFault, Volatile};
+use kd_keeps::{Opened, StoreFault, Volatile};
 use kd_program::Host;
 use kd_replay::EndFailed;
 use kd_store::Store;
@@ -48,12 +48,16 @@ impl<'a> Host for Room<'a> {
         self.files.configuration(self.rt, file, folder)
     }
 
-    fn named_store(&mut self, path: &str) -> Result<Store<InMemory>, StoreFault> {
+    fn named_store(&mut self, path: &str) -> Result<Opened<Store<InMemory>>, StoreFault> {
         self.stores.take(self.rt.alloc(), path)
     }
 
-    fn unnamed_store(&mut self) -> Result<Volatile, StoreFault> {
-        Ok(Volatile::new(self.rt.alloc()))
+    fn unnamed_store(&mut self) -> Result<Opened<Volatile>, StoreFault> {
+        let alloc = self.rt.alloc();
+        Ok(Opened {
+            store: Volatile::new(alloc),
+            rows: Vec::new(alloc),
+        })
     }
 
     // A store for which there is no memory is lost, and the next case that names it finds a new

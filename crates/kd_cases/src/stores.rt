@@ -1,14 +1,16 @@
-ghost use Rattle.std.specs.Prelude.{◌≡◌, IfOk, false};
+ghost use Rattle.std.specs.Prelude.{◌≡◌, IfOk, None};
+ghost use Rattle.kd_keeps.specs.Reading.{AreRead};
 
 use kd_database::{InMemory, store_in_memory, store_over};
-use kd_keeps::StoreFault;
+use kd_keeps::{Keeps, Opened, StoreFault};
 use kd_store::Store;
+use sqlite::Connection;
 use std::alloc::{AllocError, Global};
 
-/// The stores that the commands of a file have left, by their names.
+/// The connections of the stores that the commands of a file have left, by their names.
 #[derive(Drop)]
 pub struct Stores {
-    stores: Vec<(String, Store<InMemory>)>,
+    stores: Vec<(String, Connection<InMemory>)>,
 }
 
 impl Stores {
@@ -24,13 +26,15 @@ impl Stores {
     /// # Errors
     ///
     /// It can't be opened.
-    pub fn take(&mut self, alloc: Global, name: &str) -> Result<Store<InMemory>, StoreFault>
-        ensures { IfOk result (λ store. store.failed ≡ false) }
+    pub fn take(&mut self, alloc: Global, name: &str) -> Result<Opened<Store<InMemory>>, StoreFault>
+        ensures fault { IfOk result (λ it. it.store.fault ≡ None) }
+        ensures rows { IfOk result (λ it.
+            AreRead ⟦<Store<InMemory> as Keeps>⟧ it.store it.rows.items) }
     {
         for index in 0..self.stores.len() {
             if self.stores[index].0.as_str() == name {
-                let (_, store) = self.stores.swap_remove(index);
-                return store_over(alloc, store.close());
+                let (_, conn) = self.stores.swap_remove(index);
+                return store_over(alloc, conn);
             }
         }
         store_in_memory(alloc)
@@ -43,7 +47,8 @@ impl Stores {
         name: &str,
         store: Store<InMemory>,
     ) -> Result<(), AllocError> {
-        self.stores.push((String::from_str(alloc, name)?, store))?;
+        let conn = store.close();
+        self.stores.push((String::from_str(alloc, name)?, conn))?;
         Ok(())
     }
 }

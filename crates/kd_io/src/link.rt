@@ -60,7 +60,8 @@ impl Socket {
         port: u16,
         sending: Sending,
     ) -> Result<Socket, EndFailed>
-        ensures { IfOk result (λ link. link.failed ≡ false) }
+        ensures failed { IfOk result (λ link. link.failed ≡ false) }
+        ensures sending { IfOk result (λ link. link.sending ≡ sending) }
     {
         let place = SocketAddr::new(IpAddr::V4(Ipv4Addr::from(address)), port);
         match UdpSocket::bind(rt, place) {
@@ -74,7 +75,8 @@ impl Socket {
 
     /// A link over a socket, which has not failed.
     pub fn over(socket: UdpSocket, sending: Sending) -> Socket
-        ensures { result.failed ≡ false }
+        ensures failed { result.failed ≡ false }
+        ensures sending { result.sending ≡ sending }
     {
         Socket {
             socket,

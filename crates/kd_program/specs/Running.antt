@@ -1,5 +1,5 @@
 -- What the words of a command line do: what is written, and the exit status.
-use Rattle.std.specs.Prelude.{◌≡◌, ◌⊎◌, ℕ, false, true, List, Option, Some, None, Result, Ok, Err, MatchResult, option_map, string_bytes}
+use Rattle.std.specs.Prelude.{◌≡◌, ◌⊎◌, ℕ, false, true, IfOk, List, Option, Some, None, Result, Ok, Err, MatchResult, is_some, option_map, string_bytes}
 use Rattle.std.specs.List.{flat_map}
 use Rattle.std.specs.Result.{IsErrOf}
 use Rattle.kd_tools.specs.Printed.{Answers}
@@ -18,6 +18,7 @@ use Rattle.kd_commands.specs.declared.orders.Listening.{Listening}
 use Rattle.kd_commands.specs.declared.orders.Order.{Order}
 use Rattle.kd_commands.specs.declared.orders.Order.TheVariants as orders
 use Rattle.kd_replay.specs.Faults.{loop_fault_number, replay_fault_number, serve_fault_number}
+use Rattle.kd_replay.specs.History.{Reaches}
 use Rattle.kd_replay.specs.Replay.{Handles, HandlesWhole, LeavesWritten, most_lines}
 use Rattle.kd_replay.specs.Serving.{HasServed, StopsServing, Traffic}
 use Rattle.kd_replay.specs.declared.ends.EndFailed.{EndFailed}
@@ -74,7 +75,8 @@ module _ {L S : Type 0} (l : Links L) (g : Ghosts S) where
 -- over a store of leases
 module _ {S : Type 0} (g : Ghosts S) where
   -- a server replays what is left of standard input, to standard output; where that input fails, the
-  -- lines that it gave whole are handled, or 1,000,000 lines
+  -- lines that it gave whole are handled, or 1,000,000 lines. Where the streams do not tell their
+  -- bytes events are handled one after another, as many as it says
   pub record ReplaysInput (server after : Keeping S) (status : ℕ) (old new : Streams) : Type 0 where
     pub result : Result ℕ ReplayFault
     pub leaves : (input output : List ℕ) → old.input.bytes ≡ Some input
@@ -85,6 +87,8 @@ module _ {S : Type 0} (g : Ghosts S) where
         → old.input.bytes ≡ Some input → old.output.bytes ≡ Some output
         → HandlesWhole (Steps g) input new.input.bytes server after output new.output.bytes
         ⊎ Handles (Steps g) most_lines server after
+    pub counted : IfOk result (λ count. Handles (Steps g) count server after)
+    pub reached : Reaches (Steps g) (Refuses g) server after
     pub ends : EndsReplay result status old.faults new.faults
 
   -- a server's leases at a moment are shown, or it is told why there are none; memory may run out
@@ -93,7 +97,7 @@ module _ {S : Type 0} (g : Ghosts S) where
   ListsLeases at server status old new =
       ShowsOrBreaks (flat_map lease_line (leases_of_rows at server.rows)) 0 status old.output
       new.output old.faults new.faults
-      ⊎ (((fault : ServeFault) × IsNoList (g.has_failed server.store) at fault
+      ⊎ (((fault : ServeFault) × IsNoList (is_some (g.fault server.store)) at fault
       × Tells (serve_fault_number fault) status old new)
       ⊎ Starves status old new)
 
@@ -184,7 +188,7 @@ module _ {H N U L C : Type 0} (h : Hosts H N U L C) (named : Ghosts N) (unnamed 
     pub store : N
     pub opened : H
     pub given : h.opens before path (Ok store) opened
-    pub works : named.has_failed store ≡ false
+    pub works : is_some (named.fault store) ≡ false
     pub back : N
     pub left : H
     pub serves : Serves h l named work config store back opened left status old new
@@ -196,7 +200,7 @@ module _ {H N U L C : Type 0} (h : Hosts H N U L C) (named : Ghosts N) (unnamed 
     pub store : U
     pub made : H
     pub given : h.makes before (Ok store) made
-    pub works : unnamed.has_failed store ≡ false
+    pub works : is_some (unnamed.fault store) ≡ false
     pub back : U
     pub serves : Serves h l unnamed work config store back made after status old new
 

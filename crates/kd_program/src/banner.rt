@@ -12,6 +12,8 @@ pub struct Banner<'a> {
     pub sizes: Sizes,
     /// How many rows of leases it has at its start.
     pub leases: usize,
+    /// The latest change of a row, in whole seconds; 0 without rows.
+    pub latest: u64,
     /// The path of its store, or `memory`.
     pub store: &'a str,
 }
@@ -38,7 +40,8 @@ pub fn pool_addresses(subnets: &[Subnet]) -> u64 {
     sum
 }
 
-/// `serving ADDRESS:PORT, subnets N, addresses N, leases N, store PATH`, with its line feed.
+/// `serving ADDRESS:PORT, subnets N, addresses N, leases N, latest change MOMENT, store PATH`, with
+/// its line feed. Without leases there is no latest change, which is a dash.
 pub fn banner_line(alloc: Global, banner: &Banner<'_>) -> Result<String, AllocError> {
     let mut line = String::new(alloc);
     line.push_str("serving ")?;
@@ -49,6 +52,8 @@ pub fn banner_line(alloc: Global, banner: &Banner<'_>) -> Result<String, AllocEr
     put_grouped(&mut line, banner.sizes.addresses)?;
     line.push_str(", leases ")?;
     put_grouped(&mut line, banner.leases as u64)?;
+    line.push_str(", latest change ")?;
+    put_latest(&mut line, banner)?;
     line.push_str(", store ")?;
     line.push_str(banner.store)?;
     line.push_str("\n")?;
@@ -62,6 +67,15 @@ fn put_place(line: &mut String, address: u32, port: u16) -> Result<(), AllocErro
     let c = address / 0x100 % 256;
     let d = address % 256;
     write!(line, "{a}.{b}.{c}.{d}:{port}")
+}
+
+// The moment of the latest change, or a dash where there are no leases.
+fn put_latest(line: &mut String, banner: &Banner<'_>) -> Result<(), AllocError> {
+    if banner.leases == 0 {
+        return line.push_str("-");
+    }
+    let latest = banner.latest;
+    write!(line, "{latest}")
 }
 
 // The weights of a number's groups of three digits.

@@ -1,21 +1,22 @@
 use kd_commands::Listening;
 use kd_config::Config;
 use kd_io::StartFault;
-use kd_keeps::{Keeps, StoreFault};
+use kd_keeps::{Keeps, Opened, StoreFault};
 use kd_replay::{Clock, EndFailed, Link};
 
 /// What a command finds outside of its words and of the standard streams.
 pub trait Host {
-    ghost use Rattle.std.specs.Prelude.{◌≡◌, ℕ, IfOk, List, Option, Result, false};
+    ghost use Rattle.std.specs.Prelude.{◌≡◌, ℕ, Err, IfOk, List, MatchResult, Ok, Option, Result, false, is_some};
     ghost use Rattle.std.specs.Option.{option_copied};
     ghost use Rattle.kd_commands.specs.declared.orders.Listening.{Listening};
     ghost use Rattle.kd_config.specs.Configuration.{Configuration};
     ghost use Rattle.kd_io.specs.declared.start.StartFault.{StartFault};
+    ghost use Rattle.kd_keeps.specs.Reading.{AreRead};
     ghost use Rattle.kd_keeps.specs.declared.fault.StoreFault.{StoreFault};
     ghost use Rattle.kd_replay.specs.declared.ends.EndFailed.{EndFailed};
 
-    /// A store of leases that has a path.
-    type Named: Keeps + Drop;
+    /// A store of leases that has a path. It cannot be dropped, so that it comes back to the host.
+    type Named: Keeps;
 
     /// A store of leases in memory.
     type Unnamed: Keeps + Drop;
@@ -61,23 +62,28 @@ pub trait Host {
         ensures { configures self.old (option_copied file.entry) (option_copied folder.entry)
             result self.new };
 
-    /// The store of the leases at a path, which has not failed; a new one where there is none.
+    /// The store of the leases at a path, which has not failed, with its rows; a new one where there
+    /// is none.
     ///
     /// # Errors
     ///
     /// It can't be opened.
-    fn named_store(&mut self, path: &str) -> Result<Self::Named, StoreFault>
-        ensures given { opens self.old path.now result self.new }
-        ensures works { IfOk result (λ store. Self.Named.has_failed store ≡ false) };
+    fn named_store(&mut self, path: &str) -> Result<Opened<Self::Named>, StoreFault>
+        ensures given { MatchResult result (λ it. opens self.old path.now (Ok it.store) self.new)
+            (λ fault. opens self.old path.now (Err fault) self.new) }
+        ensures works { IfOk result (λ it. is_some (Self.Named.fault it.store) ≡ false) }
+        ensures read { IfOk result (λ it. AreRead Self.Named.Keeps it.store it.rows.items) };
 
-    /// A new store of leases in memory, which has not failed.
+    /// A new store of leases in memory, which has not failed, with its rows.
     ///
     /// # Errors
     ///
     /// There is no memory for it.
-    fn unnamed_store(&mut self) -> Result<Self::Unnamed, StoreFault>
-        ensures given { makes self.old result self.new }
-        ensures works { IfOk result (λ store. Self.Unnamed.has_failed store ≡ false) };
+    fn unnamed_store(&mut self) -> Result<Opened<Self::Unnamed>, StoreFault>
+        ensures given { MatchResult result (λ it. makes self.old (Ok it.store) self.new)
+            (λ fault. makes self.old (Err fault) self.new) }
+        ensures works { IfOk result (λ it. is_some (Self.Unnamed.fault it.store) ≡ false) }
+        ensures read { IfOk result (λ it. AreRead Self.Unnamed.Keeps it.store it.rows.items) };
 
     /// Takes back the store of a path from a command that has ended.
     fn close(&mut self, path: &str, store: Self::Named)

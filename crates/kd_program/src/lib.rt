@@ -8,6 +8,7 @@
 mod banner;
 mod ends;
 mod host;
+pub mod laws;
 mod printing;
 mod running;
 mod serving;

@@ -1,8 +1,9 @@
-ghost use Rattle.std.specs.Prelude.{◌≡◌, false, option_map, string_bytes};
+ghost use Rattle.std.specs.Prelude.{◌≡◌, false, is_some, option_map, string_bytes};
 ghost use Rattle.std.specs.Option.{option_copied};
 ghost use Rattle.kd_tools.specs.Status.{status_of};
 ghost use Rattle.kd_io.specs.Faults.{start_fault_number};
 ghost use Rattle.kd_keeps.specs.Fault.{store_fault_number};
+ghost use Rattle.kd_keeps.specs.Reading.{AreRead};
 ghost use Rattle.kd_program.specs.Streams.{TellsWith, streams, written_to};
 ghost use Rattle.kd_program.specs.Running.{Listens, ListsLeases, Receives, ReplaysInput, Serves, Starts, Works, ports_asked};
 
@@ -14,7 +15,7 @@ use kd_commands::Listening;
 use kd_config::Config;
 use kd_event::Ports;
 use kd_io::StartFault;
-use kd_keeps::{Keeps, StoreFault};
+use kd_keeps::{Keeps, Opened, StoreFault};
 use kd_replay::{Clock, Link, LoopFault, Sink, Source};
 use kd_server::{Server, lease_lines, replay, serve};
 use kd_tools::{replay_status, serve_status};
@@ -63,13 +64,13 @@ pub fn served<H: Host, R: Source, O: Sink, E: Sink>(
     };
     match &files.store {
         Some(path) => match host.named_store(path.as_str()) {
-            Ok(store) => {
+            Ok(opened) => {
                 let (status, store) = served_over(
                     alloc,
                     host,
                     ends,
                     config,
-                    store,
+                    opened,
                     path.as_str(),
                     work,
                 );
@@ -79,7 +80,7 @@ pub fn served<H: Host, R: Source, O: Sink, E: Sink>(
             Err(fault) => refuse_store(alloc, &mut ends.faults, &fault),
         },
         None => match host.unnamed_store() {
-            Ok(store) => served_over(alloc, host, ends, config, store, "memory", work).0,
+            Ok(opened) => served_over(alloc, host, ends, config, opened, "memory", work).0,
             Err(fault) => refuse_store(alloc, &mut ends.faults, &fault),
         },
     }
@@ -122,27 +123,28 @@ fn refuse_store<E: Sink>(alloc: Global, faults: &mut E, fault: &StoreFault) -> u
 }
 
 // Does this work as a server of a configuration over a store with a name; the store comes back.
-fn served_over<H: Host, R: Source, O: Sink, E: Sink, S: Keeps + Drop>(
+fn served_over<H: Host, R: Source, O: Sink, E: Sink, S: Keeps>(
     alloc: Global,
     host: &mut H,
     ends: &mut Ends<R, O, E>,
     config: Config,
-    store: S,
+    opened: Opened<S>,
     name: &str,
     work: Work,
 ) -> (u8, S)
-    requires store { S.has_failed store ≡ false }
+    requires store { is_some (S.fault opened.store) ≡ false }
+    requires read { AreRead S.Keeps opened.store opened.rows.items }
     requires input { R.has_failed ends.old.input ≡ false }
     requires output { O.has_failed ends.old.output ≡ false }
     ensures { Serves H.Host H.Socket.Link S.Keeps
-        work config store result.1 host.old host.new result.0
+        work config opened.store result.1 host.old host.new result.0
         (streams R.Source O.Sink E.Sink ends.old) (streams R.Source O.Sink E.Sink ends.new) }
 {
     let sizes = Sizes {
         subnets: config.subnets().len(),
         addresses: pool_addresses(config.subnets()),
     };
-    let mut server = match Server::open(alloc, config, store, ports_of(work)) {
+    let mut server = match Server::start(alloc, config, opened, ports_of(work)) {
         Ok(server) => server,
         Err((fault, _, store)) => {
             let status = refuse(alloc, &mut ends.faults, fault.number(), &fault);
@@ -178,6 +180,7 @@ fn worked<H: Host, R: Source, O: Sink, E: Sink, S: Keeps>(
                 listening,
                 sizes,
                 leases: server.row_count(),
+                latest: server.latest_change(),
                 store: name,
             };
             listened(alloc, host, ends, server, &banner, count)

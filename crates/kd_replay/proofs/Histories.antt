@@ -1,11 +1,14 @@
 -- A history, and the runs and lines that it is of, grow by one event.
-use Rattle.std.proofs.Common.{◌≡◌, ℕ, ◌+◌, ◌<◌, List, [], ◌∷◌, ◌++◌, Some, refl, sym, ap, ◌∙◌, length, take, drop, get_or, inl, inr, subst}
+use Rattle.std.proofs.Common.{◌≡◌, ℕ, ◌+◌, ◌<◌, List, [], ◌∷◌, ◌++◌, Option, Some, refl, sym, ap, ◌∙◌, length, take, drop, get_or, inl, inr, subst}
 use Rattle.std.proofs.lemmas.List.{drop_more, take-append-drop, take_more}
-use Rattle.kd_replay.specs.History.{Halts, History, Runs}
+use Rattle.kd_replay.specs.Handling.{EndsEvent}
+use Rattle.kd_replay.specs.History.{Halts, History, Reaches, Runs}
 use Rattle.kd_replay.specs.Lines.{IsEventLine}
-use Rattle.kd_replay.specs.Replay.{AreEvents}
+use Rattle.kd_replay.specs.Replay.{AreEvents, Handles}
 use Rattle.kd_event.specs.declared.event.Event.{Event}
 use Rattle.kd_event.specs.declared.event.Handled.{Handled}
+use Rattle.kd_replay.specs.declared.fault.ReplayFault.{ReplayFault}
+use Rattle.kd_replay.specs.declared.fault.ReplayFault.TheVariants as replaying
 use Rattle.kd_replay.specs.declared.fault.ServeFault.{ServeFault}
 use Rattle.kd_replay.specs.declared.fault.ServeFault.TheVariants as faults
 
@@ -69,3 +72,26 @@ module _ {H : Type 0} (gives : H → Event → Handled → H → Type 0) (fails 
         history = h;
         halts = inl (subst P same f);
       }
+
+  -- a server that has handled nothing stands where it stood
+  pub reaches_none : (server : H) → Reaches gives fails server server
+  reaches_none server = record { events = []; list = []; mid = server; history = refl; last = inl refl }
+
+  -- one that has handled some events stands where they left it
+  pub reaches_handled : (count : ℕ) (old new : H) → Handles gives count old new → Reaches gives fails old new
+  reaches_handled count old new h = record { events = h.events; list = h.list; mid = new; history = h.history; last = inl refl }
+
+  -- and where the next event ends the replay, there, or where that one left it
+  pub reaches_ended : (count : ℕ) (old mid new : H) (event : Event) (fault : ReplayFault) (contents written : Option (List ℕ)) → Handles gives count old mid
+      → EndsEvent gives fails fault event mid new contents written → Reaches gives fails old new
+  reaches_ended count old mid new event replaying.Memory contents written h e = record { events = h.events; list = h.list; mid = mid; history = h.history; last = inl e.0 }
+  reaches_ended count old mid new event (replaying.Serve fault) contents written h e = record { events = h.events; list = h.list; mid = mid; history = h.history; last = inr (event, fault, e.0) }
+  reaches_ended count old mid new event replaying.Write contents written h e = record {
+    events = h.events ++ event ∷ [];
+    list = h.list ++ e.handled ∷ [];
+    mid = new;
+    history = more_history gives old h.events h.list mid event e.handled new h.history e.given;
+    last = inl refl;
+  }
+  reaches_ended count old mid new event replaying.Read contents written h e = absurd e
+  reaches_ended count old mid new event (replaying.BadLine number) contents written h e = absurd e

@@ -45,3 +45,12 @@ module _ {H : Type 0} (gives : H → Event → Handled → H → Type 0)
     pub all : events ≡ done ++ after
     pub history : History gives old done list mid
     pub halts : Halts fails fault after list mid new
+
+  -- what calls of a server come to: events were handled one after another, and then nothing more
+  -- happened, or one more event has a fault
+  pub record Reaches (old new : H) : Type 0 where
+    pub events : List Event
+    pub list : List Handled
+    pub mid : H
+    pub history : History gives old events list mid
+    pub last : (new ≡ mid) ⊎ ((event : Event) × (fault : ServeFault) × fails mid event fault new)

@@ -2,6 +2,7 @@ ghost use Rattle.std.specs.Prelude.{◌≡◌, ◌+◌, ◌≤◌, ◌⊎◌, Li
 ghost use Rattle.std.specs.Io.KnownBytes.{Appends};
 ghost use Rattle.std.specs.Result.{IsErrOf};
 ghost use Rattle.kd_replay.specs.Handling.{EndsEvent, HandlesEvent, line_room};
+ghost use Rattle.kd_replay.specs.History.{Reaches};
 ghost use Rattle.kd_replay.specs.Lines.{line_limit};
 ghost use Rattle.kd_replay.specs.Parts.{WritesPart};
 ghost use Rattle.kd_replay.specs.Replay.{Handles, HandlesWhole, LeavesWritten, most_lines};
@@ -63,6 +64,7 @@ pub fn replay_with<R: Source, W: Sink, H: Serves>(
         → W.contents sink.old ≡ Some old
         → LeavesWritten H.gives H.fails (R.has_failed source.new ≡ true) result input
         server.old server.new old (W.contents sink.new) }
+    ensures reached { Reaches H.gives H.fails server.old server.new }
     ensures counted { IfOk result (λ count. Handles H.gives count server.old server.new) }
     ensures read { IsErrOf result faults.Read
         → (R.has_failed source.new ≡ true) ⊎ Handles H.gives most_lines server.old server.new }

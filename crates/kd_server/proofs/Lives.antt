@@ -1,6 +1,7 @@
 -- A life of a server is a history with stops: each call is a step, or nothing happens in it.
-use Rattle.std.proofs.Common.{◌≡◌, ◌⊎◌, inl, inr, ⊎_elim, Bool, List, [], ◌∷◌, ◌++◌, Option, Some, None, Result, Ok, Err, true, false, refl, sym, ap, ◌∙◌, subst}
+use Rattle.std.proofs.Common.{◌≡◌, ◌⊎◌, inl, inr, ⊎_elim, ℕ, Bool, is_some, length, map, List, [], ◌∷◌, ◌++◌, Option, Some, None, Result, Ok, Err, true, false, refl, sym, ap, ◌∙◌, subst}
 use Rattle.std.proofs.lemmas.Bool.{false≢true}
+use Rattle.std.proofs.lemmas.Option.{none-some, same_Some}
 use Rattle.kd_config.specs.Configuration.{Configuration}
 use Rattle.kd_event.specs.declared.event.Event.{Event}
 use Rattle.kd_event.specs.declared.event.Handled.{Handled}
@@ -8,20 +9,19 @@ use Rattle.kd_event.specs.declared.ports.Ports.{Ports}
 use Rattle.kd_keeps.specs.declared.keeps.Keeps.{Ghosts}
 use Rattle.kd_lease.specs.Change.{Changes}
 use Rattle.kd_replay.specs.History as past
+use Rattle.kd_replay.specs.Serving.{Answered, EndsAfter, EndsServing, HasServed, StopsServing, Traffic}
+use Rattle.kd_replay.specs.declared.fault.LoopFault.{LoopFault}
+use Rattle.kd_replay.specs.declared.fault.LoopFault.TheVariants as loops
 use Rattle.kd_replay.specs.declared.fault.ServeFault.{ServeFault}
 use Rattle.kd_replay.specs.declared.fault.ServeFault.TheVariants as faults
 use Rattle.kd_options.specs.Message.{Reads}
 use Rattle.kd_rows.specs.Table.{latest_of}
 use Rattle.kd_rows.specs.declared.row.Row.{Row}
-use Rattle.kd_server.specs.Keeping.{StoreHolds, IsStopped, Keeping, Refuses, Steps}
-use Rattle.kd_server.specs.Lives.{CallAnswers, AreSteps, Call, Called, IsAnswerOf, IsIdle, IsLeft, IsNoRun, IsOpening, IsRun, LivesAreHistories, Opening, RunsAreCalls, calls_of}
-use Rattle.kd_server.specs.NoOverlap.{Happens, LeaseHistory, LeaseStep, now_of}
+use Rattle.kd_keeps.specs.declared.fault.StoreFault.{StoreFault}
+use Rattle.kd_server.specs.Keeping.{IsStopped, Keeping, Refuses, Steps, StoreHolds}
+use Rattle.kd_server.specs.Lives.{AreCalls, AreSteps, Call, CallAnswers, Called, IsAnswerOf, IsDone, IsIdle, IsLeft, IsNoRun, IsOpening, IsRun, Life, LivesAreHistories, Opening, OpeningsAreHistories, OpeningsEnd, ReachingIsCalls, RunsAreCalls, ServingIsCalls, WasHistory, calls_of}
+use Rattle.kd_server.specs.NoOverlap.{HistoryTo, LeaseHistory, LeaseStep, now_of}
 use Rattle.kd_server.specs.Step.{IsAnswered, IsUnreadable}
-
--- steps from these rows to those
-abbrev HistoryTo : Configuration → List Row → List LeaseStep → List Row → Type 0
-HistoryTo config rows [] last = last ≡ rows
-HistoryTo config rows (e ∷ es) last = (e.before ≡ rows) × Happens config e e.outcome × HistoryTo config e.after es last
 
 -- calls are steps from these rows to those
 record Told (config : Configuration) (ports : Ports) (rows : List Row) (calls : List Call) (last : List Row) : Type 0 where
@@ -57,7 +57,7 @@ module _ {S : Type 0} (g : Ghosts S) where
   clean_first (call ∷ calls) old new c clean = clean_before old c.0 call.event call.answer c.1 (clean_first calls c.0 new c.2 clean)
 
   -- a server whose store has failed answers Failed, and nothing happens
-  stuck : (old new : Keeping S) (event : Event) (answer : Result Handled ServeFault) → g.has_failed old.store ≡ true
+  stuck : (old new : Keeping S) (event : Event) (answer : Result Handled ServeFault) → is_some (g.fault old.store) ≡ true
       → CallAnswers g old event answer new → (new ≡ old) × IsIdle event answer
   stuck old new event (Ok handled) failed a = absurd (false≢true (sym a.worked ∙ failed))
   stuck old new event (Err faults.MomentTooLarge) failed a = absurd (false≢true (sym a.0 ∙ failed))
@@ -66,12 +66,12 @@ module _ {S : Type 0} (g : Ghosts S) where
   stuck old new event (Err faults.Failed) failed a = (a.1, tt)
 
   -- so of all later calls
-  stuck_all : (ports : Ports) (calls : List Call) (old new : Keeping S) → g.has_failed old.store ≡ true → Called g old calls new
+  stuck_all : (ports : Ports) (calls : List Call) (old new : Keeping S) → is_some (g.fault old.store) ≡ true → Called g old calls new
       → (new ≡ old) × AreSteps ports calls []
   stuck_all ports [] old new failed same = (same, refl)
   stuck_all ports (call ∷ calls) old new failed c =
       let first = stuck old c.0 call.event call.answer failed c.1 in
-      let later = stuck_all ports calls c.0 new (ap (λ (s : Keeping S). g.has_failed s.store) first.0 ∙ failed) c.2 in
+      let later = stuck_all ports calls c.0 new (ap (λ (s : Keeping S). is_some (g.fault s.store)) first.0 ∙ failed) c.2 in
       (later.0 ∙ first.0, (first.1, later.1))
 
   -- the rows that are found after calls: those of the server, or rows that a crash leaves
@@ -110,11 +110,11 @@ module _ {S : Type 0} (g : Ghosts S) where
         }
 
   -- a step that was stopped is the last in which something happens: it leaves the rows from before it, or those after
-  stopped : (old mid new : Keeping S) (event : Event) (stop : IsStopped g old event mid) (calls : List Call) → new ≡ mid
+  stopped : (old mid new : Keeping S) (event : Event) (why : StoreFault) (stop : IsStopped g why old event mid) (calls : List Call) → new ≡ mid
       → AreSteps old.ports calls [] → g.has_clean_disk mid.store → StoreHolds g old.store old.rows → (last : List Row) → IsFound new last
       → (call : Call) → call.event ≡ event → ((e : LeaseStep) → e.outcome ≡ None → IsAnswerOf old.ports e call.answer)
       → Told old.config old.ports old.rows (call ∷ calls) last
-  stopped old mid new event stop calls same none clean holds last found call its is = ⊎_elim unread read stop.step.done where
+  stopped old mid new event why stop calls same none clean holds last found call its is = ⊎_elim unread read stop.step.done where
     unread : IsUnreadable latest_of (Changes old.config) old.ports old.rows event stop.handled.response stop.after → Told old.config old.ports old.rows (call ∷ calls) last
     unread u = absurd (stop.store.changed u.table)
 
@@ -153,8 +153,8 @@ module _ {S : Type 0} (g : Ghosts S) where
       unchanged old mid new (record { event = event; answer = Err faults.Memory }) calls tt a.3
       (tells (subst (λ (s : Keeping S). StoreHolds g s.store s.rows) (sym a.3) holds))
   one old mid new event (Err (faults.Store fault)) calls a later clean holds tells = λ last found.
-      let rest = stuck_all old.ports calls mid new a.store.failed later in
-      stopped old mid new event a calls rest.0 rest.1 clean holds last found (record { event = event; answer = Err (faults.Store fault) }) refl (λ e none. none)
+      let rest = stuck_all old.ports calls mid new (ap is_some a.store.failed) later in
+      stopped old mid new event fault a calls rest.0 rest.1 clean holds last found (record { event = event; answer = Err (faults.Store fault) }) refl (λ e none. none)
   one old mid new event (Err faults.Failed) calls a later clean holds tells =
       unchanged old mid new (record { event = event; answer = Err faults.Failed }) calls tt a.1
       (tells (subst (λ (s : Keeping S). StoreHolds g s.store s.rows) (sym a.1) holds))
@@ -173,46 +173,80 @@ module _ {S : Type 0} (g : Ghosts S) where
       let mid_clean = clean_first calls c.0 new c.2 clean in
       one old c.0 new call.event call.answer calls c.1 c.2 mid_clean holds (all calls c.0 new c.2 clean)
 
-  -- what is told of an opening whose server was run
-  ran : (config : Configuration) (o : Opening S) → g.stands o.store o.rows → g.has_clean_disk o.left → (r : IsRun g config o) → (last : List Row)
-      → (last ≡ r.last.rows) ⊎ IsLeft g o.left last → Told config o.ports o.rows o.calls last
-  ran config o stands clean r last found =
-      let last_clean : g.has_clean_disk r.last.store = subst g.has_clean_disk r.store clean in
+  -- what is told of a server that was run over a store
+  ran : (config : Configuration) (o : Opening) (store left : S) → g.stands store o.rows → g.has_clean_disk left → (r : IsRun g config o.ports o.calls store left) → (last : List Row)
+      → (last ≡ r.last.rows) ⊎ IsLeft g left last → Told config o.ports o.rows o.calls last
+  ran config o store left stands clean r last found =
+      let last_clean : g.has_clean_disk r.last.store = subst g.has_clean_disk r.left_is clean in
       let opened = r.opens.holds (clean_first o.calls r.first r.last r.called last_clean) o.rows stands in
       let holds : StoreHolds g r.first.store r.first.rows = subst (StoreHolds g r.first.store) (sym opened.0) opened.1 in
-      let told = all o.calls r.first r.last r.called last_clean holds last (subst (λ (s : S). (last ≡ r.last.rows) ⊎ IsLeft g s last) r.store found) in
+      let told = all o.calls r.first r.last r.called last_clean holds last (subst (λ (s : S). (last ≡ r.last.rows) ⊎ IsLeft g s last) r.left_is found) in
       subst (λ (c : Configuration). Told c o.ports o.rows o.calls last) r.opens.config_is
       (subst (λ (p : Ports). Told r.first.config p o.rows o.calls last) r.opens.ports_are
       (subst (λ (rows : List Row). Told r.first.config r.first.ports rows o.calls last) opened.0 told))
 
-  -- what is told of one in which no server was opened
-  not_run : (config : Configuration) (o : Opening S) → IsNoRun g config o → (last : List Row) → last ≡ o.rows → Told config o.ports o.rows o.calls last
-  not_run config o n last same = subst (λ (calls : List Call). Told config o.ports o.rows calls last) (sym n.none) (record { steps = []; history = same; are = refl })
+  -- what is told where no server was opened
+  not_run : (config : Configuration) (o : Opening) (store left : S) → IsNoRun g config o.calls store left → (last : List Row) → last ≡ o.rows → Told config o.ports o.rows o.calls last
+  not_run config o store left n last same = subst (λ (calls : List Call). Told config o.ports o.rows calls last) (sym n.none) (record { steps = []; history = same; are = refl })
 
   -- what is told of an opening, where a crash leaves these rows
-  left : (config : Configuration) (o : Opening S) → IsOpening g config o → (last : List Row) → IsLeft g o.left last → Told config o.ports o.rows o.calls last
-  left config o is last found = ⊎_elim
-      (λ r. ran config o is.stands is.clean r last (inr found))
-      (λ n. not_run config o n last (⊎_elim (λ e. e) (λ e. e) (found o.rows o.rows (n.unopened.left is.clean o.rows is.stands))))
-      is.done
+  told_left : (config : Configuration) (o : Opening) (store left : S) → g.stands store o.rows → g.has_clean_disk left → IsDone g config o.ports o.calls store left → (last : List Row)
+      → IsLeft g left last → Told config o.ports o.rows o.calls last
+  told_left config o store left stands clean done last found = ⊎_elim
+      (λ r. ran config o store left stands clean r last (inr found))
+      (λ n. not_run config o store left n last (⊎_elim (λ e. e) (λ e. e) (found o.rows o.rows (n.unopened.left clean o.rows stands))))
+      done
 
-  -- what is told of the last opening
-  ended : (config : Configuration) (o : Opening S) → IsOpening g config o → (last : List Row) × Told config o.ports o.rows o.calls last
-  ended config o is = ⊎_elim
-      (λ r. (r.last.rows, ran config o is.stands is.clean r r.last.rows (inl refl)))
-      (λ n. (o.rows, not_run config o n o.rows refl))
-      is.done
+  -- what is told of one after which no rows are found
+  told_last : (config : Configuration) (o : Opening) (store left : S) → g.stands store o.rows → g.has_clean_disk left → IsDone g config o.ports o.calls store left
+      → (last : List Row) × Told config o.ports o.rows o.calls last
+  told_last config o store left stands clean done = ⊎_elim
+      (λ r. (r.last.rows, ran config o store left stands clean r r.last.rows (inl refl)))
+      (λ n. (o.rows, not_run config o store left n o.rows refl))
+      done
 
-  -- a life is a history with stops
-  pub histories : LivesAreHistories g
-  histories config [] life = ([], tt, refl)
-  histories config (o ∷ []) life =
-      let e = ended config o life in
-      (e.1.steps ++ [], followed config o.rows e.1.steps e.0 [] e.1.history tt, (e.1.steps, [], refl, e.1.are, refl))
-  histories config (o ∷ p ∷ os) life =
-      let first = left config o life.0 p.rows life.1 in
-      let later = histories config (p ∷ os) life.2 in
-      (first.steps ++ later.0, followed config o.rows first.steps p.rows later.0 first.history later.1, (first.steps, later.0, refl, first.are, later.2))
+  -- an opening was a history
+  pub openings : OpeningsAreHistories g
+  openings config o None is =
+      let e = told_last config o is.store is.left is.stands is.clean is.done in
+      record { steps = e.1.steps; last = e.0; history = e.1.history; are = e.1.are; found = λ rows none. absurd (none-some rows none) }
+  openings config o (Some rows) is =
+      let e = told_left config o is.store is.left is.stands is.clean is.done rows (is.found rows refl) in
+      record { steps = e.steps; last = rows; history = e.history; are = e.are; found = λ other same. same_Some rows other same }
+
+  -- a crash of a store leaves one of two tables
+  abbrev Leaves : Keeping S → Type 0
+  Leaves s = (before : List Row) × (after : List Row) × g.leaves s.store before after
+
+  -- so it does after a call and those after it
+  ends_one : (old mid new : Keeping S) (event : Event) (answer : Result Handled ServeFault) (calls : List Call) → CallAnswers g old event answer mid
+      → Called g mid calls new → g.has_clean_disk mid.store → StoreHolds g old.store old.rows → (StoreHolds g mid.store mid.rows → Leaves new) → Leaves new
+  ends_one old mid new event (Ok handled) calls a later clean holds ends = ends (a.store.holds clean holds)
+  ends_one old mid new event (Err faults.MomentTooLarge) calls a later clean holds ends = ends (subst (λ (s : Keeping S). StoreHolds g s.store s.rows) (sym a.2) holds)
+  ends_one old mid new event (Err faults.Memory) calls a later clean holds ends = ends (subst (λ (s : Keeping S). StoreHolds g s.store s.rows) (sym a.3) holds)
+  ends_one old mid new event (Err (faults.Store fault)) calls a later clean holds ends =
+      let rest = stuck_all old.ports calls mid new (ap is_some a.store.failed) later in
+      subst Leaves (sym rest.0) (old.rows, a.after, a.store.left clean holds)
+  ends_one old mid new event (Err faults.Failed) calls a later clean holds ends = ends (subst (λ (s : Keeping S). StoreHolds g s.store s.rows) (sym a.1) holds)
+
+  -- and after all calls
+  ends_all : (calls : List Call) (old new : Keeping S) → Called g old calls new → g.has_clean_disk new.store → StoreHolds g old.store old.rows → Leaves new
+  ends_all [] old new same clean holds = subst Leaves (sym same) (old.rows, old.rows, holds.leaves)
+  ends_all (call ∷ calls) old new c clean holds =
+      ends_one old c.0 new call.event call.answer calls c.1 c.2 (clean_first calls c.0 new c.2 clean) holds (ends_all calls c.0 new c.2 clean)
+
+  -- an opening ends so
+  pub ends : OpeningsEnd g
+  ends config ports calls store left (inl r) clean =
+      let last_clean : g.has_clean_disk r.last.store = subst g.has_clean_disk r.left_is clean in
+      let first_clean = clean_first calls r.first r.last r.called last_clean in (
+        r.opens.clean first_clean,
+        λ table stands.
+            let opened = r.opens.holds first_clean table stands in
+            let two = ends_all calls r.first r.last r.called last_clean (subst (StoreHolds g r.first.store) (sym opened.0) opened.1) in
+            (two.0, two.1, subst (λ (s : S). g.leaves s two.0 two.1) (sym r.left_is) two.2),
+      )
+  ends config ports calls store left (inr n) clean = (n.unopened.clean clean, λ table stands. (table, table, n.unopened.left clean table stands))
 
   -- events with their history are calls, before those of the events after them
   called_before : (done after : List Event) (list : List Handled) (fault : Option ServeFault) (old mid new : Keeping S)
@@ -252,3 +286,52 @@ module _ {S : Type 0} (g : Ghosts S) where
   runs events list fault old new r =
       subst (λ (all : List Event). Called g old (calls_of all list fault) new ⊎ past.NoMemory faults.Memory list old new) (sym r.all)
       (halted r.done r.after list fault old r.mid new r.history r.halts)
+
+  -- events with their history are calls
+  all_called : (events : List Event) (list : List Handled) (old mid new : Keeping S) (after : List Call) → past.History (Steps g) old events list mid → Called g mid after new → AreCalls g old new
+  all_called [] [] old mid new after same c = (after, subst (λ (s : Keeping S). Called g s after new) same c)
+  all_called (event ∷ events) (handled ∷ list) old mid new after h c =
+      let later = all_called events list h.0 mid new after h.2 c in
+      (record { event = event; answer = Ok handled } ∷ later.0, (h.0, h.1, later.1))
+  all_called [] (handled ∷ list) old mid new after h c = absurd h
+  all_called (event ∷ events) [] old mid new after h c = absurd h
+
+  -- so is what a server reaches
+  pub reaching : ReachingIsCalls g
+  reaching old new r = ⊎_elim
+      (λ same. all_called r.events r.list old r.mid new [] r.history same)
+      (λ one. all_called r.events r.list old r.mid new (record { event = one.0; answer = Err one.1 } ∷ []) r.history (new, one.2, refl))
+      r.last
+
+  -- datagrams that are served are calls, before other calls
+  served_called : (count : ℕ) (old mid new : Keeping S) (before after : Traffic) (calls : List Call) → HasServed (Steps g) count old mid before after → Called g mid calls new → AreCalls g old new
+  served_called count old mid new before after calls s c = all_called s.events (map (λ (a : Answered). a.handled) s.list) old mid new calls s.history c
+
+  -- so is the datagram at which serving ends
+  ended_called : (link output : Bool) (fault : LoopFault) (old new : Keeping S) (before after : Traffic) → EndsServing (Steps g) (Refuses g) (link ≡ true) (output ≡ true) fault old new before after
+      → AreCalls g old new
+  ended_called link output loops.Read old new before after e = ([], e.1)
+  ended_called link output loops.Memory old new before after e = (record { event = e.1.event; answer = Err faults.Memory } ∷ [], (new, e.1.failed, refl))
+  ended_called link output (loops.Serve fault) old new before after e = (record { event = e.1.event; answer = Err fault } ∷ [], (new, e.1.failed, refl))
+  ended_called link output loops.Write old new before after e = (record { event = e.1.event; answer = Ok e.1.answered.handled } ∷ [], (new, e.1.given, refl))
+
+  pub serving : ServingIsCalls g
+  serving = (
+    λ count old new before after s. served_called count old new new before after [] s refl,
+    λ link output fault count old new before after stops. ⊎_elim
+        (λ none. ([], none.1))
+        (λ (e : EndsAfter (Steps g) (Refuses g) (link ≡ true) (output ≡ true) fault count old new before after).
+        let last = ended_called link output fault e.mid new e.between after e.ends in
+        served_called e.done old e.mid new before e.between last.0 e.served last.1)
+        stops,
+  )
+
+-- a life is a history with stops
+pub histories : LivesAreHistories
+histories config [] life = ([], tt, refl)
+histories config (o ∷ []) life = (life.steps ++ [], followed config o.rows life.steps life.last [] life.history tt, (life.steps, [], refl, life.are, refl))
+histories config (o ∷ p ∷ os) life =
+    let first = life.0 in
+    let later = histories config (p ∷ os) life.1 in
+    let history = subst (HistoryTo config o.rows first.steps) (first.found p.rows refl) first.history in
+    (first.steps ++ later.0, followed config o.rows first.steps p.rows later.0 history later.1, (first.steps, later.0, refl, first.are, later.2))

@@ -1,5 +1,5 @@
 -- An event whose row is not kept.
-use Rattle.std.proofs.Common.{◌≡◌, ◌≢◌, ℕ, ◌^◌, ◌<◌, inl, inr, IfErr, List, Option, Result, Ok, Err, false, max, refl, sym, ap, subst}
+use Rattle.std.proofs.Common.{◌≡◌, ◌≢◌, ℕ, ◌^◌, ◌<◌, inl, inr, IfErr, is_some, List, Option, Result, Ok, Err, false, max, refl, sym, ap, subst}
 use Rattle.kd_config.specs.Configuration.{Configuration}
 use Rattle.kd_event.specs.declared.event.Event.{Event}
 use Rattle.kd_event.specs.declared.event.Handled.{Handled}
@@ -42,7 +42,7 @@ headed config ports rows now bytes row response (inr t) changed = message_headed
 
 -- a row that is not kept refuses the event
 pub refused : {S : Type 0} (g : Ghosts S) (old : Keeping S) (event : Event) (row : Option Row) (response : Response) (now : ℕ) (fault : ServeFault) (rows : List Row) (store : S)
-    → g.has_failed old.store ≡ false → event.moment < 2 ^ 40 → now ≡ max event.moment (latest_of old.rows)
+    → is_some (g.fault old.store) ≡ false → event.moment < 2 ^ 40 → now ≡ max event.moment (latest_of old.rows)
     → IsTurn old.config old.ports old.rows now event.bytes row response → IsUnkept g old.rows rows old.store store (after old.rows row) fault
     → Refuses g old event fault (record { ports = old.ports; config = old.config; rows = rows; store = store })
 refused g old event row response now faults.MomentTooLarge rows store works early is turn unkept = absurd unkept
@@ -65,7 +65,7 @@ refused g old event row response now faults.Failed rows store works early is tur
 
 -- what refuses an event is that its row is not kept
 pub refused_if : {S : Type 0} (g : Ghosts S) (old : Keeping S) (event : Event) (row : Option Row) (response : Response) (now : ℕ) (result : Result Handled ServeFault) (rows : List Row) (store : S)
-    → g.has_failed old.store ≡ false → event.moment < 2 ^ 40 → now ≡ max event.moment (latest_of old.rows)
+    → is_some (g.fault old.store) ≡ false → event.moment < 2 ^ 40 → now ≡ max event.moment (latest_of old.rows)
     → IsTurn old.config old.ports old.rows now event.bytes row response → IfErr result (IsUnkept g old.rows rows old.store store (after old.rows row))
     → IfErr result (λ fault. Refuses g old event fault (record { ports = old.ports; config = old.config; rows = rows; store = store }))
 refused_if g old event row response now (Ok handled) rows store works early is turn unkept = tt

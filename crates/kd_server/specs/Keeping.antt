@@ -1,10 +1,11 @@
 -- What a server with leases stands at, over any store that keeps them, and what it does with an
 -- event: it answers and changes its rows as the history says, and the store keeps those rows.
-use Rattle.std.specs.Prelude.{◌≡◌, ◌≢◌, ℕ, ◌^◌, ◌≤◌, ◌<◌, Bool, true, false, List, Ok}
+use Rattle.std.specs.Prelude.{◌≡◌, ◌≢◌, ◌⊎◌, ℕ, ◌^◌, ◌≤◌, ◌<◌, true, false, List, Ok, Option, None, Some, is_some}
 use Rattle.kd_config.specs.Configuration.{Configuration}
 use Rattle.kd_event.specs.declared.event.Event.{Event}
 use Rattle.kd_event.specs.declared.event.Handled.{Handled}
 use Rattle.kd_event.specs.declared.ports.Ports.{Ports}
+use Rattle.kd_keeps.specs.declared.fault.StoreFault.{StoreFault}
 use Rattle.kd_keeps.specs.declared.keeps.Keeps.{Ghosts}
 use Rattle.kd_lease.specs.Change.{Changes}
 use Rattle.kd_replay.specs.declared.fault.ServeFault.{ServeFault}
@@ -32,11 +33,12 @@ StepsTo config ports rows event handled new =
 abbrev pub HasHeader : List ℕ → Type 0
 HasHeader bytes = (header : Header) × (header_read bytes ≡ Ok header)
 
--- why no server was opened: memory ran out, or the store has failed
-abbrev pub IsOpenFault : ServeFault → Bool → Type 0
+-- why no server was opened, by the fault with which the store has failed: memory ran out, or it is
+-- the store's fault
+abbrev pub IsOpenFault : ServeFault → Option StoreFault → Type 0
 IsOpenFault faults.MomentTooLarge failed = ⊥
-IsOpenFault faults.Memory failed = failed ≡ false
-IsOpenFault (faults.Store fault) failed = failed ≡ true
+IsOpenFault faults.Memory failed = failed ≡ None
+IsOpenFault (faults.Store fault) failed = failed ≡ Some fault
 IsOpenFault faults.Failed failed = ⊥
 
 module _ {S : Type 0} (g : Ghosts S) where
@@ -48,16 +50,18 @@ module _ {S : Type 0} (g : Ghosts S) where
   -- a store that works: where its disk is clean it was clean before, and a store that held the rows
   -- from before holds those from after
   pub record StillHolds (old new : S) (before rows : List Row) : Type 0 where
-    pub works : g.has_failed new ≡ false
+    pub works : is_some (g.fault new) ≡ false
     pub clean : g.has_clean_disk new → g.has_clean_disk old
     pub holds : g.has_clean_disk new → StoreHolds old before → StoreHolds new rows
 
-  -- a store that has failed at a change: a crash leaves the rows from before or those from after
-  pub record Loses (old new : S) (before rows : List Row) : Type 0 where
-    pub failed : g.has_failed new ≡ true
+  -- a store that has failed at a change, with this fault: a crash leaves the rows from before or
+  -- those from after, and while it is open it stands at those from before
+  pub record Loses (fault : StoreFault) (old new : S) (before rows : List Row) : Type 0 where
+    pub failed : g.fault new ≡ Some fault
     pub clean : g.has_clean_disk new → g.has_clean_disk old
     pub changed : rows ≢ before
     pub left : g.has_clean_disk new → StoreHolds old before → g.leaves new before rows
+    pub still : g.has_clean_disk new → StoreHolds old before → g.is_open new → g.stands new before
 
   -- a server keeps its ports, its configuration and its rows
   pub record IsSameBut (old new : Keeping S) : Type 0 where
@@ -68,33 +72,34 @@ module _ {S : Type 0} (g : Ghosts S) where
   -- the server's step: the history's, from rows to rows, and the store keeps the new ones
   pub record Steps (old : Keeping S) (event : Event) (handled : Handled)
       (new : Keeping S) : Type 0 where
-    pub worked : g.has_failed old.store ≡ false
+    pub worked : is_some (g.fault old.store) ≡ false
     pub ports : new.ports ≡ old.ports
     pub config : new.config ≡ old.config
     pub step : StepsTo old.config old.ports old.rows event handled new.rows
     pub store : StillHolds old.store new.store old.rows new.rows
 
-  -- the store has failed at the change of an event: there is no answer, and the server's rows are
-  -- those from before
-  pub record IsStopped (old : Keeping S) (event : Event) (new : Keeping S) : Type 0 where
-    pub worked : g.has_failed old.store ≡ false
+  -- the store has failed with this fault at the change of an event: there is no answer, and the
+  -- server's rows are those from before
+  pub record IsStopped (fault : StoreFault) (old : Keeping S) (event : Event)
+      (new : Keeping S) : Type 0 where
+    pub worked : is_some (g.fault old.store) ≡ false
     pub same : IsSameBut old new
     pub handled : Handled
     pub after : List Row
     pub step : StepsTo old.config old.ports old.rows event handled after
-    pub store : Loses old.store new.store old.rows after
+    pub store : Loses fault old.store new.store old.rows after
 
   -- why an event is not handled, and what stands then: want of memory, which may come once the
   -- header is read, a moment of 2^40 or more and a store that has failed before change nothing;
   -- else the store has failed at this event
   abbrev pub Refuses : Keeping S → Event → ServeFault → Keeping S → Type 0
   Refuses old event faults.MomentTooLarge new =
-      (g.has_failed old.store ≡ false) × (2 ^ 40 ≤ event.moment) × (new ≡ old)
+      (is_some (g.fault old.store) ≡ false) × (2 ^ 40 ≤ event.moment) × (new ≡ old)
   Refuses old event faults.Memory new =
-      (g.has_failed old.store ≡ false) × (event.moment < 2 ^ 40) × HasHeader event.bytes
+      (is_some (g.fault old.store) ≡ false) × (event.moment < 2 ^ 40) × HasHeader event.bytes
       × (new ≡ old)
-  Refuses old event (faults.Store fault) new = IsStopped old event new
-  Refuses old event faults.Failed new = (g.has_failed old.store ≡ true) × (new ≡ old)
+  Refuses old event (faults.Store fault) new = IsStopped fault old event new
+  Refuses old event faults.Failed new = (is_some (g.fault old.store) ≡ true) × (new ≡ old)
 
   -- a server that was opened over a store: where the store stood at a table, its rows are that
   -- table, and the store holds them
@@ -102,17 +107,19 @@ module _ {S : Type 0} (g : Ghosts S) where
       (server : Keeping S) : Type 0 where
     pub ports_are : server.ports ≡ ports
     pub config_is : server.config ≡ config
-    pub works : g.has_failed server.store ≡ false
+    pub works : is_some (g.fault server.store) ≡ false
     pub clean : g.has_clean_disk server.store → g.has_clean_disk store
     pub holds : g.has_clean_disk server.store → (table : List Row) → g.stands store table
         → (server.rows ≡ table) × StoreHolds server.store table
 
-  -- no server was opened: the configuration and the store come back, and a crash leaves the table
-  -- that the store stood at
+  -- no server was opened: the configuration and the store come back, a crash leaves the table that
+  -- the store stood at, and while the store is open, or where memory alone ran out, it stands there
   pub record IsUnopened (config : Configuration) (store : S) (fault : ServeFault)
       (same : Configuration) (back : S) : Type 0 where
     pub config_is : same ≡ config
-    pub why : IsOpenFault fault (g.has_failed back)
+    pub why : IsOpenFault fault (g.fault back)
     pub clean : g.has_clean_disk back → g.has_clean_disk store
     pub left : g.has_clean_disk back → (table : List Row) → g.stands store table
         → g.leaves back table table
+    pub still : g.has_clean_disk back → (table : List Row) → g.stands store table
+        → (fault ≡ faults.Memory) ⊎ g.is_open back → g.stands back table

@@ -1,6 +1,6 @@
 -- A server that is opened, run, stopped and opened again on what a crash left: a life, of several
--- openings. It is a history with stops.
-use Rattle.std.specs.Prelude.{◌≡◌, ◌⊎◌, List, [], ◌∷◌, ◌++◌, Result, Ok, Err, Option, Some, None}
+-- openings, over stores of any types. It is a history with stops.
+use Rattle.std.specs.Prelude.{◌≡◌, ◌⊎◌, ℕ, Bool, true, List, [], ◌∷◌, ◌++◌, Result, Ok, Err, Option, Some, None}
 use Rattle.kd_config.specs.Configuration.{Configuration}
 use Rattle.kd_event.specs.declared.event.Event.{Event}
 use Rattle.kd_event.specs.declared.event.Handled.{Handled}
@@ -8,12 +8,14 @@ use Rattle.kd_event.specs.declared.ports.Ports.{Ports}
 use Rattle.kd_keeps.specs.declared.keeps.Keeps.{Ghosts}
 use Rattle.kd_lease.specs.Plan.{Outcome}
 use Rattle.kd_options.specs.Message.{Seen, Reads}
-use Rattle.kd_replay.specs.History.{NoMemory, Runs}
+use Rattle.kd_replay.specs.History.{NoMemory, Reaches, Runs}
+use Rattle.kd_replay.specs.Serving.{HasServed, StopsServing, Traffic}
+use Rattle.kd_replay.specs.declared.fault.LoopFault.{LoopFault}
 use Rattle.kd_replay.specs.declared.fault.ServeFault.{ServeFault}
 use Rattle.kd_replay.specs.declared.fault.ServeFault.TheVariants as faults
 use Rattle.kd_rows.specs.declared.row.Row.{Row}
 use Rattle.kd_server.specs.Keeping.{IsUnopened, Keeping, Opens, Refuses, Steps}
-use Rattle.kd_server.specs.NoOverlap.{LeaseHistory, LeaseStep, now_of}
+use Rattle.kd_server.specs.NoOverlap.{HistoryTo, LeaseHistory, LeaseStep, now_of}
 use Rattle.kd_server.specs.Step.{Responds}
 
 -- a call of `handle`: its event, and what it answered
@@ -21,14 +23,12 @@ pub record Call : Type 0 where
   pub event : Event
   pub answer : Result Handled ServeFault
 
--- one opening of a server: the store that it was opened over and the rows at which that stood, the
--- ports, the calls of `handle`, and the store as it was left
-pub record Opening (S : Type 0) : Type 0 where
-  pub store : S
+-- one opening of a server, as it is seen from outside: the rows at which its store stood, the ports,
+-- and the calls of `handle`
+pub record Opening : Type 0 where
   pub rows : List Row
   pub ports : Ports
   pub calls : List Call
-  pub left : S
 
 module _ {S : Type 0} (g : Ghosts S) where
   -- what `handle` promises of a call
@@ -42,37 +42,46 @@ module _ {S : Type 0} (g : Ghosts S) where
   Called old (call ∷ calls) new =
       (mid : Keeping S) × CallAnswers old call.event call.answer mid × Called mid calls new
 
-  -- a server is opened and called, and its store is left
-  pub record IsRun (config : Configuration) (o : Opening S) : Type 0 where
+  -- what was done with a server is such calls
+  abbrev pub AreCalls : Keeping S → Keeping S → Type 0
+  AreCalls old new = (calls : List Call) × Called old calls new
+
+  -- a server is opened over a store and called, and the store is left
+  pub record IsRun (config : Configuration) (ports : Ports) (calls : List Call)
+      (store left : S) : Type 0 where
     pub first : Keeping S
     pub last : Keeping S
-    pub opens : Opens g o.ports config o.store first
-    pub called : Called first o.calls last
-    pub store : o.left ≡ last.store
+    pub opens : Opens g ports config store first
+    pub called : Called first calls last
+    pub left_is : left ≡ last.store
 
-  -- no server is opened, and the store is left
-  pub record IsNoRun (config : Configuration) (o : Opening S) : Type 0 where
+  -- no server is opened over a store, which is left
+  pub record IsNoRun (config : Configuration) (calls : List Call) (store left : S) : Type 0 where
     pub fault : ServeFault
-    pub unopened : IsUnopened g config o.store fault config o.left
-    pub none : o.calls ≡ []
+    pub unopened : IsUnopened g config store fault config left
+    pub none : calls ≡ []
 
-  -- an opening with this configuration: the store stands at the rows, and has met no disk that does
-  -- not do what it says
-  pub record IsOpening (config : Configuration) (o : Opening S) : Type 0 where
-    pub stands : g.stands o.store o.rows
-    pub done : IsRun config o ⊎ IsNoRun config o
-    pub clean : g.has_clean_disk o.left
+  -- one of the two
+  abbrev pub IsDone : Configuration → Ports → List Call → S → S → Type 0
+  IsDone config ports calls store left =
+      IsRun config ports calls store left ⊎ IsNoRun config calls store left
 
-  -- of the two tables that a crash of the store may leave this is one
+  -- of any two tables of which a crash of the store leaves one this is one
   abbrev pub IsLeft : S → List Row → Type 0
   IsLeft store rows =
       (before after : List Row) → g.leaves store before after → (rows ≡ before) ⊎ (rows ≡ after)
 
-  -- openings one after another, each at rows that a crash of the one before it leaves
-  abbrev pub Life : Configuration → List (Opening S) → Type 0
-  Life config [] = Unit {0}
-  Life config (o ∷ []) = IsOpening config o
-  Life config (o ∷ p ∷ os) = IsOpening config o × IsLeft o.left p.rows × Life config (p ∷ os)
+  -- an opening with this configuration over such a store, and the rows that are found after it, if
+  -- any are: the store stood at its rows and has met no disk that does not do what it says, and the
+  -- rows are some that a crash of it leaves
+  pub record IsOpening (config : Configuration) (o : Opening)
+      (next : Option (List Row)) : Type 0 where
+    pub store : S
+    pub left : S
+    pub stands : g.stands store o.rows
+    pub done : IsDone config o.ports o.calls store left
+    pub clean : g.has_clean_disk left
+    pub found : (rows : List Row) → next ≡ Some rows → IsLeft left rows
 
 -- the calls of a run: the events with what was done with them, and the next event with the fault,
 -- where there is one
@@ -121,8 +130,39 @@ AreSteps ports (call ∷ calls) (e ∷ es) =
     (IsIdle call.event call.answer × AreSteps ports calls (e ∷ es))
     ⊎ (IsStepOf ports call e × AreSteps ports calls es)
 
--- the same of the calls of openings
-abbrev pub AreStepsOfAll : {S : Type 0} → List (Opening S) → List LeaseStep → Type 0
+-- what an opening was, whatever its store: steps from its rows, which are its calls, to rows that
+-- are those found after it, if any are
+pub record WasHistory (config : Configuration) (o : Opening)
+    (next : Option (List Row)) : Type 0 where
+  pub steps : List LeaseStep
+  pub last : List Row
+  pub history : HistoryTo config o.rows steps last
+  pub are : AreSteps o.ports o.calls steps
+  pub found : (rows : List Row) → next ≡ Some rows → last ≡ rows
+
+-- an opening over any store that keeps leases is a history to the rows that are found after it
+abbrev pub OpeningsAreHistories : {S : Type 0} → Ghosts S → Type 0
+OpeningsAreHistories {S} g =
+    (config : Configuration) (o : Opening) (next : Option (List Row)) → IsOpening g config o next
+    → WasHistory config o next
+
+-- where the disk is clean after an opening it was before, and of a store that stood at a table a
+-- crash leaves one of two
+abbrev pub OpeningsEnd : {S : Type 0} → Ghosts S → Type 0
+OpeningsEnd {S} g =
+    (config : Configuration) (ports : Ports) (calls : List Call) (store left : S)
+    → IsDone g config ports calls store left → g.has_clean_disk left
+    → g.has_clean_disk store × ((table : List Row) → g.stands store table
+    → (before : List Row) × (after : List Row) × g.leaves left before after)
+
+-- openings one after another, each a history to the rows of the next, over stores of any types
+abbrev pub Life : Configuration → List Opening → Type 0
+Life config [] = Unit {0}
+Life config (o ∷ []) = WasHistory config o None
+Life config (o ∷ p ∷ os) = WasHistory config o (Some p.rows) × Life config (p ∷ os)
+
+-- the steps are the calls of openings in which something happens, in their order
+abbrev pub AreStepsOfAll : List Opening → List LeaseStep → Type 0
 AreStepsOfAll [] es = es ≡ []
 AreStepsOfAll (o ∷ os) es =
     (mine : List LeaseStep) × (later : List LeaseStep) × (es ≡ mine ++ later)
@@ -130,12 +170,27 @@ AreStepsOfAll (o ∷ os) es =
     × AreStepsOfAll os later
 
 -- the rows at which a life begins; without an opening there are none
-abbrev pub first_rows : {S : Type 0} → List (Opening S) → List Row
+abbrev pub first_rows : List Opening → List Row
 first_rows [] = []
 first_rows (o ∷ os) = o.rows
 
 -- every life is a history with stops: of steps, each of which is a call of `handle`
-abbrev pub LivesAreHistories : {S : Type 0} → Ghosts S → Type 0
-LivesAreHistories {S} g =
-    (config : Configuration) (life : List (Opening S)) → Life g config life
+abbrev pub LivesAreHistories : Type 0
+LivesAreHistories =
+    (config : Configuration) (life : List Opening) → Life config life
     → (es : List LeaseStep) × LeaseHistory config (first_rows life) es × AreStepsOfAll life es
+
+-- what a server reaches by events is calls of `handle`
+abbrev pub ReachingIsCalls : {S : Type 0} → Ghosts S → Type 0
+ReachingIsCalls {S} g =
+    (old new : Keeping S) → Reaches (Steps g) (Refuses g) old new → AreCalls g old new
+
+-- so is what it does where it serves datagrams, to their number or up to a fault
+abbrev pub ServingIsCalls : {S : Type 0} → Ghosts S → Type 0
+ServingIsCalls {S} g =
+    ((count : ℕ) (old new : Keeping S) (before after : Traffic)
+    → HasServed (Steps g) count old new before after → AreCalls g old new)
+    × ((link output : Bool) (fault : LoopFault) (count : ℕ) (old new : Keeping S)
+    (before after : Traffic)
+    → StopsServing (Steps g) (Refuses g) (link ≡ true) (output ≡ true) fault count old new before
+    after → AreCalls g old new)

@@ -43,6 +43,12 @@ LeaseHistory config rows [] = Unit {0}
 LeaseHistory config rows (e ∷ es) =
     (e.before ≡ rows) × Happens config e e.outcome × LeaseHistory config e.after es
 
+-- such steps, after which these rows are left
+abbrev pub HistoryTo : Configuration → List Row → List LeaseStep → List Row → Type 0
+HistoryTo config rows [] last = last ≡ rows
+HistoryTo config rows (e ∷ es) last =
+    (e.before ≡ rows) × Happens config e e.outcome × HistoryTo config e.after es last
+
 -- a step leases an address to a client: the ACK of a REQUEST
 pub record Leases (e : LeaseStep) (client : List ℕ) (a : ℕ) : Type 0 where
   pub by : client_identity e.message ≡ Some client

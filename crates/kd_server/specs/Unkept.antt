@@ -22,5 +22,5 @@ module _ {S : Type 0} (g : Ghosts S) where
   IsUnkept before rows old new after faults.Memory =
       (rows ≡ before) × (new ≡ old) × (after ≢ before)
   IsUnkept before rows old new after (faults.Store fault) =
-      (rows ≡ before) × Loses g old new before after
+      (rows ≡ before) × Loses g fault old new before after
   IsUnkept before rows old new after faults.Failed = ⊥

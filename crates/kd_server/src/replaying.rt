@@ -1,5 +1,6 @@
 ghost use Rattle.std.specs.Prelude.{◌≡◌, ◌⊎◌, ℕ, List, Some, true, false, IfOk};
 ghost use Rattle.std.specs.Result.{IsErrOf};
+ghost use Rattle.kd_replay.specs.History.{Reaches};
 ghost use Rattle.kd_replay.specs.Replay.{Handles, HandlesWhole, LeavesWritten, most_lines};
 ghost use Rattle.kd_replay.specs.declared.fault.ReplayFault.TheVariants as faults;
 ghost use Rattle.kd_server.specs.Keeping.{Refuses, Steps};
@@ -31,6 +32,7 @@ pub fn replay<R: Source, W: Sink, S: Keeps>(
         → LeavesWritten (Steps S.Keeps) (Refuses S.Keeps)
         (R.has_failed source.new ≡ true) result input
         server.old server.new old (W.contents sink.new) }
+    ensures reached { Reaches (Steps S.Keeps) (Refuses S.Keeps) server.old server.new }
     ensures counted { IfOk result (λ count. Handles (Steps S.Keeps) count server.old server.new) }
     ensures read { IsErrOf result faults.Read
         → (R.has_failed source.new ≡ true)

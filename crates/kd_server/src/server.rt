@@ -1,9 +1,13 @@
-ghost use Rattle.std.specs.Prelude.{◌≡◌, ◌≤◌, ◌<◌, ◌^◌, IfErr, IfOk, IfSome, OnOk, false, length};
+ghost use Rattle.std.specs.Prelude.{◌≡◌, ◌≤◌, ◌<◌, ◌^◌, IfErr, IfOk, IfSome, OnOk, false, is_some, length};
+ghost use Rattle.std.specs.List.{All};
+ghost use Rattle.kd_keeps.specs.Reading.{AreRead};
 ghost use Rattle.kd_lease.specs.Change.{after};
 ghost use Rattle.kd_lease.specs.Rules.{IsSetAt};
 ghost use Rattle.kd_replay.specs.History.{Runs};
 ghost use Rattle.kd_replay.specs.Text.{IsSmall};
-ghost use Rattle.kd_rows.specs.Table.{with_row};
+ghost use Rattle.kd_replay.specs.declared.fault.ServeFault.TheVariants as faults;
+ghost use Rattle.kd_rows.specs.Row.{IsInRange};
+ghost use Rattle.kd_rows.specs.Table.{Rise, latest_of, with_row};
 ghost use Rattle.kd_server.specs.Keeping.{IsUnopened, Opens, Refuses, Steps, StillHolds};
 ghost use Rattle.kd_server.specs.Leases.{IsNoList, leases_of_rows};
 ghost use Rattle.kd_server.specs.Unkept.{IsSettable, IsUnkept};
@@ -12,7 +16,7 @@ use crate::leases::{Lease, leases_at};
 use crate::turning::{Turn, turn_at};
 use kd_config::Config;
 use kd_event::{Event, Handled, Ports};
-use kd_keeps::Keeps;
+use kd_keeps::{Keeps, Opened};
 use kd_replay::{ServeFault, Serves, run_with};
 use kd_rows::{Row, Rows};
 use std::alloc::Global;
@@ -53,24 +57,37 @@ impl<S: Keeps> Server<S> {
         mut store: S,
         ports: Ports,
     ) -> Result<Server<S>, (ServeFault, Config, S)>
-        requires { S.has_failed store ≡ false }
+        requires { is_some (S.fault store) ≡ false }
         ensures opened { IfOk result (Opens S.Keeps ports config store) }
         ensures refused { IfErr result
             (λ back. IsUnopened S.Keeps config store back.0 back.1 back.2) }
     {
         match store.rows() {
-            Ok(list) => match Rows::new(list) {
-                Ok(rows) => Ok(Server {
-                    ports,
-                    config,
-                    rows,
-                    store,
-                    alloc,
-                }),
-                Err(_) => Err((ServeFault::Memory, config, store)),
-            },
+            Ok(rows) => seat(alloc, config, store, rows, ports),
             Err(fault) => Err((ServeFault::Store(fault), config, store)),
         }
+    }
+
+    /// The same over a store that was just opened, at the rows that were read from it then: they are
+    /// not read again.
+    ///
+    /// # Errors
+    ///
+    /// `Memory`; configuration and store come back.
+    pub fn start(
+        alloc: Global,
+        config: Config,
+        opened: Opened<S>,
+        ports: Ports,
+    ) -> Result<Server<S>, (ServeFault, Config, S)>
+        requires works { is_some (S.fault opened.store) ≡ false }
+        requires read { AreRead S.Keeps opened.store opened.rows.items }
+        ensures opened { IfOk result (Opens S.Keeps ports config opened.store) }
+        ensures refused { IfErr result
+            (λ back. IsUnopened S.Keeps config opened.store back.0 back.1 back.2) }
+    {
+        let Opened { store, rows } = opened;
+        seat(alloc, config, store, rows, ports)
     }
 
     /// The server's end: the configuration that it went by, and its store.
@@ -89,6 +106,13 @@ impl<S: Keeps> Server<S> {
         self.rows.len()
     }
 
+    /// The latest change of a row, in whole seconds; 0 without rows.
+    pub fn latest_change(&self) -> u64
+        ensures { result ≡ latest_of self.now.rows }
+    {
+        self.rows.latest()
+    }
+
     /// The leases at a moment, in whole seconds: the rows in rising address, and which of them have
     /// not ended.
     ///
@@ -98,9 +122,9 @@ impl<S: Keeps> Server<S> {
     /// and `Memory`.
     pub fn leases(&self, moment: u64) -> Result<Vec<Lease>, ServeFault>
         ensures leases { IfOk result (λ list. list.items ≡ leases_of_rows moment self.now.rows) }
-        ensures works { IfOk result (λ list. (S.has_failed self.now.store ≡ false)
+        ensures works { IfOk result (λ list. (is_some (S.fault self.now.store) ≡ false)
             × (moment < 2 ^ 40)) }
-        ensures failed { IfErr result (IsNoList (S.has_failed self.now.store) moment) }
+        ensures failed { IfErr result (IsNoList (is_some (S.fault self.now.store)) moment) }
     {
         leases_at(self.alloc, &self.rows, self.store.failed(), moment)
     }
@@ -160,6 +184,33 @@ impl<S: Keeps> Serves for Server<S> {
     }
 }
 
+// A server over a store, at these rows.
+fn seat<S: Keeps>(
+    alloc: Global,
+    config: Config,
+    store: S,
+    rows: Vec<Row>,
+    ports: Ports,
+) -> Result<Server<S>, (ServeFault, Config, S)>
+    requires rise { Rise rows.items }
+    requires ranges { All IsInRange rows.items }
+    ensures seated { IfOk result (λ server. server
+        ≡ record { ports = ports; config = config; rows = rows.items; store = store }) }
+    ensures memory { IfErr result (λ back.
+        (back.0 ≡ faults.Memory) × (back.1 ≡ config) × (back.2 ≡ store)) }
+{
+    match Rows::new(rows) {
+        Ok(rows) => Ok(Server {
+            ports,
+            config,
+            rows,
+            store,
+            alloc,
+        }),
+        Err(_) => Err((ServeFault::Memory, config, store)),
+    }
+}
+
 // Keeps the row that a datagram sets, and then hands out what is sent for it.
 fn settle<S: Keeps>(
     rows: &mut Rows,
@@ -167,7 +218,7 @@ fn settle<S: Keeps>(
     now: u64,
     turn: Turn,
 ) -> Result<Handled, ServeFault>
-    requires works { S.has_failed store.old ≡ false }
+    requires works { is_some (S.fault store.old) ≡ false }
     requires set { IfSome turn.row (IsSettable rows.old.rows) }
     ensures handled { IfOk result
         (λ handled. handled ≡ record { now = now; response = turn.response }) }
@@ -185,7 +236,7 @@ fn settle<S: Keeps>(
 
 // Sets a row in the store and among the rows, where there is one and it changes them.
 fn keep<S: Keeps>(rows: &mut Rows, store: &mut S, row: Option<Row>) -> Result<(), ServeFault>
-    requires works { S.has_failed store.old ≡ false }
+    requires works { is_some (S.fault store.old) ≡ false }
     requires set { IfSome row (IsSettable rows.old.rows) }
     ensures rows { OnOk result (rows.new.rows ≡ after rows.old.rows row) }
     ensures store { OnOk result
@@ -202,7 +253,7 @@ fn keep<S: Keeps>(rows: &mut Rows, store: &mut S, row: Option<Row>) -> Result<()
 
 // Sets a row in the store and among the rows, where it changes them.
 fn keep_row<S: Keeps>(rows: &mut Rows, store: &mut S, row: Row) -> Result<(), ServeFault>
-    requires works { S.has_failed store.old ≡ false }
+    requires works { is_some (S.fault store.old) ≡ false }
     requires set { IsSettable rows.old.rows row }
     ensures rows { OnOk result (rows.new.rows ≡ with_row row rows.old.rows) }
     ensures store { OnOk result

@@ -8,6 +8,8 @@ returns-in-Ok g c = record {
   result = Ok c.in-Ok.field-0;
   leaves = c.in-Ok.ensures.replayed;
   whole = c.in-Ok.ensures.whole;
+  counted = c.in-Ok.ensures.counted;
+  reached = c.in-Ok.ensures.reached;
   ends = (refl, refl);
 }
 
@@ -16,5 +18,7 @@ returns-in-Err g c = record {
   result = Err c.in-Err.fault;
   leaves = c.in-Err.ensures.replayed;
   whole = c.in-Err.ensures.whole;
+  counted = tt;
+  reached = c.in-Err.ensures.reached;
   ends = told_as _ _ _ _ _ (written_to g.E.Sink c.args.ends.now.faults) _ c.number.ensures c.replay_status.ensures c.refuse_as.ensures;
 }

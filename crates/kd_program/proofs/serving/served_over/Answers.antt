@@ -20,7 +20,7 @@ returns-in-Err g c = inr (record {
 pub returns : goal.returns
 returns g c = inl (record {
   server = c.in-Ok.server;
-  opened = subst (λ ports. Opens g.S.Keeps ports c.args.config c.args.store c.in-Ok.server) c.ports_of.ensures c.in-Ok.ensures.opened;
+  opened = subst (λ ports. Opens g.S.Keeps ports c.args.config c.args.opened.store c.in-Ok.server) c.ports_of.ensures c.in-Ok.ensures.opened;
   left = c.worked-status.new.server;
   worked = c.worked-status.ensures;
   closed = c.close-store.ensures.store;

@@ -1,0 +1,95 @@
+-- A command over files, by what the machine says of its answers.
+use Rattle.std.proofs.Common.{◌≡◌, ◌⊎◌, inl, inr, ⊎_elim, ℕ, List, Option, None, Some, Ok, is_some, option_map, string_bytes, refl, subst, sym}
+use Rattle.sqlite_disk.specs.declared.Disk.{Ghosts as Disks}
+use Rattle.sqlite_store.specs.FileStore.{view}
+use Rattle.sqlite_store.specs.declared.store.FileStore.{FileStore}
+use Rattle.sqlite_trees.specs.View.{IsClean}
+use Rattle.sqlite_wal.specs.Recovery.{Image}
+use Rattle.kd_commands.specs.declared.orders.Order.{Order}
+use Rattle.kd_config.specs.Configuration.{Configuration}
+use Rattle.kd_database.specs.Stops.{IsBelow}
+use Rattle.kd_database.specs.Stores.{IsStoreIn, StandsAsHeld}
+use Rattle.kd_host.specs.OnFiles.{RunsOnFiles, ServesFiles, order_of}
+use Rattle.kd_io.specs.Faults.{start_fault_number}
+use Rattle.kd_io.specs.Start.{IsOfFiles}
+use Rattle.kd_keeps.specs.Fault.{store_fault_number}
+use Rattle.kd_keeps.specs.declared.keeps.Keeps.{Ghosts}
+use Rattle.kd_program.specs.Running.{Carries, CarriesOut, HasConfiguration, Starts, WorksOver}
+use Rattle.kd_program.specs.Streams.{Streams, Tells}
+use Rattle.kd_program.specs.declared.host.Host.{Ghosts as Hosts}
+use Rattle.kd_program.specs.declared.serving.Files.{Files}
+use Rattle.kd_program.specs.declared.serving.Work.{Work}
+use Rattle.kd_program.specs.declared.serving.Work.TheVariants as works
+use Rattle.kd_replay.specs.declared.link.Link.{Ghosts as Links}
+use Rattle.kd_store.specs.Kept.{Kept}
+
+some_mapped : {X Y : Type 0} (f : X → Y) (o : Option X) → is_some (option_map f o) ≡ is_some o
+some_mapped f None = refl
+some_mapped f (Some x) = refl
+
+module _ {D H U L C : Type 0} (d : Disks D) (h : Hosts H (Kept (FileStore D d)) U L C) (k : Ghosts (Kept (FileStore D d))) (unnamed : Ghosts U) (l : Links L) (image : Image)
+    (left_of : H → Option (FileStore D d)) where
+  -- what the machine says of a configuration, of a store, and of one that it takes back
+  pub record Says : Type 0 where
+    pub configures : (before : H) (file folder : Option (List ℕ)) (config : Configuration) (after : H) → h.configures before file folder (Ok config) after
+        → IsOfFiles (is_some file) (is_some folder) config
+    pub opens : (before : H) (path : List ℕ) (store : Kept (FileStore D d)) (after : H) → h.opens before path (Ok store) after
+        → StandsAsHeld image store × IsStoreIn image store
+    pub closes : (before : H) (path : List ℕ) (back : Kept (FileStore D d)) (after : H) → h.closes before path back after
+        → (it : FileStore D d) × (left_of after ≡ Some it) × (IsClean (view it) → IsBelow back.conn it)
+
+  abbrev Told : ℕ → Streams → Streams → Type 0
+  Told status old new = (number : ℕ) × Tells number status old new
+
+  of_files : (files : Files) (config : Configuration) → IsOfFiles (is_some (option_map string_bytes files.config)) (is_some (option_map string_bytes files.token_dir)) config
+      → IsOfFiles (is_some files.config) (is_some files.token_dir) config
+  of_files files config is =
+      subst (λ folder. IsOfFiles (is_some files.config) folder config) (some_mapped string_bytes files.token_dir)
+      (subst (λ file. IsOfFiles file (is_some (option_map string_bytes files.token_dir)) config) (some_mapped string_bytes files.config) is)
+
+  worked : Says → (files : Files) (work : Work) (path : List ℕ) (before after : H) (status : ℕ) (old new : Streams)
+      → (c : HasConfiguration h k unnamed l files work before after status old new)
+      → WorksOver h k unnamed l (Some path) work c.config c.asked after status old new
+      → ServesFiles d h k l image files work status old new (left_of after) ⊎ Told status old new
+  worked says files work path before after status old new c (inl w) =
+      let opened = says.opens c.asked path w.store w.opened w.given in
+      let closed = says.closes w.left path w.back after w.closed in
+      inl (record {
+        config = c.config;
+        of_files = of_files files c.config (says.configures before _ _ c.config c.asked c.given);
+        store = w.store;
+        held = opened.0;
+        is_in = opened.1;
+        back = w.back;
+        before = w.opened;
+        after = w.left;
+        serves = w.serves;
+        it = closed.0;
+        left_is = closed.1;
+        below = closed.2;
+      })
+  worked says files work path before after status old new c (inr none) = inr (store_fault_number none.fault, none.told)
+
+  started : Says → (files : Files) (work : Work) (path : List ℕ) (before after : H) (status : ℕ) (old new : Streams) → option_map string_bytes files.store ≡ Some path
+      → Starts h k unnamed l files work before after status old new → ServesFiles d h k l image files work status old new (left_of after) ⊎ Told status old new
+  started says files work path before after status old new named (inl c) =
+      worked says files work path before after status old new c
+      (subst (λ o. WorksOver h k unnamed l o work c.config c.asked after status old new) named c.works)
+  started says files work path before after status old new named (inr none) = inr (start_fault_number none.fault, none.told)
+
+  ordered : Says → (files : Files) (work : Work) (path : List ℕ) (before after : H) (status : ℕ) (old new : Streams) → option_map string_bytes files.store ≡ Some path
+      → CarriesOut h k unnamed l (order_of files work) before after status old new → ServesFiles d h k l image files work status old new (left_of after) ⊎ Told status old new
+  ordered says files works.Replay path before after status old new named c = started says files works.Replay path before after status old new named c
+  ordered says files (works.Leases at) path before after status old new named c = started says files (works.Leases at) path before after status old new named c
+  ordered says files (works.Serve listening count) path before after status old new named c =
+      started says files (works.Serve listening count) path before after status old new named c
+
+  pub on_files : Says → (words : List (List ℕ)) (before after : H) (status : ℕ) (old new : Streams) → Carries h k unnamed l words before after status old new
+      → RunsOnFiles d h k l image words status old new (left_of after)
+  on_files says words before after status old new (inl c) = inl (c.0, c.1, c.3)
+  on_files says words before after status old new (inr c) = inr (
+    c.0,
+    c.1,
+    λ files work path is named. ordered says files work path before after status old new named
+        (subst (λ (order : Order). CarriesOut h k unnamed l order before after status old new) is c.2),
+  )

@@ -1,0 +1,67 @@
+-- What openings of a server over files come to, whatever was between them: one life, one history.
+use Rattle.std.specs.Prelude.{ℕ, List, [], ◌∷◌, Option, None, Some}
+use Rattle.sqlite_disk.specs.declared.Disk.{Ghosts as Disks}
+use Rattle.sqlite_store.specs.declared.store.FileStore.{FileStore}
+use Rattle.sqlite_trees.specs.Tree.{Trees}
+use Rattle.sqlite_wal.specs.Recovery.{Image}
+use Rattle.sqlite.specs.Files.{HoldsDatabase}
+use Rattle.kd_config.specs.Configuration.{Configuration}
+use Rattle.kd_database.specs.Stops.{IsCrashOf}
+use Rattle.kd_database.specs.Stores.{IsStoreIn}
+use Rattle.kd_event.specs.declared.ports.Ports.{Ports}
+use Rattle.kd_host.specs.OnFiles.{ServesFiles}
+use Rattle.kd_keeps.specs.declared.keeps.Keeps.{Ghosts}
+use Rattle.kd_program.specs.Running.{ports_asked}
+use Rattle.kd_program.specs.Streams.{Streams}
+use Rattle.kd_program.specs.declared.host.Host.{Ghosts as Hosts}
+use Rattle.kd_program.specs.declared.serving.Files.{Files}
+use Rattle.kd_program.specs.declared.serving.Work.{Work}
+use Rattle.kd_replay.specs.declared.link.Link.{Ghosts as Links}
+use Rattle.kd_rows.specs.declared.row.Row.{Row}
+use Rattle.kd_server.specs.Lives.{Call, IsDone, Life, Opening, WasHistory}
+use Rattle.kd_store.specs.Kept.{Kept}
+use Rattle.kd_store.specs.Stands.{Holds}
+
+-- an opening at rows, with ports and calls
+abbrev pub opening : List Row → Ports → List Call → Opening
+opening rows ports calls = record { rows = rows; ports = ports; calls = calls }
+
+-- over stores in files of two types
+module _ {D E : Type 0} {d : Disks D} {e : Disks E} (k : Ghosts (Kept (FileStore D d)))
+    (m : Ghosts (Kept (FileStore E e))) where
+  -- a server was opened over files at these rows, and another on what a crash left of them: the
+  -- second stands at some rows, and the two openings are one life
+  abbrev pub GoesOn : Type 0
+  GoesOn =
+      (config : Configuration) (rows : List Row) (ports : Ports) (calls : List Call)
+      (store left : Kept (FileStore D d)) → k.stands store rows
+      → IsDone k config ports calls store left → k.has_clean_disk left
+      → (image : Image) → IsCrashOf left.conn image
+      → (ports' : Ports) (calls' : List Call) (again last : Kept (FileStore E e))
+      → IsStoreIn image again → IsDone m config ports' calls' again last → m.has_clean_disk last
+      → (found : List Row) × m.stands again found
+      × Life config (opening rows ports calls ∷ opening found ports' calls' ∷ [])
+
+  -- a store in files that are what a crash left of another stands at rows to which the history of an
+  -- opening over that one leads
+  abbrev pub LeadsOn : Configuration → List Row → Ports → List Call → Kept (FileStore D d) → Type 0
+  LeadsOn config rows ports calls left =
+      (image : Image) → IsCrashOf left.conn image → (again : Kept (FileStore E e))
+      → IsStoreIn image again → m.has_clean_disk again
+      → (found : List Row) × m.stands again found
+      × WasHistory config (opening rows ports calls) (Some found)
+
+  -- a command over files, whose disk was clean to its end: where the files held a table, what was
+  -- done is a history from it, and leads on to where a server stands that is opened on what a crash
+  -- then leaves of them
+  abbrev pub RunsAreHistories : {H U L C : Type 0} → Hosts H (Kept (FileStore D d)) U L C
+      → Links L → Type 0
+  RunsAreHistories {H} {U} {L} {C} h l =
+      (image : Image) (files : Files) (work : Work) (status : ℕ) (old new : Streams)
+      (left : Option (FileStore D d))
+      → (s : ServesFiles d h k l image files work status old new left)
+      → k.has_clean_disk s.back → (db : Trees) (table : List Row) → HoldsDatabase image db
+      → Holds db table
+      → (calls : List Call)
+      × WasHistory s.config (opening table (ports_asked work) calls) None
+      × LeadsOn s.config table (ports_asked work) calls s.back

@@ -1,0 +1,2 @@
+pub mod AcrossRuns
+pub mod OnFiles

@@ -1,0 +1,73 @@
+-- What the words of a command line do over a machine whose files held these bytes.
+use Rattle.std.specs.Prelude.{◌≡◌, ◌⊎◌, ℕ, List, Option, None, Some, is_some, option_map, string_bytes}
+use Rattle.sqlite_disk.specs.declared.Disk.{Ghosts as Disks}
+use Rattle.sqlite_store.specs.FileStore.{view}
+use Rattle.sqlite_store.specs.declared.store.FileStore.{FileStore}
+use Rattle.sqlite_trees.specs.View.{IsClean}
+use Rattle.sqlite_wal.specs.Recovery.{Image}
+use Rattle.kd_commands.specs.Order.{AsksFor, HasFault, line_fault_number}
+use Rattle.kd_commands.specs.declared.fault.LineFault.{LineFault}
+use Rattle.kd_commands.specs.declared.orders.Listening.{Listening}
+use Rattle.kd_commands.specs.declared.orders.Order.{Order}
+use Rattle.kd_commands.specs.declared.orders.Order.TheVariants as orders
+use Rattle.kd_config.specs.Configuration.{Configuration}
+use Rattle.kd_database.specs.Stops.{IsBelow}
+use Rattle.kd_database.specs.Stores.{IsStoreIn, StandsAsHeld}
+use Rattle.kd_io.specs.Start.{IsOfFiles}
+use Rattle.kd_io.specs.declared.link.Sending.{Sending}
+use Rattle.kd_keeps.specs.declared.keeps.Keeps.{Ghosts}
+use Rattle.kd_program.specs.Running.{Serves}
+use Rattle.kd_program.specs.Streams.{Streams, Tells}
+use Rattle.kd_program.specs.declared.host.Host.{Ghosts as Hosts}
+use Rattle.kd_program.specs.declared.serving.Files.{Files}
+use Rattle.kd_program.specs.declared.serving.Work.{Work}
+use Rattle.kd_program.specs.declared.serving.Work.TheVariants as works
+use Rattle.kd_replay.specs.declared.link.Link.{Ghosts as Links}
+use Rattle.kd_store.specs.Kept.{Kept}
+
+-- how a socket sends: each reply to its sender, or those to all hosts to another address
+abbrev pub sending_of : Listening → Sending
+sending_of listening =
+    record { mirror = listening.mirror; broadcast_as = listening.broadcast_as }
+
+-- the order for a work over files
+abbrev pub order_of : Files → Work → Order
+order_of files works.Replay = orders.Replay files.config files.token_dir files.store
+order_of files (works.Leases at) = orders.Leases files.config files.token_dir files.store at
+order_of files (works.Serve listening count) =
+    orders.Serve files.config files.token_dir files.store listening count
+
+-- over the disk of the database's files, a host, its store in those files, and its sockets
+module _ {D H U L C : Type 0} (d : Disks D) (h : Hosts H (Kept (FileStore D d)) U L C)
+    (k : Ghosts (Kept (FileStore D d))) (l : Links L) where
+  -- a server of a configuration, which is one of a text where a file is named, works over the
+  -- database that these bytes hold: its store stands at the table of that database, and the store is
+  -- let go at the end, so that a crash leaves nothing of what lies below it that it does not leave of
+  -- the store
+  pub record ServesFiles (image : Image) (files : Files) (work : Work) (status : ℕ)
+      (old new : Streams) (left : Option (FileStore D d)) : Type 0 where
+    pub config : Configuration
+    pub of_files : IsOfFiles (is_some files.config) (is_some files.token_dir) config
+    pub store : Kept (FileStore D d)
+    pub held : StandsAsHeld image store
+    pub is_in : IsStoreIn image store
+    pub back : Kept (FileStore D d)
+    pub before : H
+    pub after : H
+    pub serves : Serves h l k work config store back before after status old new
+    pub it : FileStore D d
+    pub left_is : left ≡ Some it
+    pub below : IsClean (view it) → IsBelow back.conn it
+
+  -- what words do that name a store: a server works over its files, or a fault is told; and words
+  -- that are no order have a fault
+  abbrev pub RunsOnFiles : Image → List (List ℕ) → ℕ → Streams → Streams
+      → Option (FileStore D d) → Type 0
+  RunsOnFiles image words status old new left =
+      ((fault : LineFault) × HasFault words fault
+      × Tells (line_fault_number fault) status old new)
+      ⊎ ((order : Order) × AsksFor words order
+      × ((files : Files) (work : Work) (path : List ℕ) → order ≡ order_of files work
+      → option_map string_bytes files.store ≡ Some path
+      → ServesFiles image files work status old new left
+      ⊎ ((number : ℕ) × Tells number status old new)))

@@ -1,0 +1,40 @@
+//! What holds from one run of the program over files to the next: each law is the contract of a
+//! function that does nothing but name the laws it rests on.
+ghost use Rattle.kd_host.specs.AcrossRuns.{GoesOn, RunsAreHistories};
+
+use crate::machine::{Below, Machine};
+use kd_database::restarts;
+use kd_io::Socket;
+use kd_keeps::Keeps;
+use kd_program::Host;
+use kd_program::laws::commands_are_openings;
+use kd_replay::Link;
+use kd_server::laws::{openings_are_histories, openings_end};
+use kd_store::Store;
+use sqlite::{FileStore, Start};
+use sqlite_disk::Disk;
+
+/// Two openings of a server, the second on what a crash left of the files of the first, are one
+/// life, though their stores are of different types: so `lives_are_histories` of `kd_server` speaks
+/// of the operator's database, across restarts and crashes.
+pub fn goes_on<D: Disk, E: Disk>()
+    ensures { GoesOn ⟦<Store<FileStore<D>> as Keeps>⟧ ⟦<Store<FileStore<E>> as Keeps>⟧ }
+{
+    openings_are_histories::<Store<FileStore<D>>>();
+    openings_are_histories::<Store<FileStore<E>>>();
+    openings_end::<Store<FileStore<D>>>();
+    openings_end::<Store<FileStore<E>>>();
+    restarts::<D, E>();
+}
+
+/// What a command does over files that held a table is a history from that table, and a server that
+/// is opened on what a crash then leaves stands at rows to which that history leads.
+pub fn runs_are_histories<'a, F: Start, E: Disk>()
+    ensures { RunsAreHistories ⟦<Store<Below<F>> as Keeps>⟧ ⟦<Store<FileStore<E>> as Keeps>⟧
+        ⟦<Machine<'a, F, Below<F>> as Host>⟧ ⟦<Socket as Link>⟧ }
+{
+    commands_are_openings::<Machine<'a, F, Below<F>>, Store<Below<F>>>();
+    openings_are_histories::<Store<Below<F>>>();
+    openings_end::<Store<Below<F>>>();
+    restarts::<sqlite::FileFrom<F>, E>();
+}

@@ -1,0 +1,111 @@
+use kd_commands::Listening;
+use kd_config::Config;
+use kd_database::{let_go, store_from};
+use kd_io::{HostClock, Sending, Socket, StartFault, configuration};
+use kd_keeps::{Cause, Opened, StoreFault, Volatile};
+use kd_program::Host;
+use kd_replay::EndFailed;
+use kd_store::Store;
+use sqlite::{FileFrom, FileStore, Start};
+
+/// What lies below a store of leases in files that held what a start stands for.
+pub type Below<F> = FileStore<FileFrom<F>>;
+
+/// This machine, as the host of the program. Its start stands for what the files of one store hold,
+/// and serves for one opening.
+#[derive(Drop)]
+pub struct Machine<'a, F: Start, L: Drop> {
+    rt: &'a HostRuntime,
+    start: Option<F>,
+    left: Option<L>,
+}
+
+impl<'a, F: Start> Machine<'a, F, Below<F>> {
+    ghost use Rattle.std.specs.Prelude.{◌≡◌, None};
+
+    /// The machine of a runtime, below whose store nothing has been left yet.
+    pub fn of(rt: &'a HostRuntime, start: F) -> Machine<'a, F, Below<F>>
+        ensures { result.left ≡ None }
+    {
+        Machine {
+            rt,
+            start: Some(start),
+            left: None,
+        }
+    }
+}
+
+impl<'a, F: Start> Host for Machine<'a, F, Below<F>> {
+    ghost use Rattle.std.specs.Prelude.{◌≡◌, IfOk, Some, is_some, true};
+    ghost use Rattle.sqlite_store.specs.FileStore.{view};
+    ghost use Rattle.sqlite_trees.specs.View.{IsClean};
+    ghost use Rattle.sqlite_wal.specs.Files.{image_at};
+    ghost use Rattle.kd_database.specs.Stops.{IsBelow};
+    ghost use Rattle.kd_database.specs.Stores.{IsStoreIn, StandsAsHeld};
+    ghost use Rattle.kd_io.specs.Start.{IsOfFiles};
+    ghost use Rattle.kd_host.specs.OnFiles.{sending_of};
+
+    type Named = Store<Below<F>>;
+
+    type Unnamed = Volatile;
+
+    type Socket = Socket;
+
+    type Clock = HostClock<'a>;
+
+    ghost configures = { λ old file folder result new.
+        IfOk result (IsOfFiles (is_some file) (is_some folder)) };
+
+    ghost opens = { λ old path result new.
+        IfOk result (λ store. StandsAsHeld (image_at F.Start) store
+        × IsStoreIn (image_at F.Start) store) };
+
+    ghost makes = { λ old result new. IfOk result (λ store. store.is_new ≡ true) };
+
+    ghost closes = { λ old path store new.
+        (it : _) × (new.left ≡ Some it) × (IsClean (view it) → IsBelow store.conn it) };
+
+    ghost binds = { λ old listening result new.
+        IfOk result (λ link. link.sending ≡ sending_of listening) };
+
+    ghost tells_time = { λ old clock new. Unit {0} };
+
+    fn configuration(
+        &mut self,
+        file: Option<&str>,
+        folder: Option<&str>,
+    ) -> Result<Config, StartFault> {
+        configuration(self.rt, file, folder)
+    }
+
+    fn named_store(&mut self, path: &str) -> Result<Opened<Store<Below<F>>>, StoreFault> {
+        match self.start.take() {
+            Some(start) => store_from(self.rt, path, start),
+            None => Err(StoreFault::Sql(Cause::Closed)),
+        }
+    }
+
+    fn unnamed_store(&mut self) -> Result<Opened<Volatile>, StoreFault> {
+        let alloc = self.rt.alloc();
+        Ok(Opened {
+            store: Volatile::new(alloc),
+            rows: Vec::new(alloc),
+        })
+    }
+
+    fn close(&mut self, _path: &str, store: Store<Below<F>>) {
+        self.left = Some(let_go(store));
+    }
+
+    fn socket(&mut self, listening: Listening) -> Result<Socket, EndFailed> {
+        let sending = Sending {
+            mirror: listening.mirror,
+            broadcast_as: listening.broadcast_as,
+        };
+        Socket::bind(self.rt, listening.bind, listening.port, sending)
+    }
+
+    fn clock(&mut self) -> HostClock<'a> {
+        HostClock::of(self.rt)
+    }
+}

@@ -1,0 +1,39 @@
+ghost use Rattle.std.specs.Prelude.{◌≡◌, MatchResult, None, false, map, string_bytes};
+ghost use Rattle.sqlite_wal.specs.Files.{image_at};
+ghost use Rattle.kd_program.specs.Running.{Carries};
+ghost use Rattle.kd_program.specs.Streams.{streams};
+ghost use Rattle.kd_host.specs.OnFiles.{RunsOnFiles};
+
+use crate::machine::{Below, Machine};
+use kd_commands::LineFault;
+use kd_io::{Input, Output, Socket};
+use kd_keeps::{Keeps, Volatile};
+use kd_program::{Ends, Host, refuse_words, run};
+use kd_replay::{Link, Sink, Source};
+use kd_store::Store;
+use sqlite::{FileFrom, Start};
+use sqlite_disk::Disk;
+use std::io;
+
+/// Carries out the words after the program's name over this machine and three streams, and says the
+/// exit status. Where they name a store, it is that of the files whose bytes the start stands for:
+/// the server stands at the table that these bytes hold.
+pub fn run_on<'a, F: Start, R: Source, O: Sink, E: Sink>(
+    machine: &mut Machine<'a, F, Below<F>>,
+    words: &[String],
+    ends: &mut Ends<R, O, E>,
+) -> u8
+    requires input { R.has_failed ends.old.input ≡ false }
+    requires output { O.has_failed ends.old.output ≡ false }
+    ensures carried { Carries ⟦<Machine<'a, F, Below<F>> as Host>⟧ ⟦<Store<Below<F>> as Keeps>⟧
+        ⟦<Volatile as Keeps>⟧ ⟦<Socket as Link>⟧ (map string_bytes words.now)
+        machine.old machine.new result
+        (streams R.Source O.Sink E.Sink ends.old) (streams R.Source O.Sink E.Sink ends.new) }
+    ensures on_files { RunsOnFiles ⟦<FileFrom<F> as Disk>⟧ ⟦<Machine<'a, F, Below<F>> as Host>⟧
+        ⟦<Store<Below<F>> as Keeps>⟧ ⟦<Socket as Link>⟧ (image_at F.Start)
+        (map string_bytes words.now) result
+        (streams R.Source O.Sink E.Sink ends.old) (streams R.Source O.Sink E.Sink ends.new)
+        machine.new.left }
+{
+    run(machine.rt.alloc(), words, machine, ends)
+}

@@ -1,0 +1,19 @@
+-- What a command does with a server over a store: one opening of it.
+use Rattle.std.specs.Prelude.{ℕ, List}
+use Rattle.kd_config.specs.Configuration.{Configuration}
+use Rattle.kd_keeps.specs.declared.keeps.Keeps.{Ghosts}
+use Rattle.kd_program.specs.Running.{Serves, ports_asked}
+use Rattle.kd_program.specs.Streams.{Streams}
+use Rattle.kd_program.specs.declared.host.Host.{Ghosts as Hosts}
+use Rattle.kd_program.specs.declared.serving.Work.{Work}
+use Rattle.kd_replay.specs.declared.link.Link.{Ghosts as Links}
+use Rattle.kd_server.specs.Lives.{Call, IsDone}
+
+-- whatever a command's work is, what it does with a server over a store is an opening of that store:
+-- calls of `handle`, and the store as they left it
+abbrev pub CommandsAreOpenings : {H N U L C S : Type 0} → Hosts H N U L C → Links L → Ghosts S
+    → Type 0
+CommandsAreOpenings {H} {N} {U} {L} {C} {S} h l g =
+    (work : Work) (config : Configuration) (store back : S) (before after : H) (status : ℕ)
+    (old new : Streams) → Serves h l g work config store back before after status old new
+    → (calls : List Call) × IsDone g config (ports_asked work) calls store back

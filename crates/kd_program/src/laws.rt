@@ -1,0 +1,16 @@
+//! What is true of every command, whatever its host is: each law is the contract of a function that
+//! does nothing but name the laws it rests on.
+ghost use Rattle.kd_program.specs.Openings.{CommandsAreOpenings};
+
+use crate::host::Host;
+use kd_keeps::Keeps;
+
+/// What a command does with a server over a store is one opening of that store: calls of
+/// `Server::handle`, one after another, whatever it reads, receives and writes. So
+/// `openings_are_histories` of `kd_server` speaks of it.
+pub fn commands_are_openings<H: Host, S: Keeps>()
+    ensures { CommandsAreOpenings H.Host H.Socket.Link S.Keeps }
+{
+    kd_server::laws::replaying_is_calls::<S>();
+    kd_server::laws::serving_is_calls::<S>();
+}

@@ -1,0 +1,5 @@
+use Rattle.kd_server.proofs.Lives.{serving}
+use Rattle.kd_server.proofs.laws.serving_is_calls.Goals as goal
+
+pub returns : goal.returns
+returns c start = serving c.S.Keeps
