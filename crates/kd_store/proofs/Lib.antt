@@ -6,5 +6,6 @@ pub mod Strange
 pub mod Streaming
 pub mod Reading
 pub mod Making
+pub mod Beside
 pub mod Opening
 pub mod Reopening

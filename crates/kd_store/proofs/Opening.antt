@@ -15,9 +15,10 @@ use Rattle.kd_store.specs.Lease.{lease_schema, make_text}
 use Rattle.kd_store.specs.Opening.{GivesBack, OpensAt}
 use Rattle.kd_store.specs.Stands.{Finds, Holds, Leaves, Stands}
 use Rattle.kd_store.specs.Statement.{AreShown, IsSettled}
+use Rattle.kd_store.proofs.Beside.{stays, stays_same}
 use Rattle.kd_store.proofs.Making.{again, fails_found, make_leaves, makes_found}
 use Rattle.kd_store.proofs.Reading.{finds_table, read_leaves, reads_table, unread_rests}
-use Rattle.kd_store.proofs.States.{Settles, leaves_one, same_back, stands_rests, stands_same}
+use Rattle.kd_store.proofs.States.{Settles, after_error, leaves_one, same_back, stands_rests, stands_same}
 use Rattle.kd_store.proofs.Streaming.{shown_same}
 
 -- the rows that were read are those of the table at which a connection stands
@@ -33,6 +34,7 @@ module _ {S : Type 0} (g : Ghosts S) (old made : Held S) (ready : old.in_transac
     clean = λ clean. omega (arith, first.clean, clean);
     found = λ clean table h. fails_found (state g old) (state g made) table error settled h (ran clean);
     crash = λ clean table h. make_leaves (state g old) (state g made) table live clean h first;
+    stays = λ clean is_open. inl (stays_same (state g old) (state g made) settled (after_error (state g old) (state g made) make_text [] error (ran clean)) is_open);
     why = λ clean. inl (error, refl, ran clean);
   }
 
@@ -63,5 +65,6 @@ module _ {S : Type 0} (g : Ghosts S) (old made : Held S) (ready : old.in_transac
           let s = stands_rests (state g made) (state g new) table (made_at table clean h) (unread_rests (state g made) (state g new) fault (unread clean)) is_open in
           inr (s.is_open, s.holds);
       crash = λ clean table h db may. inr (⊎_elim (λ x. x) (λ x. x) (read_leaves (state g made) (state g new) table law clean (made_at table clean h) second db may));
+      stays = λ clean is_open. stays (state g old) (state g made) count ready settled (ran (mid clean)) (state g new) (unread_rests (state g made) (state g new) fault (unread clean)) is_open;
       why = λ clean. inr (made, count, ran (mid clean), unread clean);
     }

@@ -1,5 +1,8 @@
 -- What a connection is, once a store was opened over it or was not.
 use Rattle.std.specs.Prelude.{◌≡◌, ◌⊎◌, ℕ, List, [], Ok, IsTrue}
+use Rattle.sqlite_catalog.specs.Calls.{CreatesTable}
+use Rattle.sqlite.specs.Does.{sequence_text}
+use Rattle.sqlite.specs.Effect.{Database}
 use Rattle.sqlite.specs.Held.{Held, state}
 use Rattle.sqlite.specs.State.{State, HasCleanDisk, Executes}
 use Rattle.sqlite.specs.Tree.{Trees}
@@ -28,8 +31,19 @@ IsUnopened {S} g fault old new =
     ⊎ ((made : Held S) × (count : ℕ) × Executes make_text [] (state g old) (state g made) (Ok count)
     × IsUnread (state g made) (state g new) fault)
 
+-- a table was made in a database, beside those that it has, whose rows stay
+abbrev pub AddsTable : List ℕ → Database → Database → Type 0
+AddsTable text old new = CreatesTable old.schema text old.trees new.schema new.trees
+
+-- our table was made in a database, and after it the one in which SQL counts, where that was missing
+abbrev pub AddsOurs : Database → Database → Type 0
+AddsOurs old new =
+    AddsTable make_text old new
+    ⊎ ((between : Database) × AddsTable make_text old between × AddsTable sequence_text between new)
+
 -- a connection comes back over which none was opened: while it is open it finds the table that it
--- found before, and a crash leaves what it left before, or that table
+-- found before, and a crash leaves what it left before, or that table; whatever its database has, it
+-- stays, but that our table may be new in it
 pub record GivesBack {S : Type 0} (g : Ghosts S) (fault : StoreFault)
     (old new : Held S) : Type 0 where
   pub clean : HasCleanDisk (state g new) → HasCleanDisk (state g old)
@@ -37,4 +51,6 @@ pub record GivesBack {S : Type 0} (g : Ghosts S) (fault : StoreFault)
       → IsTrue (state g new).is_open → Finds (state g new) table
   pub crash : HasCleanDisk (state g new) → (table : List Row) → Finds (state g old) table
       → (db : Trees) → (state g new).may_leave db → (state g old).may_leave db ⊎ Holds db table
+  pub stays : HasCleanDisk (state g new) → IsTrue (state g new).is_open
+      → ((state g new).now ≡ (state g old).now) ⊎ AddsOurs (state g old).now (state g new).now
   pub why : HasCleanDisk (state g new) → IsUnopened g fault old new
