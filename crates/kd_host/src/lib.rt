@@ -12,4 +12,4 @@ mod machine;
 mod running;
 
 pub use machine::{Below, Machine};
-pub use running::{carry_out, run_on};
+pub use running::{carry_out, refuse, run_on};

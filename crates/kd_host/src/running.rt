@@ -1,4 +1,4 @@
-ghost use Rattle.std.specs.Prelude.{◌≡◌, MatchResult, false, map, string_bytes};
+ghost use Rattle.std.specs.Prelude.{◌≡◌, false, map, string_bytes};
 ghost use Rattle.sqlite_wal.specs.Files.{image_at};
 ghost use Rattle.kd_program.specs.Running.{Carries};
 ghost use Rattle.kd_program.specs.Streams.{streams};
@@ -40,17 +40,11 @@ pub fn run_on<'a, F: Start, R: Source, O: Sink, E: Sink>(
 }
 
 /// Carries out the words after the program's name over this machine and its standard streams, and
-/// says the exit status; where there are no words, the fault is told.
-pub fn carry_out<'a, F: Start>(
-    rt: &'a HostRuntime,
-    start: F,
-    words: Result<Vec<String>, LineFault>,
-) -> u8
-    ensures { MatchResult words
-        (λ words. IsStatusOnFiles ⟦<FileFrom<F> as Disk>⟧ ⟦<Machine<'a, F, Below<F>> as Host>⟧
+/// says the exit status.
+pub fn carry_out<'a, F: Start>(rt: &'a HostRuntime, start: F, words: &[String]) -> u8
+    ensures { IsStatusOnFiles ⟦<FileFrom<F> as Disk>⟧ ⟦<Machine<'a, F, Below<F>> as Host>⟧
         ⟦<Store<Below<F>> as Keeps>⟧ ⟦<Socket as Link>⟧ (image_at F.Start)
-        (map string_bytes words.items) result)
-        (λ fault. IsStatusOf (line_fault_number fault) result) }
+        (map string_bytes words.now) result }
 {
     let stderr = rt.stderr();
     let mut ends = Ends {
@@ -58,8 +52,17 @@ pub fn carry_out<'a, F: Start>(
         output: Output::over(io::writer(rt)),
         faults: Output::over(io::writer(&stderr)),
     };
-    match words {
-        Ok(words) => run_on(&mut Machine::of(rt, start), &words, &mut ends),
-        Err(fault) => refuse_words(rt.alloc(), &mut ends.faults, fault),
-    }
+    run_on(&mut Machine::of(rt, start), words, &mut ends)
+}
+
+/// Tells on standard error why there are no words, and says the exit status.
+pub fn refuse(rt: &HostRuntime, fault: LineFault) -> u8
+    ensures { IsStatusOf (line_fault_number fault) result }
+{
+    let stderr = rt.stderr();
+    refuse_words(
+        rt.alloc(),
+        &mut Output::over(io::writer(&stderr)),
+        fault,
+    )
 }

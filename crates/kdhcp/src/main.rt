@@ -1,25 +1,16 @@
-//! The program `kdhcp`: the words after its name are carried out over this machine (`kd_program`).
+//! The program `kdhcp`: the words after its name are carried out over this machine (`kd_host`).
 #![tactic(auto)]
 
-mod machine;
-
 use kd_commands::LineFault;
-use kd_io::{Input, Output};
-use kd_program::{Ends, refuse_words, run};
-use machine::Machine;
+use kd_host::{carry_out, refuse};
+use sqlite::Unknown;
 use std::io;
 use std::process::ExitCode;
 
 fn main(rt: HostRuntime) -> ExitCode {
-    let stderr = rt.stderr();
-    let mut ends = Ends {
-        input: Input::over(rt.reader()),
-        output: Output::over(io::writer(&rt)),
-        faults: Output::over(io::writer(&stderr)),
-    };
     let status = match words(&rt) {
-        Ok(words) => run(rt.alloc(), &words, &mut Machine::of(&rt), &mut ends),
-        Err(fault) => refuse_words(rt.alloc(), &mut ends.faults, fault),
+        Ok(words) => carry_out(&rt, Unknown, &words),
+        Err(fault) => refuse(&rt, fault),
     };
     ExitCode::from(status)
 }
