@@ -95,6 +95,31 @@ for folder in crates/kd_cases/data/examples/*/; do
 done
 echo "replay: runs=$all memory=$memory same=$same other=$other"
 
+# With a store in a file each refusal is followed by a start on that file, with ample memory: the events whose lines are
+# not there are sent again, and all lines of the day come out.
+all=0 memory=0 same=0 other=0
+each_refusal_with_store() {
+    local lines=$1 replies=$2 asked n status done
+    local run=(crates/kdhcp/out/kdhcp replay --store "$room/day.db")
+    asked=$(FAIL_TELL=1 LD_PRELOAD=$room/fail.so "${run[@]}" 2>&1 >/dev/null <"$lines" | sed -n 's/^asked=//p')
+    for n in $(seq 1 "$asked"); do
+        rm -f "$room"/day.db*
+        status=0
+        FAIL_AT=$n LD_PRELOAD=$room/fail.so "${run[@]}" <"$lines" >"$room/out" 2>"$room/err" || status=$?
+        all=$((all + 1)) done=$(wc -l <"$room/out")
+        if [ $status != 0 ] && ! is_memory "$status $(cat "$room/err")"; then
+            other=$((other + 1))
+            echo "refusal $n of a replay of $lines with a store: status $status, $(cat "$room/err")"
+        elif ! tail -n "+$((done + 1))" "$lines" | "${run[@]}" >>"$room/out" || ! cmp -s "$room/out" "$replies"; then
+            other=$((other + 1))
+            echo "refusal $n of a replay of $lines with a store: the day does not go on as it should"
+        elif [ $status = 0 ]; then same=$((same + 1))
+        else memory=$((memory + 1)); fi
+    done
+}
+each_refusal_with_store examples/replay/leases.lines examples/replay/leases.replies
+echo "stores: runs=$all memory=$memory same=$same other=$other"
+
 # Reads and writes of one byte each change nothing.
 SHORT_IO=1 LD_PRELOAD=$room/fail.so crates/kdhcp/out/kdhcp replay <examples/replay/informs.lines |
     cmp - examples/replay/informs.replies
