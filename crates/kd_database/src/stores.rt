@@ -31,7 +31,9 @@ pub type InMemory = MemStore;
 pub fn store_in_memory(alloc: Global) -> Result<Opened<Store<InMemory>>, StoreFault>
     ensures fault { IfOk result (λ it. it.store.fault ≡ None) }
     ensures stands { IfOk result (λ it. Stands (state over_memory it.store.conn) []) }
-    ensures rows { IfOk result (λ it. it.rows.items ≡ []) }
+    ensures none { IfOk result (λ it. it.rows.items ≡ []) }
+    ensures rows { IfOk result (λ it.
+        AreRead ⟦<Store<InMemory> as Keeps>⟧ it.store it.rows.items) }
 {
     match Connection::open_in_memory(alloc) {
         Ok(conn) => store_over(alloc, conn),
