@@ -1,8 +1,10 @@
 use crate::days::{Day, FIRST, Got, INFORMED, INFORMS, Lease, NEXT, RENEWED, SHARED, Step};
-use crate::device::{Device, LOSSES, Left, Loss, connected, files, files_left, left_of};
-use crate::serving::{let_go, opened, sent, stands_at};
+use crate::device::{
+    Device, LOSSES, Left, Loss, STOPPED, UNOPENED, connected, files, files_left, left_of,
+};
+use crate::serving::{is_answer, let_go, opened, sent, stands_at};
 use kd_config::Config;
-use kd_event::Reason;
+use kd_event::{Reason, Response};
 use kd_keeps::Keeps;
 use kd_replay::ServeFault;
 use kd_server::Server;
@@ -49,14 +51,19 @@ fn answered(stopped: Stopped, calls: u64) -> (u64, u64) {
 
 // What comes back is what was worked out. A RELEASE that is sent again may have done its work
 // before.
-fn is_right(got: Got, want: Got, again: bool) -> bool {
-    got == want
-        || (again && want == Got::Quiet(Reason::Released) && got == Got::Quiet(Reason::NotHeld))
+fn is_right(alloc: Global, step: Step, response: &Response, again: bool) -> Result<bool, Fail> {
+    let (message, want, _) = step;
+    if again && want == Got::Quiet(Reason::Released) {
+        let done_before = Got::Quiet(Reason::NotHeld);
+        return Ok(is_answer(alloc, message, response, want)?
+            || is_answer(alloc, message, response, done_before)?);
+    }
+    Ok(is_answer(alloc, message, response, want)?)
 }
 
-// It is a fault of the store, and Failed is all that comes after it.
+// It is the fault of a store whose device stops, and Failed is all that comes after it.
 fn is_stop<S: Keeps>(alloc: Global, server: &mut Server<S>, fault: ServeFault) -> bool {
-    matches!(fault, ServeFault::Store(_))
+    fault == ServeFault::Store(STOPPED)
         && matches!(sent(alloc, server, INFORMED), Err(ServeFault::Failed))
         && matches!(server.leases(0), Err(ServeFault::Failed))
 }
@@ -68,10 +75,10 @@ fn is_answered<S: Keeps>(
     step: Step,
     again: bool,
 ) -> Result<bool, Fail> {
-    let (message, want, leases) = step;
+    let (message, _, leases) = step;
     match sent(alloc, server, message) {
-        Ok(got) => {
-            if !is_right(got, want, again) || !stands_at(server, leases)? {
+        Ok(response) => {
+            if !is_right(alloc, step, &response, again)? || !stands_at(server, leases)? {
                 return Err("an answer is not the one that was worked out".into());
             }
             Ok(true)
@@ -112,10 +119,16 @@ fn day_of<S: Alter + Drop>(
     let (config, steps) = day;
     match opened(alloc, Config::read(alloc, config, &[])?, conn) {
         Ok(mut server) => {
-            let end = sent_from(alloc, &mut server, steps, from)?;
-            Ok((end, let_go(server)))
+            let end = sent_from(alloc, &mut server, steps, from);
+            let left = let_go(server);
+            Ok((end?, left))
         }
-        Err(left) => Ok((End::Unopened, left)),
+        Err((refusal, left)) => {
+            if !refusal.is_stop() {
+                return Err("an opening that stops has another fault".into());
+            }
+            Ok((End::Unopened, left))
+        }
     }
 }
 
@@ -131,7 +144,12 @@ fn day_over(
             let (end, left) = day_of(alloc, day, conn, from)?;
             Ok((end, left.close()))
         }
-        Err(files) => Ok((End::Unopened, files)),
+        Err((error, files)) => {
+            if error != UNOPENED {
+                return Err("files that stop are not opened for another cause".into());
+            }
+            Ok((End::Unopened, files))
+        }
     }
 }
 
@@ -187,7 +205,11 @@ fn goes_on_over<S: Alter + Drop>(
 ) -> Result<(), Fail> {
     let (config, steps) = day;
     match opened(alloc, Config::read(alloc, config, &[])?, conn) {
-        Ok(mut server) => goes_on_at(alloc, &mut server, steps, end),
+        Ok(mut server) => {
+            let went_on = goes_on_at(alloc, &mut server, steps, end);
+            let _left = let_go(server);
+            went_on
+        }
         Err(_) => Err("what a stop left is not opened".into()),
     }
 }

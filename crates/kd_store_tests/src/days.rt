@@ -51,19 +51,24 @@ const INFORM: &[u8] = b"\x35\x01\x08\xff";
 /// An INFORM of a client at 192.0.2.77, for which no row is set.
 pub(crate) const INFORMED: Sent = (0, 7, INFORM, 0xc000_024d);
 
-/// A first lease.
+/// A first lease, and a renewal at a moment that goes back: its row is there already.
 pub(crate) const FIRST: Day = (
     OF_TWO,
     &[
         (
-            (100, 1, DISCOVER, 0),
+            (990, 1, DISCOVER, 0),
             Got::Reply(2, TEN),
-            &[(TEN, 1, State::Offered, 100, 160)],
+            &[(TEN, 1, State::Offered, 990, 1050)],
         ),
         (
-            (110, 1, SELECT, 0),
+            (1000, 1, SELECT, 0),
             Got::Reply(5, TEN),
-            &[(TEN, 1, State::Bound, 110, 3710)],
+            &[(TEN, 1, State::Bound, 1000, 4600)],
+        ),
+        (
+            (10, 1, RENEW, TEN),
+            Got::Reply(5, TEN),
+            &[(TEN, 1, State::Bound, 1000, 4600)],
         ),
     ],
 );

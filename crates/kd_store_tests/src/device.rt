@@ -1,5 +1,6 @@
+use kd_keeps::{Cause, StoreFault};
 use kd_store::Store;
-use sqlite::{Alter, Connection, FileStore, Files, Options};
+use sqlite::{Alter, Connection, Error, ErrorCode, FileStore, Files, Options};
 use sqlite_disk::{Crash, Disk, Fuse, Memory};
 use std::alloc::{AllocError, Global};
 use std::io;
@@ -15,33 +16,42 @@ pub(crate) fn files(alloc: Global, calls: (u64, u64)) -> Files<Device> {
     }
 }
 
-/// The connection to the files, or the files.
+/// The connection to the files; or why there is none, and the files.
 pub(crate) fn connected(
     alloc: Global,
     files: Files<Device>,
     options: Options,
-) -> Result<Connection<FileStore<Device>>, Files<Device>> {
+) -> Result<Connection<FileStore<Device>>, (Error, Files<Device>)> {
     if !files.may_be_used() {
-        return Err(files);
+        return Err((Error::SqliteFailure(ErrorCode::CannotOpen), files));
     }
     match Connection::open_files(alloc, files, options) {
         Ok(conn) => Ok(conn),
-        Err((_, left)) => Err(left.into_files()),
+        Err((error, left)) => Err((error, left.into_files())),
     }
 }
 
-/// The store over a connection, or what lies below it. This and what stands on it is over any store
+/// The store over a connection; or why there is none, and what lies below it. This and what stands on it is over any store
 /// of SQLite's: over files alone each would be proved against all parts of a connection, which
 /// takes the prover a minute.
-pub(crate) fn stored<S: Alter + Drop>(alloc: Global, conn: Connection<S>) -> Result<Store<S>, S> {
+pub(crate) fn stored<S: Alter + Drop>(
+    alloc: Global,
+    conn: Connection<S>,
+) -> Result<Store<S>, (StoreFault, S)> {
     if !conn.is_autocommit() {
-        return Err(conn.into_store());
+        return Err((StoreFault::Schema, conn.into_store()));
     }
     match Store::open(alloc, conn) {
         Ok(store) => Ok(store),
-        Err((_, conn)) => Err(conn.into_store()),
+        Err((fault, conn)) => Err((fault, conn.into_store())),
     }
 }
+
+/// The fault of a store whose device stops.
+pub(crate) const STOPPED: StoreFault = StoreFault::Sql(Cause::SystemIoFailure);
+
+/// The error of files that are not opened since their device stops.
+pub(crate) const UNOPENED: Error = Error::SqliteFailure(ErrorCode::SystemIoFailure);
 
 /// What a stop leaves of the bytes that were written and not synced.
 #[derive(Clone, Copy)]

@@ -1,8 +1,8 @@
 use crate::days::{Got, Lease, Sent};
-use crate::device::{byte_at, stored};
+use crate::device::{STOPPED, stored};
 use kd_config::Config;
 use kd_event::{Ports, Response};
-use kd_keeps::Keeps;
+use kd_keeps::{Keeps, StoreFault};
 use kd_replay::ServeFault;
 use kd_rows::Row;
 use kd_server::Server;
@@ -15,31 +15,51 @@ const PORTS: Ports = Ports {
     client: 68,
 };
 
-// The server over a store, or what lies below it.
+/// Why there is no server: no store was opened, or no server over it.
+#[derive(Drop)]
+pub(crate) enum Refusal {
+    Store(StoreFault),
+    Server(ServeFault),
+}
+
+impl Refusal {
+    /// The device has stopped, and the fault is just that.
+    pub(crate) fn is_stop(&self) -> bool {
+        match self {
+            Refusal::Store(fault) => *fault == STOPPED,
+            Refusal::Server(fault) => *fault == ServeFault::Store(STOPPED),
+        }
+    }
+}
+
+// The server over a store; or why there is none, and what lies below it.
 fn served<S: Alter + Drop>(
     alloc: Global,
     config: Config,
     store: Store<S>,
-) -> Result<Server<Store<S>>, S> {
+) -> Result<Server<Store<S>>, (Refusal, S)> {
     if store.failed() {
-        return Err(store.close().into_store());
+        return Err((Refusal::Store(StoreFault::Schema), store.close().into_store()));
     }
     match Server::open(alloc, config, store, PORTS) {
         Ok(server) => Ok(server),
-        Err((_, _, store)) => Err(store.close().into_store()),
+        Err((fault, _, store)) => Err((Refusal::Server(fault), store.close().into_store())),
     }
 }
 
-/// The server over a connection, or what lies below it.
+/// The server over a connection; or why there is none, and what lies below it.
 pub(crate) fn opened<S: Alter + Drop>(
     alloc: Global,
     config: Config,
     conn: Connection<S>,
-) -> Result<Server<Store<S>>, S> {
-    served(alloc, config, stored(alloc, conn)?)
+) -> Result<Server<Store<S>>, (Refusal, S)> {
+    match stored(alloc, conn) {
+        Ok(store) => served(alloc, config, store),
+        Err((fault, left)) => Err((Refusal::Store(fault), left)),
+    }
 }
 
-/// What lies below a server, which is dropped without a word.
+/// What lies below a server that is let go.
 pub(crate) fn let_go<S: Alter + Drop>(server: Server<Store<S>>) -> S {
     let (_, store) = server.close();
     store.close().into_store()
@@ -58,21 +78,44 @@ fn datagram(alloc: Global, message: Sent) -> Result<Vec<u8>, AllocError> {
     Ok(bytes)
 }
 
-// What a response is: of a reply its type, the byte after the cookie and two more, and yiaddr, its
-// bytes 16 to 19.
-fn received(response: &Response) -> Got {
-    match response {
-        Response::Quiet(reason) => Got::Quiet(*reason),
-        Response::Reply(_, reply) => {
-            let bytes = reply.as_slice();
-            let yiaddr = u32::from_be_bytes([
-                byte_at(bytes, 16),
-                byte_at(bytes, 17),
-                byte_at(bytes, 18),
-                byte_at(bytes, 19),
-            ]);
-            Got::Reply(byte_at(bytes, 242), yiaddr)
+// The options of a lease of an hour: its time, and those at which it is renewed and rebound.
+const TIMES: &[u8] = b"\x33\x04\x00\x00\x0e\x10\x3a\x04\x00\x00\x07\x08\x3b\x04\x00\x00\x0c\x4e";
+
+// The least that a reply has, in bytes.
+const LEAST: usize = 300;
+
+// The reply of a type to a message, with this yiaddr: an INFORM's has no times.
+fn reply(alloc: Global, message: Sent, kind: u8, yiaddr: u32) -> Result<Vec<u8>, AllocError> {
+    let (_, client, _, ciaddr) = message;
+    let mut bytes = Vec::from_slice(alloc, &[2, 1, 6, 0, 0, 0, 0, 1, 0, 0, 0, 0])?;
+    bytes.extend_from_slice(&ciaddr.to_be_bytes())?;
+    bytes.extend_from_slice(&yiaddr.to_be_bytes())?;
+    bytes.resize(28, 0)?;
+    bytes.extend_from_slice(&[10, 0, 0, 0, 0, client])?;
+    bytes.resize(236, 0)?;
+    bytes.extend_from_slice(&[99, 130, 83, 99, 53, 1, kind, 54, 4, 192, 0, 2, 1])?;
+    if yiaddr != 0 {
+        bytes.extend_from_slice(TIMES)?;
+    }
+    bytes.extend_from_slice(&[1, 4, 255, 255, 255, 0, 255])?;
+    bytes.resize(LEAST, 0)?;
+    Ok(bytes)
+}
+
+/// A response is what was worked out: of a reply each byte.
+pub(crate) fn is_answer(
+    alloc: Global,
+    message: Sent,
+    response: &Response,
+    want: Got,
+) -> Result<bool, AllocError> {
+    match (response, want) {
+        (Response::Quiet(reason), Got::Quiet(wanted)) => Ok(*reason == wanted),
+        (Response::Reply(_, bytes), Got::Reply(kind, yiaddr)) => {
+            let wanted = reply(alloc, message, kind, yiaddr)?;
+            Ok(bytes.as_slice() == wanted.as_slice())
         }
+        _ => Ok(false),
     }
 }
 
@@ -81,10 +124,10 @@ pub(crate) fn sent<S: Keeps>(
     alloc: Global,
     server: &mut Server<S>,
     message: Sent,
-) -> Result<Got, ServeFault> {
+) -> Result<Response, ServeFault> {
     let bytes = datagram(alloc, message)?;
     let handled = server.handle(message.0, bytes.as_slice())?;
-    Ok(received(&handled.response))
+    Ok(handled.response)
 }
 
 // The row has all that the lease says.
