@@ -112,8 +112,9 @@ fn day_of<S: Alter + Drop>(
     let (config, steps) = day;
     match opened(alloc, Config::read(alloc, config, &[])?, conn) {
         Ok(mut server) => {
-            let end = sent_from(alloc, &mut server, steps, from)?;
-            Ok((end, let_go(server)))
+            let end = sent_from(alloc, &mut server, steps, from);
+            let left = let_go(server);
+            Ok((end?, left))
         }
         Err(left) => Ok((End::Unopened, left)),
     }
@@ -187,7 +188,11 @@ fn goes_on_over<S: Alter + Drop>(
 ) -> Result<(), Fail> {
     let (config, steps) = day;
     match opened(alloc, Config::read(alloc, config, &[])?, conn) {
-        Ok(mut server) => goes_on_at(alloc, &mut server, steps, end),
+        Ok(mut server) => {
+            let went_on = goes_on_at(alloc, &mut server, steps, end);
+            let _left = let_go(server);
+            went_on
+        }
         Err(_) => Err("what a stop left is not opened".into()),
     }
 }

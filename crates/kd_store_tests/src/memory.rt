@@ -1,8 +1,10 @@
+ghost use Rattle.std.specs.Prelude.{◌≡◌, None};
+ghost use Rattle.kd_rows.specs.Row.{IsInRange};
+
 use crate::leases::{Lease, are_rows_of, row};
 use kd_keeps::{Cause, Keeps, StoreFault};
-use kd_rows::State;
+use kd_rows::{Row, State};
 use kd_store::Store;
-use kd_store::laws::in_memory;
 use sqlite::{Connection, Error, MemStore};
 use std::alloc::Global;
 use std::test::Fail;
@@ -58,14 +60,25 @@ const KEPT: [Lease; 5] = [
     (0xffff_ffff, b"b", State::Bound, 9, 2_147_483_656),
 ];
 
+// A new store is empty, and holds what is put.
+fn keeps_what_is_put(alloc: Global, store: &mut Store<MemStore>) -> Result<bool, Fail> {
+    if !holds(store, &[])? {
+        return Err("a new store is not empty".into());
+    }
+    put_all(alloc, store, &PUT)?;
+    holds(store, &KEPT)
+}
+
 #[test]
 fn rows_are_kept_in_rising_address_and_found_again(rt: HostRuntime) -> Result<(), Fail> {
     let mut store = opened(rt.alloc(), Connection::open_in_memory(rt.alloc())?)?;
-    assert!(rt; holds(&mut store, &[])?);
-    put_all(rt.alloc(), &mut store, &PUT)?;
-    assert!(rt; holds(&mut store, &KEPT)?);
-    let mut again = opened(rt.alloc(), store.close())?;
-    assert!(rt; holds(&mut again, &KEPT)?);
+    let kept = keeps_what_is_put(rt.alloc(), &mut store);
+    let conn = store.close();
+    assert!(rt; kept?);
+    let mut again = opened(rt.alloc(), conn)?;
+    let found = holds(&mut again, &KEPT);
+    let _conn = again.close();
+    assert!(rt; found?);
     Ok(())
 }
 
@@ -130,7 +143,10 @@ fn refused(alloc: Global, conn: Connection<MemStore>) -> Result<(StoreFault, i64
         return Err("the connection is in a transaction".into());
     }
     match Store::open(alloc, conn) {
-        Ok(_) => Err("the table is not refused".into()),
+        Ok(store) => {
+            let _conn = store.close();
+            Err("the table is not refused".into())
+        }
         Err((fault, mut conn)) => Ok((fault, count(&mut conn)?)),
     }
 }
@@ -144,19 +160,54 @@ fn a_table_that_is_not_ours_is_refused_and_stays(rt: HostRuntime) -> Result<(), 
     Ok(())
 }
 
+// The name of the table is an index's, so that the table is not made.
+#[test]
+fn a_table_that_can_not_be_made_is_a_refused_statement(rt: HostRuntime) -> Result<(), Fail> {
+    let conn = connected(
+        rt.alloc(),
+        "CREATE TABLE other (name INTEGER) STRICT",
+        "CREATE INDEX lease ON other (name)",
+    )?;
+    if !conn.is_autocommit() {
+        return Err("the connection is in a transaction".into());
+    }
+    match Store::open(rt.alloc(), conn) {
+        Ok(store) => {
+            let _conn = store.close();
+            Err("the table is not refused".into())
+        }
+        Err((fault, _)) => {
+            assert!(rt; fault == StoreFault::Sql(Cause::Refused));
+            Ok(())
+        }
+    }
+}
+
 // A row in range, in the table that has none of our rules.
 const IN_RANGE: &str = "INSERT INTO lease VALUES (8, x'6127', 2, 1099511627775, 1101659111422)";
 
 #[test]
 fn a_row_in_range_is_read_from_a_table_without_rules(rt: HostRuntime) -> Result<(), Fail> {
     let mut store = opened(rt.alloc(), connected(rt.alloc(), LOOSE, IN_RANGE)?)?;
-    assert!(rt;
-        holds(
-            &mut store,
-            &[(8, b"a'", State::Bound, 1_099_511_627_775, 1_101_659_111_422)]
-        )?
+    let found = holds(
+        &mut store,
+        &[(8, b"a'", State::Bound, 1_099_511_627_775, 1_101_659_111_422)],
     );
+    let _conn = store.close();
+    assert!(rt; found?);
     Ok(())
+}
+
+// Puts two rows: how many are read then.
+fn read_back(store: &mut Store<MemStore>, first: &Row, second: &Row) -> Result<usize, StoreFault>
+    requires ready { store.old.fault ≡ None }
+    requires first { IsInRange first.now }
+    requires second { IsInRange second.now }
+{
+    store.put(first)?;
+    store.put(second)?;
+    let rows = store.rows()?;
+    Ok(rows.len())
 }
 
 // Two rows, put in a new store: how many are read.
@@ -170,7 +221,16 @@ fn two(alloc: Global) -> Result<usize, StoreFault> {
     if !first.is_in_range() || !second.is_in_range() {
         return Err(StoreFault::Schema);
     }
-    Ok(in_memory(alloc, &first, &second)?.len())
+    let Ok(conn) = Connection::open_in_memory(alloc) else {
+        return Err(StoreFault::Sql(Cause::OutOfMemory));
+    };
+    let mut store = match Store::open(alloc, conn) {
+        Ok(store) => store,
+        Err((fault, _)) => return Err(fault),
+    };
+    let read = read_back(&mut store, &first, &second);
+    let _conn = store.close();
+    read
 }
 
 // With a refused request for memory the answer is want of it; the same calls made again give what

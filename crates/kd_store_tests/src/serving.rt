@@ -39,7 +39,7 @@ pub(crate) fn opened<S: Alter + Drop>(
     served(alloc, config, stored(alloc, conn)?)
 }
 
-/// What lies below a server, which is dropped without a word.
+/// What lies below a server that is let go.
 pub(crate) fn let_go<S: Alter + Drop>(server: Server<Store<S>>) -> S {
     let (_, store) = server.close();
     store.close().into_store()

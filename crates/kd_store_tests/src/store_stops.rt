@@ -57,8 +57,9 @@ fn stopped_over<S: Alter + Drop>(alloc: Global, conn: Connection<S>) -> Result<(
         Ok(store) => store,
         Err(left) => return Ok((left, 0)),
     };
-    let calls = answered(alloc, &mut store)?;
-    Ok((store.close().into_store(), calls))
+    let calls = answered(alloc, &mut store);
+    let left = store.close().into_store();
+    Ok((left, calls?))
 }
 
 // The same over files: what is left of them, and how many are answered.
@@ -74,15 +75,8 @@ fn stopped(alloc: Global, files: Files<Device>) -> Result<(Files<Device>, usize)
 // Of so many answered calls, the numbers of the tables before and after the next.
 const LEFT: [(usize, usize); 6] = [(0, 0), (0, 1), (1, 1), (1, 2), (2, 2), (2, 2)];
 
-// The store over a connection is at the table before the next call, or at the one after it.
-fn is_beside<S: Alter + Drop>(
-    alloc: Global,
-    conn: Connection<S>,
-    answered: usize,
-) -> Result<bool, Fail> {
-    let Ok(mut store) = stored(alloc, conn) else {
-        return Ok(false);
-    };
+// The store is at the table before the next call, or at the one after it.
+fn is_at_either<S: Keeps>(store: &mut S, answered: usize) -> Result<bool, Fail> {
     if store.failed() || answered >= LEFT.len() {
         return Ok(false);
     }
@@ -92,6 +86,20 @@ fn is_beside<S: Alter + Drop>(
         are_rows_of(rows.as_slice(), TABLES[before % 3])
             || are_rows_of(rows.as_slice(), TABLES[after % 3]),
     )
+}
+
+// So is the store over a connection.
+fn is_beside<S: Alter + Drop>(
+    alloc: Global,
+    conn: Connection<S>,
+    answered: usize,
+) -> Result<bool, Fail> {
+    let Ok(mut store) = stored(alloc, conn) else {
+        return Ok(false);
+    };
+    let is_there = is_at_either(&mut store, answered);
+    let _conn = store.close();
+    is_there
 }
 
 // After a crash the store in the files is at the table before the next call, or at the one after
