@@ -1,0 +1,110 @@
+use kd_event::Response;
+use kd_keeps::Keeps;
+use kd_replay::ServeFault;
+use kd_server::Server;
+use std::alloc::{AllocError, Global};
+
+/// The options of a DISCOVER, after the cookie.
+pub(crate) const DISCOVER: &[u8] = b"\x35\x01\x01\xff";
+
+/// What a reply says: its bytes op, xid and yiaddr (RFC 2131 section 2), and its type, which is its
+/// first option (RFC 2132 section 9.6).
+#[derive(Clone, Copy, PartialEq, Eq)]
+pub(crate) struct Reply {
+    pub(crate) op: u8,
+    pub(crate) xid: u32,
+    pub(crate) yiaddr: u32,
+    pub(crate) option: [u8; 3],
+}
+
+/// The options of an OFFER, an ACK and a NAK.
+pub(crate) const OFFER: [u8; 3] = [53, 1, 2];
+
+pub(crate) const ACK: [u8; 3] = [53, 1, 5];
+
+pub(crate) const NAK: [u8; 3] = [53, 1, 6];
+
+/// The identity of a client that sends its hardware address alone.
+pub(crate) fn identity(client: u32) -> [u8; 8] {
+    let [a, b, c, d] = client.to_be_bytes();
+    [0, 1, 10, 0, a, b, c, d]
+}
+
+/// The datagram of a client's message, with the client's number as xid.
+pub(crate) fn datagram(alloc: Global, client: u32, options: &[u8]) -> Result<Vec<u8>, AllocError> {
+    let [_, _, hardware @ ..] = identity(client);
+    let mut bytes = Vec::from_slice(alloc, &[1, 1, 6, 0])?;
+    bytes.extend_from_slice(&client.to_be_bytes())?;
+    bytes.resize(28, 0)?;
+    bytes.extend_from_slice(&hardware)?;
+    bytes.resize(236, 0)?;
+    bytes.extend_from_slice(&[99, 130, 83, 99])?;
+    bytes.extend_from_slice(options)?;
+    Ok(bytes)
+}
+
+/// The options of a DISCOVER that asks for an address.
+pub(crate) fn asking(alloc: Global, address: u32) -> Result<Vec<u8>, AllocError> {
+    let mut options = Vec::from_slice(alloc, b"\x35\x01\x01\x32\x04")?;
+    options.extend_from_slice(&address.to_be_bytes())?;
+    options.push(255)?;
+    Ok(options)
+}
+
+/// The options of a REQUEST that selects a server's address.
+pub(crate) fn selecting(alloc: Global, server: u32, address: u32) -> Result<Vec<u8>, AllocError> {
+    let mut options = Vec::from_slice(alloc, b"\x35\x01\x03\x36\x04")?;
+    options.extend_from_slice(&server.to_be_bytes())?;
+    options.extend_from_slice(b"\x32\x04")?;
+    options.extend_from_slice(&address.to_be_bytes())?;
+    options.push(255)?;
+    Ok(options)
+}
+
+// The byte at a place, and 0 after the end.
+fn byte_at(bytes: &[u8], at: usize) -> u8 {
+    match bytes.get(at) {
+        Some(byte) => *byte,
+        None => 0,
+    }
+}
+
+// The number of the four bytes from a place on.
+fn number_at(bytes: &[u8], at: u8) -> u32 {
+    let at = usize::from(at);
+    u32::from_be_bytes([
+        byte_at(bytes, at),
+        byte_at(bytes, at + 1),
+        byte_at(bytes, at + 2),
+        byte_at(bytes, at + 3),
+    ])
+}
+
+/// What the bytes of a reply say.
+pub(crate) fn reply_in(bytes: &[u8]) -> Reply {
+    Reply {
+        op: byte_at(bytes, 0),
+        xid: number_at(bytes, 4),
+        yiaddr: number_at(bytes, 16),
+        option: [
+            byte_at(bytes, 240),
+            byte_at(bytes, 241),
+            byte_at(bytes, 242),
+        ],
+    }
+}
+
+/// What a server replies to a client's message at a moment, where it does.
+pub(crate) fn answer<S: Keeps>(
+    alloc: Global,
+    server: &mut Server<S>,
+    moment: u64,
+    client: u32,
+    options: &[u8],
+) -> Result<Option<Reply>, ServeFault> {
+    let bytes = datagram(alloc, client, options)?;
+    match server.handle(moment, bytes.as_slice())?.response {
+        Response::Reply(_, reply) => Ok(Some(reply_in(reply.as_slice()))),
+        Response::Quiet(_) => Ok(None),
+    }
+}

@@ -1,0 +1,22 @@
+//! Tests of what meets the host: rows and whole servers over a file that is closed and opened again
+//! by its path, more rows than any block of them, replies over sockets, and the host's clock.
+//!
+//! They are a crate of their own since a crate is proved once more with its tests.
+#![tactic(auto)]
+
+#[cfg(test)]
+mod clock;
+#[cfg(test)]
+mod datagrams;
+#[cfg(test)]
+mod files;
+#[cfg(test)]
+mod leased;
+#[cfg(test)]
+mod many;
+#[cfg(test)]
+mod rows;
+#[cfg(test)]
+mod serving;
+#[cfg(test)]
+mod sockets;

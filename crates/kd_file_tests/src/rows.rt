@@ -1,0 +1,156 @@
+use crate::files::{Steps, expect, over_file, put};
+use kd_keeps::{Keeps, Opened};
+use kd_rows::{Row, State};
+use kd_wire::Bytes;
+use std::alloc::{AllocError, Global};
+use std::fs;
+use std::os::unix::fs::PermissionsExt;
+use std::test::Fail;
+
+// How many rows there are. They are numbered in rising address.
+const ROWS: u32 = 5_000;
+
+// The row that is put twice, first with what belongs to another.
+const TWICE: u32 = 2_500;
+
+const OTHER: u32 = 77;
+
+// The address of a row: from the least to the greatest that there is.
+fn address(number: u32) -> u32 {
+    if number == ROWS - 1 {
+        u32::MAX
+    } else {
+        number.wrapping_mul(858_993)
+    }
+}
+
+// The client of a row, of up to 299 bytes, and now and then of more than a page.
+fn client(alloc: Global, number: u32) -> Result<Bytes, AllocError> {
+    let length = if number % 1_000 == 999 {
+        5_000
+    } else {
+        number % 300
+    };
+    let mut bytes = Vec::new(alloc);
+    for place in 0..length {
+        bytes.push((number.wrapping_add(place) % 251) as u8)?;
+    }
+    Ok(Bytes::own(bytes))
+}
+
+// The state of a row: each of the four in turn.
+fn state(number: u32) -> State {
+    match number % 4 {
+        0 => State::Offered,
+        1 => State::Bound,
+        2 => State::Released,
+        _ => State::Declined,
+    }
+}
+
+// When a row was set, and how many seconds it lasts: now and then the least and the most of each.
+fn times(number: u32) -> (u64, u64) {
+    match number % 100 {
+        0 => (0, 0),
+        1 => (0, 0x7fff_ffff),
+        2 => (0xff_ffff_ffff, 0),
+        3 => (0xff_ffff_ffff, 0x7fff_ffff),
+        _ => (1_000_000 + u64::from(number), 3_600),
+    }
+}
+
+// The row with a number.
+fn row(alloc: Global, number: u32) -> Result<Row, AllocError> {
+    let (changed, lasts) = times(number);
+    Ok(Row {
+        address: address(number),
+        client: client(alloc, number)?,
+        state: state(number),
+        changed,
+        ends: changed.wrapping_add(lasts),
+    })
+}
+
+// Puts every row, in mixed order.
+fn put_all<S: Keeps>(alloc: Global, store: &mut S) -> Result<(), Fail> {
+    let mut twice = row(alloc, OTHER)?;
+    twice.address = address(TWICE);
+    put(store, &twice)?;
+    for turn in 0..ROWS {
+        put(store, &row(alloc, turn.wrapping_mul(617) % ROWS)?)?;
+    }
+    Ok(())
+}
+
+// A row is another, in each field.
+fn is_same(row: &Row, other: &Row) -> bool {
+    row.address == other.address
+        && row.client.as_slice() == other.client.as_slice()
+        && row.state == other.state
+        && row.changed == other.changed
+        && row.ends == other.ends
+}
+
+// These are all rows, in rising address.
+fn are_all(alloc: Global, rows: &[Row]) -> Result<bool, AllocError> {
+    let mut number = 0;
+    for found in rows {
+        if number >= ROWS || !is_same(found, &row(alloc, number)?) {
+            return Ok(false);
+        }
+        number += 1;
+    }
+    Ok(number == ROWS)
+}
+
+// A file of an open store is for its user alone.
+fn is_own(rt: &HostRuntime, path: &str) -> Result<bool, Fail> {
+    Ok(fs::metadata(rt, path)?.permissions().mode() & 0o777 == 0o600)
+}
+
+// Fills a store that has no rows.
+fn fill<S: Keeps>(alloc: Global, store: &mut S, rows: &[Row]) -> Result<(), Fail> {
+    expect(rows.is_empty(), "a new file has rows")?;
+    put_all(alloc, store)
+}
+
+// Finds all rows in a store, whose file and its log are for their user alone.
+fn find(rt: &HostRuntime, rows: &[Row]) -> Result<(), Fail> {
+    expect(
+        are_all(rt.alloc(), rows)?,
+        "the rows are not those that were put",
+    )?;
+    expect(is_own(rt, "rows.db")?, "the file is open to others")?;
+    expect(is_own(rt, "rows.db-wal")?, "the log is open to others")
+}
+
+// What is done with a store.
+#[derive(Drop)]
+enum Step {
+    // It is filled.
+    Fill,
+    // All rows are in it.
+    Find,
+    // No row is in it.
+    FindNone,
+}
+
+impl Steps for Step {
+    fn take<S: Keeps>(self, rt: &HostRuntime, opened: Opened<S>) -> (Result<(), Fail>, S) {
+        let Opened { mut store, rows } = opened;
+        let rows = rows.as_slice();
+        let result = match self {
+            Step::Fill => fill(rt.alloc(), &mut store, rows),
+            Step::Find => find(rt, rows),
+            Step::FindNone => expect(rows.is_empty(), "another file has rows"),
+        };
+        (result, store)
+    }
+}
+
+#[test]
+fn rows_of_a_file_are_found_again(rt: HostRuntime) -> Result<(), Fail> {
+    over_file(&rt, "rows.db", Step::Fill)?;
+    over_file(&rt, "rows.db", Step::Find)?;
+    over_file(&rt, "other.db", Step::FindNone)
+}

@@ -1,0 +1,170 @@
+// Replies over sockets of loopback. A socket waits five seconds for a datagram, and each datagram is
+// sent before it is received, so that nothing waits for ever.
+ghost use Rattle.std.specs.Prelude.{◌≡◌, IfOk, false};
+
+use crate::datagrams::{DISCOVER, OFFER, Reply, datagram, reply_in};
+use kd_commands::Listening;
+use kd_config::Config;
+use kd_event::{Destination, Mode, Ports};
+use kd_host::Machine;
+use kd_io::{HostClock, Output, Sending, Socket};
+use kd_program::Host;
+use kd_replay::{EndFailed, Link};
+use kd_server::{Server, serve};
+use kd_table_tests::Fused;
+use sqlite::Unknown;
+use std::alloc::{AllocError, Global};
+use std::net::{IpAddr, Ipv4Addr, UdpSocket};
+use std::test::Fail;
+use std::time::Duration;
+
+// 127.0.0.1, and the address that stands for all hosts of its link.
+const LOOPBACK: u32 = 0x7f00_0001;
+
+const ALL_OF_LOOPBACK: u32 = 0x7fff_ffff;
+
+// The client of every datagram.
+const CLIENT: u32 = 7;
+
+// A socket on a free port of an address, and the port.
+fn bound(rt: &HostRuntime, address: u32) -> Result<(UdpSocket, u16), Fail> {
+    let socket = UdpSocket::bind(rt, (IpAddr::V4(Ipv4Addr::from(address)), 0))?;
+    socket.set_read_timeout(Some(Duration::from_secs(5)))?;
+    let port = socket.local_addr()?.port();
+    Ok((socket, port))
+}
+
+// A port that is free once it is given.
+fn free_port(rt: &HostRuntime) -> Result<u16, Fail> {
+    let (_, port) = bound(rt, LOOPBACK)?;
+    Ok(port)
+}
+
+// A port of loopback has a socket.
+fn is_taken(rt: &HostRuntime, port: u16) -> bool {
+    UdpSocket::bind(rt, (IpAddr::V4(Ipv4Addr::from(LOOPBACK)), port)).is_err()
+}
+
+// Sends a DISCOVER to a port of loopback.
+fn send_discover(alloc: Global, sender: &UdpSocket, port: u16) -> Result<(), Fail> {
+    let bytes = datagram(alloc, CLIENT, DISCOVER)?;
+    let to = (IpAddr::V4(Ipv4Addr::from(LOOPBACK)), port);
+    sender.send_to(bytes.as_slice(), to)?;
+    Ok(())
+}
+
+// What a socket receives: a reply, and the port that it comes from.
+fn received(socket: &UdpSocket) -> Result<(Reply, u16), Fail> {
+    let mut room = [0; 1_500];
+    let (length, sender) = socket.recv_from(&mut room)?;
+    Ok((reply_in(&room[..length]), sender.port()))
+}
+
+// No datagram has come to a socket.
+fn is_left_out(socket: &UdpSocket) -> Result<bool, Fail> {
+    socket.set_nonblocking(true)?;
+    Ok(socket.recv_from(&mut [0; 10]).is_err())
+}
+
+// A server of the built-in configuration.
+fn server(alloc: Global, ports: Ports) -> Result<Server<Fused>, AllocError> {
+    let store = Fused::new(alloc, u64::MAX)?;
+    match Server::open(alloc, Config::builtin(alloc)?, store, ports) {
+        Ok(server) => Ok(server),
+        Err(_) => Err(AllocError),
+    }
+}
+
+// Serves one datagram.
+fn serve_one(rt: &HostRuntime, link: &mut Socket, ports: Ports) -> Result<(), Fail>
+    requires { link.old.failed ≡ false }
+{
+    let alloc = rt.alloc();
+    let mut sink = Output::over(Vec::new(alloc));
+    let mut clock = HostClock::of(rt);
+    serve(
+        alloc,
+        link,
+        &mut clock,
+        &mut sink,
+        &mut server(alloc, ports)?,
+        1,
+    )?;
+    Ok(())
+}
+
+// The first address of the built-in pool is offered to the client.
+const OFFERED: Reply = Reply {
+    op: 2,
+    xid: CLIENT,
+    yiaddr: 0xc000_020a,
+    option: OFFER,
+};
+
+// A reply for all hosts comes to the one and to all hosts of loopback where these stand in for
+// them, at the clients' port.
+#[test]
+fn a_reply_that_is_not_mirrored_goes_to_the_clients_port(rt: HostRuntime) -> Result<(), Fail> {
+    for address in [LOOPBACK, ALL_OF_LOOPBACK] {
+        let (client, client_port) = bound(&rt, address)?;
+        let (sender, _) = bound(&rt, LOOPBACK)?;
+        let port = free_port(&rt)?;
+        let sending = Sending {
+            mirror: false,
+            broadcast_as: Some(address),
+        };
+        let mut link = Socket::bind(&rt, LOOPBACK, port, sending)?;
+        assert!(rt; is_taken(&rt, port));
+        send_discover(rt.alloc(), &sender, port)?;
+        let ports = Ports {
+            server: port,
+            client: client_port,
+        };
+        serve_one(&rt, &mut link, ports)?;
+        assert!(rt; received(&client)? == (OFFERED, port));
+        assert!(rt; is_left_out(&sender)?);
+    }
+    Ok(())
+}
+
+// The socket of a host, which has not failed.
+fn socket_of<H: Host>(host: &mut H, listening: Listening) -> Result<H::Socket, EndFailed>
+    ensures { IfOk result (λ link. H.Socket.has_failed link ≡ false) }
+{
+    host.socket(listening)
+}
+
+// The socket of this machine. What moves a machine is proved against all parts of a connection,
+// which takes the prover a minute: so this alone does.
+fn machine_socket(rt: &HostRuntime, listening: Listening) -> Result<Socket, EndFailed>
+    ensures { IfOk result (λ link. link.failed ≡ false) }
+{
+    socket_of(&mut Machine::of(rt, Unknown), listening)
+}
+
+// A mirrored reply goes to its sender, and not where it says.
+#[test]
+fn a_mirrored_reply_goes_to_its_sender_through_the_machine(rt: HostRuntime) -> Result<(), Fail> {
+    let (client, client_port) = bound(&rt, LOOPBACK)?;
+    let (sender, _) = bound(&rt, LOOPBACK)?;
+    let port = free_port(&rt)?;
+    let listening = Listening {
+        bind: LOOPBACK,
+        port,
+        client_port,
+        broadcast_as: Some(LOOPBACK),
+        mirror: true,
+    };
+    let mut link = machine_socket(&rt, listening)?;
+    assert!(rt; is_taken(&rt, port));
+    assert!(rt; machine_socket(&rt, listening).is_err());
+    send_discover(rt.alloc(), &sender, port)?;
+    let ports = Ports {
+        server: port,
+        client: client_port,
+    };
+    serve_one(&rt, &mut link, ports)?;
+    assert!(rt; received(&sender)? == (OFFERED, port));
+    assert!(rt; is_left_out(&client)?);
+    Ok(())
+}
