@@ -60,9 +60,5 @@ pub fn refuse(rt: &HostRuntime, fault: LineFault) -> u8
     ensures { IsStatusOf (line_fault_number fault) result }
 {
     let stderr = rt.stderr();
-    refuse_words(
-        rt.alloc(),
-        &mut Output::over(io::writer(&stderr)),
-        fault,
-    )
+    refuse_words(rt.alloc(), &mut Output::over(io::writer(&stderr)), fault)
 }

@@ -55,8 +55,10 @@ fn is_right(alloc: Global, step: Step, response: &Response, again: bool) -> Resu
     let (message, want, _) = step;
     if again && want == Got::Quiet(Reason::Released) {
         let done_before = Got::Quiet(Reason::NotHeld);
-        return Ok(is_answer(alloc, message, response, want)?
-            || is_answer(alloc, message, response, done_before)?);
+        return Ok(
+            is_answer(alloc, message, response, want)?
+                || is_answer(alloc, message, response, done_before)?,
+        );
     }
     Ok(is_answer(alloc, message, response, want)?)
 }

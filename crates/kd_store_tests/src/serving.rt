@@ -39,7 +39,10 @@ fn served<S: Alter + Drop>(
     store: Store<S>,
 ) -> Result<Server<Store<S>>, (Refusal, S)> {
     if store.failed() {
-        return Err((Refusal::Store(StoreFault::Schema), store.close().into_store()));
+        return Err((
+            Refusal::Store(StoreFault::Schema),
+            store.close().into_store(),
+        ));
     }
     match Server::open(alloc, config, store, PORTS) {
         Ok(server) => Ok(server),
