@@ -1,9 +1,9 @@
 -- A command's work with a server is calls.
-use Rattle.std.proofs.Common.{◌≡◌, ◌⊎◌, inl, inr, ⊎_elim, ℕ, List, [], Result, Ok, Err, MatchResult, refl, sym, subst, true}
+use Rattle.std.proofs.Common.{◌≡◌, ◌⊎◌, inl, inr, ⊎_elim, ℕ, [], Result, Ok, Err, MatchResult, refl, subst, true}
 use Rattle.kd_config.specs.Configuration.{Configuration}
 use Rattle.kd_keeps.specs.declared.keeps.Keeps.{Ghosts}
 use Rattle.kd_program.specs.Openings.{CommandsAreOpenings}
-use Rattle.kd_program.specs.Running.{IsNotServed, IsServed, Receives, Works, ports_asked, traffic}
+use Rattle.kd_program.specs.Running.{Receives, Works, traffic}
 use Rattle.kd_program.specs.Streams.{Streams}
 use Rattle.kd_program.specs.declared.host.Host.{Ghosts as Hosts}
 use Rattle.kd_program.specs.declared.serving.Work.{Work}
@@ -12,7 +12,7 @@ use Rattle.kd_replay.specs.declared.fault.LoopFault.{LoopFault}
 use Rattle.kd_replay.specs.Serving.{HasServed, StopsServing, Traffic}
 use Rattle.kd_replay.specs.declared.link.Link.{Ghosts as Links}
 use Rattle.kd_server.specs.Keeping.{IsUnopened, Keeping, Refuses, Steps}
-use Rattle.kd_server.specs.Lives.{AreCalls, Call, IsDone, ReachingIsCalls, ServingIsCalls}
+use Rattle.kd_server.specs.Lives.{AreCalls, ReachingIsCalls, ServingIsCalls}
 
 module _ {H N U L C S : Type 0} (h : Hosts H N U L C) (l : Links L) (g : Ghosts S) (reaching : ReachingIsCalls g) (serving : ServingIsCalls g) where
   same_calls : (server left : Keeping S) → left ≡ server → AreCalls g server left

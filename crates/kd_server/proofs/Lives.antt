@@ -1,5 +1,5 @@
 -- A life of a server is a history with stops: each call is a step, or nothing happens in it.
-use Rattle.std.proofs.Common.{◌≡◌, ◌⊎◌, inl, inr, ⊎_elim, ℕ, Bool, is_some, length, map, List, [], ◌∷◌, ◌++◌, Option, Some, None, Result, Ok, Err, true, false, refl, sym, ap, ◌∙◌, subst}
+use Rattle.std.proofs.Common.{◌≡◌, ◌⊎◌, inl, inr, ⊎_elim, ℕ, Bool, is_some, map, List, [], ◌∷◌, ◌++◌, Option, Some, None, Result, Ok, Err, true, false, refl, sym, ap, ◌∙◌, subst}
 use Rattle.std.proofs.lemmas.Bool.{false≢true}
 use Rattle.std.proofs.lemmas.Option.{none-some, same_Some}
 use Rattle.kd_config.specs.Configuration.{Configuration}
@@ -9,7 +9,7 @@ use Rattle.kd_event.specs.declared.ports.Ports.{Ports}
 use Rattle.kd_keeps.specs.declared.keeps.Keeps.{Ghosts}
 use Rattle.kd_lease.specs.Change.{Changes}
 use Rattle.kd_replay.specs.History as past
-use Rattle.kd_replay.specs.Serving.{Answered, EndsAfter, EndsServing, HasServed, StopsServing, Traffic}
+use Rattle.kd_replay.specs.Serving.{Answered, EndsAfter, EndsServing, HasServed, Traffic}
 use Rattle.kd_replay.specs.declared.fault.LoopFault.{LoopFault}
 use Rattle.kd_replay.specs.declared.fault.LoopFault.TheVariants as loops
 use Rattle.kd_replay.specs.declared.fault.ServeFault.{ServeFault}
@@ -19,7 +19,7 @@ use Rattle.kd_rows.specs.Table.{latest_of}
 use Rattle.kd_rows.specs.declared.row.Row.{Row}
 use Rattle.kd_keeps.specs.declared.fault.StoreFault.{StoreFault}
 use Rattle.kd_server.specs.Keeping.{IsStopped, Keeping, Refuses, Steps, StoreHolds}
-use Rattle.kd_server.specs.Lives.{AreCalls, AreSteps, Call, CallAnswers, Called, IsAnswerOf, IsDone, IsIdle, IsLeft, IsNoRun, IsOpening, IsRun, Life, LivesAreHistories, Opening, OpeningsAreHistories, OpeningsEnd, ReachingIsCalls, RunsAreCalls, ServingIsCalls, WasHistory, calls_of}
+use Rattle.kd_server.specs.Lives.{AreCalls, AreSteps, Call, CallAnswers, Called, IsAnswerOf, IsDone, IsIdle, IsLeft, IsNoRun, IsRun, LivesAreHistories, Opening, OpeningsAreHistories, OpeningsEnd, ReachingIsCalls, RunsAreCalls, ServingIsCalls, calls_of}
 use Rattle.kd_server.specs.NoOverlap.{HistoryTo, LeaseHistory, LeaseStep, now_of}
 use Rattle.kd_server.specs.Step.{IsAnswered, IsUnreadable}
 
