@@ -24,19 +24,24 @@ pub(crate) const ACK: [u8; 3] = [53, 1, 5];
 
 pub(crate) const NAK: [u8; 3] = [53, 1, 6];
 
+// The hardware address of a client.
+fn hardware(client: u32) -> [u8; 6] {
+    let [a, b, c, d] = client.to_be_bytes();
+    [10, 0, a, b, c, d]
+}
+
 /// The identity of a client that sends its hardware address alone.
 pub(crate) fn identity(client: u32) -> [u8; 8] {
-    let [a, b, c, d] = client.to_be_bytes();
-    [0, 1, 10, 0, a, b, c, d]
+    let [a, b, c, d, e, f] = hardware(client);
+    [0, 1, a, b, c, d, e, f]
 }
 
 /// The datagram of a client's message, with the client's number as xid.
 pub(crate) fn datagram(alloc: Global, client: u32, options: &[u8]) -> Result<Vec<u8>, AllocError> {
-    let [_, _, hardware @ ..] = identity(client);
     let mut bytes = Vec::from_slice(alloc, &[1, 1, 6, 0])?;
     bytes.extend_from_slice(&client.to_be_bytes())?;
     bytes.resize(28, 0)?;
-    bytes.extend_from_slice(&hardware)?;
+    bytes.extend_from_slice(&hardware(client))?;
     bytes.resize(236, 0)?;
     bytes.extend_from_slice(&[99, 130, 83, 99])?;
     bytes.extend_from_slice(options)?;

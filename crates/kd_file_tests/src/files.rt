@@ -9,6 +9,7 @@ use kd_keeps::{Keeps, Opened};
 use kd_rows::Row;
 use kd_store::Store;
 use sqlite::Alter;
+use std::fs;
 use std::test::Fail;
 
 /// What is done with a store that was just opened, which is given back.
@@ -40,6 +41,13 @@ pub(crate) fn over_file<T: Steps>(rt: &HostRuntime, path: &str, steps: T) -> Res
     match store_in_file(rt, path) {
         Ok(opened) => taken(rt, opened, steps),
         Err(fault) => Err(fault.into()),
+    }
+}
+
+/// Removes the files at these paths, those that are there.
+pub(crate) fn remove(rt: &HostRuntime, paths: &[&str]) {
+    for path in paths {
+        let _gone = fs::remove_file(rt, *path);
     }
 }
 

@@ -1,4 +1,4 @@
-use crate::files::{Steps, expect, over_file, put};
+use crate::files::{Steps, expect, over_file, put, remove};
 use kd_keeps::{Keeps, Opened};
 use kd_rows::{Row, State};
 use kd_wire::Bytes;
@@ -148,9 +148,15 @@ impl Steps for Step {
     }
 }
 
+// All files of the test.
+const FILES: [&str; 4] = ["rows.db", "rows.db-wal", "other.db", "other.db-wal"];
+
 #[test]
 fn rows_of_a_file_are_found_again(rt: HostRuntime) -> Result<(), Fail> {
+    remove(&rt, &FILES);
     over_file(&rt, "rows.db", Step::Fill)?;
     over_file(&rt, "rows.db", Step::Find)?;
-    over_file(&rt, "other.db", Step::FindNone)
+    over_file(&rt, "other.db", Step::FindNone)?;
+    remove(&rt, &FILES);
+    Ok(())
 }

@@ -1,5 +1,5 @@
 use crate::datagrams::{ACK, DISCOVER, NAK, OFFER, Reply, answer, asking, identity, selecting};
-use crate::files::{Steps, expect, over_file, put};
+use crate::files::{Steps, expect, over_file, put, remove};
 use crate::leased::{CHANGED, PORTS, address, lease};
 use kd_config::Config;
 use kd_keeps::{Keeps, Opened};
@@ -9,6 +9,8 @@ use std::alloc::Global;
 use std::test::Fail;
 
 const PATH: &str = "leases.db";
+
+const FILES: [&str; 2] = ["leases.db", "leases.db-wal"];
 
 // A pool of 6,000 addresses.
 const CONFIG: &[u8] =
@@ -169,10 +171,12 @@ impl Steps for Day {
 
 #[test]
 fn a_server_over_5000_leases_of_a_file_goes_on(rt: HostRuntime) -> Result<(), Fail> {
+    remove(&rt, &FILES);
     over_file(&rt, PATH, Fill)?;
     for is_first in [true, false] {
         let config = Config::read(rt.alloc(), CONFIG, &[])?;
         over_file(&rt, PATH, Day { config, is_first })?;
     }
+    remove(&rt, &FILES);
     Ok(())
 }

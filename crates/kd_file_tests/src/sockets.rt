@@ -12,7 +12,7 @@ use kd_program::Host;
 use kd_replay::{EndFailed, Link};
 use kd_server::{Server, serve};
 use kd_table_tests::Fused;
-use sqlite::Unknown;
+use sqlite::{Start, Unknown};
 use std::alloc::{AllocError, Global};
 use std::net::{IpAddr, Ipv4Addr, UdpSocket};
 use std::test::Fail;
@@ -136,10 +136,14 @@ fn socket_of<H: Host>(host: &mut H, listening: Listening) -> Result<H::Socket, E
 
 // The socket of this machine. What moves a machine is proved against all parts of a connection,
 // which takes the prover a minute: so this alone does.
-fn machine_socket(rt: &HostRuntime, listening: Listening) -> Result<Socket, EndFailed>
+fn machine_socket<F: Start>(
+    rt: &HostRuntime,
+    start: F,
+    listening: Listening,
+) -> Result<Socket, EndFailed>
     ensures { IfOk result (λ link. link.failed ≡ false) }
 {
-    socket_of(&mut Machine::of(rt, Unknown), listening)
+    socket_of(&mut Machine::of(rt, start), listening)
 }
 
 // A mirrored reply goes to its sender, and not where it says.
@@ -155,9 +159,9 @@ fn a_mirrored_reply_goes_to_its_sender_through_the_machine(rt: HostRuntime) -> R
         broadcast_as: Some(LOOPBACK),
         mirror: true,
     };
-    let mut link = machine_socket(&rt, listening)?;
+    let mut link = machine_socket(&rt, Unknown, listening)?;
     assert!(rt; is_taken(&rt, port));
-    assert!(rt; machine_socket(&rt, listening).is_err());
+    assert!(rt; machine_socket(&rt, Unknown, listening).is_err());
     send_discover(rt.alloc(), &sender, port)?;
     let ports = Ports {
         server: port,
