@@ -16,7 +16,7 @@ use Rattle.kd_database.specs.Stores.{IsStoreIn}
 
 -- what lies below a connection: a crash leaves nothing of it that it does not leave of the
 -- connection
-pub record IsBelow {D : Type 0} {g : Ghosts D} (conn : Held (FileStore D g))
+pub record LiesBelow {D : Type 0} {g : Ghosts D} (conn : Held (FileStore D g))
     (it : FileStore D g) : Type 0 where
   pub numbered : IsTrue (files.view it).is_numbered
   pub outcomes : (db : Trees) → files.recovers it db → files.recovers conn.store db
@@ -25,7 +25,7 @@ pub record IsBelow {D : Type 0} {g : Ghosts D} (conn : Held (FileStore D g))
 pub record IsCrashOf {D : Type 0} {g : Ghosts D} (conn : Held (FileStore D g))
     (image : Image) : Type 0 where
   pub it : FileStore D g
-  pub below : IsBelow conn it
+  pub below : LiesBelow conn it
   pub may : (files.state it).may_leave image
 
 -- a store stands at one table, which is one of any two that a crash could leave of a connection
@@ -48,4 +48,4 @@ Restarts {D} {E} g h =
 abbrev pub Kills : {D : Type 0} → Ghosts D → Type 0
 Kills {D} g =
     (conn : Held (FileStore D g)) → IsTrue (files.view conn.store).is_numbered
-    → IsBelow conn conn.store
+    → LiesBelow conn conn.store

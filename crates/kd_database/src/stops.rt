@@ -1,6 +1,6 @@
 ghost use Rattle.sqlite_store.specs.FileStore.{view};
 ghost use Rattle.sqlite_trees.specs.View.{IsClean};
-ghost use Rattle.kd_database.specs.Stops.{IsBelow, Kills, Restarts};
+ghost use Rattle.kd_database.specs.Stops.{LiesBelow, Kills, Restarts};
 
 use kd_store::Store;
 use sqlite::FileStore;
@@ -8,7 +8,7 @@ use sqlite_disk::Disk;
 
 /// What lies below a store that is let go.
 pub fn let_go<D: Disk + Drop>(store: Store<FileStore<D>>) -> FileStore<D>
-    ensures { IsClean (view result) → IsBelow store.conn result }
+    ensures { IsClean (view result) → LiesBelow store.conn result }
 {
     store.close().into_store()
 }

@@ -10,7 +10,7 @@ use Rattle.kd_config.specs.Configuration.{Configuration}
 use Rattle.kd_database.specs.Stops.{IsCrashOf}
 use Rattle.kd_database.specs.Stores.{IsStoreIn, StandsAsHeld}
 use Rattle.kd_event.specs.declared.ports.Ports.{Ports}
-use Rattle.kd_host.specs.AcrossRuns.{GoesOn, LeadsOn, RunsAreHistories, opening}
+use Rattle.kd_host.specs.AcrossRuns.{IsOneLife, LeadsOn, RunsAreHistories, opening}
 use Rattle.kd_keeps.specs.declared.keeps.Keeps.{Ghosts}
 use Rattle.kd_program.specs.Openings.{CommandsAreOpenings}
 use Rattle.kd_program.specs.Running.{ports_asked}
@@ -52,7 +52,7 @@ module _ {D E : Type 0} {d : Disks D} {e : Disks E} (k : Ghosts (Kept (FileStore
           }),
         )
 
-    pub goes_on : OpeningsAreHistories m → OpeningsEnd m → GoesOn k m
+    pub goes_on : OpeningsAreHistories m → OpeningsEnd m → IsOneLife k m
     goes_on later later_ends config rows ports calls store left stands done clean image crash ports' calls' next last is_in next_done last_clean =
         let next_clean = (later_ends config ports' calls' next last next_done last_clean).0 in
         let one = leads config rows ports calls store left stands done clean image crash next is_in next_clean in (

@@ -7,7 +7,7 @@ use Rattle.sqlite_trees.specs.View.{IsClean}
 use Rattle.sqlite_wal.specs.Recovery.{Image}
 use Rattle.kd_commands.specs.declared.orders.Order.{Order}
 use Rattle.kd_config.specs.Configuration.{Configuration}
-use Rattle.kd_database.specs.Stops.{IsBelow}
+use Rattle.kd_database.specs.Stops.{LiesBelow}
 use Rattle.kd_database.specs.Stores.{IsStoreIn, StandsAsHeld}
 use Rattle.kd_host.specs.OnFiles.{IsStatusOnFiles, RunsOnFiles, ServesFiles, order_of}
 use Rattle.kd_io.specs.Faults.{start_fault_number}
@@ -36,7 +36,7 @@ module _ {D H U L C : Type 0} (d : Disks D) (h : Hosts H (Kept (FileStore D d)) 
     pub opens : (before : H) (path : List ℕ) (store : Kept (FileStore D d)) (after : H) → h.opens before path (Ok store) after
         → StandsAsHeld image store × IsStoreIn image store
     pub closes : (before : H) (path : List ℕ) (back : Kept (FileStore D d)) (after : H) → h.closes before path back after
-        → (it : FileStore D d) × (left_of after ≡ Some it) × (IsClean (view it) → IsBelow back.conn it)
+        → (it : FileStore D d) × (left_of after ≡ Some it) × (IsClean (view it) → LiesBelow back.conn it)
 
   abbrev Told : ℕ → Streams → Streams → Type 0
   Told status old new = (number : ℕ) × Tells number status old new

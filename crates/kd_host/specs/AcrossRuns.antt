@@ -31,8 +31,8 @@ module _ {D E : Type 0} {d : Disks D} {e : Disks E} (k : Ghosts (Kept (FileStore
     (m : Ghosts (Kept (FileStore E e))) where
   -- a server was opened over files at these rows, and another on what a crash left of them: the
   -- second stands at some rows, and the two openings are one life
-  abbrev pub GoesOn : Type 0
-  GoesOn =
+  abbrev pub IsOneLife : Type 0
+  IsOneLife =
       (config : Configuration) (rows : List Row) (ports : Ports) (calls : List Call)
       (store left : Kept (FileStore D d)) → k.stands store rows
       → IsDone k config ports calls store left → k.has_clean_disk left

@@ -11,7 +11,7 @@ use Rattle.kd_commands.specs.declared.orders.Listening.{Listening}
 use Rattle.kd_commands.specs.declared.orders.Order.{Order}
 use Rattle.kd_commands.specs.declared.orders.Order.TheVariants as orders
 use Rattle.kd_config.specs.Configuration.{Configuration}
-use Rattle.kd_database.specs.Stops.{IsBelow}
+use Rattle.kd_database.specs.Stops.{LiesBelow}
 use Rattle.kd_database.specs.Stores.{IsStoreIn, StandsAsHeld}
 use Rattle.kd_io.specs.Start.{IsOfFiles}
 use Rattle.kd_io.specs.declared.link.Sending.{Sending}
@@ -58,7 +58,7 @@ module _ {D H U L C : Type 0} (d : Disks D) (h : Hosts H (Kept (FileStore D d)) 
     pub serves : Serves h l k work config store back before after status old new
     pub it : FileStore D d
     pub left_is : left ≡ Some it
-    pub below : IsClean (view it) → IsBelow back.conn it
+    pub below : IsClean (view it) → LiesBelow back.conn it
 
   -- what words do: words that are no order have a fault, which is told; and where they name a store
   -- a server works over its files, or a fault is told

@@ -1,6 +1,6 @@
 //! What holds from one run of the program over files to the next: each law is the contract of a
 //! function that does nothing but name the laws it rests on.
-ghost use Rattle.kd_host.specs.AcrossRuns.{GoesOn, RunsAreHistories};
+ghost use Rattle.kd_host.specs.AcrossRuns.{IsOneLife, RunsAreHistories};
 
 use crate::machine::{Below, Machine};
 use kd_database::restarts;
@@ -18,7 +18,7 @@ use sqlite_disk::Disk;
 /// life, though their stores are of different types: so `lives_are_histories` of `kd_server` speaks
 /// of the operator's database, across restarts and crashes.
 pub fn goes_on<D: Disk, E: Disk>()
-    ensures { GoesOn ⟦<Store<FileStore<D>> as Keeps>⟧ ⟦<Store<FileStore<E>> as Keeps>⟧ }
+    ensures { IsOneLife ⟦<Store<FileStore<D>> as Keeps>⟧ ⟦<Store<FileStore<E>> as Keeps>⟧ }
 {
     openings_are_histories::<Store<FileStore<D>>>();
     openings_are_histories::<Store<FileStore<E>>>();

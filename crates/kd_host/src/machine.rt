@@ -40,7 +40,7 @@ impl<'a, F: Start> Host for Machine<'a, F, Below<F>> {
     ghost use Rattle.sqlite_store.specs.FileStore.{view};
     ghost use Rattle.sqlite_trees.specs.View.{IsClean};
     ghost use Rattle.sqlite_wal.specs.Files.{image_at};
-    ghost use Rattle.kd_database.specs.Stops.{IsBelow};
+    ghost use Rattle.kd_database.specs.Stops.{LiesBelow};
     ghost use Rattle.kd_database.specs.Stores.{IsStoreIn, StandsAsHeld};
     ghost use Rattle.kd_io.specs.Start.{IsOfFiles};
     ghost use Rattle.kd_host.specs.OnFiles.{sending_of};
@@ -63,7 +63,7 @@ impl<'a, F: Start> Host for Machine<'a, F, Below<F>> {
     ghost makes = { λ old result new. IfOk result (λ store. store.is_new ≡ true) };
 
     ghost closes = { λ old path store new.
-        (it : _) × (new.left ≡ Some it) × (IsClean (view it) → IsBelow store.conn it) };
+        (it : _) × (new.left ≡ Some it) × (IsClean (view it) → LiesBelow store.conn it) };
 
     ghost binds = { λ old listening result new.
         IfOk result (λ link. link.sending ≡ sending_of listening) };

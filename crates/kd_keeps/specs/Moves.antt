@@ -7,7 +7,7 @@ use Rattle.kd_rows.specs.declared.row.Row.{Row}
 -- which a crash leaves one, and whether it is open: where the call is done the store stands at the
 -- table after, and a crash leaves that one; where it fails the store stands where it stood, while it
 -- is open; whatever it answers, a crash leaves one of the two
-pub record Moves {A : Type 0} (stands : List Row → Type 0) (leaves : List Row → List Row → Type 0)
+pub record MovesTable {A : Type 0} (stands : List Row → Type 0) (leaves : List Row → List Row → Type 0)
     (is_open : Type 0) (before after : List Row) (result : Result A StoreFault) : Type 0 where
   pub done : OnOk result (stands after)
   pub settled : OnOk result (leaves after after)

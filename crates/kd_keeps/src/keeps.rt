@@ -6,7 +6,7 @@ pub trait Keeps {
     ghost use Rattle.std.specs.Prelude.{◌≡◌, IfOk, List, Option, false, is_some};
     ghost use Rattle.std.specs.List.{All};
     ghost use Rattle.std.specs.Result.{result_err};
-    ghost use Rattle.kd_keeps.specs.Moves.{Moves};
+    ghost use Rattle.kd_keeps.specs.Moves.{MovesTable};
     ghost use Rattle.kd_keeps.specs.declared.fault.StoreFault.{StoreFault};
     ghost use Rattle.kd_rows.specs.Row.{IsInRange};
     ghost use Rattle.kd_rows.specs.Table.{Rise, with_row};
@@ -39,7 +39,7 @@ pub trait Keeps {
         requires range { IsInRange row.now }
         ensures clean { has_clean_disk self.new → has_clean_disk self.old }
         ensures put { has_clean_disk self.new → (table : List LeaseRow) → stands self.old table
-            → Moves (stands self.new) (leaves self.new) (is_open self.new)
+            → MovesTable (stands self.new) (leaves self.new) (is_open self.new)
             table (with_row row.now table) result }
         ensures failed { fault self.new ≡ result_err result };
 
@@ -56,7 +56,7 @@ pub trait Keeps {
         ensures found { has_clean_disk self.new → (table : List LeaseRow) → stands self.old table
             → IfOk result (λ rows. rows.items ≡ table) }
         ensures stays { has_clean_disk self.new → (table : List LeaseRow) → stands self.old table
-            → Moves (stands self.new) (leaves self.new) (is_open self.new) table table result }
+            → MovesTable (stands self.new) (leaves self.new) (is_open self.new) table table result }
         ensures failed { fault self.new ≡ result_err result };
 
     /// Whether a call has failed.

@@ -10,7 +10,7 @@ use Rattle.kd_keeps.specs.declared.fault.StoreFault.{StoreFault}
 use Rattle.kd_keeps.specs.declared.fault.StoreFault.TheVariants.{Sql}
 use Rattle.kd_rows.specs.declared.row.Row.{Row}
 use Rattle.kd_rows.specs.Table.{Rise}
-use Rattle.kd_store.specs.Fault.{IsUnread, cause_of}
+use Rattle.kd_store.specs.Fault.{AreUnread, cause_of}
 use Rattle.kd_store.specs.Lease.{lease_schema, make_text}
 use Rattle.kd_store.specs.Opening.{GivesBack, OpensAt}
 use Rattle.kd_store.specs.Stands.{Finds, Holds, Leaves, Stands}
@@ -58,7 +58,7 @@ module _ {S : Type 0} (g : Ghosts S) (old made : Held S) (ready : old.in_transac
       finds = λ clean has. elim has [ inl none ↦ ([], inl (none, refl)) | inr is ↦ (rows, ours rows (shown clean) rise clean is) ];
     }
 
-    pub reads_none : (fault : StoreFault) → (HasCleanDisk (state g new) → IsUnread (state g made) (state g new) fault) → Settles (state g made) → GivesBack g fault old new
+    pub reads_none : (fault : StoreFault) → (HasCleanDisk (state g new) → AreUnread (state g made) (state g new) fault) → Settles (state g made) → GivesBack g fault old new
     reads_none fault unread law = record {
       clean = λ clean. omega (arith, first.clean, second.clean, clean);
       found = λ clean table h is_open.

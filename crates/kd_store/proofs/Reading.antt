@@ -12,14 +12,14 @@ use Rattle.sqlite.specs.Term.{Env}
 use Rattle.sqlite.specs.Command.TheVariants.{Select}
 use Rattle.sqlite.specs.State.{State, HasCleanDisk, Survives}
 use Rattle.sqlite.proofs.Callers.{reads_as}
-use Rattle.kd_keeps.specs.Moves.{Moves}
+use Rattle.kd_keeps.specs.Moves.{MovesTable}
 use Rattle.kd_keeps.specs.declared.fault.StoreFault.{StoreFault}
 use Rattle.kd_rows.specs.declared.row.Row.{Row}
 use Rattle.kd_rows.specs.Table.{Rise}
-use Rattle.kd_store.specs.Fault.{IsUnread, first_five}
+use Rattle.kd_store.specs.Fault.{AreUnread, first_five}
 use Rattle.kd_store.specs.Lease.{lease_schema, rows_text, columns_of}
 use Rattle.kd_store.specs.Stands.{columns_in, Lists, Stands, Leaves}
-use Rattle.kd_store.specs.Statement.{AreShown, Reads}
+use Rattle.kd_store.specs.Statement.{AreShown, ReadsTable}
 use Rattle.kd_store.proofs.Texts.{select, selects, names, rows_is, rows_plain, rows_unlisted}
 use Rattle.kd_store.proofs.Tables.{one_table}
 use Rattle.kd_store.proofs.States.{IsReady, Rests, Settles, left_of, leaves_one, after_query_error, stands_rests, stands_same}
@@ -63,7 +63,7 @@ finds_table old new rows h is rise =
     record { is_open = h.is_open; ready = h.ready; schema = h.schema; holds = (h.sound, lists_read old.now is.0 rows reads is.2 rise); settled = h.settled }
 
 -- where rows are not read the connection stands as before, or has gone back to its last commit
-pub unread_rests : (old new : State) (fault : StoreFault) → IsUnread old new fault → Rests old new
+pub unread_rests : (old new : State) (fault : StoreFault) → AreUnread old new fault → Rests old new
 unread_rests old new fault (inl h) = after_query_error old new rows_text [] h.0 h.2
 unread_rests old new fault (inr h) = inl h.0
 
@@ -73,17 +73,17 @@ read_leaves old new table law clean h survives db may = elim (survives.crash cle
 
 module _ {V : Type 0} (items : V → List Row) (old new : State) (table : List Row) (law : Settles old) (after : Settles new) (clean : HasCleanDisk new) (h : Stands old table) (survives : Survives old new (λ _. ⊥)) where
   -- a reading leaves a connection at the table at which it stood
-  pub reading_moves : (r : Result V StoreFault) → Reads items old new r → Moves (Stands new) (Leaves new) (IsTrue new.is_open) table table r
+  pub reading_moves : (r : Result V StoreFault) → ReadsTable items old new r → MovesTable (Stands new) (Leaves new) (IsTrue new.is_open) table table r
   reading_moves (Ok v) is =
       let stands = stands_same old new table h (shown_same old new (items v) is) in
       record { done = stands; settled = leaves_one new table after stands; failed = tt; crash = read_leaves old new table law clean h survives }
   reading_moves (Err e) is = record { done = tt; settled = tt; failed = stands_rests old new table h (unread_rests old new e is); crash = read_leaves old new table law clean h survives }
 
   -- and gives that table
-  pub reading_finds : (r : Result V StoreFault) → Reads items old new r → IfOk r (λ v. Rise (items v)) → IfOk r (λ v. items v ≡ table)
+  pub reading_finds : (r : Result V StoreFault) → ReadsTable items old new r → IfOk r (λ v. Rise (items v)) → IfOk r (λ v. items v ≡ table)
   reading_finds (Ok v) is rise = reads_table old new (items v) table h is rise
   reading_finds (Err e) is rise = tt
 
-pub reading_told : {V : Type 0} (items : V → List Row) (old new : State) (r : Result V StoreFault) → Reads items old new r → IfErr r (IsUnread old new)
+pub reading_told : {V : Type 0} (items : V → List Row) (old new : State) (r : Result V StoreFault) → ReadsTable items old new r → IfErr r (AreUnread old new)
 reading_told items old new (Ok v) is = tt
 reading_told items old new (Err e) is = is

@@ -26,8 +26,8 @@ use Rattle.kd_keeps.specs.declared.fault.StoreFault.{StoreFault}
 use Rattle.kd_rows.specs.declared.row.Row.{Row}
 use Rattle.kd_store.specs.Lease.{rows_text}
 use Rattle.kd_keeps.specs.declared.fault.StoreFault.TheVariants as faults
-use Rattle.kd_store.specs.Fault.{IsStrange, IsUnread}
-use Rattle.kd_store.specs.Statement.{AreShown, GoesOn, Reads}
+use Rattle.kd_store.specs.Fault.{IsStrange, AreUnread}
+use Rattle.kd_store.specs.Statement.{AreShown, GoesOn, ReadsTable}
 use Rattle.kd_store.proofs.Strange.{strange_row}
 
 -- ---- whatever the schema is, the query's text is no write
@@ -143,25 +143,25 @@ module _ (old mid new : State) (same : IsUnchanged old mid) where
               (it.0, source_since it.0 it.1, subst (λ l. RefusesToRead l h.0.command it.0 full e) limit it.2, unchanged_then old mid new same it.3),
         )
 
-    pub all_since : {V : Type 0} (items : V → List Row) (r : Result V StoreFault) → Reads items mid new r → Reads items old new r
+    pub all_since : {V : Type 0} (items : V → List Row) (r : Result V StoreFault) → ReadsTable items mid new r → ReadsTable items old new r
     all_since items (Ok v) h = (h.0, shown_since h.0 h.1, h.2)
     all_since items (Err fault) (inl h) = inl (h.0, h.1, fails_to_query_since h.0 h.2)
     all_since items (Err fault) (inr h) = inr (unchanged_then old mid new same h.0, elim h.1 [ inl memory ↦ inl memory | inr strange ↦ inr (strange.0, strange.1, begins_since strange.1 strange.2, strange.3) ])
 
 -- rows that it gives first, of which nothing has changed since, and that begin no table of leases
 pub strange_since : {S : Type 0} (g : Ghosts S) (old new : Held S) (given : List Columns) → IsUnchanged (state g old) (state g new) → HasGiven g rows_text [] new given → IsStrange given
-    → IsUnread (state g old) (state g new) faults.Schema
+    → AreUnread (state g old) (state g new) faults.Schema
 strange_since g old new given same has strange = inr (same, inr (refl, given, begins_since (state g old) (state g new) (state g new) same given (given_begin g rows_text [] new given has), strange))
 
 -- the next row is not read
 pub next_unread : {S : Type 0} (g : Ghosts S) (old mid new : Held S) (given : List Columns) (fault : StoreFault) → IsUnchanged (state g old) (state g mid) → (state g old).faults ≤ (state g mid).faults
-    → (state g mid).step_limit ≡ (state g old).step_limit → GoesOn g mid new given (Err fault) → IsUnread (state g old) (state g new) fault
+    → (state g mid).step_limit ≡ (state g old).step_limit → GoesOn g mid new given (Err fault) → AreUnread (state g old) (state g new) fault
 next_unread g old mid new given fault same counts limit (inl h) = inl (h.0, h.1, fails_to_query_since (state g old) (state g mid) (state g new) same counts limit h.0 h.2)
 next_unread g old mid new given fault same counts limit (inr h) =
     let still = unchanged_then (state g old) (state g mid) (state g new) same h.3 in
     elim h.1 [
       | inl memory ↦ inr (still, inl memory)
-      | inr strange ↦ subst (IsUnread (state g old) (state g new)) (sym strange.0) (strange_since g old new (given ++ h.0 ∷ []) still h.2 (strange_row given h.0 strange.1))
+      | inr strange ↦ subst (AreUnread (state g old) (state g new)) (sym strange.0) (strange_since g old new (given ++ h.0 ∷ []) still h.2 (strange_row given h.0 strange.1))
     ]
 
 -- the answer of the query changes nothing
@@ -176,7 +176,7 @@ shown_same old new rows h =
 
 pub all_read : {S V : Type 0} (g : Ghosts S) (items : V → List Row) (r : Result V StoreFault) (old mid new : Held S) → HasBegun g rows_text [] old mid
     → Survives (state g old) (state g mid) (CommitsShowing rows_text [] (state g old))
-    → (HasGiven g rows_text [] mid [] → IsTrue (state g mid).is_open → Reads items (state g mid) (state g new) r) → Reads items (state g old) (state g new) r
+    → (HasGiven g rows_text [] mid [] → IsTrue (state g mid).is_open → ReadsTable items (state g mid) (state g new) r) → ReadsTable items (state g old) (state g new) r
 all_read g items r old mid new begun one h =
     let has = rows_begun g old mid begun in
     all_since (state g old) (state g mid) (state g new) has.1 one.counts one.limit items r (h has.0 has.1.0.is_open)

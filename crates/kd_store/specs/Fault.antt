@@ -36,8 +36,8 @@ abbrev pub reading_fault : Error → StoreFault
 reading_fault error = fault_of_cause (cause_of error)
 
 -- a statement was refused, and the fault has the cause of its error
-abbrev pub IsRefused : List ℕ → Columns → State → State → StoreFault → Type 0
-IsRefused sql params old new fault =
+abbrev pub RefusesWith : List ℕ → Columns → State → State → StoreFault → Type 0
+RefusesWith sql params old new fault =
     (error : Error) × (fault ≡ Sql (cause_of error)) × Executes sql params old new (Err error)
 
 -- the first five columns
@@ -56,8 +56,8 @@ IsStrange shown =
 
 -- rows were not read: the query was refused with the error of this fault, or nothing has changed and
 -- there was no memory for them, or those that the query shows first begin no table of leases
-abbrev pub IsUnread : State → State → StoreFault → Type 0
-IsUnread old new fault =
+abbrev pub AreUnread : State → State → StoreFault → Type 0
+AreUnread old new fault =
     ((error : Error) × (fault ≡ reading_fault error) × FailsToQuery rows_text [] old new error)
     ⊎ (IsUnchanged old new
     × ((fault ≡ Sql cause.OutOfMemory)

@@ -9,7 +9,7 @@ use Rattle.sqlite.specs.Tree.{Trees}
 use Rattle.sqlite_trees.specs.declared.store.Store.{Ghosts}
 use Rattle.kd_keeps.specs.declared.fault.StoreFault.{StoreFault}
 use Rattle.kd_rows.specs.declared.row.Row.{Row}
-use Rattle.kd_store.specs.Fault.{IsRefused, IsUnread}
+use Rattle.kd_store.specs.Fault.{RefusesWith, AreUnread}
 use Rattle.kd_store.specs.Lease.{lease_schema, make_text, no_schema}
 use Rattle.kd_store.specs.Stands.{Finds, Holds, Stands}
 
@@ -25,11 +25,11 @@ pub record OpensAt (old new : State) : Type 0 where
   pub finds : HasCleanDisk new → IsOurs old → (table : List Row) × Finds old table
 
 -- why none was opened: the table was not made, or it was and its rows were not read
-abbrev pub IsUnopened : {S : Type 0} → Ghosts S → StoreFault → Held S → Held S → Type 0
-IsUnopened {S} g fault old new =
-    IsRefused make_text [] (state g old) (state g new) fault
+abbrev pub IsNotOpened : {S : Type 0} → Ghosts S → StoreFault → Held S → Held S → Type 0
+IsNotOpened {S} g fault old new =
+    RefusesWith make_text [] (state g old) (state g new) fault
     ⊎ ((made : Held S) × (count : ℕ) × Executes make_text [] (state g old) (state g made) (Ok count)
-    × IsUnread (state g made) (state g new) fault)
+    × AreUnread (state g made) (state g new) fault)
 
 -- a table was made in a database, beside those that it has, whose rows stay
 abbrev pub AddsTable : List ℕ → Database → Database → Type 0
@@ -53,4 +53,4 @@ pub record GivesBack {S : Type 0} (g : Ghosts S) (fault : StoreFault)
       → (db : Trees) → (state g new).may_leave db → (state g old).may_leave db ⊎ Holds db table
   pub stays : HasCleanDisk (state g new) → IsTrue (state g new).is_open
       → ((state g new).now ≡ (state g old).now) ⊎ AddsOurs (state g old).now (state g new).now
-  pub why : HasCleanDisk (state g new) → IsUnopened g fault old new
+  pub why : HasCleanDisk (state g new) → IsNotOpened g fault old new

@@ -12,7 +12,7 @@ use Rattle.kd_keeps.specs.declared.fault.StoreFault.{StoreFault}
 use Rattle.kd_keeps.specs.declared.fault.StoreFault.TheVariants.{Schema, Sql}
 use Rattle.kd_rows.specs.declared.row.Row.{Row}
 use Rattle.kd_store.specs.Lease.{columns_of, rows_text}
-use Rattle.kd_store.specs.Fault.{IsLease, IsUnread, first_five, reading_fault}
+use Rattle.kd_store.specs.Fault.{IsLease, AreUnread, first_five, reading_fault}
 
 -- outside a transaction what a connection shows is committed
 abbrev pub IsSettled : State → Type 0
@@ -49,6 +49,6 @@ AreShown old new rows =
     × (map columns_of rows ≡ map first_five shown)
 
 -- the rows are the query's answer, or there is a reason why they were not read
-abbrev pub Reads : {V : Type 0} → (V → List Row) → State → State → Result V StoreFault → Type 0
-Reads items old new (Ok rows) = AreShown old new (items rows)
-Reads items old new (Err fault) = IsUnread old new fault
+abbrev pub ReadsTable : {V : Type 0} → (V → List Row) → State → State → Result V StoreFault → Type 0
+ReadsTable items old new (Ok rows) = AreShown old new (items rows)
+ReadsTable items old new (Err fault) = AreUnread old new fault

@@ -4,14 +4,14 @@ ghost use Rattle.sqlite.specs.Held.{state};
 ghost use Rattle.sqlite.specs.State.{CommitsBy, Executes, HasCleanDisk, IsLive, Survives};
 ghost use Rattle.sqlite.specs.Given.{HasGiven};
 ghost use Rattle.sqlite.specs.Order.{Row as Columns};
-ghost use Rattle.kd_keeps.specs.Moves.{Moves};
+ghost use Rattle.kd_keeps.specs.Moves.{MovesTable};
 ghost use Rattle.kd_rows.specs.Row.{IsInRange};
 ghost use Rattle.kd_rows.specs.Table.{Rise, with_row};
 ghost use Rattle.kd_rows.specs.declared.row.Row.{Row as LeaseRow};
-ghost use Rattle.kd_store.specs.Fault.{IsLease, IsRefused};
+ghost use Rattle.kd_store.specs.Fault.{IsLease, RefusesWith};
 ghost use Rattle.kd_store.specs.Lease.{columns_of, make_text, put_text, rows_text};
 ghost use Rattle.kd_store.specs.Stands.{Leaves, Stands};
-ghost use Rattle.kd_store.specs.Statement.{GoesOn, IsSettled, Reads};
+ghost use Rattle.kd_store.specs.Statement.{GoesOn, IsSettled, ReadsTable};
 
 use crate::decode::decode;
 use crate::fault::{NO_MEMORY, cause_of_error, fault_of_reading};
@@ -77,10 +77,10 @@ pub(crate) fn put<S: Alter>(conn: &mut Connection<S>, row: &Row) -> Result<(), S
     ensures clean { HasCleanDisk (state S.Store conn.new) → HasCleanDisk (state S.Store conn.old) }
     ensures put { HasCleanDisk (state S.Store conn.new) → (table : List LeaseRow)
         → Stands (state S.Store conn.old) table
-        → Moves (Stands (state S.Store conn.new)) (Leaves (state S.Store conn.new))
+        → MovesTable (Stands (state S.Store conn.new)) (Leaves (state S.Store conn.new))
         (IsTrue (state S.Store conn.new).is_open) table (with_row row.now table) result }
     ensures told { HasCleanDisk (state S.Store conn.new)
-        → IfErr result (IsRefused put_text (columns_of row.now) (state S.Store conn.old)
+        → IfErr result (RefusesWith put_text (columns_of row.now) (state S.Store conn.old)
         (state S.Store conn.new)) }
 {
     match execute_put(conn, row) {
@@ -119,7 +119,7 @@ fn gather<S: Alter>(alloc: Global, shown: &mut Rows<'_, S>) -> Result<Vec<Row>, 
     ensures read { HasCleanDisk (state S.Store shown.new.conn.now)
         → HasGiven S.Store rows_text [] shown.old.conn.now []
         → IsTrue (state S.Store shown.old.conn.now).is_open
-        → Reads (λ rows. rows.items) (state S.Store shown.old.conn.now)
+        → ReadsTable (λ rows. rows.items) (state S.Store shown.old.conn.now)
         (state S.Store shown.new.conn.now) result }
     ensures rise { IfOk result (λ rows. Rise rows.items) }
     ensures ranges { IfOk result (λ rows. All IsInRange rows.items) }
@@ -151,7 +151,7 @@ pub(crate) fn read<S: Alter>(
 ) -> Result<Vec<Row>, StoreFault>
     ensures survives { Survives (state S.Store conn.old) (state S.Store conn.new) (λ _. ⊥) }
     ensures read { HasCleanDisk (state S.Store conn.new)
-        → Reads (λ rows. rows.items) (state S.Store conn.old) (state S.Store conn.new) result }
+        → ReadsTable (λ rows. rows.items) (state S.Store conn.old) (state S.Store conn.new) result }
     ensures rise { IfOk result (λ rows. Rise rows.items) }
     ensures ranges { IfOk result (λ rows. All IsInRange rows.items) }
 {

@@ -3,12 +3,12 @@ ghost use Rattle.std.specs.List.{All};
 ghost use Rattle.std.specs.Result.{result_err};
 ghost use Rattle.sqlite.specs.Held.{state};
 ghost use Rattle.sqlite.specs.State.{HasCleanDisk};
-ghost use Rattle.kd_keeps.specs.Moves.{Moves};
+ghost use Rattle.kd_keeps.specs.Moves.{MovesTable};
 ghost use Rattle.kd_keeps.specs.Reading.{AreRead};
 ghost use Rattle.kd_rows.specs.Row.{IsInRange};
 ghost use Rattle.kd_rows.specs.Table.{Rise, with_row};
 ghost use Rattle.kd_rows.specs.declared.row.Row.{Row as LeaseRow};
-ghost use Rattle.kd_store.specs.Fault.{IsRefused, IsUnread};
+ghost use Rattle.kd_store.specs.Fault.{RefusesWith, AreUnread};
 ghost use Rattle.kd_store.specs.Lease.{columns_of, put_text};
 ghost use Rattle.kd_store.specs.Opening.{GivesBack, OpensAt};
 ghost use Rattle.kd_store.specs.Stands.{Leaves, Stands};
@@ -126,11 +126,11 @@ impl<S: Alter> Keeps for Store<S> {
             → HasCleanDisk (state S.Store self.old.conn) }
         ensures put { HasCleanDisk (state S.Store self.new.conn) → (table : List LeaseRow)
             → Stands (state S.Store self.old.conn) table
-            → Moves (Stands (state S.Store self.new.conn)) (Leaves (state S.Store self.new.conn))
+            → MovesTable (Stands (state S.Store self.new.conn)) (Leaves (state S.Store self.new.conn))
             (IsTrue (state S.Store self.new.conn).is_open) table (with_row row.now table) result }
         ensures failed { self.new.fault ≡ result_err result }
         ensures told { HasCleanDisk (state S.Store self.new.conn)
-            → IfErr result (IsRefused put_text (columns_of row.now)
+            → IfErr result (RefusesWith put_text (columns_of row.now)
             (state S.Store self.old.conn) (state S.Store self.new.conn)) }
     {
         let done = put(&mut self.conn, row);
@@ -149,11 +149,11 @@ impl<S: Alter> Keeps for Store<S> {
             → IfOk result (λ rows. rows.items ≡ table) }
         ensures stays { HasCleanDisk (state S.Store self.new.conn) → (table : List LeaseRow)
             → Stands (state S.Store self.old.conn) table
-            → Moves (Stands (state S.Store self.new.conn)) (Leaves (state S.Store self.new.conn))
+            → MovesTable (Stands (state S.Store self.new.conn)) (Leaves (state S.Store self.new.conn))
             (IsTrue (state S.Store self.new.conn).is_open) table table result }
         ensures failed { self.new.fault ≡ result_err result }
         ensures told { HasCleanDisk (state S.Store self.new.conn)
-            → IfErr result (IsUnread (state S.Store self.old.conn)
+            → IfErr result (AreUnread (state S.Store self.old.conn)
             (state S.Store self.new.conn)) }
     {
         let found = read(self.alloc, &mut self.conn);
