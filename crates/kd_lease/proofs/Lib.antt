@@ -5,4 +5,5 @@ pub mod Held
 pub mod Newest
 pub mod Pools
 pub mod Reserved
+pub mod Single
 pub mod Valuing

@@ -1,10 +1,14 @@
 -- What is true of the rules over every configuration, table, message and moment.
-use Rattle.std.specs.Prelude.{◌≡◌, ℕ, true, false, ◌⊎◌, Option, Some, None}
+use Rattle.std.specs.Prelude.{◌≡◌, ℕ, true, false, ◌⊎◌, List, Option, Some, None}
+use Rattle.kd_config.specs.Configuration.{Configuration}
 use Rattle.kd_config.specs.declared.subnet.Subnet.{Subnet}
+use Rattle.kd_options.specs.Message.{Seen}
 use Rattle.kd_options.specs.declared.kind.MessageType.{MessageType}
 use Rattle.kd_rows.specs.Table.{belongs_to, row_at}
 use Rattle.kd_rows.specs.declared.row.Row.{Row}
+use Rattle.kd_lease.specs.Change.{Changes, Decides}
 use Rattle.kd_lease.specs.Choice.{Asking, Rank, has_rank, live_row, usable}
+use Rattle.kd_lease.specs.Plan.{Outcome}
 use Rattle.kd_lease.specs.Rules.{Sets, renewable}
 use Rattle.kd_lease.specs.declared.planned.Planned.{Planned}
 use Rattle.kd_lease.specs.declared.planned.Planned.TheVariants as plans
@@ -43,3 +47,18 @@ abbrev pub HeldIsNotGiven : Type 0
 HeldIsNotGiven =
     (q : Asking) (type : MessageType) (set : Option Row) (a : ℕ) (row : Row) → IsAnothers q a row
     → Sets q type set (plans.Offer a) ⊎ Sets q type set (plans.Ack a) → ⊥
+
+-- a message whose classes have these names, at a moment and over a table, sets one row, or none, and
+-- gets one thing
+abbrev pub OneAnswer : Type 0
+OneAnswer =
+    (config : Configuration) (rows : List Row) (names : List (List ℕ)) (m : Seen) (now : ℕ)
+    (set other : Option Row) (got its : Outcome) → Decides config rows names m now set got
+    → Decides config rows names m now other its → (set ≡ other) × (got ≡ its)
+
+-- so a message at a moment changes a table to one table, and gets one thing
+abbrev pub OneChange : Type 0
+OneChange =
+    (config : Configuration) (rows : List Row) (m : Seen) (now : ℕ) (new other : List Row)
+    (got its : Outcome) → Changes config rows m now new got → Changes config rows m now other its
+    → (new ≡ other) × (got ≡ its)
