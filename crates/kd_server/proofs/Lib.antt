@@ -1,6 +1,8 @@
+pub mod Across
 pub mod Headed
 pub mod LiveLeases
 pub mod Lives
+pub mod OneStep
 pub mod Overlap
 pub mod Ruled
 pub mod Stopping

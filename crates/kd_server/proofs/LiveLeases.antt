@@ -28,10 +28,10 @@ pub record IsLease (q : Asking) (a : ℕ) (row : Row) : Type 0 where
 abbrev pub IsGivingUp : MessageType → Type 0
 IsGivingUp type = (type ≡ types.Release) ⊎ (type ≡ types.Decline)
 
--- a row may be set in place of a lease: by its client, which leases the address anew or gives it up
+-- a row may be set in place of a lease: by its client, which leases the address anew by a REQUEST, or gives it up
 pub record MayReplace (q : Asking) (type : MessageType) (row held : Row) : Type 0 where
   pub own : belongs_to q.client held ≡ true
-  pub how : (row ≡ leased_row q row.address) ⊎ (IsGivingUp type × (bound_state row.state ≡ false))
+  pub how : ((type ≡ types.Request) × (row ≡ leased_row q row.address)) ⊎ (IsGivingUp type × (bound_state row.state ≡ false))
 
 -- a row may be set whatever lease stands at its address
 abbrev pub MaySet : Asking → MessageType → Row → Type 0
@@ -50,8 +50,8 @@ none_set q type set none row e = absurd (none-some row (sym none ∙ e))
 one_set : (q : Asking) (type : MessageType) (set : Option Row) (row : Row) → set ≡ Some row → MaySet q type row → MaySetIt q type set
 one_set q type set row is may r e = let same : row ≡ r = cc in subst (MaySet q type) same may
 
-leases : (q : Asking) (type : MessageType) (a : ℕ) → ((held : Row) → IsAnothers q a held → ⊥) → MaySet q type (leased_row q a)
-leases q type a fair held l = record { own = own_if q a held l (fair held); how = inl refl }
+leases : (q : Asking) (a : ℕ) → ((held : Row) → IsAnothers q a held → ⊥) → MaySet q types.Request (leased_row q a)
+leases q a fair held l = record { own = own_if q a held l (fair held); how = inl (refl, refl) }
 
 -- an address that the client chose and leases is offered without a row
 offers : (q : Asking) (type : MessageType) (a : ℕ) → ((held : Row) → IsAnothers q a held → ⊥) → leased_to q a ≡ false → MaySet q type (offered_row q a)
@@ -131,7 +131,7 @@ module _ (no_rank : HeldHasNoRank) (not_usable : HeldIsNotUsable) where
   selected : (q : Asking) (s : Subnet) (asked : ℕ) (set : Option Row) (planned : Planned) → OnSelect q s asked set planned → MaySetIt q types.Request set
   selected q s asked set (plans.Offer a) h = absurd h
   selected q s asked set (plans.Ack a) h =
-      one_set q types.Request set (leased_row q a) h.2 (leases q types.Request a (λ held other. false≢true (sym (not_usable q s a held other).0 ∙ h.1)))
+      one_set q types.Request set (leased_row q a) h.2 (leases q a (λ held other. false≢true (sym (not_usable q s a held other).0 ∙ h.1)))
   selected q s asked set plans.Nak h = none_set q types.Request set h.1
   selected q s asked set plans.Inform h = absurd h
   selected q s asked set (plans.Quiet reason) h = absurd h
@@ -139,7 +139,7 @@ module _ (no_rank : HeldHasNoRank) (not_usable : HeldIsNotUsable) where
   renewed : (q : Asking) (s : Subnet) (asked : ℕ) (set : Option Row) (planned : Planned) → OnRenew q s asked set planned → MaySetIt q types.Request set
   renewed q s asked set (plans.Offer a) h = absurd h
   renewed q s asked set (plans.Ack a) h =
-      one_set q types.Request set (leased_row q a) h.3 (leases q types.Request a (λ held other. false≢true (sym (not_usable q s a held other).1 ∙ h.2)))
+      one_set q types.Request set (leased_row q a) h.3 (leases q a (λ held other. false≢true (sym (not_usable q s a held other).1 ∙ h.2)))
   renewed q s asked set plans.Nak h = none_set q types.Request set h.1
   renewed q s asked set plans.Inform h = absurd h
   renewed q s asked set (plans.Quiet reason) h = none_set q types.Request set h.2

@@ -1,7 +1,8 @@
 -- A life of a server is a history with stops: each call is a step, or nothing happens in it.
-use Rattle.std.proofs.Common.{◌≡◌, ◌⊎◌, inl, inr, ⊎_elim, ℕ, Bool, is_some, map, List, [], ◌∷◌, ◌++◌, Option, Some, None, Result, Ok, Err, true, false, refl, sym, ap, ◌∙◌, subst}
+use Rattle.std.proofs.Common.{◌≡◌, ◌⊎◌, inl, inr, ⊎_elim, ℕ, zero, suc, Bool, is_some, map, List, [], ◌∷◌, ◌++◌, Option, Some, None, Result, Ok, Err, true, false, refl, sym, ap, ◌∙◌, subst}
 use Rattle.std.proofs.lemmas.Bool.{false≢true}
 use Rattle.std.proofs.lemmas.Option.{none-some, same_Some}
+use Rattle.std.specs.List.{slice_get}
 use Rattle.kd_config.specs.Configuration.{Configuration}
 use Rattle.kd_event.specs.declared.event.Event.{Event}
 use Rattle.kd_event.specs.declared.event.Handled.{Handled}
@@ -19,27 +20,27 @@ use Rattle.kd_rows.specs.Table.{latest_of}
 use Rattle.kd_rows.specs.declared.row.Row.{Row}
 use Rattle.kd_keeps.specs.declared.fault.StoreFault.{StoreFault}
 use Rattle.kd_server.specs.Keeping.{IsStopped, Keeping, Refuses, Steps, StoreHolds}
-use Rattle.kd_server.specs.Lives.{AreCalls, AreSteps, Call, CallAnswers, Called, IsAnswerOf, IsDone, IsIdle, IsLeft, IsNoRun, IsRun, LivesAreHistories, Opening, OpeningsAreHistories, OpeningsEnd, ReachingIsCalls, RunsAreCalls, ServingIsCalls, calls_of}
-use Rattle.kd_server.specs.NoOverlap.{HistoryTo, LeaseHistory, LeaseStep, now_of}
+use Rattle.kd_server.specs.Lives.{AreCalls, AreSteps, Call, CallAnswers, Called, IsAnswerOf, IsDone, IsIdle, IsLeft, IsNoRun, IsRun, LivesAreHistories, LivesKeepConfigurations, Opening, OpeningsAreHistories, OpeningsEnd, ReachingIsCalls, RunsAreCalls, ServingIsCalls, calls_of}
+use Rattle.kd_server.specs.NoOverlap.{AreOfOne, HistoryTo, LeaseHistory, LeaseStep, now_of}
 use Rattle.kd_server.specs.Step.{IsAnswered, IsUnreadable}
 
 -- calls are steps from these rows to those
 record Told (config : Configuration) (ports : Ports) (rows : List Row) (calls : List Call) (last : List Row) : Type 0 where
   steps : List LeaseStep
-  history : HistoryTo config rows steps last
-  are : AreSteps ports calls steps
+  history : HistoryTo rows steps last
+  are : AreSteps config ports calls steps
 
 -- steps after steps
-followed : (config : Configuration) (rows : List Row) (es : List LeaseStep) (last : List Row) (fs : List LeaseStep)
-    → HistoryTo config rows es last → LeaseHistory config last fs → LeaseHistory config rows (es ++ fs)
-followed config rows [] last fs h k = subst (λ (r : List Row). LeaseHistory config r fs) h k
-followed config rows (e ∷ es) last fs h k = (h.0, h.1, followed config e.after es last fs h.2 k)
+followed : (rows : List Row) (es : List LeaseStep) (last : List Row) (fs : List LeaseStep)
+    → HistoryTo rows es last → LeaseHistory last fs → LeaseHistory rows (es ++ fs)
+followed rows [] last fs h k = subst (λ (r : List Row). LeaseHistory r fs) h k
+followed rows (e ∷ es) last fs h k = (h.0, h.1, followed e.after es last fs h.2 k)
 
 -- a call in which nothing happens, before other calls
-idle_first : (ports : Ports) (call : Call) (calls : List Call) (es : List LeaseStep) → IsIdle call.event call.answer
-    → AreSteps ports calls es → AreSteps ports (call ∷ calls) es
-idle_first ports call calls [] idle are = (idle, are)
-idle_first ports call calls (e ∷ es) idle are = inl (idle, are)
+idle_first : (config : Configuration) (ports : Ports) (call : Call) (calls : List Call) (es : List LeaseStep) → IsIdle call.event call.answer
+    → AreSteps config ports calls es → AreSteps config ports (call ∷ calls) es
+idle_first config ports call calls [] idle are = (idle, are)
+idle_first config ports call calls (e ∷ es) idle are = inl (idle, are)
 
 module _ {S : Type 0} (g : Ghosts S) where
   -- where the disk is clean after a call, it was before
@@ -66,12 +67,12 @@ module _ {S : Type 0} (g : Ghosts S) where
   stuck old new event (Err faults.Failed) failed a = (a.1, tt)
 
   -- so of all later calls
-  stuck_all : (ports : Ports) (calls : List Call) (old new : Keeping S) → is_some (g.fault old.store) ≡ true → Called g old calls new
-      → (new ≡ old) × AreSteps ports calls []
-  stuck_all ports [] old new failed same = (same, refl)
-  stuck_all ports (call ∷ calls) old new failed c =
+  stuck_all : (config : Configuration) (ports : Ports) (calls : List Call) (old new : Keeping S) → is_some (g.fault old.store) ≡ true → Called g old calls new
+      → (new ≡ old) × AreSteps config ports calls []
+  stuck_all config ports [] old new failed same = (same, refl)
+  stuck_all config ports (call ∷ calls) old new failed c =
       let first = stuck old c.0 call.event call.answer failed c.1 in
-      let later = stuck_all ports calls c.0 new (ap (λ (s : Keeping S). is_some (g.fault s.store)) first.0 ∙ failed) c.2 in
+      let later = stuck_all config ports calls c.0 new (ap (λ (s : Keeping S). is_some (g.fault s.store)) first.0 ∙ failed) c.2 in
       (later.0 ∙ first.0, (first.1, later.1))
 
   -- the rows that are found after calls: those of the server, or rows that a crash leaves
@@ -96,22 +97,22 @@ module _ {S : Type 0} (g : Ghosts S) where
     unread : IsUnreadable latest_of (Changes old.config) old.ports old.rows event handled.response mid.rows → Told old.config old.ports old.rows (call ∷ calls) last
     unread u = record {
       steps = later.steps;
-      history = subst (λ (r : List Row). HistoryTo old.config r later.steps last) u.table later.history;
-      are = idle_first old.ports call calls later.steps u.unreadable later.are;
+      history = subst (λ (r : List Row). HistoryTo r later.steps last) u.table later.history;
+      are = idle_first old.config old.ports call calls later.steps u.unreadable later.are;
     }
 
     read : IsAnswered latest_of (Changes old.config) old.ports old.rows event handled.now handled.response mid.rows → Told old.config old.ports old.rows (call ∷ calls) last
     read w =
-        let e : LeaseStep = record { moment = event.moment; message = w.message; before = old.rows; after = mid.rows; outcome = Some w.outcome } in
+        let e : LeaseStep = record { config = old.config; moment = event.moment; message = w.message; before = old.rows; after = mid.rows; outcome = Some w.outcome } in
         record {
           steps = e ∷ later.steps;
           history = (refl, subst (λ now. Changes old.config old.rows w.message now mid.rows w.outcome) a.step.now w.changes, later.history);
-          are = inr (record { moment = refl; reads = w.reads; answer = (a.step.now, (w.outcome, refl, w.responds)) }, later.are);
+          are = inr (record { config_is = refl; moment = refl; reads = w.reads; answer = (a.step.now, (w.outcome, refl, w.responds)) }, later.are);
         }
 
   -- a step that was stopped is the last in which something happens: it leaves the rows from before it, or those after
   stopped : (old mid new : Keeping S) (event : Event) (why : StoreFault) (stop : IsStopped g why old event mid) (calls : List Call) → new ≡ mid
-      → AreSteps old.ports calls [] → g.has_clean_disk mid.store → StoreHolds g old.store old.rows → (last : List Row) → IsFound new last
+      → AreSteps old.config old.ports calls [] → g.has_clean_disk mid.store → StoreHolds g old.store old.rows → (last : List Row) → IsFound new last
       → (call : Call) → call.event ≡ event → ((e : LeaseStep) → e.outcome ≡ None → IsAnswerOf old.ports e call.answer)
       → Told old.config old.ports old.rows (call ∷ calls) last
   stopped old mid new event why stop calls same none clean holds last found call its is = ⊎_elim unread read stop.step.done where
@@ -126,12 +127,12 @@ module _ {S : Type 0} (g : Ghosts S) where
 
     read : IsAnswered latest_of (Changes old.config) old.ports old.rows event stop.handled.now stop.handled.response stop.after → Told old.config old.ports old.rows (call ∷ calls) last
     read w =
-        let e : LeaseStep = record { moment = event.moment; message = w.message; before = old.rows; after = last; outcome = None } in
+        let e : LeaseStep = record { config = old.config; moment = event.moment; message = w.message; before = old.rows; after = last; outcome = None } in
         let changes = subst (λ now. Changes old.config old.rows w.message now stop.after w.outcome) stop.step.now w.changes in
         record {
           steps = e ∷ [];
           history = (refl, ⊎_elim inl (λ after. inr (w.outcome, subst (λ (r : List Row). Changes old.config old.rows w.message (now_of e) r w.outcome) (sym after) changes)) either, refl);
-          are = inr (record { moment = ap (λ (v : Event). v.moment) (sym its); reads = subst (λ (v : Event). Reads v.bytes w.message) (sym its) w.reads; answer = is e refl }, none);
+          are = inr (record { config_is = refl; moment = ap (λ (v : Event). v.moment) (sym its); reads = subst (λ (v : Event). Reads v.bytes w.message) (sym its) w.reads; answer = is e refl }, none);
         }
 
   -- what is told of calls after one that changed nothing
@@ -139,7 +140,7 @@ module _ {S : Type 0} (g : Ghosts S) where
       → Tells old (call ∷ calls) new
   unchanged old mid new call calls idle same tells last found =
       let later : Told old.config old.ports old.rows calls last = subst (λ (s : Keeping S). Told s.config s.ports s.rows calls last) same (tells last found) in
-      record { steps = later.steps; history = later.history; are = idle_first old.ports call calls later.steps idle later.are }
+      record { steps = later.steps; history = later.history; are = idle_first old.config old.ports call calls later.steps idle later.are }
 
   -- what is told of a call and those after it
   one : (old mid new : Keeping S) (event : Event) (answer : Result Handled ServeFault) (calls : List Call) → CallAnswers g old event answer mid
@@ -153,7 +154,7 @@ module _ {S : Type 0} (g : Ghosts S) where
       unchanged old mid new (record { event = event; answer = Err faults.Memory }) calls tt a.3
       (tells (subst (λ (s : Keeping S). StoreHolds g s.store s.rows) (sym a.3) holds))
   one old mid new event (Err (faults.Store fault)) calls a later clean holds tells = λ last found.
-      let rest = stuck_all old.ports calls mid new (ap is_some a.store.failed) later in
+      let rest = stuck_all old.config old.ports calls mid new (ap is_some a.store.failed) later in
       stopped old mid new event fault a calls rest.0 rest.1 clean holds last found (record { event = event; answer = Err (faults.Store fault) }) refl (λ e none. none)
   one old mid new event (Err faults.Failed) calls a later clean holds tells =
       unchanged old mid new (record { event = event; answer = Err faults.Failed }) calls tt a.1
@@ -174,9 +175,9 @@ module _ {S : Type 0} (g : Ghosts S) where
       one old c.0 new call.event call.answer calls c.1 c.2 mid_clean holds (all calls c.0 new c.2 clean)
 
   -- what is told of a server that was run over a store
-  ran : (config : Configuration) (o : Opening) (store left : S) → g.stands store o.rows → g.has_clean_disk left → (r : IsRun g config o.ports o.calls store left) → (last : List Row)
-      → (last ≡ r.last.rows) ⊎ IsLeft g left last → Told config o.ports o.rows o.calls last
-  ran config o store left stands clean r last found =
+  ran : (o : Opening) (store left : S) → g.stands store o.rows → g.has_clean_disk left → (r : IsRun g o.config o.ports o.calls store left) → (last : List Row)
+      → (last ≡ r.last.rows) ⊎ IsLeft g left last → Told o.config o.ports o.rows o.calls last
+  ran o store left stands clean r last found =
       let last_clean : g.has_clean_disk r.last.store = subst g.has_clean_disk r.left_is clean in
       let opened = r.opens.holds (clean_first o.calls r.first r.last r.called last_clean) o.rows stands in
       let holds : StoreHolds g r.first.store r.first.rows = subst (StoreHolds g r.first.store) (sym opened.0) opened.1 in
@@ -186,32 +187,32 @@ module _ {S : Type 0} (g : Ghosts S) where
       (subst (λ (rows : List Row). Told r.first.config r.first.ports rows o.calls last) opened.0 told))
 
   -- what is told where no server was opened
-  not_run : (config : Configuration) (o : Opening) (store left : S) → IsNoRun g config o.calls store left → (last : List Row) → last ≡ o.rows → Told config o.ports o.rows o.calls last
-  not_run config o store left n last same = subst (λ (calls : List Call). Told config o.ports o.rows calls last) (sym n.none) (record { steps = []; history = same; are = refl })
+  not_run : (o : Opening) (store left : S) → IsNoRun g o.config o.calls store left → (last : List Row) → last ≡ o.rows → Told o.config o.ports o.rows o.calls last
+  not_run o store left n last same = subst (λ (calls : List Call). Told o.config o.ports o.rows calls last) (sym n.none) (record { steps = []; history = same; are = refl })
 
   -- what is told of an opening, where a crash leaves these rows
-  told_left : (config : Configuration) (o : Opening) (store left : S) → g.stands store o.rows → g.has_clean_disk left → IsDone g config o.ports o.calls store left → (last : List Row)
-      → IsLeft g left last → Told config o.ports o.rows o.calls last
-  told_left config o store left stands clean done last found = ⊎_elim
-      (λ r. ran config o store left stands clean r last (inr found))
-      (λ n. not_run config o store left n last (⊎_elim (λ e. e) (λ e. e) (found o.rows o.rows (n.unopened.left clean o.rows stands))))
+  told_left : (o : Opening) (store left : S) → g.stands store o.rows → g.has_clean_disk left → IsDone g o.config o.ports o.calls store left → (last : List Row)
+      → IsLeft g left last → Told o.config o.ports o.rows o.calls last
+  told_left o store left stands clean done last found = ⊎_elim
+      (λ r. ran o store left stands clean r last (inr found))
+      (λ n. not_run o store left n last (⊎_elim (λ e. e) (λ e. e) (found o.rows o.rows (n.unopened.left clean o.rows stands))))
       done
 
   -- what is told of one after which no rows are found
-  told_last : (config : Configuration) (o : Opening) (store left : S) → g.stands store o.rows → g.has_clean_disk left → IsDone g config o.ports o.calls store left
-      → (last : List Row) × Told config o.ports o.rows o.calls last
-  told_last config o store left stands clean done = ⊎_elim
-      (λ r. (r.last.rows, ran config o store left stands clean r r.last.rows (inl refl)))
-      (λ n. (o.rows, not_run config o store left n o.rows refl))
+  told_last : (o : Opening) (store left : S) → g.stands store o.rows → g.has_clean_disk left → IsDone g o.config o.ports o.calls store left
+      → (last : List Row) × Told o.config o.ports o.rows o.calls last
+  told_last o store left stands clean done = ⊎_elim
+      (λ r. (r.last.rows, ran o store left stands clean r r.last.rows (inl refl)))
+      (λ n. (o.rows, not_run o store left n o.rows refl))
       done
 
   -- an opening was a history
   pub openings : OpeningsAreHistories g
-  openings config o None is =
-      let e = told_last config o is.store is.left is.stands is.clean is.done in
+  openings o None is =
+      let e = told_last o is.store is.left is.stands is.clean is.done in
       record { steps = e.1.steps; last = e.0; history = e.1.history; are = e.1.are; found = λ rows none. absurd (none-some rows none) }
-  openings config o (Some rows) is =
-      let e = told_left config o is.store is.left is.stands is.clean is.done rows (is.found rows refl) in
+  openings o (Some rows) is =
+      let e = told_left o is.store is.left is.stands is.clean is.done rows (is.found rows refl) in
       record { steps = e.steps; last = rows; history = e.history; are = e.are; found = λ other same. same_Some rows other same }
 
   -- a crash of a store leaves one of two tables
@@ -225,7 +226,7 @@ module _ {S : Type 0} (g : Ghosts S) where
   ends_one old mid new event (Err faults.MomentTooLarge) calls a later clean holds ends = ends (subst (λ (s : Keeping S). StoreHolds g s.store s.rows) (sym a.2) holds)
   ends_one old mid new event (Err faults.Memory) calls a later clean holds ends = ends (subst (λ (s : Keeping S). StoreHolds g s.store s.rows) (sym a.3) holds)
   ends_one old mid new event (Err (faults.Store fault)) calls a later clean holds ends =
-      let rest = stuck_all old.ports calls mid new (ap is_some a.store.failed) later in
+      let rest = stuck_all old.config old.ports calls mid new (ap is_some a.store.failed) later in
       subst Leaves (sym rest.0) (old.rows, a.after, a.store.left clean holds)
   ends_one old mid new event (Err faults.Failed) calls a later clean holds ends = ends (subst (λ (s : Keeping S). StoreHolds g s.store s.rows) (sym a.1) holds)
 
@@ -328,10 +329,39 @@ module _ {S : Type 0} (g : Ghosts S) where
 
 -- a life is a history with stops
 pub histories : LivesAreHistories
-histories config [] life = ([], tt, refl)
-histories config (o ∷ []) life = (life.steps ++ [], followed config o.rows life.steps life.last [] life.history tt, (life.steps, [], refl, life.are, refl))
-histories config (o ∷ p ∷ os) life =
+histories [] life = ([], tt, refl)
+histories (o ∷ []) life = (life.steps ++ [], followed o.rows life.steps life.last [] life.history tt, (life.steps, [], refl, life.are, refl))
+histories (o ∷ p ∷ os) life =
     let first = life.0 in
-    let later = histories config (p ∷ os) life.1 in
-    let history = subst (HistoryTo config o.rows first.steps) (first.found p.rows refl) first.history in
-    (first.steps ++ later.0, followed config o.rows first.steps p.rows later.0 history later.1, (first.steps, later.0, refl, first.are, later.2))
+    let later = histories (p ∷ os) life.1 in
+    let history = subst (HistoryTo o.rows first.steps) (first.found p.rows refl) first.history in
+    (first.steps ++ later.0, followed o.rows first.steps p.rows later.0 history later.1, (first.steps, later.0, refl, first.are, later.2))
+
+-- no steps are of any configuration
+none_of : (config : Configuration) (es : List LeaseStep) → es ≡ [] → AreOfOne config es
+none_of config es none k g is = let e : slice_get [] k ≡ Some g = subst (λ (l : List LeaseStep). slice_get l k ≡ Some g) none is in absurd (none-some g e)
+
+-- a step before others
+one_of : (config : Configuration) (e : LeaseStep) (es : List LeaseStep) → e.config ≡ config → AreOfOne config es → AreOfOne config (e ∷ es)
+one_of config e es first later zero g is = subst (λ (x : LeaseStep). x.config ≡ config) (same_Some e g is) first
+one_of config e es first later (suc k) g is = later k g is
+
+-- steps before others
+all_of : (config : Configuration) (es fs : List LeaseStep) → AreOfOne config es → AreOfOne config fs → AreOfOne config (es ++ fs)
+all_of config [] fs first later = later
+all_of config (e ∷ es) fs first later = one_of config e (es ++ fs) (first zero e refl) (all_of config es fs (λ k g is. first (suc k) g is) later)
+
+-- the steps of calls are of the server's configuration
+steps_of : (config : Configuration) (ports : Ports) (calls : List Call) (es : List LeaseStep) → AreSteps config ports calls es → AreOfOne config es
+steps_of config ports [] es are = none_of config es are
+steps_of config ports (call ∷ calls) [] are = none_of config [] refl
+steps_of config ports (call ∷ calls) (e ∷ es) (inl idle) = steps_of config ports calls (e ∷ es) idle.1
+steps_of config ports (call ∷ calls) (e ∷ es) (inr step) = one_of config e es step.0.config_is (steps_of config ports calls es step.1)
+
+-- and those of openings with one configuration are of that one
+pub keep : LivesKeepConfigurations
+keep config [] es with_one are = none_of config es are
+keep config (o ∷ os) es with_one are =
+    let mine = steps_of config o.ports o.calls are.0 (subst (λ (c : Configuration). AreSteps c o.ports o.calls are.0) with_one.0 are.3) in
+    let later = keep config os are.1 with_one.1 are.4 in
+    subst (AreOfOne config) (sym are.2) (all_of config are.0 are.1 mine later)

@@ -1,5 +1,5 @@
 -- A server that is opened, run, stopped and opened again on what a crash left: a life, of several
--- openings, over stores of any types. It is a history with stops.
+-- openings, each with its configuration and over a store of any type. It is a history with stops.
 use Rattle.std.specs.Prelude.{◌≡◌, ◌⊎◌, ℕ, Bool, true, List, [], ◌∷◌, ◌++◌, Result, Ok, Err, Option, Some, None}
 use Rattle.kd_config.specs.Configuration.{Configuration}
 use Rattle.kd_event.specs.declared.event.Event.{Event}
@@ -15,7 +15,7 @@ use Rattle.kd_replay.specs.declared.fault.ServeFault.{ServeFault}
 use Rattle.kd_replay.specs.declared.fault.ServeFault.TheVariants as faults
 use Rattle.kd_rows.specs.declared.row.Row.{Row}
 use Rattle.kd_server.specs.Keeping.{IsUnopened, Keeping, Opens, Refuses, Steps}
-use Rattle.kd_server.specs.NoOverlap.{HistoryTo, LeaseHistory, LeaseStep, now_of}
+use Rattle.kd_server.specs.NoOverlap.{AreOfOne, HistoryTo, LeaseHistory, LeaseStep, now_of}
 use Rattle.kd_server.specs.Step.{Responds}
 
 -- a call of `handle`: its event, and what it answered
@@ -23,9 +23,10 @@ pub record Call : Type 0 where
   pub event : Event
   pub answer : Result Handled ServeFault
 
--- one opening of a server, as it is seen from outside: the rows at which its store stood, the ports,
--- and the calls of `handle`
+-- one opening of a server, as it is seen from outside: its configuration, the rows at which its
+-- store stood, the ports, and the calls of `handle`
 pub record Opening : Type 0 where
+  pub config : Configuration
   pub rows : List Row
   pub ports : Ports
   pub calls : List Call
@@ -71,15 +72,14 @@ module _ {S : Type 0} (g : Ghosts S) where
   IsLeft store rows =
       (before after : List Row) → g.leaves store before after → (rows ≡ before) ⊎ (rows ≡ after)
 
-  -- an opening with this configuration over such a store, and the rows that are found after it, if
-  -- any are: the store stood at its rows and has met no disk that does not do what it says, and the
-  -- rows are some that a crash of it leaves
-  pub record IsOpening (config : Configuration) (o : Opening)
-      (next : Option (List Row)) : Type 0 where
+  -- an opening over such a store, and the rows that are found after it, if any are: the store stood
+  -- at its rows and has met no disk that does not do what it says, and the rows are some that a crash
+  -- of it leaves
+  pub record IsOpening (o : Opening) (next : Option (List Row)) : Type 0 where
     pub store : S
     pub left : S
     pub stands : g.stands store o.rows
-    pub done : IsDone config o.ports o.calls store left
+    pub done : IsDone o.config o.ports o.calls store left
     pub clean : g.has_clean_disk left
     pub found : (rows : List Row) → next ≡ Some rows → IsLeft left rows
 
@@ -115,36 +115,37 @@ IsAnswerOf ports e (Ok handled) =
 IsAnswerOf ports e (Err (faults.Store fault)) = e.outcome ≡ None
 IsAnswerOf ports e (Err fault) = ⊥
 
--- a step is a call: its moment is the event's, its message is what the datagram reads as, and it
--- gets what was answered
-pub record IsStepOf (ports : Ports) (call : Call) (e : LeaseStep) : Type 0 where
+-- a step is a call: its configuration is the server's, its moment is the event's, its message is what
+-- the datagram reads as, and it gets what was answered
+pub record IsStepOf (config : Configuration) (ports : Ports) (call : Call)
+    (e : LeaseStep) : Type 0 where
+  pub config_is : e.config ≡ config
   pub moment : e.moment ≡ call.event.moment
   pub reads : Reads call.event.bytes e.message
   pub answer : IsAnswerOf ports e call.answer
 
 -- the steps are the calls in which something happens, in their order
-abbrev pub AreSteps : Ports → List Call → List LeaseStep → Type 0
-AreSteps ports [] es = es ≡ []
-AreSteps ports (call ∷ calls) [] = IsIdle call.event call.answer × AreSteps ports calls []
-AreSteps ports (call ∷ calls) (e ∷ es) =
-    (IsIdle call.event call.answer × AreSteps ports calls (e ∷ es))
-    ⊎ (IsStepOf ports call e × AreSteps ports calls es)
+abbrev pub AreSteps : Configuration → Ports → List Call → List LeaseStep → Type 0
+AreSteps config ports [] es = es ≡ []
+AreSteps config ports (call ∷ calls) [] =
+    IsIdle call.event call.answer × AreSteps config ports calls []
+AreSteps config ports (call ∷ calls) (e ∷ es) =
+    (IsIdle call.event call.answer × AreSteps config ports calls (e ∷ es))
+    ⊎ (IsStepOf config ports call e × AreSteps config ports calls es)
 
 -- what an opening was, whatever its store: steps from its rows, which are its calls, to rows that
 -- are those found after it, if any are
-pub record WasHistory (config : Configuration) (o : Opening)
-    (next : Option (List Row)) : Type 0 where
+pub record WasHistory (o : Opening) (next : Option (List Row)) : Type 0 where
   pub steps : List LeaseStep
   pub last : List Row
-  pub history : HistoryTo config o.rows steps last
-  pub are : AreSteps o.ports o.calls steps
+  pub history : HistoryTo o.rows steps last
+  pub are : AreSteps o.config o.ports o.calls steps
   pub found : (rows : List Row) → next ≡ Some rows → last ≡ rows
 
 -- an opening over any store that keeps leases is a history to the rows that are found after it
 abbrev pub OpeningsAreHistories : {S : Type 0} → Ghosts S → Type 0
 OpeningsAreHistories {S} g =
-    (config : Configuration) (o : Opening) (next : Option (List Row)) → IsOpening g config o next
-    → WasHistory config o next
+    (o : Opening) (next : Option (List Row)) → IsOpening g o next → WasHistory o next
 
 -- where the disk is clean after an opening it was before, and of a store that stood at a table a
 -- crash leaves one of two
@@ -155,18 +156,19 @@ OpeningsEnd {S} g =
     → g.has_clean_disk store × ((table : List Row) → g.stands store table
     → (before : List Row) × (after : List Row) × g.leaves left before after)
 
--- openings one after another, each a history to the rows of the next, over stores of any types
-abbrev pub Life : Configuration → List Opening → Type 0
-Life config [] = Unit {0}
-Life config (o ∷ []) = WasHistory config o None
-Life config (o ∷ p ∷ os) = WasHistory config o (Some p.rows) × Life config (p ∷ os)
+-- openings one after another, each a history to the rows of the next, with any configurations and
+-- over stores of any types
+abbrev pub Life : List Opening → Type 0
+Life [] = Unit {0}
+Life (o ∷ []) = WasHistory o None
+Life (o ∷ p ∷ os) = WasHistory o (Some p.rows) × Life (p ∷ os)
 
 -- the steps are the calls of openings in which something happens, in their order
 abbrev pub AreStepsOfAll : List Opening → List LeaseStep → Type 0
 AreStepsOfAll [] es = es ≡ []
 AreStepsOfAll (o ∷ os) es =
     (mine : List LeaseStep) × (later : List LeaseStep) × (es ≡ mine ++ later)
-    × AreSteps o.ports o.calls mine
+    × AreSteps o.config o.ports o.calls mine
     × AreStepsOfAll os later
 
 -- the rows at which a life begins; without an opening there are none
@@ -177,8 +179,19 @@ first_rows (o ∷ os) = o.rows
 -- every life is a history with stops: of steps, each of which is a call of `handle`
 abbrev pub LivesAreHistories : Type 0
 LivesAreHistories =
-    (config : Configuration) (life : List Opening) → Life config life
-    → (es : List LeaseStep) × LeaseHistory config (first_rows life) es × AreStepsOfAll life es
+    (life : List Opening) → Life life
+    → (es : List LeaseStep) × LeaseHistory (first_rows life) es × AreStepsOfAll life es
+
+-- openings with one configuration
+abbrev pub AreOpenedWith : Configuration → List Opening → Type 0
+AreOpenedWith config [] = Unit {0}
+AreOpenedWith config (o ∷ os) = (o.config ≡ config) × AreOpenedWith config os
+
+-- the steps of openings with one configuration are steps of that configuration
+abbrev pub LivesKeepConfigurations : Type 0
+LivesKeepConfigurations =
+    (config : Configuration) (life : List Opening) (es : List LeaseStep)
+    → AreOpenedWith config life → AreStepsOfAll life es → AreOfOne config es
 
 -- what a server reaches by events is calls of `handle`
 abbrev pub ReachingIsCalls : {S : Type 0} → Ghosts S → Type 0

@@ -1,5 +1,5 @@
 -- While an address is leased to a client it is given to no other (RFC 2131 section 1.6), over
--- histories of one configuration in which a step may be stopped.
+-- histories in which the configuration may change and a step may be stopped.
 use Rattle.std.specs.Prelude.{◌≡◌, ◌≢◌, ℕ, ◌+◌, ◌<◌, ◌≤◌, max, ◌⊎◌, List, [], ◌∷◌, Option, Some, None}
 use Rattle.std.specs.List.{slice_get}
 use Rattle.kd_config.specs.Configuration.{Configuration}
@@ -13,10 +13,12 @@ use Rattle.kd_options.specs.Message.{Seen}
 use Rattle.kd_options.specs.declared.kind.MessageType.TheVariants as types
 use Rattle.kd_rows.specs.Table.{latest_of, row_at}
 use Rattle.kd_rows.specs.declared.row.Row.{Row}
+use Rattle.kd_rows.specs.declared.row.State.TheVariants as states
 
--- one step of a history: a message at a moment, the rows before it and after it, and what it gets;
--- nothing where the step was stopped
+-- one step of a history: the configuration that counts in it, a message at a moment, the rows before
+-- it and after it, and what it gets; nothing where the step was stopped
 pub record LeaseStep : Type 0 where
+  pub config : Configuration
   pub moment : ℕ
   pub message : Seen
   pub before : List Row
@@ -27,27 +29,35 @@ pub record LeaseStep : Type 0 where
 abbrev pub now_of : LeaseStep → ℕ
 now_of e = max e.moment (latest_of e.before)
 
+-- the lifetime of the leases that a step gives
+abbrev pub lifetime_of : LeaseStep → ℕ
+lifetime_of e = e.config.times.lifetime
+
+-- the end of such a lease, which its client is told
+abbrev pub end_of : LeaseStep → ℕ
+end_of e = now_of e + lifetime_of e
+
 -- by the rules the message changes the rows so, and gets this
-abbrev pub ChangesTo : Configuration → LeaseStep → Outcome → Type 0
-ChangesTo config e outcome = Changes config e.before e.message (now_of e) e.after outcome
+abbrev pub ChangesTo : LeaseStep → Outcome → Type 0
+ChangesTo e outcome = Changes e.config e.before e.message (now_of e) e.after outcome
 
 -- what may happen in a step: the rules' change, with what the message gets; where the step was
 -- stopped there is no reply, and the rows are those from before it or those after the change
-abbrev pub Happens : Configuration → LeaseStep → Option Outcome → Type 0
-Happens config e (Some outcome) = ChangesTo config e outcome
-Happens config e None = (e.after ≡ e.before) ⊎ ((outcome : Outcome) × ChangesTo config e outcome)
+abbrev pub Happens : LeaseStep → Option Outcome → Type 0
+Happens e (Some outcome) = ChangesTo e outcome
+Happens e None = (e.after ≡ e.before) ⊎ ((outcome : Outcome) × ChangesTo e outcome)
 
 -- steps from these rows, each from the rows that the one before it left
-abbrev pub LeaseHistory : Configuration → List Row → List LeaseStep → Type 0
-LeaseHistory config rows [] = Unit {0}
-LeaseHistory config rows (e ∷ es) =
-    (e.before ≡ rows) × Happens config e e.outcome × LeaseHistory config e.after es
+abbrev pub LeaseHistory : List Row → List LeaseStep → Type 0
+LeaseHistory rows [] = Unit {0}
+LeaseHistory rows (e ∷ es) =
+    (e.before ≡ rows) × Happens e e.outcome × LeaseHistory e.after es
 
 -- such steps, after which these rows are left
-abbrev pub HistoryTo : Configuration → List Row → List LeaseStep → List Row → Type 0
-HistoryTo config rows [] last = last ≡ rows
-HistoryTo config rows (e ∷ es) last =
-    (e.before ≡ rows) × Happens config e e.outcome × HistoryTo config e.after es last
+abbrev pub HistoryTo : List Row → List LeaseStep → List Row → Type 0
+HistoryTo rows [] last = last ≡ rows
+HistoryTo rows (e ∷ es) last =
+    (e.before ≡ rows) × Happens e e.outcome × HistoryTo e.after es last
 
 -- a step leases an address to a client: the ACK of a REQUEST
 pub record Leases (e : LeaseStep) (client : List ℕ) (a : ℕ) : Type 0 where
@@ -82,12 +92,82 @@ pub record GivesUpBetween (es : List LeaseStep) (i j : ℕ) (client : List ℕ) 
   pub there : slice_get es place ≡ Some step
   pub gives_up : GivesUp step client a
 
--- whatever the table at first: where a step leased an address to a client, and a later one gives it
--- to another, the lifetime has passed since, or between them the client gave the address up
+-- the client asks in a step for an address that it leases, and the row of the address is that of a
+-- new lease then, whether the step was stopped or not
+pub record Renews (e : LeaseStep) (client : List ℕ) (a : ℕ) : Type 0 where
+  pub by : client_identity e.message ≡ Some client
+  pub request : kind_of e.message ≡ type_number types.Request
+  pub row : row_at e.after a ≡ Some (record {
+    address = a;
+    client = client;
+    state = states.Bound;
+    changed = now_of e;
+    ends = end_of e;
+  })
+
+-- between two places of a history the client of a lease renews it under a shorter lifetime than that
+-- of the lease, and the new lease has ended by a moment
+pub record ShortenedBetween (es : List LeaseStep) (i j : ℕ) (e : LeaseStep) (client : List ℕ)
+    (a moment : ℕ) : Type 0 where
+  pub place : ℕ
+  pub after : i < place
+  pub before : place < j
+  pub step : LeaseStep
+  pub there : slice_get es place ≡ Some step
+  pub renews : Renews step client a
+  pub later : now_of e ≤ now_of step
+  pub shorter : lifetime_of step < lifetime_of e
+  pub past : end_of step ≤ moment
+
+-- a step leases an address to a client, and a later one gives it to another
+pub record Regives (es : List LeaseStep) (i j : ℕ) (e f : LeaseStep) (client : List ℕ)
+    (a : ℕ) : Type 0 where
+  pub before : i < j
+  pub first : slice_get es i ≡ Some e
+  pub second : slice_get es j ≡ Some f
+  pub leases : Leases e client a
+  pub other : List ℕ
+  pub gives : GivesTo f other a
+  pub apart : other ≢ client
+
+-- whatever the table at first, and whatever the configurations of the steps: where a step leased an
+-- address to a client, and a later one gives it to another, the end that the client was told has
+-- passed; or between them the client gave the address up, or renewed its lease under a shorter
+-- lifetime, whose end has passed
+abbrev pub NoOverlapAcross : Type 0
+NoOverlapAcross =
+    (rows : List Row) (es : List LeaseStep) → LeaseHistory rows es
+    → (i j : ℕ) (e f : LeaseStep) (client : List ℕ) (a : ℕ) → Regives es i j e f client a
+    → (end_of e ≤ now_of f)
+    ⊎ (GivesUpBetween es i j client a ⊎ ShortenedBetween es i j e client a (now_of f))
+
+-- where no step between them has a shorter lifetime, the end has passed or the address was given up
+abbrev pub NoOverlapWhereNoneIsShorter : Type 0
+NoOverlapWhereNoneIsShorter =
+    (rows : List Row) (es : List LeaseStep) → LeaseHistory rows es
+    → (i j : ℕ) (e f : LeaseStep) (client : List ℕ) (a : ℕ)
+    → ((k : ℕ) (g : LeaseStep) → i < k → k < j → slice_get es k ≡ Some g
+    → lifetime_of e ≤ lifetime_of g)
+    → Regives es i j e f client a → (end_of e ≤ now_of f) ⊎ GivesUpBetween es i j client a
+
+-- the shortest lifetime has passed in any case, or the address was given up
+abbrev pub NoOverlapForShortest : Type 0
+NoOverlapForShortest =
+    (rows : List Row) (es : List LeaseStep) → LeaseHistory rows es
+    → (i j : ℕ) (e f : LeaseStep) (client : List ℕ) (a shortest : ℕ)
+    → ((k : ℕ) (g : LeaseStep) → i ≤ k → k < j → slice_get es k ≡ Some g
+    → shortest ≤ lifetime_of g)
+    → Regives es i j e f client a
+    → (now_of e + shortest ≤ now_of f) ⊎ GivesUpBetween es i j client a
+
+-- steps of one configuration
+abbrev pub AreOfOne : Configuration → List LeaseStep → Type 0
+AreOfOne config es = (k : ℕ) (g : LeaseStep) → slice_get es k ≡ Some g → g.config ≡ config
+
+-- with one configuration its lifetime has passed, or the address was given up
 abbrev pub NoOverlap : Type 0
 NoOverlap =
-    (config : Configuration) (rows : List Row) (es : List LeaseStep) → LeaseHistory config rows es
-    → (i j : ℕ) (e f : LeaseStep) (client other : List ℕ) (a : ℕ) → i < j → slice_get es i ≡ Some e
-    → slice_get es j ≡ Some f
-    → Leases e client a → GivesTo f other a → other ≢ client
+    (config : Configuration) (rows : List Row) (es : List LeaseStep) → LeaseHistory rows es
+    → AreOfOne config es
+    → (i j : ℕ) (e f : LeaseStep) (client : List ℕ) (a : ℕ) → Regives es i j e f client a
     → (now_of e + config.times.lifetime ≤ now_of f) ⊎ GivesUpBetween es i j client a

@@ -1,16 +1,19 @@
 //! What is true of every history, whatever the program does: each law is the contract of a function
 //! that does nothing but name the laws it rests on.
-ghost use Rattle.kd_server.specs.Lives.{LivesAreHistories, OpeningsAreHistories, OpeningsEnd, ReachingIsCalls, RunsAreCalls, ServingIsCalls};
-ghost use Rattle.kd_server.specs.NoOverlap.{NoOverlap};
+ghost use Rattle.kd_server.specs.Lives.{LivesAreHistories, LivesKeepConfigurations, OpeningsAreHistories, OpeningsEnd, ReachingIsCalls, RunsAreCalls, ServingIsCalls};
+ghost use Rattle.kd_server.specs.OneStep.{OneHistory, OneStep};
+ghost use Rattle.kd_server.specs.NoOverlap.{NoOverlap, NoOverlapAcross, NoOverlapForShortest, NoOverlapWhereNoneIsShorter};
 
 use kd_keeps::Keeps;
 
-/// No address is leased to one client and given to another at once. Where an ACK of a REQUEST
-/// leased an address, each OFFER or ACK of it to another client comes at least the lifetime later,
-/// or after a RELEASE or DECLINE of the first client that changed the address's row. This holds of
-/// every history of one configuration, from any table, stopped events included.
-pub fn no_overlap()
-    ensures { NoOverlap }
+/// No address is leased to one client and given to another at once, whatever the configurations.
+/// Where an ACK of a REQUEST leased an address, each OFFER or ACK of it to another client comes no
+/// earlier than the end that the first client was told; or after its RELEASE or DECLINE, which
+/// changed the address's row; or after the end of a lease under a shorter lifetime, for which it
+/// asked itself, answered or not. This holds of every history, from any table, stopped events
+/// included.
+pub fn no_overlap_across()
+    ensures { NoOverlapAcross }
 {
     kd_rows::laws::get_of_set();
     kd_rows::laws::latest_of_set();
@@ -18,6 +21,30 @@ pub fn no_overlap()
     kd_lease::laws::held_has_no_rank();
     kd_lease::laws::held_is_not_usable();
     kd_lease::laws::held_is_not_given();
+}
+
+/// Where no later lifetime is shorter than that of the lease, the other client comes no earlier
+/// than its end, or after a RELEASE or DECLINE.
+pub fn no_overlap_where_none_is_shorter()
+    ensures { NoOverlapWhereNoneIsShorter }
+{
+    no_overlap_across();
+}
+
+/// Whatever the lifetimes, the shortest of them passes before the other client comes, or a RELEASE
+/// or DECLINE came before.
+pub fn no_overlap_for_shortest()
+    ensures { NoOverlapForShortest }
+{
+    no_overlap_across();
+}
+
+/// With one configuration each OFFER or ACK of a leased address to another client comes at least
+/// the lifetime later, or after a RELEASE or DECLINE of the first client.
+pub fn no_overlap()
+    ensures { NoOverlap }
+{
+    no_overlap_across();
 }
 
 /// An opening of a server over a store that stands at a table, its calls, and the store as it was
@@ -34,10 +61,17 @@ pub fn openings_end<S: Keeps>()
 {}
 
 /// Openings one after another, each of them at the rows that are found after the one before it,
-/// over stores of whatever types, are one history with stops, of which `no_overlap` speaks: each
-/// step is a call of `Server::handle`, and where the store failed the step was stopped.
+/// with whatever configurations and over stores of whatever types, are one history with stops, of
+/// which `no_overlap_across` speaks: each step is a call of `Server::handle` under the
+/// configuration of its opening, and where the store failed the step was stopped.
 pub fn lives_are_histories()
     ensures { LivesAreHistories }
+{}
+
+/// Where the openings have one configuration, the steps are of that one, and `no_overlap` speaks of
+/// them.
+pub fn lives_keep_configurations()
+    ensures { LivesKeepConfigurations }
 {}
 
 /// A run of events is calls of `Server::handle`, one after another up to the first fault.
@@ -54,3 +88,19 @@ pub fn replaying_is_calls<S: Keeps>()
 pub fn serving_is_calls<S: Keeps>()
     ensures { ServingIsCalls S.Keeps }
 {}
+
+/// A history is a function of its events: over a table an event is answered in one way, and leaves
+/// one table.
+pub fn one_step()
+    ensures { OneStep }
+{
+    kd_lease::laws::one_change();
+}
+
+/// So a replay cannot differ from what was served: two servers of one configuration, over the same
+/// rows and stores of whatever types, answer the same events alike, byte for byte.
+pub fn one_history<S: Keeps, T: Keeps>()
+    ensures { OneHistory S.Keeps T.Keeps }
+{
+    one_step();
+}

@@ -4,7 +4,7 @@
 //! over the configuration that the server goes by and the rows that it stands at, which its store
 //! keeps (`specs/Keeping.antt`), by the rules of `kd_lease`; `run` and `replay` are those of
 //! `kd_replay`, over this server. While an address is leased to a client, no history gives it to
-//! another (`specs/NoOverlap.antt`, `laws::no_overlap`).
+//! another, whatever its configurations (`specs/NoOverlap.antt`, `laws::no_overlap_across`).
 #![tactic(auto)]
 
 pub mod laws;
