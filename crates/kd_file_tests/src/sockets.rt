@@ -134,16 +134,28 @@ fn socket_of<H: Host>(host: &mut H, listening: Listening) -> Result<H::Socket, E
     host.socket(listening)
 }
 
-// The socket of this machine. What moves a machine is proved against all parts of a connection,
+// The socket of this machine, to which one may have been handed. What moves a machine is proved against all parts of a connection,
 // which takes the prover a minute: so this alone does.
 fn machine_socket<F: Start>(
     rt: &HostRuntime,
     start: F,
+    handed: Option<Result<UdpSocket, EndFailed>>,
     listening: Listening,
 ) -> Result<Socket, EndFailed>
     ensures { IfOk result (λ link. link.failed ≡ false) }
 {
-    socket_of(&mut Machine::of(rt, start), listening)
+    socket_of(&mut Machine::of(rt, start, handed), listening)
+}
+
+// A socket of loopback whose replies go to their senders.
+fn mirrored(port: u16, client_port: u16) -> Listening {
+    Listening {
+        bind: LOOPBACK,
+        port,
+        client_port,
+        broadcast_as: Some(LOOPBACK),
+        mirror: true,
+    }
 }
 
 // A mirrored reply goes to its sender, and not where it says.
@@ -152,16 +164,10 @@ fn a_mirrored_reply_goes_to_its_sender_through_the_machine(rt: HostRuntime) -> R
     let (client, client_port) = bound(&rt, LOOPBACK)?;
     let (sender, _) = bound(&rt, LOOPBACK)?;
     let port = free_port(&rt)?;
-    let listening = Listening {
-        bind: LOOPBACK,
-        port,
-        client_port,
-        broadcast_as: Some(LOOPBACK),
-        mirror: true,
-    };
-    let mut link = machine_socket(&rt, Unknown, listening)?;
+    let listening = mirrored(port, client_port);
+    let mut link = machine_socket(&rt, Unknown, None, listening)?;
     assert!(rt; is_taken(&rt, port));
-    assert!(rt; machine_socket(&rt, Unknown, listening).is_err());
+    assert!(rt; machine_socket(&rt, Unknown, None, listening).is_err());
     send_discover(rt.alloc(), &sender, port)?;
     let ports = Ports {
         server: port,
@@ -170,5 +176,35 @@ fn a_mirrored_reply_goes_to_its_sender_through_the_machine(rt: HostRuntime) -> R
     serve_one(&rt, &mut link, ports)?;
     assert!(rt; received(&sender)? == (OFFERED, port));
     assert!(rt; is_left_out(&client)?);
+    Ok(())
+}
+
+// A datagram that came before the server began is in the socket that is handed to it, and is
+// answered.
+#[test]
+fn what_waits_in_a_socket_that_is_handed_over_is_answered(rt: HostRuntime) -> Result<(), Fail> {
+    let (socket, port) = bound(&rt, LOOPBACK)?;
+    let (sender, client_port) = bound(&rt, LOOPBACK)?;
+    send_discover(rt.alloc(), &sender, port)?;
+    let listening = mirrored(port, client_port);
+    let mut link = machine_socket(&rt, Unknown, Some(Ok(socket)), listening)?;
+    let ports = Ports {
+        server: port,
+        client: client_port,
+    };
+    serve_one(&rt, &mut link, ports)?;
+    assert!(rt; received(&sender)? == (OFFERED, port));
+    Ok(())
+}
+
+// A socket that is handed over is refused where the words name another port, and so is what is no
+// socket.
+#[test]
+fn another_socket_than_the_words_name_is_refused(rt: HostRuntime) -> Result<(), Fail> {
+    let (socket, _) = bound(&rt, LOOPBACK)?;
+    let listening = mirrored(free_port(&rt)?, 68);
+    assert!(rt; machine_socket(&rt, Unknown, Some(Ok(socket)), listening).is_err());
+    assert!(rt; machine_socket(&rt, Unknown, Some(Err(EndFailed)), listening).is_err());
+    assert!(rt; machine_socket(&rt, Unknown, None, listening).is_ok());
     Ok(())
 }

@@ -42,7 +42,7 @@ module _ {D E : Type 0} {d : Disks D} {e : Disks E} (k : Ghosts (Kept (FileStore
         let there = again left end.0 end.1 end.2 image crash next is_in next_clean in (
           there.0,
           there.1,
-          histories config (opening rows ports calls) (Some there.0) (record {
+          histories (opening config rows ports calls) (Some there.0) (record {
             store = store;
             left = left;
             stands = stands;
@@ -53,14 +53,14 @@ module _ {D E : Type 0} {d : Disks D} {e : Disks E} (k : Ghosts (Kept (FileStore
         )
 
     pub goes_on : OpeningsAreHistories m → OpeningsEnd m → IsOneLife k m
-    goes_on later later_ends config rows ports calls store left stands done clean image crash ports' calls' next last is_in next_done last_clean =
-        let next_clean = (later_ends config ports' calls' next last next_done last_clean).0 in
+    goes_on later later_ends config rows ports calls store left stands done clean image crash config' ports' calls' next last is_in next_done last_clean =
+        let next_clean = (later_ends config' ports' calls' next last next_done last_clean).0 in
         let one = leads config rows ports calls store left stands done clean image crash next is_in next_clean in (
           one.0,
           one.1,
           (
             one.2,
-            later config (opening one.0 ports' calls') None (record {
+            later (opening config' one.0 ports' calls') None (record {
               store = next;
               left = last;
               stands = one.1;
@@ -78,7 +78,7 @@ module _ {D E : Type 0} {d : Disks D} {e : Disks E} (k : Ghosts (Kept (FileStore
         let first_clean = (ends s.config (ports_asked work) done.0 s.store s.back done.1 clean).0 in
         let stands = held image s.store s.held first_clean db table database holds in (
           done.0,
-          histories s.config (opening table (ports_asked work) done.0) None (record {
+          histories (opening s.config table (ports_asked work) done.0) None (record {
             store = s.store;
             left = s.back;
             stands = stands;

@@ -22,25 +22,27 @@ use Rattle.kd_server.specs.Lives.{Call, IsDone, Life, Opening, WasHistory}
 use Rattle.kd_store.specs.Kept.{Kept}
 use Rattle.kd_store.specs.Stands.{Holds}
 
--- an opening at rows, with ports and calls
-abbrev pub opening : List Row → Ports → List Call → Opening
-opening rows ports calls = record { rows = rows; ports = ports; calls = calls }
+-- an opening with a configuration, at rows, with ports and calls
+abbrev pub opening : Configuration → List Row → Ports → List Call → Opening
+opening config rows ports calls =
+    record { config = config; rows = rows; ports = ports; calls = calls }
 
 -- over stores in files of two types
 module _ {D E : Type 0} {d : Disks D} {e : Disks E} (k : Ghosts (Kept (FileStore D d)))
     (m : Ghosts (Kept (FileStore E e))) where
-  -- a server was opened over files at these rows, and another on what a crash left of them: the
-  -- second stands at some rows, and the two openings are one life
+  -- a server was opened over files at these rows, and another, with a configuration of its own, on
+  -- what a crash left of them: the second stands at some rows, and the two openings are one life
   abbrev pub IsOneLife : Type 0
   IsOneLife =
       (config : Configuration) (rows : List Row) (ports : Ports) (calls : List Call)
       (store left : Kept (FileStore D d)) → k.stands store rows
       → IsDone k config ports calls store left → k.has_clean_disk left
       → (image : Image) → IsCrashOf left.conn image
-      → (ports' : Ports) (calls' : List Call) (again last : Kept (FileStore E e))
-      → IsStoreIn image again → IsDone m config ports' calls' again last → m.has_clean_disk last
+      → (config' : Configuration) (ports' : Ports) (calls' : List Call)
+      (again last : Kept (FileStore E e)) → IsStoreIn image again
+      → IsDone m config' ports' calls' again last → m.has_clean_disk last
       → (found : List Row) × m.stands again found
-      × Life config (opening rows ports calls ∷ opening found ports' calls' ∷ [])
+      × Life (opening config rows ports calls ∷ opening config' found ports' calls' ∷ [])
 
   -- a store in files that are what a crash left of another stands at rows to which the history of an
   -- opening over that one leads
@@ -49,7 +51,7 @@ module _ {D E : Type 0} {d : Disks D} {e : Disks E} (k : Ghosts (Kept (FileStore
       (image : Image) → IsCrashOf left.conn image → (again : Kept (FileStore E e))
       → IsStoreIn image again → m.has_clean_disk again
       → (found : List Row) × m.stands again found
-      × WasHistory config (opening rows ports calls) (Some found)
+      × WasHistory (opening config rows ports calls) (Some found)
 
   -- a command over files, whose disk was clean to its end: where the files held a table, what was
   -- done is a history from it, and leads on to where a server stands that is opened on what a crash
@@ -63,5 +65,5 @@ module _ {D E : Type 0} {d : Disks D} {e : Disks E} (k : Ghosts (Kept (FileStore
       → k.has_clean_disk s.back → (db : Trees) (table : List Row) → HoldsDatabase image db
       → Holds db table
       → (calls : List Call)
-      × WasHistory s.config (opening table (ports_asked work) calls) None
+      × WasHistory (opening s.config table (ports_asked work) calls) None
       × LeadsOn s.config table (ports_asked work) calls s.back

@@ -7,29 +7,37 @@ use kd_program::Host;
 use kd_replay::EndFailed;
 use kd_store::Store;
 use sqlite::{FileFrom, FileStore, Start};
+use std::net::UdpSocket;
 
 /// What lies below a store of leases in files that held what a start stands for.
 pub type Below<F> = FileStore<FileFrom<F>>;
 
 /// This machine, as the host of the program. Its start stands for what the files of one store hold,
-/// and serves for one opening.
+/// and serves for one opening. A socket that was handed to the process serves for one link.
 #[derive(Drop)]
 pub struct Machine<'a, F: Start, L: Drop> {
     pub(crate) rt: &'a HostRuntime,
     start: Option<F>,
+    handed: Option<Result<UdpSocket, EndFailed>>,
     left: Option<L>,
 }
 
 impl<'a, F: Start> Machine<'a, F, Below<F>> {
     ghost use Rattle.std.specs.Prelude.{◌≡◌, None};
 
-    /// The machine of a runtime, below whose store nothing has been left yet.
-    pub fn of(rt: &'a HostRuntime, start: F) -> Machine<'a, F, Below<F>>
+    /// The machine of a runtime, with the socket that was handed to the process, if one was, below
+    /// whose store nothing has been left yet.
+    pub fn of(
+        rt: &'a HostRuntime,
+        start: F,
+        handed: Option<Result<UdpSocket, EndFailed>>,
+    ) -> Machine<'a, F, Below<F>>
         ensures { result.left ≡ None }
     {
         Machine {
             rt,
             start: Some(start),
+            handed,
             left: None,
         }
     }
@@ -102,7 +110,12 @@ impl<'a, F: Start> Host for Machine<'a, F, Below<F>> {
             mirror: listening.mirror,
             broadcast_as: listening.broadcast_as,
         };
-        Socket::bind(self.rt, listening.bind, listening.port, sending)
+        let (address, port) = (listening.bind, listening.port);
+        match self.handed.take() {
+            Some(Ok(socket)) => Socket::handed(socket, address, port, sending),
+            Some(Err(failed)) => Err(failed),
+            None => Socket::bind(self.rt, address, port, sending),
+        }
     }
 
     fn clock(&mut self) -> HostClock<'a> {

@@ -7,7 +7,7 @@ ghost use Rattle.kd_host.specs.OnFiles.{IsStatusOf, IsStatusOnFiles, RunsOnFiles
 
 use crate::machine::{Below, Machine};
 use kd_commands::LineFault;
-use kd_io::{Input, Output, Socket};
+use kd_io::{Input, Output, Socket, inherited};
 use kd_keeps::{Keeps, Volatile};
 use kd_program::{Ends, Host, refuse_words, run};
 use kd_replay::{Link, Sink, Source};
@@ -40,19 +40,20 @@ pub fn run_on<'a, F: Start, R: Source, O: Sink, E: Sink>(
 }
 
 /// Carries out the words after the program's name over this machine and its standard streams, and
-/// says the exit status.
+/// says the exit status. A socket that was handed to the process is that of `serve`.
 pub fn carry_out<'a, F: Start>(rt: &'a HostRuntime, start: F, words: &[String]) -> u8
     ensures { IsStatusOnFiles ⟦<FileFrom<F> as Disk>⟧ ⟦<Machine<'a, F, Below<F>> as Host>⟧
         ⟦<Store<Below<F>> as Keeps>⟧ ⟦<Socket as Link>⟧ (image_at F.Start)
         (map string_bytes words.now) result }
 {
+    let handed = inherited(rt);
     let stderr = rt.stderr();
     let mut ends = Ends {
         input: Input::over(rt.reader()),
         output: Output::over(io::writer(rt)),
         faults: Output::over(io::writer(&stderr)),
     };
-    run_on(&mut Machine::of(rt, start), words, &mut ends)
+    run_on(&mut Machine::of(rt, start, handed), words, &mut ends)
 }
 
 /// Tells on standard error why there are no words, and says the exit status.

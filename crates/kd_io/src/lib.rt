@@ -7,11 +7,13 @@
 //! receives and sends, no proof knows either.
 #![tactic(auto)]
 
+mod activation;
 mod files;
 mod link;
 mod start;
 mod streams;
 
+pub use activation::inherited;
 pub use files::{InputFault, MOST_BYTES, read_file, read_whole, token_files};
 pub use link::{HostClock, Sending, Socket};
 pub use start::{StartFault, configuration, configured};

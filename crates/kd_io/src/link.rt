@@ -38,6 +38,11 @@ impl Sending {
     }
 }
 
+// An address, a number in host order, and a port.
+fn place_of(address: u32, port: u16) -> SocketAddr {
+    SocketAddr::new(IpAddr::V4(Ipv4Addr::from(address)), port)
+}
+
 /// A UDP socket, as the link of a server. What it receives and sends no proof knows.
 #[derive(Drop)]
 pub struct Socket {
@@ -63,12 +68,40 @@ impl Socket {
         ensures failed { IfOk result (λ link. link.failed ≡ false) }
         ensures sending { IfOk result (λ link. link.sending ≡ sending) }
     {
-        let place = SocketAddr::new(IpAddr::V4(Ipv4Addr::from(address)), port);
-        match UdpSocket::bind(rt, place) {
-            Ok(socket) => match socket.set_broadcast(true) {
-                Ok(()) => Ok(Socket::over(socket, sending)),
-                Err(_) => Err(EndFailed),
-            },
+        match UdpSocket::bind(rt, place_of(address, port)) {
+            Ok(socket) => Socket::to_all(socket, sending),
+            Err(_) => Err(EndFailed),
+        }
+    }
+
+    /// A link over a socket that was handed over, which has not failed. It may send to all hosts of
+    /// its link.
+    ///
+    /// # Errors
+    ///
+    /// It is not bound at this address and port.
+    pub fn handed(
+        socket: UdpSocket,
+        address: u32,
+        port: u16,
+        sending: Sending,
+    ) -> Result<Socket, EndFailed>
+        ensures failed { IfOk result (λ link. link.failed ≡ false) }
+        ensures sending { IfOk result (λ link. link.sending ≡ sending) }
+    {
+        match socket.local_addr() {
+            Ok(place) if place == place_of(address, port) => Socket::to_all(socket, sending),
+            _ => Err(EndFailed),
+        }
+    }
+
+    // A link over a socket that may send to all hosts of its link.
+    fn to_all(socket: UdpSocket, sending: Sending) -> Result<Socket, EndFailed>
+        ensures failed { IfOk result (λ link. link.failed ≡ false) }
+        ensures sending { IfOk result (λ link. link.sending ≡ sending) }
+    {
+        match socket.set_broadcast(true) {
+            Ok(()) => Ok(Socket::over(socket, sending)),
             Err(_) => Err(EndFailed),
         }
     }

@@ -31,12 +31,17 @@ enum Stopped {
 }
 
 // How the database is kept: with few pages in memory, and a log that goes into the database file
-// after each few commits, so that this one is written too.
-fn options() -> Options {
+// after each few commits, so that this one is written too; after each commit where its device is the
+// one that stops.
+fn options(stopped: Stopped) -> Options {
+    let checkpoint_frames = match stopped {
+        Stopped::Log => 2,
+        Stopped::Database => 1,
+    };
     Options {
         cache_pages: 8,
         spill_pages: 8,
-        checkpoint_frames: 2,
+        checkpoint_frames,
         seed: 1,
     }
 }
@@ -140,8 +145,9 @@ fn day_over(
     day: Day,
     files: Files<Device>,
     from: usize,
+    options: Options,
 ) -> Result<(End, Files<Device>), Fail> {
-    match connected(alloc, files, options()) {
+    match connected(alloc, files, options) {
         Ok(conn) => {
             let (end, left) = day_of(alloc, day, conn, from)?;
             Ok((end, left.close()))
@@ -219,7 +225,7 @@ fn goes_on_over<S: Alter + Drop>(
 // And so it does with what a loss leaves of the files.
 fn goes_on(alloc: Global, day: Day, left: &Left, loss: Loss, end: End) -> Result<(), Fail> {
     let files = files_left(alloc, left, loss, (u64::MAX, u64::MAX))?;
-    match connected(alloc, files, options()) {
+    match connected(alloc, files, options(Stopped::Log)) {
         Ok(conn) => goes_on_over(alloc, day, conn, end),
         Err(_) => Err("what a stop left is not opened".into()),
     }
@@ -230,7 +236,8 @@ fn goes_on(alloc: Global, day: Day, left: &Left, loss: Loss, end: End) -> Result
 fn stops(alloc: Global, day: Day, stopped: Stopped) -> Result<(u64, usize), Fail> {
     let (mut last, mut places) = (End::Whole, 0usize);
     for calls in 0..1000u64 {
-        let (end, files) = day_over(alloc, day, files(alloc, answered(stopped, calls)), 0)?;
+        let files = files(alloc, answered(stopped, calls));
+        let (end, files) = day_over(alloc, day, files, 0, options(stopped))?;
         let left = left_of(alloc, files)?;
         for loss in LOSSES {
             goes_on(alloc, day, &left, loss, end)?;
@@ -273,10 +280,10 @@ fn in_a_day_a_stop_of_the_log_leaves_the_table_before_or_after(
 fn in_a_day_a_stop_of_the_database_leaves_the_table_before_or_after(
     rt: HostRuntime,
 ) -> Result<(), Fail> {
-    for (day, _) in DAYS {
+    for (day, places) in DAYS {
         let (calls, stopped) = stops(rt.alloc(), day, Stopped::Database)?;
         assert!(rt;
-            calls > 5 && stopped > 1,
+            calls > 20 && stopped == places,
             "{calls} stops at {stopped} places"
         );
     }
@@ -289,7 +296,7 @@ fn stops_again(alloc: Global, day: Day, left: &Left, end: End) -> Result<u64, Fa
     let from = next_of(end, day.1);
     for calls in 0..1000u64 {
         let files = files_left(alloc, left, Loss::All, answered(Stopped::Log, calls))?;
-        let (again, files) = day_over(alloc, day, files, from)?;
+        let (again, files) = day_over(alloc, day, files, from, options(Stopped::Log))?;
         let place = if again == End::Unopened { end } else { again };
         goes_on(alloc, day, &left_of(alloc, files)?, Loss::All, place)?;
         if again == End::Whole {
@@ -306,7 +313,7 @@ fn in_a_day_a_stop_after_a_stop_leaves_the_table_before_or_after(
 ) -> Result<(), Fail> {
     for calls in (0..1000u64).step_by(7) {
         let files = files(rt.alloc(), answered(Stopped::Log, calls));
-        let (end, files) = day_over(rt.alloc(), FIRST, files, 0)?;
+        let (end, files) = day_over(rt.alloc(), FIRST, files, 0, options(Stopped::Log))?;
         let again = stops_again(rt.alloc(), FIRST, &left_of(rt.alloc(), files)?, end)?;
         assert!(rt; again > 3, "{again} stops after {calls} calls");
         if end == End::Whole {
