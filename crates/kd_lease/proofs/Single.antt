@@ -1,18 +1,17 @@
 -- The rules have one answer: at most one row and one plan stand in each of their relations.
-use Rattle.std.proofs.Common.{◌≡◌, ℕ, ◌<◌, ◌≤◌, ◌==◌, ◌&&◌, ◌||◌, nat_lt, Bool, true, false, codes, List, Option, Some, None, option_map, inl, inr, ⊎_elim, ◌⊎◌, refl, sym, ap, ◌∙◌, subst, arith, if◌then◌else◌}
+use Rattle.std.proofs.Common.{◌≡◌, ℕ, ◌≤◌, ◌==◌, ◌&&◌, ◌||◌, nat_lt, Bool, true, false, codes, List, Option, Some, None, option_map, inl, inr, ◌⊎◌, refl, sym, ap, ◌∙◌, subst, arith, if◌then◌else◌}
 use Rattle.std.proofs.lemmas.Bool.{and_from, and_parts, eqb-true, false≢true}
 use Rattle.std.proofs.lemmas.Bool.Decides.{nat_tests}
 use Rattle.kd_classes.specs.HeldSet.{HeldSet}
 use Rattle.kd_classes.specs.declared.definition.ClassDef.{ClassDef}
 use Rattle.kd_config.specs.Address.{has_address}
-use Rattle.kd_config.specs.Configuration.{Configuration}
 use Rattle.kd_config.specs.declared.subnet.Subnet.{Subnet}
 use Rattle.kd_event.specs.declared.reason.Reason.{Reason}
 use Rattle.kd_event.specs.declared.reason.Reason.TheVariants as reasons
-use Rattle.kd_lease.specs.Change.{AnswersTo, Changes, Decides, ForClient, Unless, WhereFits, after, asked_for, fits_in, outcome_for}
-use Rattle.kd_lease.specs.Choice.{Asking, Choice, IsFirstOf, NoChoice, Rank, address_reserved, changed_in, fitting_for, free_for, has_rank, pool_place, place, requested_address, same_address, set_later, usable}
+use Rattle.kd_lease.specs.Change.{AnswersTo, Decides, ForClient, Unless, WhereFits, after, asked_for, fits_in, outcome_for}
+use Rattle.kd_lease.specs.Choice.{Asking, Choice, IsFirstOf, NoChoice, Rank, address_reserved, changed_in, fitting_for, free_for, pool_place, place, requested_address, same_address, set_later, usable}
 use Rattle.kd_lease.specs.Choice.Rank.{asked, expired, fresh, own, past, reserved}
-use Rattle.kd_lease.specs.Client.{client_identity, kind_of, reply_room, server_message}
+use Rattle.kd_lease.specs.Client.{client_identity, reply_room, server_message}
 use Rattle.kd_lease.specs.Laws.{OneAnswer, OneChange}
 use Rattle.kd_lease.specs.Plan.{Outcome}
 use Rattle.kd_lease.specs.Rules.{Does, GivesUpLease, InSubnet, Informs, IsNewest, IsQuiet, IsRenewalRefused, OnDiscover, OnNamed, OnOther, OnRenew, OnRequest, OnSelect, Sets, UnlessOther, WithAsked, WithCiaddr, client_has, declined_row, held_at, is_record, leased_row, named_server, offered_to, other_server, released_row, renewable, renewed_address, row_of_offer, serving_subnet}

@@ -1,5 +1,5 @@
 -- A command's work with a server is calls.
-use Rattle.std.proofs.Common.{◌≡◌, ◌⊎◌, inl, inr, ⊎_elim, ℕ, [], Result, Ok, Err, MatchResult, refl, subst, true}
+use Rattle.std.proofs.Common.{◌≡◌, inl, inr, ⊎_elim, ℕ, [], Result, Ok, Err, MatchResult, refl, subst, true}
 use Rattle.kd_config.specs.Configuration.{Configuration}
 use Rattle.kd_keeps.specs.declared.keeps.Keeps.{Ghosts}
 use Rattle.kd_program.specs.Openings.{CommandsAreOpenings}

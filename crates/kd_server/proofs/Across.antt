@@ -1,9 +1,8 @@
 -- What follows from the law across configurations.
-use Rattle.std.proofs.Common.{◌≡◌, ℕ, ◌+◌, ◌<◌, ◌≤◌, ◌⊎◌, List, Some, inl, inr, ⊎_elim, ap, arith, sym, ◌∙◌}
+use Rattle.std.proofs.Common.{◌≡◌, ℕ, ◌+◌, ◌<◌, ◌≤◌, ◌⊎◌, Some, inl, inr, ⊎_elim, ap, arith}
 use Rattle.std.specs.List.{slice_get}
 use Rattle.kd_config.specs.Configuration.{Configuration}
-use Rattle.kd_rows.specs.declared.row.Row.{Row}
-use Rattle.kd_server.specs.NoOverlap.{AreOfOne, GivesUpBetween, LeaseHistory, LeaseStep, NoOverlap, NoOverlapAcross, NoOverlapForShortest, NoOverlapWhereNoneIsShorter, Regives, ShortenedBetween, end_of, lifetime_of, now_of}
+use Rattle.kd_server.specs.NoOverlap.{GivesUpBetween, LeaseStep, NoOverlap, NoOverlapAcross, NoOverlapForShortest, NoOverlapWhereNoneIsShorter, ShortenedBetween, end_of, lifetime_of, now_of}
 
 module _ (law : NoOverlapAcross) where
   -- a shorter lifetime is none where none is shorter

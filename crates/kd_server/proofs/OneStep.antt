@@ -1,11 +1,8 @@
 -- An event has one answer.
-use Rattle.std.proofs.Common.{◌≡◌, ℕ, ◌+◌, ◌∷◌, [], ◌++◌, Bool, true, false, List, map, length, nat_le, sum_by, Ok, Err, Result, ⊎_elim, ◌⊎◌, inl, inr, refl, sym, ap, ◌∙◌, subst, if◌then◌else◌}
+use Rattle.std.proofs.Common.{◌≡◌, ℕ, ◌+◌, ◌∷◌, [], ◌++◌, Bool, true, false, List, map, length, nat_le, sum_by, Ok, Result, ◌⊎◌, inl, inr, refl, sym, ap, ◌∙◌, subst, if◌then◌else◌}
 use Rattle.std.proofs.lemmas.List.Sums.{sum_by-cons}
 use Rattle.std.specs.List.{flat_map}
 use Rattle.kd_config.specs.Configuration.{Configuration}
-use Rattle.kd_event.specs.declared.destination.Destination.{Destination}
-use Rattle.kd_event.specs.declared.event.Event.{Event}
-use Rattle.kd_event.specs.declared.event.Handled.{Handled}
 use Rattle.kd_event.specs.declared.event.Response.{Response}
 use Rattle.kd_event.specs.declared.event.Response.TheVariants as responses
 use Rattle.kd_event.specs.declared.ports.Ports.{Ports}
@@ -20,10 +17,9 @@ use Rattle.kd_options.specs.Joined.{HasOptions, IsAreaIf, file_field, options_fi
 use Rattle.kd_options.specs.Message.{Reads, Seen}
 use Rattle.kd_options.specs.Reply.{base_cost, cost_of, first_pieces, item_cost, kept, kept_from, obligatory_cost, padded, piece_count, pieces_of, pieces_text, reply_text}
 use Rattle.kd_options.specs.declared.item.Item.{Item}
-use Rattle.kd_replay.specs.History as past
 use Rattle.kd_rows.specs.Table.{latest_of}
 use Rattle.kd_rows.specs.declared.row.Row.{Row}
-use Rattle.kd_server.specs.Keeping.{Keeping, Steps, StepsTo}
+use Rattle.kd_server.specs.Keeping.{StepsTo}
 use Rattle.kd_server.specs.OneStep.{OneHistory, OneStep, StandAlike}
 use Rattle.kd_server.specs.Step.{IsAnswered, IsUnreadable, Responds}
 use Rattle.kd_wire.specs.Area.{IsArea, Piece}
