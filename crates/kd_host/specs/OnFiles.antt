@@ -1,5 +1,5 @@
 -- What the words of a command line do over a machine whose files held these bytes.
-use Rattle.std.specs.Prelude.{◌≡◌, ◌⊎◌, ℕ, List, Option, Some, is_some, option_map, string_bytes}
+use Rattle.std.specs.Prelude.{◌≡◌, ◌⊎◌, ℕ, Err, IfOk, List, Ok, Option, None, Result, Some, is_some, option_map, string_bytes}
 use Rattle.sqlite_disk.specs.declared.Disk.{Ghosts as Disks}
 use Rattle.sqlite_store.specs.FileStore.{view}
 use Rattle.sqlite_store.specs.declared.store.FileStore.{FileStore}
@@ -30,6 +30,13 @@ use Rattle.kd_tools.specs.Status.{status_of}
 abbrev pub sending_of : Listening → Sending
 sending_of listening =
     record { mirror = listening.mirror; broadcast_as = listening.broadcast_as }
+
+-- a link over a socket that was handed over is over that one; where what was handed over is no socket
+-- there is no link
+abbrev pub IsOfHanded : {S E L : Type 0} → (L → S) → Option (Result S E) → Result L E → Type 0
+IsOfHanded below None result = Unit {0}
+IsOfHanded below (Some (Ok socket)) result = IfOk result (λ link. below link ≡ socket)
+IsOfHanded below (Some (Err fault)) result = result ≡ Err fault
 
 -- the order for a work over files
 abbrev pub order_of : Files → Work → Order

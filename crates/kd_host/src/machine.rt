@@ -32,7 +32,8 @@ impl<'a, F: Start> Machine<'a, F, Below<F>> {
         start: F,
         handed: Option<Result<UdpSocket, EndFailed>>,
     ) -> Machine<'a, F, Below<F>>
-        ensures { result.left ≡ None }
+        ensures left { result.left ≡ None }
+        ensures handed { result.handed ≡ handed }
     {
         Machine {
             rt,
@@ -51,7 +52,7 @@ impl<'a, F: Start> Host for Machine<'a, F, Below<F>> {
     ghost use Rattle.kd_database.specs.Stops.{LiesBelow};
     ghost use Rattle.kd_database.specs.Stores.{IsStoreIn, StandsAsHeld};
     ghost use Rattle.kd_io.specs.Start.{IsOfFiles};
-    ghost use Rattle.kd_host.specs.OnFiles.{sending_of};
+    ghost use Rattle.kd_host.specs.OnFiles.{IsOfHanded, sending_of};
 
     type Named = Store<Below<F>>;
 
@@ -74,7 +75,8 @@ impl<'a, F: Start> Host for Machine<'a, F, Below<F>> {
         (it : _) × (new.left ≡ Some it) × (IsClean (view it) → LiesBelow store.conn it) };
 
     ghost binds = { λ old listening result new.
-        IfOk result (λ link. link.sending ≡ sending_of listening) };
+        IfOk result (λ link. link.sending ≡ sending_of listening)
+        × IsOfHanded (λ link. link.socket) old.handed result };
 
     ghost tells_time = { λ old clock new. Unit {0} };
 

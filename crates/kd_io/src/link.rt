@@ -88,6 +88,7 @@ impl Socket {
     ) -> Result<Socket, EndFailed>
         ensures failed { IfOk result (λ link. link.failed ≡ false) }
         ensures sending { IfOk result (λ link. link.sending ≡ sending) }
+        ensures given { IfOk result (λ link. link.socket ≡ socket) }
     {
         match socket.local_addr() {
             Ok(place) if place == place_of(address, port) => Socket::to_all(socket, sending),
@@ -99,6 +100,7 @@ impl Socket {
     fn to_all(socket: UdpSocket, sending: Sending) -> Result<Socket, EndFailed>
         ensures failed { IfOk result (λ link. link.failed ≡ false) }
         ensures sending { IfOk result (λ link. link.sending ≡ sending) }
+        ensures given { IfOk result (λ link. link.socket ≡ socket) }
     {
         match socket.set_broadcast(true) {
             Ok(()) => Ok(Socket::over(socket, sending)),
@@ -110,6 +112,7 @@ impl Socket {
     pub fn over(socket: UdpSocket, sending: Sending) -> Socket
         ensures failed { result.failed ≡ false }
         ensures sending { result.sending ≡ sending }
+        ensures given { result.socket ≡ socket }
     {
         Socket {
             socket,
