@@ -9,7 +9,7 @@ pub trait Keeps {
     ghost use Rattle.kd_keeps.specs.Moves.{MovesTable};
     ghost use Rattle.kd_keeps.specs.declared.fault.StoreFault.{StoreFault};
     ghost use Rattle.kd_rows.specs.Row.{IsInRange};
-    ghost use Rattle.kd_rows.specs.Table.{Rise, with_row};
+    ghost use Rattle.kd_rows.specs.Table.{Rise, with_row, with_rows};
     ghost use Rattle.kd_rows.specs.declared.row.Row.{Row as LeaseRow};
 
     /// The store stands at this table: it is open, and what it has committed is that table.
@@ -41,6 +41,21 @@ pub trait Keeps {
         ensures put { has_clean_disk self.new → (table : List LeaseRow) → stands self.old table
             → MovesTable (stands self.new) (leaves self.new) (is_open self.new)
             table (with_row row.now table) result }
+        ensures failed { fault self.new ≡ result_err result };
+
+    /// Sets rows in their order, each as `put` does, and commits them together.
+    ///
+    /// # Errors
+    ///
+    /// The store has failed; it holds the table from before or the one with all rows. While it is
+    /// still open it holds the one from before.
+    fn put_all(&mut self, rows: &[Row]) -> Result<(), StoreFault>
+        requires ready { is_some (fault self.old) ≡ false }
+        requires ranges { All IsInRange rows.now }
+        ensures clean { has_clean_disk self.new → has_clean_disk self.old }
+        ensures put { has_clean_disk self.new → (table : List LeaseRow) → stands self.old table
+            → MovesTable (stands self.new) (leaves self.new) (is_open self.new)
+            table (with_rows rows.now table) result }
         ensures failed { fault self.new ≡ result_err result };
 
     /// All rows, in rising address, one an address, each in its ranges.

@@ -46,6 +46,11 @@ impl Keeps for Volatile {
         Ok(())
     }
 
+    fn put_all(&mut self, rows: &[Row]) -> Result<(), StoreFault> {
+        self.is_new = self.is_new && rows.is_empty();
+        Ok(())
+    }
+
     fn rows(&mut self) -> Result<Vec<Row>, StoreFault> {
         if self.is_new {
             return Ok(Vec::new(self.alloc));

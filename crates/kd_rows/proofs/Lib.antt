@@ -7,6 +7,7 @@ pub mod Maps
 pub mod Owned
 pub mod Places
 pub mod Sets
+pub mod Several
 pub mod Slots
 pub mod Sorting
 pub mod Tiers

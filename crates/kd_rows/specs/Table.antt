@@ -32,6 +32,11 @@ with_row row (r ∷ rows) =
     if nat_lt row.address r.address then row ∷ r ∷ rows else if r.address == row.address then row
     ∷ rows else r ∷ with_row row rows
 
+-- the rows with several set, one after another
+abbrev pub with_rows : List Row → List Row → List Row
+with_rows [] table = table
+with_rows (row ∷ rows) table = with_rows rows (with_row row table)
+
 -- the greatest moment at which a row was set, 0 without rows
 abbrev pub latest_of : List Row → ℕ
 latest_of [] = 0

@@ -1,6 +1,7 @@
 pub mod Texts
 pub mod Tables
 pub mod Puts
+pub mod Batches
 pub mod States
 pub mod Strange
 pub mod Streaming

@@ -2,10 +2,12 @@
 use Rattle.std.specs.Prelude.{◌≡◌, ◌⊎◌, ℕ, ◌^◌, ◌<◌, List, [], ◌∷◌, map, Err}
 use Rattle.std.specs.List.{All}
 use Rattle.sqlite.specs.Order.{Row as Columns, column}
+use Rattle.sqlite.specs.Held.{Held}
 use Rattle.sqlite.specs.State.{State, IsUnchanged, Begins, Executes, FailsToQuery}
 use Rattle.sqlite.specs.declared.error.Error.{Error}
 use Rattle.sqlite.specs.declared.error.Error.TheVariants.{SqliteFailure}
 use Rattle.sqlite.specs.declared.error.ErrorCode.TheVariants as code
+use Rattle.sqlite_trees.specs.declared.store.Store.{Ghosts}
 use Rattle.kd_keeps.specs.declared.fault.Cause.{Cause}
 use Rattle.kd_keeps.specs.declared.fault.Cause.TheVariants as cause
 use Rattle.kd_keeps.specs.declared.fault.StoreFault.{StoreFault}
@@ -13,6 +15,7 @@ use Rattle.kd_keeps.specs.declared.fault.StoreFault.TheVariants.{Schema, Sql}
 use Rattle.kd_rows.specs.declared.row.Row.{Row}
 use Rattle.kd_rows.specs.Row.{IsInRange}
 use Rattle.kd_rows.specs.Table.{Rise}
+use Rattle.kd_store.specs.Batch.{FailsTogether}
 use Rattle.kd_store.specs.Lease.{columns_of, rows_text}
 
 -- the cause of an error: memory, disk, size and damage keep their names, all else is a refusal
@@ -39,6 +42,12 @@ reading_fault error = fault_of_cause (cause_of error)
 abbrev pub RefusesWith : List ℕ → Columns → State → State → StoreFault → Type 0
 RefusesWith sql params old new fault =
     (error : Error) × (fault ≡ Sql (cause_of error)) × Executes sql params old new (Err error)
+
+-- rows were not set together, and the fault has the cause of the error with which a statement within
+-- the transaction was refused, or the commit failed
+abbrev pub RefusesAllWith : {S : Type 0} → Ghosts S → List Row → Held S → Held S → StoreFault → Type 0
+RefusesAllWith g rows old new fault =
+    (error : Error) × (fault ≡ Sql (cause_of error)) × FailsTogether g rows old new error
 
 -- the first five columns
 abbrev pub first_five : Columns → Columns

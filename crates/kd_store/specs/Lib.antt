@@ -1,7 +1,9 @@
 pub mod Lease
 pub mod Stands
 pub mod Kept
+pub mod Batch
 pub mod Fault
 pub mod Opening
+pub mod Staging
 pub mod Statement
 pub mod Laws

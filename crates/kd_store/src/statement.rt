@@ -23,7 +23,7 @@ use std::alloc::Global;
 const MAKE: &str =
     "CREATE TABLE IF NOT EXISTS lease (address INTEGER PRIMARY KEY CHECK (address BETWEEN 0 AND 4294967295), client BLOB NOT NULL, state INTEGER NOT NULL CHECK (state BETWEEN 1 AND 4), changed INTEGER NOT NULL CHECK (changed BETWEEN 0 AND 1099511627775), ends INTEGER NOT NULL CHECK (ends BETWEEN changed AND changed + 2147483647)) STRICT";
 
-const PUT: &str =
+pub(crate) const PUT: &str =
     "INSERT INTO lease (address, client, state, changed, ends) VALUES (?1, ?2, ?3, ?4, ?5) ON CONFLICT (address) DO UPDATE SET client = excluded.client, state = excluded.state, changed = excluded.changed, ends = excluded.ends";
 
 const ROWS: &str = "SELECT address, client, state, changed, ends FROM lease ORDER BY address";
@@ -46,7 +46,7 @@ pub(crate) fn make<S: Alter>(conn: &mut Connection<S>) -> Result<usize, Error>
 }
 
 // A number as SQL has it, where an integer has a sign.
-fn signed(n: u64) -> i64
+pub(crate) fn signed(n: u64) -> i64
     requires { n < 2 ^ 63 }
     ensures { result ≡ pos n }
 {

@@ -6,13 +6,14 @@ ghost use Rattle.sqlite.specs.State.{HasCleanDisk};
 ghost use Rattle.kd_keeps.specs.Moves.{MovesTable};
 ghost use Rattle.kd_keeps.specs.Reading.{AreRead};
 ghost use Rattle.kd_rows.specs.Row.{IsInRange};
-ghost use Rattle.kd_rows.specs.Table.{Rise, with_row};
+ghost use Rattle.kd_rows.specs.Table.{Rise, with_row, with_rows};
 ghost use Rattle.kd_rows.specs.declared.row.Row.{Row as LeaseRow};
-ghost use Rattle.kd_store.specs.Fault.{RefusesWith, AreUnread};
+ghost use Rattle.kd_store.specs.Fault.{AreUnread, RefusesAllWith, RefusesWith};
 ghost use Rattle.kd_store.specs.Lease.{columns_of, put_text};
 ghost use Rattle.kd_store.specs.Opening.{GivesBack, OpensAt};
 ghost use Rattle.kd_store.specs.Stands.{Leaves, Stands};
 
+use crate::batch::put_all;
 use crate::fault::cause_of_error;
 use crate::statement::{make, put, read};
 use kd_keeps::{Keeps, Opened, StoreFault, fault_in};
@@ -136,6 +137,24 @@ impl<S: Alter> Keeps for Store<S> {
         let done = put(&mut self.conn, row);
         self.fault = fault_in(&done);
         done
+    }
+
+    fn put_all(&mut self, rows: &[Row]) -> Result<(), StoreFault>
+        requires ready { is_some self.old.fault ≡ false }
+        requires ranges { All IsInRange rows.now }
+        ensures clean { HasCleanDisk (state S.Store self.new.conn)
+            → HasCleanDisk (state S.Store self.old.conn) }
+        ensures put { HasCleanDisk (state S.Store self.new.conn) → (table : List LeaseRow)
+            → Stands (state S.Store self.old.conn) table
+            → MovesTable (Stands (state S.Store self.new.conn)) (Leaves (state S.Store self.new.conn))
+            (IsTrue (state S.Store self.new.conn).is_open) table (with_rows rows.now table) result }
+        ensures failed { self.new.fault ≡ result_err result }
+        ensures told { HasCleanDisk (state S.Store self.new.conn)
+            → IfErr result (RefusesAllWith S.Store rows.now self.old.conn self.new.conn) }
+    {
+        let kept = put_all(&mut self.conn, rows);
+        self.fault = fault_in(&kept);
+        kept
     }
 
     fn rows(&mut self) -> Result<Vec<Row>, StoreFault>

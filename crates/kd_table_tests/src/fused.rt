@@ -1,7 +1,7 @@
 ghost use Rattle.std.specs.Prelude.{◌≡◌, [], OnErr, OnOk, IfOk};
 ghost use Rattle.std.specs.List.{All};
 ghost use Rattle.kd_rows.specs.Row.{IsInRange};
-ghost use Rattle.kd_rows.specs.Table.{Rise, with_row};
+ghost use Rattle.kd_rows.specs.Table.{Rise, with_row, with_rows};
 
 use kd_keeps::{Cause, Keeps, StoreFault, fault_in};
 use kd_rows::{Row, Rows};
@@ -63,16 +63,18 @@ impl Fused {
         ensures stays { OnErr result (self.new.table ≡ self.old.table) }
     {
         self.burn()?;
-        let Ok(copy) = copied(self.alloc, row) else {
-            return Err(StoreFault::Sql(Cause::OutOfMemory));
-        };
-        if copy.changed < self.rows.latest() {
-            return Err(StoreFault::Schema);
-        }
-        if self.rows.reserve(&copy).is_err() {
-            return Err(StoreFault::Sql(Cause::OutOfMemory));
-        }
-        self.rows.set(copy);
+        set_copy(self.alloc, &mut self.rows, row)
+    }
+
+    fn try_put_all(&mut self, rows: &[Row]) -> Result<(), StoreFault>
+        requires { All IsInRange rows.now }
+        ensures fault { self.new.fault ≡ self.old.fault }
+        ensures put { OnOk result (self.new.table ≡ with_rows rows.now self.old.table) }
+        ensures stays { OnErr result (self.new.table ≡ self.old.table) }
+    {
+        self.burn()?;
+        let table = with_all(self.alloc, &self.rows, rows)?;
+        self.rows = table;
         Ok(())
     }
 
@@ -119,6 +121,42 @@ fn all_of(alloc: Global, rows: &Rows) -> Result<Vec<Row>, AllocError>
     Ok(list)
 }
 
+// Sets a copy of a row.
+fn set_copy(alloc: Global, table: &mut Rows, row: &Row) -> Result<(), StoreFault>
+    requires { IsInRange row.now }
+    ensures put { OnOk result (table.new.rows ≡ with_row row.now table.old.rows) }
+    ensures stays { OnErr result (table.new.rows ≡ table.old.rows) }
+{
+    let Ok(copy) = copied(alloc, row) else {
+        return Err(StoreFault::Sql(Cause::OutOfMemory));
+    };
+    if copy.changed < table.latest() {
+        return Err(StoreFault::Schema);
+    }
+    if table.reserve(&copy).is_err() {
+        return Err(StoreFault::Sql(Cause::OutOfMemory));
+    }
+    table.set(copy);
+    Ok(())
+}
+
+// A copy of the table with copies of these rows set.
+fn with_all(alloc: Global, table: &Rows, rows: &[Row]) -> Result<Rows, StoreFault>
+    requires { All IsInRange rows.now }
+    ensures { IfOk result (λ next. next.rows ≡ with_rows rows.now table.now.rows) }
+{
+    let Ok(list) = all_of(alloc, table) else {
+        return Err(StoreFault::Sql(Cause::OutOfMemory));
+    };
+    let Ok(mut next) = Rows::new(list) else {
+        return Err(StoreFault::Sql(Cause::OutOfMemory));
+    };
+    for row in rows {
+        set_copy(alloc, &mut next, row)?;
+    }
+    Ok(next)
+}
+
 impl Keeps for Fused {
     ghost use Rattle.std.specs.Prelude.{◌≡◌, ◌⊎◌};
 
@@ -134,6 +172,12 @@ impl Keeps for Fused {
 
     fn put(&mut self, row: &Row) -> Result<(), StoreFault> {
         let result = self.try_put(row);
+        self.fault = fault_in(&result);
+        result
+    }
+
+    fn put_all(&mut self, rows: &[Row]) -> Result<(), StoreFault> {
+        let result = self.try_put_all(rows);
         self.fault = fault_in(&result);
         result
     }
