@@ -1,8 +1,15 @@
+pub mod Arrivals
+pub mod Batches
+pub mod Coming
 pub mod Fitting
 pub mod Going
+pub mod Growing
 pub mod Histories
+pub mod Logs
 pub mod Looking
-pub mod Served
+pub mod Recorded
 pub mod Spelling
 pub mod Texts
+pub mod Told
 pub mod Unfailed
+pub mod Written

@@ -164,7 +164,7 @@ feeds_line text plain =
     let one : line_feeds (10 ∷ []) ≡ 1 = refl in
     omega (arith, feeds_append text (10 ∷ []), feeds_plain text plain, one)
 
-lines_line : (text rest : List ℕ) → HasNo 10 text → lines_of (text ++ 10 ∷ rest) ≡ text ∷ lines_of rest
+pub lines_line : (text rest : List ℕ) → HasNo 10 text → lines_of (text ++ 10 ∷ rest) ≡ text ∷ lines_of rest
 lines_line [] rest plain = refl
 lines_line (b ∷ text) rest plain = rw (plain.0, lines_line text rest plain.1) refl
 

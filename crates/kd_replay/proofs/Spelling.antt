@@ -1,5 +1,5 @@
 -- Lines that are events: a line has one first space, and a moment's digits are no spaces.
-use Rattle.std.proofs.Common.{◌≡◌, ℕ, ◌+◌, ◌-◌, ◌*◌, ◌^◌, Bool, true, false, List, [], ◌∷◌, ◌++◌, Some, None, refl, sym, ap, ◌∙◌, arith, length, take, drop, length-drop}
+use Rattle.std.proofs.Common.{◌≡◌, ℕ, ◌+◌, ◌-◌, ◌*◌, ◌^◌, Bool, true, false, List, [], ◌∷◌, ◌++◌, Some, None, refl, sym, ap, ◌∙◌, arith, length, take, drop, length-drop, true≢false}
 use Rattle.std.specs.Prelude.{◌==◌, ◌&&◌, nat_lt, if◌then◌else◌, Ok}
 use Rattle.std.specs.Char.{is_ascii_digit}
 use Rattle.std.proofs.lemmas.Bool.{eqb-false, ne_eqb}
@@ -27,17 +27,18 @@ and_left : (a b : Bool) → (a && b) ≡ true → a ≡ true
 and_left true b h = refl
 and_left false b h = h
 
-digit_plain : (d : ℕ) → is_ascii_digit d ≡ true → (d == 32) ≡ false
-digit_plain d h = ne_eqb d 32 (λ e. let h' : is_ascii_digit 32 ≡ true = ap is_ascii_digit (sym e) ∙ h in absurd (cc))
+digit_plain : (byte d : ℕ) → is_ascii_digit byte ≡ false → is_ascii_digit d ≡ true → (d == byte) ≡ false
+digit_plain byte d other h = ne_eqb d byte (λ e. true≢false (sym h ∙ ap is_ascii_digit e ∙ other))
 
-digits_plain : (digits : List ℕ) (n m : ℕ) → number_after n digits ≡ Some m → HasNo 32 digits
-digits_plain [] n m e = tt
-digits_plain (d ∷ digits) n m e = by (is_ascii_digit d && nat_lt (n * 10 + (d - 48)) (2 ^ 64)) refl (λ h. digits_plain digits (n * 10 + (d - 48)) m h) e
+-- a number's digits have no byte that is no digit
+pub digits_plain : (byte : ℕ) → is_ascii_digit byte ≡ false → (digits : List ℕ) (n m : ℕ) → number_after n digits ≡ Some m → HasNo byte digits
+digits_plain byte other [] n m e = tt
+digits_plain byte other (d ∷ digits) n m e = by (is_ascii_digit d && nat_lt (n * 10 + (d - 48)) (2 ^ 64)) refl (λ h. digits_plain byte other digits (n * 10 + (d - 48)) m h) e
   where
-    by : (t : Bool) → (is_ascii_digit d && nat_lt (n * 10 + (d - 48)) (2 ^ 64)) ≡ t → (number_after (n * 10 + (d - 48)) digits ≡ Some m → HasNo 32 digits)
-        → (if t then number_after (n * 10 + (d - 48)) digits else None) ≡ Some m → HasNo 32 (d ∷ digits)
+    by : (t : Bool) → (is_ascii_digit d && nat_lt (n * 10 + (d - 48)) (2 ^ 64)) ≡ t → (number_after (n * 10 + (d - 48)) digits ≡ Some m → HasNo byte digits)
+        → (if t then number_after (n * 10 + (d - 48)) digits else None) ≡ Some m → HasNo byte (d ∷ digits)
     by false is later h = absurd (cc)
-    by true is later h = (digit_plain d (and_left _ _ is), later h)
+    by true is later h = (digit_plain byte d other (and_left _ _ is), later h)
 
 one_split : (xs ys xs' ys' : List ℕ) → HasNo 32 xs → HasNo 32 xs' → xs ++ 32 ∷ ys ≡ xs' ++ 32 ∷ ys' → (xs ≡ xs') × (ys ≡ ys')
 one_split [] ys [] ys' p p' e = (refl, cc)
@@ -51,7 +52,7 @@ one_split (x ∷ xs) ys (x' ∷ xs') ys' p p' e =
 
 module _ (line front back : List ℕ) (whole : line ≡ front ++ 32 ∷ back) (plain : HasNo 32 front) where
   same_parts : (event : Event) (p : IsEventLine line event) → (front ≡ p.digits) × (back ≡ p.hex)
-  same_parts event p = one_split front back p.digits p.hex plain (digits_plain p.digits 0 event.moment p.moment.number) (sym whole ∙ p.whole)
+  same_parts event p = one_split front back p.digits p.hex plain (digits_plain 32 refl p.digits 0 event.moment p.moment.number) (sym whole ∙ p.whole)
 
   pub not_without_moment : ((moment : ℕ) → IsMoment front moment → ⊥) → (event : Event) → IsEventLine line event → ⊥
   not_without_moment none event p =

@@ -17,7 +17,7 @@ use Rattle.kd_event.specs.declared.reason.Reason.TheVariants as reasons
 pub hex_length : (bytes : List ℕ) → length (encode_lower bytes) ≡ 2 * length bytes
 hex_length bytes = length-encode_with lower_digits bytes
 
-decimal_length : (n : ℕ) → n < 2 ^ 64 → length (decimal n) ≤ 20
+pub decimal_length : (n : ℕ) → n < 2 ^ 64 → length (decimal n) ≤ 20
 decimal_length n less = length-decimal-le 20 n (omega arith) (omega (arith, less)) less
 
 word_length : (mode : Mode) → length (mode_word mode) ≤ 9

@@ -28,3 +28,4 @@ loop_fault_number looping.Memory = 91
 loop_fault_number looping.Read = 94
 loop_fault_number looping.Write = 95
 loop_fault_number (looping.Serve fault) = 96
+loop_fault_number looping.Record = 100

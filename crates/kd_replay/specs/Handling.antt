@@ -6,6 +6,8 @@ use Rattle.kd_replay.specs.Parts.{WritesPart}
 use Rattle.kd_replay.specs.Text.{line_of}
 use Rattle.kd_event.specs.declared.event.Event.{Event}
 use Rattle.kd_event.specs.declared.event.Handled.{Handled}
+use Rattle.kd_replay.specs.declared.fault.LoopFault.{LoopFault}
+use Rattle.kd_replay.specs.declared.fault.LoopFault.TheVariants as looping
 use Rattle.kd_replay.specs.declared.fault.ReplayFault.{ReplayFault}
 use Rattle.kd_replay.specs.declared.fault.ReplayFault.TheVariants as faults
 use Rattle.kd_replay.specs.declared.fault.ServeFault.{ServeFault}
@@ -14,6 +16,18 @@ use Rattle.kd_replay.specs.declared.fault.ServeFault.TheVariants as serving
 -- the most bytes that a written line has, with its line feed
 abbrev pub line_room : ℕ
 line_room = 4096
+
+-- the most bytes that a line of a record has, with its line feed; a written line and that of a reply
+-- that was not sent are shorter
+abbrev pub text_room : ℕ
+text_room = 8216
+
+-- how serving ends at a fault of handling events
+abbrev pub loop_fault_of : ServeFault → LoopFault
+loop_fault_of serving.MomentTooLarge = looping.Serve serving.MomentTooLarge
+loop_fault_of serving.Memory = looping.Memory
+loop_fault_of (serving.Store fault) = looping.Serve (serving.Store fault)
+loop_fault_of serving.Failed = looping.Serve serving.Failed
 
 module _ {H : Type 0} (gives : H → Event → Handled → H → Type 0) where
   -- an event is handled, and its text is written

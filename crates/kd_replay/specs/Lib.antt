@@ -1,10 +1,16 @@
 pub mod Answering
+pub mod Arriving
 pub mod Faults
 pub mod Finding
 pub mod Handling
 pub mod History
+pub mod Laws
 pub mod Lines
+pub mod Log
 pub mod Parts
+pub mod Posting
+pub mod Recording
 pub mod Replay
 pub mod Serving
 pub mod Text
+pub mod Trace

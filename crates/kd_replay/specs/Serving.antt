@@ -1,36 +1,28 @@
--- Datagrams that are served one after another as they are received: what is handled, sent and
--- written.
-use Rattle.std.specs.Prelude.{◌≡◌, ◌≢◌, ◌⊎◌, ℕ, ◌<◌, Bool, true, false, List, [], ◌∷◌, ◌++◌, Option, None, Some, codes, length, map}
-use Rattle.std.specs.List.{flat_map}
+-- Datagrams that are served in batches as they arrive: what is recorded, handled, sent and written.
+use Rattle.std.specs.Prelude.{◌≡◌, ◌≢◌, ◌⊎◌, ℕ, ◌+◌, ◌<◌, ◌≤◌, Bool, true, false, List, [], ◌∷◌, ◌++◌, Option, None, Some, Result, Ok, Err, codes, length, map}
+use Rattle.std.specs.List.{All, flat_map}
 use Rattle.std.specs.Io.KnownBytes.{Appends}
-use Rattle.kd_replay.specs.History.{History}
-use Rattle.kd_replay.specs.Parts.{WritesPart}
-use Rattle.kd_replay.specs.Text.{line_of}
-use Rattle.kd_event.specs.declared.destination.Destination.{Destination}
 use Rattle.kd_event.specs.declared.event.Event.{Event}
 use Rattle.kd_event.specs.declared.event.Handled.{Handled}
 use Rattle.kd_event.specs.declared.event.Response.{Response}
 use Rattle.kd_event.specs.declared.event.Response.TheVariants as responses
+use Rattle.kd_replay.specs.Arriving.{Arrival, IsRecordable, coming, event_of}
+use Rattle.kd_replay.specs.Recording.{record_line}
+use Rattle.kd_replay.specs.Text.{line_of}
+use Rattle.kd_replay.specs.Trace.{Grows}
+use Rattle.kd_replay.specs.declared.ends.Sink.{Ghosts as Sinks}
 use Rattle.kd_replay.specs.declared.fault.LoopFault.{LoopFault}
 use Rattle.kd_replay.specs.declared.fault.LoopFault.TheVariants as faults
 use Rattle.kd_replay.specs.declared.fault.ServeFault.{ServeFault}
 use Rattle.kd_replay.specs.declared.fault.ServeFault.TheVariants as serving
-
--- a datagram that was handed over to be sent, where it goes, and whether it was sent
-pub record Packet : Type 0 where
-  pub destination : Destination
-  pub bytes : List ℕ
-  pub sent : Bool
-
--- a list that is known has grown by some entries
-abbrev pub Grows : {X : Type 0} → Option (List X) → Option (List X) → List X → Type 0
-Grows None new more = Unit {0}
-Grows (Some old) new more = new ≡ Some (old ++ more)
+use Rattle.kd_replay.specs.declared.happening.Happening.{Happening}
+use Rattle.kd_replay.specs.declared.happening.Happening.TheVariants as happens
+use Rattle.kd_replay.specs.declared.link.Link.{Ghosts as Links}
 
 -- what is handed over for a response, by whether it was sent
-abbrev pub packets_in : Bool → Response → List Packet
+abbrev pub packets_in : Bool → Response → List Happening
 packets_in sent (responses.Reply destination bytes) =
-    record { destination = destination; bytes = bytes; sent = sent } ∷ []
+    happens.Went (record { destination = destination; bytes = bytes; sent = sent }) ∷ []
 packets_in sent (responses.Quiet reason) = []
 
 -- the line that says that a reply could not be sent
@@ -49,77 +41,165 @@ pub record Answered : Type 0 where
   pub sent : Bool
 
 -- what is handed over for an answered datagram
-abbrev pub packets_of : Answered → List Packet
+abbrev pub packets_of : Answered → List Happening
 packets_of answered = packets_in answered.sent answered.handled.response
 
 -- what is written for an answered datagram
 abbrev pub text_of : Answered → List ℕ
 text_of answered = line_of answered.handled ++ behind_line answered.sent answered.handled.response
 
--- what has come and gone so far, where it is known: the datagrams received, those handed over to be
--- sent, and the bytes written
+-- datagrams that arrived together, each an event that a record can say, and what was done with them
+pub record Batch : Type 0 where
+  pub arrivals : List Arrival
+  pub recordable : All IsRecordable (map event_of arrivals)
+  pub answers : List Answered
+
+-- the events of a batch
+abbrev pub events_in : Batch → List Event
+events_in b = map event_of b.arrivals
+
+-- what was done with the events of a batch
+abbrev pub handled_in : Batch → List Handled
+handled_in b = map (λ a. a.handled) b.answers
+
+-- what happens at the link in a batch: its datagrams come, then its replies are handed over
+abbrev pub trace_of : Batch → List Happening
+trace_of b = coming true b.arrivals ++ flat_map packets_of b.answers
+
+-- what is recorded of a batch: the lines of its events
+abbrev pub record_of : Batch → List ℕ
+record_of b = flat_map record_line (events_in b)
+
+-- what is written for a batch
+abbrev pub texts_of : Batch → List ℕ
+texts_of b = flat_map text_of b.answers
+
+-- the contents of a journal, where there is one and they are known
+abbrev pub contents_in : {R : Type 0} → Sinks R → Option R → Option (List ℕ)
+contents_in r None = None
+contents_in r (Some journal) = r.contents journal
+
+-- whether there is a journal that has failed
+abbrev pub failed_in : {R : Type 0} → Sinks R → Option R → Bool
+failed_in r None = false
+failed_in r (Some journal) = r.has_failed journal
+
+-- what has happened at the link, and what was recorded and written so far, where it is known
 pub record Traffic : Type 0 where
-  pub received : Option (List (List ℕ))
-  pub sent : Option (List Packet)
+  pub trace : Option (List Happening)
+  pub recorded : Option (List ℕ)
   pub written : Option (List ℕ)
 
--- the relation that says what one event gives
-module _ {H : Type 0} (gives : H → Event → Handled → H → Type 0) where
-  -- so many datagrams were served: they are events that have a history, their replies were handed
-  -- over to be sent, and what was written is their texts, in that order
+-- nothing has happened, and all is known
+abbrev pub nothing : Traffic
+nothing = record { trace = Some []; recorded = Some []; written = Some [] }
+
+-- the traffic of a link, a journal that may be left out, and a sink
+abbrev pub traffic : {L R W : Type 0} → Links L → Sinks R → Sinks W → L → Option R → W → Traffic
+traffic l r w link journal sink = record {
+  trace = l.trace link;
+  recorded = contents_in r journal;
+  written = w.contents sink;
+}
+
+-- these things happen at the link, in this order, and these bytes are recorded and written
+pub record Passes (old out : Traffic) (trace : List Happening)
+    (recorded written : List ℕ) : Type 0 where
+  pub trace_grows : Grows old.trace out.trace trace
+  pub recorded_grows : Appends old.recorded out.recorded recorded
+  pub written_grows : Appends old.written out.written written
+
+-- of the lines of the events that arrived a front is recorded, and nothing of them is handled
+pub record IsUnrecorded (left : ℕ) (old out : Traffic) : Type 0 where
+  pub arrivals : List Arrival
+  pub few : length arrivals ≤ left
+  pub recordable : All IsRecordable (map event_of arrivals)
+  pub part : List ℕ
+  pub more : List ℕ
+  pub cut : flat_map record_line (map event_of arrivals) ≡ part ++ more
+  pub passes : Passes old out (coming true arrivals) part []
+
+-- the relation that says what a batch gives: the server before it, its events, what was done with
+-- the first of them, the fault of the next, the server after it
+module _ {H : Type 0} (batches : H → List Event → List Handled → Option ServeFault → H → Type 0) where
+  -- batches follow one another, all events of each handled, from the old server to the new one
+  abbrev pub Follow : H → List Batch → H → Type 0
+  Follow old [] new = new ≡ old
+  Follow old (b ∷ more) new =
+      (mid : H) × batches old (events_in b) (handled_in b) None mid × Follow mid more new
+
+  -- so many datagrams were served, in batches: their events were recorded and handled, their replies
+  -- were handed over to be sent, and what was written is their texts, in that order
   pub record HasServed (count : ℕ) (server new : H) (old out : Traffic) : Type 0 where
-    pub events : List Event
-    pub list : List Answered
-    pub counted : length events ≡ count
-    pub history : History gives server events (map (λ a. a.handled) list) new
-    pub received : Grows old.received out.received (map (λ e. e.bytes) events)
-    pub sent : Grows old.sent out.sent (flat_map packets_of list)
-    pub written : Appends old.written out.written (flat_map text_of list)
+    pub list : List Batch
+    pub counted : length (flat_map (λ b. b.arrivals) list) ≡ count
+    pub follow : Follow server list new
+    pub passes : Passes old out (flat_map trace_of list) (flat_map record_of list)
+        (flat_map texts_of list)
 
-  -- one datagram was handled and its reply handed over to be sent; of its text a front was written
-  pub record HasCut (server new : H) (old out : Traffic) : Type 0 where
-    pub event : Event
-    pub answered : Answered
-    pub given : gives server event answered.handled new
-    pub received : Grows old.received out.received (event.bytes ∷ [])
-    pub sent : Grows old.sent out.sent (packets_of answered)
-    pub cut : WritesPart old.written out.written (text_of answered)
+  -- a batch has a fault: its events were recorded, and those before the fault were handled and their
+  -- replies handed over and texts written
+  pub record HasFailed (fault : ServeFault) (left : ℕ) (server new : H)
+      (old out : Traffic) : Type 0 where
+    pub batch : Batch
+    pub few : length batch.arrivals ≤ left
+    pub given : batches server (events_in batch) (handled_in batch) (Some fault) new
+    pub passes : Passes old out (trace_of batch) (record_of batch) (texts_of batch)
 
-module _ {H : Type 0} (fails : H → Event → ServeFault → H → Type 0) where
-  -- one datagram was received and has a fault; nothing was sent or written for it
-  pub record HasFailed (fault : ServeFault) (server new : H) (old out : Traffic) : Type 0 where
-    pub event : Event
-    pub failed : fails server event fault new
-    pub received : Grows old.received out.received (event.bytes ∷ [])
-    pub sent : out.sent ≡ old.sent
-    pub written : out.written ≡ old.written
+  -- a batch was recorded and handled; of its replies the first were handed over, and of the text of
+  -- the last of these a front was written
+  pub record HasCut (left : ℕ) (server new : H) (old out : Traffic) : Type 0 where
+    pub arrivals : List Arrival
+    pub few : length arrivals ≤ left
+    pub recordable : All IsRecordable (map event_of arrivals)
+    pub told : List Answered
+    pub last : Answered
+    pub untold : List Handled
+    pub fault : Option ServeFault
+    pub given : batches server (map event_of arrivals)
+        (map (λ a. a.handled) told ++ last.handled ∷ untold) fault new
+    pub part : List ℕ
+    pub more : List ℕ
+    pub cut : text_of last ≡ part ++ more
+    pub passes : Passes old out
+        (coming true arrivals ++ flat_map packets_of (told ++ last ∷ []))
+        (flat_map record_line (map event_of arrivals)) (flat_map text_of told ++ part)
 
-module _ {H : Type 0} (gives : H → Event → Handled → H → Type 0)
-    (fails : H → Event → ServeFault → H → Type 0) where
-  -- how serving ends at a datagram: none could be received; the server says that there is no memory
-  -- for it, or that it has another fault; or its text could not be written
-  abbrev pub EndsServing : Type 0 → Type 0 → LoopFault → H → H → Traffic → Traffic → Type 0
-  EndsServing not_received not_written faults.Read server new old out =
-      not_received × (new ≡ server) × (out ≡ old)
-  EndsServing not_received not_written faults.Memory server new old out =
-      (new ≡ server) × HasFailed fails serving.Memory server new old out
-  EndsServing not_received not_written (faults.Serve fault) server new old out =
-      (fault ≢ serving.Memory) × HasFailed fails fault server new old out
-  EndsServing not_received not_written faults.Write server new old out =
-      not_written × HasCut gives server new old out
+  -- how serving ends at a batch: no datagram could be received; its record could not be written; the
+  -- server says that there is no memory for it, or has another fault; or its text could not be
+  -- written
+  abbrev pub EndsServing : LoopFault → ℕ → H → H → Traffic → Traffic → Type 0
+  EndsServing faults.Read left server new old out = (new ≡ server) × (out ≡ old)
+  EndsServing faults.Record left server new old out = (new ≡ server) × IsUnrecorded left old out
+  EndsServing faults.Memory left server new old out =
+      HasFailed serving.Memory left server new old out
+  EndsServing (faults.Serve fault) left server new old out =
+      (fault ≢ serving.Memory) × HasFailed fault left server new old out
+  EndsServing faults.Write left server new old out = HasCut left server new old out
 
-  -- some datagrams were served, fewer than were asked for, and serving ends at the next
-  pub record EndsAfter (not_received not_written : Type 0) (fault : LoopFault) (count : ℕ)
-      (server new : H) (old out : Traffic) : Type 0 where
+  -- some datagrams were served, fewer than were asked for, and serving ends at the next batch
+  pub record EndsAfter (fault : LoopFault) (count : ℕ) (server new : H)
+      (old out : Traffic) : Type 0 where
     pub done : ℕ
+    pub left : ℕ
+    pub all : done + left ≡ count
+    pub some : 0 < left
     pub mid : H
     pub between : Traffic
-    pub few : done < count
-    pub served : HasServed gives done server mid old between
-    pub ends : EndsServing not_received not_written fault mid new between out
+    pub served : HasServed done server mid old between
+    pub ends : EndsServing fault left mid new between out
 
-  -- serving stops before its count: there is no memory to begin in, or it ends after some datagrams
-  abbrev pub StopsServing : Type 0 → Type 0 → LoopFault → ℕ → H → H → Traffic → Traffic → Type 0
-  StopsServing not_received not_written fault count server new old out =
-      ((fault ≡ faults.Memory) × (new ≡ server) × (out ≡ old))
-      ⊎ EndsAfter not_received not_written fault count server new old out
+-- there is no memory to begin in, and nothing happens
+pub record IsNotBegun {H : Type 0} (fault : LoopFault) (server new : H)
+    (old out : Traffic) : Type 0 where
+  pub want : fault ≡ faults.Memory
+  pub same : new ≡ server
+  pub none : out ≡ old
+
+-- serving, by its result: all datagrams that were asked for are served, or it does not begin, or it
+-- ends after some of them
+module _ {H : Type 0} (batches : H → List Event → List Handled → Option ServeFault → H → Type 0) where
+  abbrev pub ServesTo : Result Unit LoopFault → ℕ → H → H → Traffic → Traffic → Type 0
+  ServesTo (Ok done) count server new old out = HasServed batches count server new old out
+  ServesTo (Err fault) count server new old out =
+      IsNotBegun fault server new old out ⊎ EndsAfter batches fault count server new old out

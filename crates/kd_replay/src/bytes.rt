@@ -1,4 +1,4 @@
-ghost use Rattle.std.specs.Prelude.{◌≡◌, [], true};
+ghost use Rattle.std.specs.Prelude.{◌≡◌, [], false, true};
 ghost use Rattle.kd_replay.specs.Lines.{lines_of};
 ghost use Rattle.kd_replay.specs.Replay.{Replays};
 
@@ -30,11 +30,23 @@ impl Source for Held<'_> {
     }
 }
 
-// Bytes in memory, as the sink of a replay.
+// Bytes in memory, as a sink.
 #[derive(Drop)]
-struct Kept {
-    bytes: Vec<u8>,
-    failed: bool,
+pub(crate) struct Kept {
+    pub(crate) bytes: Vec<u8>,
+    pub(crate) failed: bool,
+}
+
+impl Kept {
+    pub(crate) fn new(alloc: Global) -> Kept
+        ensures bytes { result.bytes.items ≡ [] }
+        ensures failed { result.failed ≡ false }
+    {
+        Kept {
+            bytes: Vec::new(alloc),
+            failed: false,
+        }
+    }
 }
 
 impl Sink for Kept {
@@ -71,10 +83,7 @@ pub fn replay_bytes<H: Serves>(
         (lines_of input.now) server.old server.new [] result.0.items }
 {
     let mut source = Held { rest: input };
-    let mut sink = Kept {
-        bytes: Vec::new(alloc),
-        failed: false,
-    };
+    let mut sink = Kept::new(alloc);
     let done = replay_with(alloc, &mut source, &mut sink, server);
     let Kept { bytes, failed: _ } = sink;
     (bytes, done)

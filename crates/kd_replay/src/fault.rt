@@ -117,6 +117,9 @@ pub enum LoopFault {
     /// The output can not be written.
     #[error("Write")]
     Write,
+    /// The record of what came can not be written.
+    #[error("Record")]
+    Record,
     /// An event is not handled, for a fault that is not want of memory.
     #[error("Serve {0}")]
     Serve(ServeFault),
@@ -129,7 +132,7 @@ impl fmt::Debug for LoopFault {
 }
 
 impl LoopFault {
-    /// The fault's number: 91, or 94 to 96.
+    /// The fault's number: 91, 94 to 96, or 100.
     pub fn number(self) -> u8
         ensures { result ≡ loop_fault_number self }
     {
@@ -138,6 +141,7 @@ impl LoopFault {
             LoopFault::Read => 94,
             LoopFault::Write => 95,
             LoopFault::Serve(_) => 96,
+            LoopFault::Record => 100,
         }
     }
 }

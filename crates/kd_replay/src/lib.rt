@@ -4,30 +4,45 @@
 //! run gives the history of its events (`specs/History.antt`), and a replay reads lines and writes
 //! the text of exactly that history (`specs/Lines.antt`, `specs/Replay.antt`, `specs/Text.antt`),
 //! up to the first fault (`specs/Faults.antt`). The line of one event alone is `event_line`.
+//! Whatever a server does with a batch (`ServesAll`), serving takes the datagrams of a link in
+//! batches, each at the moment of the clock after it came (`specs/Trace.antt`,
+//! `specs/Arriving.antt`), records them (`specs/Recording.antt`), and answers them in order
+//! (`specs/Serving.antt`); the record is an input of a replay (`specs/Laws.antt`).
 #![tactic(auto)]
 
 mod ahead;
+mod answering;
+mod arrived;
 mod bytes;
 mod ends;
 mod fault;
+mod happening;
+mod laws;
 mod line;
 mod lines;
 mod link;
+mod post;
+mod recording;
 mod replaying;
 mod room;
 mod running;
+mod served;
 mod serves;
 mod serving;
 mod text;
 mod writing;
 
+pub use arrived::Arrived;
 pub use bytes::replay_bytes;
 pub use ends::{EndFailed, Sink, Source};
 pub use fault::{LoopFault, ReplayFault, ServeFault};
-pub use link::{Clock, Link};
+pub use happening::{Happening, Packet};
+pub use laws::records_replay;
+pub use link::Link;
 pub use replaying::replay_with;
 pub use running::run_with;
-pub use serves::Serves;
+pub use served::{ServedBytes, serve_bytes};
+pub use serves::{Serves, ServesAll};
 pub use serving::serve_with;
 pub use text::event_line;
 pub use writing::write_all;

@@ -1,33 +1,46 @@
 use crate::ends::EndFailed;
 use kd_event::Destination;
 
-/// Where datagrams come from, and where replies are handed over to be sent.
+/// Where datagrams come from, with the clock that says when, and where replies are handed over to
+/// be sent.
 pub trait Link {
-    ghost use Rattle.std.specs.Prelude.{Bool, List, Option, ◌≡◌, ◌≤◌, ◌||◌, ◌∷◌, [], ℕ, length, take, IfOk, OnErr, is_err, is_ok};
-    ghost use Rattle.kd_replay.specs.Serving.{Grows, Packet};
+    ghost use Rattle.std.specs.Prelude.{Bool, List, Option, ◌≡◌, ◌≤◌, ◌||◌, ◌∷◌, [], ℕ, true, false, length, take, IfNone, IfOk, IfSome, OnErr, is_err, is_ok};
+    ghost use Rattle.kd_replay.specs.Trace.{Comes, Grows};
+    ghost use Rattle.kd_replay.specs.declared.happening.Happening.{Happening};
+    ghost use Rattle.kd_replay.specs.declared.happening.Happening.TheVariants as happens;
 
-    /// The datagrams that were received, where that is known.
-    ghost received: { Self → Option (List (List ℕ)) };
+    /// What happened, in this order, where that is known.
+    ghost trace: { Self → Option (List Happening) };
 
-    /// What was handed over to be sent, and whether each was sent, where that is known.
-    ghost sent: { Self → Option (List Packet) };
-
-    /// Whether nothing could be received at a call.
+    /// Whether nothing could be received at a call that waits.
     ghost has_failed: { Self → Bool };
 
-    /// Receives a datagram to the front of the buffer, and says its length; what does not fit is
-    /// cut off.
+    /// Waits for a datagram, receives it to the front of the buffer, and says its length there; what
+    /// does not fit is cut off.
     ///
     /// # Errors
     ///
     /// Nothing can be received.
     fn receive(&mut self, buf: &mut [u8]) -> Result<usize, EndFailed>
         ensures count { IfOk result (λ n. n ≤ length buf.new) }
-        ensures received { IfOk result
-            (λ n. Grows (received self.old) (received self.new) (take n buf.new ∷ [])) }
-        ensures none { OnErr result (received self.new ≡ received self.old) }
-        ensures sent { sent self.new ≡ sent self.old }
+        ensures came { IfOk result (λ n.
+            Comes true (trace self.old) (trace self.new) (length buf.new) (take n buf.new)) }
+        ensures none { OnErr result (trace self.new ≡ trace self.old) }
         ensures failed { has_failed self.new ≡ (has_failed self.old || is_err result) };
+
+    /// Receives a datagram that has come already, as `receive`, and never waits; a failure counts as
+    /// no datagram.
+    fn receive_waiting(&mut self, buf: &mut [u8]) -> Option<usize>
+        ensures count { IfSome result (λ n. n ≤ length buf.new) }
+        ensures came { IfSome result (λ n.
+            Comes false (trace self.old) (trace self.new) (length buf.new) (take n buf.new)) }
+        ensures none { IfNone result (trace self.new ≡ trace self.old) }
+        ensures failed { has_failed self.new ≡ has_failed self.old };
+
+    /// The moment, in whole seconds, as the clock says it.
+    fn now(&mut self) -> u64
+        ensures said { Grows (trace self.old) (trace self.new) (happens.Said result ∷ []) }
+        ensures failed { has_failed self.new ≡ has_failed self.old };
 
     /// Hands a datagram over to be sent.
     ///
@@ -35,14 +48,11 @@ pub trait Link {
     ///
     /// It was not sent.
     fn send(&mut self, bytes: &[u8], to: Destination) -> Result<(), EndFailed>
-        ensures sent { Grows (sent self.old) (sent self.new)
-            (record { destination = to; bytes = bytes.now; sent = is_ok result } ∷ []) }
-        ensures received { received self.new ≡ received self.old }
+        ensures went { Grows (trace self.old) (trace self.new)
+            (happens.Went (record {
+              destination = to;
+              bytes = bytes.now;
+              sent = is_ok result;
+            }) ∷ []) }
         ensures failed { has_failed self.new ≡ has_failed self.old };
-}
-
-/// What says the moment, in whole seconds.
-pub trait Clock {
-    /// The moment.
-    fn now(&mut self) -> u64;
 }

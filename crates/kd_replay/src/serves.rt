@@ -1,3 +1,4 @@
+use crate::arrived::Arrived;
 use crate::fault::ServeFault;
 use kd_event::Handled;
 
@@ -30,4 +31,23 @@ pub trait Serves {
         ensures failed { IfErr result (λ fault.
             fails self.old (record { moment = moment; bytes = bytes.now }) fault self.new) }
         ensures memory { IsErrOf result faults.Memory → self.new ≡ self.old };
+}
+
+/// What handles events in batches: serving is written over it, whatever a batch does.
+pub trait ServesAll {
+    ghost use Rattle.std.specs.Prelude.{List, Option};
+    ghost use Rattle.std.specs.List.{All};
+    ghost use Rattle.kd_replay.specs.Text.{IsSmall};
+    ghost use Rattle.kd_event.specs.declared.event.Event.{Event};
+    ghost use Rattle.kd_event.specs.declared.event.Handled.{Handled};
+    ghost use Rattle.kd_replay.specs.declared.fault.ServeFault.{ServeFault};
+
+    /// What a batch gives: the server before it, its events, what was done with the first of them,
+    /// the fault of the next, the server after.
+    ghost batches: { Self → List Event → List Handled → Option ServeFault → Self → Type 0 };
+
+    /// What is sent for the events of a batch, in order, up to the first fault.
+    fn handle_all(&mut self, events: &[Arrived]) -> (Vec<Handled>, Option<ServeFault>)
+        ensures batch { batches self.old events.now result.0.items result.1 self.new }
+        ensures small { All (λ handled. IsSmall handled.response) result.0.items };
 }

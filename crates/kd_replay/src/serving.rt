@@ -1,210 +1,167 @@
-ghost use Rattle.std.specs.Prelude.{◌≡◌, ◌+◌, ◌≤◌, ◌++◌, IfErr, IfOk, MatchResult, OnErr, OnOk, false, length, true, vec_capacity};
-ghost use Rattle.kd_replay.specs.Handling.{line_room};
-ghost use Rattle.kd_replay.specs.Answering.{IsTold, IsCut};
-ghost use Rattle.kd_replay.specs.Serving.{EndsServing, Grows, HasServed, StopsServing, behind_line, packets_in, text_of};
-ghost use Rattle.kd_replay.specs.Text.{line_of};
+ghost use Rattle.std.specs.Prelude.{◌≡◌, ◌<◌, ◌≤◌, IfErr, IfOk, OnErr, false, is_some, length, take, true, vec_capacity, vec_len};
+ghost use Rattle.std.specs.Result.{IsErrOf};
+ghost use Rattle.kd_replay.specs.Answering.{Gathers};
+ghost use Rattle.kd_replay.specs.Handling.{loop_fault_of, text_room};
+ghost use Rattle.kd_replay.specs.Serving.{EndsServing, HasServed, ServesTo, failed_in, traffic};
 ghost use Rattle.kd_replay.specs.declared.fault.LoopFault.TheVariants as faults;
 
-use crate::ends::Sink;
+use crate::answering::answer_all;
+use crate::arrived::Arrived;
+use crate::ends::{EndFailed, Sink};
 use crate::fault::{LoopFault, ServeFault};
-use crate::link::{Clock, Link};
-use crate::room::put;
-use crate::serves::Serves;
-use crate::text::{LINE_ROOM, put_line};
-use crate::writing::write_all;
-use kd_event::{Handled, Response};
+use crate::link::Link;
+use crate::recording::record_all;
+use crate::serves::ServesAll;
+use crate::text::TEXT_ROOM;
 use std::alloc::{AllocError, Global};
-
-// One byte more than the longest datagram that reads as a message, so that a longer one does not
-// read as one.
-const DATAGRAM_ROOM: usize = 4_097;
-
-const SEND_FAULT: &[u8] = b"fault 99 Send\n";
 
 // The memory that serving works in, all of it taken at the start.
 #[derive(Drop)]
 struct Work {
-    datagram: Vec<u8>,
+    buffers: Vec<Arrived>,
     text: Vec<u8>,
 }
 
 impl Work {
-    fn new(alloc: Global) -> Result<Work, AllocError>
-        ensures text { IfOk result (λ work. line_room + 14 ≤ vec_capacity work.text) }
+    fn new(alloc: Global, most: usize) -> Result<Work, AllocError>
+        ensures buffers { IfOk result (λ work. vec_len work.buffers ≡ most) }
+        ensures text { IfOk result (λ work. text_room ≤ vec_capacity work.text) }
     {
-        let mut datagram = Vec::with_capacity(alloc, DATAGRAM_ROOM)?;
-        datagram.resize(DATAGRAM_ROOM, 0)?;
-        let text = Vec::with_capacity(alloc, LINE_ROOM + SEND_FAULT.len())?;
-        Ok(Work { datagram, text })
+        let mut buffers = Vec::with_capacity(alloc, most)?;
+        for _ in 0..most {
+            buffers.push(Arrived::new(alloc)?)?;
+        }
+        let text = Vec::with_capacity(alloc, TEXT_ROOM)?;
+        Ok(Work { buffers, text })
     }
 }
 
-/// Serves so many datagrams as they are received, one after another: each is an event at the moment
-/// of the clock, its reply is handed over to be sent, and its line is written, after which stands
-/// `fault 99 Send` where the reply could not be sent.
+/// Serves `count` datagrams in batches of at most `most`. It waits for the first datagram of a batch,
+/// and takes without waiting those that have come already. The moment of each is what the link's
+/// clock says after it came. The whole batch is recorded in the journal, if there is one, before it
+/// is handled. Then each reply is handed over to be sent and its line is written, in order; after
+/// the line of a reply that could not be sent stands `fault 99 Send`. All memory of its own is taken
+/// at the start.
 ///
 /// # Errors
 ///
-/// `Read` where nothing can be received; `Serve` with the fault of a datagram's event; `Write`
-/// where the sink fails; `Memory` before the first datagram, or where the server says so of one.
-/// What was served before stands.
-pub fn serve_with<L: Link, C: Clock, W: Sink, H: Serves>(
+/// `Read` where nothing can be received; `Record` where the journal fails: nothing of that batch is
+/// handled; `Serve` with the fault of an event, after those before it are answered; `Write` where
+/// the sink fails; `Memory` before the first datagram, or where the server is out of memory. What was
+/// served before stands.
+pub fn serve_with<L: Link, R: Sink, W: Sink, H: ServesAll>(
     alloc: Global,
     link: &mut L,
-    clock: &mut C,
+    journal: &mut Option<R>,
     sink: &mut W,
     server: &mut H,
+    most: usize,
     count: u64,
 ) -> Result<(), LoopFault>
+    requires most { 0 < most }
     requires link { L.has_failed link.old ≡ false }
+    requires journal { failed_in R.Sink journal.old ≡ false }
     requires sink { W.has_failed sink.old ≡ false }
-    ensures served { OnOk result (HasServed H.gives count server.old server.new
-        (record {
-          received = L.received link.old;
-          sent = L.sent link.old;
-          written = W.contents sink.old;
-        })
-        (record {
-          received = L.received link.new;
-          sent = L.sent link.new;
-          written = W.contents sink.new;
-        })) }
-    ensures stopped { IfErr result
-        (λ fault. StopsServing H.gives H.fails (L.has_failed link.new ≡ true)
-        (W.has_failed sink.new ≡ true) fault count server.old server.new
-        (record {
-          received = L.received link.old;
-          sent = L.sent link.old;
-          written = W.contents sink.old;
-        })
-        (record {
-          received = L.received link.new;
-          sent = L.sent link.new;
-          written = W.contents sink.new;
-        })) }
+    ensures served { ServesTo H.batches result count server.old server.new
+        (traffic L.Link R.Sink W.Sink link.old journal.old sink.old)
+        (traffic L.Link R.Sink W.Sink link.new journal.new sink.new) }
+    ensures read { IsErrOf result faults.Read → L.has_failed link.new ≡ true }
+    ensures recorded { IsErrOf result faults.Record → failed_in R.Sink journal.new ≡ true }
+    ensures kept { is_some journal.new ≡ is_some journal.old }
+    ensures write { IsErrOf result faults.Write → W.has_failed sink.new ≡ true }
 {
-    let mut work = Work::new(alloc)?;
-    for number in 0..count {
-        serve_one(
+    let mut work = Work::new(alloc, most)?;
+    let mut left = count;
+    while left > 0 {
+        left -= serve_batch(
             link,
-            clock,
+            journal,
             sink,
             server,
-            work.datagram.as_mut_slice(),
             &mut work.text,
+            work.buffers.as_mut_slice(),
+            left,
         )?;
     }
     Ok(())
 }
 
-// Serves the next datagram.
-#[tactic(auto, using(crate::proofs::Fitting::handled_fits))]
-fn serve_one<L: Link, C: Clock, W: Sink, H: Serves>(
+// Serves the next batch, of at most `left` datagrams, and returns how many it had.
+fn serve_batch<L: Link, R: Sink, W: Sink, H: ServesAll>(
     link: &mut L,
-    clock: &mut C,
+    journal: &mut Option<R>,
     sink: &mut W,
     server: &mut H,
-    buf: &mut [u8],
-    room: &mut Vec<u8>,
-) -> Result<(), LoopFault>
-    requires { line_room + 14 ≤ vec_capacity room.old }
-    ensures served { OnOk result (HasServed H.gives 1 server.old server.new
-        (record {
-          received = L.received link.old;
-          sent = L.sent link.old;
-          written = W.contents sink.old;
-        })
-        (record {
-          received = L.received link.new;
-          sent = L.sent link.new;
-          written = W.contents sink.new;
-        })) }
-    ensures ended { IfErr result
-        (λ fault. EndsServing H.gives H.fails (L.has_failed link.new ≡ true)
-        (W.has_failed sink.new ≡ true) fault server.old server.new
-        (record {
-          received = L.received link.old;
-          sent = L.sent link.old;
-          written = W.contents sink.old;
-        })
-        (record {
-          received = L.received link.new;
-          sent = L.sent link.new;
-          written = W.contents sink.new;
-        })) }
-    ensures room { vec_capacity room.old ≤ vec_capacity room.new }
+    text: &mut Vec<u8>,
+    buffers: &mut [Arrived],
+    left: u64,
+) -> Result<u64, LoopFault>
+    requires buffers { 0 < length buffers.old }
+    requires left { 0 < left }
+    requires text { text_room ≤ vec_capacity text.old }
+    ensures served { IfOk result (λ count. HasServed H.batches count server.old server.new
+        (traffic L.Link R.Sink W.Sink link.old journal.old sink.old)
+        (traffic L.Link R.Sink W.Sink link.new journal.new sink.new)) }
+    ensures some { IfOk result (λ count. 0 < count) }
+    ensures few { IfOk result (λ count. count ≤ left) }
+    ensures ended { IfErr result (λ fault. EndsServing H.batches fault left server.old server.new
+        (traffic L.Link R.Sink W.Sink link.old journal.old sink.old)
+        (traffic L.Link R.Sink W.Sink link.new journal.new sink.new)) }
+    ensures read { IsErrOf result faults.Read → L.has_failed link.new ≡ true }
+    ensures recorded { IsErrOf result faults.Record → failed_in R.Sink journal.new ≡ true }
+    ensures kept { is_some journal.new ≡ is_some journal.old }
+    ensures write { IsErrOf result faults.Write → W.has_failed sink.new ≡ true }
+    ensures room { vec_capacity text.old ≤ vec_capacity text.new }
 {
-    let Ok(len) = link.receive(buf) else {
+    let Ok(count) = gather(link, buffers, left) else {
         return Err(LoopFault::Read);
     };
-    let (datagram, _) = buf.split_at(len);
-    match server.handle(clock.now(), datagram) {
-        Ok(handled) => answer(link, sink, room, &handled),
-        Err(ServeFault::Memory) => Err(LoopFault::Memory),
-        Err(fault) => Err(LoopFault::Serve(fault)),
+    let (batch, _) = buffers.split_at(count);
+    if let Err(_) = record_all(journal, text, batch) {
+        return Err(LoopFault::Record);
+    }
+    let (list, fault) = server.handle_all(batch);
+    if let Err(_) = answer_all(link, sink, text, &list) {
+        return Err(LoopFault::Write);
+    }
+    match fault {
+        Some(fault) => Err(loop_fault(fault)),
+        None => Ok(count as u64),
     }
 }
 
-// Hands the reply to a datagram over to be sent, and writes its text; no memory is taken.
-fn answer<L: Link, W: Sink>(
-    link: &mut L,
-    sink: &mut W,
-    room: &mut Vec<u8>,
-    handled: &Handled,
-) -> Result<(), LoopFault>
-    requires line { length (line_of handled.now) ≤ line_room }
-    requires room { line_room + 14 ≤ vec_capacity room.old }
-    ensures answered { MatchResult result
-        (λ _. IsTold handled.entry.now (L.sent link.old) (L.sent link.new) (W.contents sink.old)
-        (W.contents sink.new))
-        (λ fault. (fault ≡ faults.Write)
-        × IsCut handled.entry.now (L.sent link.old) (L.sent link.new) (W.contents sink.old)
-        (W.contents sink.new)) }
-    ensures received { L.received link.new ≡ L.received link.old }
-    ensures failed { OnErr result (W.has_failed sink.new ≡ true) }
-    ensures room { vec_capacity room.old ≤ vec_capacity room.new }
+// Waits for a datagram, then takes those that have come already, each to a buffer of its own, as long
+// as there are buffers and no more than `left`; returns how many came.
+fn gather<L: Link>(link: &mut L, buffers: &mut [Arrived], left: u64) -> Result<usize, EndFailed>
+    requires buffers { 0 < length buffers.old }
+    requires left { 0 < left }
+    ensures gathered { IfOk result
+        (λ n. Gathers (L.trace link.old) (L.trace link.new) (take n buffers.new)) }
+    ensures some { IfOk result (λ n. 0 < n) }
+    ensures few { IfOk result (λ n. n ≤ left) }
+    ensures within { IfOk result (λ n. n ≤ length buffers.new) }
+    ensures none { OnErr result (L.trace link.new ≡ L.trace link.old) }
+    ensures failed { OnErr result (L.has_failed link.new ≡ true) }
 {
-    let sent = send(link, &handled.response);
-    put_text(room, handled, sent);
-    match write_all(sink, room.as_slice()) {
-        Ok(()) => Ok(()),
-        Err(_) => Err(LoopFault::Write),
+    buffers[0].arrive(link)?;
+    let mut count = 1;
+    while count < buffers.len() && (count as u64) < left {
+        if !buffers[count].arrive_waiting(link) {
+            break;
+        }
+        count += 1;
     }
+    Ok(count)
 }
 
-// Puts the text of a handled datagram in place of what is there, by whether its reply was sent; no
-// memory is taken.
-fn put_text(room: &mut Vec<u8>, handled: &Handled, sent: bool)
-    requires line { length (line_of handled.now) ≤ line_room }
-    requires room { line_room + 14 ≤ vec_capacity room.old }
-    ensures items { room.new.items ≡ text_of (record { handled = handled.entry.now; sent = sent }) }
-    ensures capacity { vec_capacity room.old ≤ vec_capacity room.new }
+// How serving ends at a fault of the server.
+fn loop_fault(fault: ServeFault) -> LoopFault
+    ensures { result ≡ loop_fault_of fault }
 {
-    room.clear();
-    put_line(room, handled);
-    put_behind(room, &handled.response, sent);
-}
-
-// Appends the line that says that a reply was not sent, where there is one and it was not; no
-// memory is taken.
-fn put_behind(room: &mut Vec<u8>, response: &Response, sent: bool)
-    requires { length room.old.items + 14 ≤ vec_capacity room.old }
-    ensures items { room.new.items ≡ room.old.items ++ behind_line sent response.now }
-    ensures capacity { vec_capacity room.old ≤ vec_capacity room.new }
-{
-    match response {
-        Response::Reply(..) if !sent => put(room, SEND_FAULT),
-        _ => {}
-    }
-}
-
-// Hands a reply over to be sent, where there is one, and says whether it was sent.
-fn send<L: Link>(link: &mut L, response: &Response) -> bool
-    ensures sent { Grows (L.sent link.old) (L.sent link.new) (packets_in result response.now) }
-    ensures received { L.received link.new ≡ L.received link.old }
-{
-    match response {
-        Response::Reply(destination, bytes) => link.send(bytes.as_slice(), *destination).is_ok(),
-        Response::Quiet(_) => false,
+    match fault {
+        ServeFault::MomentTooLarge => LoopFault::Serve(fault),
+        ServeFault::Memory => LoopFault::Memory,
+        ServeFault::Store(_) => LoopFault::Serve(fault),
+        ServeFault::Failed => LoopFault::Serve(fault),
     }
 }

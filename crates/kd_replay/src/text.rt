@@ -1,6 +1,7 @@
 ghost use Rattle.std.specs.Prelude.{◌≡◌, ◌+◌, ◌≤◌, ◌++◌, IfOk, length, codes, decimal, vec_capacity};
 ghost use Rattle.hex.specs.Hex.{encode_lower};
 ghost use Rattle.kd_event.specs.Reason.{reason_name, reason_number};
+ghost use Rattle.kd_replay.specs.Recording.{record_line};
 ghost use Rattle.kd_replay.specs.Text.{IsSmall, address_text, bytes_text, destination_text, line_of, mode_word, quiet_line, reply_line, response_text};
 
 use crate::room::put;
@@ -10,6 +11,9 @@ use std::alloc::{AllocError, Global};
 
 // The most bytes of an output line, with its line feed.
 pub(crate) const LINE_ROOM: usize = 4_096;
+
+// The most bytes of a line of a record, with its line feed; a written line is shorter.
+pub(crate) const TEXT_ROOM: usize = 8_216;
 
 /// The line that a replay writes for a handled event, with its line feed.
 ///
@@ -26,6 +30,22 @@ pub fn event_line(alloc: Global, handled: &Handled) -> Result<Vec<u8>, AllocErro
     let mut line = Vec::with_capacity(alloc, LINE_ROOM)?;
     put_line(&mut line, handled);
     Ok(line)
+}
+
+// The line of an event in a record, with its line feed; no memory is taken.
+#[tactic(auto, unfolding(crate::specs::Recording::record_line))]
+pub(crate) fn put_event(room: &mut Vec<u8>, moment: u64, bytes: &[u8])
+    requires { length room.old.items
+        + length (record_line (record { moment = moment; bytes = bytes.now }))
+        ≤ vec_capacity room.old }
+    ensures items { room.new.items
+        ≡ room.old.items ++ record_line (record { moment = moment; bytes = bytes.now }) }
+    ensures capacity { vec_capacity room.old ≤ vec_capacity room.new }
+{
+    put_decimal(room, moment);
+    put(room, b" ");
+    put_hex(room, bytes);
+    put(room, b"\n");
 }
 
 // The line of a handled event, with its line feed; no memory is taken.

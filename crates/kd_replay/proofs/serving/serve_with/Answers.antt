@@ -1,18 +1,23 @@
-use Rattle.std.proofs.Common.{arith}
-use Rattle.std.proofs.lemmas.Result.{err_from_is_err_and}
-use Rattle.kd_replay.proofs.Served.{served_none, served_then, stopped_first}
+use Rattle.std.proofs.Common.{◌+◌, ◌∙◌, arith, refl}
+use Rattle.kd_replay.proofs.Batches.{served_none, served_then}
 use Rattle.kd_replay.proofs.serving.serve_with.Goals as goal
 
-pub returns-in_err-work-clause-stopped : goal.returns-in_err-work-clause-stopped
-returns-in_err-work-clause-stopped g c =
-    let p = err_from_is_err_and c.from_residual.result c.from_residual.ensures.1 in
-    rw (p.1, p.2) (stopped_first g.H.Serves.gives g.H.Serves.fails _ _ _ _ _)
+pub loop-left-init : goal.loop-left-init
+loop-left-init g c = record {
+  room = c.in_ok-work.ensures.text;
+  buffers = omega (arith, c.in_ok-work.ensures.buffers, c.requires.most);
+  kept = refl;
+  done = 0;
+  all = omega arith;
+  served = served_none g.H.ServesAll.batches _ _;
+}
 
-pub loop-number-init : goal.loop-number-init
-loop-number-init g c = record { room = c.in_ok-work.ensures.text; served = served_none g.H.Serves.gives _ _ }
-
-pub loop-number-preserved : goal.loop-number-preserved
-loop-number-preserved g c = record {
-  room = omega (arith, c.loop-number.invariant.room, c.in_ok-serve_one.ensures.room);
-  served = served_then g.H.Serves.gives _ 1 _ _ _ _ _ _ c.loop-number.invariant.served c.in_ok-serve_one.ensures.served;
+pub loop-left-preserved : goal.loop-left-preserved
+loop-left-preserved g c = record {
+  room = omega (arith, c.loop-left.invariant.room, c.in_ok-left.ensures.room);
+  buffers = omega (arith, c.loop-left.invariant.buffers);
+  kept = c.in_ok-left.ensures.kept ∙ c.loop-left.invariant.kept;
+  done = c.loop-left.invariant.done + c.in_ok-left.field-0;
+  all = omega (arith, c.loop-left.invariant.all, c.in_ok-left.ensures.few);
+  served = served_then g.H.ServesAll.batches _ _ _ _ _ _ _ _ c.loop-left.invariant.served c.in_ok-left.ensures.served;
 }

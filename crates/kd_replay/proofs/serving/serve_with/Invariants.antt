@@ -1,12 +1,19 @@
-use Rattle.std.proofs.Common.{◌+◌, ◌≤◌, vec_capacity}
-use Rattle.kd_replay.specs.Handling.{line_room}
-use Rattle.kd_replay.specs.Serving.{HasServed}
+use Rattle.std.proofs.Common.{ℕ, ◌≡◌, ◌+◌, ◌<◌, ◌≤◌, is_some, vec_capacity, vec_len}
+use Rattle.kd_replay.specs.Handling.{text_room}
+use Rattle.kd_replay.specs.Serving.{HasServed, traffic}
 use Rattle.kd_replay.proofs.serving.serve_with.Given as goal
 
-abbrev pub invariant-loop-number : goal.invariant-loop-number
-invariant-loop-number g l = record {
-  room : line_room + 14 ≤ vec_capacity l.work.text;
-  served : HasServed g.H.Serves.gives l.number l.fn.server l.server
-      (record { received = g.L.Link.received l.fn.link; sent = g.L.Link.sent l.fn.link; written = g.W.Sink.contents l.fn.sink })
-      (record { received = g.L.Link.received l.link; sent = g.L.Link.sent l.link; written = g.W.Sink.contents l.sink });
+abbrev pub invariant-loop-left : goal.invariant-loop-left
+invariant-loop-left g l = record {
+  room : text_room ≤ vec_capacity l.work.text;
+  buffers : 0 < vec_len l.work.buffers;
+  kept : is_some l.journal ≡ is_some l.fn.journal;
+  done : ℕ;
+  all : done + l.left ≡ l.count;
+  served : HasServed g.H.ServesAll.batches done l.fn.server l.server
+      (traffic g.L.Link g.R.Sink g.W.Sink l.fn.link l.fn.journal l.fn.sink)
+      (traffic g.L.Link g.R.Sink g.W.Sink l.link l.journal l.sink);
 }
+
+abbrev pub decreases-loop-left : goal.decreases-loop-left
+decreases-loop-left g l = l.left
