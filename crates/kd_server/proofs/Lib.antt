@@ -1,9 +1,11 @@
 pub mod Across
+pub mod Batches
 pub mod Headed
 pub mod LiveLeases
 pub mod Lives
 pub mod OneStep
 pub mod Overlap
 pub mod Ruled
+pub mod Staged
 pub mod Stopping
 pub mod Taken

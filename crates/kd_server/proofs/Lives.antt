@@ -1,4 +1,4 @@
--- A life of a server is a history with stops: each call is a step, or nothing happens in it.
+-- A life of a server is a history with stops: each event of a call is a step, or nothing happens at it.
 use Rattle.std.proofs.Common.{◌≡◌, ◌⊎◌, inl, inr, ⊎_elim, ℕ, zero, suc, Bool, is_some, map, List, [], ◌∷◌, ◌++◌, Option, Some, None, Result, Ok, Err, true, false, refl, sym, ap, ◌∙◌, subst}
 use Rattle.std.proofs.lemmas.Bool.{false≢true}
 use Rattle.std.proofs.lemmas.Option.{none-some, same_Some}
@@ -10,7 +10,8 @@ use Rattle.kd_event.specs.declared.ports.Ports.{Ports}
 use Rattle.kd_keeps.specs.declared.keeps.Keeps.{Ghosts}
 use Rattle.kd_lease.specs.Change.{Changes}
 use Rattle.kd_replay.specs.History as past
-use Rattle.kd_replay.specs.Serving.{Answered, EndsAfter, EndsServing, HasServed, Traffic}
+use Rattle.kd_replay.specs.Arriving.{event_of}
+use Rattle.kd_replay.specs.Serving.{Answered, Batch, EndsServing, Follow, Traffic, events_in, handled_in}
 use Rattle.kd_replay.specs.declared.fault.LoopFault.{LoopFault}
 use Rattle.kd_replay.specs.declared.fault.LoopFault.TheVariants as loops
 use Rattle.kd_replay.specs.declared.fault.ServeFault.{ServeFault}
@@ -19,16 +20,18 @@ use Rattle.kd_options.specs.Message.{Reads}
 use Rattle.kd_rows.specs.Table.{latest_of}
 use Rattle.kd_rows.specs.declared.row.Row.{Row}
 use Rattle.kd_keeps.specs.declared.fault.StoreFault.{StoreFault}
-use Rattle.kd_server.specs.Keeping.{IsStopped, Keeping, Refuses, Steps, StoreHolds}
-use Rattle.kd_server.specs.Lives.{AreCalls, AreSteps, Call, CallAnswers, Called, IsAnswerOf, IsDone, IsIdle, IsLeft, IsNoRun, IsRun, LivesAreHistories, LivesKeepConfigurations, Opening, OpeningsAreHistories, OpeningsEnd, ReachingIsCalls, RunsAreCalls, ServingIsCalls, calls_of}
+use Rattle.kd_server.specs.Batch.{Batched, IsCommitted, IsLost, LeavesOut}
+use Rattle.kd_server.specs.Keeping.{IsStopped, Keeping, Refuses, Steps, StepsTo, StoreHolds}
+use Rattle.kd_server.specs.Lives.{AreCalls, AreSteps, Call, CallAnswers, Called, IsAnswerOf, IsDone, IsIdle, IsLeft, IsNoRun, IsRun, LivesAreHistories, LivesKeepConfigurations, Opening, OpeningsAreHistories, OpeningsEnd, ReachingIsCalls, Report, RunsAreCalls, ServingIsCalls, calls_of, reports, reports_of}
+use Rattle.kd_server.specs.Lives.Call.{one, batch}
 use Rattle.kd_server.specs.NoOverlap.{AreOfOne, HistoryTo, LeaseHistory, LeaseStep, now_of}
 use Rattle.kd_server.specs.Step.{IsAnswered, IsUnreadable}
 
--- calls are steps from these rows to those
-record Told (config : Configuration) (ports : Ports) (rows : List Row) (calls : List Call) (last : List Row) : Type 0 where
+-- what is known of events are steps from these rows to those
+record Told (config : Configuration) (ports : Ports) (rows : List Row) (known : List Report) (last : List Row) : Type 0 where
   steps : List LeaseStep
   history : HistoryTo rows steps last
-  are : AreSteps config ports calls steps
+  are : AreSteps config ports known steps
 
 -- steps after steps
 followed : (rows : List Row) (es : List LeaseStep) (last : List Row) (fs : List LeaseStep)
@@ -36,44 +39,172 @@ followed : (rows : List Row) (es : List LeaseStep) (last : List Row) (fs : List 
 followed rows [] last fs h k = subst (λ (r : List Row). LeaseHistory r fs) h k
 followed rows (e ∷ es) last fs h k = (h.0, h.1, followed e.after es last fs h.2 k)
 
--- a call in which nothing happens, before other calls
-idle_first : (config : Configuration) (ports : Ports) (call : Call) (calls : List Call) (es : List LeaseStep) → IsIdle call.event call.answer
-    → AreSteps config ports calls es → AreSteps config ports (call ∷ calls) es
-idle_first config ports call calls [] idle are = (idle, are)
-idle_first config ports call calls (e ∷ es) idle are = inl (idle, are)
+-- an event at which nothing happens, before others
+idle_first : (config : Configuration) (ports : Ports) (r : Report) (known : List Report) (es : List LeaseStep) → IsIdle r.in_batch r.event r.answer
+    → AreSteps config ports known es → AreSteps config ports (r ∷ known) es
+idle_first config ports r known [] idle are = (idle, are)
+idle_first config ports r known (e ∷ es) idle are = inl (idle, are)
+
+module _ (config : Configuration) (ports : Ports) where
+  -- an event at which nothing happens, before what is told of others
+  idle_told : (rows : List Row) (r : Report) (known : List Report) (last : List Row) → IsIdle r.in_batch r.event r.answer
+      → Told config ports rows known last → Told config ports rows (r ∷ known) last
+  idle_told rows r known last idle t = record { steps = t.steps; history = t.history; are = idle_first config ports r known t.steps idle t.are }
+
+  -- an event that is answered, before what is told of others
+  step_told : (rows next last : List Row) (event : Event) (handled : Handled) (in_batch : Bool) (known : List Report) → StepsTo config ports rows event handled next
+      → Told config ports next known last → Told config ports rows (record { event = event; answer = Ok handled; in_batch = in_batch } ∷ known) last
+  step_told rows next last event handled in_batch known step later = ⊎_elim unread read step.done where
+    r : Report
+    r = record { event = event; answer = Ok handled; in_batch = in_batch }
+
+    unread : IsUnreadable latest_of (Changes config) ports rows event handled.response next → Told config ports rows (r ∷ known) last
+    unread u = record {
+      steps = later.steps;
+      history = subst (λ (l : List Row). HistoryTo l later.steps last) u.table later.history;
+      are = idle_first config ports r known later.steps u.unreadable later.are;
+    }
+
+    read : IsAnswered latest_of (Changes config) ports rows event handled.now handled.response next → Told config ports rows (r ∷ known) last
+    read w =
+        let e : LeaseStep = record { config = config; moment = event.moment; message = w.message; before = rows; after = next; outcome = Some w.outcome } in
+        record {
+          steps = e ∷ later.steps;
+          history = (refl, subst (λ now. Changes config rows w.message now next w.outcome) step.now w.changes, later.history);
+          are = inr (record { config_is = refl; moment = refl; reads = w.reads; answer = (step.now, (w.outcome, refl, w.responds)) }, later.are);
+        }
+
+  -- an event of a batch whose commit has failed, before what is told of others: its step was stopped
+  stop_told : (rows next last : List Row) (event : Event) (handled : Handled) (why : StoreFault) (known : List Report) → StepsTo config ports rows event handled next
+      → Told config ports next known last → Told config ports rows (record { event = event; answer = Err (faults.Store why); in_batch = true } ∷ known) last
+  stop_told rows next last event handled why known step later = ⊎_elim unread read step.done where
+    r : Report
+    r = record { event = event; answer = Err (faults.Store why); in_batch = true }
+
+    unread : IsUnreadable latest_of (Changes config) ports rows event handled.response next → Told config ports rows (r ∷ known) last
+    unread u = record {
+      steps = later.steps;
+      history = subst (λ (l : List Row). HistoryTo l later.steps last) u.table later.history;
+      are = idle_first config ports r known later.steps refl later.are;
+    }
+
+    read : IsAnswered latest_of (Changes config) ports rows event handled.now handled.response next → Told config ports rows (r ∷ known) last
+    read w =
+        let e : LeaseStep = record { config = config; moment = event.moment; message = w.message; before = rows; after = next; outcome = None } in
+        record {
+          steps = e ∷ later.steps;
+          history = (refl, inr (w.outcome, subst (λ now. Changes config rows w.message now next w.outcome) step.now w.changes), later.history);
+          are = inr (record { config_is = refl; moment = refl; reads = w.reads; answer = refl }, later.are);
+        }
+
+  -- events that have a history, before what is told of the others
+  history_told : (done after : List Event) (list : List Handled) (fault : Option ServeFault) (known : List Report) (rows mid last : List Row)
+      → past.History (StepsTo config ports) rows done list mid → Told config ports mid (reports_of after [] fault ++ known) last
+      → Told config ports rows (reports_of (done ++ after) list fault ++ known) last
+  history_told [] after [] fault known rows mid last h t = subst (λ (l : List Row). Told config ports l (reports_of after [] fault ++ known) last) h t
+  history_told (event ∷ done) after (handled ∷ list) fault known rows mid last h t =
+      step_told rows h.0 last event handled true _ h.1 (history_told done after list fault known h.0 mid last h.2 t)
+  history_told [] after (handled ∷ list) fault known rows mid last h t = absurd h
+  history_told (event ∷ done) after [] fault known rows mid last h t = absurd h
+
+  -- how a batch ends, before what is told of later events
+  ending_told : (fault : Option ServeFault) (after : List Event) (list : List Handled) (known : List Report) (mid new last : List Row)
+      → past.Halts LeavesOut fault after list mid new → Told config ports new known last → Told config ports mid (reports_of after [] fault ++ known) last
+  ending_told None [] list known mid new last same t = subst (λ (l : List Row). Told config ports l known last) same t
+  ending_told None (event ∷ after) list known mid new last h t = absurd h
+  ending_told (Some fault) [] list known mid new last n t = subst (λ (l : List Row). Told config ports l known last) n.same t
+  ending_told (Some faults.MomentTooLarge) (event ∷ after) list known mid new last (inl out) t =
+      idle_told mid _ known last tt (subst (λ (l : List Row). Told config ports l known last) out.1 t)
+  ending_told (Some faults.Memory) (event ∷ after) list known mid new last (inl out) t =
+      idle_told mid _ known last tt (subst (λ (l : List Row). Told config ports l known last) out.2 t)
+  ending_told (Some (faults.Store why)) (event ∷ after) list known mid new last (inl out) t = absurd out
+  ending_told (Some faults.Failed) (event ∷ after) list known mid new last (inl out) t = absurd out
+  ending_told (Some faults.MomentTooLarge) (event ∷ after) list known mid new last (inr n) t = absurd (let e = n.want in cc)
+  ending_told (Some faults.Memory) (event ∷ after) list known mid new last (inr n) t =
+      idle_told mid _ known last tt (subst (λ (l : List Row). Told config ports l known last) n.same t)
+  ending_told (Some (faults.Store why)) (event ∷ after) list known mid new last (inr n) t = absurd (let e = n.want in cc)
+  ending_told (Some faults.Failed) (event ∷ after) list known mid new last (inr n) t = absurd (let e = n.want in cc)
+
+  -- nothing happens at events whose commit has failed
+  all_idle : (events : List Event) (why : StoreFault) (known : List Report) → AreSteps config ports known []
+      → AreSteps config ports (reports_of events [] (Some (faults.Store why)) ++ known) []
+  all_idle [] why known none = none
+  all_idle (event ∷ events) why known none = (refl, all_idle events why known none)
+
+  -- or the steps of those that have a history were stopped
+  all_stopped : (done after : List Event) (list : List Handled) (why : StoreFault) (known : List Report) (rows mid : List Row)
+      → past.History (StepsTo config ports) rows done list mid → AreSteps config ports known []
+      → Told config ports rows (reports_of (done ++ after) [] (Some (faults.Store why)) ++ known) mid
+  all_stopped [] after [] why known rows mid h none = record { steps = []; history = h; are = all_idle after why known none }
+  all_stopped (event ∷ done) after (handled ∷ list) why known rows mid h none =
+      stop_told rows h.0 mid event handled why _ h.1 (all_stopped done after list why known h.0 mid h.2 none)
+  all_stopped [] after (handled ∷ list) why known rows mid h none = absurd h
+  all_stopped (event ∷ done) after [] why known rows mid h none = absurd h
+
+-- the rows after a batch are those after its history
+halted_rows : (fault : Option ServeFault) (after : List Event) (list : List Handled) (mid new : List Row) → past.Halts LeavesOut fault after list mid new → new ≡ mid
+halted_rows None [] list mid new same = same
+halted_rows None (event ∷ after) list mid new h = absurd h
+halted_rows (Some fault) [] list mid new n = n.same
+halted_rows (Some faults.MomentTooLarge) (event ∷ after) list mid new (inl out) = out.1
+halted_rows (Some faults.Memory) (event ∷ after) list mid new (inl out) = out.2
+halted_rows (Some (faults.Store why)) (event ∷ after) list mid new (inl out) = absurd out
+halted_rows (Some faults.Failed) (event ∷ after) list mid new (inl out) = absurd out
+halted_rows (Some fault) (event ∷ after) list mid new (inr n) = n.same
+
+-- nothing happens in a batch of a server whose store had failed
+failed_idle : (config : Configuration) (ports : Ports) (events : List Event) (known : List Report) (es : List LeaseStep) → AreSteps config ports known es
+    → AreSteps config ports (reports_of events [] (Some faults.Failed) ++ known) es
+failed_idle config ports [] known es are = are
+failed_idle config ports (event ∷ events) known es are =
+    idle_first config ports (record { event = event; answer = Err faults.Failed; in_batch = true }) known es tt are
 
 module _ {S : Type 0} (g : Ghosts S) where
   -- where the disk is clean after a call, it was before
-  clean_before : (old new : Keeping S) (event : Event) (answer : Result Handled ServeFault) → CallAnswers g old event answer new
-      → g.has_clean_disk new.store → g.has_clean_disk old.store
-  clean_before old new event (Ok handled) a clean = a.store.clean clean
-  clean_before old new event (Err faults.MomentTooLarge) a clean = subst (λ (s : Keeping S). g.has_clean_disk s.store) a.2 clean
-  clean_before old new event (Err faults.Memory) a clean = subst (λ (s : Keeping S). g.has_clean_disk s.store) a.3 clean
-  clean_before old new event (Err (faults.Store fault)) a clean = a.store.clean clean
-  clean_before old new event (Err faults.Failed) a clean = subst (λ (s : Keeping S). g.has_clean_disk s.store) a.1 clean
+  clean_before : (old new : Keeping S) (call : Call) → CallAnswers g old call new → g.has_clean_disk new.store → g.has_clean_disk old.store
+  clean_before old new (one event (Ok handled)) a clean = a.store.clean clean
+  clean_before old new (one event (Err faults.MomentTooLarge)) a clean = subst (λ (s : Keeping S). g.has_clean_disk s.store) a.2 clean
+  clean_before old new (one event (Err faults.Memory)) a clean = subst (λ (s : Keeping S). g.has_clean_disk s.store) a.3 clean
+  clean_before old new (one event (Err (faults.Store fault))) a clean = a.store.clean clean
+  clean_before old new (one event (Err faults.Failed)) a clean = subst (λ (s : Keeping S). g.has_clean_disk s.store) a.1 clean
+  clean_before old new (batch events list None) a clean = a.store.clean clean
+  clean_before old new (batch events list (Some faults.MomentTooLarge)) a clean = a.store.clean clean
+  clean_before old new (batch events list (Some faults.Memory)) a clean = a.store.clean clean
+  clean_before old new (batch events list (Some (faults.Store fault))) a clean = a.store.clean clean
+  clean_before old new (batch events list (Some faults.Failed)) a clean = subst (λ (s : Keeping S). g.has_clean_disk s.store) a.2 clean
 
   -- where the disk is clean after calls, it was before
   clean_first : (calls : List Call) (old new : Keeping S) → Called g old calls new → g.has_clean_disk new.store → g.has_clean_disk old.store
   clean_first [] old new same clean = subst (λ (s : Keeping S). g.has_clean_disk s.store) same clean
-  clean_first (call ∷ calls) old new c clean = clean_before old c.0 call.event call.answer c.1 (clean_first calls c.0 new c.2 clean)
+  clean_first (call ∷ calls) old new c clean = clean_before old c.0 call c.1 (clean_first calls c.0 new c.2 clean)
 
   -- a server whose store has failed answers Failed, and nothing happens
-  stuck : (old new : Keeping S) (event : Event) (answer : Result Handled ServeFault) → is_some (g.fault old.store) ≡ true
-      → CallAnswers g old event answer new → (new ≡ old) × IsIdle event answer
-  stuck old new event (Ok handled) failed a = absurd (false≢true (sym a.worked ∙ failed))
-  stuck old new event (Err faults.MomentTooLarge) failed a = absurd (false≢true (sym a.0 ∙ failed))
-  stuck old new event (Err faults.Memory) failed a = absurd (false≢true (sym a.0 ∙ failed))
-  stuck old new event (Err (faults.Store fault)) failed a = absurd (false≢true (sym a.worked ∙ failed))
-  stuck old new event (Err faults.Failed) failed a = (a.1, tt)
+  stuck : (old new : Keeping S) (call : Call) → is_some (g.fault old.store) ≡ true → CallAnswers g old call new
+      → (new ≡ old) × ((config : Configuration) (ports : Ports) (calls : List Call) → AreSteps config ports (reports calls) [] → AreSteps config ports (reports (call ∷ calls)) [])
+  stuck old new (one event (Ok handled)) failed a = absurd (false≢true (sym a.worked ∙ failed))
+  stuck old new (one event (Err faults.MomentTooLarge)) failed a = absurd (false≢true (sym a.0 ∙ failed))
+  stuck old new (one event (Err faults.Memory)) failed a = absurd (false≢true (sym a.0 ∙ failed))
+  stuck old new (one event (Err (faults.Store fault))) failed a = absurd (false≢true (sym a.worked ∙ failed))
+  stuck old new (one event (Err faults.Failed)) failed a = (a.1, λ config ports calls none. (tt, none))
+  stuck old new (batch events list None) failed a = absurd (false≢true (sym a.worked ∙ failed))
+  stuck old new (batch events list (Some faults.MomentTooLarge)) failed a = absurd (false≢true (sym a.worked ∙ failed))
+  stuck old new (batch events list (Some faults.Memory)) failed a = absurd (false≢true (sym a.worked ∙ failed))
+  stuck old new (batch events list (Some (faults.Store fault))) failed a = absurd (false≢true (sym a.worked ∙ failed))
+  stuck old new (batch events list (Some faults.Failed)) failed a = (
+    a.2,
+    λ config ports calls none.
+        subst (λ (l : List Handled). AreSteps config ports (reports_of events l (Some faults.Failed) ++ reports calls) []) (sym a.1)
+        (failed_idle config ports events (reports calls) [] none),
+  )
 
   -- so of all later calls
   stuck_all : (config : Configuration) (ports : Ports) (calls : List Call) (old new : Keeping S) → is_some (g.fault old.store) ≡ true → Called g old calls new
-      → (new ≡ old) × AreSteps config ports calls []
+      → (new ≡ old) × AreSteps config ports (reports calls) []
   stuck_all config ports [] old new failed same = (same, refl)
   stuck_all config ports (call ∷ calls) old new failed c =
-      let first = stuck old c.0 call.event call.answer failed c.1 in
+      let first = stuck old c.0 call failed c.1 in
       let later = stuck_all config ports calls c.0 new (ap (λ (s : Keeping S). is_some (g.fault s.store)) first.0 ∙ failed) c.2 in
-      (later.0 ∙ first.0, (first.1, later.1))
+      (later.0 ∙ first.0, first.1 config ports calls later.1)
 
   -- the rows that are found after calls: those of the server, or rows that a crash leaves
   abbrev IsFound : Keeping S → List Row → Type 0
@@ -81,42 +212,30 @@ module _ {S : Type 0} (g : Ghosts S) where
 
   -- what is told of calls on a server, whatever is found after them
   abbrev Tells : Keeping S → List Call → Keeping S → Type 0
-  Tells old calls new = (last : List Row) → IsFound new last → Told old.config old.ports old.rows calls last
+  Tells old calls new = (last : List Row) → IsFound new last → Told old.config old.ports old.rows (reports calls) last
+
+  -- what is told from a server with the same configuration and ports
+  from : (old mid : Keeping S) (known : List Report) (last : List Row) → mid.ports ≡ old.ports → mid.config ≡ old.config
+      → Told mid.config mid.ports mid.rows known last → Told old.config old.ports mid.rows known last
+  from old mid known last ports config t = subst (λ (c : Configuration). Told c old.ports mid.rows known last) config
+      (subst (λ (p : Ports). Told mid.config p mid.rows known last) ports t)
 
   -- the step of an answer comes before those of later calls
   answered : (old mid new : Keeping S) (event : Event) (handled : Handled) (calls : List Call) → Steps g old event handled mid
-      → Tells mid calls new → Tells old (record { event = event; answer = Ok handled } ∷ calls) new
-  answered old mid new event handled calls a tells last found = ⊎_elim unread read a.step.done where
-    call : Call
-    call = record { event = event; answer = Ok handled }
-
-    later : Told old.config old.ports mid.rows calls last
-    later = subst (λ (c : Configuration). Told c old.ports mid.rows calls last) a.config
-        (subst (λ (p : Ports). Told mid.config p mid.rows calls last) a.ports (tells last found))
-
-    unread : IsUnreadable latest_of (Changes old.config) old.ports old.rows event handled.response mid.rows → Told old.config old.ports old.rows (call ∷ calls) last
-    unread u = record {
-      steps = later.steps;
-      history = subst (λ (r : List Row). HistoryTo r later.steps last) u.table later.history;
-      are = idle_first old.config old.ports call calls later.steps u.unreadable later.are;
-    }
-
-    read : IsAnswered latest_of (Changes old.config) old.ports old.rows event handled.now handled.response mid.rows → Told old.config old.ports old.rows (call ∷ calls) last
-    read w =
-        let e : LeaseStep = record { config = old.config; moment = event.moment; message = w.message; before = old.rows; after = mid.rows; outcome = Some w.outcome } in
-        record {
-          steps = e ∷ later.steps;
-          history = (refl, subst (λ now. Changes old.config old.rows w.message now mid.rows w.outcome) a.step.now w.changes, later.history);
-          are = inr (record { config_is = refl; moment = refl; reads = w.reads; answer = (a.step.now, (w.outcome, refl, w.responds)) }, later.are);
-        }
+      → Tells mid calls new → Tells old (one event (Ok handled) ∷ calls) new
+  answered old mid new event handled calls a tells last found =
+      step_told old.config old.ports old.rows mid.rows last event handled false (reports calls) a.step
+      (from old mid (reports calls) last a.ports a.config (tells last found))
 
   -- a step that was stopped is the last in which something happens: it leaves the rows from before it, or those after
   stopped : (old mid new : Keeping S) (event : Event) (why : StoreFault) (stop : IsStopped g why old event mid) (calls : List Call) → new ≡ mid
-      → AreSteps old.config old.ports calls [] → g.has_clean_disk mid.store → StoreHolds g old.store old.rows → (last : List Row) → IsFound new last
-      → (call : Call) → call.event ≡ event → ((e : LeaseStep) → e.outcome ≡ None → IsAnswerOf old.ports e call.answer)
-      → Told old.config old.ports old.rows (call ∷ calls) last
-  stopped old mid new event why stop calls same none clean holds last found call its is = ⊎_elim unread read stop.step.done where
-    unread : IsUnreadable latest_of (Changes old.config) old.ports old.rows event stop.handled.response stop.after → Told old.config old.ports old.rows (call ∷ calls) last
+      → AreSteps old.config old.ports (reports calls) [] → g.has_clean_disk mid.store → StoreHolds g old.store old.rows → (last : List Row) → IsFound new last
+      → Told old.config old.ports old.rows (reports (one event (Err (faults.Store why)) ∷ calls)) last
+  stopped old mid new event why stop calls same none clean holds last found = ⊎_elim unread read stop.step.done where
+    known : List Report
+    known = reports (one event (Err (faults.Store why)) ∷ calls)
+
+    unread : IsUnreadable latest_of (Changes old.config) old.ports old.rows event stop.handled.response stop.after → Told old.config old.ports old.rows known last
     unread u = absurd (stop.store.changed u.table)
 
     either : (last ≡ old.rows) ⊎ (last ≡ stop.after)
@@ -125,40 +244,88 @@ module _ {S : Type 0} (g : Ghosts S) where
         (λ left. left old.rows stop.after (subst (λ (s : Keeping S). g.leaves s.store old.rows stop.after) (sym same) (stop.store.left clean holds)))
         found
 
-    read : IsAnswered latest_of (Changes old.config) old.ports old.rows event stop.handled.now stop.handled.response stop.after → Told old.config old.ports old.rows (call ∷ calls) last
+    read : IsAnswered latest_of (Changes old.config) old.ports old.rows event stop.handled.now stop.handled.response stop.after → Told old.config old.ports old.rows known last
     read w =
         let e : LeaseStep = record { config = old.config; moment = event.moment; message = w.message; before = old.rows; after = last; outcome = None } in
         let changes = subst (λ now. Changes old.config old.rows w.message now stop.after w.outcome) stop.step.now w.changes in
         record {
           steps = e ∷ [];
           history = (refl, ⊎_elim inl (λ after. inr (w.outcome, subst (λ (r : List Row). Changes old.config old.rows w.message (now_of e) r w.outcome) (sym after) changes)) either, refl);
-          are = inr (record { config_is = refl; moment = ap (λ (v : Event). v.moment) (sym its); reads = subst (λ (v : Event). Reads v.bytes w.message) (sym its) w.reads; answer = is e refl }, none);
+          are = inr (record { config_is = refl; moment = refl; reads = w.reads; answer = refl }, none);
         }
 
   -- what is told of calls after one that changed nothing
-  unchanged : (old mid new : Keeping S) (call : Call) (calls : List Call) → IsIdle call.event call.answer → mid ≡ old → Tells mid calls new
-      → Tells old (call ∷ calls) new
-  unchanged old mid new call calls idle same tells last found =
-      let later : Told old.config old.ports old.rows calls last = subst (λ (s : Keeping S). Told s.config s.ports s.rows calls last) same (tells last found) in
-      record { steps = later.steps; history = later.history; are = idle_first old.config old.ports call calls later.steps idle later.are }
+  unchanged : (old mid new : Keeping S) (event : Event) (answer : Result Handled ServeFault) (calls : List Call) → IsIdle false event answer → mid ≡ old → Tells mid calls new
+      → Tells old (one event answer ∷ calls) new
+  unchanged old mid new event answer calls idle same tells last found =
+      idle_told old.config old.ports old.rows _ (reports calls) last idle (subst (λ (s : Keeping S). Told s.config s.ports s.rows (reports calls) last) same (tells last found))
+
+  -- what is told of a batch that was committed, and of later calls
+  committed : (old mid new : Keeping S) (events : List Event) (list : List Handled) (fault : Option ServeFault) (calls : List Call)
+      → IsCommitted g old events list fault mid → Tells mid calls new → Tells old (batch events list fault ∷ calls) new
+  committed old mid new events list fault calls a tells last found =
+      let r = a.runs in
+      let later = from old mid (reports calls) last a.ports a.config (tells last found) in
+      let ended = ending_told old.config old.ports fault r.after list (reports calls) r.mid mid.rows last r.halts later in
+      subst (λ (all : List Event). Told old.config old.ports old.rows (reports_of all list fault ++ reports calls) last) (sym r.all)
+      (history_told old.config old.ports r.done r.after list fault (reports calls) old.rows r.mid last r.history ended)
+
+  -- what is told of a batch whose commit has failed: the rows from before it are left, or those after it
+  lost : (old mid new : Keeping S) (events : List Event) (list : List Handled) (why : StoreFault) (calls : List Call) → IsLost g why old events list mid → new ≡ mid
+      → AreSteps old.config old.ports (reports calls) [] → g.has_clean_disk mid.store → StoreHolds g old.store old.rows → (last : List Row) → IsFound new last
+      → Told old.config old.ports old.rows (reports (batch events list (Some (faults.Store why)) ∷ calls)) last
+  lost old mid new events list why calls a same none clean holds last found =
+      subst (λ (l : List Handled). Told old.config old.ports old.rows (reports_of events l (Some (faults.Store why)) ++ reports calls) last) (sym a.none)
+      (⊎_elim before after either) where
+        either : (last ≡ old.rows) ⊎ (last ≡ mid.rows)
+        either = ⊎_elim
+            (λ rows. inr (rows ∙ ap (λ (s : Keeping S). s.rows) same))
+            (λ left. left old.rows mid.rows (subst (λ (s : Keeping S). g.leaves s.store old.rows mid.rows) (sym same) (a.store.left clean holds)))
+            found
+
+        before : last ≡ old.rows → Told old.config old.ports old.rows (reports_of events [] (Some (faults.Store why)) ++ reports calls) last
+        before rows = record { steps = []; history = rows; are = all_idle old.config old.ports events why (reports calls) none }
+
+        after : last ≡ mid.rows → Told old.config old.ports old.rows (reports_of events [] (Some (faults.Store why)) ++ reports calls) last
+        after rows =
+            let r = a.runs in
+            let all = all_stopped old.config old.ports r.done r.after a.handled why (reports calls) old.rows r.mid r.history none in
+            let ends : last ≡ r.mid = rows ∙ halted_rows a.ending r.after a.handled r.mid mid.rows r.halts in
+            subst (λ (l : List Row). Told old.config old.ports old.rows (reports_of events [] (Some (faults.Store why)) ++ reports calls) l) (sym ends)
+            (subst (λ (es : List Event). Told old.config old.ports old.rows (reports_of es [] (Some (faults.Store why)) ++ reports calls) r.mid) (sym r.all) all)
+
+  -- what is told of a batch of a server whose store had failed, and of later calls
+  not_begun : (old mid new : Keeping S) (events : List Event) (list : List Handled) (calls : List Call) → list ≡ [] → mid ≡ old → Tells mid calls new
+      → Tells old (batch events list (Some faults.Failed) ∷ calls) new
+  not_begun old mid new events list calls none same tells last found =
+      let later : Told old.config old.ports old.rows (reports calls) last = subst (λ (s : Keeping S). Told s.config s.ports s.rows (reports calls) last) same (tells last found) in
+      subst (λ (l : List Handled). Told old.config old.ports old.rows (reports_of events l (Some faults.Failed) ++ reports calls) last) (sym none)
+      (record { steps = later.steps; history = later.history; are = failed_idle old.config old.ports events (reports calls) later.steps later.are })
 
   -- what is told of a call and those after it
-  one : (old mid new : Keeping S) (event : Event) (answer : Result Handled ServeFault) (calls : List Call) → CallAnswers g old event answer mid
+  first : (old mid new : Keeping S) (call : Call) (calls : List Call) → CallAnswers g old call mid
       → Called g mid calls new → g.has_clean_disk mid.store → StoreHolds g old.store old.rows → (StoreHolds g mid.store mid.rows → Tells mid calls new)
-      → Tells old (record { event = event; answer = answer } ∷ calls) new
-  one old mid new event (Ok handled) calls a later clean holds tells = answered old mid new event handled calls a (tells (a.store.holds clean holds))
-  one old mid new event (Err faults.MomentTooLarge) calls a later clean holds tells =
-      unchanged old mid new (record { event = event; answer = Err faults.MomentTooLarge }) calls tt a.2
-      (tells (subst (λ (s : Keeping S). StoreHolds g s.store s.rows) (sym a.2) holds))
-  one old mid new event (Err faults.Memory) calls a later clean holds tells =
-      unchanged old mid new (record { event = event; answer = Err faults.Memory }) calls tt a.3
-      (tells (subst (λ (s : Keeping S). StoreHolds g s.store s.rows) (sym a.3) holds))
-  one old mid new event (Err (faults.Store fault)) calls a later clean holds tells = λ last found.
+      → Tells old (call ∷ calls) new
+  first old mid new (one event (Ok handled)) calls a later clean holds tells = answered old mid new event handled calls a (tells (a.store.holds clean holds))
+  first old mid new (one event (Err faults.MomentTooLarge)) calls a later clean holds tells =
+      unchanged old mid new event (Err faults.MomentTooLarge) calls tt a.2 (tells (subst (λ (s : Keeping S). StoreHolds g s.store s.rows) (sym a.2) holds))
+  first old mid new (one event (Err faults.Memory)) calls a later clean holds tells =
+      unchanged old mid new event (Err faults.Memory) calls tt a.3 (tells (subst (λ (s : Keeping S). StoreHolds g s.store s.rows) (sym a.3) holds))
+  first old mid new (one event (Err (faults.Store fault))) calls a later clean holds tells = λ last found.
       let rest = stuck_all old.config old.ports calls mid new (ap is_some a.store.failed) later in
-      stopped old mid new event fault a calls rest.0 rest.1 clean holds last found (record { event = event; answer = Err (faults.Store fault) }) refl (λ e none. none)
-  one old mid new event (Err faults.Failed) calls a later clean holds tells =
-      unchanged old mid new (record { event = event; answer = Err faults.Failed }) calls tt a.1
-      (tells (subst (λ (s : Keeping S). StoreHolds g s.store s.rows) (sym a.1) holds))
+      stopped old mid new event fault a calls rest.0 rest.1 clean holds last found
+  first old mid new (one event (Err faults.Failed)) calls a later clean holds tells =
+      unchanged old mid new event (Err faults.Failed) calls tt a.1 (tells (subst (λ (s : Keeping S). StoreHolds g s.store s.rows) (sym a.1) holds))
+  first old mid new (batch events list None) calls a later clean holds tells = committed old mid new events list None calls a (tells (a.store.holds clean holds))
+  first old mid new (batch events list (Some faults.MomentTooLarge)) calls a later clean holds tells =
+      committed old mid new events list (Some faults.MomentTooLarge) calls a (tells (a.store.holds clean holds))
+  first old mid new (batch events list (Some faults.Memory)) calls a later clean holds tells =
+      committed old mid new events list (Some faults.Memory) calls a (tells (a.store.holds clean holds))
+  first old mid new (batch events list (Some (faults.Store fault))) calls a later clean holds tells = λ last found.
+      let rest = stuck_all old.config old.ports calls mid new (ap is_some a.store.failed) later in
+      lost old mid new events list fault calls a rest.0 rest.1 clean holds last found
+  first old mid new (batch events list (Some faults.Failed)) calls a later clean holds tells =
+      not_begun old mid new events list calls a.1 a.2 (tells (subst (λ (s : Keeping S). StoreHolds g s.store s.rows) (sym a.2) holds))
 
   -- what is told of all calls
   all : (calls : List Call) (old new : Keeping S) → Called g old calls new → g.has_clean_disk new.store → StoreHolds g old.store old.rows → Tells old calls new
@@ -172,27 +339,27 @@ module _ {S : Type 0} (g : Ghosts S) where
   }
   all (call ∷ calls) old new c clean holds =
       let mid_clean = clean_first calls c.0 new c.2 clean in
-      one old c.0 new call.event call.answer calls c.1 c.2 mid_clean holds (all calls c.0 new c.2 clean)
+      first old c.0 new call calls c.1 c.2 mid_clean holds (all calls c.0 new c.2 clean)
 
   -- what is told of a server that was run over a store
   ran : (o : Opening) (store left : S) → g.stands store o.rows → g.has_clean_disk left → (r : IsRun g o.config o.ports o.calls store left) → (last : List Row)
-      → (last ≡ r.last.rows) ⊎ IsLeft g left last → Told o.config o.ports o.rows o.calls last
+      → (last ≡ r.last.rows) ⊎ IsLeft g left last → Told o.config o.ports o.rows (reports o.calls) last
   ran o store left stands clean r last found =
       let last_clean : g.has_clean_disk r.last.store = subst g.has_clean_disk r.left_is clean in
       let opened = r.opens.holds (clean_first o.calls r.first r.last r.called last_clean) o.rows stands in
       let holds : StoreHolds g r.first.store r.first.rows = subst (StoreHolds g r.first.store) (sym opened.0) opened.1 in
       let told = all o.calls r.first r.last r.called last_clean holds last (subst (λ (s : S). (last ≡ r.last.rows) ⊎ IsLeft g s last) r.left_is found) in
-      subst (λ (c : Configuration). Told c o.ports o.rows o.calls last) r.opens.config_is
-      (subst (λ (p : Ports). Told r.first.config p o.rows o.calls last) r.opens.ports_are
-      (subst (λ (rows : List Row). Told r.first.config r.first.ports rows o.calls last) opened.0 told))
+      subst (λ (c : Configuration). Told c o.ports o.rows (reports o.calls) last) r.opens.config_is
+      (subst (λ (p : Ports). Told r.first.config p o.rows (reports o.calls) last) r.opens.ports_are
+      (subst (λ (rows : List Row). Told r.first.config r.first.ports rows (reports o.calls) last) opened.0 told))
 
   -- what is told where no server was opened
-  not_run : (o : Opening) (store left : S) → IsNoRun g o.config o.calls store left → (last : List Row) → last ≡ o.rows → Told o.config o.ports o.rows o.calls last
-  not_run o store left n last same = subst (λ (calls : List Call). Told o.config o.ports o.rows calls last) (sym n.none) (record { steps = []; history = same; are = refl })
+  not_run : (o : Opening) (store left : S) → IsNoRun g o.config o.calls store left → (last : List Row) → last ≡ o.rows → Told o.config o.ports o.rows (reports o.calls) last
+  not_run o store left n last same = subst (λ (calls : List Call). Told o.config o.ports o.rows (reports calls) last) (sym n.none) (record { steps = []; history = same; are = refl })
 
   -- what is told of an opening, where a crash leaves these rows
   told_left : (o : Opening) (store left : S) → g.stands store o.rows → g.has_clean_disk left → IsDone g o.config o.ports o.calls store left → (last : List Row)
-      → IsLeft g left last → Told o.config o.ports o.rows o.calls last
+      → IsLeft g left last → Told o.config o.ports o.rows (reports o.calls) last
   told_left o store left stands clean done last found = ⊎_elim
       (λ r. ran o store left stands clean r last (inr found))
       (λ n. not_run o store left n last (⊎_elim (λ e. e) (λ e. e) (found o.rows o.rows (n.unopened.left clean o.rows stands))))
@@ -200,7 +367,7 @@ module _ {S : Type 0} (g : Ghosts S) where
 
   -- what is told of one after which no rows are found
   told_last : (o : Opening) (store left : S) → g.stands store o.rows → g.has_clean_disk left → IsDone g o.config o.ports o.calls store left
-      → (last : List Row) × Told o.config o.ports o.rows o.calls last
+      → (last : List Row) × Told o.config o.ports o.rows (reports o.calls) last
   told_last o store left stands clean done = ⊎_elim
       (λ r. (r.last.rows, ran o store left stands clean r r.last.rows (inl refl)))
       (λ n. (o.rows, not_run o store left n o.rows refl))
@@ -220,21 +387,28 @@ module _ {S : Type 0} (g : Ghosts S) where
   Leaves s = (before : List Row) × (after : List Row) × g.leaves s.store before after
 
   -- so it does after a call and those after it
-  ends_one : (old mid new : Keeping S) (event : Event) (answer : Result Handled ServeFault) (calls : List Call) → CallAnswers g old event answer mid
+  ends_one : (old mid new : Keeping S) (call : Call) (calls : List Call) → CallAnswers g old call mid
       → Called g mid calls new → g.has_clean_disk mid.store → StoreHolds g old.store old.rows → (StoreHolds g mid.store mid.rows → Leaves new) → Leaves new
-  ends_one old mid new event (Ok handled) calls a later clean holds ends = ends (a.store.holds clean holds)
-  ends_one old mid new event (Err faults.MomentTooLarge) calls a later clean holds ends = ends (subst (λ (s : Keeping S). StoreHolds g s.store s.rows) (sym a.2) holds)
-  ends_one old mid new event (Err faults.Memory) calls a later clean holds ends = ends (subst (λ (s : Keeping S). StoreHolds g s.store s.rows) (sym a.3) holds)
-  ends_one old mid new event (Err (faults.Store fault)) calls a later clean holds ends =
+  ends_one old mid new (one event (Ok handled)) calls a later clean holds ends = ends (a.store.holds clean holds)
+  ends_one old mid new (one event (Err faults.MomentTooLarge)) calls a later clean holds ends = ends (subst (λ (s : Keeping S). StoreHolds g s.store s.rows) (sym a.2) holds)
+  ends_one old mid new (one event (Err faults.Memory)) calls a later clean holds ends = ends (subst (λ (s : Keeping S). StoreHolds g s.store s.rows) (sym a.3) holds)
+  ends_one old mid new (one event (Err (faults.Store fault))) calls a later clean holds ends =
       let rest = stuck_all old.config old.ports calls mid new (ap is_some a.store.failed) later in
       subst Leaves (sym rest.0) (old.rows, a.after, a.store.left clean holds)
-  ends_one old mid new event (Err faults.Failed) calls a later clean holds ends = ends (subst (λ (s : Keeping S). StoreHolds g s.store s.rows) (sym a.1) holds)
+  ends_one old mid new (one event (Err faults.Failed)) calls a later clean holds ends = ends (subst (λ (s : Keeping S). StoreHolds g s.store s.rows) (sym a.1) holds)
+  ends_one old mid new (batch events list None) calls a later clean holds ends = ends (a.store.holds clean holds)
+  ends_one old mid new (batch events list (Some faults.MomentTooLarge)) calls a later clean holds ends = ends (a.store.holds clean holds)
+  ends_one old mid new (batch events list (Some faults.Memory)) calls a later clean holds ends = ends (a.store.holds clean holds)
+  ends_one old mid new (batch events list (Some (faults.Store fault))) calls a later clean holds ends =
+      let rest = stuck_all old.config old.ports calls mid new (ap is_some a.store.failed) later in
+      subst Leaves (sym rest.0) (old.rows, mid.rows, a.store.left clean holds)
+  ends_one old mid new (batch events list (Some faults.Failed)) calls a later clean holds ends = ends (subst (λ (s : Keeping S). StoreHolds g s.store s.rows) (sym a.2) holds)
 
   -- and after all calls
   ends_all : (calls : List Call) (old new : Keeping S) → Called g old calls new → g.has_clean_disk new.store → StoreHolds g old.store old.rows → Leaves new
   ends_all [] old new same clean holds = subst Leaves (sym same) (old.rows, old.rows, holds.leaves)
   ends_all (call ∷ calls) old new c clean holds =
-      ends_one old c.0 new call.event call.answer calls c.1 c.2 (clean_first calls c.0 new c.2 clean) holds (ends_all calls c.0 new c.2 clean)
+      ends_one old c.0 new call calls c.1 c.2 (clean_first calls c.0 new c.2 clean) holds (ends_all calls c.0 new c.2 clean)
 
   -- an opening ends so
   pub ends : OpeningsEnd g
@@ -293,7 +467,7 @@ module _ {S : Type 0} (g : Ghosts S) where
   all_called [] [] old mid new after same c = (after, subst (λ (s : Keeping S). Called g s after new) same c)
   all_called (event ∷ events) (handled ∷ list) old mid new after h c =
       let later = all_called events list h.0 mid new after h.2 c in
-      (record { event = event; answer = Ok handled } ∷ later.0, (h.0, h.1, later.1))
+      (one event (Ok handled) ∷ later.0, (h.0, h.1, later.1))
   all_called [] (handled ∷ list) old mid new after h c = absurd h
   all_called (event ∷ events) [] old mid new after h c = absurd h
 
@@ -301,31 +475,32 @@ module _ {S : Type 0} (g : Ghosts S) where
   pub reaching : ReachingIsCalls g
   reaching old new r = ⊎_elim
       (λ same. all_called r.events r.list old r.mid new [] r.history same)
-      (λ one. all_called r.events r.list old r.mid new (record { event = one.0; answer = Err one.1 } ∷ []) r.history (new, one.2, refl))
+      (λ next. all_called r.events r.list old r.mid new (one next.0 (Err next.1) ∷ []) r.history (new, next.2, refl))
       r.last
 
-  -- datagrams that are served are calls, before other calls
-  served_called : (count : ℕ) (old mid new : Keeping S) (before after : Traffic) (calls : List Call) → HasServed (Steps g) count old mid before after → Called g mid calls new → AreCalls g old new
-  served_called count old mid new before after calls s c = all_called s.events (map (λ (a : Answered). a.handled) s.list) old mid new calls s.history c
+  -- batches that follow one another are calls, before other calls
+  followed_calls : (list : List Batch) (old mid new : Keeping S) (calls : List Call) → Follow (Batched g) old list mid → Called g mid calls new → AreCalls g old new
+  followed_calls [] old mid new calls same c = (calls, subst (λ (s : Keeping S). Called g s calls new) same c)
+  followed_calls (b ∷ list) old mid new calls f c =
+      let later = followed_calls list f.0 mid new calls f.2 c in
+      (batch (events_in b) (handled_in b) None ∷ later.0, (f.0, f.1, later.1))
 
-  -- so is the datagram at which serving ends
-  ended_called : (link output : Bool) (fault : LoopFault) (old new : Keeping S) (before after : Traffic) → EndsServing (Steps g) (Refuses g) (link ≡ true) (output ≡ true) fault old new before after
-      → AreCalls g old new
-  ended_called link output loops.Read old new before after e = ([], e.1)
-  ended_called link output loops.Memory old new before after e = (record { event = e.1.event; answer = Err faults.Memory } ∷ [], (new, e.1.failed, refl))
-  ended_called link output (loops.Serve fault) old new before after e = (record { event = e.1.event; answer = Err fault } ∷ [], (new, e.1.failed, refl))
-  ended_called link output loops.Write old new before after e = (record { event = e.1.event; answer = Ok e.1.answered.handled } ∷ [], (new, e.1.given, refl))
+  -- so is the batch at which serving ends
+  ended_calls : (fault : LoopFault) (left : ℕ) (old new : Keeping S) (before after : Traffic) → EndsServing (Batched g) fault left old new before after → AreCalls g old new
+  ended_calls loops.Read left old new before after e = ([], e.0)
+  ended_calls loops.Record left old new before after e = ([], e.0)
+  ended_calls loops.Memory left old new before after e = (batch (events_in e.batch) (handled_in e.batch) (Some faults.Memory) ∷ [], (new, e.given, refl))
+  ended_calls (loops.Serve fault) left old new before after e = (batch (events_in e.1.batch) (handled_in e.1.batch) (Some fault) ∷ [], (new, e.1.given, refl))
+  ended_calls loops.Write left old new before after e =
+      (batch (map event_of e.arrivals) (map (λ (a : Answered). a.handled) e.told ++ e.last.handled ∷ e.untold) e.fault ∷ [], (new, e.given, refl))
 
+  -- so is serving
   pub serving : ServingIsCalls g
-  serving = (
-    λ count old new before after s. served_called count old new new before after [] s refl,
-    λ link output fault count old new before after stops. ⊎_elim
-        (λ none. ([], none.1))
-        (λ (e : EndsAfter (Steps g) (Refuses g) (link ≡ true) (output ≡ true) fault count old new before after).
-        let last = ended_called link output fault e.mid new e.between after e.ends in
-        served_called e.done old e.mid new before e.between last.0 e.served last.1)
-        stops,
-  )
+  serving (Ok done) count old new before after s = followed_calls s.list old new new [] s.follow refl
+  serving (Err fault) count old new before after (inl n) = ([], n.same)
+  serving (Err fault) count old new before after (inr e) =
+      let last = ended_calls fault e.left e.mid new e.between after e.ends in
+      followed_calls e.served.list old e.mid new last.0 e.served.follow last.1
 
 -- a life is a history with stops
 pub histories : LivesAreHistories
@@ -343,25 +518,25 @@ none_of config es none k g is = let e : slice_get [] k ≡ Some g = subst (λ (l
 
 -- a step before others
 one_of : (config : Configuration) (e : LeaseStep) (es : List LeaseStep) → e.config ≡ config → AreOfOne config es → AreOfOne config (e ∷ es)
-one_of config e es first later zero g is = subst (λ (x : LeaseStep). x.config ≡ config) (same_Some e g is) first
-one_of config e es first later (suc k) g is = later k g is
+one_of config e es its later zero g is = subst (λ (x : LeaseStep). x.config ≡ config) (same_Some e g is) its
+one_of config e es its later (suc k) g is = later k g is
 
 -- steps before others
 all_of : (config : Configuration) (es fs : List LeaseStep) → AreOfOne config es → AreOfOne config fs → AreOfOne config (es ++ fs)
 all_of config [] fs first later = later
 all_of config (e ∷ es) fs first later = one_of config e (es ++ fs) (first zero e refl) (all_of config es fs (λ k g is. first (suc k) g is) later)
 
--- the steps of calls are of the server's configuration
-steps_of : (config : Configuration) (ports : Ports) (calls : List Call) (es : List LeaseStep) → AreSteps config ports calls es → AreOfOne config es
+-- the steps of events are of the server's configuration
+steps_of : (config : Configuration) (ports : Ports) (known : List Report) (es : List LeaseStep) → AreSteps config ports known es → AreOfOne config es
 steps_of config ports [] es are = none_of config es are
-steps_of config ports (call ∷ calls) [] are = none_of config [] refl
-steps_of config ports (call ∷ calls) (e ∷ es) (inl idle) = steps_of config ports calls (e ∷ es) idle.1
-steps_of config ports (call ∷ calls) (e ∷ es) (inr step) = one_of config e es step.0.config_is (steps_of config ports calls es step.1)
+steps_of config ports (r ∷ known) [] are = none_of config [] refl
+steps_of config ports (r ∷ known) (e ∷ es) (inl idle) = steps_of config ports known (e ∷ es) idle.1
+steps_of config ports (r ∷ known) (e ∷ es) (inr step) = one_of config e es step.0.config_is (steps_of config ports known es step.1)
 
 -- and those of openings with one configuration are of that one
 pub keep : LivesKeepConfigurations
 keep config [] es with_one are = none_of config es are
 keep config (o ∷ os) es with_one are =
-    let mine = steps_of config o.ports o.calls are.0 (subst (λ (c : Configuration). AreSteps c o.ports o.calls are.0) with_one.0 are.3) in
+    let mine = steps_of config o.ports (reports o.calls) are.0 (subst (λ (c : Configuration). AreSteps c o.ports (reports o.calls) are.0) with_one.0 are.3) in
     let later = keep config os are.1 with_one.1 are.4 in
     subst (AreOfOne config) (sym are.2) (all_of config are.0 are.1 mine later)

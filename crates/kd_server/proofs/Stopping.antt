@@ -35,7 +35,7 @@ stepped old event row response now early is (inr t) = record {
 }
 
 -- a datagram that sets a row which changes the rows has a header
-headed : (config : Configuration) (ports : Ports) (rows : List Row) (now : ℕ) (bytes : List ℕ) (row : Option Row) (response : Response)
+pub headed : (config : Configuration) (ports : Ports) (rows : List Row) (now : ℕ) (bytes : List ℕ) (row : Option Row) (response : Response)
     → IsTurn config ports rows now bytes row response → after rows row ≢ rows → HasHeader bytes
 headed config ports rows now bytes row response (inl t) changed = absurd (changed (ap (after rows) t.none))
 headed config ports rows now bytes row response (inr t) changed = message_headed bytes t.message t.reads

@@ -1,8 +1,10 @@
+pub mod Batch
 pub mod Keeping
 pub mod Leases
 pub mod Lives
 pub mod NoOverlap
 pub mod OneStep
+pub mod Staging
 pub mod Step
 pub mod Turn
 pub mod Unkept

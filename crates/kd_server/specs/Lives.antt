@@ -1,6 +1,7 @@
 -- A server that is opened, run, stopped and opened again on what a crash left: a life, of several
 -- openings, each with its configuration and over a store of any type. It is a history with stops.
-use Rattle.std.specs.Prelude.{◌≡◌, ◌⊎◌, ℕ, Bool, true, List, [], ◌∷◌, ◌++◌, Result, Ok, Err, Option, Some, None}
+use Rattle.std.specs.Prelude.{◌≡◌, ◌⊎◌, ℕ, Bool, true, false, List, [], ◌∷◌, ◌++◌, Result, Ok, Err, Option, Some, None}
+use Rattle.std.specs.List.{flat_map}
 use Rattle.kd_config.specs.Configuration.{Configuration}
 use Rattle.kd_event.specs.declared.event.Event.{Event}
 use Rattle.kd_event.specs.declared.event.Handled.{Handled}
@@ -9,22 +10,24 @@ use Rattle.kd_keeps.specs.declared.keeps.Keeps.{Ghosts}
 use Rattle.kd_lease.specs.Plan.{Outcome}
 use Rattle.kd_options.specs.Message.{Seen, Reads}
 use Rattle.kd_replay.specs.History.{NoMemory, Reaches, Runs}
-use Rattle.kd_replay.specs.Serving.{HasServed, StopsServing, Traffic}
+use Rattle.kd_replay.specs.Serving.{ServesTo, Traffic}
 use Rattle.kd_replay.specs.declared.fault.LoopFault.{LoopFault}
 use Rattle.kd_replay.specs.declared.fault.ServeFault.{ServeFault}
 use Rattle.kd_replay.specs.declared.fault.ServeFault.TheVariants as faults
 use Rattle.kd_rows.specs.declared.row.Row.{Row}
+use Rattle.kd_server.specs.Batch.{Batched}
 use Rattle.kd_server.specs.Keeping.{IsUnopened, Keeping, Opens, Refuses, Steps}
 use Rattle.kd_server.specs.NoOverlap.{AreOfOne, HistoryTo, LeaseHistory, LeaseStep, now_of}
 use Rattle.kd_server.specs.Step.{Responds}
 
--- a call of `handle`: its event, and what it answered
-pub record Call : Type 0 where
-  pub event : Event
-  pub answer : Result Handled ServeFault
+-- a call of a server: of `handle` with one event, and what it answered; or of `handle_all` with a
+-- batch of events, what was done with the first of them, and the fault
+pub data Call : Type 0 where
+  one : Event → Result Handled ServeFault → Call
+  batch : List Event → List Handled → Option ServeFault → Call
 
 -- one opening of a server, as it is seen from outside: its configuration, the rows at which its
--- store stood, the ports, and the calls of `handle`
+-- store stood, the ports, and the calls of the server
 pub record Opening : Type 0 where
   pub config : Configuration
   pub rows : List Row
@@ -32,16 +35,17 @@ pub record Opening : Type 0 where
   pub calls : List Call
 
 module _ {S : Type 0} (g : Ghosts S) where
-  -- what `handle` promises of a call
-  abbrev pub CallAnswers : Keeping S → Event → Result Handled ServeFault → Keeping S → Type 0
-  CallAnswers old event (Ok handled) new = Steps g old event handled new
-  CallAnswers old event (Err fault) new = Refuses g old event fault new
+  -- what is promised of a call
+  abbrev pub CallAnswers : Keeping S → Call → Keeping S → Type 0
+  CallAnswers old (one event (Ok handled)) new = Steps g old event handled new
+  CallAnswers old (one event (Err fault)) new = Refuses g old event fault new
+  CallAnswers old (batch events list fault) new = Batched g old events list fault new
 
   -- calls one after another, each on the server that the one before it left
   abbrev pub Called : Keeping S → List Call → Keeping S → Type 0
   Called old [] new = new ≡ old
   Called old (call ∷ calls) new =
-      (mid : Keeping S) × CallAnswers old call.event call.answer mid × Called mid calls new
+      (mid : Keeping S) × CallAnswers old call mid × Called mid calls new
 
   -- what was done with a server is such calls
   abbrev pub AreCalls : Keeping S → Keeping S → Type 0
@@ -88,9 +92,9 @@ module _ {S : Type 0} (g : Ghosts S) where
 abbrev pub calls_of : List Event → List Handled → Option ServeFault → List Call
 calls_of [] list fault = []
 calls_of (event ∷ events) (handled ∷ list) fault =
-    record { event = event; answer = Ok handled } ∷ calls_of events list fault
+    one event (Ok handled) ∷ calls_of events list fault
 calls_of (event ∷ events) [] None = []
-calls_of (event ∷ events) [] (Some fault) = record { event = event; answer = Err fault } ∷ []
+calls_of (event ∷ events) [] (Some fault) = one event (Err fault) ∷ []
 
 -- every run is such calls of `handle`, or memory ran out before the first
 abbrev pub RunsAreCalls : {S : Type 0} → Ghosts S → Type 0
@@ -99,14 +103,44 @@ RunsAreCalls {S} g =
     → Runs (Steps g) (Refuses g) events list fault old new
     → Called g old (calls_of events list fault) new ⊎ NoMemory faults.Memory list old new
 
--- a call in which nothing happens: the datagram reads as no message, or the fault is other than the
--- store's
-abbrev pub IsIdle : Event → Result Handled ServeFault → Type 0
-IsIdle event (Ok handled) = (m : Seen) → Reads event.bytes m → ⊥
-IsIdle event (Err (faults.Store fault)) = ⊥
-IsIdle event (Err fault) = Unit {0}
+-- what is known of an event: what was done with it, or the fault; and whether there was one commit
+-- for it and others
+pub record Report : Type 0 where
+  pub event : Event
+  pub answer : Result Handled ServeFault
+  pub in_batch : Bool
 
--- what a step gets is what a call answered: what was sent, at the moment that counts; and where the
+-- what is known of the events of a batch: what was done with the first, and the fault of the next,
+-- behind which there was nothing done; but where the commit has failed it is the fault of each
+abbrev pub reports_of : List Event → List Handled → Option ServeFault → List Report
+reports_of [] list fault = []
+reports_of (event ∷ events) (handled ∷ list) fault =
+    record { event = event; answer = Ok handled; in_batch = true } ∷ reports_of events list fault
+reports_of (event ∷ events) [] None = []
+reports_of (event ∷ events) [] (Some (faults.Store fault)) =
+    record { event = event; answer = Err (faults.Store fault); in_batch = true }
+    ∷ reports_of events [] (Some (faults.Store fault))
+reports_of (event ∷ events) [] (Some fault) =
+    record { event = event; answer = Err fault; in_batch = true } ∷ []
+
+-- what is known of the events of a call
+abbrev pub reports_in : Call → List Report
+reports_in (one event answer) =
+    record { event = event; answer = answer; in_batch = false } ∷ []
+reports_in (batch events list fault) = reports_of events list fault
+
+-- what is known of the events of calls
+abbrev pub reports : List Call → List Report
+reports calls = flat_map reports_in calls
+
+-- nothing happens at an event: the datagram reads as no message, or the fault is other than the
+-- store's; or the store's for a batch, in which the event need not change anything
+abbrev pub IsIdle : Bool → Event → Result Handled ServeFault → Type 0
+IsIdle in_batch event (Ok handled) = (m : Seen) → Reads event.bytes m → ⊥
+IsIdle in_batch event (Err (faults.Store fault)) = in_batch ≡ true
+IsIdle in_batch event (Err fault) = Unit {0}
+
+-- what a step gets is what was answered: what was sent, at the moment that counts; and where the
 -- store has failed the step was stopped
 abbrev pub IsAnswerOf : Ports → LeaseStep → Result Handled ServeFault → Type 0
 IsAnswerOf ports e (Ok handled) =
@@ -115,31 +149,31 @@ IsAnswerOf ports e (Ok handled) =
 IsAnswerOf ports e (Err (faults.Store fault)) = e.outcome ≡ None
 IsAnswerOf ports e (Err fault) = ⊥
 
--- a step is a call: its configuration is the server's, its moment is the event's, its message is what
--- the datagram reads as, and it gets what was answered
-pub record IsStepOf (config : Configuration) (ports : Ports) (call : Call)
+-- a step is an event: its configuration is the server's, its moment is the event's, its message is
+-- what the datagram reads as, and it gets what was answered
+pub record IsStepOf (config : Configuration) (ports : Ports) (report : Report)
     (e : LeaseStep) : Type 0 where
   pub config_is : e.config ≡ config
-  pub moment : e.moment ≡ call.event.moment
-  pub reads : Reads call.event.bytes e.message
-  pub answer : IsAnswerOf ports e call.answer
+  pub moment : e.moment ≡ report.event.moment
+  pub reads : Reads report.event.bytes e.message
+  pub answer : IsAnswerOf ports e report.answer
 
--- the steps are the calls in which something happens, in their order
-abbrev pub AreSteps : Configuration → Ports → List Call → List LeaseStep → Type 0
+-- the steps are the events at which something happens, in their order
+abbrev pub AreSteps : Configuration → Ports → List Report → List LeaseStep → Type 0
 AreSteps config ports [] es = es ≡ []
-AreSteps config ports (call ∷ calls) [] =
-    IsIdle call.event call.answer × AreSteps config ports calls []
-AreSteps config ports (call ∷ calls) (e ∷ es) =
-    (IsIdle call.event call.answer × AreSteps config ports calls (e ∷ es))
-    ⊎ (IsStepOf config ports call e × AreSteps config ports calls es)
+AreSteps config ports (report ∷ more) [] =
+    IsIdle report.in_batch report.event report.answer × AreSteps config ports more []
+AreSteps config ports (report ∷ more) (e ∷ es) =
+    (IsIdle report.in_batch report.event report.answer × AreSteps config ports more (e ∷ es))
+    ⊎ (IsStepOf config ports report e × AreSteps config ports more es)
 
--- what an opening was, whatever its store: steps from its rows, which are its calls, to rows that
--- are those found after it, if any are
+-- what an opening was, whatever its store: steps from its rows, which are the events of its calls, to
+-- rows that are those found after it, if any are
 pub record WasHistory (o : Opening) (next : Option (List Row)) : Type 0 where
   pub steps : List LeaseStep
   pub last : List Row
   pub history : HistoryTo o.rows steps last
-  pub are : AreSteps o.config o.ports o.calls steps
+  pub are : AreSteps o.config o.ports (reports o.calls) steps
   pub found : (rows : List Row) → next ≡ Some rows → last ≡ rows
 
 -- an opening over any store that keeps leases is a history to the rows that are found after it
@@ -163,12 +197,12 @@ Life [] = Unit {0}
 Life (o ∷ []) = WasHistory o None
 Life (o ∷ p ∷ os) = WasHistory o (Some p.rows) × Life (p ∷ os)
 
--- the steps are the calls of openings in which something happens, in their order
+-- the steps are the events of openings at which something happens, in their order
 abbrev pub AreStepsOfAll : List Opening → List LeaseStep → Type 0
 AreStepsOfAll [] es = es ≡ []
 AreStepsOfAll (o ∷ os) es =
     (mine : List LeaseStep) × (later : List LeaseStep) × (es ≡ mine ++ later)
-    × AreSteps o.config o.ports o.calls mine
+    × AreSteps o.config o.ports (reports o.calls) mine
     × AreStepsOfAll os later
 
 -- the rows at which a life begins; without an opening there are none
@@ -176,7 +210,7 @@ abbrev pub first_rows : List Opening → List Row
 first_rows [] = []
 first_rows (o ∷ os) = o.rows
 
--- every life is a history with stops: of steps, each of which is a call of `handle`
+-- every life is a history with stops: of steps, each of which is an event of a call
 abbrev pub LivesAreHistories : Type 0
 LivesAreHistories =
     (life : List Opening) → Life life
@@ -193,17 +227,13 @@ LivesKeepConfigurations =
     (config : Configuration) (life : List Opening) (es : List LeaseStep)
     → AreOpenedWith config life → AreStepsOfAll life es → AreOfOne config es
 
--- what a server reaches by events is calls of `handle`
+-- what a server reaches by events is calls
 abbrev pub ReachingIsCalls : {S : Type 0} → Ghosts S → Type 0
 ReachingIsCalls {S} g =
     (old new : Keeping S) → Reaches (Steps g) (Refuses g) old new → AreCalls g old new
 
--- so is what it does where it serves datagrams, to their number or up to a fault
+-- so is what it does where it serves datagrams, however that ends
 abbrev pub ServingIsCalls : {S : Type 0} → Ghosts S → Type 0
 ServingIsCalls {S} g =
-    ((count : ℕ) (old new : Keeping S) (before after : Traffic)
-    → HasServed (Steps g) count old new before after → AreCalls g old new)
-    × ((link output : Bool) (fault : LoopFault) (count : ℕ) (old new : Keeping S)
-    (before after : Traffic)
-    → StopsServing (Steps g) (Refuses g) (link ≡ true) (output ≡ true) fault count old new before
-    after → AreCalls g old new)
+    (result : Result Unit LoopFault) (count : ℕ) (old new : Keeping S) (before after : Traffic)
+    → ServesTo (Batched g) result count old new before after → AreCalls g old new

@@ -59,14 +59,21 @@ fn lease_at(alloc: Global, row: &Row, now: u64) -> Result<Lease, AllocError>
     ensures { IfOk result (λ lease. lease ≡ lease_of_row now row.now) }
 {
     Ok(Lease {
-        row: Row {
-            address: row.address,
-            client: Bytes::own(Vec::from_slice(alloc, row.client.as_slice())?),
-            state: row.state,
-            changed: row.changed,
-            ends: row.ends,
-        },
+        row: copy_of(alloc, row)?,
         live: now < row.ends,
+    })
+}
+
+// A copy of a row.
+pub(crate) fn copy_of(alloc: Global, row: &Row) -> Result<Row, AllocError>
+    ensures { IfOk result (λ copy. copy ≡ row.now) }
+{
+    Ok(Row {
+        address: row.address,
+        client: Bytes::own(Vec::from_slice(alloc, row.client.as_slice())?),
+        state: row.state,
+        changed: row.changed,
+        ends: row.ends,
     })
 }
 

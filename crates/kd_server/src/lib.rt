@@ -7,6 +7,7 @@
 //! another, whatever its configurations (`specs/NoOverlap.antt`, `laws::no_overlap_across`).
 #![tactic(auto)]
 
+mod batching;
 pub mod laws;
 mod leases;
 mod replaying;

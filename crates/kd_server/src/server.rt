@@ -8,16 +8,18 @@ ghost use Rattle.kd_replay.specs.Text.{IsSmall};
 ghost use Rattle.kd_replay.specs.declared.fault.ServeFault.TheVariants as faults;
 ghost use Rattle.kd_rows.specs.Row.{IsInRange};
 ghost use Rattle.kd_rows.specs.Table.{Rise, latest_of, with_row};
+ghost use Rattle.kd_server.specs.Batch.{Batched};
 ghost use Rattle.kd_server.specs.Keeping.{IsUnopened, Opens, Refuses, Steps, StillHolds};
 ghost use Rattle.kd_server.specs.Leases.{IsNoList, leases_of_rows};
 ghost use Rattle.kd_server.specs.Unkept.{IsSettable, IsUnkept};
 
+use crate::batching::{Rules, handle_each, keep_all};
 use crate::leases::{Lease, leases_at};
 use crate::turning::{Turn, turn_at};
 use kd_config::Config;
 use kd_event::{Event, Handled, Ports};
 use kd_keeps::{Keeps, Opened};
-use kd_replay::{ServeFault, Serves, run_with};
+use kd_replay::{Arrived, ServeFault, Serves, ServesAll, run_with};
 use kd_rows::{Row, Rows};
 use std::alloc::Global;
 use std::marker::Model;
@@ -169,6 +171,49 @@ impl<S: Keeps> Server<S> {
         let now = moment.max(self.rows.latest());
         let turn = turn_at(self.alloc, self.ports, &self.config, &self.rows, now, bytes)?;
         settle(&mut self.rows, &mut self.store, now, turn)
+    }
+
+    /// What is sent for events, in their order, each at its moment; the rows that they set are
+    /// committed to the store together, before anything is answered.
+    ///
+    /// # Errors
+    ///
+    /// Beside what was handled, the fault of the next event: `MomentTooLarge` where its moment is
+    /// not below 2^40, and `Memory`, for it or before the first. `Failed` where the store has failed
+    /// before: nothing is handled. `Store` where the store fails at the commit: nothing is answered,
+    /// the store holds the rows from before or those with all rows set, and the server's rows are
+    /// the latter.
+    pub fn handle_all(&mut self, events: &[Arrived]) -> (Vec<Handled>, Option<ServeFault>)
+        ensures batch { Batched S.Keeps self.old events.now result.0.items result.1 self.new }
+        ensures small { All (λ handled. IsSmall handled.response) result.0.items }
+    {
+        if self.store.failed() {
+            return (Vec::new(self.alloc), Some(ServeFault::Failed));
+        }
+        let Ok(mut list) = Vec::with_capacity(self.alloc, events.len()) else {
+            return (Vec::new(self.alloc), Some(ServeFault::Memory));
+        };
+        let mut set = Vec::new(self.alloc);
+        let rules = Rules {
+            alloc: self.alloc,
+            ports: self.ports,
+            config: &self.config,
+        };
+        let fault = handle_each(rules, &mut self.rows, &mut set, &mut list, events);
+        match keep_all(&mut self.store, set.as_slice()) {
+            Ok(()) => (list, fault),
+            Err(fault) => (Vec::new(self.alloc), Some(ServeFault::Store(fault))),
+        }
+    }
+}
+
+impl<S: Keeps> ServesAll for Server<S> {
+    ghost use Rattle.kd_server.specs.Batch.{Batched};
+
+    ghost batches = { Batched S.Keeps };
+
+    fn handle_all(&mut self, events: &[Arrived]) -> (Vec<Handled>, Option<ServeFault>) {
+        Server::handle_all(self, events)
     }
 }
 

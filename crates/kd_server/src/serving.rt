@@ -1,55 +1,45 @@
-ghost use Rattle.std.specs.Prelude.{◌≡◌, IfErr, OnOk, false, true};
-ghost use Rattle.kd_replay.specs.Serving.{HasServed, StopsServing};
-ghost use Rattle.kd_server.specs.Keeping.{Refuses, Steps};
+ghost use Rattle.std.specs.Prelude.{◌≡◌, ◌<◌, false, is_some, true};
+ghost use Rattle.std.specs.Result.{IsErrOf};
+ghost use Rattle.kd_replay.specs.Serving.{ServesTo, failed_in, traffic};
+ghost use Rattle.kd_replay.specs.declared.fault.LoopFault.TheVariants as faults;
+ghost use Rattle.kd_server.specs.Batch.{Batched};
 
 use crate::server::Server;
 use kd_keeps::Keeps;
-use kd_replay::{Clock, Link, LoopFault, Sink, serve_with};
+use kd_replay::{Link, LoopFault, Sink, serve_with};
 use std::alloc::Global;
 
-/// Serves so many datagrams as a link receives them, one after another: each is an event at the
-/// moment of the clock, its reply is handed over to be sent, and its line is written to the sink,
-/// after which stands `fault 99 Send` where the reply could not be sent.
+/// Serves so many datagrams as a link receives them: the first is waited for, and those that wait
+/// with it, at most so many, are handled together, each an event at the moment that the link's clock
+/// says after it came. Where there is a record, their lines are written to it first. Then their rows
+/// are committed together, each reply is handed over to be sent, and each line is written to the
+/// sink, after which stands `fault 99 Send` where the reply could not be sent.
 ///
 /// # Errors
 ///
-/// `Read` where nothing can be received; `Serve` with the fault of a datagram's event; `Write`
-/// where the sink fails; `Memory` before the first datagram, or where the server says so of one.
-/// What was served before stands.
-pub fn serve<L: Link, C: Clock, W: Sink, S: Keeps>(
+/// `Read` where nothing can be received; `Record` where the record can not be written; `Serve` with
+/// the fault of a batch; `Write` where the sink fails; `Memory` before the first datagram, or where
+/// the server says so. What was served before stands.
+pub fn serve<L: Link, R: Sink, W: Sink, S: Keeps>(
     alloc: Global,
     link: &mut L,
-    clock: &mut C,
+    journal: &mut Option<R>,
     sink: &mut W,
     server: &mut Server<S>,
+    most: usize,
     count: u64,
 ) -> Result<(), LoopFault>
+    requires most { 0 < most }
     requires link { L.has_failed link.old ≡ false }
+    requires journal { failed_in R.Sink journal.old ≡ false }
     requires sink { W.has_failed sink.old ≡ false }
-    ensures served { OnOk result (HasServed (Steps S.Keeps) count server.old server.new
-        (record {
-          received = L.received link.old;
-          sent = L.sent link.old;
-          written = W.contents sink.old;
-        })
-        (record {
-          received = L.received link.new;
-          sent = L.sent link.new;
-          written = W.contents sink.new;
-        })) }
-    ensures stopped { IfErr result (λ fault.
-        StopsServing (Steps S.Keeps) (Refuses S.Keeps) (L.has_failed link.new ≡ true)
-        (W.has_failed sink.new ≡ true) fault count server.old server.new
-        (record {
-          received = L.received link.old;
-          sent = L.sent link.old;
-          written = W.contents sink.old;
-        })
-        (record {
-          received = L.received link.new;
-          sent = L.sent link.new;
-          written = W.contents sink.new;
-        })) }
+    ensures served { ServesTo (Batched S.Keeps) result count server.old server.new
+        (traffic L.Link R.Sink W.Sink link.old journal.old sink.old)
+        (traffic L.Link R.Sink W.Sink link.new journal.new sink.new) }
+    ensures kept { is_some journal.new ≡ is_some journal.old }
+    ensures read { IsErrOf result faults.Read → L.has_failed link.new ≡ true }
+    ensures recorded { IsErrOf result faults.Record → failed_in R.Sink journal.new ≡ true }
+    ensures write { IsErrOf result faults.Write → W.has_failed sink.new ≡ true }
 {
-    serve_with(alloc, link, clock, sink, server, count)
+    serve_with(alloc, link, journal, sink, server, most, count)
 }

@@ -1,0 +1,78 @@
+-- Events that a server handles together, with one commit behind them.
+use Rattle.std.specs.Prelude.{◌≡◌, ◌≢◌, ◌++◌, ◌^◌, ◌≤◌, ◌<◌, true, false, List, [], Option, None, Some, is_some}
+use Rattle.kd_event.specs.declared.event.Event.{Event}
+use Rattle.kd_event.specs.declared.event.Handled.{Handled}
+use Rattle.kd_keeps.specs.declared.fault.StoreFault.{StoreFault}
+use Rattle.kd_keeps.specs.declared.keeps.Keeps.{Ghosts}
+use Rattle.kd_replay.specs.History.{History, Runs}
+use Rattle.kd_replay.specs.declared.fault.ServeFault.{ServeFault}
+use Rattle.kd_replay.specs.declared.fault.ServeFault.TheVariants as faults
+use Rattle.kd_rows.specs.declared.row.Row.{Row}
+use Rattle.kd_server.specs.Keeping.{HasHeader, Keeping, StepsTo, StillHolds, StoreHolds}
+
+-- why an event is not handled, over the rows, which stay: its moment is 2^40 or more, or memory ran
+-- out, which may come once the header is read
+abbrev pub LeavesOut : List Row → Event → ServeFault → List Row → Type 0
+LeavesOut rows event faults.MomentTooLarge new = (2 ^ 40 ≤ event.moment) × (new ≡ rows)
+LeavesOut rows event faults.Memory new =
+    (event.moment < 2 ^ 40) × HasHeader event.bytes × (new ≡ rows)
+LeavesOut rows event (faults.Store fault) new = ⊥
+LeavesOut rows event faults.Failed new = ⊥
+
+-- the first of some events have a history after which the rows are others
+pub record IsChangedBy (steps : List Row → Event → Handled → List Row → Type 0)
+    (events : List Event) (rows : List Row) : Type 0 where
+  pub early : List Event
+  pub later : List Event
+  pub all : events ≡ early ++ later
+  pub list : List Handled
+  pub mid : List Row
+  pub history : History steps rows early list mid
+  pub changed : mid ≢ rows
+
+module _ {S : Type 0} (g : Ghosts S) where
+  -- a store that has failed at a commit, with this fault: a crash leaves the rows from before or those
+  -- from after, and while it is open it stands at those from before
+  pub record FailsToKeep (fault : StoreFault) (old new : S) (before rows : List Row) : Type 0 where
+    pub failed : g.fault new ≡ Some fault
+    pub clean : g.has_clean_disk new → g.has_clean_disk old
+    pub left : g.has_clean_disk new → StoreHolds g old before → g.leaves new before rows
+    pub still : g.has_clean_disk new → StoreHolds g old before → g.is_open new → g.stands new before
+
+  -- the first events are handled, in their order, up to the end or to the one with the fault, and the
+  -- store holds the rows after them
+  pub record IsCommitted (old : Keeping S) (events : List Event) (list : List Handled)
+      (fault : Option ServeFault) (new : Keeping S) : Type 0 where
+    pub worked : is_some (g.fault old.store) ≡ false
+    pub ports : new.ports ≡ old.ports
+    pub config : new.config ≡ old.config
+    pub runs : Runs (StepsTo old.config old.ports) LeavesOut events list fault old.rows new.rows
+    pub store : StillHolds g old.store new.store old.rows new.rows
+
+  -- the store has failed with this fault at the commit of events, of which the first change the rows:
+  -- none is answered, and the server's rows are those after them
+  pub record IsLost (fault : StoreFault) (old : Keeping S) (events : List Event)
+      (list : List Handled) (new : Keeping S) : Type 0 where
+    pub worked : is_some (g.fault old.store) ≡ false
+    pub ports : new.ports ≡ old.ports
+    pub config : new.config ≡ old.config
+    pub none : list ≡ []
+    pub handled : List Handled
+    pub ending : Option ServeFault
+    pub runs : Runs (StepsTo old.config old.ports) LeavesOut events handled ending old.rows
+        new.rows
+    pub changes : IsChangedBy (StepsTo old.config old.ports) events old.rows
+    pub store : FailsToKeep fault old.store new.store old.rows new.rows
+
+  -- what events give that are handled together, by the fault: none, or that of the first event that is
+  -- not handled, behind those that are; or that of the commit; or the store had failed before
+  abbrev pub Batched : Keeping S → List Event → List Handled → Option ServeFault → Keeping S
+      → Type 0
+  Batched old events list None new = IsCommitted old events list None new
+  Batched old events list (Some faults.MomentTooLarge) new =
+      IsCommitted old events list (Some faults.MomentTooLarge) new
+  Batched old events list (Some faults.Memory) new =
+      IsCommitted old events list (Some faults.Memory) new
+  Batched old events list (Some (faults.Store fault)) new = IsLost fault old events list new
+  Batched old events list (Some faults.Failed) new =
+      (is_some (g.fault old.store) ≡ true) × (list ≡ []) × (new ≡ old)

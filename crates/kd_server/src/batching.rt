@@ -1,0 +1,173 @@
+ghost use Rattle.std.specs.Prelude.{◌≡◌, ◌≢◌, ◌+◌, ◌≤◌, ◌⊎◌, ◌∷◌, ◌++◌, [], List, IfErr, IfOk, IfSome, OnErr, OnOk, false, is_some, length, vec_capacity, vec_len};
+ghost use Rattle.std.specs.List.{All};
+ghost use Rattle.kd_lease.specs.Change.{after};
+ghost use Rattle.kd_replay.specs.History.{Runs};
+ghost use Rattle.kd_replay.specs.Text.{IsSmall};
+ghost use Rattle.kd_rows.specs.Row.{IsInRange};
+ghost use Rattle.kd_rows.specs.Table.{with_row, with_rows};
+ghost use Rattle.kd_rows.specs.declared.row.Row.{Row as LeaseRow};
+ghost use Rattle.kd_server.specs.Batch.{FailsToKeep, IsChangedBy, LeavesOut};
+ghost use Rattle.kd_server.specs.Keeping.{StepsTo, StillHolds};
+ghost use Rattle.kd_server.specs.Staging.{IsUnset, Stages};
+ghost use Rattle.kd_server.specs.Unkept.{IsSettable};
+
+use crate::leases::copy_of;
+use crate::server::MOMENTS;
+use crate::turning::{Turn, turn_at};
+use kd_config::Config;
+use kd_event::{Handled, Ports};
+use kd_keeps::{Keeps, StoreFault};
+use kd_replay::{Arrived, ServeFault};
+use kd_rows::{Row, Rows};
+use std::alloc::{AllocError, Global};
+
+// What a batch works with: the memory, and what a server goes by.
+#[derive(Clone, Copy)]
+pub(crate) struct Rules<'a> {
+    pub(crate) alloc: Global,
+    pub(crate) ports: Ports,
+    pub(crate) config: &'a Config,
+}
+
+// Handles events one after another, up to the first fault: their rows are set, and those to be
+// committed are listed.
+pub(crate) fn handle_each(
+    rules: Rules<'_>,
+    rows: &mut Rows,
+    set: &mut Vec<Row>,
+    list: &mut Vec<Handled>,
+    events: &[Arrived],
+) -> Option<ServeFault>
+    requires room { length events.now ≤ vec_capacity list.old }
+    requires none { list.old.items ≡ [] }
+    requires empty { set.old.items ≡ [] }
+    ensures runs { Runs (StepsTo rules.entry.config.now rules.entry.ports) LeavesOut
+        events.now list.new.items result rows.old.rows rows.new.rows }
+    ensures small { All (λ handled. IsSmall handled.response) list.new.items }
+    ensures sets { with_rows set.new.items rows.old.rows ≡ rows.new.rows }
+    ensures ranges { All IsInRange set.new.items }
+    ensures changes { (set.new.items ≡ [])
+        ⊎ IsChangedBy (StepsTo rules.entry.config.now rules.entry.ports) events.now rows.old.rows }
+{
+    for event in events {
+        match handle_one(rules, rows, set, event) {
+            Ok(handled) => list.push_reserved(handled),
+            Err(fault) => return Some(fault),
+        }
+    }
+    None
+}
+
+// Handles an event: its row is set, and listed to be committed where it changes the rows.
+fn handle_one(
+    rules: Rules<'_>,
+    rows: &mut Rows,
+    set: &mut Vec<Row>,
+    event: &Arrived,
+) -> Result<Handled, ServeFault>
+    ensures handled { IfOk result (λ handled.
+        StepsTo rules.entry.config.now rules.entry.ports rows.old.rows event.now handled rows.new.rows) }
+    ensures small { IfOk result (λ handled. IsSmall handled.response) }
+    ensures failed { IfErr result
+        (λ fault. LeavesOut rows.old.rows event.now fault rows.new.rows) }
+    ensures set { Stages rows.old.rows set.old.items rows.new.rows set.new.items }
+{
+    let moment = event.moment();
+    if moment >= MOMENTS {
+        return Err(ServeFault::MomentTooLarge);
+    }
+    let Rules {
+        alloc,
+        ports,
+        config,
+    } = rules;
+    let now = moment.max(rows.latest());
+    let turn = turn_at(alloc, ports, config, rows, now, event.bytes())?;
+    stage_turn(alloc, rows, set, now, turn)
+}
+
+// Sets the row of a datagram, as `stage`, and hands out what is sent for it.
+fn stage_turn(
+    alloc: Global,
+    rows: &mut Rows,
+    set: &mut Vec<Row>,
+    now: u64,
+    turn: Turn,
+) -> Result<Handled, ServeFault>
+    requires { IfSome turn.row (IsSettable rows.old.rows) }
+    ensures handled { IfOk result
+        (λ handled. handled ≡ record { now = now; response = turn.response }) }
+    ensures rows { OnOk result (rows.new.rows ≡ after rows.old.rows turn.row) }
+    ensures unset { IfErr result
+        (IsUnset rows.old.rows rows.new.rows (after rows.old.rows turn.row)) }
+    ensures set { Stages rows.old.rows set.old.items rows.new.rows set.new.items }
+{
+    let Turn { row, response } = turn;
+    stage(alloc, rows, set, row)?;
+    Ok(Handled { now, response })
+}
+
+// Sets a row, where there is one and it changes the rows, and lists it to be committed.
+fn stage(
+    alloc: Global,
+    rows: &mut Rows,
+    set: &mut Vec<Row>,
+    row: Option<Row>,
+) -> Result<(), ServeFault>
+    requires { IfSome row (IsSettable rows.old.rows) }
+    ensures rows { OnOk result (rows.new.rows ≡ after rows.old.rows row) }
+    ensures unset { IfErr result
+        (IsUnset rows.old.rows rows.new.rows (after rows.old.rows row)) }
+    ensures set { Stages rows.old.rows set.old.items rows.new.rows set.new.items }
+{
+    match row {
+        Some(row) => stage_row(alloc, rows, set, row),
+        None => Ok(()),
+    }
+}
+
+// Sets a row, where it changes the rows, and lists it to be committed.
+#[tactic(auto, using(crate::proofs::Staged::staged, crate::proofs::Staged::unstaged))]
+fn stage_row(alloc: Global, rows: &mut Rows, set: &mut Vec<Row>, row: Row) -> Result<(), ServeFault>
+    requires { IsSettable rows.old.rows row }
+    ensures rows { OnOk result (rows.new.rows ≡ with_row row rows.old.rows) }
+    ensures unset { IfErr result
+        (IsUnset rows.old.rows rows.new.rows (with_row row rows.old.rows)) }
+    ensures set { Stages rows.old.rows set.old.items rows.new.rows set.new.items }
+{
+    if rows.has(&row) {
+        return Ok(());
+    }
+    rows.reserve(&row)?;
+    list_row(alloc, set, &row)?;
+    rows.set(row);
+    Ok(())
+}
+
+// Lists a copy of a row.
+fn list_row(alloc: Global, set: &mut Vec<Row>, row: &Row) -> Result<(), AllocError>
+    ensures listed { OnOk result (set.new.items ≡ set.old.items ++ row.now ∷ []) }
+    ensures same { OnErr result (set.new.items ≡ set.old.items) }
+{
+    set.push(copy_of(alloc, row)?)?;
+    Ok(())
+}
+
+// Commits the rows that are listed, where there are any.
+pub(crate) fn keep_all<S: Keeps>(store: &mut S, set: &[Row]) -> Result<(), StoreFault>
+    requires works { is_some (S.fault store.old) ≡ false }
+    requires ranges { All IsInRange set.now }
+    ensures kept { OnOk result ((before : List LeaseRow)
+        → StillHolds S.Keeps store.old store.new before (with_rows set.now before)) }
+    ensures lost { IfErr result (λ fault. (before : List LeaseRow)
+        → FailsToKeep S.Keeps fault store.old store.new before (with_rows set.now before)) }
+    ensures some { OnErr result (set.now ≢ []) }
+{
+    if set.is_empty() {
+        return Ok(());
+    }
+    if set.len() == 1 {
+        return store.put(&set[0]);
+    }
+    store.put_all(set)
+}
