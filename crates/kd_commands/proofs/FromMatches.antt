@@ -64,8 +64,15 @@ asks_for ws (Replay config token_dir store) asked gives h =
 asks_for ws (Leases config token_dir store at) asked gives h =
     let is : lists (option_map string_bytes config) (option_map string_bytes token_dir) (option_map string_bytes store) at ≡ asked = cc in
     subst (Asks ws) (sym is) h
-asks_for ws (Serve config token_dir store listening count) asked gives h =
-    let is : serves (option_map string_bytes config) (option_map string_bytes token_dir) (option_map string_bytes store) listening count ≡ asked = cc in
+asks_for ws (Serve config token_dir store listening count journal) asked gives h =
+    let is : serves (record {
+      config = option_map string_bytes config;
+      token_dir = option_map string_bytes token_dir;
+      store = option_map string_bytes store;
+      listening = listening;
+      count = count;
+      journal = option_map string_bytes journal;
+    }) ≡ asked = cc in
     subst (Asks ws) (sym is) h
 
 -- where clap finds no fault
@@ -212,9 +219,9 @@ at_leases m inner name r named has is gives =
 same_serving : (f g : Text → Option Text) → f (codes "config") ≡ g (codes "config") → f (codes "token-dir") ≡ g (codes "token-dir")
     → f (codes "store") ≡ g (codes "store") → f (codes "bind") ≡ g (codes "bind") → f (codes "port") ≡ g (codes "port")
     → f (codes "client-port") ≡ g (codes "client-port") → f (codes "count") ≡ g (codes "count") → f (codes "broadcast-as") ≡ g (codes "broadcast-as")
-    → f (codes "mirror") ≡ g (codes "mirror") → serving_of f ≡ serving_of g
-same_serving f g config token_dir store bind port client_port count broadcast_as mirror =
-    rw (config, token_dir, store, bind, port, client_port, count, broadcast_as, mirror) refl
+    → f (codes "mirror") ≡ g (codes "mirror") → f (codes "record") ≡ g (codes "record") → serving_of f ≡ serving_of g
+same_serving f g config token_dir store bind port client_port count broadcast_as mirror journal =
+    rw (config, token_dir, store, bind, port, client_port, count, broadcast_as, mirror, journal) refl
 
 pub at_serve : (m inner : ArgMatches) (name : Text) (r : Result Order LineFault) → Some name ≡ subcommand_name_of m
     → Some (rows_of (found_of inner)) ≡ option_map (λ p. p.1) (subcommand_rows_of m) → name ≡ codes "serve"
@@ -224,6 +231,6 @@ at_serve m inner name r named has is gives =
     let value : (option : Text) → first_value (found_of inner) option ≡ first_of option (rows_of (found_of inner)) = λ option. first_value-rows (found_of inner) option in
     let same : serving_of (λ option. first_value (found_of inner) option) ≡ serving_of (λ option. first_of option (rows_of (found_of inner))) =
     same_serving (λ option. first_value (found_of inner) option) (λ option. first_of option (rows_of (found_of inner))) (value (codes "config")) (value (codes "token-dir")) (value (codes "store")) (value (codes "bind")) (value (codes "port"))
-    (value (codes "client-port")) (value (codes "count")) (value (codes "broadcast-as")) (value (codes "mirror")) in
+    (value (codes "client-port")) (value (codes "count")) (value (codes "broadcast-as")) (value (codes "mirror")) (value (codes "record")) in
     let at_name_is = at_name m name (codes "serve") (rows_of (found_of inner)) named has is in
     subst (λ o. GivesIfThere o r) (same ∙ sym at_name_is) gives

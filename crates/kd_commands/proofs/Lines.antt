@@ -91,8 +91,8 @@ clap_from_line ws (replays config token_dir store) h =
 clap_from_line ws (lists config token_dir store moment) h =
     let got = leases_passes ws config token_dir store moment leases h in
     record { whole = got.0; entered = got.1 }
-clap_from_line ws (serves config token_dir store listening count) h =
-    let got = serve_passes ws config token_dir store listening count serve h in
+clap_from_line ws (serves serving) h =
+    let got = serve_passes ws serving serve h in
     record { whole = got.0; entered = got.1 }
 
 -- a line that goes on with a flag for help fails by that alone

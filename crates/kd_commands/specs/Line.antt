@@ -5,12 +5,11 @@
 -- value, as `--config F` or `--config=F`; all may be left out but the moment of `leases`, `--at M`,
 -- and the count of `serve`, `--count N`. The flag of `serve`, `--mirror`, stands among its options,
 -- once at most and with no value.
-use Rattle.std.specs.Prelude.{◌≡◌, ◌⊎◌, ◌==◌, ℕ, Bool, true, false, List, [], ◌∷◌, ◌++◌, Option, Some, None, codes}
+use Rattle.std.specs.Prelude.{◌≡◌, ◌⊎◌, ◌==◌, Bool, true, false, List, [], ◌∷◌, ◌++◌, Option, Some, None, codes}
 use Rattle.std.specs.List.Sorted.{IsPermutation}
 use Rattle.clap.specs.Words.{Text}
-use Rattle.kd_commands.specs.Order.{Asked, shows, types, compiles, verifies, evaluates, tests, replays, lists, serves, listening_of}
+use Rattle.kd_commands.specs.Order.{Asked, Serving, shows, types, compiles, verifies, evaluates, tests, replays, lists, serves, listening_of}
 use Rattle.kd_commands.specs.Values.{number_of}
-use Rattle.kd_commands.specs.declared.orders.Listening.{Listening}
 
 -- a flag is a hyphen with more after it
 abbrev pub is_flag : Text → Bool
@@ -80,21 +79,21 @@ flag_given name false = []
 
 -- the words are `serve` with texts in its options that say this, and with the flag where replies
 -- are mirrored
-pub record IsServeLine (words : List Text) (config token_dir store : Option Text)
-    (listening : Listening) (count : ℕ) : Type 0 where
+pub record IsServeLine (words : List Text) (serving : Serving) : Type 0 where
   pub bind : Option Text
   pub port : Option Text
   pub client_port : Option Text
   pub digits : Text
   pub broadcast_as : Option Text
-  pub listens : listening_of bind port client_port broadcast_as listening.mirror ≡ Some listening
-  pub counts : number_of digits ≡ Some count
+  pub listens : listening_of bind port client_port broadcast_as serving.listening.mirror
+      ≡ Some serving.listening
+  pub counts : number_of digits ≡ Some serving.count
   pub line : IsOptionLine (codes "serve") words
-      (given_values ((codes "config", config) ∷ (codes "token-dir", token_dir)
-      ∷ (codes "store", store) ∷ (codes "bind", bind) ∷ (codes "port", port)
-      ∷ (codes "client-port", client_port)
-      ∷ (codes "count", Some digits) ∷ (codes "broadcast-as", broadcast_as) ∷ [])
-      ++ flag_given (codes "mirror") listening.mirror)
+      (given_values ((codes "config", serving.config) ∷ (codes "token-dir", serving.token_dir)
+      ∷ (codes "store", serving.store) ∷ (codes "bind", bind) ∷ (codes "port", port)
+      ∷ (codes "client-port", client_port) ∷ (codes "count", Some digits)
+      ∷ (codes "broadcast-as", broadcast_as) ∷ (codes "record", serving.journal) ∷ [])
+      ++ flag_given (codes "mirror") serving.listening.mirror)
 
 -- the words are a line that asks for this
 abbrev pub IsLine : List Text → Asked → Type 0
@@ -112,8 +111,7 @@ IsLine words (lists config token_dir store moment) =
     × IsOptionLine (codes "leases") words
     (given_values ((codes "config", config) ∷ (codes "token-dir", token_dir)
     ∷ (codes "store", store) ∷ (codes "at", Some digits) ∷ []))
-IsLine words (serves config token_dir store listening count) =
-    IsServeLine words config token_dir store listening count
+IsLine words (serves serving) = IsServeLine words serving
 
 -- the names of the subcommands
 abbrev pub subcommands : List Text

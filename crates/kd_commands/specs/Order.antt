@@ -86,14 +86,14 @@ abbrev pub leases_line : App
 leases_line = with_rule (files_line (codes "leases")) (needed_value (codes "at"))
 
 -- `serve [--config F] [--token-dir D] [--store F] [--bind A] [--port P] [--client-port Q] --count N
--- [--broadcast-as A] [--mirror]`
+-- [--broadcast-as A] [--mirror] [--record F]`
 abbrev pub serve_line : App
 serve_line =
-    with_rule (with_rule
+    with_rule (with_rule (with_rule
     (with_rule (with_rule
     (with_rule (with_rule (files_line (codes "serve")) (value_rule (codes "bind")))
     (value_rule (codes "port"))) (value_rule (codes "client-port"))) (needed_value (codes "count")))
-    (value_rule (codes "broadcast-as"))) (flag_rule (codes "mirror"))
+    (value_rule (codes "broadcast-as"))) (flag_rule (codes "mirror"))) (value_rule (codes "record"))
 
 -- the program, with no word for its name, and a subcommand that has to be there
 abbrev pub program_line : App
@@ -116,6 +116,20 @@ command_line =
 
 -- ---- what the words ask for
 
+-- what `serve` is asked for
+pub record Serving : Type 0 where
+  -- the file of the configuration, the folder of the token files and the file of the leases, where
+  -- they are given
+  pub config : Option Text
+  pub token_dir : Option Text
+  pub store : Option Text
+  -- where the socket is and where replies go
+  pub listening : Listening
+  -- how many datagrams are served
+  pub count : ℕ
+  -- the file to which what comes is appended, where one is given
+  pub journal : Option Text
+
 -- what a subcommand asks for
 pub data Asked : Type 0 where
   -- the lines of the datagram in this text
@@ -135,8 +149,8 @@ pub data Asked : Type 0 where
   replays : Option Text → Option Text → Option Text → Asked
   -- the leases of the store at this moment, with the same files
   lists : Option Text → Option Text → Option Text → ℕ → Asked
-  -- so many datagrams of a socket, served, with the same files, and where the socket is
-  serves : Option Text → Option Text → Option Text → Listening → ℕ → Asked
+  -- datagrams of a socket, served
+  serves : Serving → Asked
 
 -- a flag was given, by its value
 abbrev pub flag_is_given : Option Text → Bool
@@ -178,7 +192,14 @@ serving_of text = do
       (text (codes "broadcast-as")) (flag_is_given (text (codes "mirror")))
   digits ← text (codes "count")
   count ← number_of digits
-  Some (serves (text (codes "config")) (text (codes "token-dir")) (text (codes "store")) listening count)
+  Some (serves (record {
+    config = text (codes "config");
+    token_dir = text (codes "token-dir");
+    store = text (codes "store");
+    listening = listening;
+    count = count;
+    journal = text (codes "record");
+  }))
 
 -- what the subcommand of this name asks for, with these matches
 abbrev pub asked_by : Text → List Row → Option Asked
@@ -246,10 +267,15 @@ AsksFor words (Replay config token_dir store) = Asks words
 AsksFor words (Leases config token_dir store at) = Asks words
     (lists (option_map string_bytes config) (option_map string_bytes token_dir)
     (option_map string_bytes store) at)
-AsksFor words (Serve config token_dir store listening count) = Asks words
-    (serves (option_map string_bytes config) (option_map string_bytes token_dir)
-    (option_map string_bytes store) listening
-    count)
+AsksFor words (Serve config token_dir store listening count journal) =
+    Asks words (serves (record {
+      config = option_map string_bytes config;
+      token_dir = option_map string_bytes token_dir;
+      store = option_map string_bytes store;
+      listening = listening;
+      count = count;
+      journal = option_map string_bytes journal;
+    }))
 
 -- the words have this fault; memory may run out at any words
 abbrev pub HasFault : List Text → LineFault → Type 0
@@ -271,10 +297,15 @@ given_by (Replay config token_dir store) = Some
 given_by (Leases config token_dir store at) = Some
     (lists (option_map string_bytes config) (option_map string_bytes token_dir)
     (option_map string_bytes store) at)
-given_by (Serve config token_dir store listening count) = Some
-    (serves (option_map string_bytes config) (option_map string_bytes token_dir)
-    (option_map string_bytes store) listening
-    count)
+given_by (Serve config token_dir store listening count journal) =
+    Some (serves (record {
+      config = option_map string_bytes config;
+      token_dir = option_map string_bytes token_dir;
+      store = option_map string_bytes store;
+      listening = listening;
+      count = count;
+      journal = option_map string_bytes journal;
+    }))
 
 -- the answer gives what was asked, or memory ran out
 abbrev pub GivesUnlessFull : Asked → Result Order LineFault → Type 0

@@ -69,6 +69,8 @@ pub enum Order {
         listening: Listening,
         /// How many datagrams are served, 0 to 2^64 - 1.
         count: u64,
+        /// The path of the file to which what comes is appended, where the line gives one.
+        journal: Option<String>,
     },
 }
 

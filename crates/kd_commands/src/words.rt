@@ -276,7 +276,7 @@ const SERVE_EXAMPLE: &str =
     "Example: kdhcp serve --config config.json --store leases.db --bind 0.0.0.0 --count 18446744073709551615";
 
 // `serve [--config F] [--token-dir D] [--store F] [--bind A] [--port P] [--client-port Q] --count N
-// [--broadcast-as A] [--mirror]`.
+// [--broadcast-as A] [--mirror] [--record F]`.
 fn serve<'a>(alloc: Global) -> Result<Command<'a>, AllocError>
     ensures app { IfOk result (λ c. app_of c ≡ serve_line) }
     ensures local { IfOk result (λ c. (out-Command c).has_globals ≡ false) }
@@ -292,7 +292,13 @@ fn serve<'a>(alloc: Global) -> Result<Command<'a>, AllocError>
     .arg(valued(alloc, "client-port", "Q", "The clients' UDP port, or 68"))?
     .arg(count(alloc))?
     .arg(valued(alloc, "broadcast-as", "A", "Stands in for 255.255.255.255"))?
-    .arg(flag(alloc, "mirror", "Reply to the sender of a datagram"))
+    .arg(flag(alloc, "mirror", "Reply to the sender of a datagram"))?
+    .arg(valued(
+        alloc,
+        "record",
+        "F",
+        "Appends what comes to the file F, as input of replay",
+    ))
 }
 
 // What matches of the command line ask for.
@@ -482,12 +488,14 @@ fn served(alloc: Global, matches: &ArgMatches<'_>) -> Result<Order, LineFault>
         token_dir,
         store,
     } = files_of(alloc, matches)?;
+    let journal = text_of(alloc, matches, "record")?;
     Ok(Order::Serve {
         config,
         token_dir,
         store,
         listening,
         count,
+        journal,
     })
 }
 

@@ -15,6 +15,7 @@ use Rattle.kd_keeps.specs.declared.keeps.Keeps.{Ghosts}
 use Rattle.kd_program.specs.Openings.{CommandsAreOpenings}
 use Rattle.kd_program.specs.Running.{ports_asked}
 use Rattle.kd_program.specs.declared.host.Host.{Ghosts as Hosts}
+use Rattle.kd_replay.specs.declared.ends.Sink.{Ghosts as Sinks}
 use Rattle.kd_replay.specs.declared.link.Link.{Ghosts as Links}
 use Rattle.kd_rows.specs.declared.row.Row.{Row}
 use Rattle.kd_server.specs.Lives.{Call, IsDone, IsLeft, OpeningsAreHistories, OpeningsEnd}
@@ -72,8 +73,8 @@ module _ {D E : Type 0} {d : Disks D} {e : Disks E} (k : Ghosts (Kept (FileStore
         )
 
     -- the law of the later store tells its type alone
-    pub runs : {H U L C : Type 0} (h : Hosts H (Kept (FileStore D d)) U L C) (l : Links L) → OpeningsEnd m → CommandsAreOpenings h l k → Held → RunsAreHistories k m h l
-    runs h l later_ends openings held image files work status old new left s clean db table database holds =
+    pub runs : {H U L R : Type 0} (h : Hosts H (Kept (FileStore D d)) U L R) (l : Links L) (r : Sinks R) → OpeningsEnd m → CommandsAreOpenings h l r k → Held → RunsAreHistories k m h l r
+    runs h l r later_ends openings held image files work status old new left s clean db table database holds =
         let done = openings work s.config s.store s.back s.before s.after status old new s.serves in
         let first_clean = (ends s.config (ports_asked work) done.0 s.store s.back done.1 clean).0 in
         let stands = held image s.store s.held first_clean db table database holds in (

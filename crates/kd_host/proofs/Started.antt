@@ -20,6 +20,7 @@ use Rattle.kd_program.specs.declared.host.Host.{Ghosts as Hosts}
 use Rattle.kd_program.specs.declared.serving.Files.{Files}
 use Rattle.kd_program.specs.declared.serving.Work.{Work}
 use Rattle.kd_program.specs.declared.serving.Work.TheVariants as works
+use Rattle.kd_replay.specs.declared.ends.Sink.{Ghosts as Sinks}
 use Rattle.kd_replay.specs.declared.link.Link.{Ghosts as Links}
 use Rattle.kd_store.specs.Kept.{Kept}
 
@@ -27,7 +28,7 @@ some_mapped : {X Y : Type 0} (f : X → Y) (o : Option X) → is_some (option_ma
 some_mapped f None = refl
 some_mapped f (Some x) = refl
 
-module _ {D H U L C : Type 0} (d : Disks D) (h : Hosts H (Kept (FileStore D d)) U L C) (k : Ghosts (Kept (FileStore D d))) (unnamed : Ghosts U) (l : Links L) (image : Image)
+module _ {D H U L R : Type 0} (d : Disks D) (h : Hosts H (Kept (FileStore D d)) U L R) (k : Ghosts (Kept (FileStore D d))) (unnamed : Ghosts U) (l : Links L) (r : Sinks R) (image : Image)
     (left_of : H → Option (FileStore D d)) where
   -- what the machine says of a configuration, of a store, and of one that it takes back
   pub record Says : Type 0 where
@@ -48,9 +49,9 @@ module _ {D H U L C : Type 0} (d : Disks D) (h : Hosts H (Kept (FileStore D d)) 
       (subst (λ file. IsOfFiles file (is_some (option_map string_bytes files.token_dir)) config) (some_mapped string_bytes files.config) is)
 
   worked : Says → (files : Files) (work : Work) (path : List ℕ) (before after : H) (status : ℕ) (old new : Streams)
-      → (c : HasConfiguration h k unnamed l files work before after status old new)
-      → WorksOver h k unnamed l (Some path) work c.config c.asked after status old new
-      → ServesFiles d h k l image files work status old new (left_of after) ⊎ Told status old new
+      → (c : HasConfiguration h k unnamed l r files work before after status old new)
+      → WorksOver h k unnamed l r (Some path) work c.config c.asked after status old new
+      → ServesFiles d h k l r image files work status old new (left_of after) ⊎ Told status old new
   worked says files work path before after status old new c (inl w) =
       let opened = says.opens c.asked path w.store w.opened w.given in
       let closed = says.closes w.left path w.back after w.closed in
@@ -71,21 +72,21 @@ module _ {D H U L C : Type 0} (d : Disks D) (h : Hosts H (Kept (FileStore D d)) 
   worked says files work path before after status old new c (inr none) = inr (store_fault_number none.fault, none.told)
 
   started : Says → (files : Files) (work : Work) (path : List ℕ) (before after : H) (status : ℕ) (old new : Streams) → option_map string_bytes files.store ≡ Some path
-      → Starts h k unnamed l files work before after status old new → ServesFiles d h k l image files work status old new (left_of after) ⊎ Told status old new
+      → Starts h k unnamed l r files work before after status old new → ServesFiles d h k l r image files work status old new (left_of after) ⊎ Told status old new
   started says files work path before after status old new named (inl c) =
       worked says files work path before after status old new c
-      (subst (λ o. WorksOver h k unnamed l o work c.config c.asked after status old new) named c.works)
+      (subst (λ o. WorksOver h k unnamed l r o work c.config c.asked after status old new) named c.works)
   started says files work path before after status old new named (inr none) = inr (start_fault_number none.fault, none.told)
 
   ordered : Says → (files : Files) (work : Work) (path : List ℕ) (before after : H) (status : ℕ) (old new : Streams) → option_map string_bytes files.store ≡ Some path
-      → CarriesOut h k unnamed l (order_of files work) before after status old new → ServesFiles d h k l image files work status old new (left_of after) ⊎ Told status old new
+      → CarriesOut h k unnamed l r (order_of files work) before after status old new → ServesFiles d h k l r image files work status old new (left_of after) ⊎ Told status old new
   ordered says files works.Replay path before after status old new named c = started says files works.Replay path before after status old new named c
   ordered says files (works.Leases at) path before after status old new named c = started says files (works.Leases at) path before after status old new named c
-  ordered says files (works.Serve listening count) path before after status old new named c =
-      started says files (works.Serve listening count) path before after status old new named c
+  ordered says files (works.Serve listening count journal) path before after status old new named c =
+      started says files (works.Serve listening count journal) path before after status old new named c
 
-  pub on_files : Says → (words : List (List ℕ)) (before after : H) (status : ℕ) (old new : Streams) → Carries h k unnamed l words before after status old new
-      → RunsOnFiles d h k l image words status old new (left_of after)
+  pub on_files : Says → (words : List (List ℕ)) (before after : H) (status : ℕ) (old new : Streams) → Carries h k unnamed l r words before after status old new
+      → RunsOnFiles d h k l r image words status old new (left_of after)
   on_files says words before after status old new (inl c) = record { comes_to = inl (c.0, c.1, c.3) }
   on_files says words before after status old new (inr c) = record {
     comes_to =
@@ -93,7 +94,7 @@ module _ {D H U L C : Type 0} (d : Disks D) (h : Hosts H (Kept (FileStore D d)) 
           c.0,
           c.1,
           λ files work path is named. ordered says files work path before after status old new named
-              (subst (λ (order : Order). CarriesOut h k unnamed l order before after status old new) is c.2),
+              (subst (λ (order : Order). CarriesOut h k unnamed l r order before after status old new) is c.2),
         );
   }
 
@@ -103,6 +104,6 @@ given_store P Q (Ok v) p q = (p, q)
 given_store P Q (Err e) p q = tt
 
 -- a command that was carried out over some streams ends with a status over some
-pub some_streams : {D H U L C : Type 0} {d : Disks D} {h : Hosts H (Kept (FileStore D d)) U L C} {k : Ghosts (Kept (FileStore D d))} {l : Links L} {image : Image} {words : List (List ℕ)} {status : ℕ}
-    {old new : Streams} {left : Option (FileStore D d)} → RunsOnFiles d h k l image words status old new left → IsStatusOnFiles d h k l image words status
-some_streams {old = old} {new = new} {left = left} r = (old, new, left, r)
+pub some_streams : {D H U L R : Type 0} {d : Disks D} {h : Hosts H (Kept (FileStore D d)) U L R} {k : Ghosts (Kept (FileStore D d))} {l : Links L} {r : Sinks R} {image : Image} {words : List (List ℕ)} {status : ℕ}
+    {old new : Streams} {left : Option (FileStore D d)} → RunsOnFiles d h k l r image words status old new left → IsStatusOnFiles d h k l r image words status
+some_streams {old = old} {new = new} {left = left} ran = (old, new, left, ran)

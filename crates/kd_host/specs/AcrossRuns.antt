@@ -16,6 +16,7 @@ use Rattle.kd_program.specs.Streams.{Streams}
 use Rattle.kd_program.specs.declared.host.Host.{Ghosts as Hosts}
 use Rattle.kd_program.specs.declared.serving.Files.{Files}
 use Rattle.kd_program.specs.declared.serving.Work.{Work}
+use Rattle.kd_replay.specs.declared.ends.Sink.{Ghosts as Sinks}
 use Rattle.kd_replay.specs.declared.link.Link.{Ghosts as Links}
 use Rattle.kd_rows.specs.declared.row.Row.{Row}
 use Rattle.kd_server.specs.Lives.{Call, IsDone, Life, Opening, WasHistory}
@@ -56,12 +57,12 @@ module _ {D E : Type 0} {d : Disks D} {e : Disks E} (k : Ghosts (Kept (FileStore
   -- a command over files, whose disk was clean to its end: where the files held a table, what was
   -- done is a history from it, and leads on to where a server stands that is opened on what a crash
   -- then leaves of them
-  abbrev pub RunsAreHistories : {H U L C : Type 0} → Hosts H (Kept (FileStore D d)) U L C
-      → Links L → Type 0
-  RunsAreHistories {H} {U} {L} {C} h l =
+  abbrev pub RunsAreHistories : {H U L R : Type 0} → Hosts H (Kept (FileStore D d)) U L R
+      → Links L → Sinks R → Type 0
+  RunsAreHistories {H} {U} {L} {R} h l r =
       (image : Image) (files : Files) (work : Work) (status : ℕ) (old new : Streams)
       (left : Option (FileStore D d))
-      → (s : ServesFiles d h k l image files work status old new left)
+      → (s : ServesFiles d h k l r image files work status old new left)
       → k.has_clean_disk s.back → (db : Trees) (table : List Row) → HoldsDatabase image db
       → Holds db table
       → (calls : List Call)

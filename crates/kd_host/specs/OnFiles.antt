@@ -22,6 +22,7 @@ use Rattle.kd_program.specs.declared.host.Host.{Ghosts as Hosts}
 use Rattle.kd_program.specs.declared.serving.Files.{Files}
 use Rattle.kd_program.specs.declared.serving.Work.{Work}
 use Rattle.kd_program.specs.declared.serving.Work.TheVariants as works
+use Rattle.kd_replay.specs.declared.ends.Sink.{Ghosts as Sinks}
 use Rattle.kd_replay.specs.declared.link.Link.{Ghosts as Links}
 use Rattle.kd_store.specs.Kept.{Kept}
 use Rattle.kd_tools.specs.Status.{status_of}
@@ -42,12 +43,12 @@ IsOfHanded below (Some (Err fault)) result = result ≡ Err fault
 abbrev pub order_of : Files → Work → Order
 order_of files works.Replay = orders.Replay files.config files.token_dir files.store
 order_of files (works.Leases at) = orders.Leases files.config files.token_dir files.store at
-order_of files (works.Serve listening count) =
-    orders.Serve files.config files.token_dir files.store listening count
+order_of files (works.Serve listening count journal) =
+    orders.Serve files.config files.token_dir files.store listening count journal
 
--- over the disk of the database's files, a host, its store in those files, and its sockets
-module _ {D H U L C : Type 0} (d : Disks D) (h : Hosts H (Kept (FileStore D d)) U L C)
-    (k : Ghosts (Kept (FileStore D d))) (l : Links L) where
+-- over the disk of the database's files, a host, its store in those files, its sockets and its records
+module _ {D H U L R : Type 0} (d : Disks D) (h : Hosts H (Kept (FileStore D d)) U L R)
+    (k : Ghosts (Kept (FileStore D d))) (l : Links L) (r : Sinks R) where
   -- a server of a configuration, which is one of a text where a file is named, works over the
   -- database that these bytes hold: its store stands at the table of that database, and the store is
   -- let go at the end, so that a crash leaves nothing of what lies below it that it does not leave of
@@ -62,7 +63,7 @@ module _ {D H U L C : Type 0} (d : Disks D) (h : Hosts H (Kept (FileStore D d)) 
     pub back : Kept (FileStore D d)
     pub before : H
     pub after : H
-    pub serves : Serves h l k work config store back before after status old new
+    pub serves : Serves h l r k work config store back before after status old new
     pub it : FileStore D d
     pub left_is : left ≡ Some it
     pub below : IsClean (view it) → LiesBelow back.conn it

@@ -4,15 +4,16 @@ ghost use Rattle.kd_host.specs.AcrossRuns.{IsOneLife, RunsAreHistories};
 
 use crate::machine::{Below, Machine};
 use kd_database::restarts;
-use kd_io::Socket;
+use kd_io::{Output, Socket};
 use kd_keeps::Keeps;
 use kd_program::Host;
 use kd_program::laws::commands_are_openings;
-use kd_replay::Link;
+use kd_replay::{Link, Sink};
 use kd_server::laws::{openings_are_histories, openings_end};
 use kd_store::Store;
 use sqlite::{FileFrom, FileStore, Start};
 use sqlite_disk::Disk;
+use std::fs::File;
 
 /// Two openings of a server, the second on what a crash left of the files of the first, are one
 /// life, though their stores are of different types: so `lives_are_histories` of `kd_server` speaks
@@ -31,7 +32,7 @@ pub fn goes_on<D: Disk, E: Disk>()
 /// is opened on what a crash then leaves stands at rows to which that history leads.
 pub fn runs_are_histories<'a, F: Start, E: Disk>()
     ensures { RunsAreHistories ⟦<Store<Below<F>> as Keeps>⟧ ⟦<Store<FileStore<E>> as Keeps>⟧
-        ⟦<Machine<'a, F, Below<F>> as Host>⟧ ⟦<Socket as Link>⟧ }
+        ⟦<Machine<'a, F, Below<F>> as Host>⟧ ⟦<Socket<'a> as Link>⟧ ⟦<Output<File> as Sink>⟧ }
 {
     commands_are_openings::<Machine<'a, F, Below<F>>, Store<Below<F>>>();
     openings_are_histories::<Store<Below<F>>>();

@@ -1,12 +1,13 @@
 use kd_commands::Listening;
 use kd_config::Config;
 use kd_database::{let_go, store_from};
-use kd_io::{HostClock, Sending, Socket, StartFault, configuration};
+use kd_io::{Output, Sending, Socket, StartFault, configuration, journal};
 use kd_keeps::{Cause, Opened, StoreFault, Volatile};
 use kd_program::Host;
 use kd_replay::EndFailed;
 use kd_store::Store;
 use sqlite::{FileFrom, FileStore, Start};
+use std::fs::File;
 use std::net::UdpSocket;
 
 /// What lies below a store of leases in files that held what a start stands for.
@@ -45,7 +46,7 @@ impl<'a, F: Start> Machine<'a, F, Below<F>> {
 }
 
 impl<'a, F: Start> Host for Machine<'a, F, Below<F>> {
-    ghost use Rattle.std.specs.Prelude.{◌≡◌, IfOk, Some, is_some, true};
+    ghost use Rattle.std.specs.Prelude.{◌≡◌, IfOk, Some, false, is_some, true};
     ghost use Rattle.sqlite_store.specs.FileStore.{view};
     ghost use Rattle.sqlite_trees.specs.View.{IsClean};
     ghost use Rattle.sqlite_wal.specs.Files.{image_at};
@@ -58,9 +59,9 @@ impl<'a, F: Start> Host for Machine<'a, F, Below<F>> {
 
     type Unnamed = Volatile;
 
-    type Socket = Socket;
+    type Socket = Socket<'a>;
 
-    type Clock = HostClock<'a>;
+    type Journal = Output<File>;
 
     ghost configures = { λ old file folder result new.
         IfOk result (IsOfFiles (is_some file) (is_some folder)) };
@@ -78,7 +79,7 @@ impl<'a, F: Start> Host for Machine<'a, F, Below<F>> {
         IfOk result (λ link. link.sending ≡ sending_of listening)
         × IsOfHanded (λ link. link.socket) old.handed result };
 
-    ghost tells_time = { λ old clock new. Unit {0} };
+    ghost records = { λ old path result new. IfOk result (λ sink. sink.failed ≡ false) };
 
     fn configuration(
         &mut self,
@@ -107,20 +108,20 @@ impl<'a, F: Start> Host for Machine<'a, F, Below<F>> {
         self.left = Some(let_go(store));
     }
 
-    fn socket(&mut self, listening: Listening) -> Result<Socket, EndFailed> {
+    fn socket(&mut self, listening: Listening) -> Result<Socket<'a>, EndFailed> {
         let sending = Sending {
             mirror: listening.mirror,
             broadcast_as: listening.broadcast_as,
         };
         let (address, port) = (listening.bind, listening.port);
         match self.handed.take() {
-            Some(Ok(socket)) => Socket::handed(socket, address, port, sending),
+            Some(Ok(socket)) => Socket::handed(self.rt, socket, address, port, sending),
             Some(Err(failed)) => Err(failed),
             None => Socket::bind(self.rt, address, port, sending),
         }
     }
 
-    fn clock(&mut self) -> HostClock<'a> {
-        HostClock::of(self.rt)
+    fn journal(&mut self, path: &str) -> Result<Output<File>, EndFailed> {
+        journal(self.rt, path)
     }
 }

@@ -14,6 +14,7 @@ use kd_replay::{Link, Sink, Source};
 use kd_store::Store;
 use sqlite::{FileFrom, Start};
 use sqlite_disk::Disk;
+use std::fs::File;
 use std::io;
 
 /// Carries out the words after the program's name over this machine and three streams, and says the
@@ -27,11 +28,11 @@ pub fn run_on<'a, F: Start, R: Source, O: Sink, E: Sink>(
     requires input { R.has_failed ends.old.input ≡ false }
     requires output { O.has_failed ends.old.output ≡ false }
     ensures carried { Carries ⟦<Machine<'a, F, Below<F>> as Host>⟧ ⟦<Store<Below<F>> as Keeps>⟧
-        ⟦<Volatile as Keeps>⟧ ⟦<Socket as Link>⟧ (map string_bytes words.now)
+        ⟦<Volatile as Keeps>⟧ ⟦<Socket<'a> as Link>⟧ ⟦<Output<File> as Sink>⟧ (map string_bytes words.now)
         machine.old machine.new result
         (streams R.Source O.Sink E.Sink ends.old) (streams R.Source O.Sink E.Sink ends.new) }
     ensures on_files { RunsOnFiles ⟦<FileFrom<F> as Disk>⟧ ⟦<Machine<'a, F, Below<F>> as Host>⟧
-        ⟦<Store<Below<F>> as Keeps>⟧ ⟦<Socket as Link>⟧ (image_at F.Start)
+        ⟦<Store<Below<F>> as Keeps>⟧ ⟦<Socket<'a> as Link>⟧ ⟦<Output<File> as Sink>⟧ (image_at F.Start)
         (map string_bytes words.now) result
         (streams R.Source O.Sink E.Sink ends.old) (streams R.Source O.Sink E.Sink ends.new)
         machine.new.left }
@@ -43,7 +44,7 @@ pub fn run_on<'a, F: Start, R: Source, O: Sink, E: Sink>(
 /// says the exit status. A socket that was handed to the process is that of `serve`.
 pub fn carry_out<'a, F: Start>(rt: &'a HostRuntime, start: F, words: &[String]) -> u8
     ensures { IsStatusOnFiles ⟦<FileFrom<F> as Disk>⟧ ⟦<Machine<'a, F, Below<F>> as Host>⟧
-        ⟦<Store<Below<F>> as Keeps>⟧ ⟦<Socket as Link>⟧ (image_at F.Start)
+        ⟦<Store<Below<F>> as Keeps>⟧ ⟦<Socket<'a> as Link>⟧ ⟦<Output<File> as Sink>⟧ (image_at F.Start)
         (map string_bytes words.now) result }
 {
     let handed = inherited(rt);

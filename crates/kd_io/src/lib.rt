@@ -8,13 +8,15 @@
 #![tactic(auto)]
 
 mod activation;
+mod appending;
 mod files;
 mod link;
 mod start;
 mod streams;
 
 pub use activation::inherited;
+pub use appending::journal;
 pub use files::{InputFault, MOST_BYTES, read_file, read_whole, token_files};
-pub use link::{HostClock, Sending, Socket};
+pub use link::{Sending, Socket, seconds_of, target};
 pub use start::{StartFault, configuration, configured};
 pub use streams::{Input, Output};

@@ -1,8 +1,9 @@
-ghost use Rattle.std.specs.Prelude.{◌≡◌, IfOk, false};
-ghost use Rattle.kd_io.specs.Sending.{address_for};
+ghost use Rattle.std.specs.Prelude.{◌≡◌, ◌≤◌, ◌/◌, IfOk, IfSome, false, length};
+ghost use Rattle.std.specs.Time.{system_time_nanos};
+ghost use Rattle.kd_io.specs.Sending.{GoesTo, HasAddressAndPort, address_for};
 
 use kd_event::{Destination, Mode};
-use kd_replay::{Clock, EndFailed, Link};
+use kd_replay::{EndFailed, Link};
 use std::net::{IpAddr, Ipv4Addr, SocketAddr, UdpSocket};
 use std::time::{SystemTime, UNIX_EPOCH};
 
@@ -38,21 +39,38 @@ impl Sending {
     }
 }
 
-// An address, a number in host order, and a port.
-fn place_of(address: u32, port: u16) -> SocketAddr {
+/// Where a reply to a datagram is sent: to its sender, where replies are mirrored; else to its
+/// destination's address and port.
+pub fn target(sending: Sending, sender: Option<SocketAddr>, to: Destination) -> SocketAddr
+    ensures { GoesTo sending.mirror sending.broadcast_as sender to result }
+{
+    match sender {
+        Some(sender) if sending.mirror => sender,
+        _ => place_at(sending.address(to), to.port),
+    }
+}
+
+// The place with this address, a number in host order, and this port.
+fn place_at(address: u32, port: u16) -> SocketAddr
+    ensures { HasAddressAndPort address port result }
+{
     SocketAddr::new(IpAddr::V4(Ipv4Addr::from(address)), port)
 }
 
-/// A UDP socket, as the link of a server. What it receives and sends no proof knows.
+/// A UDP socket and the clock of the host, as the link of a server. What comes and goes no proof
+/// knows.
 #[derive(Drop)]
-pub struct Socket {
+pub struct Socket<'a> {
+    rt: &'a HostRuntime,
     socket: UdpSocket,
     sending: Sending,
     sender: Option<SocketAddr>,
+    // Whether the socket was last set to wait for a datagram.
+    waits: bool,
     failed: bool,
 }
 
-impl Socket {
+impl<'a> Socket<'a> {
     /// A link over a new socket at an address, a number in host order, and a port, which has not
     /// failed. It may send to all hosts of its link.
     ///
@@ -60,16 +78,16 @@ impl Socket {
     ///
     /// There is no such socket.
     pub fn bind(
-        rt: &HostRuntime,
+        rt: &'a HostRuntime,
         address: u32,
         port: u16,
         sending: Sending,
-    ) -> Result<Socket, EndFailed>
+    ) -> Result<Socket<'a>, EndFailed>
         ensures failed { IfOk result (λ link. link.failed ≡ false) }
         ensures sending { IfOk result (λ link. link.sending ≡ sending) }
     {
-        match UdpSocket::bind(rt, place_of(address, port)) {
-            Ok(socket) => Socket::to_all(socket, sending),
+        match UdpSocket::bind(rt, place_at(address, port)) {
+            Ok(socket) => Socket::to_all(rt, socket, sending),
             Err(_) => Err(EndFailed),
         }
     }
@@ -81,110 +99,116 @@ impl Socket {
     ///
     /// It is not bound at this address and port.
     pub fn handed(
+        rt: &'a HostRuntime,
         socket: UdpSocket,
         address: u32,
         port: u16,
         sending: Sending,
-    ) -> Result<Socket, EndFailed>
+    ) -> Result<Socket<'a>, EndFailed>
         ensures failed { IfOk result (λ link. link.failed ≡ false) }
         ensures sending { IfOk result (λ link. link.sending ≡ sending) }
         ensures given { IfOk result (λ link. link.socket ≡ socket) }
     {
         match socket.local_addr() {
-            Ok(place) if place == place_of(address, port) => Socket::to_all(socket, sending),
+            Ok(place) if place == place_at(address, port) => Socket::to_all(rt, socket, sending),
             _ => Err(EndFailed),
         }
     }
 
     // A link over a socket that may send to all hosts of its link.
-    fn to_all(socket: UdpSocket, sending: Sending) -> Result<Socket, EndFailed>
+    fn to_all(
+        rt: &'a HostRuntime,
+        socket: UdpSocket,
+        sending: Sending,
+    ) -> Result<Socket<'a>, EndFailed>
         ensures failed { IfOk result (λ link. link.failed ≡ false) }
         ensures sending { IfOk result (λ link. link.sending ≡ sending) }
         ensures given { IfOk result (λ link. link.socket ≡ socket) }
     {
         match socket.set_broadcast(true) {
-            Ok(()) => Ok(Socket::over(socket, sending)),
+            Ok(()) => Ok(Socket::over(rt, socket, sending)),
             Err(_) => Err(EndFailed),
         }
     }
 
     /// A link over a socket, which has not failed.
-    pub fn over(socket: UdpSocket, sending: Sending) -> Socket
+    pub fn over(rt: &'a HostRuntime, socket: UdpSocket, sending: Sending) -> Socket<'a>
         ensures failed { result.failed ≡ false }
         ensures sending { result.sending ≡ sending }
         ensures given { result.socket ≡ socket }
     {
         Socket {
+            rt,
             socket,
             sending,
             sender: None,
+            waits: true,
             failed: false,
         }
     }
 
-    // Where a reply goes: to the sender of the datagram, or by its destination.
-    fn target(&self, to: Destination) -> SocketAddr {
-        match self.sender {
-            Some(sender) if self.sending.mirror => sender,
-            _ => {
-                let address = Ipv4Addr::from(self.sending.address(to));
-                SocketAddr::new(IpAddr::V4(address), to.port)
-            }
+    // The length of the next datagram, which is waited for or not; none where the socket fails.
+    fn next(&mut self, buf: &mut [u8], waits: bool) -> Option<usize>
+        ensures count { IfSome result (λ n. n ≤ length buf.new) }
+        ensures failed { self.new.failed ≡ self.old.failed }
+    {
+        if self.waits != waits {
+            self.socket.set_nonblocking(!waits).ok()?;
+            self.waits = waits;
         }
+        let (len, sender) = self.socket.recv_from(buf).ok()?;
+        self.sender = Some(sender);
+        Some(len)
     }
 }
 
-impl Link for Socket {
+impl Link for Socket<'_> {
     ghost use Rattle.std.specs.Prelude.{None};
 
-    ghost received = { λ s. None };
-
-    ghost sent = { λ s. None };
+    ghost trace = { λ s. None };
 
     ghost has_failed = { λ s. s.failed };
 
+    #[tactic(auto, using(kd_replay::proofs::Coming::came_unknown))]
     fn receive(&mut self, buf: &mut [u8]) -> Result<usize, EndFailed> {
-        match self.socket.recv_from(buf) {
-            Ok((len, sender)) => {
-                self.sender = Some(sender);
-                Ok(len)
-            }
-            Err(_) => {
+        match self.next(buf, true) {
+            Some(len) => Ok(len),
+            None => {
                 self.failed = true;
                 Err(EndFailed)
             }
         }
     }
 
+    #[tactic(auto, using(kd_replay::proofs::Coming::came_unknown))]
+    fn receive_waiting(&mut self, buf: &mut [u8]) -> Option<usize> {
+        self.next(buf, false)
+    }
+
+    fn now(&mut self) -> u64 {
+        match SystemTime::now(self.rt) {
+            Ok(time) => seconds_of(time),
+            Err(_) => 0,
+        }
+    }
+
     fn send(&mut self, bytes: &[u8], to: Destination) -> Result<(), EndFailed> {
-        match self.socket.send_to(bytes, self.target(to)) {
+        match self
+            .socket
+            .send_to(bytes, target(self.sending, self.sender, to))
+        {
             Ok(_) => Ok(()),
             Err(_) => Err(EndFailed),
         }
     }
 }
 
-/// The clock of the host: whole seconds since 1970, and 0 where it can not be read.
-#[derive(Drop)]
-pub struct HostClock<'a> {
-    rt: &'a HostRuntime,
-}
-
-impl<'a> HostClock<'a> {
-    /// The clock of this host.
-    pub fn of(rt: &'a HostRuntime) -> HostClock<'a> {
-        HostClock { rt }
-    }
-}
-
-impl Clock for HostClock<'_> {
-    fn now(&mut self) -> u64 {
-        match SystemTime::now(self.rt) {
-            Ok(time) => match time.duration_since(UNIX_EPOCH) {
-                Ok(since) => since.as_secs(),
-                Err(_) => 0,
-            },
-            Err(_) => 0,
-        }
+/// Whole seconds since 1970.
+pub fn seconds_of(time: SystemTime) -> u64
+    ensures { result ≡ system_time_nanos time / 1_000_000_000 }
+{
+    match time.duration_since(UNIX_EPOCH) {
+        Ok(since) => since.as_secs(),
+        Err(_) => 0,
     }
 }

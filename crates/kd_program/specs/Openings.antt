@@ -6,14 +6,15 @@ use Rattle.kd_program.specs.Running.{Serves, ports_asked}
 use Rattle.kd_program.specs.Streams.{Streams}
 use Rattle.kd_program.specs.declared.host.Host.{Ghosts as Hosts}
 use Rattle.kd_program.specs.declared.serving.Work.{Work}
+use Rattle.kd_replay.specs.declared.ends.Sink.{Ghosts as Sinks}
 use Rattle.kd_replay.specs.declared.link.Link.{Ghosts as Links}
 use Rattle.kd_server.specs.Lives.{Call, IsDone}
 
 -- whatever a command's work is, what it does with a server over a store is an opening of that store:
--- calls of `handle`, and the store as they left it
-abbrev pub CommandsAreOpenings : {H N U L C S : Type 0} → Hosts H N U L C → Links L → Ghosts S
-    → Type 0
-CommandsAreOpenings {H} {N} {U} {L} {C} {S} h l g =
+-- calls of the server, and the store as they left it
+abbrev pub CommandsAreOpenings : {H N U L R S : Type 0} → Hosts H N U L R → Links L → Sinks R
+    → Ghosts S → Type 0
+CommandsAreOpenings {H} {N} {U} {L} {R} {S} h l r g =
     (work : Work) (config : Configuration) (store back : S) (before after : H) (status : ℕ)
-    (old new : Streams) → Serves h l g work config store back before after status old new
+    (old new : Streams) → Serves h l r g work config store back before after status old new
     → (calls : List Call) × IsDone g config (ports_asked work) calls store back

@@ -20,13 +20,16 @@ use Rattle.kd_commands.specs.declared.orders.Order.TheVariants as orders
 use Rattle.kd_replay.specs.Faults.{loop_fault_number, replay_fault_number, serve_fault_number}
 use Rattle.kd_replay.specs.History.{Reaches}
 use Rattle.kd_replay.specs.Replay.{Handles, HandlesWhole, LeavesWritten, most_lines}
-use Rattle.kd_replay.specs.Serving.{HasServed, StopsServing, Traffic}
+use Rattle.kd_replay.specs.Serving.{ServesTo, Traffic, contents_in, failed_in}
 use Rattle.kd_replay.specs.declared.ends.EndFailed.{EndFailed}
+use Rattle.kd_replay.specs.declared.ends.Sink.{Ghosts as Sinks}
 use Rattle.kd_replay.specs.declared.fault.LoopFault.{LoopFault}
+use Rattle.kd_replay.specs.declared.fault.LoopFault.TheVariants as looping
 use Rattle.kd_replay.specs.declared.fault.ReplayFault.{ReplayFault}
 use Rattle.kd_replay.specs.declared.fault.ReplayFault.TheVariants as replaying
 use Rattle.kd_replay.specs.declared.link.Link.{Ghosts as Links}
 use Rattle.kd_replay.specs.declared.fault.ServeFault.{ServeFault}
+use Rattle.kd_server.specs.Batch.{Batched}
 use Rattle.kd_server.specs.Keeping.{IsUnopened, Keeping, Opens, Refuses, Steps}
 use Rattle.kd_server.specs.Leases.{IsNoList, lease_line, leases_of_rows}
 use Rattle.kd_program.specs.Streams.{Prints, Puts, ShowsOrBreaks, Starves, Stream, Streams, Tells, TellsWith}
@@ -37,7 +40,7 @@ use Rattle.kd_program.specs.declared.serving.Work.TheVariants as works
 
 -- the ports of a server: those of its words, and else those of the standard (RFC 2131 section 4.1)
 abbrev pub ports_asked : Work → Ports
-ports_asked (works.Serve listening count) =
+ports_asked (works.Serve listening count journal) =
     record { server = listening.port; client = listening.client_port }
 ports_asked other = record { server = 67; client = 68 }
 
@@ -53,23 +56,28 @@ EndsServe (Ok done) status old new = (status ≡ 0) × (new ≡ old)
 EndsServe (Err fault) status old new =
     TellsWith (loop_fault_number fault) (serve_status_of fault) status old new
 
--- what has come over a link, gone over it, and been written
-abbrev pub traffic : {L : Type 0} → Links L → L → Stream → Traffic
-traffic l link output =
-    record { received = l.received link; sent = l.sent link; written = output.bytes }
+-- what has happened on a link, what stands in the record, and what was written
+abbrev pub traffic_over : {L R : Type 0} → Links L → Sinks R → L → Option R → Stream → Traffic
+traffic_over l r link journal output =
+    record {
+      trace = l.trace link;
+      recorded = contents_in r journal;
+      written = output.bytes;
+    }
 
--- over a link and a store of leases
-module _ {L S : Type 0} (l : Links L) (g : Ghosts S) where
-  -- a server serves so many datagrams of a link, whose lines are written to standard output
-  pub record Receives (count : ℕ) (link left : L) (server after : Keeping S) (status : ℕ)
-      (old new : Streams) : Type 0 where
+-- over a link, a record and a store of leases
+module _ {L R S : Type 0} (l : Links L) (r : Sinks R) (g : Ghosts S) where
+  -- a server serves so many datagrams of a link, of which it keeps a record, and whose lines are
+  -- written to standard output; where nothing can be received the link has failed, and so with the
+  -- record and with standard output
+  pub record Receives (count : ℕ) (link left : L) (journal rest : Option R)
+      (server after : Keeping S) (status : ℕ) (old new : Streams) : Type 0 where
     pub result : Result Unit LoopFault
-    pub served : MatchResult result
-        (λ done. HasServed (Steps g) count server after (traffic l link old.output)
-        (traffic l left new.output))
-        (λ fault. StopsServing (Steps g) (Refuses g) (l.has_failed left ≡ true)
-        (new.output.failed ≡ true) fault count server after
-        (traffic l link old.output) (traffic l left new.output))
+    pub served : ServesTo (Batched g) result count server after
+        (traffic_over l r link journal old.output) (traffic_over l r left rest new.output)
+    pub read : IsErrOf result looping.Read → l.has_failed left ≡ true
+    pub recorded : IsErrOf result looping.Record → failed_in r rest ≡ true
+    pub write : IsErrOf result looping.Write → new.output.failed ≡ true
     pub ends : EndsServe result status old.faults new.faults
 
 -- over a store of leases
@@ -101,24 +109,36 @@ module _ {S : Type 0} (g : Ghosts S) where
       × Tells (serve_fault_number fault) status old new)
       ⊎ Starves status old new)
 
--- over a host, its sockets, and a store of leases; a host stands somewhere before and after each
--- answer
-module _ {H N U L C S : Type 0} (h : Hosts H N U L C) (l : Links L) (g : Ghosts S) where
-  -- the host gives a socket, which has not failed, and its clock; a line is told of what the server
-  -- does, and it serves datagrams of that socket
-  pub record BeginsServing (listening : Listening) (count : ℕ) (before after : H)
-      (server left : Keeping S) (status : ℕ) (old new : Streams) : Type 0 where
+-- over a host and the records that it gives
+module _ {H N U L R : Type 0} (h : Hosts H N U L R) (r : Sinks R) where
+  -- the host gives the record at a path, or there is none without a path
+  abbrev pub GivesJournal : H → Option (List ℕ) → Result (Option R) EndFailed → H → Type 0
+  GivesJournal before None result after = (result ≡ Ok None) × (after ≡ before)
+  GivesJournal before (Some path) (Ok None) after = ⊥
+  GivesJournal before (Some path) (Ok (Some sink)) after = h.records before path (Ok sink) after
+  GivesJournal before (Some path) (Err failed) after = h.records before path (Err failed) after
+
+-- over a host, its sockets and records, and a store of leases; a host stands somewhere before and
+-- after each answer
+module _ {H N U L R S : Type 0} (h : Hosts H N U L R) (l : Links L) (r : Sinks R)
+    (g : Ghosts S) where
+  -- the host gives a socket and a record, where there is a path for one, and neither has failed; a
+  -- line is told of what the server does, and it serves datagrams of that socket
+  pub record BeginsServing (listening : Listening) (path : Option (List ℕ)) (count : ℕ)
+      (before after : H) (server left : Keeping S) (status : ℕ) (old new : Streams) : Type 0 where
     pub link : L
     pub bound : H
     pub given : h.binds before listening (Ok link) bound
     pub works : l.has_failed link ≡ false
-    pub clock : C
-    pub timed : h.tells_time bound clock after
+    pub journal : Option R
+    pub records : GivesJournal h r bound path (Ok journal) after
+    pub record_works : failed_in r journal ≡ false
     pub line : List ℕ
     pub between : Stream
     pub told : Puts line old.faults between
     pub rest : L
-    pub receives : Receives l g count link rest server left status
+    pub recorded : Option R
+    pub receives : Receives l r g count link rest journal recorded server left status
         (record { input = old.input; output = old.output; faults = between }) new
 
   -- the host gives no socket, which is told
@@ -128,21 +148,35 @@ module _ {H N U L C S : Type 0} (h : Hosts H N U L C) (l : Links L) (g : Ghosts 
     pub given : h.binds before listening (Err failed) after
     pub told : Tells 94 status old new
 
-  -- the host gives a socket, and memory runs out for the line
-  pub record HasNoLine (listening : Listening) (before after : H) (status : ℕ)
-      (old new : Streams) : Type 0 where
+  -- the host gives a socket and no record, which is told
+  pub record HasNoJournal (listening : Listening) (path : Option (List ℕ)) (before after : H)
+      (status : ℕ) (old new : Streams) : Type 0 where
     pub link : L
-    pub given : h.binds before listening (Ok link) after
+    pub bound : H
+    pub given : h.binds before listening (Ok link) bound
+    pub failed : EndFailed
+    pub records : GivesJournal h r bound path (Err failed) after
+    pub told : Tells 100 status old new
+
+  -- the host gives a socket and a record, and memory runs out for the line
+  pub record HasNoLine (listening : Listening) (path : Option (List ℕ)) (before after : H)
+      (status : ℕ) (old new : Streams) : Type 0 where
+    pub link : L
+    pub bound : H
+    pub given : h.binds before listening (Ok link) bound
+    pub journal : Option R
+    pub records : GivesJournal h r bound path (Ok journal) after
     pub told : Starves status old new
 
   -- a server serves datagrams of the host's socket, or stays as it is
-  abbrev pub Listens : Listening → ℕ → H → H → Keeping S → Keeping S → ℕ → Streams → Streams
-      → Type 0
-  Listens listening count before after server left status old new =
-      BeginsServing listening count before after server left status old new
+  abbrev pub Listens : Listening → Option (List ℕ) → ℕ → H → H → Keeping S → Keeping S → ℕ → Streams
+      → Streams → Type 0
+  Listens listening path count before after server left status old new =
+      BeginsServing listening path count before after server left status old new
       ⊎ ((left ≡ server) ×
       (HasNoSocket listening before after status old new
-      ⊎ HasNoLine listening before after status old new))
+      ⊎ (HasNoJournal listening path before after status old new
+      ⊎ HasNoLine listening path before after status old new)))
 
   -- what a server is opened for
   abbrev pub Works : Work → H → H → Keeping S → Keeping S → ℕ → Streams → Streams → Type 0
@@ -150,8 +184,9 @@ module _ {H N U L C S : Type 0} (h : Hosts H N U L C) (l : Links L) (g : Ghosts 
       (after ≡ before) × ReplaysInput g server left status old new
   Works (works.Leases at) before after server left status old new =
       (after ≡ before) × ((left ≡ server) × ListsLeases g at server status old new)
-  Works (works.Serve listening count) before after server left status old new =
-      Listens listening count before after server left status old new
+  Works (works.Serve listening count journal) before after server left status old new =
+      Listens listening (option_map string_bytes journal) count before after server left status old
+      new
 
   -- a server that goes by a configuration is opened over a store, does its work, and gives back its
   -- store
@@ -178,9 +213,9 @@ module _ {H N U L C S : Type 0} (h : Hosts H N U L C) (l : Links L) (g : Ghosts 
       IsServed work config store back before after status old new
       ⊎ IsNotServed config store back before after status old new
 
--- over a host with its two sorts of stores and its sockets
-module _ {H N U L C : Type 0} (h : Hosts H N U L C) (named : Ghosts N) (unnamed : Ghosts U)
-    (l : Links L) where
+-- over a host with its two sorts of stores, its sockets and its records
+module _ {H N U L R : Type 0} (h : Hosts H N U L R) (named : Ghosts N) (unnamed : Ghosts U)
+    (l : Links L) (r : Sinks R) where
   -- a server works over the store that the host opens at a path, which has not failed, and the host
   -- gets it back
   pub record WorksAt (path : List ℕ) (work : Work) (config : Configuration) (before after : H)
@@ -191,7 +226,7 @@ module _ {H N U L C : Type 0} (h : Hosts H N U L C) (named : Ghosts N) (unnamed 
     pub works : is_some (named.fault store) ≡ false
     pub back : N
     pub left : H
-    pub serves : Serves h l named work config store back opened left status old new
+    pub serves : Serves h l r named work config store back opened left status old new
     pub closed : h.closes left path back after
 
   -- a server works over the store in memory that the host makes, which has not failed
@@ -202,7 +237,7 @@ module _ {H N U L C : Type 0} (h : Hosts H N U L C) (named : Ghosts N) (unnamed 
     pub given : h.makes before (Ok store) made
     pub works : is_some (unnamed.fault store) ≡ false
     pub back : U
-    pub serves : Serves h l unnamed work config store back made after status old new
+    pub serves : Serves h l r unnamed work config store back made after status old new
 
   -- the host opens no store at a path, which is told
   pub record HasNoStoreAt (path : List ℕ) (before after : H) (status : ℕ)
@@ -266,9 +301,10 @@ module _ {H N U L C : Type 0} (h : Hosts H N U L C) (named : Ghosts N) (unnamed 
   CarriesOut (orders.Leases config token_dir store at) before after status old new =
       Starts (record { config = config; token_dir = token_dir; store = store })
       (works.Leases at) before after status old new
-  CarriesOut (orders.Serve config token_dir store listening count) before after status old new =
+  CarriesOut (orders.Serve config token_dir store listening count journal) before after status old
+      new =
       Starts (record { config = config; token_dir = token_dir; store = store })
-      (works.Serve listening count) before after status old new
+      (works.Serve listening count journal) before after status old new
   CarriesOut other before after status old new = (after ≡ before) × Says other status old new
 
   -- what words do: the fault that they have is told, or what they ask for is done

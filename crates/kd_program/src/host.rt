@@ -2,7 +2,7 @@ use kd_commands::Listening;
 use kd_config::Config;
 use kd_io::StartFault;
 use kd_keeps::{Keeps, Opened, StoreFault};
-use kd_replay::{Clock, EndFailed, Link};
+use kd_replay::{EndFailed, Link, Sink};
 
 /// What a command finds outside of its words and of the standard streams.
 pub trait Host {
@@ -24,8 +24,8 @@ pub trait Host {
     /// Where datagrams come from.
     type Socket: Link + Drop;
 
-    /// What says the moment.
-    type Clock: Clock + Drop;
+    /// Where a record of what comes is written.
+    type Journal: Sink + Drop;
 
     /// The answer to a question for the configuration of a file, with a folder of token files, and
     /// where the host stands then. So are the others: from where the host stood, to what it
@@ -45,8 +45,8 @@ pub trait Host {
     /// A socket.
     ghost binds: { Self → Listening → Result Self.Socket EndFailed → Self → Type 0 };
 
-    /// The clock.
-    ghost tells_time: { Self → Self.Clock → Self → Type 0 };
+    /// The record at a path.
+    ghost records: { Self → List ℕ → Result Self.Journal EndFailed → Self → Type 0 };
 
     /// The configuration of the file at a path, with the token files of a folder; the built-in one
     /// without a file. The folder is read first.
@@ -98,7 +98,13 @@ pub trait Host {
         ensures given { binds self.old listening result self.new }
         ensures works { IfOk result (λ link. Self.Socket.has_failed link ≡ false) };
 
-    /// The clock.
-    fn clock(&mut self) -> Self::Clock
-        ensures { tells_time self.old result self.new };
+    /// The record at a path, to which it is written on, and which has not failed; a new one where
+    /// there is none.
+    ///
+    /// # Errors
+    ///
+    /// It can't be written.
+    fn journal(&mut self, path: &str) -> Result<Self::Journal, EndFailed>
+        ensures given { records self.old path.now result self.new }
+        ensures works { IfOk result (λ sink. Self.Journal.has_failed sink ≡ false) };
 }

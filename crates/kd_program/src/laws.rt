@@ -6,10 +6,11 @@ use crate::host::Host;
 use kd_keeps::Keeps;
 
 /// What a command does with a server over a store is one opening of that store: calls of
-/// `Server::handle`, one after another, whatever it reads, receives and writes. So
+/// `Server::handle` or `Server::handle_all`, one after another, whatever it reads, receives and
+/// writes. So
 /// `openings_are_histories` of `kd_server` speaks of it.
 pub fn commands_are_openings<H: Host, S: Keeps>()
-    ensures { CommandsAreOpenings H.Host H.Socket.Link S.Keeps }
+    ensures { CommandsAreOpenings H.Host H.Socket.Link H.Journal.Sink S.Keeps }
 {
     kd_server::laws::replaying_is_calls::<S>();
     kd_server::laws::serving_is_calls::<S>();

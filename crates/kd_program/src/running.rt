@@ -22,7 +22,7 @@ pub fn run<H: Host, R: Source, O: Sink, E: Sink>(
 ) -> u8
     requires input { R.has_failed ends.old.input ≡ false }
     requires output { O.has_failed ends.old.output ≡ false }
-    ensures { Carries H.Host H.Named.Keeps H.Unnamed.Keeps H.Socket.Link
+    ensures { Carries H.Host H.Named.Keeps H.Unnamed.Keeps H.Socket.Link H.Journal.Sink
         (map string_bytes words.now) host.old host.new result
         (streams R.Source O.Sink E.Sink ends.old) (streams R.Source O.Sink E.Sink ends.new) }
 {
@@ -41,7 +41,7 @@ fn carried_out<H: Host, R: Source, O: Sink, E: Sink>(
 ) -> u8
     requires input { R.has_failed ends.old.input ≡ false }
     requires output { O.has_failed ends.old.output ≡ false }
-    ensures { CarriesOut H.Host H.Named.Keeps H.Unnamed.Keeps H.Socket.Link
+    ensures { CarriesOut H.Host H.Named.Keeps H.Unnamed.Keeps H.Socket.Link H.Journal.Sink
         order host.old host.new result
         (streams R.Source O.Sink E.Sink ends.old) (streams R.Source O.Sink E.Sink ends.new) }
 {
@@ -59,7 +59,7 @@ fn carried_out<H: Host, R: Source, O: Sink, E: Sink>(
                 token_dir,
                 store,
             },
-            Work::Replay,
+            &Work::Replay,
         ),
         Order::Leases {
             config,
@@ -75,7 +75,7 @@ fn carried_out<H: Host, R: Source, O: Sink, E: Sink>(
                 token_dir,
                 store,
             },
-            Work::Leases(at),
+            &Work::Leases(at),
         ),
         Order::Serve {
             config,
@@ -83,13 +83,15 @@ fn carried_out<H: Host, R: Source, O: Sink, E: Sink>(
             store,
             listening,
             count,
+            journal,
         } => {
             let files = Files {
                 config,
                 token_dir,
                 store,
             };
-            served(alloc, host, ends, &files, Work::Serve(listening, count))
+            let work = Work::Serve(listening, count, journal);
+            served(alloc, host, ends, &files, &work)
         }
         other => match answer(alloc, &other) {
             Ok(printed) => print(ends, &printed),

@@ -1,11 +1,12 @@
-ghost use Rattle.std.specs.Prelude.{◌≡◌, false, is_some, option_map, string_bytes};
+ghost use Rattle.std.specs.Prelude.{◌≡◌, ◌<◌, IfOk, false, is_some, option_map, string_bytes};
 ghost use Rattle.std.specs.Option.{option_copied};
 ghost use Rattle.kd_tools.specs.Status.{status_of};
 ghost use Rattle.kd_io.specs.Faults.{start_fault_number};
 ghost use Rattle.kd_keeps.specs.Fault.{store_fault_number};
 ghost use Rattle.kd_keeps.specs.Reading.{AreRead};
 ghost use Rattle.kd_program.specs.Streams.{TellsWith, streams, written_to};
-ghost use Rattle.kd_program.specs.Running.{Listens, ListsLeases, Receives, ReplaysInput, Serves, Starts, Works, ports_asked};
+ghost use Rattle.kd_replay.specs.Serving.{failed_in};
+ghost use Rattle.kd_program.specs.Running.{GivesJournal, Listens, ListsLeases, Receives, ReplaysInput, Serves, Starts, Works, ports_asked};
 
 use crate::banner::{Banner, Sizes, banner_line, pool_addresses};
 use crate::ends::Ends;
@@ -16,7 +17,7 @@ use kd_config::Config;
 use kd_event::Ports;
 use kd_io::StartFault;
 use kd_keeps::{Keeps, Opened, StoreFault};
-use kd_replay::{Clock, Link, LoopFault, Sink, Source};
+use kd_replay::{EndFailed, Link, LoopFault, Sink, Source};
 use kd_server::{Server, lease_lines, replay, serve};
 use kd_tools::{replay_status, serve_status};
 use std::alloc::Global;
@@ -33,14 +34,31 @@ pub struct Files {
 }
 
 /// What a server is opened for.
-#[derive(Clone, Copy)]
+#[derive(Drop)]
 pub enum Work {
     /// To replay the events of standard input to standard output.
     Replay,
     /// To print the leases at a moment, in whole seconds.
     Leases(u64),
-    /// To serve so many datagrams of a socket.
-    Serve(Listening, u64),
+    /// To serve so many datagrams of a socket, and to append what comes to the file at a path,
+    /// where there is one.
+    Serve(Listening, u64, Option<String>),
+}
+
+// A store as the operator names it.
+#[derive(Clone, Copy)]
+struct Place<'a> {
+    name: &'a str,
+    // Whether it is in a file, where a commit takes time.
+    is_file: bool,
+}
+
+// How many datagrams share one commit: 32 where it takes time, since a datagram that waits then can
+// wait no longer for it; else 1, and 1 too where a reply goes to the sender of the last datagram.
+fn batch_size(is_file: bool, mirror: bool) -> usize
+    ensures { 0 < result }
+{
+    if is_file && !mirror { 32 } else { 1 }
 }
 
 /// Does this work as a server that goes by the configuration of these files and keeps its leases in
@@ -50,12 +68,12 @@ pub fn served<H: Host, R: Source, O: Sink, E: Sink>(
     host: &mut H,
     ends: &mut Ends<R, O, E>,
     files: &Files,
-    work: Work,
+    work: &Work,
 ) -> u8
     requires input { R.has_failed ends.old.input ≡ false }
     requires output { O.has_failed ends.old.output ≡ false }
-    ensures { Starts H.Host H.Named.Keeps H.Unnamed.Keeps H.Socket.Link
-        files.now work host.old host.new result
+    ensures { Starts H.Host H.Named.Keeps H.Unnamed.Keeps H.Socket.Link H.Journal.Sink
+        files.now work.now host.old host.new result
         (streams R.Source O.Sink E.Sink ends.old) (streams R.Source O.Sink E.Sink ends.new) }
 {
     let config = match configured(host, files) {
@@ -65,22 +83,25 @@ pub fn served<H: Host, R: Source, O: Sink, E: Sink>(
     match &files.store {
         Some(path) => match host.named_store(path.as_str()) {
             Ok(opened) => {
-                let (status, store) = served_over(
-                    alloc,
-                    host,
-                    ends,
-                    config,
-                    opened,
-                    path.as_str(),
-                    work,
-                );
-                host.close(path.as_str(), store);
+                let name = path.as_str();
+                let place = Place {
+                    name,
+                    is_file: true,
+                };
+                let (status, store) = served_over(alloc, host, ends, config, opened, place, work);
+                host.close(name, store);
                 status
             }
             Err(fault) => refuse_store(alloc, &mut ends.faults, &fault),
         },
         None => match host.unnamed_store() {
-            Ok(opened) => served_over(alloc, host, ends, config, opened, "memory", work).0,
+            Ok(opened) => {
+                let place = Place {
+                    name: "memory",
+                    is_file: false,
+                };
+                served_over(alloc, host, ends, config, opened, place, work).0
+            }
             Err(fault) => refuse_store(alloc, &mut ends.faults, &fault),
         },
     }
@@ -122,22 +143,22 @@ fn refuse_store<E: Sink>(alloc: Global, faults: &mut E, fault: &StoreFault) -> u
     refuse(alloc, faults, fault.number(), fault)
 }
 
-// Does this work as a server of a configuration over a store with a name; the store comes back.
+// Does this work as a server of a configuration over a store; the store comes back.
 fn served_over<H: Host, R: Source, O: Sink, E: Sink, S: Keeps>(
     alloc: Global,
     host: &mut H,
     ends: &mut Ends<R, O, E>,
     config: Config,
     opened: Opened<S>,
-    name: &str,
-    work: Work,
+    place: Place<'_>,
+    work: &Work,
 ) -> (u8, S)
     requires store { is_some (S.fault opened.store) ≡ false }
     requires read { AreRead S.Keeps opened.store opened.rows.items }
     requires input { R.has_failed ends.old.input ≡ false }
     requires output { O.has_failed ends.old.output ≡ false }
-    ensures { Serves H.Host H.Socket.Link S.Keeps
-        work config opened.store result.1 host.old host.new result.0
+    ensures { Serves H.Host H.Socket.Link H.Journal.Sink S.Keeps
+        work.now config opened.store result.1 host.old host.new result.0
         (streams R.Source O.Sink E.Sink ends.old) (streams R.Source O.Sink E.Sink ends.new) }
 {
     let sizes = Sizes {
@@ -151,49 +172,51 @@ fn served_over<H: Host, R: Source, O: Sink, E: Sink, S: Keeps>(
             return (status, store);
         }
     };
-    let status = worked(alloc, host, ends, &mut server, work, sizes, name);
+    let status = worked(alloc, host, ends, &mut server, work, sizes, place);
     let (_, store) = server.close();
     (status, store)
 }
 
-// Does this work as a server over a store with a name.
+// Does this work as a server over a store.
 fn worked<H: Host, R: Source, O: Sink, E: Sink, S: Keeps>(
     alloc: Global,
     host: &mut H,
     ends: &mut Ends<R, O, E>,
     server: &mut Server<S>,
-    work: Work,
+    work: &Work,
     sizes: Sizes,
-    name: &str,
+    place: Place<'_>,
 ) -> u8
     requires input { R.has_failed ends.old.input ≡ false }
     requires output { O.has_failed ends.old.output ≡ false }
-    ensures { Works H.Host H.Socket.Link S.Keeps
-        work host.old host.new server.old server.new result
+    ensures { Works H.Host H.Socket.Link H.Journal.Sink S.Keeps
+        work.now host.old host.new server.old server.new result
         (streams R.Source O.Sink E.Sink ends.old) (streams R.Source O.Sink E.Sink ends.new) }
 {
     match work {
         Work::Replay => replayed(alloc, ends, server),
-        Work::Leases(at) => listed(alloc, ends, server, at),
-        Work::Serve(listening, count) => {
+        Work::Leases(at) => listed(alloc, ends, server, *at),
+        Work::Serve(listening, count, journal) => {
             let banner = Banner {
-                listening,
+                listening: *listening,
                 sizes,
                 leases: server.row_count(),
                 latest: server.latest_change(),
-                store: name,
+                store: place.name,
             };
-            listened(alloc, host, ends, server, &banner, count)
+            let most = batch_size(place.is_file, listening.mirror);
+            let path = text_of(journal);
+            listened(alloc, host, ends, server, &banner, path, most, *count)
         }
     }
 }
 
 // The ports of a server: those of the words, and else the standard's.
-fn ports_of(work: Work) -> Ports
-    ensures { result ≡ ports_asked work }
+fn ports_of(work: &Work) -> Ports
+    ensures { result ≡ ports_asked work.now }
 {
     match work {
-        Work::Serve(listening, _) => Ports {
+        Work::Serve(listening, _, _) => Ports {
             server: listening.port,
             client: listening.client_port,
         },
@@ -254,40 +277,63 @@ fn listened<H: Host, R: Source, O: Sink, E: Sink, S: Keeps>(
     ends: &mut Ends<R, O, E>,
     server: &mut Server<S>,
     banner: &Banner<'_>,
+    path: Option<&str>,
+    most: usize,
     count: u64,
 ) -> u8
-    requires { O.has_failed ends.old.output ≡ false }
-    ensures { Listens H.Host H.Socket.Link S.Keeps
-        banner.now.listening count host.old host.new server.old server.new result
+    requires output { O.has_failed ends.old.output ≡ false }
+    requires most { 0 < most }
+    ensures { Listens H.Host H.Socket.Link H.Journal.Sink S.Keeps
+        banner.now.listening (option_copied path.entry) count host.old host.new
+        server.old server.new result
         (streams R.Source O.Sink E.Sink ends.old) (streams R.Source O.Sink E.Sink ends.new) }
 {
     let Ok(mut link) = host.socket(banner.listening) else {
         let fault = LoopFault::Read;
         return refuse(alloc, &mut ends.faults, fault.number(), &fault);
     };
+    let Ok(mut journal) = journal_of(host, path) else {
+        let fault = LoopFault::Record;
+        return refuse(alloc, &mut ends.faults, fault.number(), &fault);
+    };
     let Ok(line) = banner_line(alloc, banner) else {
         return refuse_memory(&mut ends.faults);
     };
     tell(&mut ends.faults, line.as_bytes());
-    let mut clock = host.clock();
-    received(alloc, &mut link, &mut clock, ends, server, count)
+    received(alloc, &mut link, &mut journal, ends, server, most, count)
+}
+
+// The record at a path, where there is one.
+fn journal_of<H: Host>(host: &mut H, path: Option<&str>) -> Result<Option<H::Journal>, EndFailed>
+    ensures given { GivesJournal H.Host H.Journal.Sink host.old (option_copied path.entry) result
+        host.new }
+    ensures works { IfOk result (λ journal. failed_in H.Journal.Sink journal ≡ false) }
+{
+    match path {
+        Some(path) => Ok(Some(host.journal(path)?)),
+        None => Ok(None),
+    }
 }
 
 // Serves so many datagrams of a link.
-fn received<L: Link, C: Clock, R: Source, O: Sink, E: Sink, S: Keeps>(
+fn received<L: Link, J: Sink, R: Source, O: Sink, E: Sink, S: Keeps>(
     alloc: Global,
     link: &mut L,
-    clock: &mut C,
+    journal: &mut Option<J>,
     ends: &mut Ends<R, O, E>,
     server: &mut Server<S>,
+    most: usize,
     count: u64,
 ) -> u8
     requires link { L.has_failed link.old ≡ false }
+    requires journal { failed_in J.Sink journal.old ≡ false }
     requires output { O.has_failed ends.old.output ≡ false }
-    ensures { Receives L.Link S.Keeps count link.old link.new server.old server.new result
+    requires most { 0 < most }
+    ensures { Receives L.Link J.Sink S.Keeps
+        count link.old link.new journal.old journal.new server.old server.new result
         (streams R.Source O.Sink E.Sink ends.old) (streams R.Source O.Sink E.Sink ends.new) }
 {
-    match serve(alloc, link, clock, &mut ends.output, server, count) {
+    match serve(alloc, link, journal, &mut ends.output, server, most, count) {
         Ok(()) => 0,
         Err(fault) => refuse_as(
             alloc,

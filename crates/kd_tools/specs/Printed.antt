@@ -237,7 +237,7 @@ IsPrinted (Eval program datagram) = Unit {0}
 IsPrinted (EvalText text datagram) = Unit {0}
 IsPrinted (Replay config token_dir store) = ⊥
 IsPrinted (Leases config token_dir store moment) = ⊥
-IsPrinted (Serve config token_dir store listening count) = ⊥
+IsPrinted (Serve config token_dir store listening count journal) = ⊥
 
 -- what each such order prints
 abbrev pub Answers : Order → Printed → Type 0
@@ -252,4 +252,4 @@ Answers (EvalText text datagram) p =
     TestsDecoded (string_bytes text) (decode_of (string_bytes datagram)) p
 Answers (Replay config token_dir store) p = ⊥
 Answers (Leases config token_dir store moment) p = ⊥
-Answers (Serve config token_dir store listening count) p = ⊥
+Answers (Serve config token_dir store listening count journal) p = ⊥

@@ -9,7 +9,7 @@ pub fn exit_status(number: u8) -> u8
     ensures { result ≡ status_of number }
 {
     match number {
-        91 | 94 | 95 => 1,
+        91 | 94 | 95 | 100 => 1,
         98 => 2,
         80 | 81 | 92 | 93 => 4,
         _ => 3,

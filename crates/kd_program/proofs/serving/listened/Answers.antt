@@ -9,12 +9,14 @@ returns g c = inl (record {
   bound = c.socket.new.self;
   given = c.in-Ok.ensures.given;
   works = c.in-Ok.ensures.works;
-  clock = c.clock-clock.result;
-  timed = c.clock-clock.ensures;
+  journal = c.in-Ok-journal_of.journal;
+  records = c.in-Ok-journal_of.ensures.given;
+  record_works = c.in-Ok-journal_of.ensures.works;
   line = c.as_bytes.result.now;
   between = written_to g.E.Sink c.tell.new.faults;
   told = c.tell.ensures;
   rest = c.received.new.link;
+  recorded = c.received.new.journal;
   receives = c.received.ensures;
 })
 
@@ -29,4 +31,20 @@ returns-in_default g c = inr (
       told_own _ _ _ (written_to g.E.Sink c.args.ends.now.faults) _ c.number.ensures c.refuse.ensures,
     );
   }),
+)
+
+pub returns-in_default-journal_of : goal.returns-in_default-journal_of
+returns-in_default-journal_of g c = inr (
+  refl,
+  inr (inl (record {
+    link = c.in-Ok.link;
+    bound = c.socket.new.self;
+    given = c.in-Ok.ensures.given;
+    failed = c.in_default-journal_of.field-0;
+    records = c.in_default-journal_of.ensures.given;
+    told = (
+      refl,
+      told_own _ _ _ (written_to g.E.Sink c.args.ends.now.faults) _ c.number-in_default-journal_of.ensures c.refuse-in_default-journal_of.ensures,
+    );
+  })),
 )

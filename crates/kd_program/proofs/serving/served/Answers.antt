@@ -9,8 +9,8 @@ returns-in-Err-named_store g c = inl (record {
   asked = c.configured.new.host;
   given = c.in-Ok.ensures;
   works = subst
-      (λ path. WorksOver g.H.Host g.H.Named.Keeps g.H.Unnamed.Keeps g.H.Socket.Link
-      (option_map string_bytes path) c.args.work c.in-Ok.config c.configured.new.host
+      (λ path. WorksOver g.H.Host g.H.Named.Keeps g.H.Unnamed.Keeps g.H.Socket.Link g.H.Journal.Sink
+      (option_map string_bytes path) c.args.work.now c.in-Ok.config c.configured.new.host
       c.named_store.new.self c.refuse_store.result
       (streams g.R.Source g.O.Sink g.E.Sink c.args.ends.now)
       (streams g.R.Source g.O.Sink g.E.Sink record {
@@ -32,8 +32,8 @@ returns-in-Err-unnamed_store g c = inl (record {
   asked = c.configured.new.host;
   given = c.in-Ok.ensures;
   works = subst
-      (λ path. WorksOver g.H.Host g.H.Named.Keeps g.H.Unnamed.Keeps g.H.Socket.Link
-      (option_map string_bytes path) c.args.work c.in-Ok.config c.configured.new.host
+      (λ path. WorksOver g.H.Host g.H.Named.Keeps g.H.Unnamed.Keeps g.H.Socket.Link g.H.Journal.Sink
+      (option_map string_bytes path) c.args.work.now c.in-Ok.config c.configured.new.host
       c.unnamed_store.new.self c.refuse_store-in-Err-unnamed_store.result
       (streams g.R.Source g.O.Sink g.E.Sink c.args.ends.now)
       (streams g.R.Source g.O.Sink g.E.Sink record {
