@@ -13,6 +13,8 @@ pub struct Case {
     pub out: String,
     /// Standard error.
     pub fault: String,
+    /// The record of what came.
+    pub record: String,
     /// The exit status.
     pub status: u8,
 }
@@ -26,6 +28,7 @@ impl Case {
             input: String::new(alloc),
             out: String::new(alloc),
             fault: String::new(alloc),
+            record: String::new(alloc),
             status: 0,
         }
     }
@@ -34,6 +37,7 @@ impl Case {
     pub fn has(&self, written: &Written) -> bool {
         is_meant(self.out.as_str(), written.out.as_str())
             && is_meant(self.fault.as_str(), written.fault.as_str())
+            && is_meant(self.record.as_str(), written.record.as_str())
             && self.status == written.status
     }
 }
@@ -45,6 +49,8 @@ pub struct Written {
     pub out: String,
     /// Standard error.
     pub fault: String,
+    /// The record of what came.
+    pub record: String,
     /// The exit status.
     pub status: u8,
 }

@@ -20,6 +20,7 @@ pub fn written(
     let alloc = rt.alloc();
     let mut out = Vec::new(alloc);
     let mut fault = Vec::new(alloc);
+    let mut record = Vec::new(alloc);
     let mut ends = Ends {
         input: Input::over(input.as_bytes()),
         output: Output::over(&mut out),
@@ -30,11 +31,13 @@ pub fn written(
         files,
         stores,
         input,
+        record: Some(&mut record),
     };
     let status = run(alloc, words, &mut room, &mut ends);
     Ok(Written {
         out: text(alloc, out.as_slice())?,
         fault: text(alloc, fault.as_slice())?,
+        record: text(alloc, record.as_slice())?,
         status,
     })
 }

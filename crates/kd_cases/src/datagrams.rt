@@ -1,20 +1,22 @@
-ghost use Rattle.std.specs.Prelude.{◌≡◌, IfOk, false};
+ghost use Rattle.std.specs.Prelude.{◌≡◌, ◌≤◌, IfOk, IfSome, false, length};
 
 use kd_commands::Listening;
 use kd_event::{Destination, Mode};
-use kd_replay::{Clock, EndFailed, Link};
+use kd_replay::{EndFailed, Link};
 use std::alloc::Global;
 use std::str::Lines;
 
 // The address at which there is no socket: 203.0.113.1.
 const NO_ADDRESS: u32 = 0xcb00_7101;
 
-/// A socket that receives the datagrams of lines, each `MOMENT HEX`. Of replies those by broadcast
-/// are not sent, unless they go to another address.
+/// A socket that receives the datagrams of lines, each `MOMENT HEX`, all of which wait at once, and
+/// a clock that says the moment of the line that came last. Of replies those by broadcast are not
+/// sent, unless they go to another address.
 #[derive(Drop)]
 pub struct Datagrams<'a> {
     alloc: Global,
     lines: Lines<'a>,
+    moment: u64,
     broadcasts: bool,
     failed: bool,
 }
@@ -38,36 +40,44 @@ impl<'a> Datagrams<'a> {
         Ok(Datagrams {
             alloc: rt.alloc(),
             lines: text.lines(),
+            moment: 0,
             broadcasts: listening.mirror || listening.broadcast_as.is_some(),
             failed: false,
         })
     }
 
-    // The bytes of the next line.
-    fn next(&mut self) -> Option<Vec<u8>>
+    // The bytes of the next line, which comes at its moment.
+    fn bytes(&mut self) -> Option<Vec<u8>>
         ensures { self.new.failed ≡ self.old.failed }
     {
-        let (_, digits) = self.lines.next()?.split_once(' ')?;
+        let (moment, digits) = self.lines.next()?.split_once(' ')?;
+        self.moment = moment.parse().unwrap_or(0);
         hex::decode(self.alloc, digits).ok()
+    }
+
+    // The length of the next datagram, of which the front is put into the buffer.
+    fn next(&mut self, buf: &mut [u8]) -> Option<usize>
+        ensures count { IfSome result (λ n. n ≤ length buf.new) }
+        ensures failed { self.new.failed ≡ self.old.failed }
+    {
+        let bytes = self.bytes()?;
+        let len = bytes.len().min(buf.len());
+        buf[..len].copy_from_slice(&bytes.as_slice()[..len]);
+        Some(len)
     }
 }
 
 impl Link for Datagrams<'_> {
     ghost use Rattle.std.specs.Prelude.{None};
 
-    ghost received = { λ s. None };
-
-    ghost sent = { λ s. None };
+    ghost trace = { λ s. None };
 
     ghost has_failed = { λ s. s.failed };
 
+    #[tactic(auto, using(kd_replay::proofs::Coming::came_unknown))]
     fn receive(&mut self, buf: &mut [u8]) -> Result<usize, EndFailed> {
-        match self.next() {
-            Some(bytes) => {
-                let len = bytes.len().min(buf.len());
-                buf[..len].copy_from_slice(&bytes.as_slice()[..len]);
-                Ok(len)
-            }
+        match self.next(buf) {
+            Some(len) => Ok(len),
             None => {
                 self.failed = true;
                 Err(EndFailed)
@@ -75,37 +85,19 @@ impl Link for Datagrams<'_> {
         }
     }
 
+    #[tactic(auto, using(kd_replay::proofs::Coming::came_unknown))]
+    fn receive_waiting(&mut self, buf: &mut [u8]) -> Option<usize> {
+        self.next(buf)
+    }
+
+    fn now(&mut self) -> u64 {
+        self.moment
+    }
+
     fn send(&mut self, _bytes: &[u8], to: Destination) -> Result<(), EndFailed> {
         match to.mode {
             Mode::Broadcast if !self.broadcasts => Err(EndFailed),
             _ => Ok(()),
         }
-    }
-}
-
-/// A clock that says the moments of lines, and 0 after the last.
-#[derive(Drop)]
-pub struct Moments<'a> {
-    lines: Lines<'a>,
-}
-
-impl<'a> Moments<'a> {
-    /// The moments of the lines of a text.
-    pub fn of(text: &'a str) -> Moments<'a> {
-        Moments {
-            lines: text.lines(),
-        }
-    }
-
-    // The moment of the next line.
-    fn next(&mut self) -> Option<u64> {
-        let (moment, _) = self.lines.next()?.split_once(' ')?;
-        moment.parse().ok()
-    }
-}
-
-impl Clock for Moments<'_> {
-    fn now(&mut self) -> u64 {
-        self.next().unwrap_or(0)
     }
 }

@@ -1,5 +1,6 @@
-use crate::datagrams::{Datagrams, Moments};
+use crate::datagrams::Datagrams;
 use crate::files::Files;
+use crate::page::Page;
 use crate::stores::Stores;
 use kd_commands::Listening;
 use kd_config::Config;
@@ -10,13 +11,15 @@ use kd_program::Host;
 use kd_replay::EndFailed;
 use kd_store::Store;
 
-/// A host in memory: its files and stores, and for a socket the lines of standard input.
+/// A host in memory: its files and stores, for a socket the lines of standard input, and for a record
+/// what stands in memory. There is no record of the name `none`.
 #[derive(Drop)]
 pub struct Room<'a> {
     pub rt: &'a HostRuntime,
     pub files: &'a Files,
     pub stores: &'a mut Stores,
     pub input: &'a str,
+    pub record: Option<&'a mut Vec<u8>>,
 }
 
 impl<'a> Host for Room<'a> {
@@ -26,7 +29,7 @@ impl<'a> Host for Room<'a> {
 
     type Socket = Datagrams<'a>;
 
-    type Clock = Moments<'a>;
+    type Journal = Page<'a>;
 
     ghost configures = { λ old file folder result new. Unit {0} };
 
@@ -38,7 +41,7 @@ impl<'a> Host for Room<'a> {
 
     ghost binds = { λ old listening result new. Unit {0} };
 
-    ghost tells_time = { λ old clock new. Unit {0} };
+    ghost records = { λ old path result new. Unit {0} };
 
     fn configuration(
         &mut self,
@@ -70,7 +73,10 @@ impl<'a> Host for Room<'a> {
         Datagrams::bind(self.rt, listening, self.input)
     }
 
-    fn clock(&mut self) -> Moments<'a> {
-        Moments::of(self.input)
+    fn journal(&mut self, path: &str) -> Result<Page<'a>, EndFailed> {
+        match self.record.take() {
+            Some(text) if path != "none" => Ok(Page::named(text, path)),
+            _ => Err(EndFailed),
+        }
     }
 }

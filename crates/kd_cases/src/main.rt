@@ -9,6 +9,7 @@ mod datagrams;
 mod files;
 mod host;
 mod names;
+mod page;
 mod session;
 mod stores;
 mod words;

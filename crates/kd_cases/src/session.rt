@@ -110,12 +110,12 @@ impl Session {
         self.badly = self.badly.saturating_add(1);
         println!(rt; "{}", case.title)?;
         println!(rt;
-            "wanted, status {}:\n{}{}",
-            case.status, case.out, case.fault
+            "wanted, status {}:\n{}{}{}",
+            case.status, case.out, case.fault, case.record
         )?;
         println!(rt;
-            "written, status {}:\n{}{}",
-            came.status, came.out, came.fault
+            "written, status {}:\n{}{}{}",
+            came.status, came.out, came.fault, came.record
         )
     }
 }
@@ -127,6 +127,9 @@ fn take_of_case(rt: &HostRuntime, case: &mut Case, text: &str) -> io::Result<()>
     }
     if let Some(line) = text.strip_prefix("! ") {
         return Ok(put_line(&mut case.fault, line)?);
+    }
+    if let Some(line) = text.strip_prefix("= ") {
+        return Ok(put_line(&mut case.record, line)?);
     }
     if let Some(path) = text.strip_prefix("<@ ") {
         case.input = fs::read_to_string(rt, path)?;

@@ -1,15 +1,30 @@
-use kd_io::HostClock;
-use kd_replay::Clock;
+use kd_io::{Sending, Socket, seconds_of};
+use kd_replay::Link;
+use std::net::UdpSocket;
 use std::test::Fail;
+use std::time::{Duration, UNIX_EPOCH};
 
 // The first seconds of the years 2026 and 2100.
 const YEARS: [u64; 2] = [1_767_225_600, 4_102_444_800];
 
 #[test]
 fn the_hosts_clock_tells_the_time(rt: HostRuntime) -> Result<(), Fail> {
-    let mut clock = HostClock::of(&rt);
-    let first = clock.now();
-    let second = clock.now();
+    let sending = Sending {
+        mirror: false,
+        broadcast_as: None,
+    };
+    let socket = UdpSocket::bind(&rt, ("127.0.0.1", 0))?;
+    let mut link = Socket::over(&rt, socket, sending);
+    let first = link.now();
+    let second = link.now();
     assert!(rt; YEARS[0] < first && first <= second && second < YEARS[1]);
+    Ok(())
+}
+
+// 1,767,225,600.9 s are that second, and not the next.
+#[test]
+fn a_moment_counts_as_its_second(rt: HostRuntime) -> Result<(), Fail> {
+    let time = UNIX_EPOCH.checked_add(Duration::from_millis(1_767_225_600_900));
+    assert!(rt; time.map(seconds_of) == Some(YEARS[0]));
     Ok(())
 }

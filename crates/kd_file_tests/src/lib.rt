@@ -1,5 +1,6 @@
 //! Tests of what meets the host: rows and whole servers over a file that is closed and opened again
-//! by its path, more rows than any block of them, replies over sockets, and the host's clock.
+//! by its path, more rows than any block of them, the record of what came, replies over sockets, and
+//! the host's clock.
 //!
 //! They are a crate of their own since a crate is proved once more with its tests.
 #![tactic(auto)]
@@ -14,6 +15,8 @@ mod files;
 mod leased;
 #[cfg(test)]
 mod many;
+#[cfg(test)]
+mod record;
 #[cfg(test)]
 mod rows;
 #[cfg(test)]

@@ -7,7 +7,7 @@ use kd_commands::Listening;
 use kd_config::Config;
 use kd_event::{Destination, Mode, Ports};
 use kd_host::Machine;
-use kd_io::{HostClock, Output, Sending, Socket};
+use kd_io::{Output, Sending, Socket};
 use kd_program::Host;
 use kd_replay::{EndFailed, Link};
 use kd_server::{Server, serve};
@@ -76,18 +76,18 @@ fn server(alloc: Global, ports: Ports) -> Result<Server<Fused>, AllocError> {
 }
 
 // Serves one datagram.
-fn serve_one(rt: &HostRuntime, link: &mut Socket, ports: Ports) -> Result<(), Fail>
+fn serve_one(rt: &HostRuntime, link: &mut Socket<'_>, ports: Ports) -> Result<(), Fail>
     requires { link.old.failed ≡ false }
 {
     let alloc = rt.alloc();
     let mut sink = Output::over(Vec::new(alloc));
-    let mut clock = HostClock::of(rt);
     serve(
         alloc,
         link,
-        &mut clock,
+        &mut None::<Output<Vec<u8>>>,
         &mut sink,
         &mut server(alloc, ports)?,
+        1,
         1,
     )?;
     Ok(())
@@ -136,12 +136,12 @@ fn socket_of<H: Host>(host: &mut H, listening: Listening) -> Result<H::Socket, E
 
 // The socket of this machine, to which one may have been handed. What moves a machine is proved against all parts of a connection,
 // which takes the prover a minute: so this alone does.
-fn machine_socket<F: Start>(
-    rt: &HostRuntime,
+fn machine_socket<'a, F: Start>(
+    rt: &'a HostRuntime,
     start: F,
     handed: Option<Result<UdpSocket, EndFailed>>,
     listening: Listening,
-) -> Result<Socket, EndFailed>
+) -> Result<Socket<'a>, EndFailed>
     ensures { IfOk result (λ link. link.failed ≡ false) }
 {
     socket_of(&mut Machine::of(rt, start, handed), listening)

@@ -1,27 +1,20 @@
 // Datagrams that are served as they are received: over a socket, and over links that fail.
-ghost use Rattle.std.specs.Prelude.{◌≡◌, IfOk, false};
+ghost use Rattle.std.specs.Prelude.{◌≡◌, ◌≤◌, IfOk, IfSome, false, length};
 
 use crate::doubles::Keeping;
 use crate::support::{COOKIE, server_on};
-use kd_event::{Destination, Ports};
+use kd_config::Config;
+use kd_event::{Destination, Event, Ports};
 use kd_io::{Sending, Socket};
-use kd_replay::{Clock, EndFailed, Link, LoopFault};
+use kd_replay::{EndFailed, Happening, Link, LoopFault, ServeFault, replay_bytes, serve_bytes};
 use kd_server::{Server, serve};
 use kd_table_tests::Fused;
+use kd_wire::Bytes;
 use std::alloc::{AllocError, Global};
+use std::fmt::Write;
 use std::net::{SocketAddr, UdpSocket};
 use std::test::Fail;
 use std::time::Duration;
-
-// It is always this moment.
-#[derive(Drop)]
-struct Still;
-
-impl Clock for Still {
-    fn now(&mut self) -> u64 {
-        100
-    }
-}
 
 // A server of the built-in configuration.
 fn server(alloc: Global) -> Result<Server<Fused>, AllocError> {
@@ -75,14 +68,15 @@ fn two_datagrams_are_served_over_a_socket(rt: HostRuntime) -> Result<(), Fail> {
         mirror: true,
         broadcast_as: None,
     };
-    let mut link = Socket::over(socket, sending);
+    let mut link = Socket::over(&rt, socket, sending);
     let mut sink = Keeping::new(alloc, 7, usize::MAX);
     let served = serve(
         alloc,
         &mut link,
-        &mut Still,
+        &mut None::<Keeping>,
         &mut sink,
         &mut server(alloc)?,
+        1,
         2,
     );
     assert!(rt; served == Ok(()));
@@ -97,8 +91,8 @@ fn two_datagrams_are_served_over_a_socket(rt: HostRuntime) -> Result<(), Fail> {
     Ok(())
 }
 
-// A link that gives a DISCOVER so many times and then fails, and keeps the last reply; none is sent
-// where it loses them.
+// A link that gives a DISCOVER so many times and then fails, all at the moment 100, and keeps the last
+// reply; none is sent where it loses them.
 #[derive(Drop)]
 struct Wired {
     discover: Vec<u8>,
@@ -120,26 +114,47 @@ impl Wired {
             failed: false,
         })
     }
+
+    // The length of the next datagram.
+    fn next(&mut self, buf: &mut [u8]) -> Option<usize>
+        ensures count { IfSome result (λ n. n ≤ length buf.new) }
+        ensures failed { self.new.failed ≡ self.old.failed }
+    {
+        let len = self.discover.len();
+        if self.left == 0 || len > buf.len() {
+            return None;
+        }
+        self.left -= 1;
+        buf[..len].copy_from_slice(self.discover.as_slice());
+        Some(len)
+    }
 }
 
 impl Link for Wired {
     ghost use Rattle.std.specs.Prelude.{None};
 
-    ghost received = { λ _. None };
-
-    ghost sent = { λ _. None };
+    ghost trace = { λ _. None };
 
     ghost has_failed = { λ link. link.failed };
 
+    #[tactic(auto, using(kd_replay::proofs::Coming::came_unknown))]
     fn receive(&mut self, buf: &mut [u8]) -> Result<usize, EndFailed> {
-        let len = self.discover.len();
-        if self.left == 0 || len > buf.len() {
-            self.failed = true;
-            return Err(EndFailed);
+        match self.next(buf) {
+            Some(len) => Ok(len),
+            None => {
+                self.failed = true;
+                Err(EndFailed)
+            }
         }
-        self.left -= 1;
-        buf[..len].copy_from_slice(self.discover.as_slice());
-        Ok(len)
+    }
+
+    #[tactic(auto, using(kd_replay::proofs::Coming::came_unknown))]
+    fn receive_waiting(&mut self, buf: &mut [u8]) -> Option<usize> {
+        self.next(buf)
+    }
+
+    fn now(&mut self) -> u64 {
+        100
     }
 
     fn send(&mut self, bytes: &[u8], _to: Destination) -> Result<(), EndFailed> {
@@ -163,9 +178,10 @@ fn served(
     let result = serve(
         alloc,
         &mut link,
-        &mut Still,
+        &mut None::<Keeping>,
         &mut sink,
         &mut server(alloc)?,
+        2,
         3,
     );
     let Wired { reply, .. } = link;
@@ -200,5 +216,148 @@ fn serving_ends_where_a_line_is_not_written(rt: HostRuntime) -> Result<(), Fail>
     let wanted = format!(in alloc; "{line}{line}")?;
     let written = sink.as_slice();
     assert!(rt; written.len() == 700 && wanted.as_bytes().starts_with(written));
+    Ok(())
+}
+
+// A pool of 190 addresses.
+const WIDE: &[u8] =
+    b"{\"Dhcp4\":{\"server-address\":\"192.0.2.1\",\"valid-lifetime\":3600,\"subnet4\":[\
+    {\"subnet\":\"192.0.2.0/24\",\"pools\":[{\"pool\":\"192.0.2.10 - 192.0.2.199\"}]}]}}";
+
+// A server of that pool over an empty store, which answers so many calls.
+fn wide_server(alloc: Global, calls: u64) -> Result<Server<Fused>, Fail> {
+    let ports = Ports {
+        server: 67,
+        client: 68,
+    };
+    let store = Fused::new(alloc, calls)?;
+    match Server::open(alloc, Config::read(alloc, WIDE, &[])?, store, ports) {
+        Ok(server) => Ok(server),
+        Err(_) => Err("no server is opened".into()),
+    }
+}
+
+// How serving ends where the DISCOVERs of so many clients wait at a socket, over a store that answers
+// so many calls; and how many lines are written.
+fn waited(
+    rt: &HostRuntime,
+    clients: u8,
+    calls: u64,
+) -> Result<(Result<(), LoopFault>, usize), Fail> {
+    let alloc = rt.alloc();
+    let (socket, address) = bound(rt)?;
+    let (client, _) = bound(rt)?;
+    for number in 0..clients {
+        let mut bytes = discover(alloc)?;
+        bytes[33] = number;
+        client.send_to(bytes.as_slice(), address)?;
+    }
+    let sending = Sending {
+        mirror: true,
+        broadcast_as: None,
+    };
+    let mut link = Socket::over(rt, socket, sending);
+    let mut sink = Keeping::new(alloc, usize::MAX, usize::MAX);
+    let mut server = wide_server(alloc, calls)?;
+    let served = serve(
+        alloc,
+        &mut link,
+        &mut None::<Keeping>,
+        &mut sink,
+        &mut server,
+        32,
+        u64::from(clients),
+    );
+    let mut lines = 0usize;
+    for byte in sink.as_slice() {
+        if *byte == b'\n' {
+            lines = lines.saturating_add(1);
+        }
+    }
+    Ok((served, lines))
+}
+
+// How many clients wait, how many commits there are, and how many lines where the last commit fails.
+const WAITING: [(u8, u64, usize); 5] = [(1, 1, 0), (2, 1, 0), (31, 1, 0), (32, 1, 0), (33, 2, 32)];
+
+// What waits is handled with one commit, 32 datagrams at most: the store is opened by one call, and
+// each commit is one.
+#[test]
+fn datagrams_that_wait_share_a_commit(rt: HostRuntime) -> Result<(), Fail> {
+    for (clients, commits, before) in WAITING {
+        let (served, lines) = waited(&rt, clients, commits.saturating_add(1))?;
+        assert!(rt;
+            served == Ok(()) && lines == usize::from(clients),
+            "{clients}: {lines} lines"
+        );
+        let (served, lines) = waited(&rt, clients, commits)?;
+        let is_stopped = matches!(served, Err(LoopFault::Serve(ServeFault::Store(_))));
+        assert!(rt;
+            is_stopped && lines == before,
+            "{clients}: {lines} lines before the stop"
+        );
+    }
+    Ok(())
+}
+
+// The DISCOVER of a client at a moment.
+fn discovered(alloc: Global, moment: u64, client: u8) -> Result<Event, AllocError> {
+    let mut bytes = discover(alloc)?;
+    bytes[33] = client;
+    Ok(Event {
+        moment,
+        bytes: Bytes::own(bytes),
+    })
+}
+
+// What happened, a line each: a datagram that was waited for or that waited, with its length, what
+// the clock said, and a reply with the last byte of its yiaddr.
+fn told(alloc: Global, log: &[Happening]) -> Result<String, AllocError> {
+    let mut text = String::new(alloc);
+    for happening in log {
+        match happening {
+            Happening::Came(true, bytes) => {
+                write!(text, "waited for {}\n", bytes.as_slice().len())?
+            }
+            Happening::Came(false, bytes) => write!(text, "waits {}\n", bytes.as_slice().len())?,
+            Happening::Said(moment) => write!(text, "said {moment}\n")?,
+            Happening::Went(packet) => write!(text, "went {}\n", packet.bytes.as_slice()[19])?,
+        }
+    }
+    Ok(text)
+}
+
+// Two batches, of two events and of one: the clock is asked after each datagram, the record is of
+// all, and the replies of a batch go behind its last datagram.
+#[test]
+fn what_happens_is_told_in_its_order(rt: HostRuntime) -> Result<(), Fail> {
+    let alloc = rt.alloc();
+    let input = [
+        discovered(alloc, 100, 1)?,
+        Event {
+            moment: 110,
+            bytes: Bytes::own(Vec::from_slice(alloc, &[0x0a])?),
+        },
+        discovered(alloc, 300, 2)?,
+    ];
+    let Some(served) = serve_bytes(alloc, &input, 1, &mut server(alloc)?, 32) else {
+        return Err(AllocError.into());
+    };
+    assert!(rt; served.end == Ok(()));
+    let wanted = "waited for 244\nsaid 100\nwaits 1\nsaid 110\nwent 10\n\
+        waited for 244\nsaid 300\nwent 11\n";
+    assert!(rt; told(alloc, served.log.as_slice())?.as_str() == wanted);
+    let first = hex::encode(alloc, input[0].bytes.as_slice())?;
+    let last = hex::encode(alloc, input[2].bytes.as_slice())?;
+    let record = format!(in alloc; "100 {first}\n110 0a\n300 {last}\n")?;
+    assert!(rt; served.journal.as_slice() == record.as_bytes());
+    let (lines, done) = replay_bytes(alloc, record.as_bytes(), &mut server(alloc)?);
+    assert!(rt; done == Ok(3) && lines.as_slice() == served.lines.as_slice());
+    assert!(rt;
+        served
+            .lines
+            .as_slice()
+            .starts_with(b"100 reply hardware 192.0.2.10:68 02")
+    );
     Ok(())
 }

@@ -9,6 +9,8 @@
 #![tactic(auto)]
 
 #[cfg(test)]
+mod batch_stops;
+#[cfg(test)]
 mod day_stops;
 #[cfg(test)]
 mod days;

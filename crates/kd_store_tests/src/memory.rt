@@ -3,7 +3,7 @@ ghost use Rattle.kd_rows.specs.Row.{IsInRange};
 
 use crate::leases::{Lease, are_rows_of, row};
 use kd_keeps::{Cause, Keeps, StoreFault};
-use kd_rows::{Row, State};
+use kd_rows::{Row, Rows, State};
 use kd_store::Store;
 use sqlite::{Connection, Error, MemStore};
 use std::alloc::Global;
@@ -79,6 +79,63 @@ fn rows_are_kept_in_rising_address_and_found_again(rt: HostRuntime) -> Result<()
     let found = holds(&mut again, &KEPT);
     let _conn = again.close();
     assert!(rt; found?);
+    Ok(())
+}
+
+// Sets rows that rise in address together.
+fn put_together(store: &mut Store<MemStore>, rows: &[Row]) -> Result<(), Fail> {
+    if store.failed() || !Rows::accepts(rows) {
+        return Err("the store has failed, or the rows do not rise or are out of range".into());
+    }
+    store.put_all(rows)?;
+    Ok(())
+}
+
+// The rows of leases.
+fn rows_of(alloc: Global, leases: &[Lease]) -> Result<Vec<Row>, Fail> {
+    let mut rows = Vec::new(alloc);
+    for lease in leases {
+        rows.push(row(alloc, *lease)?)?;
+    }
+    Ok(rows)
+}
+
+// So many leases of the addresses from 1,000 on.
+fn many(alloc: Global, count: u32) -> Result<Vec<Row>, Fail> {
+    let mut rows = Vec::new(alloc);
+    for number in 0..count {
+        let lease: Lease = (number.saturating_add(1_000), b"m", State::Bound, 10, 20);
+        rows.push(row(alloc, lease)?)?;
+    }
+    Ok(rows)
+}
+
+// No rows that are put together change nothing, and 3,000 are all there, beside those from before.
+fn keeps_many(alloc: Global, store: &mut Store<MemStore>) -> Result<bool, Fail> {
+    put_together(store, rows_of(alloc, &KEPT)?.as_slice())?;
+    put_together(store, &[])?;
+    if !holds(store, &KEPT)? || store.failed() {
+        return Ok(false);
+    }
+    put_together(store, many(alloc, 3_000)?.as_slice())?;
+    if store.failed() {
+        return Ok(false);
+    }
+    let rows = store.rows()?;
+    let are_there = rows.len() == 3_005
+        && rows[2].address == 8
+        && rows[3].address == 1_000
+        && rows[3_002].address == 3_999
+        && rows[3_003].address == 0x8000_0000;
+    Ok(are_there)
+}
+
+#[test]
+fn rows_that_are_put_together_are_kept(rt: HostRuntime) -> Result<(), Fail> {
+    let mut store = opened(rt.alloc(), Connection::open_in_memory(rt.alloc())?)?;
+    let kept = keeps_many(rt.alloc(), &mut store);
+    let _conn = store.close();
+    assert!(rt; kept?);
     Ok(())
 }
 

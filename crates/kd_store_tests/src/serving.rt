@@ -1,9 +1,9 @@
-use crate::days::{Got, Lease, Sent};
+use crate::days::{Got, Lease, Sent, Step};
 use crate::device::{STOPPED, stored};
 use kd_config::Config;
 use kd_event::{Ports, Response};
 use kd_keeps::{Keeps, StoreFault};
-use kd_replay::ServeFault;
+use kd_replay::{Arrived, ServeFault};
 use kd_rows::Row;
 use kd_server::Server;
 use kd_store::Store;
@@ -131,6 +131,16 @@ pub(crate) fn sent<S: Keeps>(
     let bytes = datagram(alloc, message)?;
     let handled = server.handle(message.0, bytes.as_slice())?;
     Ok(handled.response)
+}
+
+/// The messages of steps, as they arrive together.
+pub(crate) fn arrived(alloc: Global, steps: &[Step]) -> Result<Vec<Arrived>, AllocError> {
+    let mut events = Vec::new(alloc);
+    for step in steps {
+        let bytes = datagram(alloc, step.0)?;
+        events.push(Arrived::holding(alloc, step.0.0, bytes.as_slice())?)?;
+    }
+    Ok(events)
 }
 
 // The row has all that the lease says.

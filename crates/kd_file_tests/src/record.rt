@@ -1,0 +1,37 @@
+// The record of what came, in a file.
+use crate::files::remove;
+use kd_io::journal;
+use kd_replay::write_all;
+use std::fs;
+use std::os::unix::fs::PermissionsExt;
+use std::test::Fail;
+
+const PATH: &str = "record.txt";
+
+// Writes a text to the record, which is opened for it.
+fn write(rt: &HostRuntime, text: &[u8]) -> Result<(), Fail> {
+    let mut sink = journal(rt, PATH)?;
+    write_all(&mut sink, text)?;
+    Ok(())
+}
+
+// A record is made for its owner alone, and what is written later stands behind what was there.
+#[test]
+fn a_record_is_appended_to_and_is_its_owners(rt: HostRuntime) -> Result<(), Fail> {
+    remove(&rt, &[PATH]);
+    write(&rt, b"100 00\n")?;
+    write(&rt, b"110 0a\n")?;
+    let text = fs::read_to_string(&rt, PATH)?;
+    let mode = fs::metadata(&rt, PATH)?.permissions().mode();
+    remove(&rt, &[PATH]);
+    assert!(rt; text.as_str() == "100 00\n110 0a\n");
+    assert!(rt; mode & 0o777 == 0o600);
+    Ok(())
+}
+
+// Where there is no folder of that name there is no record.
+#[test]
+fn a_record_in_no_folder_is_refused(rt: HostRuntime) -> Result<(), Fail> {
+    assert!(rt; journal(&rt, "no-such-folder/record.txt").is_err());
+    Ok(())
+}

@@ -1,0 +1,209 @@
+// A batch of three events, each of which sets a row, over files whose device stops at each of its
+// calls: what is left is the table from before the batch or the one after it, nothing of it was
+// answered, and the day goes on.
+use crate::days::{RENEWED, Step};
+use crate::device::{
+    Device, LOSSES, Left, Loss, STOPPED, UNOPENED, connected, files, files_left, left_of,
+};
+use crate::serving::{arrived, is_answer, let_go, opened, stands_at};
+use kd_config::Config;
+use kd_keeps::Keeps;
+use kd_replay::ServeFault;
+use kd_server::Server;
+use sqlite::{Alter, Connection, Files, Options};
+use std::alloc::Global;
+use std::test::Fail;
+
+// Where the events ended.
+#[derive(Clone, Copy, PartialEq, Eq)]
+enum End {
+    // No server was opened.
+    Unopened,
+    // The batch was not answered.
+    Stopped,
+    // The batch was answered, and the event after it was not.
+    Batched,
+    // All were answered.
+    Whole,
+}
+
+// The events of the batch, and the one after it.
+fn steps() -> (&'static [Step], &'static [Step]) {
+    let (_, steps) = RENEWED;
+    steps.split_at(3)
+}
+
+// A log that goes into the database file after each few commits.
+const OPTIONS: Options = Options {
+    cache_pages: 8,
+    spill_pages: 8,
+    checkpoint_frames: 2,
+    seed: 1,
+};
+
+// Sends steps as one batch: whether they are answered as it was worked out, or none is.
+fn is_answered<S: Keeps>(
+    alloc: Global,
+    server: &mut Server<S>,
+    steps: &[Step],
+) -> Result<bool, Fail> {
+    let events = arrived(alloc, steps)?;
+    let (list, fault) = server.handle_all(events.as_slice());
+    if fault.is_some() {
+        let (more, again) = server.handle_all(events.as_slice());
+        let is_stop = fault == Some(ServeFault::Store(STOPPED))
+            && list.is_empty()
+            && more.is_empty()
+            && again == Some(ServeFault::Failed);
+        return if is_stop {
+            Ok(false)
+        } else {
+            Err("a stop is not a fault of the store without an answer, and then Failed".into())
+        };
+    }
+    for at in 0..steps.len() {
+        let (message, want, leases) = steps[at];
+        let is_last = at + 1 == steps.len();
+        if !is_answer(alloc, message, &list[at].response, want)?
+            || is_last && !stands_at(server, leases)?
+        {
+            return Err("an answer is not the one that was worked out".into());
+        }
+    }
+    Ok(true)
+}
+
+// Sends the batch and then the event after it, up to the first that stops.
+fn sent<S: Keeps>(alloc: Global, server: &mut Server<S>) -> Result<End, Fail> {
+    let (batch, after) = steps();
+    if !is_answered(alloc, server, batch)? {
+        return Ok(End::Stopped);
+    }
+    if !is_answered(alloc, server, after)? {
+        return Ok(End::Batched);
+    }
+    Ok(End::Whole)
+}
+
+// So it does over a connection: where it ended, and what lies below.
+fn sent_over<S: Alter + Drop>(alloc: Global, conn: Connection<S>) -> Result<(End, S), Fail> {
+    match opened(alloc, Config::read(alloc, RENEWED.0, &[])?, conn) {
+        Ok(mut server) => {
+            let end = sent(alloc, &mut server);
+            let left = let_go(server);
+            Ok((end?, left))
+        }
+        Err((refusal, left)) => {
+            if !refusal.is_stop() {
+                return Err("an opening that stops has another fault".into());
+            }
+            Ok((End::Unopened, left))
+        }
+    }
+}
+
+// And over files.
+fn sent_to(alloc: Global, files: Files<Device>) -> Result<(End, Files<Device>), Fail> {
+    match connected(alloc, files, OPTIONS) {
+        Ok(conn) => {
+            let (end, left) = sent_over(alloc, conn)?;
+            Ok((end, left.close()))
+        }
+        Err((error, files)) => {
+            if error != UNOPENED {
+                return Err("files that stop are not opened for another cause".into());
+            }
+            Ok((End::Unopened, files))
+        }
+    }
+}
+
+// The server stands where the end leaves it, and the day goes on from there to its last table.
+fn goes_on_at<S: Keeps>(alloc: Global, server: &mut Server<S>, end: End) -> Result<(), Fail> {
+    let (batch, after) = steps();
+    let is_before = stands_at(server, &[])?;
+    let is_after = stands_at(server, batch[2].2)?;
+    let is_last = stands_at(server, after[0].2)?;
+    let is_left = match end {
+        End::Unopened => is_before,
+        End::Stopped => is_before || is_after,
+        End::Batched => is_after || is_last,
+        End::Whole => is_last,
+    };
+    if !is_left {
+        return Err("a stop left neither the table before nor the one after".into());
+    }
+    if is_before && !is_answered(alloc, server, batch)? {
+        return Err("the batch stops with no stop of its device".into());
+    }
+    if !is_last && !is_answered(alloc, server, after)? {
+        return Err("the day stops with no stop of its device".into());
+    }
+    Ok(())
+}
+
+// So it does over a connection.
+fn goes_on_over<S: Alter + Drop>(alloc: Global, conn: Connection<S>, end: End) -> Result<(), Fail> {
+    match opened(alloc, Config::read(alloc, RENEWED.0, &[])?, conn) {
+        Ok(mut server) => {
+            let went_on = goes_on_at(alloc, &mut server, end);
+            let _left = let_go(server);
+            went_on
+        }
+        Err(_) => Err("what a stop left is not opened".into()),
+    }
+}
+
+// And with what a loss leaves of the files.
+fn goes_on(alloc: Global, left: &Left, loss: Loss, end: End) -> Result<(), Fail> {
+    let files = files_left(alloc, left, loss, (u64::MAX, u64::MAX))?;
+    match connected(alloc, files, OPTIONS) {
+        Ok(conn) => goes_on_over(alloc, conn, end),
+        Err(_) => Err("what a stop left is not opened".into()),
+    }
+}
+
+// Stops the files at each call of one of them, upwards until all is answered: at how many calls the
+// batch stopped, and at how many the event after it.
+fn stops(alloc: Global, answered: fn(u64) -> (u64, u64)) -> Result<(u64, u64), Fail> {
+    let (mut batch, mut after) = (0u64, 0u64);
+    for calls in 0..1000u64 {
+        let (end, files) = sent_to(alloc, files(alloc, answered(calls)))?;
+        let left = left_of(alloc, files)?;
+        for loss in LOSSES {
+            goes_on(alloc, &left, loss, end)?;
+        }
+        match end {
+            End::Unopened => {}
+            End::Stopped => batch = batch.saturating_add(1),
+            End::Batched => after = after.saturating_add(1),
+            End::Whole => return Ok((batch, after)),
+        }
+    }
+    Err("the day is never whole".into())
+}
+
+// One commit stands behind the three: a sync and a few writes of the log.
+#[test]
+fn a_stop_of_the_log_in_a_batch_leaves_the_table_before_or_after(
+    rt: HostRuntime,
+) -> Result<(), Fail> {
+    let (batch, after) = stops(rt.alloc(), |calls| (calls, u64::MAX))?;
+    assert!(rt;
+        batch > 2 && after > 2,
+        "{batch} stops in the batch, {after} after it"
+    );
+    Ok(())
+}
+
+#[test]
+fn a_stop_of_the_database_in_a_batch_leaves_the_table_before_or_after(
+    rt: HostRuntime,
+) -> Result<(), Fail> {
+    let (batch, after) = stops(rt.alloc(), |calls| (u64::MAX, calls))?;
+    assert!(rt;
+        batch + after > 1,
+        "{batch} stops in the batch, {after} after it"
+    );
+    Ok(())
+}
