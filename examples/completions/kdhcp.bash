@@ -32,7 +32,7 @@ _kdhcp() {
         return
     fi
     case $command:$option in
-        replay:--config | replay:--store | serve:--config | serve:--store | leases:--config | leases:--store)
+        replay:--config | replay:--store | serve:--config | serve:--store | serve:--record | leases:--config | leases:--store)
             _kdhcp_paths -f "$current"
             return
             ;;
@@ -53,7 +53,7 @@ _kdhcp() {
         replay) _kdhcp_words "$files -h --help" "$current" ;;
         leases) _kdhcp_words "$files --at -h --help" "$current" ;;
         serve)
-            _kdhcp_words "$files --bind --port --client-port --count --broadcast-as --mirror -h --help" "$current"
+            _kdhcp_words "$files --bind --port --client-port --count --broadcast-as --mirror --record -h --help" "$current"
             ;;
         *) _kdhcp_words "-h --help" "$current" ;;
     esac
