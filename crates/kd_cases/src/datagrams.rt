@@ -9,16 +9,28 @@ use std::str::Lines;
 // The address at which there is no socket: 203.0.113.1.
 const NO_ADDRESS: u32 = 0xcb00_7101;
 
-/// A socket that receives the datagrams of lines, each `MOMENT HEX`, all of which wait at once, and
-/// a clock that says the moment of the line that came last. Of replies those by broadcast are not
-/// sent, unless they go to another address.
+/// A socket that receives the datagrams of lines, each `MOMENT HEX`, and a clock that says the moment
+/// of the line that came last. All wait at once; at a port of 1 to 32 so many come together. Of
+/// replies those by broadcast are not sent, unless they go to another address.
 #[derive(Drop)]
 pub struct Datagrams<'a> {
     alloc: Global,
     lines: Lines<'a>,
     moment: u64,
+    // How many come together, and how many of these are still to come.
+    together: u64,
+    left: u64,
     broadcasts: bool,
     failed: bool,
+}
+
+// How many datagrams come together at a port.
+fn together(port: u16) -> u64 {
+    if port <= 32 {
+        u64::from(port)
+    } else {
+        u64::MAX
+    }
 }
 
 impl<'a> Datagrams<'a> {
@@ -41,6 +53,8 @@ impl<'a> Datagrams<'a> {
             alloc: rt.alloc(),
             lines: text.lines(),
             moment: 0,
+            together: together(listening.port),
+            left: 0,
             broadcasts: listening.mirror || listening.broadcast_as.is_some(),
             failed: false,
         })
@@ -61,6 +75,7 @@ impl<'a> Datagrams<'a> {
         ensures failed { self.new.failed ≡ self.old.failed }
     {
         let bytes = self.bytes()?;
+        self.left = self.left.saturating_sub(1);
         let len = bytes.len().min(buf.len());
         buf[..len].copy_from_slice(&bytes.as_slice()[..len]);
         Some(len)
@@ -76,6 +91,7 @@ impl Link for Datagrams<'_> {
 
     #[tactic(auto, using(kd_replay::proofs::Coming::came_unknown))]
     fn receive(&mut self, buf: &mut [u8]) -> Result<usize, EndFailed> {
+        self.left = self.together;
         match self.next(buf) {
             Some(len) => Ok(len),
             None => {
@@ -87,6 +103,9 @@ impl Link for Datagrams<'_> {
 
     #[tactic(auto, using(kd_replay::proofs::Coming::came_unknown))]
     fn receive_waiting(&mut self, buf: &mut [u8]) -> Option<usize> {
+        if self.left == 0 {
+            return None;
+        }
         self.next(buf)
     }
 
