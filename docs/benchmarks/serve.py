@@ -1,7 +1,8 @@
 #!/usr/bin/env python3
 """Measures servers in turn on loopback; serve.sh calls it: serve.py ROOM KDHCP PICTURE, in a network namespace. With the
-word `million` in place of the picture it measures one round over 1,000,000 leases, and with the word `durable` the two
-servers that sync a lease before they answer, kdhcp with a store and coredhcp."""
+word `million` in place of the picture it measures one round over 1,000,000 leases, with the word `durable` the two
+servers that sync a lease before they answer, kdhcp with a store and coredhcp, and with `batches` and a picture behind it
+servers under so many clients at a time."""
 import json
 import os
 import statistics
@@ -9,13 +10,16 @@ import subprocess
 import sys
 import time
 
-SERVER, RELAY, POOL = "10.0.0.1", "10.0.0.2", "10.1.0.0-10.17.255.255"
+SERVER, RELAY, OTHER_RELAY, POOL = "10.0.0.1", "10.0.0.2", "10.0.0.3", "10.1.0.0-10.17.255.255"
 LEVELS = [0, 1_000, 60_000, 250_000]
 TESTS = [0, 50, 250]
 ROUNDS, MEASURED = 3, 5_000
 BESIDE_KEA, DURABLE = ["kea", "kea3", "memory", "file"], ["file", "coredhcp"]
+WINDOWS, BATCHED = [1, 4, 8, 16, 32, 64], ["file", "alone", "coredhcp", "kea", "memory"]
+RENEWED, HARMED, FLOOD = 60_000, 200, 5_000
 NAMES = {"kea": "Kea, one thread", "kea3": "Kea, three threads", "memory": "kdhcp, memory", "file": "kdhcp, file"}
 NAMES["coredhcp"] = "coredhcp"
+NAMES["alone"] = "kdhcp, file, a commit each"
 
 
 def tests_of(count):
@@ -53,6 +57,11 @@ def kdhcp_words(room, kdhcp, tests, store):
     return words + (["--store", f"{room}/leases.db"] if store else [])
 
 
+def alone(words):
+    """The words with which kdhcp handles each datagram alone. Its replies go to the sender, which is the relay anyway."""
+    return [*words, "--mirror"]
+
+
 def coredhcp_words(room):
     """Its range of addresses is kept in a file of text, of which each new line is synced before the reply; JSON is YAML."""
     plugins = [{"lease_time": "3600s"}, {"server_id": SERVER}, {"netmask": "255.0.0.0"}]
@@ -72,7 +81,9 @@ def started(room, kdhcp, which, tests):
     elif which == "coredhcp":
         words = coredhcp_words(room)
     else:
-        words = kdhcp_words(room, kdhcp, tests, which == "file")
+        words = kdhcp_words(room, kdhcp, tests, which in ("file", "alone"))
+        if which == "alone":
+            words = alone(words)
     cpus = "0,2,3" if which == "kea3" else "0"
     environment = dict(os.environ, KEA_PIDFILE_DIR=room, KEA_LOCKFILE_DIR="none")
     with open(f"{room}/said", "w", encoding="utf-8") as said:
@@ -84,7 +95,7 @@ def started(room, kdhcp, which, tests):
 
 
 def loaded(room, server, base, clients, vendor, *more):
-    """What kdload counts of so many clients, from this number on."""
+    """What kdload counts of so many clients, from this number on, 32 at a time if `more` does not say another number."""
     words = [f"{room}/kdload", "--netns", "--server", SERVER, "--giaddr", RELAY, "--clients", str(clients)]
     words += ["--base", str(base), "--window", "32", "--pid", str(server.pid), "--pool", POOL, "--max-seconds", "600"]
     words += [*more, *(["--opt", f"60:{vendor.encode().hex()}"] if vendor else [])]
@@ -146,16 +157,16 @@ def table(title, heads, rounds, read, form):
         print(f"| {NAMES[which]} | {' | '.join(cells)} |")
 
 
-def picture(path, rounds):
-    """DORA a second over the number of leases, a line a server."""
-    colours = dict(zip(BESIDE_KEA, ["#888888", "#444444", "#1f77b4", "#d62728"]))
-    lines = {which: [middle(all_rounds, i, lambda it: it["per_s"]) for i in range(len(LEVELS))] for which, all_rounds in rounds.items()}
+def picture(path, rounds, heads, over):
+    """DORA a second over the numbers in `heads`, a line a server."""
+    colours = dict(zip(rounds, ["#888888", "#444444", "#1f77b4", "#d62728"]))
+    lines = {which: [middle(all_rounds, i, lambda it: it["per_s"]) for i in range(len(heads))] for which, all_rounds in rounds.items()}
     most = max(max(line) for line in lines.values()) * 1.1
     out = ['<svg xmlns="http://www.w3.org/2000/svg" width="640" height="360" font-family="sans-serif" font-size="12">']
-    out.append('<rect width="640" height="360" fill="white"/><text x="60" y="20">DORA a second over the number of leases</text>')
+    out.append('<rect width="640" height="360" fill="white"/><text x="60" y="20">DORA a second over the number of ' + over + "</text>")
     out.append('<path d="M60 30V320H480" stroke="black" fill="none"/>')
-    places = [60 + 420 * i / (len(LEVELS) - 1) for i in range(len(LEVELS))]
-    out += [f'<text x="{x:.0f}" y="336" text-anchor="middle">{level:,}</text>' for x, level in zip(places, LEVELS)]
+    places = [60 + 420 * i / (len(heads) - 1) for i in range(len(heads))]
+    out += [f'<text x="{x:.0f}" y="336" text-anchor="middle">{head:,}</text>' for x, head in zip(places, heads)]
     for part in range(5):
         value = most * part / 4
         out.append(f'<text x="54" y="{320 - 290 * part / 4 + 4:.0f}" text-anchor="end">{value:,.0f}</text>')
@@ -168,9 +179,9 @@ def picture(path, rounds):
 
 
 def laid_out():
-    """The addresses of the server and of the relay, in the network namespace."""
+    """The addresses of the server and of the relays, in the network namespace."""
     subprocess.run(["ip", "link", "set", "lo", "up"], check=True)
-    for address in (SERVER, RELAY):
+    for address in (SERVER, RELAY, OTHER_RELAY):
         subprocess.run(["ip", "address", "add", f"{address}/8", "dev", "lo"], check=True)
 
 
@@ -228,12 +239,79 @@ def main(room, kdhcp, path):
     table("DORA a second, class tests", TESTS, tests, lambda it: it["per_s"], whole)
     table("Processor us a DORA, class tests", TESTS, tests, lambda it: it["server"]["cpu_us_per_done"], lambda n: f"{n:.1f}")
     tables_of_commits({"file": levels["file"]})
-    picture(path, levels)
+    picture(path, levels, LEVELS, "leases")
+
+
+def crowded(room, kdhcp, which):
+    """A server's measures under so many clients at a time, with what commits take then."""
+    server, base, found = started(room, kdhcp, which, 0), 0, []
+    for window in WINDOWS:
+        found.append(loaded(room, server, base, MEASURED, "", "--window", str(window)))
+        base += MEASURED
+        if which in ("file", "alone", "coredhcp"):
+            found[-1]["commit_us"] = commit_us(room)
+    server.terminate()
+    server.wait()
+    return found
+
+
+def renewed(room, kdhcp, which):
+    """What kdload counts of renewals of leases in mixed order."""
+    server = started(room, kdhcp, which, 0)
+    loaded(room, server, 0, RENEWED, "", "--save", f"{room}/renewed")
+    found = loaded(room, server, 0, RENEWED, "", "--mode", "rebind", "--load", f"{room}/renewed")
+    server.terminate()
+    server.wait()
+    return found
+
+
+def flooded(room, kdhcp):
+    """The slowest answer in ms of `HARMED` clients that renew at once, ten times, while others send `FLOOD` DISCOVERs a
+    second by way of another relay."""
+    server = started(room, kdhcp, "file", 0)
+    loaded(room, server, 0, HARMED, "", "--save", f"{room}/harmed")
+    words = [f"{room}/kdload", "--netns", "--server", SERVER, "--giaddr", OTHER_RELAY, "--mode", "discover", "--pool", POOL]
+    words += ["--clients", str(20 * FLOOD), "--base", "1000000", "--rate", str(FLOOD), "--window", "4096", "--max-seconds", "15"]
+    flood = subprocess.Popen(["taskset", "-c", "2", *words], stdout=subprocess.DEVNULL, stderr=subprocess.DEVNULL)
+    time.sleep(2)
+    slowest = 0.0
+    for _ in range(10):
+        time.sleep(0.5)
+        it = loaded(room, server, 0, HARMED, "", "--mode", "rebind", "--load", f"{room}/harmed", "--window", str(HARMED))
+        slowest = max(slowest, it["whole_us"]["max"] / 1000)
+    is_flooded = flood.poll() is None
+    flood.terminate()
+    flood.wait()
+    server.terminate()
+    server.wait()
+    return slowest if is_flooded else None
+
+
+def batches(room, kdhcp, path):
+    """Rounds of servers in turn, under so many clients at a time."""
+    laid_out()
+    crowds = {which: [] for which in BATCHED}
+    renewals = {which: [] for which in ("file", "alone")}
+    for _ in range(ROUNDS):
+        for which in BATCHED:
+            crowds[which].append(crowded(room, kdhcp, which))
+        for which in renewals:
+            renewals[which].append([renewed(room, kdhcp, which)])
+    table("DORA a second, clients at a time", WINDOWS, crowds, lambda it: it["per_s"], whole)
+    table("Processor us a DORA, clients at a time", WINDOWS, crowds, lambda it: it["server"]["cpu_us_per_done"], lambda n: f"{n:.1f}")
+    synced = {which: crowds[which] for which in ("file", "alone", "coredhcp")}
+    table("A commit of SQLite's library, us, clients at a time", WINDOWS, synced, lambda it: it["commit_us"], lambda n: f"{n:.0f}")
+    table("Renewals a second of so many leases", [RENEWED], renewals, lambda it: it["per_s"], whole)
+    slowest = [flooded(room, kdhcp) for _ in range(ROUNDS)]
+    print(f"\nThe slowest of {HARMED} renewals at once, ten times, under {FLOOD:,} DISCOVERs a second, ms: {slowest}")
+    picture(path, {which: crowds[which] for which in BATCHED[:4]}, WINDOWS, "clients at a time")
 
 
 if __name__ == "__main__":
     works = {"million": million, "durable": durable}
-    if sys.argv[3] in works:
+    if sys.argv[3] == "batches":
+        batches(*sys.argv[1:3], sys.argv[4])
+    elif sys.argv[3] in works:
         works[sys.argv[3]](*sys.argv[1:3])
     else:
         main(*sys.argv[1:])

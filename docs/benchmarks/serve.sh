@@ -2,7 +2,8 @@
 # Measures kdhcp beside Kea under one load, a relay's DISCOVER to ACK: docs/benchmarks/serve.sh [WORK]. WORK is `levels`,
 # where it is left out: three rounds up to 250,000 leases and 250 class tests, a page in Markdown, and serve.svg beside
 # this file; `million`: one round over 1,000,000 leases; `durable`: three rounds up to 250,000 leases of kdhcp with a
-# store and of coredhcp, which syncs too; `soak` or `soak-file`: renewals and garbage for ten minutes, kdhcp alone. It
+# store and of coredhcp, which syncs too; `batches`: three rounds under 1 to 64 clients at a time, and batches.svg; `soak`
+# or `soak-file`: renewals and garbage for ten minutes, kdhcp alone. It
 # installs Kea and SQLite's library by apt where they lack, takes coredhcp from its package without installing it, as
 # that would start it, and works in a network namespace of its own and on a folder of the disk below /var/tmp. Nothing
 # else should run on the machine. The program is that of KDHCP, or crates/kdhcp/out/kdhcp.
@@ -14,7 +15,7 @@ kdhcp=$(realpath "${KDHCP:-$here/../../crates/kdhcp/out/kdhcp}")
 [ -e /usr/include/sqlite3.h ] || apt-get install -y --no-install-recommends libsqlite3-dev >&2
 room=$(mktemp -d /var/tmp/kdhcp-serve.XXXXXX)
 trap 'rm -rf "$room"' EXIT
-if [ "$work" = durable ] && ! command -v coredhcp >/dev/null; then
+if { [ "$work" = durable ] || [ "$work" = batches ]; } && ! command -v coredhcp >/dev/null; then
     (cd "$room" && apt-get download coredhcp-server >&2 && dpkg-deb -x coredhcp-server_*.deb .)
     PATH=$room/usr/bin:$PATH
 fi
@@ -22,8 +23,9 @@ cc -O2 -o "$room/kdload" "$here/kdload.c"
 cc -O2 -o "$room/store" "$here/store.c" -lsqlite3
 case $work in
 levels) unshare --net python3 "$here/serve.py" "$room" "$kdhcp" "$here/serve.svg" ;;
+batches) unshare --net python3 "$here/serve.py" "$room" "$kdhcp" batches "$here/batches.svg" ;;
 million | durable) unshare --net python3 "$here/serve.py" "$room" "$kdhcp" "$work" ;;
 soak) unshare --net python3 "$here/soak.py" "$room" "$kdhcp" "${SECONDS_OF_SOAK:-600}" ;;
 soak-file) unshare --net python3 "$here/soak.py" "$room" "$kdhcp" "${SECONDS_OF_SOAK:-600}" --store ;;
-*) echo "serve.sh: levels, million, durable, soak or soak-file, and not $work" >&2; exit 2 ;;
+*) echo "serve.sh: levels, million, durable, batches, soak or soak-file, and not $work" >&2; exit 2 ;;
 esac
