@@ -14,22 +14,22 @@ use kd_store::Store;
 /// A host in memory: its files and stores, for a socket the lines of standard input, and for a record
 /// what stands in memory. There is no record of the name `none`.
 #[derive(Drop)]
-pub struct Room<'a> {
+pub struct Room<'a, 'r> {
     pub rt: &'a HostRuntime,
     pub files: &'a Files,
     pub stores: &'a mut Stores,
     pub input: &'a str,
-    pub record: Option<&'a mut Vec<u8>>,
+    pub record: Option<&'r mut Vec<u8>>,
 }
 
-impl<'a> Host for Room<'a> {
+impl<'a, 'r> Host for Room<'a, 'r> {
     type Named = Store<InMemory>;
 
     type Unnamed = Volatile;
 
     type Socket = Datagrams<'a>;
 
-    type Journal = Page<'a>;
+    type Journal = Page<'r>;
 
     ghost configures = { λ old file folder result new. Unit {0} };
 
@@ -73,7 +73,7 @@ impl<'a> Host for Room<'a> {
         Datagrams::bind(self.rt, listening, self.input)
     }
 
-    fn journal(&mut self, path: &str) -> Result<Page<'a>, EndFailed> {
+    fn journal(&mut self, path: &str) -> Result<Page<'r>, EndFailed> {
         match self.record.take() {
             Some(text) if path != "none" => Ok(Page::named(text, path)),
             _ => Err(EndFailed),
