@@ -16,7 +16,7 @@ use sqlite::{Start, Unknown};
 use std::alloc::{AllocError, Global};
 use std::net::{IpAddr, Ipv4Addr, UdpSocket};
 use std::test::Fail;
-use std::time::Duration;
+use std::time::{Duration, Instant};
 
 // 127.0.0.1, and the address that stands for all hosts of its link.
 const LOOPBACK: u32 = 0x7f00_0001;
@@ -206,5 +206,44 @@ fn another_socket_than_the_words_name_is_refused(rt: HostRuntime) -> Result<(), 
     assert!(rt; machine_socket(&rt, Unknown, Some(Ok(socket)), listening).is_err());
     assert!(rt; machine_socket(&rt, Unknown, Some(Err(EndFailed)), listening).is_err());
     assert!(rt; machine_socket(&rt, Unknown, None, listening).is_ok());
+    Ok(())
+}
+
+// Replies go to their senders.
+const MIRRORED: Sending = Sending {
+    mirror: true,
+    broadcast_as: None,
+};
+
+// A socket that is asked for what waits does not wait for more, and gives what has come.
+#[test]
+fn what_waits_is_taken_without_waiting(rt: HostRuntime) -> Result<(), Fail> {
+    let (socket, port) = bound(&rt, LOOPBACK)?;
+    let (sender, _) = bound(&rt, LOOPBACK)?;
+    let mut link = Socket::over(&rt, socket, MIRRORED);
+    let mut room = [0; 1_500];
+    let length = datagram(rt.alloc(), CLIENT, DISCOVER)?.len();
+    let begun = Instant::now(&rt)?;
+    assert!(rt; link.receive_waiting(&mut room).is_none());
+    send_discover(rt.alloc(), &sender, port)?;
+    assert!(rt; link.receive_waiting(&mut room) == Some(length));
+    send_discover(rt.alloc(), &sender, port)?;
+    assert!(rt; link.receive(&mut room) == Ok(length));
+    assert!(rt; link.receive_waiting(&mut room).is_none());
+    assert!(rt; begun.elapsed(&rt)? < Duration::from_secs(4));
+    Ok(())
+}
+
+// One that was asked for what waits waits again for the next datagram.
+#[test]
+fn a_socket_waits_again_for_the_next_datagram(rt: HostRuntime) -> Result<(), Fail> {
+    let (socket, _) = bound(&rt, LOOPBACK)?;
+    socket.set_read_timeout(Some(Duration::from_millis(300)))?;
+    let mut link = Socket::over(&rt, socket, MIRRORED);
+    let mut room = [0; 1_500];
+    assert!(rt; link.receive_waiting(&mut room).is_none());
+    let begun = Instant::now(&rt)?;
+    assert!(rt; link.receive(&mut room).is_err());
+    assert!(rt; begun.elapsed(&rt)? >= Duration::from_millis(200));
     Ok(())
 }
