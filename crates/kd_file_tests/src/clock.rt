@@ -24,7 +24,9 @@ fn the_hosts_clock_tells_the_time(rt: HostRuntime) -> Result<(), Fail> {
 // 1,767,225,600.9 s are that second, and not the next.
 #[test]
 fn a_moment_counts_as_its_second(rt: HostRuntime) -> Result<(), Fail> {
-    let time = UNIX_EPOCH.checked_add(Duration::from_millis(1_767_225_600_900));
-    assert!(rt; time.map(seconds_of) == Some(YEARS[0]));
+    let Some(time) = UNIX_EPOCH.checked_add(Duration::from_millis(1_767_225_600_900)) else {
+        return Err("the moment is out of range".into());
+    };
+    assert!(rt; seconds_of(time) == YEARS[0]);
     Ok(())
 }

@@ -6,7 +6,9 @@ use crate::support::{COOKIE, server_on};
 use kd_config::Config;
 use kd_event::{Destination, Event, Ports};
 use kd_io::{Sending, Socket};
-use kd_replay::{EndFailed, Happening, Link, LoopFault, ServeFault, replay_bytes, serve_bytes};
+use kd_replay::{
+    EndFailed, Happening, Link, LoopFault, ServeFault, ServedBytes, replay_bytes, serve_bytes,
+};
 use kd_server::{Server, serve};
 use kd_table_tests::Fused;
 use kd_wire::Bytes;
@@ -25,11 +27,11 @@ fn server(alloc: Global) -> Result<Server<Fused>, AllocError> {
     server_on(alloc, ports)
 }
 
-// The DISCOVER of the client 0a0000000001.
-fn discover(alloc: Global) -> Result<Vec<u8>, AllocError> {
+// The DISCOVER of the client 0a00000000 with this last byte.
+fn discover(alloc: Global, client: u8) -> Result<Vec<u8>, AllocError> {
     let mut bytes = Vec::from_slice(alloc, &[1, 1, 6, 0, 0, 0, 0, 1])?;
     bytes.resize(28, 0)?;
-    bytes.extend_from_slice(b"\x0a\x00\x00\x00\x00\x01")?;
+    bytes.extend_from_slice(&[10, 0, 0, 0, 0, client])?;
     bytes.resize(236, 0)?;
     bytes.extend_from_slice(&COOKIE)?;
     bytes.extend_from_slice(b"\x35\x01\x01\xff")?;
@@ -62,7 +64,7 @@ fn two_datagrams_are_served_over_a_socket(rt: HostRuntime) -> Result<(), Fail> {
     let alloc = rt.alloc();
     let (socket, address) = bound(&rt)?;
     let (client, _) = bound(&rt)?;
-    client.send_to(discover(alloc)?.as_slice(), address)?;
+    client.send_to(discover(alloc, 1)?.as_slice(), address)?;
     client.send_to(&[0], address)?;
     let sending = Sending {
         mirror: true,
@@ -107,7 +109,7 @@ impl Wired {
         ensures { IfOk result (λ link. link.failed ≡ false) }
     {
         Ok(Wired {
-            discover: discover(alloc)?,
+            discover: discover(alloc, 1)?,
             left,
             loses,
             reply: Vec::new(alloc),
@@ -237,44 +239,62 @@ fn wide_server(alloc: Global, calls: u64) -> Result<Server<Fused>, Fail> {
     }
 }
 
-// How serving ends where the DISCOVERs of so many clients wait at a socket, over a store that answers
-// so many calls; and how many lines are written.
-fn waited(
-    rt: &HostRuntime,
-    clients: u8,
-    calls: u64,
-) -> Result<(Result<(), LoopFault>, usize), Fail> {
-    let alloc = rt.alloc();
+// A socket at which the DISCOVERs of so many clients wait.
+fn crowded(rt: &HostRuntime, clients: u8) -> Result<UdpSocket, Fail> {
     let (socket, address) = bound(rt)?;
     let (client, _) = bound(rt)?;
     for number in 0..clients {
-        let mut bytes = discover(alloc)?;
-        bytes[33] = number;
-        client.send_to(bytes.as_slice(), address)?;
+        client.send_to(discover(rt.alloc(), number)?.as_slice(), address)?;
     }
+    Ok(socket)
+}
+
+// How many lines there are.
+fn lines_of(text: &[u8]) -> usize {
+    let mut lines = 0usize;
+    for byte in text {
+        if *byte == b'\n' {
+            lines = lines.saturating_add(1);
+        }
+    }
+    lines
+}
+
+// How serving so many datagrams of a socket ends, up to 32 in a batch; and how many lines are
+// written.
+fn served_over(
+    rt: &HostRuntime,
+    socket: UdpSocket,
+    mut server: Server<Fused>,
+    count: u64,
+) -> (Result<(), LoopFault>, usize) {
     let sending = Sending {
         mirror: true,
         broadcast_as: None,
     };
     let mut link = Socket::over(rt, socket, sending);
-    let mut sink = Keeping::new(alloc, usize::MAX, usize::MAX);
-    let mut server = wide_server(alloc, calls)?;
+    let mut sink = Keeping::new(rt.alloc(), usize::MAX, usize::MAX);
     let served = serve(
-        alloc,
+        rt.alloc(),
         &mut link,
         &mut None::<Keeping>,
         &mut sink,
         &mut server,
         32,
-        u64::from(clients),
+        count,
     );
-    let mut lines = 0usize;
-    for byte in sink.as_slice() {
-        if *byte == b'\n' {
-            lines = lines.saturating_add(1);
-        }
-    }
-    Ok((served, lines))
+    (served, lines_of(sink.as_slice()))
+}
+
+// The same where the DISCOVERs of so many clients wait, over a store that answers so many calls.
+fn waited(
+    rt: &HostRuntime,
+    clients: u8,
+    calls: u64,
+) -> Result<(Result<(), LoopFault>, usize), Fail> {
+    let socket = crowded(rt, clients)?;
+    let server = wide_server(rt.alloc(), calls)?;
+    Ok(served_over(rt, socket, server, u64::from(clients)))
 }
 
 // How many clients wait, how many commits there are, and how many lines where the last commit fails.
@@ -302,12 +322,18 @@ fn datagrams_that_wait_share_a_commit(rt: HostRuntime) -> Result<(), Fail> {
 
 // The DISCOVER of a client at a moment.
 fn discovered(alloc: Global, moment: u64, client: u8) -> Result<Event, AllocError> {
-    let mut bytes = discover(alloc)?;
-    bytes[33] = client;
     Ok(Event {
         moment,
-        bytes: Bytes::own(bytes),
+        bytes: Bytes::own(discover(alloc, client)?),
     })
+}
+
+// The last byte of a reply's yiaddr.
+fn last_of_yiaddr(reply: &[u8]) -> u8 {
+    match reply.get(19) {
+        Some(byte) => *byte,
+        None => 0,
+    }
 }
 
 // What happened, a line each: a datagram that was waited for or that waited, with its length, what
@@ -321,41 +347,66 @@ fn told(alloc: Global, log: &[Happening]) -> Result<String, AllocError> {
             }
             Happening::Came(false, bytes) => write!(text, "waits {}\n", bytes.as_slice().len())?,
             Happening::Said(moment) => write!(text, "said {moment}\n")?,
-            Happening::Went(packet) => write!(text, "went {}\n", packet.bytes.as_slice()[19])?,
+            Happening::Went(packet) => write!(
+                text,
+                "went {}\n",
+                last_of_yiaddr(packet.bytes.as_slice())
+            )?,
         }
     }
     Ok(text)
 }
 
-// Two batches, of two events and of one: the clock is asked after each datagram, the record is of
-// all, and the replies of a batch go behind its last datagram.
-#[test]
-fn what_happens_is_told_in_its_order(rt: HostRuntime) -> Result<(), Fail> {
-    let alloc = rt.alloc();
-    let input = [
+// Three events: two DISCOVERs, and between them a datagram that reads as no message.
+fn input(alloc: Global) -> Result<[Event; 3], AllocError> {
+    Ok([
         discovered(alloc, 100, 1)?,
         Event {
             moment: 110,
             bytes: Bytes::own(Vec::from_slice(alloc, &[0x0a])?),
         },
         discovered(alloc, 300, 2)?,
-    ];
-    let Some(served) = serve_bytes(alloc, &input, 1, &mut server(alloc)?, 32) else {
-        return Err(AllocError.into());
-    };
+    ])
+}
+
+// What serving them leaves, where one waits behind each that is waited for.
+fn served_input(alloc: Global) -> Result<ServedBytes, AllocError> {
+    let mut server = server(alloc)?;
+    match serve_bytes(alloc, &input(alloc)?, 1, &mut server, 32) {
+        Some(served) => Ok(served),
+        None => Err(AllocError),
+    }
+}
+
+// The record of them.
+fn record(alloc: Global) -> Result<String, AllocError> {
+    let first = hex::encode(alloc, discover(alloc, 1)?.as_slice())?;
+    let last = hex::encode(alloc, discover(alloc, 2)?.as_slice())?;
+    format!(in alloc; "100 {first}\n110 0a\n300 {last}\n")
+}
+
+// Two batches, of two events and of one: the clock is asked after each datagram, the record is of
+// all, and the replies of a batch go behind its last datagram.
+#[test]
+fn what_happens_is_told_in_its_order(rt: HostRuntime) -> Result<(), Fail> {
+    let served = served_input(rt.alloc())?;
     assert!(rt; served.end == Ok(()));
     let wanted = "waited for 244\nsaid 100\nwaits 1\nsaid 110\nwent 10\n\
         waited for 244\nsaid 300\nwent 11\n";
-    assert!(rt; told(alloc, served.log.as_slice())?.as_str() == wanted);
-    let first = hex::encode(alloc, input[0].bytes.as_slice())?;
-    let last = hex::encode(alloc, input[2].bytes.as_slice())?;
-    let record = format!(in alloc; "100 {first}\n110 0a\n300 {last}\n")?;
-    assert!(rt; served.journal.as_slice() == record.as_bytes());
-    let (lines, done) = replay_bytes(alloc, record.as_bytes(), &mut server(alloc)?);
+    assert!(rt; told(rt.alloc(), served.log.as_slice())?.as_str() == wanted);
+    assert!(rt; served.journal.as_slice() == record(rt.alloc())?.as_bytes());
+    Ok(())
+}
+
+// The record replays to the lines that were written.
+#[test]
+fn what_is_recorded_replays_to_what_was_written(rt: HostRuntime) -> Result<(), Fail> {
+    let served = served_input(rt.alloc())?;
+    let mut server = server(rt.alloc())?;
+    let (lines, done) = replay_bytes(rt.alloc(), served.journal.as_slice(), &mut server);
     assert!(rt; done == Ok(3) && lines.as_slice() == served.lines.as_slice());
     assert!(rt;
-        served
-            .lines
+        lines
             .as_slice()
             .starts_with(b"100 reply hardware 192.0.2.10:68 02")
     );
