@@ -1,12 +1,10 @@
 //! Tests of the server with leases by values: days of a few events, worked out by hand from the
-//! rules, over a store in memory; days of random events in batches; what stands after a store that
-//! fails, and after a refused request for memory; where replies go.
+//! rules, over a store in memory; what stands after a store that fails, and after a refused request
+//! for memory; where replies go.
 //!
 //! They are a crate of their own since a crate is proved once more with its tests.
 #![tactic(auto)]
 
-#[cfg(test)]
-mod batches;
 #[cfg(test)]
 mod days;
 #[cfg(test)]
