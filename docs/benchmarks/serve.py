@@ -271,7 +271,7 @@ def flooded(room, kdhcp):
     server = started(room, kdhcp, "file", 0)
     loaded(room, server, 0, HARMED, "", "--save", f"{room}/harmed")
     words = [f"{room}/kdload", "--netns", "--server", SERVER, "--giaddr", OTHER_RELAY, "--mode", "discover", "--pool", POOL]
-    words += ["--clients", str(20 * FLOOD), "--base", "1000000", "--rate", str(FLOOD), "--window", "4096", "--max-seconds", "15"]
+    words += ["--clients", str(60 * FLOOD), "--base", "1000000", "--rate", str(FLOOD), "--window", "4096", "--max-seconds", "60"]
     flood = subprocess.Popen(["taskset", "-c", "2", *words], stdout=subprocess.DEVNULL, stderr=subprocess.DEVNULL)
     time.sleep(2)
     slowest = 0.0
