@@ -119,6 +119,7 @@ each_refusal_with_store() {
 }
 each_refusal_with_store examples/replay/leases.lines examples/replay/leases.replies
 echo "stores: runs=$all memory=$memory same=$same other=$other"
+python3 docs/fail-alloc/batch.py crates/kdhcp/out/kdhcp "$room/fail.so"
 
 # Reads and writes of one byte each change nothing.
 SHORT_IO=1 LD_PRELOAD=$room/fail.so crates/kdhcp/out/kdhcp replay <examples/replay/informs.lines |
