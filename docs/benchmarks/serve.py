@@ -5,6 +5,7 @@ servers that sync a lease before they answer, kdhcp with a store and coredhcp, a
 servers under so many clients at a time."""
 import json
 import os
+import socket
 import statistics
 import subprocess
 import sys
@@ -17,6 +18,7 @@ ROUNDS, MEASURED = 3, 5_000
 BESIDE_KEA, DURABLE = ["kea", "kea3", "memory", "file"], ["file", "coredhcp"]
 WINDOWS, BATCHED = [1, 4, 8, 16, 32, 64], ["file", "alone", "coredhcp", "kea", "memory"]
 RENEWED, HARMED, FLOOD = 60_000, 200, 5_000
+SO_RCVBUFFORCE = 33
 NAMES = {"kea": "Kea, one thread", "kea3": "Kea, three threads", "memory": "kdhcp, memory", "file": "kdhcp, file"}
 NAMES["coredhcp"] = "coredhcp"
 NAMES["alone"] = "kdhcp, file, a commit each"
@@ -81,13 +83,24 @@ def started(room, kdhcp, which, tests):
     elif which == "coredhcp":
         words = coredhcp_words(room)
     else:
-        words = kdhcp_words(room, kdhcp, tests, which in ("file", "alone"))
+        words = kdhcp_words(room, kdhcp, tests, which != "memory")
         if which == "alone":
             words = alone(words)
     cpus = "0,2,3" if which == "kea3" else "0"
     environment = dict(os.environ, KEA_PIDFILE_DIR=room, KEA_LOCKFILE_DIR="none")
-    with open(f"{room}/said", "w", encoding="utf-8") as said:
-        server = subprocess.Popen(["taskset", "-c", cpus, *words], stdout=subprocess.DEVNULL, stderr=said, env=environment)
+    with open(f"{room}/said", "w", encoding="utf-8") as said, socket.socket(socket.AF_INET, socket.SOCK_DGRAM) as ours:
+        if which == "handed":
+            environment["LISTEN_FDS"] = "1"
+            ours.setsockopt(socket.SOL_SOCKET, SO_RCVBUFFORCE, 4 << 20)
+            ours.bind((SERVER, 67))
+
+        def take():
+            if which == "handed":
+                os.dup2(ours.fileno(), 3)
+                os.set_inheritable(3, True)
+
+        words = ["taskset", "-c", cpus, *words]
+        server = subprocess.Popen(words, stdout=subprocess.DEVNULL, stderr=said, env=environment, preexec_fn=take, close_fds=False)
     time.sleep(1.5)
     if server.poll() is not None:
         sys.exit(f"{which} ended: {open(f'{room}/said', encoding='utf-8').read()}")
@@ -267,8 +280,8 @@ def renewed(room, kdhcp, which):
 
 def flooded(room, kdhcp):
     """The slowest answer in ms of `HARMED` clients that renew at once, ten times, while others send `FLOOD` DISCOVERs a
-    second by way of another relay."""
-    server = started(room, kdhcp, "file", 0)
+    second by way of another relay. The socket is handed over with a buffer of 4 MiB, as that of examples/kdhcp.socket."""
+    server = started(room, kdhcp, "handed", 0)
     loaded(room, server, 0, HARMED, "", "--save", f"{room}/harmed")
     words = [f"{room}/kdload", "--netns", "--server", SERVER, "--giaddr", OTHER_RELAY, "--mode", "discover", "--pool", POOL]
     words += ["--clients", str(60 * FLOOD), "--base", "1000000", "--rate", str(FLOOD), "--window", "4096", "--max-seconds", "60"]
