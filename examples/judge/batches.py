@@ -1,0 +1,50 @@
+#!/usr/bin/env python3
+"""A day of long_day.py, served in batches of random sizes: batches.py SEED [EVENTS] [CLIENTS] [--program P]
+
+`crates/kd_cases/out/kd_cases` serves it by `kdhcp serve --store` in runs of random length over one store, each at a port of
+1 to 32, at which so many datagrams come together. Each line is the one that the judge says, and so is the table at the end.
+"""
+import argparse
+import json
+import os
+import random
+import subprocess
+import tempfile
+
+import judge
+from histories import ROOT
+from long_day import DAY, day
+
+
+def main():
+    words = argparse.ArgumentParser()
+    words.add_argument("seed", type=int)
+    words.add_argument("events", type=int, nargs="?", default=20_000)
+    words.add_argument("clients", type=int, nargs="?", default=4_000)
+    words.add_argument("--program", default=os.path.join(ROOT, "crates", "kd_cases", "out", "kd_cases"))
+    words = words.parse_args()
+    chance = random.Random(words.seed)
+    root, lines, wanted, table = day(chance, words.events, words.clients)
+    cases, at, runs = [], 0, 0
+    while at < len(lines):
+        count, port = min(chance.randrange(1, 400), len(lines) - at), chance.randrange(1, 33)
+        cases.append(f"$ kdhcp serve --config config.json --store day.db --port {port} --count {count}")
+        cases += [f"< {line}" for line in lines[at : at + count]]
+        cases.append("! serving ..")
+        # A reply to a relay goes to the server's own port.
+        cases += [line.replace(":67 ", f":{port} ", 1) for line in wanted[at : at + count]]
+        cases.append("")
+        at, runs = at + count, runs + 1
+    cases.append(f"$ kdhcp leases --config config.json --store day.db --at {DAY}")
+    cases += judge.lease_lines(table, DAY)
+    with tempfile.TemporaryDirectory() as folder:
+        with open(os.path.join(folder, "config.json"), "w", encoding="utf-8") as file:
+            json.dump({"Dhcp4": root}, file)
+        with open(os.path.join(folder, "day.cases"), "w", encoding="utf-8") as file:
+            file.write("\n".join([*cases, ""]))
+        subprocess.run([words.program, "day.cases"], cwd=folder, check=True)
+    print(f"{words.events} events in {runs} runs")
+
+
+if __name__ == "__main__":
+    main()
