@@ -37,6 +37,7 @@ IsKnownLogOf-prop : (log : Option (List Happening)) (events : List Event) → Is
 IsKnownLogOf-prop None events = Unit-prop
 IsKnownLogOf-prop (Some log) events = IsLogOf-prop 0 log events
 
+-- of a post's place there is one proof
 pub IsPosted-prop : (given input : List Event) (next moment : ℕ) (log : Option (List Happening)) → IsProp (IsPosted given input next moment log)
 IsPosted-prop given input next moment log =
     ×_prop (Coded-set (coded_list event_code) input given)

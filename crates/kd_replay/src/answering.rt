@@ -60,13 +60,13 @@ fn answer<L: Link, W: Sink>(
     ensures room { vec_capacity room.old ≤ vec_capacity room.new }
 {
     let sent = send(link, &handled.response);
-    put_text(room, handled, sent);
+    fill_text(room, handled, sent);
     write_all(sink, room.as_slice())
 }
 
 // Puts the text of a handled datagram in place of what is there, by whether its reply was sent; no
 // memory is taken.
-fn put_text(room: &mut Vec<u8>, handled: &Handled, sent: bool)
+fn fill_text(room: &mut Vec<u8>, handled: &Handled, sent: bool)
     requires line { length (line_of handled.now) ≤ line_room }
     requires room { text_room ≤ vec_capacity room.old }
     ensures items { room.new.items ≡ text_of (record { handled = handled.entry.now; sent = sent }) }

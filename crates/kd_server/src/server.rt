@@ -101,6 +101,20 @@ impl<S: Keeps> Server<S> {
         (config, store)
     }
 
+    /// The configuration that it goes by.
+    pub fn config(&self) -> &Config
+        ensures { result.now ≡ self.now.config }
+    {
+        &self.config
+    }
+
+    /// The rows of leases, ended ones among them.
+    pub fn rows(&self) -> &Rows
+        ensures { result.now.rows ≡ self.now.rows }
+    {
+        &self.rows
+    }
+
     /// How many rows of leases there are, ended ones among them.
     pub fn row_count(&self) -> usize
         ensures { result ≡ length self.now.rows }

@@ -13,7 +13,7 @@ ghost use Rattle.kd_store.specs.Staging.{CommitsTogether, SetsTogether};
 ghost use Rattle.kd_store.specs.Stands.{Leaves, Stands};
 
 use crate::fault::cause_of_error;
-use crate::statement::{PUT, signed};
+use crate::statement::{PUT, with_sign};
 use kd_keeps::StoreFault;
 use kd_rows::Row;
 use sqlite::{Alter, Connection, Error, ErrorCode, Transaction, params};
@@ -30,8 +30,8 @@ fn execute_inside<S: Alter>(tx: &mut Transaction<'_, S>, row: &Row) -> Result<us
         (λ _. ⊥) }
 {
     let number = u32::from(row.state.number());
-    let changed = signed(row.changed);
-    let ends = signed(row.ends);
+    let changed = with_sign(row.changed);
+    let ends = with_sign(row.ends);
     tx.execute(
         PUT,
         params![row.address, row.client.as_slice(), number, changed, ends],

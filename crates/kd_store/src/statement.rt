@@ -46,7 +46,7 @@ pub(crate) fn make<S: Alter>(conn: &mut Connection<S>) -> Result<usize, Error>
 }
 
 // A number as SQL has it, where an integer has a sign.
-pub(crate) fn signed(n: u64) -> i64
+pub(crate) fn with_sign(n: u64) -> i64
     requires { n < 2 ^ 63 }
     ensures { result ≡ pos n }
 {
@@ -63,8 +63,8 @@ fn execute_put<S: Alter>(conn: &mut Connection<S>, row: &Row) -> Result<usize, E
         (CommitsBy put_text (columns_of row.now) (state S.Store conn.old)) }
 {
     let number = u32::from(row.state.number());
-    let changed = signed(row.changed);
-    let ends = signed(row.ends);
+    let changed = with_sign(row.changed);
+    let ends = with_sign(row.ends);
     conn.execute(
         PUT,
         params![row.address, row.client.as_slice(), number, changed, ends],
