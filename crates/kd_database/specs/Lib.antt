@@ -1,2 +1,4 @@
-pub mod Stores
+pub mod Image
+pub mod Staging
 pub mod Stops
+pub mod Stores

@@ -124,7 +124,7 @@ fn make_file(rt: &HostRuntime, path: &str) {
 }
 
 // Why a file is not opened.
-fn cause_of(error: Error) -> Cause
+pub(crate) fn cause_of(error: Error) -> Cause
     ensures { result ≡ opening_cause error }
 {
     let Error::SqliteFailure(code) = error else {

@@ -1,3 +1,4 @@
 pub mod Faults
+pub mod Looking
 pub mod Sending
 pub mod Start

@@ -3,7 +3,8 @@
 //! What this layer promises to the one above: a reader is the source of a replay with the reader's
 //! bytes, and a writer a sink with the writer's, each failed once a call of it has failed, and by
 //! nothing else. A file is read whole, and the token files of a folder by their names; what a file
-//! system gave, no proof knows. A socket is the link of a server (`specs/Sending.antt`): what it
+//! system gave, no proof knows. A database that another process writes is read without a lock
+//! (`specs/Looking.antt`). A socket is the link of a server (`specs/Sending.antt`): what it
 //! receives and sends, no proof knows either.
 #![tactic(auto)]
 
@@ -11,12 +12,16 @@ mod activation;
 mod appending;
 mod files;
 mod link;
+mod look;
 mod start;
 mod streams;
+mod watching;
 
 pub use activation::inherited;
 pub use appending::journal;
 pub use files::{InputFault, MOST_BYTES, read_file, read_whole, token_files};
 pub use link::{Sending, Socket, seconds_of, target};
+pub use look::{Copied, LookFault, Part, Watched, settled_copy};
 pub use start::{StartFault, configuration, configured};
 pub use streams::{Input, Output};
+pub use watching::copy_at;

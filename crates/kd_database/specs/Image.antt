@@ -1,0 +1,20 @@
+-- The leases in the bytes of a database and of its log.
+use Rattle.std.specs.Prelude.{◌≡◌, ℕ, List, []}
+use Rattle.sqlite_disk.specs.declared.Disk.{Ghosts}
+use Rattle.sqlite_wal.specs.Recovery.{Image}
+use Rattle.sqlite_trees.specs.Tree.{Trees}
+use Rattle.sqlite_store.specs.declared.store.FileStore.{FileStore}
+use Rattle.sqlite.specs.Files.{HoldsDatabase}
+use Rattle.kd_rows.specs.declared.row.Row.{Row}
+use Rattle.kd_store.specs.Stands.{Holds}
+
+-- the bytes of a log and of a database
+abbrev pub bytes_image : List ℕ → List ℕ → Image
+bytes_image log db = record { log = log; db = db }
+
+-- rows are the leases in a database and its log: those of the table that they hold, and none where
+-- the database has no byte
+pub record AreRowsIn (image : Image) (rows : List Row) : Type 0 where
+  pub held : (db : Trees) (table : List Row) → HoldsDatabase image db → Holds db table
+      → rows ≡ table
+  pub none : image.db ≡ [] → rows ≡ []

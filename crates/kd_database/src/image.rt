@@ -1,0 +1,76 @@
+ghost use Rattle.std.specs.Prelude.{◌≡◌, [], IfErr, IfOk, IsTrue, OnOk};
+ghost use Rattle.std.specs.List.{All};
+ghost use Rattle.sqlite_disk.specs.Memory.{memory_bytes, memory_is_usable};
+ghost use Rattle.sqlite.specs.Files.{image_of};
+ghost use Rattle.kd_rows.specs.Row.{IsInRange};
+ghost use Rattle.kd_rows.specs.Table.{Rise};
+ghost use Rattle.kd_database.specs.Image.{AreRowsIn, bytes_image};
+ghost use Rattle.kd_database.specs.Staging.{AreRowsOver};
+ghost use Rattle.kd_database.specs.Stores.{IsNoStoreIn};
+
+use crate::stops::let_go;
+use crate::stores::{cause_of, store_over};
+use kd_keeps::{Cause, Keeps, Opened, StoreFault};
+use kd_rows::Row;
+use kd_store::Store;
+use sqlite::{Connection, FileStore, Files, Options};
+use sqlite_disk::{Disk, Memory};
+use std::alloc::Global;
+
+/// The leases in the bytes of a database and of its log: the rows that a store finds which is opened
+/// on them in memory, in rising address. An empty database has none.
+///
+/// # Errors
+///
+/// Those of `store_in_file`: `Sql` where the bytes are no database or memory runs out, and `Schema`
+/// where its table `lease` is not ours or has a row that is out of range.
+pub fn rows_in(alloc: Global, log: &[u8], db: &[u8]) -> Result<Vec<Row>, StoreFault>
+    ensures held { IfOk result (λ rows. AreRowsIn (bytes_image log.now db.now) rows.items) }
+    ensures rise { IfOk result (λ rows. Rise rows.items) }
+    ensures ranges { IfOk result (λ rows. All IsInRange rows.items) }
+    ensures refused { IfErr result
+        (IsNoStoreIn ⟦<Memory as Disk>⟧ (bytes_image log.now db.now)) }
+{
+    let log = match file_of(alloc, log) {
+        Ok(log) => log,
+        Err(fault) => return Err(fault),
+    };
+    let db = match file_of(alloc, db) {
+        Ok(db) => db,
+        Err(fault) => return Err(fault),
+    };
+    rows_on(alloc, Files { log, db })
+}
+
+// A file in memory with these bytes.
+fn file_of(alloc: Global, bytes: &[u8]) -> Result<Memory, StoreFault>
+    ensures bytes { IfOk result (λ file. memory_bytes file ≡ bytes.now) }
+    ensures usable { IfOk result (λ file. IsTrue (memory_is_usable file)) }
+    ensures memory { IfErr result (λ fault. fault ≡ StoreFault.Sql Cause.OutOfMemory) }
+{
+    let mut file = Memory::new(alloc);
+    match file.write_at(0, bytes) {
+        Ok(()) => Ok(file),
+        Err(_) => Err(StoreFault::Sql(Cause::OutOfMemory)),
+    }
+}
+
+// The rows of the store that is opened on these files.
+fn rows_on<D: Disk + Drop>(alloc: Global, files: Files<D>) -> Result<Vec<Row>, StoreFault>
+    requires log { IsTrue (D.Disk.is_usable files.log) }
+    requires db { IsTrue (D.Disk.is_usable files.db) }
+    ensures over { IfOk result (λ rows. AreRowsOver ⟦<Store<FileStore<D>> as Keeps>⟧
+        (image_of D.Disk files) rows.items) }
+    ensures refused { IfErr result (IsNoStoreIn D.Disk (image_of D.Disk files)) }
+{
+    match Connection::open_files(alloc, files, Options::new(0)) {
+        Ok(conn) => match store_over(alloc, conn) {
+            Ok(Opened { store, rows }) => {
+                let _store = let_go(store);
+                Ok(rows)
+            }
+            Err(fault) => Err(fault),
+        },
+        Err((error, _)) => Err(StoreFault::Sql(cause_of(error))),
+    }
+}

@@ -1,0 +1,54 @@
+-- A look at a database that another process writes, by what was read of its files and in which order
+-- (SQLite's file format, section 4: a log that is begun anew has another header, and the database is
+-- written only from a log that has all that is written, so that a copy of both is one moment's where
+-- the header stayed the same).
+use Rattle.std.specs.Prelude.{◌≡◌, ◌≢◌, ℕ, suc, zero, List, [], ◌∷◌, ◌++◌, Option, Some, None}
+use Rattle.kd_io.specs.declared.look.Copied.{Copied}
+use Rattle.kd_io.specs.declared.look.Part.{Part}
+use Rattle.kd_io.specs.declared.look.Part.TheVariants.{Header, Database, Log}
+
+-- how often a copy is tried
+abbrev pub most_tries : ℕ
+most_tries = 100
+
+-- where it is known what was read, it is known with these parts more
+abbrev pub AreReadAs : List Part → Option (List Part) → Option (List Part) → Type 0
+AreReadAs more old new = (parts : List Part) → old ≡ Some parts → new ≡ Some (parts ++ more)
+
+-- the same with one part
+abbrev pub IsReadAs : Part → Option (List Part) → Option (List Part) → Type 0
+IsReadAs part = AreReadAs (part ∷ [])
+
+-- one try: the header of the log, the database, the log, and the header again
+abbrev pub one_try : List ℕ → List ℕ → List ℕ → List ℕ → List Part
+one_try before db log after = Header before ∷ Database db ∷ Log log ∷ Header after ∷ []
+
+-- parts of so many tries, at each of which the header changed
+abbrev pub AreChanged : ℕ → List Part → Type 0
+AreChanged zero parts = parts ≡ []
+AreChanged (suc n) parts =
+    (earlier : List Part) × (before db log after : List ℕ) × AreChanged n earlier × (before ≢ after)
+    × (parts ≡ earlier ++ one_try before db log after)
+
+-- a log and a database were read at a try at which the header stayed the same, behind others at which
+-- it changed
+pub record IsSettled (log db : List ℕ) (old new : Option (List Part)) : Type 0 where
+  pub tries : ℕ
+  pub parts : List Part
+  pub changed : AreChanged tries parts
+  pub header : List ℕ
+  pub read : AreReadAs (parts ++ one_try header db log header) old new
+
+-- the header changed at each of so many tries
+pub record IsUnsettled (tries : ℕ) (old new : Option (List Part)) : Type 0 where
+  pub parts : List Part
+  pub changed : AreChanged tries parts
+  pub read : AreReadAs parts old new
+
+-- one try, by whether it gives a copy
+abbrev pub IsTry : Option Copied → Option (List Part) → Option (List Part) → Type 0
+IsTry (Some copy) old new =
+    (header : List ℕ) × AreReadAs (one_try header copy.db copy.log header) old new
+IsTry None old new =
+    (before db log after : List ℕ) × (before ≢ after)
+    × AreReadAs (one_try before db log after) old new

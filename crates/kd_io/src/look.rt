@@ -1,0 +1,151 @@
+ghost use Rattle.std.specs.Prelude.{◌≡◌, Err, IfOk};
+ghost use Rattle.kd_io.specs.Faults.{look_fault_number};
+ghost use Rattle.kd_io.specs.Looking.{IsSettled, IsUnsettled, IsTry, most_tries};
+ghost use Rattle.kd_io.specs.declared.look.LookFault.TheVariants as faults;
+
+use crate::files::InputFault;
+use kd_keeps::StoreFault;
+use kd_wire::Bytes;
+use std::fmt;
+use thiserror::Error;
+
+/// Why a look at a database gives no leases.
+#[derive(Clone, Copy, PartialEq, Eq, Error)]
+pub enum LookFault {
+    /// The database or its log is not read.
+    #[error("{0}")]
+    Input(InputFault),
+    /// The log was begun anew at each try.
+    #[error("Unsettled")]
+    Unsettled,
+    /// What was read is no store of leases.
+    #[error("{0}")]
+    Store(StoreFault),
+}
+
+impl fmt::Debug for LookFault {
+    fn fmt<W: fmt::Write>(&self, f: &mut fmt::Formatter<W>) -> fmt::Result {
+        fmt::Display::fmt(self, f)
+    }
+}
+
+impl LookFault {
+    /// The fault's number: 82, or that of the fault inside.
+    pub fn number(self) -> u8
+        ensures { result ≡ look_fault_number self }
+    {
+        match self {
+            LookFault::Input(fault) => fault.number(),
+            LookFault::Unsettled => 82,
+            LookFault::Store(fault) => fault.number(),
+        }
+    }
+}
+
+impl From<InputFault> for LookFault {
+    ghost use Rattle.std.specs.Prelude.{◌≡◌};
+    ghost use Rattle.kd_io.specs.declared.look.LookFault.TheVariants.{Input};
+
+    ghost from_gives = { λ fault e. e ≡ Input fault };
+
+    fn from(fault: InputFault) -> LookFault {
+        LookFault::Input(fault)
+    }
+}
+
+/// A part of a database and its log that was read.
+#[derive(Drop)]
+pub enum Part {
+    /// The first 32 bytes of the log, or fewer where it has fewer.
+    Header(Bytes),
+    /// The whole database.
+    Database(Bytes),
+    /// The whole log.
+    Log(Bytes),
+}
+
+/// A database and its log that another process may write meanwhile, as they are read, part by part.
+pub trait Watched {
+    ghost use Rattle.std.specs.Prelude.{IfOk, List, Option};
+    ghost use Rattle.kd_io.specs.Looking.{IsReadAs};
+    ghost use Rattle.kd_io.specs.declared.look.Part.{Part as Read};
+    ghost use Rattle.kd_io.specs.declared.look.Part.TheVariants as parts;
+
+    /// What was read, in this order, where that is known.
+    ghost trace: { Self → Option (List Read) };
+
+    /// The first 32 bytes of the log, or fewer where it has fewer.
+    ///
+    /// # Errors
+    ///
+    /// It is not read.
+    fn header(&mut self) -> Result<Bytes, InputFault>
+        ensures { IfOk result (λ bytes.
+            IsReadAs (parts.Header bytes) (trace self.old) (trace self.new)) };
+
+    /// The whole database.
+    ///
+    /// # Errors
+    ///
+    /// It is not read.
+    fn database(&mut self) -> Result<Bytes, InputFault>
+        ensures { IfOk result (λ bytes.
+            IsReadAs (parts.Database bytes) (trace self.old) (trace self.new)) };
+
+    /// The whole log.
+    ///
+    /// # Errors
+    ///
+    /// It is not read.
+    fn log(&mut self) -> Result<Bytes, InputFault>
+        ensures { IfOk result (λ bytes.
+            IsReadAs (parts.Log bytes) (trace self.old) (trace self.new)) };
+}
+
+/// A copy of a database and its log.
+#[derive(Drop)]
+pub struct Copied {
+    /// The log.
+    pub log: Bytes,
+    /// The database.
+    pub db: Bytes,
+}
+
+// How often a copy is tried.
+const TRIES: u32 = 100;
+
+/// A copy of a database and its log, between which the log was not begun anew: its header was read
+/// before and after, and is the same (SQLite's file format, section 4). It takes no lock, so another
+/// process may serve from them meanwhile.
+///
+/// # Errors
+///
+/// `Input` where a part is not read, and `Unsettled` where the header changed at each of 100 tries.
+pub fn settled_copy<W: Watched>(files: &mut W) -> Result<Copied, LookFault>
+    ensures copied { IfOk result (λ copy.
+        IsSettled copy.log copy.db (W.trace files.old) (W.trace files.new)) }
+    ensures unsettled { result ≡ Err faults.Unsettled
+        → IsUnsettled most_tries (W.trace files.old) (W.trace files.new) }
+{
+    for _ in 0..TRIES {
+        if let Some(copy) = tried_copy(files)? {
+            return Ok(copy);
+        }
+    }
+    Err(LookFault::Unsettled)
+}
+
+// A copy, if the header stays the same meanwhile.
+fn tried_copy<W: Watched>(files: &mut W) -> Result<Option<Copied>, InputFault>
+    ensures { IfOk result (λ found. IsTry found (W.trace files.old) (W.trace files.new)) }
+{
+    let before = files.header()?;
+    let db = files.database()?;
+    let log = files.log()?;
+    let after = files.header()?;
+    if before.as_slice() == after.as_slice() {
+        Ok(Some(Copied { log, db }))
+    } else {
+        Ok(None)
+    }
+}

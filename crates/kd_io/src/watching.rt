@@ -1,0 +1,76 @@
+use crate::files::{InputFault, read_whole};
+use crate::look::{Copied, LookFault, Watched, settled_copy};
+use kd_wire::Bytes;
+use std::alloc::{AllocError, Global};
+use std::fs::File;
+use std::io::{ErrorKind, Read};
+use std::rt::Files;
+
+// How many bytes the header of a log has (SQLite's file format, section 4.1).
+const HEADER: u64 = 32;
+
+// A database and its log, by their paths.
+struct AtPaths<'a, R> {
+    rt: &'a R,
+    db: &'a str,
+    log: &'a str,
+}
+
+impl<'a, R: Files + AllocGlobal> Watched for AtPaths<'a, R> {
+    ghost use Rattle.std.specs.Prelude.{None};
+
+    ghost trace = { λ _. None };
+
+    fn header(&mut self) -> Result<Bytes, InputFault> {
+        match File::open(self.rt, self.log) {
+            Ok(file) => whole(self.rt.alloc(), file.take(HEADER)),
+            Err(error) if error.kind() == ErrorKind::NotFound => Ok(nothing(self.rt.alloc())),
+            Err(error) => Err(InputFault::from(error)),
+        }
+    }
+
+    fn database(&mut self) -> Result<Bytes, InputFault> {
+        whole(self.rt.alloc(), File::open(self.rt, self.db)?)
+    }
+
+    fn log(&mut self) -> Result<Bytes, InputFault> {
+        match File::open(self.rt, self.log) {
+            Ok(file) => whole(self.rt.alloc(), file),
+            Err(error) if error.kind() == ErrorKind::NotFound => Ok(nothing(self.rt.alloc())),
+            Err(error) => Err(InputFault::from(error)),
+        }
+    }
+}
+
+// No bytes.
+fn nothing(alloc: Global) -> Bytes {
+    Bytes::own(Vec::new(alloc))
+}
+
+// All bytes of a reader, fewer than 4 GiB.
+fn whole<R: Read + Drop>(alloc: Global, reader: R) -> Result<Bytes, InputFault> {
+    Ok(Bytes::own(read_whole(alloc, reader, u32::MAX)?))
+}
+
+/// A copy of the database at a path and of its log, without a lock: see `settled_copy`. A log that is
+/// not there has no bytes.
+///
+/// # Errors
+///
+/// Those of `settled_copy`; the database is not there, or has 4 GiB or more.
+pub fn copy_at<R: Files + AllocGlobal>(rt: &R, path: &str) -> Result<Copied, LookFault> {
+    let log = log_path(rt.alloc(), path).map_err(InputFault::from)?;
+    settled_copy(&mut AtPaths {
+        rt,
+        db: path,
+        log: log.as_str(),
+    })
+}
+
+// The path of the log of the database at a path.
+fn log_path(alloc: Global, path: &str) -> Result<String, AllocError> {
+    let mut log = String::new(alloc);
+    log.push_str(path)?;
+    log.push_str("-wal")?;
+    Ok(log)
+}
