@@ -20,8 +20,15 @@ pub struct Lease {
     pub live: bool,
 }
 
-// The rows at a moment, where the store has not failed.
-pub(crate) fn leases_at(
+/// The leases of rows at a moment, in whole seconds, where their store has not failed: the rows in
+/// rising address, and which of them have not ended. A moment before the latest change counts as
+/// that.
+///
+/// # Errors
+///
+/// `Failed` where the store has failed, `MomentTooLarge` where the moment is not below 2^40, and
+/// `Memory`.
+pub fn leases_at(
     alloc: Global,
     rows: &Rows,
     failed: bool,

@@ -15,7 +15,7 @@ mod server;
 mod serving;
 mod turning;
 
-pub use leases::{Lease, lease_lines};
+pub use leases::{Lease, lease_lines, leases_at};
 pub use replaying::replay;
 pub use server::Server;
 pub use serving::serve;

@@ -115,6 +115,13 @@ impl<S: Keeps> Server<S> {
         &self.rows
     }
 
+    /// Whether the store has failed.
+    pub fn has_failed(&self) -> bool
+        ensures { result ≡ is_some (S.fault self.now.store) }
+    {
+        self.store.failed()
+    }
+
     /// How many rows of leases there are, ended ones among them.
     pub fn row_count(&self) -> usize
         ensures { result ≡ length self.now.rows }
