@@ -1,5 +1,5 @@
 -- Where a store of leases stands that is opened.
-use Rattle.std.proofs.Common.{◌≡◌, inl, inr, false, List, [], length, Result, Ok, Err, IfOk, refl, sym, ap, subst, ◌∙◌, arith}
+use Rattle.std.proofs.Common.{◌≡◌, inl, inr, false, ℕ, List, [], length, Result, Ok, Err, IfOk, refl, sym, ap, subst, ◌∙◌, arith}
 use Rattle.sqlite_disk.specs.declared.Disk.{Ghosts}
 use Rattle.sqlite_wal.specs.Recovery.{Image}
 use Rattle.sqlite_trees.specs.Tree.{Trees}
@@ -10,7 +10,8 @@ use Rattle.sqlite_store.specs.declared.store.FileStore.{FileStore}
 use Rattle.sqlite.specs.Effect.{Database}
 use Rattle.sqlite.specs.Held.{Held, state}
 use Rattle.sqlite_store.specs.FileStore as files
-use Rattle.sqlite.specs.Files.{IsBlankAs, IsOpened, file_state}
+use Rattle.sqlite_disk.specs.declared.files.Files.{Files}
+use Rattle.sqlite.specs.Files.{Finds, IsBlankAs, IsOpened, file_state, image_of}
 use Rattle.sqlite.specs.Start.{FindsIn}
 use Rattle.sqlite.specs.State.{HasCleanDisk}
 use Rattle.sqlite.specs.Steps.{over_memory, IsEmpty}
@@ -22,6 +23,9 @@ use Rattle.kd_store.specs.Laws.{Reopens}
 use Rattle.kd_store.specs.Lease.{no_schema}
 use Rattle.kd_store.specs.Opening.{OpensAt}
 use Rattle.kd_store.specs.Stands.{Holds, Leaves, Stands}
+use Rattle.kd_keeps.specs.declared.keeps.Keeps.{Ghosts as Keeps}
+use Rattle.kd_database.specs.Image.{AreRowsIn, bytes_image}
+use Rattle.kd_database.specs.Staging.{AreRowsOver}
 use Rattle.kd_database.specs.Stores.{IsOpenedOn, IsStoreIn, StandsAsHeld, StandsNew}
 use Rattle.kd_database.specs.Stops.{Restarts}
 
@@ -61,6 +65,28 @@ module _ {E : Type 0} {h : Ghosts E} (image : Image) where
       let sound = (opens.1 opens.0.is_open).0 in
       let schema = lists_once (now.trees catalog_tree) now.schema no_schema sound.lists (empty_is_sound now.trees unlisted).lists in
       is.opens.stands clean [] (inl (schema, refl))
+
+-- rows that were read from a store whose disk is always clean are those in its files
+pub held_rows : {D : Type 0} {g : Ghosts D} (k : Keeps (Kept (FileStore D g))) (image : Image) (rows : List Row) → ((store : Kept (FileStore D g)) → HasCleanDisk (file_state store.conn))
+    → ((store : Kept (FileStore D g)) → HasCleanDisk (file_state store.conn) → k.has_clean_disk store)
+    → ((store : Kept (FileStore D g)) (table : List Row) → Stands (file_state store.conn) table → k.stands store table) → AreRowsOver k image rows → AreRowsIn image rows
+held_rows k image rows always clean stands over =
+    let store = over.store in
+    let is = always store in
+    let read = λ (table : List Row) (at : Stands (file_state store.conn) table). (over.read.table (clean store is) table (stands store table at)).0 in
+    record {
+      held = λ db table held holds. read table (as_held image store over.opened is db table held holds);
+      none = λ none. read [] (as_new image store over.opened is none);
+    }
+
+-- what files in memory show is what was written to them
+pub same_image : (a b c d : List ℕ) → a ≡ b → c ≡ d → bytes_image a c ≡ bytes_image b d
+same_image a b c d e f = rw (e, f) refl
+
+-- what an opening of files finds is what they held
+pub found_in : {D : Type 0} {g : Ghosts D} (files : Files D) (opened : Held (FileStore D g)) → (HasCleanDisk (file_state opened) → Finds files opened)
+    → HasCleanDisk (file_state opened) → FindsIn (image_of g files) (file_state opened)
+found_in files opened finds clean = let it = finds clean in record { holds = it.holds; reads = it.reads }
 
 -- one on what a crash left of other files stands at one table, which is one of any two that it could leave
 pub restarts : {D E : Type 0} (g : Ghosts D) (h : Ghosts E) → Reopens g h → Restarts g h

@@ -1,19 +1,22 @@
-ghost use Rattle.std.specs.Prelude.{◌≡◌, [], IfErr, IfOk, IsTrue, OnOk};
+ghost use Rattle.std.specs.Prelude.{◌≡◌, IfErr, IfOk, IsTrue, false};
 ghost use Rattle.std.specs.List.{All};
 ghost use Rattle.sqlite_disk.specs.Memory.{memory_bytes, memory_is_usable};
 ghost use Rattle.sqlite.specs.Files.{image_of};
+ghost use Rattle.sqlite.specs.Held.{Held, state};
+ghost use Rattle.kd_keeps.specs.Reading.{AreRead};
 ghost use Rattle.kd_rows.specs.Row.{IsInRange};
 ghost use Rattle.kd_rows.specs.Table.{Rise};
+ghost use Rattle.kd_store.specs.Kept.{Kept};
+ghost use Rattle.kd_store.specs.Opening.{GivesBack, OpensAt};
 ghost use Rattle.kd_database.specs.Image.{AreRowsIn, bytes_image};
 ghost use Rattle.kd_database.specs.Staging.{AreRowsOver};
 ghost use Rattle.kd_database.specs.Stores.{IsNoStoreIn};
 
-use crate::stops::let_go;
 use crate::stores::{cause_of, store_over};
 use kd_keeps::{Cause, Keeps, Opened, StoreFault};
 use kd_rows::Row;
 use kd_store::Store;
-use sqlite::{Connection, FileStore, Files, Options};
+use sqlite::{Alter, Connection, FileStore, Files, Options};
 use sqlite_disk::{Disk, Memory};
 use std::alloc::Global;
 
@@ -64,13 +67,24 @@ fn rows_on<D: Disk + Drop>(alloc: Global, files: Files<D>) -> Result<Vec<Row>, S
     ensures refused { IfErr result (IsNoStoreIn D.Disk (image_of D.Disk files)) }
 {
     match Connection::open_files(alloc, files, Options::new(0)) {
-        Ok(conn) => match store_over(alloc, conn) {
-            Ok(Opened { store, rows }) => {
-                let _store = let_go(store);
-                Ok(rows)
-            }
-            Err(fault) => Err(fault),
-        },
+        Ok(conn) => rows_over(alloc, conn),
         Err((error, _)) => Err(StoreFault::Sql(cause_of(error))),
+    }
+}
+
+// The rows of the store over a connection, which is let go.
+fn rows_over<S: Alter + Drop>(alloc: Global, conn: Connection<S>) -> Result<Vec<Row>, StoreFault>
+    ensures read { IfOk result (λ rows. (store : Kept S)
+        × OpensAt (state S.Store conn) (state S.Store store.conn)
+        × AreRead ⟦<Store<S> as Keeps>⟧ store rows.items) }
+    ensures refused { (state S.Store conn).in_transaction ≡ false
+        → IfErr result (λ fault. (back : Held S) × GivesBack S.Store fault conn back) }
+{
+    match store_over(alloc, conn) {
+        Ok(Opened { store, rows }) => {
+            let _below = store.close().into_store();
+            Ok(rows)
+        }
+        Err(fault) => Err(fault),
     }
 }

@@ -11,6 +11,7 @@ use Rattle.kd_commands.specs.declared.orders.Listening.{Listening}
 use Rattle.kd_commands.specs.declared.orders.Order.{Order}
 use Rattle.kd_commands.specs.declared.orders.Order.TheVariants as orders
 use Rattle.kd_config.specs.Configuration.{Configuration}
+use Rattle.kd_database.specs.Image.{AreRowsIn, bytes_image}
 use Rattle.kd_database.specs.Stops.{LiesBelow}
 use Rattle.kd_database.specs.Stores.{IsStoreIn, StandsAsHeld}
 use Rattle.kd_io.specs.Start.{IsOfFiles}
@@ -24,6 +25,7 @@ use Rattle.kd_program.specs.declared.serving.Work.{Work}
 use Rattle.kd_program.specs.declared.serving.Work.TheVariants as works
 use Rattle.kd_replay.specs.declared.ends.Sink.{Ghosts as Sinks}
 use Rattle.kd_replay.specs.declared.link.Link.{Ghosts as Links}
+use Rattle.kd_rows.specs.declared.row.Row.{Row}
 use Rattle.kd_store.specs.Kept.{Kept}
 use Rattle.kd_tools.specs.Status.{status_of}
 
@@ -39,10 +41,15 @@ IsOfHanded below None result = Unit {0}
 IsOfHanded below (Some (Ok socket)) result = IfOk result (λ link. below link ≡ socket)
 IsOfHanded below (Some (Err fault)) result = result ≡ Err fault
 
+-- rows are those in the bytes of a database and of its log
+abbrev pub IsFound : List Row → Type 0
+IsFound rows = (log db : List ℕ) × AreRowsIn (bytes_image log db) rows
+
 -- the order for a work over files
 abbrev pub order_of : Files → Work → Order
 order_of files works.Replay = orders.Replay files.config files.token_dir files.store
-order_of files (works.Leases at) = orders.Leases files.config files.token_dir files.store at
+order_of files (works.List listing at) =
+    orders.List listing files.config files.token_dir files.store at
 order_of files (works.Serve listening count journal) =
     orders.Serve files.config files.token_dir files.store listening count journal
 

@@ -1,10 +1,11 @@
 use kd_commands::Listening;
 use kd_config::Config;
-use kd_database::{let_go, store_from};
-use kd_io::{Output, Sending, Socket, StartFault, configuration, journal};
+use kd_database::{let_go, rows_in, store_from};
+use kd_io::{Copied, LookFault, Output, Sending, Socket, StartFault, configuration, copy_at, journal};
 use kd_keeps::{Cause, Opened, StoreFault, Volatile};
 use kd_program::Host;
 use kd_replay::EndFailed;
+use kd_rows::Row;
 use kd_store::Store;
 use sqlite::{FileFrom, FileStore, Start};
 use std::fs::File;
@@ -53,7 +54,7 @@ impl<'a, F: Start> Host for Machine<'a, F, Below<F>> {
     ghost use Rattle.kd_database.specs.Stops.{LiesBelow};
     ghost use Rattle.kd_database.specs.Stores.{IsStoreIn, StandsAsHeld};
     ghost use Rattle.kd_io.specs.Start.{IsOfFiles};
-    ghost use Rattle.kd_host.specs.OnFiles.{IsOfHanded, sending_of};
+    ghost use Rattle.kd_host.specs.OnFiles.{IsFound, IsOfHanded, sending_of};
 
     type Named = Store<Below<F>>;
 
@@ -74,6 +75,8 @@ impl<'a, F: Start> Host for Machine<'a, F, Below<F>> {
 
     ghost closes = { λ old path store new.
         (it : _) × (new.left ≡ Some it) × (IsClean (view it) → LiesBelow store.conn it) };
+
+    ghost copies = { λ old path result new. IfOk result IsFound };
 
     ghost binds = { λ old listening result new.
         IfOk result (λ link. link.sending ≡ sending_of listening)
@@ -106,6 +109,14 @@ impl<'a, F: Start> Host for Machine<'a, F, Below<F>> {
 
     fn close(&mut self, _path: &str, store: Store<Below<F>>) {
         self.left = Some(let_go(store));
+    }
+
+    fn copy(&mut self, path: &str) -> Result<Vec<Row>, LookFault> {
+        let Copied { log, db } = copy_at(self.rt, path)?;
+        match rows_in(self.rt.alloc(), log.as_slice(), db.as_slice()) {
+            Ok(rows) => Ok(rows),
+            Err(fault) => Err(LookFault::Store(fault)),
+        }
     }
 
     fn socket(&mut self, listening: Listening) -> Result<Socket<'a>, EndFailed> {

@@ -1,2 +1,4 @@
+mod Consumed
+mod Looks
 mod Starting
 mod Wholes

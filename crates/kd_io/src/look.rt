@@ -121,6 +121,7 @@ const TRIES: u32 = 100;
 /// # Errors
 ///
 /// `Input` where a part is not read, and `Unsettled` where the header changed at each of 100 tries.
+#[tactic(auto, using(crate::proofs::Looks::none_yet, crate::proofs::Looks::once_more, crate::proofs::Looks::settled))]
 pub fn settled_copy<W: Watched>(files: &mut W) -> Result<Copied, LookFault>
     ensures copied { IfOk result (λ copy.
         IsSettled copy.log copy.db (W.trace files.old) (W.trace files.new)) }

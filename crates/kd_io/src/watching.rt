@@ -10,6 +10,7 @@ use std::rt::Files;
 const HEADER: u64 = 32;
 
 // A database and its log, by their paths.
+#[derive(Drop)]
 struct AtPaths<'a, R> {
     rt: &'a R,
     db: &'a str,

@@ -1,3 +1,5 @@
+pub mod Importing
+pub mod Listing
 pub mod Openings
 pub mod Running
 pub mod Streams

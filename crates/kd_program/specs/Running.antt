@@ -1,20 +1,22 @@
 -- What the words of a command line do: what is written, and the exit status.
 use Rattle.std.specs.Prelude.{◌≡◌, ◌⊎◌, ℕ, false, true, IfOk, List, Option, Some, None, Result, Ok, Err, MatchResult, is_some, option_map, string_bytes}
-use Rattle.std.specs.List.{flat_map}
 use Rattle.std.specs.Result.{IsErrOf}
 use Rattle.kd_tools.specs.Printed.{Answers}
 use Rattle.kd_tools.specs.Status.{replay_status_of, serve_status_of}
 use Rattle.kd_tools.specs.declared.printed.Printed.{Printed}
 use Rattle.kd_config.specs.Configuration.{Configuration}
-use Rattle.kd_io.specs.Faults.{start_fault_number}
+use Rattle.kd_io.specs.Faults.{look_fault_number, start_fault_number}
+use Rattle.kd_io.specs.declared.look.LookFault.{LookFault}
 use Rattle.kd_io.specs.declared.start.StartFault.{StartFault}
 use Rattle.kd_event.specs.declared.ports.Ports.{Ports}
 use Rattle.kd_keeps.specs.Fault.{store_fault_number}
+use Rattle.kd_keeps.specs.Reading.{AreRead}
 use Rattle.kd_keeps.specs.declared.fault.StoreFault.{StoreFault}
 use Rattle.kd_keeps.specs.declared.keeps.Keeps.{Ghosts}
 use Rattle.kd_commands.specs.Order.{AsksFor, HasFault, line_fault_number}
 use Rattle.kd_commands.specs.declared.fault.LineFault.{LineFault}
 use Rattle.kd_commands.specs.declared.orders.Listening.{Listening}
+use Rattle.kd_commands.specs.declared.orders.Listing.{Listing}
 use Rattle.kd_commands.specs.declared.orders.Order.{Order}
 use Rattle.kd_commands.specs.declared.orders.Order.TheVariants as orders
 use Rattle.kd_replay.specs.Faults.{loop_fault_number, replay_fault_number, serve_fault_number}
@@ -31,10 +33,12 @@ use Rattle.kd_replay.specs.declared.link.Link.{Ghosts as Links}
 use Rattle.kd_replay.specs.declared.fault.ServeFault.{ServeFault}
 use Rattle.kd_server.specs.Batch.{Batched}
 use Rattle.kd_server.specs.Keeping.{IsUnopened, Keeping, Opens, Refuses, Steps}
-use Rattle.kd_server.specs.Leases.{IsNoList, lease_line, leases_of_rows}
-use Rattle.kd_program.specs.Streams.{Prints, Puts, ShowsOrBreaks, Starves, Stream, Streams, Tells, TellsWith}
+use Rattle.kd_program.specs.Importing.{ImportsInto}
+use Rattle.kd_program.specs.Listing.{Lists}
+use Rattle.kd_program.specs.Streams.{Prints, Puts, Starves, Stream, Streams, Tells, TellsWith}
 use Rattle.kd_program.specs.declared.host.Host.{Ghosts as Hosts}
 use Rattle.kd_program.specs.declared.serving.Files.{Files}
+use Rattle.kd_rows.specs.declared.row.Row.{Row}
 use Rattle.kd_program.specs.declared.serving.Work.{Work}
 use Rattle.kd_program.specs.declared.serving.Work.TheVariants as works
 
@@ -98,16 +102,6 @@ module _ {S : Type 0} (g : Ghosts S) where
     pub counted : IfOk result (λ count. Handles (Steps g) count server after)
     pub reached : Reaches (Steps g) (Refuses g) server after
     pub ends : EndsReplay result status old.faults new.faults
-
-  -- a server's leases at a moment are shown, or it is told why there are none; memory may run out
-  -- for their lines
-  abbrev pub ListsLeases : ℕ → Keeping S → ℕ → Streams → Streams → Type 0
-  ListsLeases at server status old new =
-      ShowsOrBreaks (flat_map lease_line (leases_of_rows at server.rows)) 0 status old.output
-      new.output old.faults new.faults
-      ⊎ (((fault : ServeFault) × IsNoList (is_some (g.fault server.store)) at fault
-      × Tells (serve_fault_number fault) status old new)
-      ⊎ Starves status old new)
 
 -- over a host and the records that it gives
 module _ {H N U L R : Type 0} (h : Hosts H N U L R) (r : Sinks R) where
@@ -182,8 +176,9 @@ module _ {H N U L R S : Type 0} (h : Hosts H N U L R) (l : Links L) (r : Sinks R
   abbrev pub Works : Work → H → H → Keeping S → Keeping S → ℕ → Streams → Streams → Type 0
   Works works.Replay before after server left status old new =
       (after ≡ before) × ReplaysInput g server left status old new
-  Works (works.Leases at) before after server left status old new =
-      (after ≡ before) × ((left ≡ server) × ListsLeases g at server status old new)
+  Works (works.List listing at) before after server left status old new =
+      (after ≡ before) × ((left ≡ server)
+      × Lists listing (is_some (g.fault server.store)) server.config server.rows at status old new)
   Works (works.Serve listening count journal) before after server left status old new =
       Listens listening (option_map string_bytes journal) count before after server left status old
       new
@@ -287,6 +282,55 @@ module _ {H N U L R : Type 0} (h : Hosts H N U L R) (named : Ghosts N) (unnamed 
       HasConfiguration files work before after status old new
       ⊎ HasNoConfiguration files before after status old new
 
+  -- the host gives the rows of the database at a path, and a listing of them is shown; memory may
+  -- run out for it
+  pub record ListsCopy (path : List ℕ) (listing : Listing) (config : Configuration) (at : ℕ)
+      (before after : H) (status : ℕ) (old new : Streams) : Type 0 where
+    pub rows : List Row
+    pub given : h.copies before path (Ok rows) after
+    pub lists : Lists listing false config rows at status old new ⊎ Starves status old new
+
+  -- the host gives no rows of a database at a path, which is told
+  pub record HasNoCopy (path : List ℕ) (before after : H) (status : ℕ)
+      (old new : Streams) : Type 0 where
+    pub fault : LookFault
+    pub given : h.copies before path (Err fault) after
+    pub told : Tells (look_fault_number fault) status old new
+
+  -- the host gives the configuration of these files, and a database at a path is looked at
+  pub record LooksUnder (files : Files) (path : List ℕ) (listing : Listing) (at : ℕ)
+      (before after : H) (status : ℕ) (old new : Streams) : Type 0 where
+    pub config : Configuration
+    pub asked : H
+    pub given : h.configures before (option_map string_bytes files.config)
+        (option_map string_bytes files.token_dir) (Ok config) asked
+    pub looks : ListsCopy path listing config at asked after status old new
+        ⊎ HasNoCopy path asked after status old new
+
+  -- a look at the database at a path, which another process may have open
+  abbrev pub Looks : Files → List ℕ → Listing → ℕ → H → H → ℕ → Streams → Streams → Type 0
+  Looks files path listing at before after status old new =
+      LooksUnder files path listing at before after status old new
+      ⊎ HasNoConfiguration files before after status old new
+
+  -- the lines on standard input are imported into the store that the host opens at a path, and the
+  -- host gets it back
+  pub record ImportsAt (path : List ℕ) (before after : H) (status : ℕ)
+      (old new : Streams) : Type 0 where
+    pub store : N
+    pub opened : H
+    pub given : h.opens before path (Ok store) opened
+    pub rows : List Row
+    pub read : AreRead named store rows
+    pub back : N
+    pub imports : ImportsInto named rows store back status old new
+    pub closed : h.closes opened path back after
+
+  -- an import into the store at a path, or it is told that there is none
+  abbrev pub Imports : List ℕ → H → H → ℕ → Streams → Streams → Type 0
+  Imports path before after status old new =
+      ImportsAt path before after status old new ⊎ HasNoStoreAt path before after status old new
+
   -- what an order prints that needs nothing but its words; memory may run out for it
   abbrev pub Says : Order → ℕ → Streams → Streams → Type 0
   Says order status old new =
@@ -298,9 +342,14 @@ module _ {H N U L R : Type 0} (h : Hosts H N U L R) (named : Ghosts N) (unnamed 
   CarriesOut (orders.Replay config token_dir store) before after status old new =
       Starts (record { config = config; token_dir = token_dir; store = store }) works.Replay before
       after status old new
-  CarriesOut (orders.Leases config token_dir store at) before after status old new =
+  CarriesOut (orders.List listing config token_dir store at) before after status old new =
       Starts (record { config = config; token_dir = token_dir; store = store })
-      (works.Leases at) before after status old new
+      (works.List listing at) before after status old new
+  CarriesOut (orders.Look listing config token_dir store at) before after status old new =
+      Looks (record { config = config; token_dir = token_dir; store = None }) (string_bytes store)
+      listing at before after status old new
+  CarriesOut (orders.Import store) before after status old new =
+      Imports (string_bytes store) before after status old new
   CarriesOut (orders.Serve config token_dir store listening count journal) before after status old
       new =
       Starts (record { config = config; token_dir = token_dir; store = store })

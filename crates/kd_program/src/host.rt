@@ -1,19 +1,25 @@
 use kd_commands::Listening;
 use kd_config::Config;
-use kd_io::StartFault;
+use kd_io::{LookFault, StartFault};
 use kd_keeps::{Keeps, Opened, StoreFault};
 use kd_replay::{EndFailed, Link, Sink};
+use kd_rows::Row;
 
 /// What a command finds outside of its words and of the standard streams.
 pub trait Host {
     ghost use Rattle.std.specs.Prelude.{◌≡◌, ℕ, Err, IfOk, List, MatchResult, Ok, Option, Result, false, is_some};
+    ghost use Rattle.std.specs.List.{All};
     ghost use Rattle.std.specs.Option.{option_copied};
     ghost use Rattle.kd_commands.specs.declared.orders.Listening.{Listening};
     ghost use Rattle.kd_config.specs.Configuration.{Configuration};
+    ghost use Rattle.kd_io.specs.declared.look.LookFault.{LookFault};
     ghost use Rattle.kd_io.specs.declared.start.StartFault.{StartFault};
     ghost use Rattle.kd_keeps.specs.Reading.{AreRead};
     ghost use Rattle.kd_keeps.specs.declared.fault.StoreFault.{StoreFault};
     ghost use Rattle.kd_replay.specs.declared.ends.EndFailed.{EndFailed};
+    ghost use Rattle.kd_rows.specs.Row.{IsInRange};
+    ghost use Rattle.kd_rows.specs.Table.{Rise};
+    ghost use Rattle.kd_rows.specs.declared.row.Row.{Row as LeaseRow};
 
     /// A store of leases that has a path. It cannot be dropped, so that it comes back to the host.
     type Named: Keeps;
@@ -41,6 +47,9 @@ pub trait Host {
 
     /// A store of a path is taken back.
     ghost closes: { Self → List ℕ → Self.Named → Self → Type 0 };
+
+    /// The rows of the database at a path, as they are read beside a process that has it open.
+    ghost copies: { Self → List ℕ → Result (List LeaseRow) LookFault → Self → Type 0 };
 
     /// A socket.
     ghost binds: { Self → Listening → Result Self.Socket EndFailed → Self → Type 0 };
@@ -88,6 +97,18 @@ pub trait Host {
     /// Takes back the store of a path from a command that has ended.
     fn close(&mut self, path: &str, store: Self::Named)
         ensures { closes self.old path.now store self.new };
+
+    /// The rows of the database at a path, in rising address. It is read without a lock, so another
+    /// process may have it open.
+    ///
+    /// # Errors
+    ///
+    /// It can't be read, or is no store of leases.
+    fn copy(&mut self, path: &str) -> Result<Vec<Row>, LookFault>
+        ensures given { MatchResult result (λ rows. copies self.old path.now (Ok rows.items) self.new)
+            (λ fault. copies self.old path.now (Err fault) self.new) }
+        ensures rise { IfOk result (λ rows. Rise rows.items) }
+        ensures ranges { IfOk result (λ rows. All IsInRange rows.items) };
 
     /// A socket at an address and a port, which has not failed.
     ///

@@ -8,7 +8,10 @@
 mod banner;
 mod ends;
 mod host;
+mod importing;
 pub mod laws;
+mod listing;
+mod looking;
 mod printing;
 mod running;
 mod serving;

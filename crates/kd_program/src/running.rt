@@ -4,6 +4,8 @@ ghost use Rattle.kd_program.specs.Running.{Carries, CarriesOut};
 
 use crate::ends::Ends;
 use crate::host::Host;
+use crate::importing::import;
+use crate::looking::look;
 use crate::printing::{print, refuse_memory, refuse_words};
 use crate::serving::{Files, Work, served};
 use kd_commands::{Order, order};
@@ -61,7 +63,8 @@ fn carried_out<H: Host, R: Source, O: Sink, E: Sink>(
             },
             &Work::Replay,
         ),
-        Order::Leases {
+        Order::List {
+            listing,
             config,
             token_dir,
             store,
@@ -75,8 +78,23 @@ fn carried_out<H: Host, R: Source, O: Sink, E: Sink>(
                 token_dir,
                 store,
             },
-            &Work::Leases(at),
+            &Work::List(listing, at),
         ),
+        Order::Look {
+            listing,
+            config,
+            token_dir,
+            store,
+            at,
+        } => {
+            let files = Files {
+                config,
+                token_dir,
+                store: None,
+            };
+            look(alloc, host, ends, &files, store.as_str(), listing, at)
+        }
+        Order::Import { store } => import(alloc, host, ends, store.as_str()),
         Order::Serve {
             config,
             token_dir,

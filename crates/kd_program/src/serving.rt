@@ -6,19 +6,20 @@ ghost use Rattle.kd_keeps.specs.Fault.{store_fault_number};
 ghost use Rattle.kd_keeps.specs.Reading.{AreRead};
 ghost use Rattle.kd_program.specs.Streams.{TellsWith, streams, written_to};
 ghost use Rattle.kd_replay.specs.Serving.{failed_in};
-ghost use Rattle.kd_program.specs.Running.{GivesJournal, Listens, ListsLeases, Receives, ReplaysInput, Serves, Starts, Works, ports_asked};
+ghost use Rattle.kd_program.specs.Running.{GivesJournal, Listens, Receives, ReplaysInput, Serves, Starts, Works, ports_asked};
 
 use crate::banner::{Banner, Sizes, banner_line, pool_addresses};
 use crate::ends::Ends;
 use crate::host::Host;
-use crate::printing::{refuse, refuse_as, refuse_memory, show, tell};
-use kd_commands::Listening;
+use crate::listing::{Table, list};
+use crate::printing::{refuse, refuse_as, refuse_memory, tell};
+use kd_commands::{Listening, Listing};
 use kd_config::Config;
 use kd_event::Ports;
 use kd_io::StartFault;
 use kd_keeps::{Keeps, Opened, StoreFault};
 use kd_replay::{EndFailed, Link, LoopFault, Sink, Source};
-use kd_server::{Server, lease_lines, replay, serve};
+use kd_server::{Server, replay, serve};
 use kd_tools::{replay_status, serve_status};
 use std::alloc::Global;
 
@@ -38,8 +39,8 @@ pub struct Files {
 pub enum Work {
     /// To replay the events of standard input to standard output.
     Replay,
-    /// To print the leases at a moment, in whole seconds.
-    Leases(u64),
+    /// To print a listing of the leases at a moment, in whole seconds.
+    List(Listing, u64),
     /// To serve so many datagrams of a socket, and to append what comes to the file at a path,
     /// where there is one.
     Serve(Listening, u64, Option<String>),
@@ -107,8 +108,8 @@ pub fn served<H: Host, R: Source, O: Sink, E: Sink>(
     }
 }
 
-// The configuration that the host gives for these files.
-fn configured<H: Host>(host: &mut H, files: &Files) -> Result<Config, StartFault>
+/// The configuration that the host gives for these files.
+pub fn configured<H: Host>(host: &mut H, files: &Files) -> Result<Config, StartFault>
     ensures { H.Host.configures host.old (option_map string_bytes files.now.config)
         (option_map string_bytes files.now.token_dir) result host.new }
 {
@@ -127,16 +128,16 @@ fn text_of(path: &Option<String>) -> Option<&str>
     }
 }
 
-// Says why there is no configuration, and the exit status.
-fn refuse_start<E: Sink>(alloc: Global, faults: &mut E, fault: &StartFault) -> u8
+/// Says why there is no configuration, and the exit status.
+pub fn refuse_start<E: Sink>(alloc: Global, faults: &mut E, fault: &StartFault) -> u8
     ensures { TellsWith (start_fault_number fault.now) (status_of (start_fault_number fault.now))
         result (written_to E.Sink faults.old) (written_to E.Sink faults.new) }
 {
     refuse(alloc, faults, fault.number(), fault)
 }
 
-// Says why there is no store, and the exit status.
-fn refuse_store<E: Sink>(alloc: Global, faults: &mut E, fault: &StoreFault) -> u8
+/// Says why there is no store, or why it has failed, and the exit status.
+pub fn refuse_store<E: Sink>(alloc: Global, faults: &mut E, fault: &StoreFault) -> u8
     ensures { TellsWith (store_fault_number fault.now) (status_of (store_fault_number fault.now))
         result (written_to E.Sink faults.old) (written_to E.Sink faults.new) }
 {
@@ -195,7 +196,7 @@ fn worked<H: Host, R: Source, O: Sink, E: Sink, S: Keeps>(
 {
     match work {
         Work::Replay => replayed(alloc, ends, server),
-        Work::Leases(at) => listed(alloc, ends, server, *at),
+        Work::List(listing, at) => list(alloc, ends, *listing, table_of(server), *at),
         Work::Serve(listening, count, journal) => {
             let banner = Banner {
                 listening: *listening,
@@ -208,6 +209,19 @@ fn worked<H: Host, R: Source, O: Sink, E: Sink, S: Keeps>(
             let path = text_of(journal);
             listened(alloc, host, ends, server, &banner, path, most, *count)
         }
+    }
+}
+
+// The rows of a server under its configuration.
+fn table_of<S: Keeps>(server: &Server<S>) -> Table<'_>
+    ensures config { result.config.now ≡ server.now.config }
+    ensures rows { result.rows.now.rows ≡ server.now.rows }
+    ensures failed { result.failed ≡ is_some (S.fault server.now.store) }
+{
+    Table {
+        config: server.config(),
+        rows: server.rows(),
+        failed: server.has_failed(),
     }
 }
 
@@ -247,26 +261,6 @@ fn replayed<R: Source, O: Sink, E: Sink, S: Keeps>(
             &fault,
             replay_status(fault),
         ),
-    }
-}
-
-// Prints the leases at a moment.
-fn listed<R: Source, O: Sink, E: Sink, S: Keeps>(
-    alloc: Global,
-    ends: &mut Ends<R, O, E>,
-    server: &Server<S>,
-    at: u64,
-) -> u8
-    ensures { ListsLeases S.Keeps at server.now result
-        (streams R.Source O.Sink E.Sink ends.old) (streams R.Source O.Sink E.Sink ends.new) }
-{
-    let leases = match server.leases(at) {
-        Ok(leases) => leases,
-        Err(fault) => return refuse(alloc, &mut ends.faults, fault.number(), &fault),
-    };
-    match lease_lines(alloc, &leases) {
-        Ok(lines) => show(&mut ends.output, &mut ends.faults, lines.as_bytes(), 0),
-        Err(_) => refuse_memory(&mut ends.faults),
     }
 }
 

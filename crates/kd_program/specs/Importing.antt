@@ -1,0 +1,63 @@
+-- What an import does: the table that the lines on standard input stand for is put into a store
+-- without leases, in one commit.
+use Rattle.std.specs.Prelude.{◌≡◌, ◌≢◌, ◌⊎◌, ◌<◌, ℕ, true, List, [], Option, Some, Result, Ok, Err, Unit, length}
+use Rattle.kd_import.specs.Import.{IsBadLine, IsTable}
+use Rattle.kd_keeps.specs.Fault.{store_fault_number}
+use Rattle.kd_keeps.specs.Moves.{MovesTable}
+use Rattle.kd_keeps.specs.declared.fault.StoreFault.{StoreFault}
+use Rattle.kd_keeps.specs.declared.keeps.Keeps.{Ghosts}
+use Rattle.kd_program.specs.Streams.{Stream, Streams, Tells, TellsWith}
+use Rattle.kd_rows.specs.declared.row.Row.{Row}
+use Rattle.kd_tools.specs.Status.{status_of}
+
+-- the most bytes of an input that is imported: 256 MiB
+abbrev pub most_imported : ℕ
+most_imported = 268435456
+
+-- where the bytes of a stream are known, they are such
+abbrev pub Reads : (List ℕ → Type 0) → Stream → Type 0
+Reads IsSuch stream = (text : List ℕ) → stream.bytes ≡ Some text → IsSuch text
+
+-- how an import ends: with nothing said, or its fault is told
+abbrev pub EndsImport : Result Unit StoreFault → ℕ → Stream → Stream → Type 0
+EndsImport (Ok done) status old new = (status ≡ 0) × (new ≡ old)
+EndsImport (Err fault) status old new =
+    TellsWith (store_fault_number fault) (status_of (store_fault_number fault)) status old new
+
+-- over a store of leases
+module _ {S : Type 0} (g : Ghosts S) where
+  -- a store that stood at the empty table is moved to this one, in one commit
+  pub record IsMoved (table : List Row) (store back : S) (status : ℕ)
+      (old new : Stream) : Type 0 where
+    pub result : Result Unit StoreFault
+    pub clean : g.has_clean_disk back → g.has_clean_disk store
+    pub moves : g.has_clean_disk back → g.stands store []
+        → MovesTable (g.stands back) (g.leaves back) (g.is_open back) [] table result
+    pub ends : EndsImport result status old new
+
+  -- the input stands for a table, and a store is moved to it
+  pub record Restores (store back : S) (status : ℕ) (old new : Streams) : Type 0 where
+    pub table : List Row
+    pub lines : Reads (λ text. IsTable text table) old.input
+    pub moved : IsMoved table store back status old.faults new.faults
+    pub quiet : new.output ≡ old.output
+
+  -- a line of the input is no lease's, or has the address of one before, which is told
+  pub record HasBadLine (status : ℕ) (old new : Streams) : Type 0 where
+    pub number : ℕ
+    pub bad : Reads (λ text. IsBadLine text number) old.input
+    pub told : Tells 97 status old new
+
+  -- the input is not read, or is too long, which is told
+  pub record IsUnread (status : ℕ) (old new : Streams) : Type 0 where
+    pub why : (new.input.failed ≡ true) ⊎ Reads (λ text. most_imported < length text) old.input
+    pub told : Tells 94 status old new
+
+  -- what an import does with a store that has these rows: where it has any it is left alone, and so
+  -- it is where the input is refused
+  abbrev pub ImportsInto : List Row → S → S → ℕ → Streams → Streams → Type 0
+  ImportsInto rows store back status old new =
+      ((rows ≡ []) × Restores store back status old new)
+      ⊎ ((back ≡ store)
+      × (((rows ≢ []) × Tells 83 status old new)
+      ⊎ (HasBadLine status old new ⊎ (IsUnread status old new ⊎ Tells 91 status old new))))

@@ -1,0 +1,93 @@
+ghost use Rattle.std.specs.Prelude.{◌≡◌, false, is_some};
+ghost use Rattle.std.specs.List.{All};
+ghost use Rattle.kd_program.specs.Importing.{ImportsInto, IsMoved};
+ghost use Rattle.kd_program.specs.Running.{Imports};
+ghost use Rattle.kd_program.specs.Streams.{streams, written_to};
+ghost use Rattle.kd_rows.specs.Row.{IsInRange};
+ghost use Rattle.kd_rows.specs.Table.{Rise};
+
+use crate::ends::Ends;
+use crate::host::Host;
+use crate::printing::refuse;
+use crate::serving::refuse_store;
+use kd_import::leases_in;
+use kd_io::read_source;
+use kd_keeps::{Keeps, Opened};
+use kd_replay::{Sink, Source};
+use kd_rows::Row;
+use std::alloc::Global;
+use std::fmt;
+
+// The most bytes of an input that is imported: 256 MiB.
+const MOST_BYTES: u32 = 268_435_456;
+
+// The number of the fault that a store has leases already.
+const NOT_EMPTY: u8 = 83;
+
+// That a store has leases already.
+struct NotEmpty;
+
+impl fmt::Display for NotEmpty {
+    fn fmt<W: fmt::Write>(&self, f: &mut fmt::Formatter<W>) -> fmt::Result {
+        f.write_str("NotEmpty")
+    }
+}
+
+/// Puts the table that the lines of leases on standard input stand for into the store at a path,
+/// which has no leases, in one commit; and says the exit status.
+pub fn import<H: Host, R: Source, O: Sink, E: Sink>(
+    alloc: Global,
+    host: &mut H,
+    ends: &mut Ends<R, O, E>,
+    path: &str,
+) -> u8
+    ensures { Imports H.Host H.Named.Keeps path.now host.old host.new result
+        (streams R.Source O.Sink E.Sink ends.old) (streams R.Source O.Sink E.Sink ends.new) }
+{
+    match host.named_store(path) {
+        Ok(Opened { mut store, rows }) => {
+            let status = import_into(alloc, ends, &mut store, &rows);
+            host.close(path, store);
+            status
+        }
+        Err(fault) => refuse_store(alloc, &mut ends.faults, &fault),
+    }
+}
+
+// The same into a store with these rows.
+fn import_into<R: Source, O: Sink, E: Sink, S: Keeps>(
+    alloc: Global,
+    ends: &mut Ends<R, O, E>,
+    store: &mut S,
+    rows: &[Row],
+) -> u8
+    requires works { is_some (S.fault store.old) ≡ false }
+    ensures { ImportsInto S.Keeps rows.now store.old store.new result
+        (streams R.Source O.Sink E.Sink ends.old) (streams R.Source O.Sink E.Sink ends.new) }
+{
+    if !rows.is_empty() {
+        return refuse(alloc, &mut ends.faults, NOT_EMPTY, &NotEmpty);
+    }
+    let text = match read_source(alloc, &mut ends.input, MOST_BYTES) {
+        Ok(text) => text,
+        Err(fault) => return refuse(alloc, &mut ends.faults, fault.number(), &fault),
+    };
+    match leases_in(alloc, &text) {
+        Ok(table) => restore(alloc, &mut ends.faults, store, &table),
+        Err(fault) => refuse(alloc, &mut ends.faults, fault.number(), &fault),
+    }
+}
+
+// Puts rows into a store, in one commit.
+fn restore<E: Sink, S: Keeps>(alloc: Global, faults: &mut E, store: &mut S, table: &[Row]) -> u8
+    requires works { is_some (S.fault store.old) ≡ false }
+    requires rise { Rise table.now }
+    requires ranges { All IsInRange table.now }
+    ensures { IsMoved S.Keeps table.now store.old store.new result
+        (written_to E.Sink faults.old) (written_to E.Sink faults.new) }
+{
+    match store.put_all(table) {
+        Ok(()) => 0,
+        Err(fault) => refuse_store(alloc, faults, &fault),
+    }
+}

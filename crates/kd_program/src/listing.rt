@@ -1,0 +1,85 @@
+ghost use Rattle.std.specs.Prelude.{◌≡◌, ◌<◌, ◌^◌, IfErr, IfOk, false, max, string_bytes};
+ghost use Rattle.kd_program.specs.Listing.{Lists, listing_text};
+ghost use Rattle.kd_program.specs.Streams.{streams};
+ghost use Rattle.kd_pools.specs.Uses.{subnet_uses};
+ghost use Rattle.kd_rows.specs.Table.{latest_of};
+ghost use Rattle.kd_server.specs.Leases.{IsNoList};
+
+use crate::ends::Ends;
+use crate::printing::{refuse, show};
+use kd_commands::Listing;
+use kd_config::Config;
+use kd_pools::{SubnetUse, use_lines, use_metrics, uses_of};
+use kd_replay::{ServeFault, Sink, Source};
+use kd_rows::Rows;
+use kd_server::{lease_lines, leases_at};
+use std::alloc::Global;
+
+// The first moment that is too large.
+const MOMENTS: u64 = 1 << 40;
+
+/// Rows of leases under a configuration.
+#[derive(Clone, Copy)]
+pub struct Table<'a> {
+    /// The configuration.
+    pub config: &'a Config,
+    /// The rows.
+    pub rows: &'a Rows,
+    /// Whether the store of the rows has failed.
+    pub failed: bool,
+}
+
+/// Prints what a listing says of a table at a moment, and says the exit status.
+pub fn list<R: Source, O: Sink, E: Sink>(
+    alloc: Global,
+    ends: &mut Ends<R, O, E>,
+    listing: Listing,
+    table: Table<'_>,
+    at: u64,
+) -> u8
+    ensures { Lists listing table.failed table.config.now table.rows.now.rows at result
+        (streams R.Source O.Sink E.Sink ends.old) (streams R.Source O.Sink E.Sink ends.new) }
+{
+    match text_of(alloc, listing, table, at) {
+        Ok(text) => show(&mut ends.output, &mut ends.faults, text.as_bytes(), 0),
+        Err(fault) => refuse(alloc, &mut ends.faults, fault.number(), &fault),
+    }
+}
+
+// What a listing says of a table at a moment.
+fn text_of(
+    alloc: Global,
+    listing: Listing,
+    table: Table<'_>,
+    at: u64,
+) -> Result<String, ServeFault>
+    ensures text { IfOk result (λ text. string_bytes text
+        ≡ listing_text listing table.config.now table.rows.now.rows at) }
+    ensures fault { IfErr result (IsNoList table.failed at) }
+{
+    match listing {
+        Listing::Leases => {
+            let leases = leases_at(alloc, table.rows, table.failed, at)?;
+            Ok(lease_lines(alloc, &leases)?)
+        }
+        Listing::Pools => Ok(use_lines(alloc, &uses_at(alloc, table, at)?)?),
+        Listing::Metrics => Ok(use_metrics(alloc, &uses_at(alloc, table, at)?)?),
+    }
+}
+
+// How full the pools are at a moment.
+fn uses_at(alloc: Global, table: Table<'_>, at: u64) -> Result<Vec<SubnetUse>, ServeFault>
+    ensures uses { IfOk result (λ list. list.items
+        ≡ subnet_uses table.config.now table.rows.now.rows (max at (latest_of table.rows.now.rows))) }
+    ensures works { IfOk result (λ list. (table.failed ≡ false) × (at < 2 ^ 40)) }
+    ensures fault { IfErr result (IsNoList table.failed at) }
+{
+    if table.failed {
+        return Err(ServeFault::Failed);
+    }
+    if at >= MOMENTS {
+        return Err(ServeFault::MomentTooLarge);
+    }
+    let now = at.max(table.rows.latest());
+    Ok(uses_of(alloc, table.config, table.rows, now)?)
+}
