@@ -5,10 +5,11 @@ use crate::stores::Stores;
 use kd_commands::Listening;
 use kd_config::Config;
 use kd_database::InMemory;
-use kd_io::StartFault;
+use kd_io::{InputFault, LookFault, StartFault};
 use kd_keeps::{Opened, StoreFault, Volatile};
 use kd_program::Host;
 use kd_replay::EndFailed;
+use kd_rows::Row;
 use kd_store::Store;
 
 /// A host in memory: its files and stores, for a socket the lines of standard input, and for a record
@@ -36,6 +37,8 @@ impl<'a, 'r> Host for Room<'a, 'r> {
     ghost opens = { λ old path result new. Unit {0} };
 
     ghost makes = { λ old result new. Unit {0} };
+
+    ghost copies = { λ old path result new. Unit {0} };
 
     ghost closes = { λ old path store new. Unit {0} };
 
@@ -67,6 +70,14 @@ impl<'a, 'r> Host for Room<'a, 'r> {
     // one.
     fn close(&mut self, path: &str, store: Store<InMemory>) {
         let _kept = self.stores.put(self.rt.alloc(), path, store);
+    }
+
+    fn copy(&mut self, path: &str) -> Result<Vec<Row>, LookFault> {
+        match self.stores.rows(self.rt.alloc(), path) {
+            Ok(Some(rows)) => Ok(rows),
+            Ok(None) => Err(LookFault::Input(InputFault::Read)),
+            Err(fault) => Err(LookFault::Store(fault)),
+        }
     }
 
     fn socket(&mut self, listening: Listening) -> Result<Datagrams<'a>, EndFailed> {

@@ -1,8 +1,12 @@
-ghost use Rattle.std.specs.Prelude.{◌≡◌, IfOk, None};
+ghost use Rattle.std.specs.Prelude.{◌≡◌, IfOk, IfSome, None};
+ghost use Rattle.std.specs.List.{All};
 ghost use Rattle.kd_keeps.specs.Reading.{AreRead};
+ghost use Rattle.kd_rows.specs.Row.{IsInRange};
+ghost use Rattle.kd_rows.specs.Table.{Rise};
 
 use kd_database::{InMemory, store_in_memory, store_over};
-use kd_keeps::{Keeps, Opened, StoreFault};
+use kd_keeps::{Cause, Keeps, Opened, StoreFault};
+use kd_rows::Row;
 use kd_store::Store;
 use sqlite::Connection;
 use std::alloc::{AllocError, Global};
@@ -38,6 +42,30 @@ impl Stores {
             }
         }
         store_in_memory(alloc)
+    }
+
+    /// The rows of the store of a name, where a command has left one. The store stays as it is.
+    ///
+    /// # Errors
+    ///
+    /// It can't be opened or kept.
+    pub fn rows(&mut self, alloc: Global, name: &str) -> Result<Option<Vec<Row>>, StoreFault>
+        ensures rise { IfOk result (λ found. IfSome found (λ rows. Rise rows.items)) }
+        ensures ranges { IfOk result (λ found. IfSome found (λ rows. All IsInRange rows.items)) }
+    {
+        if !self.has(name) {
+            return Ok(None);
+        }
+        let Opened { store, rows } = self.take(alloc, name)?;
+        match self.put(alloc, name, store) {
+            Ok(()) => Ok(Some(rows)),
+            Err(_) => Err(StoreFault::Sql(Cause::OutOfMemory)),
+        }
+    }
+
+    // Whether a command has left a store of a name.
+    fn has(&self, name: &str) -> bool {
+        self.stores.iter().any(|kept| kept.0.as_str() == name)
     }
 
     /// Keeps a store for the next command that names it.

@@ -45,7 +45,7 @@ apart_more (g ∷ gs) o h fresh = go (bytes_eq g.0 o.0) refl (apart_more gs o h.
         let rest : has_row o.0 (rows_of gs) ≡ false = rw e at fresh in
         (put_last (λ y. bytes_eq g.0 y ≡ false) gs o h.0 e, more rest)
 
-flips : (a b : Text) → bytes_eq a b ≡ false → bytes_eq b a ≡ false
+pub flips : (a b : Text) → bytes_eq a b ≡ false → bytes_eq b a ≡ false
 flips a b h = go (bytes_eq b a) refl
   where
     go : (t : Bool) → bytes_eq b a ≡ t → t ≡ false
@@ -53,6 +53,31 @@ flips a b h = go (bytes_eq b a) refl
         let is : b ≡ a = (bytes_eq-Decides b a).0 e in
         sym (subst (λ x. bytes_eq x b ≡ true) is ((bytes_eq-Decides b b).1 refl)) ∙ h
     go false e = refl
+
+-- a name that is one of some has what they all have
+pub one_has : (P : Text → Type 0) (n : Text) (ns : List Text) → AllByRecursion P ns → IsOneOf n ns → P n
+one_has P n [] h one = absurd one
+one_has P n (m ∷ ns) h (inl is) = subst P (sym is) h.0
+one_has P n (m ∷ ns) h (inr later) = one_has P n ns h.1 later
+
+-- and they all have what each of them has
+pub each_has : (P : Text → Type 0) (ns : List Text) → ((n : Text) → IsOneOf n ns → P n) → AllByRecursion P ns
+each_has P [] h = tt
+each_has P (n ∷ ns) h = (h n (inl refl), each_has P ns (λ m one. h m (inr one)))
+
+pub one_right : (n : Text) (ns fs : List Text) → IsOneOf n fs → IsOneOf n (ns ++ fs)
+one_right n [] fs one = one
+one_right n (m ∷ ns) fs one = inr (one_right n ns fs one)
+
+-- names that all differ are not in both of two parts
+pub not_in_both : (ns fs : List Text) → IsDistinct bytes_eq (ns ++ fs) → (n : Text) → IsOneOf n ns → IsOneOf n fs → ⊥
+unfolding IsDistinct
+not_in_both [] fs apart n one other = one
+not_in_both (m ∷ ns) fs apart n (inl is) other =
+    let differs : bytes_eq m n ≡ false = one_has (λ y. bytes_eq m y ≡ false) n (ns ++ fs) apart.0 (one_right n ns fs other) in
+    let bad : true ≡ false = sym ((bytes_eq-Decides m n).1 (sym is)) ∙ differs in
+    cc
+not_in_both (m ∷ ns) fs apart n (inr later) other = not_in_both ns fs apart.1 n later other
 
 -- ---- a look-up
 

@@ -1,11 +1,9 @@
 -- Options and flags by their names: what a line gives to each, and what is found of it.
 use Rattle.std.proofs.Common.{◌≡◌, ◌∙◌, sym, ap, ap₂, refl, subst, inl, inr, true, false, Bool, List, [], ◌∷◌, ◌++◌, codes, map, Option, Some, None, is_some, option_map, option_and_then, if◌then◌else◌}
-use Rattle.std.specs.Prelude.{slice_get}
 use Rattle.std.specs.List.{All, AllByRecursion, IsDistinct}
 use Rattle.std.specs.List.Sorted.{IsPermutation}
 use Rattle.std.specs.Map.{keys_of}
 use Rattle.std.specs.Str.{bytes_eq}
-use Rattle.std.proofs.lemmas.List.{map-append}
 use Rattle.std.proofs.lemmas.List.Elements.{All-cons, All-head, All-nil, All-tail}
 use Rattle.std.proofs.lemmas.Slice.Eq.{bytes_eq-Decides}
 use Rattle.clap.specs.Words.{Text, first_of}
@@ -13,7 +11,7 @@ use Rattle.clap.specs.Walk.{has_row, with_default}
 use Rattle.kd_commands.specs.Line.{IsOneOf, flag_given, given_values}
 use Rattle.kd_commands.specs.Order.{flag_is_given}
 use Rattle.kd_commands.proofs.Apart.{Have, apart_given, first_is, given_to, have_given, have_in_order, kept, value_of}
-use Rattle.kd_commands.proofs.Held.{Value, default_apart, default_found, default_left, rows_of, text_of}
+use Rattle.kd_commands.proofs.Held.{Value, default_found, default_left, rows_of, text_of}
 use Rattle.kd_commands.proofs.Options.{flag_of}
 use Rattle.kd_commands.proofs.OptionLine.{Belongs, IsEntry}
 
@@ -115,32 +113,14 @@ of_both names flags (o ∷ os) ones = All-cons (λ x. IsOneOf x.0 (names ++ flag
 abbrev pub standing : Bool → Option Value
 standing mirror = if mirror then Some None else None
 
-kept_append : (l k : List (Text × Option Value)) → kept (l ++ k) ≡ kept l ++ kept k
+pub kept_append : (l k : List (Text × Option Value)) → kept (l ++ k) ≡ kept l ++ kept k
 kept_append [] k = refl
 kept_append ((n, None) ∷ l) k = kept_append l k
 kept_append ((n, Some v) ∷ l) k = ap (λ x. (n, v) ∷ x) (kept_append l k)
 
-flag_kept : (f : Text) (b : Bool) → flag_given f b ≡ kept ((f, standing b) ∷ [])
+pub flag_kept : (f : Text) (b : Bool) → flag_given f b ≡ kept ((f, standing b) ∷ [])
 flag_kept f true = refl
 flag_kept f false = refl
-
-pub both_kept : (values : List (Text × Option Text)) (f : Text) (b : Bool)
-    → given_values values ++ flag_given f b ≡ kept (map wrapped values ++ (f, standing b) ∷ [])
-both_kept values f b = ap₂ (λ l k. l ++ k) (given_kept values) (flag_kept f b) ∙ sym (kept_append (map wrapped values) ((f, standing b) ∷ []))
-
--- what options and a flag give to their names
-pub both_given : (names flags : List Text) (f : Text) (ns : List Text) (os : List (Text × Value)) → AllByRecursion (λ n. IsOneOf n flags → ⊥) ns
-    → (IsOneOf f names → ⊥) → All (IsEntry names flags) os
-    → given_to (ns ++ f ∷ []) os ≡ given_values (map (λ n. (n, text_at n os)) ns) ++ flag_given f (is_some (value_of f os))
-both_given names flags f ns os no_flags no_option ones =
-    ap kept (map-append (λ n. (n, value_of n os)) ns (f ∷ []))
-    ∙ kept_append (map (λ n. (n, value_of n os)) ns) ((f, value_of f os) ∷ [])
-    ∙ ap₂ (λ l k. l ++ k) (given_texts names flags ns os no_flags ones)
-    (ap (λ v. kept ((f, v) ∷ [])) (is_standing names flags f os no_option ones) ∙ sym (flag_kept f (is_some (value_of f os))))
-
-pub flag_is_entry : (names flags : List Text) (f : Text) (b : Bool) → IsOneOf f flags → All (IsEntry names flags) (flag_given f b)
-flag_is_entry names flags f true one = All-cons (IsEntry names flags) (f, None) [] one (All-nil (IsEntry names flags))
-flag_is_entry names flags f false one = All-nil (IsEntry names flags)
 
 -- ---- with the default of the flag
 
@@ -153,13 +133,7 @@ has_is n (o ∷ os) = go (bytes_eq o.0 n) refl (has_is n os)
     go true e more = rw e refl
     go false e more = rw e more
 
--- the text of another name is found
-pub found_beside : (f n : Text) (os : List (Text × Value)) (text : Option Text) → bytes_eq f n ≡ false → value_of n os ≡ option_map (λ v. Some v) text
-    → first_of n (with_default (rows_of os) (flag_of f)) ≡ text
-found_beside f n os text other is =
-    ap (λ o. option_and_then (λ r. slice_get r.values 0) o) (default_apart f n (rows_of os) other) ∙ found_text n os text is
-
--- and whether the flag stands
+-- whether the flag stands
 pub found_flag : (f : Text) (os : List (Text × Value)) (b : Bool) → value_of f os ≡ standing b
     → flag_is_given (first_of f (with_default (rows_of os) (flag_of f))) ≡ b
 found_flag f os true is =

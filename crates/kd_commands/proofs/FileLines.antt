@@ -1,24 +1,23 @@
--- Which words are a line of `replay` or of `leases`: the rules of the two, and what their options ask for.
-use Rattle.std.proofs.Common.{◌≡◌, ◌⊎◌, ◌∙◌, sym, ap, refl, subst, inl, inr, ℕ, true, false, Bool, List, [], ◌∷◌, codes, map, Option, Some, None, is_some, option_map}
+-- Which words are a line of `replay` or of `import`: the rules of the two, and what their options ask for.
+use Rattle.std.proofs.Common.{◌≡◌, ◌⊎◌, ◌∙◌, sym, ap, refl, subst, inl, inr, true, false, Bool, List, [], ◌∷◌, ◌++◌, codes, Option, Some, None, option_map}
 use Rattle.std.specs.Prelude.{◌||◌, if◌then◌else◌, not}
 use Rattle.std.specs.List.{All, AllByRecursion, IsDistinct}
 use Rattle.std.specs.Str.{bytes_eq, IsUtf8}
-use Rattle.std.specs.List.Sorted.{IsPermutation}
-use Rattle.std.proofs.lemmas.List.Sorted.{All-permutation, IsPermutation-sym}
+use Rattle.std.proofs.lemmas.List.{append-nil}
 use Rattle.clap.specs.Words.{Rule, Shape, Text, fault_of, subcommand_of}
 use Rattle.clap.specs.Takes.{is_given}
 use Rattle.clap.specs.Walk.{arg_by_long, arg_by_short, has_short}
 use Rattle.clap.specs.declared.error.kind.ErrorKind.TheVariants.{DisplayHelp}
 use Rattle.clap.proofs.OnLiterals.{clap_on_literals}
-use Rattle.kd_commands.specs.Line.{IsHelpFlag, IsLine, IsOneOf, given_values}
-use Rattle.kd_commands.specs.Order.{Asked, asked_of, command_line, leases_line, listing_of, lists, replay_line, replays}
-use Rattle.kd_commands.specs.Values.{number_of}
-use Rattle.kd_commands.proofs.Apart.{apart_given, apart_in_order, given_is, in_some_order, kept, value_of}
-use Rattle.kd_commands.proofs.Entries.{found_text, given_kept, given_texts, have_of, is_valued, of_both, ones_given, text_at, wrapped}
+use Rattle.kd_commands.specs.Line.{IsHelpFlag, IsLine, IsOneOf, IsOptionLine, given_values}
+use Rattle.kd_commands.specs.Order.{Asked, asked_of, command_line, import_line, imports, replay_line, replays}
+use Rattle.kd_commands.proofs.Apart.{each_has}
+use Rattle.kd_commands.proofs.Entries.{found_text, text_at}
 use Rattle.kd_commands.proofs.Flags.{ShortsFail, help_built}
-use Rattle.kd_commands.proofs.Held.{Value, defaults_pass, no_defaults, rows_of}
+use Rattle.kd_commands.proofs.Given.{given_passes, lacks_none, line_of, needed_text}
+use Rattle.kd_commands.proofs.Held.{defaults_pass, no_defaults, rows_of}
 use Rattle.kd_commands.proofs.Level.{leaf}
-use Rattle.kd_commands.proofs.OptionLine.{AreRead, IsEntry, lacks_of, line_passes, option_helps, options_in}
+use Rattle.kd_commands.proofs.OptionLine.{option_helps, options_in}
 use Rattle.kd_commands.proofs.Options.{AreRules, IsOption, Known, known_of}
 use Rattle.kd_commands.proofs.Top.{IsSub}
 
@@ -26,18 +25,15 @@ use Rattle.kd_commands.proofs.Top.{IsSub}
 abbrev pub replay_built : Shape
 replay_built = leaf replay_line
 
-abbrev pub leases_built : Shape
-leases_built = leaf leases_line
+abbrev pub import_built : Shape
+import_built = leaf import_line
 
--- the names of the files' options, and of those of `leases`
+-- the names of the files' options, and of that of `import`
 abbrev file_names : List Text
 file_names = codes "config" ∷ codes "token-dir" ∷ codes "store" ∷ []
 
-abbrev listing_names : List Text
-listing_names = codes "config" ∷ codes "token-dir" ∷ codes "store" ∷ codes "at" ∷ []
-
-abbrev needed_names : List Text
-needed_names = codes "at" ∷ []
+abbrev store_name : List Text
+store_name = codes "store" ∷ []
 
 -- ---- the rules of `replay`
 
@@ -81,48 +77,36 @@ replay_rules = record {
   needs = λ rows. refl;
 }
 
--- ---- the rules of `leases`
+-- ---- the rules of `import`
 
-leases_option : (n : Text) → IsOneOf n listing_names → IsOption leases_built.rules n
+import_option : (n : Text) → IsOneOf n store_name → IsOption import_built.rules n
 unfolding clap_on_literals
-leases_option n (inl is) = subst (IsOption leases_built.rules) (sym is)
-    (record { needed = false; by_id = refl; by_long = refl; alone_is = refl; joined_is = λ v. refl; alone_apart = refl; joined_apart = λ v. refl })
-leases_option n (inr (inl is)) = subst (IsOption leases_built.rules) (sym is)
-    (record { needed = false; by_id = refl; by_long = refl; alone_is = refl; joined_is = λ v. refl; alone_apart = refl; joined_apart = λ v. refl })
-leases_option n (inr (inr (inl is))) = subst (IsOption leases_built.rules) (sym is)
-    (record { needed = false; by_id = refl; by_long = refl; alone_is = refl; joined_is = λ v. refl; alone_apart = refl; joined_apart = λ v. refl })
-leases_option n (inr (inr (inr (inl is)))) = subst (IsOption leases_built.rules) (sym is)
+import_option n (inl is) = subst (IsOption import_built.rules) (sym is)
     (record { needed = true; by_id = refl; by_long = refl; alone_is = refl; joined_is = λ v. refl; alone_apart = refl; joined_apart = λ v. refl })
-leases_option n (inr (inr (inr (inr never)))) = absurd never
+import_option n (inr never) = absurd never
 
-leases_long : (n : Text) → Known listing_names [] n (arg_by_long leases_built.rules n)
-leases_long n = known_of listing_names [] leases_built.rules n (
-  inl (codes "config", false, inl refl, refl),
-  (
-    inl (codes "token-dir", false, inr (inl refl), refl),
-    (inl (codes "store", false, inr (inr (inl refl)), refl), (inl (codes "at", true, inr (inr (inr (inl refl))), refl), (inr (inr refl), tt))),
-  ),
-)
-
-leases_short : ShortsFail leases_built.rules
-leases_short x = go (has_short help_built x) (arg_by_short leases_built.rules x) refl
+import_short : ShortsFail import_built.rules
+import_short x = go (has_short help_built x) (arg_by_short import_built.rules x) refl
   where
     go : (t : Bool) (o : Option Rule) → o ≡ (if t then Some help_built else None) → (o ≡ None) ⊎ (o ≡ Some help_built)
     go true o e = inr e
     go false o e = inl e
 
-leases_plain : AllByRecursion (λ a. a.defaults ≡ []) leases_built.rules
-leases_plain = (refl, (refl, (refl, (refl, (refl, tt)))))
+import_long : (n : Text) → Known store_name [] n (arg_by_long import_built.rules n)
+import_long n = known_of store_name [] import_built.rules n (inl (codes "store", true, inl refl, refl), (inr (inr refl), tt))
 
-leases_rules : AreRules listing_names [] needed_names leases_built.rules
-leases_rules = record {
-  option = leases_option;
+import_plain : AllByRecursion (λ a. a.defaults ≡ []) import_built.rules
+import_plain = (refl, (refl, tt))
+
+import_rules : AreRules store_name [] store_name import_built.rules
+import_rules = record {
+  option = import_option;
   flag = λ n never. absurd never;
-  long = leases_long;
-  short = leases_short;
+  long = import_long;
+  short = import_short;
   no_place = refl;
-  defaults = λ rows. defaults_pass leases_built.rules rows (inl refl, (inl refl, (inl refl, (inl refl, (inl refl, tt)))));
-  needs = λ rows. ap (λ r. not (is_given (codes "at") r) || false) (no_defaults leases_built.rules rows leases_plain);
+  defaults = λ rows. defaults_pass import_built.rules rows (inl refl, (inl refl, tt));
+  needs = λ rows. ap (λ r. not (is_given (codes "store") r) || false) (no_defaults import_built.rules rows import_plain);
 }
 
 -- ---- names
@@ -131,9 +115,9 @@ file_names_apart : IsDistinct bytes_eq file_names
 unfolding IsDistinct
 file_names_apart = ((refl, (refl, tt)), ((refl, tt), (tt, tt)))
 
-listing_names_apart : IsDistinct bytes_eq listing_names
+store_name_apart : IsDistinct bytes_eq store_name
 unfolding IsDistinct
-listing_names_apart = ((refl, (refl, (refl, tt))), ((refl, (refl, tt)), ((refl, tt), (tt, tt))))
+store_name_apart = (tt, tt)
 
 -- ---- the lines of `replay`
 
@@ -147,16 +131,10 @@ replay_helps word rest sub h = option_helps (codes "replay") file_names [] [] re
 pub replay_in : (rest : List Text) → IsSub (codes "replay") replay_built → All IsUtf8 rest → fault_of command_line (codes "replay" ∷ rest) ≡ []
     → (asked : Asked) × IsLine (codes "replay" ∷ rest) asked
 replay_in rest sub utf8 none =
-    let read = options_in (codes "replay") file_names [] [] replay_built.rules replay_rules rest sub utf8 none in (
+    let read = options_in (codes "replay") file_names [] [] replay_built.rules replay_rules rest sub utf8 none in
+    let line = line_of (codes "replay") file_names [] [] replay_built.rules replay_rules rest read file_names_apart in (
       replays (text_at (codes "config") read.options) (text_at (codes "token-dir") read.options) (text_at (codes "store") read.options),
-      record {
-        behind = rest;
-        in_order = read.options;
-        named = refl;
-        options_behind = read.are;
-        in_some_order = subst (IsPermutation read.options) (given_texts file_names [] file_names read.options (λ x. x, (λ x. x, (λ x. x, tt))) read.ones)
-            (in_some_order file_names read.options file_names_apart read.apart (of_both file_names [] read.options read.ones));
-      },
+      subst (IsOptionLine (codes "replay") (codes "replay" ∷ rest)) (append-nil _) line,
     )
 
 same_replays : (a b c d e f : Option Text) → a ≡ d → b ≡ e → c ≡ f → Some (replays a b c) ≡ Some (replays d e f)
@@ -165,108 +143,40 @@ same_replays a b c d e f p q r = rw (p, q, r) refl
 -- a line does not fail, and the values of its options are found
 pub replay_passes : (ws : List Text) (c d s : Option Text) → IsSub (codes "replay") replay_built → IsLine ws (replays c d s)
     → (fault_of command_line ws ≡ []) × (asked_of (subcommand_of command_line ws) ≡ Some (replays c d s))
-replay_passes ws c d s sub h =
+replay_passes ws c d s sub line =
     let values : List (Text × Option Text) = (codes "config", c) ∷ (codes "token-dir", d) ∷ (codes "store", s) ∷ [] in
-    let is = given_kept values in
-    let order = subst (IsPermutation h.in_order) is h.in_some_order in
-    let apart = apart_in_order h.in_order (kept (map wrapped values)) order (apart_given (map wrapped values) file_names_apart) in
-    let given_ones = ones_given file_names [] values (inl refl, (inr (inl refl), (inr (inr (inl refl)), tt))) in
-    let ones = All-permutation (IsEntry file_names []) (given_values values) h.in_order (IsPermutation-sym h.in_order (given_values values) h.in_some_order) given_ones in
-    let have = have_of h.in_order (given_values values) (map wrapped values) h.in_some_order is file_names_apart in
-    let read : AreRead file_names [] [] h.behind = record { options = h.in_order; are = h.options_behind; apart = apart; ones = ones; enough = refl } in
-    let passes = line_passes (codes "replay") file_names [] [] replay_built.rules replay_rules ws h.behind read sub h.named in
-    let found = passes.1 ∙ ap (λ l. Some (codes "replay", l)) (no_defaults replay_built.rules (rows_of h.in_order) replay_plain) in (
-      passes.0,
-      ap asked_of found ∙ same_replays _ _ _ c d s (found_text (codes "config") h.in_order c have.0)
-          (found_text (codes "token-dir") h.in_order d have.1.0) (found_text (codes "store") h.in_order s have.1.1.0),
+    let p = given_passes (codes "replay") file_names [] [] replay_built.rules replay_rules ws (given_values values) values [] sub line
+    (sym (append-nil (given_values values))) file_names_apart (each_has (λ n. IsOneOf n file_names) file_names (λ n one. one)) tt (λ os have. refl) in
+    let found = p.found ∙ ap (λ l. Some (codes "replay", l)) (no_defaults replay_built.rules (rows_of p.options) replay_plain) in (
+      p.whole,
+      ap asked_of found ∙ same_replays _ _ _ c d s (found_text (codes "config") p.options c p.have.0)
+          (found_text (codes "token-dir") p.options d p.have.1.0) (found_text (codes "store") p.options s p.have.1.1.0),
     )
 
--- ---- the lines of `leases`
+-- ---- the lines of `import`
 
-pub leases_helps : (word : Text) (rest : List Text) → IsSub (codes "leases") leases_built → IsHelpFlag word
-    → fault_of command_line (codes "leases" ∷ word ∷ rest) ≡ DisplayHelp ∷ []
+pub import_helps : (word : Text) (rest : List Text) → IsSub (codes "import") import_built → IsHelpFlag word
+    → fault_of command_line (codes "import" ∷ word ∷ rest) ≡ DisplayHelp ∷ []
 unfolding clap_on_literals
-leases_helps word rest sub h = option_helps (codes "leases") listing_names [] needed_names leases_built.rules leases_rules word rest sub refl refl h
+import_helps word rest sub h = option_helps (codes "import") store_name [] store_name import_built.rules import_rules word rest sub refl refl h
 
--- where a text has to be given, one is
-pub is_there : (o : Option Value) (text : Option Text) → o ≡ option_map (λ v. Some v) text → not (is_some o) || false ≡ false → (digits : Text) × (text ≡ Some digits)
-is_there o None is h = let bad : true ≡ false = rw is at h in cc
-is_there o (Some digits) is h = (digits, refl)
-
-at_given : (options : List (Text × Value)) → All (IsEntry listing_names []) options → lacks_of needed_names options ≡ false
-    → (digits : Text) × (text_at (codes "at") options ≡ Some digits)
-at_given options ones enough = is_there (value_of (codes "at") options) (text_at (codes "at") options)
-    (is_valued listing_names [] (codes "at") options (λ x. x) ones) (sym (ap (λ b. not b || false) (given_is (codes "at") options)) ∙ enough)
-
-same_listing : (a b c at d e f : Option Text) (digits : Text) (moment : Option ℕ) → a ≡ d → b ≡ e → c ≡ f → at ≡ Some digits → number_of digits ≡ moment
-    → listing_of a b c at ≡ option_map (λ m. lists d e f m) moment
-same_listing a b c at d e f digits moment p q r is m = rw (p, q, r, is, m) refl
-
--- options ask for leases where a moment is given
-lists_for : (rest : List Text) (read : AreRead listing_names [] needed_names rest) (digits : Text) (moment : ℕ)
-    → text_at (codes "at") read.options ≡ Some digits → number_of digits ≡ Some moment → (asked : Asked) × IsLine (codes "leases" ∷ rest) asked
-lists_for rest read digits moment is spells =
-    let order = in_some_order listing_names read.options listing_names_apart read.apart (of_both listing_names [] read.options read.ones) in
-    let texts = given_texts listing_names [] listing_names read.options (λ x. x, (λ x. x, (λ x. x, (λ x. x, tt)))) read.ones in
-    let values : Option Text → List (Text × Option Text) = λ at.
-    (codes "config", text_at (codes "config") read.options) ∷ (codes "token-dir", text_at (codes "token-dir") read.options)
-    ∷ (codes "store", text_at (codes "store") read.options) ∷ (codes "at", at) ∷ [] in (
-      lists (text_at (codes "config") read.options) (text_at (codes "token-dir") read.options) (text_at (codes "store") read.options) moment,
-      (
-        digits,
-        spells,
-        record {
-          behind = rest;
-          in_order = read.options;
-          named = refl;
-          options_behind = read.are;
-          in_some_order = subst (λ at. IsPermutation read.options (given_values (values at))) is (subst (IsPermutation read.options) texts order);
-        },
-      ),
+-- a line that does not fail asks for an import
+pub import_in : (rest : List Text) → IsSub (codes "import") import_built → All IsUtf8 rest → fault_of command_line (codes "import" ∷ rest) ≡ []
+    → (asked : Asked) × IsLine (codes "import" ∷ rest) asked
+import_in rest sub utf8 none =
+    let read = options_in (codes "import") store_name [] store_name import_built.rules import_rules rest sub utf8 none in
+    let line = line_of (codes "import") store_name [] store_name import_built.rules import_rules rest read store_name_apart in
+    let store_is = needed_text store_name [] (codes "store") read.options (λ x. x) read.ones read.enough in (
+      imports store_is.0,
+      subst (λ text. IsOptionLine (codes "import") (codes "import" ∷ rest) (given_values ((codes "store", text) ∷ []) ++ [])) store_is.1 line,
     )
 
--- and for nothing where none is
-asks_nothing : (rest : List Text) (read : AreRead listing_names [] needed_names rest) (digits : Text) → IsSub (codes "leases") leases_built
-    → text_at (codes "at") read.options ≡ Some digits → number_of digits ≡ None
-    → asked_of (subcommand_of command_line (codes "leases" ∷ rest)) ≡ None
-asks_nothing rest read digits sub is spells_none =
-    let passes = line_passes (codes "leases") listing_names [] needed_names leases_built.rules leases_rules (codes "leases" ∷ rest) rest read sub refl in
-    let found = passes.1 ∙ ap (λ l. Some (codes "leases", l)) (no_defaults leases_built.rules (rows_of read.options) leases_plain) in
-    let at_is = found_text (codes "at") read.options (text_at (codes "at") read.options) (is_valued listing_names [] (codes "at") read.options (λ x. x) read.ones) in
-    ap asked_of found ∙ same_listing _ _ _ _ _ _ _ digits None refl refl refl (at_is ∙ is) spells_none
-
--- a line that does not fail asks for leases, or for nothing where no moment is given
-pub leases_in : (rest : List Text) → IsSub (codes "leases") leases_built → All IsUtf8 rest → fault_of command_line (codes "leases" ∷ rest) ≡ []
-    → ((asked : Asked) × IsLine (codes "leases" ∷ rest) asked) ⊎ (asked_of (subcommand_of command_line (codes "leases" ∷ rest)) ≡ None)
-leases_in rest sub utf8 none =
-    let read = options_in (codes "leases") listing_names [] needed_names leases_built.rules leases_rules rest sub utf8 none in
-    let at_is = at_given read.options read.ones read.enough in
-    go read at_is.0 at_is.1 (number_of at_is.0) refl
-  where
-    go : (read : AreRead listing_names [] needed_names rest) (digits : Text) → text_at (codes "at") read.options ≡ Some digits
-        → (o : Option ℕ) → number_of digits ≡ o
-        → ((asked : Asked) × IsLine (codes "leases" ∷ rest) asked) ⊎ (asked_of (subcommand_of command_line (codes "leases" ∷ rest)) ≡ None)
-    go read digits is None e = inr (asks_nothing rest read digits sub is e)
-    go read digits is (Some moment) e = inl (lists_for rest read digits moment is e)
-
--- a line does not fail, and the values of its options are found
-pub leases_passes : (ws : List Text) (c d s : Option Text) (moment : ℕ) → IsSub (codes "leases") leases_built → IsLine ws (lists c d s moment)
-    → (fault_of command_line ws ≡ []) × (asked_of (subcommand_of command_line ws) ≡ Some (lists c d s moment))
-leases_passes ws c d s moment sub (digits, spells, h) =
-    let values : List (Text × Option Text) = (codes "config", c) ∷ (codes "token-dir", d) ∷ (codes "store", s) ∷ (codes "at", Some digits) ∷ [] in
-    let is = given_kept values in
-    let order = subst (IsPermutation h.in_order) is h.in_some_order in
-    let apart = apart_in_order h.in_order (kept (map wrapped values)) order (apart_given (map wrapped values) listing_names_apart) in
-    let given_ones = ones_given listing_names [] values (inl refl, (inr (inl refl), (inr (inr (inl refl)), (inr (inr (inr (inl refl))), tt)))) in
-    let ones = All-permutation (IsEntry listing_names []) (given_values values) h.in_order (IsPermutation-sym h.in_order (given_values values) h.in_some_order) given_ones in
-    let have = have_of h.in_order (given_values values) (map wrapped values) h.in_some_order is listing_names_apart in
-    let there : is_given (codes "at") (rows_of h.in_order) ≡ true = given_is (codes "at") h.in_order ∙ ap is_some have.1.1.1.0 in
-    let enough : lacks_of needed_names h.in_order ≡ false = ap (λ b. not b || false) there in
-    let read : AreRead listing_names [] needed_names h.behind = record { options = h.in_order; are = h.options_behind; apart = apart; ones = ones; enough = enough } in
-    let passes = line_passes (codes "leases") listing_names [] needed_names leases_built.rules leases_rules ws h.behind read sub h.named in
-    let found = passes.1 ∙ ap (λ l. Some (codes "leases", l)) (no_defaults leases_built.rules (rows_of h.in_order) leases_plain) in (
-      passes.0,
-      ap asked_of found ∙ same_listing _ _ _ _ c d s digits (Some moment) (found_text (codes "config") h.in_order c have.0)
-          (found_text (codes "token-dir") h.in_order d have.1.0) (found_text (codes "store") h.in_order s have.1.1.0)
-          (found_text (codes "at") h.in_order (Some digits) have.1.1.1.0) spells,
-    )
+-- a line does not fail, and its store is found
+pub import_passes : (ws : List Text) (store : Text) → IsSub (codes "import") import_built → IsLine ws (imports store)
+    → (fault_of command_line ws ≡ []) × (asked_of (subcommand_of command_line ws) ≡ Some (imports store))
+import_passes ws store sub line =
+    let values : List (Text × Option Text) = (codes "store", Some store) ∷ [] in
+    let p = given_passes (codes "import") store_name [] store_name import_built.rules import_rules ws (given_values values) values [] sub line
+    refl store_name_apart (each_has (λ n. IsOneOf n store_name) store_name (λ n one. one)) tt (λ os have. lacks_none (codes "store") store os have.0) in
+    let found = p.found ∙ ap (λ l. Some (codes "import", l)) (no_defaults import_built.rules (rows_of p.options) import_plain) in
+    (p.whole, ap asked_of found ∙ ap (option_map (λ text. imports text)) (found_text (codes "store") p.options (Some store) p.have.0))

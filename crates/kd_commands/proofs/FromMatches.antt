@@ -16,13 +16,15 @@ use Rattle.clap.specs.declared.parser.matches.ArgMatches.TheViews.{out-ArgMatche
 use Rattle.clap.specs.declared.parser.matches.SubCommand.{SubCommand}
 use Rattle.clap.proofs.WalkLemmas.{first_value-rows}
 use Rattle.clap.proofs.OnLiterals.{clap_on_literals}
-use Rattle.kd_commands.specs.Order.{Asked, Asks, AsksFor, GivesUnlessFull, HasFault, HelpsUnlessFull, asked_by, asked_of, command_line, compiles, evaluates, evaluation_of, given_by, listing_of, lists, replays, serves, serving_of, shows, tests, types, verifies}
+use Rattle.kd_commands.specs.Order.{Asked, Asks, AsksFor, GivesUnlessFull, HasFault, HelpsUnlessFull, asked_by, asked_of, command_line, compiles, evaluates, evaluation_of, flag_is_given, given_by, imports, listing_of, lists, looks, pools_listing, replays, serves, serving_of, shows, tests, types, verifies}
 use Rattle.kd_commands.proofs.Lines.{one_asked}
 use Rattle.kd_commands.specs.Steps.{AnswersKind, GivesIfThere}
 use Rattle.kd_commands.specs.declared.fault.LineFault.{LineFault}
 use Rattle.kd_commands.specs.declared.fault.LineFault.TheVariants.{CommandLine, Memory}
 use Rattle.kd_commands.specs.declared.orders.Order.{Order}
-use Rattle.kd_commands.specs.declared.orders.Order.TheVariants.{Help, Show, Expr, Compile, Verify, Eval, EvalText, Replay, Leases, Serve}
+use Rattle.kd_commands.specs.declared.orders.Order.TheVariants.{Help, Show, Expr, Compile, Verify, Eval, EvalText, Replay, Import, Look, Serve, List as ListOrder}
+use Rattle.kd_commands.specs.declared.orders.Listing.{Listing}
+use Rattle.kd_commands.specs.declared.orders.Listing.TheVariants.{Leases}
 
 -- clap tells the matches of this command line, and the kinds of its faults
 is_told : is_simple command_line ≡ true
@@ -61,9 +63,13 @@ asks_for ws (EvalText text datagram) asked gives h =
 asks_for ws (Replay config token_dir store) asked gives h =
     let is : replays (option_map string_bytes config) (option_map string_bytes token_dir) (option_map string_bytes store) ≡ asked = cc in
     subst (Asks ws) (sym is) h
-asks_for ws (Leases config token_dir store at) asked gives h =
-    let is : lists (option_map string_bytes config) (option_map string_bytes token_dir) (option_map string_bytes store) at ≡ asked = cc in
+asks_for ws (ListOrder listing config token_dir store at) asked gives h =
+    let is : lists listing (option_map string_bytes config) (option_map string_bytes token_dir) (option_map string_bytes store) at ≡ asked = cc in
     subst (Asks ws) (sym is) h
+asks_for ws (Look listing config token_dir store at) asked gives h =
+    let is : looks listing (option_map string_bytes config) (option_map string_bytes token_dir) (string_bytes store) at ≡ asked = cc in
+    subst (Asks ws) (sym is) h
+asks_for ws (Import store) asked gives h = let is : imports (string_bytes store) ≡ asked = cc in subst (Asks ws) (sym is) h
 asks_for ws (Serve config token_dir store listening count journal) asked gives h =
     let is : serves (record {
       config = option_map string_bytes config;
@@ -201,19 +207,35 @@ at_replay m inner name r named has is gives =
     let at_name_is = at_name m name (codes "replay") (rows_of (found_of inner)) named has is in
     subst (λ o. GivesIfThere o r) (sym at_name_is) (rw (config, token_dir, store) at gives)
 
--- what is made of the options of `leases`
+-- what is made of the options of `leases` or of `pools`
+abbrev listed_of : Listing → (Text → Option Text) → Option Asked
+listed_of listing text = listing_of listing (text (codes "config")) (text (codes "token-dir")) (text (codes "store"))
+    (flag_is_given (text (codes "live"))) (text (codes "at"))
+
+same_listed : (listing : Listing) (f g : Text → Option Text) → ((n : Text) → f n ≡ g n) → listed_of listing f ≡ listed_of listing g
+same_listed listing f g same = rw (same (codes "config"), same (codes "token-dir"), same (codes "store"), same (codes "live"), same (codes "at")) refl
+
 pub at_leases : (m inner : ArgMatches) (name : Text) (r : Result Order LineFault) → Some name ≡ subcommand_name_of m
     → Some (rows_of (found_of inner)) ≡ option_map (λ p. p.1) (subcommand_rows_of m) → name ≡ codes "leases"
-    → GivesIfThere (listing_of (first_value (found_of inner) (codes "config")) (first_value (found_of inner) (codes "token-dir"))
-    (first_value (found_of inner) (codes "store")) (first_value (found_of inner) (codes "at"))) r
+    → GivesIfThere (listed_of Leases (λ n. first_value (found_of inner) n)) r
     → GivesIfThere (asked_of (subcommand_rows_of m)) r
 at_leases m inner name r named has is gives =
-    let config = first_value-rows (found_of inner) (codes "config") in
-    let token_dir = first_value-rows (found_of inner) (codes "token-dir") in
-    let store = first_value-rows (found_of inner) (codes "store") in
-    let at_moment = first_value-rows (found_of inner) (codes "at") in
+    let same = same_listed Leases (λ n. first_value (found_of inner) n) (λ n. first_of n (rows_of (found_of inner))) (λ n. first_value-rows (found_of inner) n) in
     let at_name_is = at_name m name (codes "leases") (rows_of (found_of inner)) named has is in
-    subst (λ o. GivesIfThere o r) (sym at_name_is) (rw (config, token_dir, store, at_moment) at gives)
+    subst (λ o. GivesIfThere o r) (same ∙ sym at_name_is) gives
+
+pub at_pools : (m inner : ArgMatches) (name : Text) (r : Result Order LineFault) → Some name ≡ subcommand_name_of m
+    → Some (rows_of (found_of inner)) ≡ option_map (λ p. p.1) (subcommand_rows_of m) → name ≡ codes "pools"
+    → GivesIfThere (listed_of (pools_listing (first_value (found_of inner) (codes "prometheus"))) (λ n. first_value (found_of inner) n)) r
+    → GivesIfThere (asked_of (subcommand_rows_of m)) r
+at_pools m inner name r named has is gives =
+    let text : Text → Option Text = λ n. first_value (found_of inner) n in
+    let printed : pools_listing (text (codes "prometheus")) ≡ pools_listing (first_of (codes "prometheus") (rows_of (found_of inner))) =
+    ap pools_listing (first_value-rows (found_of inner) (codes "prometheus")) in
+    let same = same_listed (pools_listing (first_of (codes "prometheus") (rows_of (found_of inner)))) text (λ n. first_of n (rows_of (found_of inner)))
+    (λ n. first_value-rows (found_of inner) n) in
+    let at_name_is = at_name m name (codes "pools") (rows_of (found_of inner)) named has is in
+    subst (λ o. GivesIfThere o r) (ap (λ listing. listed_of listing text) printed ∙ same ∙ sym at_name_is) gives
 
 -- what is made of the options of `serve`
 same_serving : (f g : Text → Option Text) → f (codes "config") ≡ g (codes "config") → f (codes "token-dir") ≡ g (codes "token-dir")

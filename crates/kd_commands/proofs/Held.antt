@@ -158,11 +158,16 @@ pub no_defaults : (c : List Rule) (rows : List Row) → AllByRecursion (λ a. a.
 no_defaults [] rows none = refl
 no_defaults (a ∷ c) rows (e, none) = ap (λ l. fold with_default l c) (with_no_default rows a e) ∙ no_defaults c rows none
 
+-- rules with no default before one that has one
+pub first_default : (c d : List Rule) (a : Rule) (rows : List Row) → AllByRecursion (λ x. x.defaults ≡ []) c
+    → fold with_default rows (c ++ a ∷ d) ≡ fold with_default (with_default rows a) d
+first_default [] d a rows none = refl
+first_default (x ∷ c) d a rows (e, none) = ap (λ l. fold with_default l (c ++ a ∷ d)) (with_no_default rows x e) ∙ first_default c d a rows none
+
 -- rules with one default among them
 pub one_default : (c d : List Rule) (a : Rule) (rows : List Row) → AllByRecursion (λ x. x.defaults ≡ []) c → AllByRecursion (λ x. x.defaults ≡ []) d
     → fold with_default rows (c ++ a ∷ d) ≡ with_default rows a
-one_default [] d a rows none after = no_defaults d (with_default rows a) after
-one_default (x ∷ c) d a rows (e, none) after = ap (λ l. fold with_default l (c ++ a ∷ d)) (with_no_default rows x e) ∙ one_default c d a rows none after
+one_default c d a rows none after = first_default c d a rows none ∙ no_defaults d (with_default rows a) after
 
 -- a rule has no default, or one that passes
 abbrev pub DefaultPasses : Rule → Type 0
@@ -193,7 +198,7 @@ find_behind n (x ∷ rows) r other = go (bytes_eq x.id n) refl (find_behind n ro
     go true e more = rw e refl
     go false e more = rw e more
 
-find_last : (n : Text) (rows : List Row) (r : Row) → has_row n rows ≡ false → bytes_eq r.id n ≡ true
+pub find_last : (n : Text) (rows : List Row) (r : Row) → has_row n rows ≡ false → bytes_eq r.id n ≡ true
     → find (λ x. bytes_eq x.id n) (rows ++ r ∷ []) ≡ Some r
 find_last n [] r none own = rw own refl
 find_last n (x ∷ rows) r none own = go (bytes_eq x.id n) refl (find_last n rows r)
@@ -206,7 +211,7 @@ find_last n (x ∷ rows) r none own = go (bytes_eq x.id n) refl (find_last n row
         rw e (more rest own)
 
 -- the row of a flag that does not stand
-abbrev default_row : Text → Row
+abbrev pub default_row : Text → Row
 default_row n = record {
   id = n;
   values = codes "false" ∷ [];
@@ -215,10 +220,10 @@ default_row n = record {
   reading = reading_by (flag_of n);
 }
 
-default_put : (n : Text) (rows : List Row) → has_row n rows ≡ false → with_default rows (flag_of n) ≡ rows ++ default_row n ∷ []
+pub default_put : (n : Text) (rows : List Row) → has_row n rows ≡ false → with_default rows (flag_of n) ≡ rows ++ default_row n ∷ []
 default_put n rows none = rw none (at_row_missing n (more_values DefaultValue (codes "false" ∷ [])) (default_row n ∷ []) rows none)
 
-default_kept : (n : Text) (rows : List Row) → has_row n rows ≡ true → with_default rows (flag_of n) ≡ rows
+pub default_kept : (n : Text) (rows : List Row) → has_row n rows ≡ true → with_default rows (flag_of n) ≡ rows
 default_kept n rows there = rw there refl
 
 -- the default of one flag changes no other name

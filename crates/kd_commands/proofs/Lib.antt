@@ -1,13 +1,16 @@
 pub mod Apart
 pub mod Commands
+pub mod Defaults
 pub mod Entries
 pub mod EvalLine
 pub mod FileLines
 pub mod Flags
 pub mod FromMatches
+pub mod Given
 pub mod Held
 pub mod Level
 pub mod Lines
+pub mod ListingLines
 pub mod OptionLine
 pub mod Options
 pub mod ServeLine

@@ -7,9 +7,10 @@ use Rattle.std.proofs.lemmas.List.Elements.{All-tail}
 use Rattle.clap.specs.Words.{Text, fault_of, subcommand_of}
 use Rattle.clap.specs.declared.error.kind.ErrorKind.TheVariants.{DisplayHelp}
 use Rattle.kd_commands.specs.Line.{IsHelpFlag, IsHelpLine, IsLine, IsOneOf, subcommands}
-use Rattle.kd_commands.specs.Order.{Asked, Asks, asked_of, command_line, compiles, evaluates, lists, replays, serves, shows, tests, types, verifies}
+use Rattle.kd_commands.specs.Order.{Asked, Asks, asked_of, command_line, compiles, evaluates, imports, lists, looks, replays, serves, shows, tests, types, verifies}
 use Rattle.kd_commands.proofs.EvalLine.{flagged_passes, eval_built, eval_helps, eval_in, eval_passes}
-use Rattle.kd_commands.proofs.FileLines.{leases_built, leases_helps, leases_in, leases_passes, replay_built, replay_helps, replay_in, replay_passes}
+use Rattle.kd_commands.proofs.FileLines.{import_built, import_helps, import_in, import_passes, replay_built, replay_helps, replay_in, replay_passes}
+use Rattle.kd_commands.proofs.ListingLines.{AreSubs, leases_built, leases_helps, leases_in, lists_passes, looks_passes, pools_built, pools_helps, pools_in}
 use Rattle.kd_commands.proofs.ServeLine.{serve_built, serve_helps, serve_in, serve_passes}
 use Rattle.kd_commands.proofs.TextLine.{one, text_helps, text_in, text_passes}
 use Rattle.kd_commands.proofs.Top.{IsSub, begins, helps_first}
@@ -37,6 +38,15 @@ replay = record { met = refl; ours = refl; found = refl }
 leases : IsSub (codes "leases") leases_built
 leases = record { met = refl; ours = refl; found = refl }
 
+pools : IsSub (codes "pools") pools_built
+pools = record { met = refl; ours = refl; found = refl }
+
+listings : AreSubs
+listings = record { leases = leases; pools = pools }
+
+import_sub : IsSub (codes "import") import_built
+import_sub = record { met = refl; ours = refl; found = refl }
+
 serve : IsSub (codes "serve") serve_built
 serve = record { met = refl; ours = refl; found = refl }
 
@@ -61,9 +71,11 @@ asked_in name rest (inr (inr (inr (inl is)))) texts none = rw is (
     inl (verifies got.0, got.1))
 asked_in name rest (inr (inr (inr (inr (inl is))))) texts none = rw is (inl (eval_in rest eval texts (rw is at none)))
 asked_in name rest (inr (inr (inr (inr (inr (inl is)))))) texts none = rw is (inl (replay_in rest replay texts (rw is at none)))
-asked_in name rest (inr (inr (inr (inr (inr (inr (inl is))))))) texts none = rw is (leases_in rest leases texts (rw is at none))
-asked_in name rest (inr (inr (inr (inr (inr (inr (inr (inl is)))))))) texts none = rw is (serve_in rest serve texts (rw is at none))
-asked_in name rest (inr (inr (inr (inr (inr (inr (inr (inr never)))))))) texts none = absurd never
+asked_in name rest (inr (inr (inr (inr (inr (inr (inl is))))))) texts none = rw is (leases_in listings rest texts (rw is at none))
+asked_in name rest (inr (inr (inr (inr (inr (inr (inr (inl is)))))))) texts none = rw is (pools_in listings rest texts (rw is at none))
+asked_in name rest (inr (inr (inr (inr (inr (inr (inr (inr (inl is))))))))) texts none = rw is (inl (import_in rest import_sub texts (rw is at none)))
+asked_in name rest (inr (inr (inr (inr (inr (inr (inr (inr (inr (inl is)))))))))) texts none = rw is (serve_in rest serve texts (rw is at none))
+asked_in name rest (inr (inr (inr (inr (inr (inr (inr (inr (inr (inr never)))))))))) texts none = absurd never
 
 -- a line asks by clap for what it asks for in plain words
 pub clap_from_line : (ws : List Text) (asked : Asked) → IsLine ws asked → Asks ws asked
@@ -88,8 +100,14 @@ clap_from_line ws (tests text datagram) h =
 clap_from_line ws (replays config token_dir store) h =
     let got = replay_passes ws config token_dir store replay h in
     record { whole = got.0; entered = got.1 }
-clap_from_line ws (lists config token_dir store moment) h =
-    let got = leases_passes ws config token_dir store moment leases h in
+clap_from_line ws (lists listing config token_dir store moment) h =
+    let got = lists_passes listings ws listing config token_dir store moment h in
+    record { whole = got.0; entered = got.1 }
+clap_from_line ws (looks listing config token_dir store moment) h =
+    let got = looks_passes listings ws listing config token_dir store moment h in
+    record { whole = got.0; entered = got.1 }
+clap_from_line ws (imports store) h =
+    let got = import_passes ws store import_sub h in
     record { whole = got.0; entered = got.1 }
 clap_from_line ws (serves serving) h =
     let got = serve_passes ws serving serve h in
@@ -105,8 +123,10 @@ helps_second name next rest (inr (inr (inr (inl is)))) h = rw is (text_helps (co
 helps_second name next rest (inr (inr (inr (inr (inl is))))) h = rw is (eval_helps next rest eval h)
 helps_second name next rest (inr (inr (inr (inr (inr (inl is)))))) h = rw is (replay_helps next rest replay h)
 helps_second name next rest (inr (inr (inr (inr (inr (inr (inl is))))))) h = rw is (leases_helps next rest leases h)
-helps_second name next rest (inr (inr (inr (inr (inr (inr (inr (inl is)))))))) h = rw is (serve_helps next rest serve h)
-helps_second name next rest (inr (inr (inr (inr (inr (inr (inr (inr never)))))))) h = absurd never
+helps_second name next rest (inr (inr (inr (inr (inr (inr (inr (inl is)))))))) h = rw is (pools_helps next rest pools h)
+helps_second name next rest (inr (inr (inr (inr (inr (inr (inr (inr (inl is))))))))) h = rw is (import_helps next rest import_sub h)
+helps_second name next rest (inr (inr (inr (inr (inr (inr (inr (inr (inr (inl is)))))))))) h = rw is (serve_helps next rest serve h)
+helps_second name next rest (inr (inr (inr (inr (inr (inr (inr (inr (inr (inr never)))))))))) h = absurd never
 
 -- ---- whatever the subcommands
 

@@ -1,30 +1,27 @@
 -- Which words are a line of `serve`: its rules, and what its options and its flag ask for.
-use Rattle.std.proofs.Common.{◌≡◌, ◌⊎◌, ◌∙◌, sym, ap, refl, subst, inl, inr, ℕ, true, false, Bool, List, [], ◌∷◌, ◌++◌, codes, map, fold, Option, Some, None, is_some, option_map}
+use Rattle.std.proofs.Common.{◌≡◌, ◌⊎◌, ◌∙◌, sym, ap, ap₂, refl, subst, inl, inr, ℕ, true, false, Bool, List, [], ◌∷◌, ◌++◌, codes, fold, Option, Some, None, is_some, option_map}
 use Rattle.std.specs.Prelude.{◌||◌, if◌then◌else◌, not, option_and_then}
 use Rattle.std.specs.Option.{option_map_or}
-use Rattle.std.specs.List.{All, AllByRecursion, IsDistinct}
-use Rattle.std.specs.List.Sorted.{IsPermutation}
+use Rattle.std.specs.List.{All, IsDistinct}
 use Rattle.std.specs.Str.{bytes_eq, IsUtf8}
-use Rattle.std.proofs.lemmas.List.Elements.{All-append}
-use Rattle.std.proofs.lemmas.Slice.Eq.{bytes_eq-Decides}
-use Rattle.std.proofs.lemmas.List.Sorted.{All-permutation, IsPermutation-sym}
 use Rattle.clap.specs.Words.{Row, Rule, Shape, Text, fault_of, first_of, subcommand_of}
 use Rattle.clap.specs.Facts.{explicit_source}
 use Rattle.clap.specs.Takes.{is_given}
 use Rattle.clap.specs.Walk.{arg_by_long, arg_by_short, has_short, with_default}
 use Rattle.clap.specs.declared.error.kind.ErrorKind.TheVariants.{DisplayHelp}
 use Rattle.clap.proofs.OnLiterals.{clap_on_literals}
-use Rattle.kd_commands.specs.Line.{IsHelpFlag, IsLine, IsOneOf, IsServeLine, flag_given, given_values}
+use Rattle.kd_commands.specs.Line.{IsHelpFlag, IsLine, IsOneOf, IsOptionLine, IsServeLine, flag_given, given_values}
 use Rattle.kd_commands.specs.Order.{Asked, Serving, asked_of, command_line, flag_is_given, listening_of, loopback, serve_line, serves, serving_of}
 use Rattle.kd_commands.specs.Values.{address_of, number_of, port_of, read_or}
 use Rattle.kd_commands.specs.declared.orders.Listening.{Listening}
-use Rattle.kd_commands.proofs.Apart.{Have, apart_given, apart_in_order, given_is, in_some_order, kept, value_of}
-use Rattle.kd_commands.proofs.Entries.{both_given, both_kept, flag_is_entry, found_beside, found_flag, have_of, is_standing, is_valued, of_both, ones_given, standing, text_at, wrapped}
-use Rattle.kd_commands.proofs.FileLines.{is_there}
+use Rattle.kd_commands.proofs.Apart.{each_has, not_in_both, value_of}
+use Rattle.kd_commands.proofs.Defaults.{defaults_apart, flag_beside, text_beside, with_defaults}
+use Rattle.kd_commands.proofs.Entries.{flag_kept, text_at}
 use Rattle.kd_commands.proofs.Flags.{ShortsFail, help_built}
-use Rattle.kd_commands.proofs.Held.{Value, default_apart, defaults_pass, one_default, rows_of}
+use Rattle.kd_commands.proofs.Given.{given_passes, lacks_none, line_of, needed_text}
+use Rattle.kd_commands.proofs.Held.{defaults_pass, one_default, rows_of}
 use Rattle.kd_commands.proofs.Level.{leaf}
-use Rattle.kd_commands.proofs.OptionLine.{AreRead, IsEntry, lacks_of, line_passes, option_helps, options_in}
+use Rattle.kd_commands.proofs.OptionLine.{option_helps, options_in}
 use Rattle.kd_commands.proofs.Options.{AreRules, IsFlag, IsOption, Known, built_of, flag_of, known_of}
 use Rattle.kd_commands.proofs.Top.{IsSub}
 
@@ -88,13 +85,13 @@ serve_short x = go (has_short help_built x) (arg_by_short serve_built.rules x) r
 abbrev options_built : List Rule
 options_built = built_of false (codes "config") ∷ built_of false (codes "token-dir") ∷ built_of false (codes "store") ∷ built_of false (codes "bind") ∷ built_of false (codes "port") ∷ built_of false (codes "client-port") ∷ built_of true (codes "count") ∷ built_of false (codes "broadcast-as") ∷ []
 
-ends_by_flag : (rows : List Row) → fold with_default rows serve_built.rules ≡ with_default rows (flag_of (codes "mirror"))
+ends_by_flag : (rows : List Row) → fold with_default rows serve_built.rules ≡ with_defaults flag_names rows
 ends_by_flag rows = one_default options_built (built_of false (codes "record") ∷ help_built ∷ []) (flag_of (codes "mirror")) rows (refl, (refl, (refl, (refl, (refl, (refl, (refl, (refl, tt)))))))) (refl, (refl, tt))
 
 count_given : (rows : List Row) → is_given (codes "count") (fold with_default rows serve_built.rules) ≡ is_given (codes "count") rows
 count_given rows =
     ap (is_given (codes "count")) (ends_by_flag rows)
-    ∙ ap (λ o. option_map_or (λ r. explicit_source r.source) o false) (default_apart (codes "mirror") (codes "count") rows refl)
+    ∙ ap (λ o. option_map_or (λ r. explicit_source r.source) o false) (defaults_apart (codes "count") flag_names rows (refl, tt))
 
 serve_rules : AreRules option_names flag_names needed_names serve_built.rules
 serve_rules = record {
@@ -113,24 +110,9 @@ all_names_apart : IsDistinct bytes_eq all_names
 unfolding IsDistinct
 all_names_apart = ((refl, (refl, (refl, (refl, (refl, (refl, (refl, (refl, (refl, tt))))))))), ((refl, (refl, (refl, (refl, (refl, (refl, (refl, (refl, tt)))))))), ((refl, (refl, (refl, (refl, (refl, (refl, (refl, tt))))))), ((refl, (refl, (refl, (refl, (refl, (refl, tt)))))), ((refl, (refl, (refl, (refl, (refl, tt))))), ((refl, (refl, (refl, (refl, tt)))), ((refl, (refl, (refl, tt))), ((refl, (refl, tt)), ((refl, tt), (tt, tt))))))))))
 
-no_flag : (n : Text) → bytes_eq n (codes "mirror") ≡ false → IsOneOf n flag_names → ⊥
-no_flag n apart (inl is) = let bad : true ≡ false = rw is at apart in cc
-no_flag n apart (inr never) = never
-
-no_flags : AllByRecursion (λ n. IsOneOf n flag_names → ⊥) option_names
-no_flags = (no_flag (codes "config") refl, (no_flag (codes "token-dir") refl, (no_flag (codes "store") refl, (no_flag (codes "bind") refl, (no_flag (codes "port") refl, (no_flag (codes "client-port") refl, (no_flag (codes "count") refl, (no_flag (codes "broadcast-as") refl, (no_flag (codes "record") refl, tt)))))))))
-
-no_option : IsOneOf (codes "mirror") option_names → ⊥
-no_option (inl is) = let bad : bytes_eq (codes "mirror") (codes "config") ≡ true = (bytes_eq-Decides (codes "mirror") (codes "config")).1 is in cc
-no_option (inr (inl is)) = let bad : bytes_eq (codes "mirror") (codes "token-dir") ≡ true = (bytes_eq-Decides (codes "mirror") (codes "token-dir")).1 is in cc
-no_option (inr (inr (inl is))) = let bad : bytes_eq (codes "mirror") (codes "store") ≡ true = (bytes_eq-Decides (codes "mirror") (codes "store")).1 is in cc
-no_option (inr (inr (inr (inl is)))) = let bad : bytes_eq (codes "mirror") (codes "bind") ≡ true = (bytes_eq-Decides (codes "mirror") (codes "bind")).1 is in cc
-no_option (inr (inr (inr (inr (inl is))))) = let bad : bytes_eq (codes "mirror") (codes "port") ≡ true = (bytes_eq-Decides (codes "mirror") (codes "port")).1 is in cc
-no_option (inr (inr (inr (inr (inr (inl is)))))) = let bad : bytes_eq (codes "mirror") (codes "client-port") ≡ true = (bytes_eq-Decides (codes "mirror") (codes "client-port")).1 is in cc
-no_option (inr (inr (inr (inr (inr (inr (inl is))))))) = let bad : bytes_eq (codes "mirror") (codes "count") ≡ true = (bytes_eq-Decides (codes "mirror") (codes "count")).1 is in cc
-no_option (inr (inr (inr (inr (inr (inr (inr (inl is)))))))) = let bad : bytes_eq (codes "mirror") (codes "broadcast-as") ≡ true = (bytes_eq-Decides (codes "mirror") (codes "broadcast-as")).1 is in cc
-no_option (inr (inr (inr (inr (inr (inr (inr (inr (inl is))))))))) = let bad : bytes_eq (codes "mirror") (codes "record") ≡ true = (bytes_eq-Decides (codes "mirror") (codes "record")).1 is in cc
-no_option (inr (inr (inr (inr (inr (inr (inr (inr (inr never))))))))) = never
+mirror_apart : IsDistinct bytes_eq flag_names
+unfolding IsDistinct
+mirror_apart = (tt, tt)
 
 -- ---- its lines
 
@@ -156,138 +138,45 @@ asked_by_texts rows c d s a p q b j digits m o n e1 e2 e3 e4 e5 e6 e7 e8 e9 e10 
     rw (e1, e2, e3, e4, e5, e6, e7, e8, e9, e10, counts)
     (ap (option_and_then (λ listening. option_and_then (λ count. Some (serves (serving_with c d s j listening count))) n)) is)
 
--- what these options and this flag ask for, in whichever order they stand
-found_in : (os : List (Text × Value)) (c d s a p q b j : Option Text) (digits : Text) (m : Bool) (o : Option Listening) (n : Option ℕ)
-    → Have os (map wrapped ((codes "config", c) ∷ (codes "token-dir", d) ∷ (codes "store", s) ∷ (codes "bind", a) ∷ (codes "port", p)
-    ∷ (codes "client-port", q) ∷ (codes "count", Some digits) ∷ (codes "broadcast-as", b) ∷ (codes "record", j) ∷ []) ++ (codes "mirror", standing m) ∷ [])
+-- the options with these texts
+abbrev values_of : Option Text → Option Text → Option Text → Option Text → Option Text → Option Text → Option Text → Option Text → Option Text
+    → List (Text × Option Text)
+values_of c d s a p q count b j =
+    (codes "config", c) ∷ (codes "token-dir", d) ∷ (codes "store", s) ∷ (codes "bind", a) ∷ (codes "port", p) ∷ (codes "client-port", q)
+    ∷ (codes "count", count) ∷ (codes "broadcast-as", b) ∷ (codes "record", j) ∷ []
+
+-- a line does not fail, and asks for what the texts of its options say
+found_in : (ws : List Text) (c d s a p q b j : Option Text) (digits : Text) (m : Bool) (o : Option Listening) (n : Option ℕ)
+    → IsSub (codes "serve") serve_built
+    → IsOptionLine (codes "serve") ws (given_values (values_of c d s a p q (Some digits) b j) ++ flag_given (codes "mirror") m)
     → listening_of a p q b m ≡ o → number_of digits ≡ n
-    → asked_of (Some (codes "serve", fold with_default (rows_of os) serve_built.rules))
-    ≡ option_and_then (λ listening. option_and_then (λ count. Some (serves (serving_with c d s j listening count))) n) o
-found_in os c d s a p q b j digits m o n have is counts =
-    let beside : (name : Text) (text : Option Text) → bytes_eq (codes "mirror") name ≡ false → value_of name os ≡ option_map (λ v. Some v) text
-    → first_of name (with_default (rows_of os) (flag_of (codes "mirror"))) ≡ text = λ name text. found_beside (codes "mirror") name os text in
-    let gives = asked_by_texts (with_default (rows_of os) (flag_of (codes "mirror"))) c d s a p q b j digits m o n
-    (beside (codes "config") c refl have.0) (beside (codes "token-dir") d refl have.1.0) (beside (codes "store") s refl have.1.1.0)
-    (beside (codes "bind") a refl have.1.1.1.0) (beside (codes "port") p refl have.1.1.1.1.0) (beside (codes "client-port") q refl have.1.1.1.1.1.0)
-    (beside (codes "count") (Some digits) refl have.1.1.1.1.1.1.0) (beside (codes "broadcast-as") b refl have.1.1.1.1.1.1.1.0)
-    (beside (codes "record") j refl have.1.1.1.1.1.1.1.1.0)
-    (found_flag (codes "mirror") os m have.1.1.1.1.1.1.1.1.1.0) is counts in
-    ap (λ rows. asked_of (Some (codes "serve", rows))) (ends_by_flag (rows_of os)) ∙ gives
+    → (fault_of command_line ws ≡ []) × (asked_of (subcommand_of command_line ws)
+    ≡ option_and_then (λ listening. option_and_then (λ count. Some (serves (serving_with c d s j listening count))) n) o)
+found_in ws c d s a p q b j digits m o n sub line listens counts =
+    let values = values_of c d s a p q (Some digits) b j in
+    let got = given_passes (codes "serve") option_names flag_names needed_names serve_built.rules serve_rules ws
+    (given_values values ++ flag_given (codes "mirror") m) values ((codes "mirror", m) ∷ []) sub line
+    (ap (λ l. given_values values ++ l) (flag_kept (codes "mirror") m)) all_names_apart
+    (each_has (λ name. IsOneOf name option_names) option_names (λ name one. one)) (inl refl, tt)
+    (λ os have. lacks_none (codes "count") digits os have.1.1.1.1.1.1.0) in
+    let have = got.have in
+    let found = got.found ∙ ap (λ l. Some (codes "serve", l)) (ends_by_flag (rows_of got.options)) in
+    let beside : (name : Text) (text : Option Text) → bytes_eq (codes "mirror") name ≡ false → value_of name got.options ≡ option_map (λ v. Some v) text
+    → first_of name (with_defaults flag_names (rows_of got.options)) ≡ text = λ name text apart. text_beside name flag_names got.options text (apart, tt) in (
+      got.whole,
+      ap asked_of found ∙ asked_by_texts (with_defaults flag_names (rows_of got.options)) c d s a p q b j digits m o n
+          (beside (codes "config") c refl have.0) (beside (codes "token-dir") d refl have.1.0) (beside (codes "store") s refl have.1.1.0)
+          (beside (codes "bind") a refl have.1.1.1.0) (beside (codes "port") p refl have.1.1.1.1.0) (beside (codes "client-port") q refl have.1.1.1.1.1.0)
+          (beside (codes "count") (Some digits) refl have.1.1.1.1.1.1.0) (beside (codes "broadcast-as") b refl have.1.1.1.1.1.1.1.0)
+          (beside (codes "record") j refl have.1.1.1.1.1.1.1.1.0)
+          (flag_beside (codes "mirror") flag_names got.options m mirror_apart (inl refl) have.1.1.1.1.1.1.1.1.1.0) listens counts,
+    )
 
 -- a line does not fail, and the values of its options are found
 pub serve_passes : (ws : List Text) (serving : Serving) → IsSub (codes "serve") serve_built → IsServeLine ws serving
     → (fault_of command_line ws ≡ []) × (asked_of (subcommand_of command_line ws) ≡ Some (serves serving))
-serve_passes ws serving sub h =
-    let line = h.line in
-    let mirror = serving.listening.mirror in
-    let values : List (Text × Option Text) = (codes "config", serving.config) ∷ (codes "token-dir", serving.token_dir) ∷ (codes "store", serving.store)
-    ∷ (codes "bind", h.bind) ∷ (codes "port", h.port) ∷ (codes "client-port", h.client_port) ∷ (codes "count", Some h.digits)
-    ∷ (codes "broadcast-as", h.broadcast_as) ∷ (codes "record", serving.journal) ∷ [] in
-    let options = given_values values ++ flag_given (codes "mirror") mirror in
-    let all : List (Text × Option Value) = map wrapped values ++ (codes "mirror", standing mirror) ∷ [] in
-    let is : options ≡ kept all = both_kept values (codes "mirror") mirror in
-    let order = subst (IsPermutation line.in_order) is line.in_some_order in
-    let apart = apart_in_order line.in_order (kept all) order (apart_given all all_names_apart) in
-    let given_ones = All-append (IsEntry option_names flag_names) (given_values values) (flag_given (codes "mirror") mirror)
-    (ones_given option_names flag_names values (inl refl, (inr (inl refl), (inr (inr (inl refl)), (inr (inr (inr (inl refl))), (inr (inr (inr (inr (inl refl)))), (inr (inr (inr (inr (inr (inl refl))))), (inr (inr (inr (inr (inr (inr (inl refl)))))), (inr (inr (inr (inr (inr (inr (inr (inl refl))))))), (inr (inr (inr (inr (inr (inr (inr (inr (inl refl)))))))), tt))))))))))
-    (flag_is_entry option_names flag_names (codes "mirror") mirror (inl refl)) in
-    let ones = All-permutation (IsEntry option_names flag_names) options line.in_order (IsPermutation-sym line.in_order options line.in_some_order) given_ones in
-    let have = have_of line.in_order options all line.in_some_order is all_names_apart in
-    let there : is_given (codes "count") (rows_of line.in_order) ≡ true = given_is (codes "count") line.in_order ∙ ap is_some have.1.1.1.1.1.1.0 in
-    let enough : lacks_of needed_names line.in_order ≡ false = ap (λ b. not b || false) there in
-    let read : AreRead option_names flag_names needed_names line.behind =
-    record { options = line.in_order; are = line.options_behind; apart = apart; ones = ones; enough = enough } in
-    let passes = line_passes (codes "serve") option_names flag_names needed_names serve_built.rules serve_rules ws line.behind read sub line.named in (
-      passes.0,
-      ap asked_of passes.1 ∙ found_in line.in_order serving.config serving.token_dir serving.store h.bind h.port h.client_port h.broadcast_as serving.journal
-          h.digits mirror (Some serving.listening) (Some serving.count) have h.listens h.counts,
-    )
-
--- options that are read are the values that they give
-have_read : (os : List (Text × Value)) (digits : Text) → All (IsEntry option_names flag_names) os → text_at (codes "count") os ≡ Some digits
-    → Have os (map wrapped ((codes "config", text_at (codes "config") os) ∷ (codes "token-dir", text_at (codes "token-dir") os)
-    ∷ (codes "store", text_at (codes "store") os) ∷ (codes "bind", text_at (codes "bind") os) ∷ (codes "port", text_at (codes "port") os)
-    ∷ (codes "client-port", text_at (codes "client-port") os) ∷ (codes "count", Some digits) ∷ (codes "broadcast-as", text_at (codes "broadcast-as") os)
-    ∷ (codes "record", text_at (codes "record") os) ∷ []) ++ (codes "mirror", standing (is_some (value_of (codes "mirror") os))) ∷ [])
-have_read os digits ones is =
-    let valued : (n : Text) → (IsOneOf n flag_names → ⊥) → value_of n os ≡ option_map (λ v. Some v) (text_at n os) = λ n not_flag. is_valued option_names flag_names n os not_flag ones in (
-      valued (codes "config") no_flags.0,
-      (
-        valued (codes "token-dir") no_flags.1.0,
-        (
-          valued (codes "store") no_flags.1.1.0,
-          (
-            valued (codes "bind") no_flags.1.1.1.0,
-            (
-              valued (codes "port") no_flags.1.1.1.1.0,
-              (
-                valued (codes "client-port") no_flags.1.1.1.1.1.0,
-                (
-                  valued (codes "count") no_flags.1.1.1.1.1.1.0 ∙ ap (option_map (λ v. Some v)) is,
-                  (
-                    valued (codes "broadcast-as") no_flags.1.1.1.1.1.1.1.0,
-                    (
-                      valued (codes "record") no_flags.1.1.1.1.1.1.1.1.0,
-                      (is_standing option_names flag_names (codes "mirror") os no_option ones, tt),
-                    ),
-                  ),
-                ),
-              ),
-            ),
-          ),
-        ),
-      ),
-    )
-
--- options ask for a serving where their texts are in range
-serves_for : (rest : List Text) (read : AreRead option_names flag_names needed_names rest) (digits : Text) (listening : Listening) (count : ℕ)
-    → text_at (codes "count") read.options ≡ Some digits
-    → listening_of (text_at (codes "bind") read.options) (text_at (codes "port") read.options) (text_at (codes "client-port") read.options)
-    (text_at (codes "broadcast-as") read.options) (is_some (value_of (codes "mirror") read.options)) ≡ Some listening
-    → listening.mirror ≡ is_some (value_of (codes "mirror") read.options)
-    → number_of digits ≡ Some count → (asked : Asked) × IsLine (codes "serve" ∷ rest) asked
-serves_for rest read digits listening count is listens mirrors counts =
-    let os = read.options in
-    let order = in_some_order all_names os all_names_apart read.apart (of_both option_names flag_names os read.ones) in
-    let texts = both_given option_names flag_names (codes "mirror") option_names os no_flags no_option read.ones in
-    let values : Option Text → List (Text × Option Text) = λ count. (codes "config", text_at (codes "config") os) ∷ (codes "token-dir", text_at (codes "token-dir") os)
-    ∷ (codes "store", text_at (codes "store") os) ∷ (codes "bind", text_at (codes "bind") os) ∷ (codes "port", text_at (codes "port") os)
-    ∷ (codes "client-port", text_at (codes "client-port") os) ∷ (codes "count", count) ∷ (codes "broadcast-as", text_at (codes "broadcast-as") os)
-    ∷ (codes "record", text_at (codes "record") os) ∷ [] in
-    let at_digits : IsPermutation os (given_values (values (Some digits)) ++ flag_given (codes "mirror") (is_some (value_of (codes "mirror") os))) =
-    subst (λ t. IsPermutation os (given_values (values t) ++ flag_given (codes "mirror") (is_some (value_of (codes "mirror") os)))) is (subst (IsPermutation os) texts order) in (
-      serves (serving_with (text_at (codes "config") os) (text_at (codes "token-dir") os) (text_at (codes "store") os) (text_at (codes "record") os) listening count),
-      record {
-        bind = text_at (codes "bind") os;
-        port = text_at (codes "port") os;
-        client_port = text_at (codes "client-port") os;
-        digits = digits;
-        broadcast_as = text_at (codes "broadcast-as") os;
-        listens = ap (λ m. listening_of (text_at (codes "bind") os) (text_at (codes "port") os) (text_at (codes "client-port") os) (text_at (codes "broadcast-as") os) m)
-            mirrors ∙ listens;
-        counts = counts;
-        line = record {
-          behind = rest;
-          in_order = os;
-          named = refl;
-          options_behind = read.are;
-          in_some_order = subst (λ m. IsPermutation os (given_values (values (Some digits)) ++ flag_given (codes "mirror") m)) (sym mirrors) at_digits;
-        };
-      },
-    )
-
--- what they ask for, by what their texts say
-asked_is : (rest : List Text) (read : AreRead option_names flag_names needed_names rest) (digits : Text) (o : Option Listening) (n : Option ℕ)
-    → IsSub (codes "serve") serve_built → text_at (codes "count") read.options ≡ Some digits
-    → listening_of (text_at (codes "bind") read.options) (text_at (codes "port") read.options) (text_at (codes "client-port") read.options)
-    (text_at (codes "broadcast-as") read.options) (is_some (value_of (codes "mirror") read.options)) ≡ o
-    → number_of digits ≡ n
-    → asked_of (subcommand_of command_line (codes "serve" ∷ rest)) ≡ option_and_then (λ listening. option_and_then (λ count. Some (serves (serving_with
-    (text_at (codes "config") read.options) (text_at (codes "token-dir") read.options) (text_at (codes "store") read.options)
-    (text_at (codes "record") read.options) listening count))) n) o
-asked_is rest read digits o n sub is listens counts =
-    let passes = line_passes (codes "serve") option_names flag_names needed_names serve_built.rules serve_rules (codes "serve" ∷ rest) rest read sub refl in
-    ap asked_of passes.1 ∙ found_in read.options _ _ _ _ _ _ _ _ digits _ o n (have_read read.options digits read.ones is) listens counts
+serve_passes ws serving sub h = found_in ws serving.config serving.token_dir serving.store h.bind h.port h.client_port h.broadcast_as serving.journal
+    h.digits serving.listening.mirror (Some serving.listening) (Some serving.count) sub h.line h.listens h.counts
 
 -- where a socket is said to be, the flag is as it was given
 same_mirror : (a p q b : Option Text) (m : Bool) (listening : Listening) → listening_of a p q b m ≡ Some listening → listening.mirror ≡ m
@@ -308,25 +197,46 @@ same_mirror a p q b m listening is = go (read_or address_of loopback a) (read_or
     go (Some x) (Some y) (Some z) None e = cc
     go (Some x) (Some y) (Some z) (Some w) e = let same : (record { bind = x; port = y; client_port = z; broadcast_as = w; mirror = m }) ≡ listening = cc in ap (λ l. l.mirror) (sym same)
 
+-- a line asks for a serving, or for nothing where a text is out of range
+asks_or_not : (rest : List Text) (c d s a p q b j : Option Text) (digits : Text) (m : Bool) (o : Option Listening) (n : Option ℕ)
+    → IsSub (codes "serve") serve_built
+    → IsOptionLine (codes "serve") (codes "serve" ∷ rest) (given_values (values_of c d s a p q (Some digits) b j) ++ flag_given (codes "mirror") m)
+    → listening_of a p q b m ≡ o → number_of digits ≡ n
+    → ((asked : Asked) × IsLine (codes "serve" ∷ rest) asked) ⊎ (asked_of (subcommand_of command_line (codes "serve" ∷ rest)) ≡ None)
+asks_or_not rest c d s a p q b j digits m None n sub line listens counts =
+    inr (found_in (codes "serve" ∷ rest) c d s a p q b j digits m None n sub line listens counts).1
+asks_or_not rest c d s a p q b j digits m (Some listening) None sub line listens counts =
+    inr (found_in (codes "serve" ∷ rest) c d s a p q b j digits m (Some listening) None sub line listens counts).1
+asks_or_not rest c d s a p q b j digits m (Some listening) (Some count) sub line listens counts =
+    let mirrors : listening.mirror ≡ m = same_mirror a p q b m listening listens in
+    inl (
+      serves (serving_with c d s j listening count),
+      record {
+        bind = a;
+        port = p;
+        client_port = q;
+        digits = digits;
+        broadcast_as = b;
+        listens = ap (λ x. listening_of a p q b x) mirrors ∙ listens;
+        counts = counts;
+        line = subst (λ x. IsOptionLine (codes "serve") (codes "serve" ∷ rest) (given_values (values_of c d s a p q (Some digits) b j) ++ flag_given (codes "mirror") x))
+            (sym mirrors) line;
+      },
+    )
+
 -- a line that does not fail asks for a serving, or for nothing
 pub serve_in : (rest : List Text) → IsSub (codes "serve") serve_built → All IsUtf8 rest → fault_of command_line (codes "serve" ∷ rest) ≡ []
     → ((asked : Asked) × IsLine (codes "serve" ∷ rest) asked) ⊎ (asked_of (subcommand_of command_line (codes "serve" ∷ rest)) ≡ None)
 serve_in rest sub utf8 none =
     let read = options_in (codes "serve") option_names flag_names needed_names serve_built.rules serve_rules rest sub utf8 none in
-    let count_is = is_there (value_of (codes "count") read.options) (text_at (codes "count") read.options)
-    (is_valued option_names flag_names (codes "count") read.options no_flags.1.1.1.1.1.1.0 read.ones)
-    (sym (ap (λ b. not b || false) (given_is (codes "count") read.options)) ∙ read.enough) in
-    go read count_is.0 count_is.1 (number_of count_is.0) refl (listening_of (text_at (codes "bind") read.options) (text_at (codes "port") read.options)
-    (text_at (codes "client-port") read.options) (text_at (codes "broadcast-as") read.options) (is_some (value_of (codes "mirror") read.options))) refl
-  where
-    go : (read : AreRead option_names flag_names needed_names rest) (digits : Text) → text_at (codes "count") read.options ≡ Some digits
-        → (n : Option ℕ) → number_of digits ≡ n
-        → (o : Option Listening) → listening_of (text_at (codes "bind") read.options) (text_at (codes "port") read.options)
-        (text_at (codes "client-port") read.options) (text_at (codes "broadcast-as") read.options) (is_some (value_of (codes "mirror") read.options)) ≡ o
-        → ((asked : Asked) × IsLine (codes "serve" ∷ rest) asked) ⊎ (asked_of (subcommand_of command_line (codes "serve" ∷ rest)) ≡ None)
-    go read digits is n counts None listens = inr (asked_is rest read digits None n sub is listens counts)
-    go read digits is None counts (Some listening) listens = inr (asked_is rest read digits (Some listening) None sub is listens counts)
-    go read digits is (Some count) counts (Some listening) listens =
-        inl (serves_for rest read digits listening count is listens (same_mirror (text_at (codes "bind") read.options)
-        (text_at (codes "port") read.options) (text_at (codes "client-port") read.options) (text_at (codes "broadcast-as") read.options)
-        (is_some (value_of (codes "mirror") read.options)) listening listens) counts)
+    let os = read.options in
+    let mirror = is_some (value_of (codes "mirror") os) in
+    let count_is = needed_text option_names flag_names (codes "count") os
+    (not_in_both option_names flag_names all_names_apart (codes "count") (inr (inr (inr (inr (inr (inr (inl refl)))))))) read.ones read.enough in
+    let line = line_of (codes "serve") option_names flag_names needed_names serve_built.rules serve_rules rest read all_names_apart in
+    let text : Text → Option Text = λ name. text_at name os in
+    asks_or_not rest (text (codes "config")) (text (codes "token-dir")) (text (codes "store")) (text (codes "bind")) (text (codes "port"))
+    (text (codes "client-port")) (text (codes "broadcast-as")) (text (codes "record")) count_is.0 mirror _ _ sub
+    (subst (IsOptionLine (codes "serve") (codes "serve" ∷ rest))
+    (ap₂ (λ count l. given_values (values_of (text (codes "config")) (text (codes "token-dir")) (text (codes "store")) (text (codes "bind")) (text (codes "port"))
+    (text (codes "client-port")) count (text (codes "broadcast-as")) (text (codes "record"))) ++ l) count_is.1 (sym (flag_kept (codes "mirror") mirror))) line) refl refl

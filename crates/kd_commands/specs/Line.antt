@@ -1,15 +1,19 @@
 -- The lines of the program in plain words: a subcommand and the texts that it wants, as `show HEX`
 -- or `eval PROGRAM DATAGRAM`. `--` may stand before any of the texts or after them, and a text is
 -- no flag unless `--` stands before it. The flag of `eval` may stand anywhere but behind `--`.
--- `replay`, `leases` and `serve` have options in any order, which stand once at most, each with a
--- value, as `--config F` or `--config=F`; all may be left out but the moment of `leases`, `--at M`,
--- and the count of `serve`, `--count N`. The flag of `serve`, `--mirror`, stands among its options,
--- once at most and with no value.
+-- `replay`, `leases`, `pools`, `import` and `serve` have options in any order, which stand once at
+-- most, each with a value, as `--config F` or `--config=F`; all may be left out but the moment of
+-- `leases` and of `pools`, `--at M`, the store of `import`, `--store F`, and the count of `serve`,
+-- `--count N`. A flag stands among the options, once at most and with no value: `--live` of `leases`
+-- and of `pools`, which stands only where `--store F` does, `--prometheus` of `pools`, and
+-- `--mirror` of `serve`.
 use Rattle.std.specs.Prelude.{◌≡◌, ◌⊎◌, ◌==◌, Bool, true, false, List, [], ◌∷◌, ◌++◌, Option, Some, None, codes}
 use Rattle.std.specs.List.Sorted.{IsPermutation}
 use Rattle.clap.specs.Words.{Text}
-use Rattle.kd_commands.specs.Order.{Asked, Serving, shows, types, compiles, verifies, evaluates, tests, replays, lists, serves, listening_of}
+use Rattle.kd_commands.specs.Order.{Asked, Serving, shows, types, compiles, verifies, evaluates, tests, replays, lists, looks, imports, serves, listening_of}
 use Rattle.kd_commands.specs.Values.{number_of}
+use Rattle.kd_commands.specs.declared.orders.Listing.{Listing}
+use Rattle.kd_commands.specs.declared.orders.Listing.TheVariants.{Leases, Metrics, Pools}
 
 -- a flag is a hyphen with more after it
 abbrev pub is_flag : Text → Bool
@@ -77,6 +81,23 @@ abbrev pub flag_given : Text → Bool → List (Text × Option Text)
 flag_given name true = (name, None) ∷ []
 flag_given name false = []
 
+-- the options that give these files and these digits of a moment, and the flag `--live` where it
+-- stands
+abbrev pub listing_options : Option Text → Option Text → Option Text → Text → Bool
+    → List (Text × Option Text)
+listing_options config token_dir store digits live =
+    given_values ((codes "config", config) ∷ (codes "token-dir", token_dir)
+    ∷ (codes "store", store) ∷ (codes "at", Some digits) ∷ [])
+    ++ flag_given (codes "live") live
+
+-- the words are the subcommand of this listing with these options: `leases`, `pools`, or `pools`
+-- with the flag `--prometheus`
+abbrev pub IsListingLine : List Text → Listing → List (Text × Option Text) → Type 0
+IsListingLine words Leases options = IsOptionLine (codes "leases") words options
+IsListingLine words Pools options = IsOptionLine (codes "pools") words options
+IsListingLine words Metrics options = IsOptionLine (codes "pools") words
+    (options ++ flag_given (codes "prometheus") true)
+
 -- the words are `serve` with texts in its options that say this, and with the flag where replies
 -- are mirrored
 pub record IsServeLine (words : List Text) (serving : Serving) : Type 0 where
@@ -106,19 +127,21 @@ IsLine words (tests text datagram) = IsFlaggedLine (codes "eval") words (text �
 IsLine words (replays config token_dir store) = IsOptionLine (codes "replay") words
     (given_values ((codes "config", config) ∷ (codes "token-dir", token_dir)
     ∷ (codes "store", store) ∷ []))
-IsLine words (lists config token_dir store moment) =
+IsLine words (lists listing config token_dir store moment) =
     (digits : Text) × (number_of digits ≡ Some moment)
-    × IsOptionLine (codes "leases") words
-    (given_values ((codes "config", config) ∷ (codes "token-dir", token_dir)
-    ∷ (codes "store", store) ∷ (codes "at", Some digits) ∷ []))
+    × IsListingLine words listing (listing_options config token_dir store digits false)
+IsLine words (looks listing config token_dir store moment) =
+    (digits : Text) × (number_of digits ≡ Some moment)
+    × IsListingLine words listing (listing_options config token_dir (Some store) digits true)
+IsLine words (imports store) =
+    IsOptionLine (codes "import") words ((codes "store", Some store) ∷ [])
 IsLine words (serves serving) = IsServeLine words serving
 
 -- the names of the subcommands
 abbrev pub subcommands : List Text
 subcommands =
     codes "show" ∷ codes "expr" ∷ codes "compile" ∷ codes "verify" ∷ codes "eval" ∷ codes "replay"
-    ∷ codes "leases"
-    ∷ codes "serve" ∷ []
+    ∷ codes "leases" ∷ codes "pools" ∷ codes "import" ∷ codes "serve" ∷ []
 
 -- the flag that asks for help
 abbrev pub IsHelpFlag : Text → Type 0

@@ -16,9 +16,11 @@ use Rattle.kd_commands.specs.declared.fault.LineFault.TheVariants.{CommandLine, 
 use Rattle.kd_wire.specs.Steps.{◌>>=◌}
 use Rattle.kd_commands.specs.Values.{address_of, number_of, port_of, read_or}
 use Rattle.kd_commands.specs.declared.orders.Listening.{Listening}
+use Rattle.kd_commands.specs.declared.orders.Listing.{Listing}
+use Rattle.kd_commands.specs.declared.orders.Listing.TheVariants.{Leases, Metrics, Pools}
 use Rattle.kd_commands.specs.declared.orders.Order.{Order}
 use Rattle.kd_commands.specs.declared.orders.Order.TheVariants.{Help, Show, Expr, Compile, Verify, Eval, EvalText, Replay}
-use Rattle.kd_commands.specs.declared.orders.Order.TheVariants.{Leases, Serve}
+use Rattle.kd_commands.specs.declared.orders.Order.TheVariants.{Import, Look, Serve, List as ListOrder}
 
 -- the number that a fault is printed with
 abbrev pub line_fault_number : LineFault → ℕ
@@ -81,9 +83,22 @@ files_line name =
 abbrev pub replay_line : App
 replay_line = files_line (codes "replay")
 
--- `leases [--config F] [--token-dir D] [--store F] --at M`
+-- a subcommand that lists a store: `NAME [--config F] [--token-dir D] [--store F] [--live] --at M`
+abbrev pub listing_line : Text → App
+listing_line name =
+    with_rule (with_rule (files_line name) (flag_rule (codes "live"))) (needed_value (codes "at"))
+
+-- `leases [--config F] [--token-dir D] [--store F] [--live] --at M`
 abbrev pub leases_line : App
-leases_line = with_rule (files_line (codes "leases")) (needed_value (codes "at"))
+leases_line = listing_line (codes "leases")
+
+-- `pools [--config F] [--token-dir D] [--store F] [--live] --at M [--prometheus]`
+abbrev pub pools_line : App
+pools_line = with_rule (listing_line (codes "pools")) (flag_rule (codes "prometheus"))
+
+-- `import --store F`
+abbrev pub import_line : App
+import_line = with_rule (new_app (codes "import")) (needed_value (codes "store"))
 
 -- `serve [--config F] [--token-dir D] [--store F] [--bind A] [--port P] [--client-port Q] --count N
 -- [--broadcast-as A] [--mirror] [--record F]`
@@ -111,7 +126,9 @@ tools_line =
 abbrev pub command_line : App
 command_line =
     with_subcommand (with_subcommand
+    (with_subcommand (with_subcommand
     (with_subcommand (with_subcommand tools_line eval_line.top) replay_line.top) leases_line.top)
+    pools_line.top) import_line.top)
     serve_line.top
 
 -- ---- what the words ask for
@@ -147,8 +164,12 @@ pub data Asked : Type 0 where
   -- the events of standard input, replayed, with the file of the configuration, the folder of the
   -- token files and the file of the leases, where they are given
   replays : Option Text → Option Text → Option Text → Asked
-  -- the leases of the store at this moment, with the same files
-  lists : Option Text → Option Text → Option Text → ℕ → Asked
+  -- this listing of the store at this moment, with the same files
+  lists : Listing → Option Text → Option Text → Option Text → ℕ → Asked
+  -- the same of the store in this file, which another process may have open
+  looks : Listing → Option Text → Option Text → Text → ℕ → Asked
+  -- the lines of leases on standard input, read into the store in this file
+  imports : Text → Asked
   -- datagrams of a socket, served
   serves : Serving → Asked
 
@@ -162,11 +183,24 @@ evaluation_of value program datagram =
     option_and_then (λ p. option_map
     (λ d. if flag_is_given value then tests p d else evaluates p d) datagram) program
 
--- what these files and a text ask `leases` for, where the text is there and is a number
-abbrev pub listing_of : Option Text → Option Text → Option Text → Option Text → Option Asked
-listing_of config token_dir store at =
-    option_map (λ moment. lists config token_dir store moment)
+-- what these files ask for at a moment: a listing, or with the flag `--live` one of a store that
+-- another process may have open, where its file is given
+abbrev pub listing_at : Listing → Option Text → Option Text → Option Text → Bool → ℕ
+    → Option Asked
+listing_at listing config token_dir store live moment =
+    if live then option_map (λ file. looks listing config token_dir file moment) store
+    else Some (lists listing config token_dir store moment)
+
+-- the same at the moment that a text says, where the text is there and is a number
+abbrev pub listing_of : Listing → Option Text → Option Text → Option Text → Bool → Option Text
+    → Option Asked
+listing_of listing config token_dir store live at =
+    option_and_then (λ moment. listing_at listing config token_dir store live moment)
     (option_and_then (λ text. number_of text) at)
+
+-- what `pools` prints, by the value of its flag `--prometheus`
+abbrev pub pools_listing : Option Text → Listing
+pools_listing value = if flag_is_given value then Metrics else Pools
 
 -- 127.0.0.1
 abbrev pub loopback : ℕ
@@ -218,11 +252,18 @@ asked_by name rows =
     then Some (replays (first_of (codes "config") rows) (first_of (codes "token-dir") rows)
     (first_of (codes "store") rows))
     else (if bytes_eq name (codes "leases")
-    then listing_of (first_of (codes "config") rows) (first_of (codes "token-dir") rows)
-    (first_of (codes "store") rows)
+    then listing_of Leases (first_of (codes "config") rows) (first_of (codes "token-dir") rows)
+    (first_of (codes "store") rows) (flag_is_given (first_of (codes "live") rows))
     (first_of (codes "at") rows)
+    else (if bytes_eq name (codes "pools")
+    then listing_of (pools_listing (first_of (codes "prometheus") rows))
+    (first_of (codes "config") rows) (first_of (codes "token-dir") rows)
+    (first_of (codes "store") rows) (flag_is_given (first_of (codes "live") rows))
+    (first_of (codes "at") rows)
+    else (if bytes_eq name (codes "import")
+    then option_map (λ store. imports store) (first_of (codes "store") rows)
     else (if bytes_eq name (codes "serve") then serving_of (λ option. first_of option rows)
-    else None)))))))
+    else None)))))))))
 
 -- the same of the subcommand that was entered, if one was
 abbrev pub asked_of : Option (Text × List Row) → Option Asked
@@ -238,7 +279,7 @@ abbrev pub IsHelp : List Text → Type 0
 IsHelp words = IsAmong DisplayHelp (fault_of command_line words)
 
 -- the words are no mistake for `clap`, but their subcommand asks for nothing: a text is out of
--- range
+-- range, or `--live` stands without `--store`
 pub record AsksNothing (words : List Text) : Type 0 where
   pub whole : fault_of command_line words ≡ []
   pub entered : asked_of (subcommand_of command_line words) ≡ None
@@ -264,9 +305,13 @@ AsksFor words (EvalText text datagram) =
 AsksFor words (Replay config token_dir store) = Asks words
     (replays (option_map string_bytes config) (option_map string_bytes token_dir)
     (option_map string_bytes store))
-AsksFor words (Leases config token_dir store at) = Asks words
-    (lists (option_map string_bytes config) (option_map string_bytes token_dir)
+AsksFor words (ListOrder listing config token_dir store at) = Asks words
+    (lists listing (option_map string_bytes config) (option_map string_bytes token_dir)
     (option_map string_bytes store) at)
+AsksFor words (Look listing config token_dir store at) = Asks words
+    (looks listing (option_map string_bytes config) (option_map string_bytes token_dir)
+    (string_bytes store) at)
+AsksFor words (Import store) = Asks words (imports (string_bytes store))
 AsksFor words (Serve config token_dir store listening count journal) =
     Asks words (serves (record {
       config = option_map string_bytes config;
@@ -294,9 +339,13 @@ given_by (EvalText text datagram) = Some (tests (string_bytes text) (string_byte
 given_by (Replay config token_dir store) = Some
     (replays (option_map string_bytes config) (option_map string_bytes token_dir)
     (option_map string_bytes store))
-given_by (Leases config token_dir store at) = Some
-    (lists (option_map string_bytes config) (option_map string_bytes token_dir)
+given_by (ListOrder listing config token_dir store at) = Some
+    (lists listing (option_map string_bytes config) (option_map string_bytes token_dir)
     (option_map string_bytes store) at)
+given_by (Look listing config token_dir store at) = Some
+    (looks listing (option_map string_bytes config) (option_map string_bytes token_dir)
+    (string_bytes store) at)
+given_by (Import store) = Some (imports (string_bytes store))
 given_by (Serve config token_dir store listening count journal) =
     Some (serves (record {
       config = option_map string_bytes config;

@@ -8,10 +8,11 @@
 
 mod address;
 mod fault;
+mod line;
 mod number;
 mod orders;
 mod words;
 
 pub use fault::LineFault;
-pub use orders::{Listening, Order};
+pub use orders::{Listening, Listing, Order};
 pub use words::order;

@@ -46,8 +46,10 @@ pub enum Order {
         /// The path of the file of the leases, where the line gives one.
         store: Option<String>,
     },
-    /// The leases of a store at a moment.
-    Leases {
+    /// A table of the leases of a store at a moment.
+    List {
+        /// What is printed.
+        listing: Listing,
         /// The path of the configuration's file, where the line gives one.
         config: Option<String>,
         /// The path of the token files' folder, where the line gives one.
@@ -56,6 +58,24 @@ pub enum Order {
         store: Option<String>,
         /// The moment, in whole seconds.
         at: u64,
+    },
+    /// The same of a store that another process may have open.
+    Look {
+        /// What is printed.
+        listing: Listing,
+        /// The path of the configuration's file, where the line gives one.
+        config: Option<String>,
+        /// The path of the token files' folder, where the line gives one.
+        token_dir: Option<String>,
+        /// The path of the file of the leases.
+        store: String,
+        /// The moment, in whole seconds.
+        at: u64,
+    },
+    /// The lines of leases on standard input, read into a store without leases.
+    Import {
+        /// The path of the file of the leases.
+        store: String,
     },
     /// Datagrams of a UDP socket, served.
     Serve {
@@ -72,6 +92,17 @@ pub enum Order {
         /// The path of the file to which what comes is appended, where the line gives one.
         journal: Option<String>,
     },
+}
+
+/// What is printed of a table of leases at a moment.
+#[derive(Clone, Copy)]
+pub enum Listing {
+    /// Its leases, a line each.
+    Leases,
+    /// How full the pools are.
+    Pools,
+    /// How full the pools are, as metrics.
+    Metrics,
 }
 
 /// Where datagrams are received, and where replies go.

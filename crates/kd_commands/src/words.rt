@@ -1,26 +1,22 @@
-ghost use Rattle.std.specs.Prelude.{◌≡◌, ◌↔◌, IfErr, IfOk, None, Some, codes, false, if◌then◌else◌, map};
+ghost use Rattle.std.specs.Prelude.{◌≡◌, ◌↔◌, IfErr, IfOk, None, Some, codes, if◌then◌else◌, map};
 ghost use Rattle.std.specs.Prelude.{option_and_then, option_map};
 ghost use Rattle.std.specs.String.{string_bytes};
-ghost use Rattle.clap.specs.Words.{app_of, first_value, found_of, kind_of};
-ghost use Rattle.clap.specs.Words.{rule_of, subcommand_rows_of};
-ghost use Rattle.clap.specs.declared.builder.command.Command.TheViews.{out-Command};
+ghost use Rattle.clap.specs.Words.{first_value, found_of, kind_of, subcommand_rows_of};
 ghost use Rattle.kd_commands.specs.Line.{IsHelpLine, IsLine};
 ghost use Rattle.kd_commands.specs.Order.{Asked, Asks, AsksFor, GivesUnlessFull, HasFault, HelpsUnlessFull};
-ghost use Rattle.kd_commands.specs.Order.{asked_of, command_line, compile_line, eval_line, expr_line, files_line};
-ghost use Rattle.kd_commands.specs.Order.{leases_line, program_line, replay_line, show_line, tools_line};
-ghost use Rattle.kd_commands.specs.Order.{verify_line};
-ghost use Rattle.kd_commands.specs.Order.{compiles, evaluates, evaluation_of, flag_rule, given_by, flag_is_given};
-ghost use Rattle.kd_commands.specs.Order.{listening_of, listing_of, needed_rule, needed_value};
-ghost use Rattle.kd_commands.specs.Order.{replays, serve_line, serving_of, shows, tests, types, value_rule, verifies};
+ghost use Rattle.kd_commands.specs.Order.{asked_of, compiles, evaluates, evaluation_of, flag_is_given};
+ghost use Rattle.kd_commands.specs.Order.{given_by, imports, listening_of, listing_at, listing_of};
+ghost use Rattle.kd_commands.specs.Order.{pools_listing, replays, serving_of, shows, tests, types, verifies};
 ghost use Rattle.kd_commands.specs.Values.{address_of, number_of, port_of, read_or};
 ghost use Rattle.kd_commands.specs.Steps.{AnswersKind, GivesIfThere};
 
 use crate::address::address_in;
 use crate::fault::LineFault;
+use crate::line::kdhcp;
 use crate::number::{number_in, port_in};
-use crate::orders::{Listening, Order};
+use crate::orders::{Listening, Listing, Order};
+use clap::ArgMatches;
 use clap::error::ErrorKind;
-use clap::{Arg, ArgAction, ArgMatches, Command};
 use std::alloc::{AllocError, Global};
 
 // 127.0.0.1, where `serve` has its socket if the line says nothing.
@@ -36,8 +32,8 @@ const CLIENT_PORT: u16 = 68;
 ///
 /// # Errors
 ///
-/// `CommandLine` where the words are no command of the program, or the text of an option is out of
-/// range, and `Memory`.
+/// `CommandLine` where the words are no command of the program, the text of an option is out of
+/// range, or `--live` stands without `--store`, and `Memory`.
 pub fn order(alloc: Global, words: &[String]) -> Result<Order, LineFault>
     ensures order { IfOk result (AsksFor (map string_bytes words.now)) }
     ensures fault { IfErr result (HasFault (map string_bytes words.now)) }
@@ -49,260 +45,13 @@ pub fn order(alloc: Global, words: &[String]) -> Result<Order, LineFault>
 {
     let command = kdhcp(alloc)?;
     match command.try_get_matches_from(words) {
-        Ok(matches) => asked_for(alloc, &matches),
+        Ok(matches) => order_from(alloc, &matches),
         Err(error) => answer_to(alloc, &error),
     }
 }
 
-// The whole command line.
-fn kdhcp<'a>(alloc: Global) -> Result<Command<'a>, AllocError>
-    ensures { IfOk result (λ c. app_of c ≡ command_line) }
-{
-    tools(alloc)?
-        .subcommand(eval(alloc)?)?
-        .subcommand(replay(alloc)?)?
-        .subcommand(leases(alloc)?)?
-        .subcommand(serve(alloc)?)
-}
-
-// The command line up to its subcommands of one text.
-fn tools<'a>(alloc: Global) -> Result<Command<'a>, AllocError>
-    ensures { IfOk result (λ c. app_of c ≡ tools_line) }
-{
-    program(alloc)?
-        .subcommand(show(alloc)?)?
-        .subcommand(expr(alloc)?)?
-        .subcommand(compile(alloc)?)?
-        .subcommand(verify(alloc)?)
-}
-
-// The command line before its subcommands.
-fn program<'a>(alloc: Global) -> Result<Command<'a>, AllocError>
-    ensures { IfOk result (λ c. app_of c ≡ program_line) }
-{
-    let named = Command::new(alloc, "kdhcp")
-        .about("A DHCPv4 server")
-        .bin_name("kdhcp")?;
-    Ok(named.no_binary_name(true).subcommand_required(true))
-}
-
-// `show HEX`.
-fn show<'a>(alloc: Global) -> Result<Command<'a>, AllocError>
-    ensures app { IfOk result (λ c. app_of c ≡ show_line) }
-    ensures local { IfOk result (λ c. (out-Command c).has_globals ≡ false) }
-{
-    let hex = Arg::new(alloc, "HEX")
-        .help("The bytes of a datagram, two hexadecimal digits each")
-        .required(true);
-    Command::new(alloc, "show")
-        .about("Print the lines of one datagram")
-        .after_help("Example: kdhcp show \"$(cat discover.hex)\"")
-        .arg(hex)
-}
-
-// `expr TEXT`.
-fn expr<'a>(alloc: Global) -> Result<Command<'a>, AllocError>
-    ensures app { IfOk result (λ c. app_of c ≡ expr_line) }
-    ensures local { IfOk result (λ c. (out-Command c).has_globals ≡ false) }
-{
-    let class_test = Arg::new(alloc, "TEXT")
-        .help("A class test in Kea's expression language")
-        .required(true);
-    Command::new(alloc, "expr")
-        .about("Read and type one class test, and print how many nodes it has")
-        .after_help("Example: kdhcp expr \"option[60].hex == 'a'\"")
-        .arg(class_test)
-}
-
-// `compile TEXT`.
-fn compile<'a>(alloc: Global) -> Result<Command<'a>, AllocError>
-    ensures app { IfOk result (λ c. app_of c ≡ compile_line) }
-    ensures local { IfOk result (λ c. (out-Command c).has_globals ≡ false) }
-{
-    let test = Arg::new(alloc, "TEXT")
-        .help("A class test in Kea's expression language")
-        .required(true);
-    Command::new(alloc, "compile")
-        .about("Compile one class test, and print the token file of its program")
-        .after_help("Example: kdhcp compile \"option[60].hex == 'a'\"")
-        .arg(test)
-}
-
-// `verify HEX`.
-fn verify<'a>(alloc: Global) -> Result<Command<'a>, AllocError>
-    ensures app { IfOk result (λ c. app_of c ≡ verify_line) }
-    ensures local { IfOk result (λ c. (out-Command c).has_globals ≡ false) }
-{
-    let file = Arg::new(alloc, "HEX")
-        .help("The bytes of a token file, two hexadecimal digits each")
-        .required(true);
-    Command::new(alloc, "verify")
-        .about("Verify the program of one token file, and print what it declares")
-        .after_help("Example: kdhcp verify 4b34544b010003021000000003033c0100016109")
-        .arg(file)
-}
-
-// An argument that has to be there.
-fn needed<'a>(alloc: Global, id: &'a str, help: &'a str) -> Arg<'a>
-    ensures rule { rule_of result ≡ needed_rule id.entry.now }
-    ensures help { result.help ≡ Some help.entry }
-    ensures local { result.global ≡ false }
-{
-    Arg::new(alloc, id).help(help).required(true)
-}
-
-// `--NAME`: the flag's name, and what help says of it.
-fn flag<'a>(alloc: Global, name: &'a str, help: &'a str) -> Arg<'a>
-    ensures rule { rule_of result ≡ flag_rule name.entry.now }
-    ensures local { result.global ≡ false }
-{
-    Arg::new(alloc, name)
-        .long(name)
-        .help(help)
-        .action(ArgAction::SetTrue)
-}
-
-// `eval [--text] PROGRAM DATAGRAM`.
-fn eval<'a>(alloc: Global) -> Result<Command<'a>, AllocError>
-    ensures app { IfOk result (λ c. app_of c ≡ eval_line) }
-    ensures local { IfOk result (λ c. (out-Command c).has_globals ≡ false) }
-{
-    let text = flag(
-        alloc,
-        "text",
-        "Take PROGRAM as a class test in Kea's expression language",
-    );
-    let program = needed(
-        alloc,
-        "PROGRAM",
-        "The bytes of a token file, two hexadecimal digits each",
-    );
-    let datagram = needed(
-        alloc,
-        "DATAGRAM",
-        "The bytes of a datagram, two hexadecimal digits each",
-    );
-    Command::new(alloc, "eval")
-        .about("Run one program over one datagram, and print its truth value")
-        .after_help("Example: kdhcp eval --text \"pkt4.msgtype == 1\" \"$(cat discover.hex)\"")
-        .arg(text)?
-        .arg(program)?
-        .arg(datagram)
-}
-
-// `--NAME VALUE`: the option's name, what help calls its value, and what help says of it.
-fn valued<'a>(alloc: Global, name: &'a str, value: &'a str, help: &'a str) -> Arg<'a>
-    ensures rule { rule_of result ≡ value_rule name.entry.now }
-    ensures local { result.global ≡ false }
-{
-    Arg::new(alloc, name)
-        .long(name)
-        .value_name(value)
-        .help(help)
-        .action(ArgAction::Set)
-}
-
-// A subcommand over files: `NAME [--config F] [--token-dir D] [--store F]`.
-fn over_files<'a>(
-    alloc: Global,
-    name: &'a str,
-    about: &'a str,
-    example: &'a str,
-) -> Result<Command<'a>, AllocError>
-    ensures app { IfOk result (λ c. app_of c ≡ files_line name.entry.now) }
-    ensures local { IfOk result (λ c. (out-Command c).has_globals ≡ false) }
-{
-    let config = valued(alloc, "config", "F", "The file of the configuration, JSON");
-    let token_dir = valued(alloc, "token-dir", "D", "The folder of the token files");
-    let store = valued(
-        alloc,
-        "store",
-        "F",
-        "The file of the leases, a database of SQLite; in memory without it",
-    );
-    Command::new(alloc, name)
-        .about(about)
-        .after_help(example)
-        .arg(config)?
-        .arg(token_dir)?
-        .arg(store)
-}
-
-// `replay [--config F] [--token-dir D] [--store F]`.
-fn replay<'a>(alloc: Global) -> Result<Command<'a>, AllocError>
-    ensures app { IfOk result (λ c. app_of c ≡ replay_line) }
-    ensures local { IfOk result (λ c. (out-Command c).has_globals ≡ false) }
-{
-    over_files(
-        alloc,
-        "replay",
-        "Replay the events of standard input",
-        "Example, the test of a configuration: kdhcp replay --config config.json < /dev/null",
-    )
-}
-
-// `--at M`, which has to be there.
-fn at_moment<'a>(alloc: Global) -> Arg<'a>
-    ensures rule { rule_of result ≡ needed_value (codes "at") }
-    ensures local { result.global ≡ false }
-{
-    valued(alloc, "at", "M", "The moment, in whole seconds").required(true)
-}
-
-// `leases [--config F] [--token-dir D] [--store F] --at M`.
-fn leases<'a>(alloc: Global) -> Result<Command<'a>, AllocError>
-    ensures app { IfOk result (λ c. app_of c ≡ leases_line) }
-    ensures local { IfOk result (λ c. (out-Command c).has_globals ≡ false) }
-{
-    let command = over_files(
-        alloc,
-        "leases",
-        "Print the leases of a store at a moment",
-        "Example: kdhcp leases --store leases.db --at \"$(date +%s)\"",
-    )?;
-    command.arg(at_moment(alloc))
-}
-
-// `--count N`, which has to be there.
-fn count<'a>(alloc: Global) -> Arg<'a>
-    ensures rule { rule_of result ≡ needed_value (codes "count") }
-    ensures local { result.global ≡ false }
-{
-    valued(alloc, "count", "N", "How many datagrams are served").required(true)
-}
-
-// One that serves a link without end.
-const SERVE_EXAMPLE: &str =
-    "Example: kdhcp serve --config config.json --store leases.db --bind 0.0.0.0 --count 18446744073709551615";
-
-// `serve [--config F] [--token-dir D] [--store F] [--bind A] [--port P] [--client-port Q] --count N
-// [--broadcast-as A] [--mirror] [--record F]`.
-fn serve<'a>(alloc: Global) -> Result<Command<'a>, AllocError>
-    ensures app { IfOk result (λ c. app_of c ≡ serve_line) }
-    ensures local { IfOk result (λ c. (out-Command c).has_globals ≡ false) }
-{
-    over_files(
-        alloc,
-        "serve",
-        "Serve datagrams on a UDP socket",
-        SERVE_EXAMPLE,
-    )?
-    .arg(valued(alloc, "bind", "A", "The socket's address, or 127.0.0.1"))?
-    .arg(valued(alloc, "port", "P", "The socket's UDP port, or 67"))?
-    .arg(valued(alloc, "client-port", "Q", "The clients' UDP port, or 68"))?
-    .arg(count(alloc))?
-    .arg(valued(alloc, "broadcast-as", "A", "Stands in for 255.255.255.255"))?
-    .arg(flag(alloc, "mirror", "Reply to the sender of a datagram"))?
-    .arg(valued(
-        alloc,
-        "record",
-        "F",
-        "Appends what comes to the file F, as input of replay",
-    ))
-}
-
 // What matches of the command line ask for.
-fn asked_for(alloc: Global, matches: &ArgMatches<'_>) -> Result<Order, LineFault>
+fn order_from(alloc: Global, matches: &ArgMatches<'_>) -> Result<Order, LineFault>
     ensures { GivesIfThere (asked_of (subcommand_rows_of matches.now)) result }
 {
     match matches.subcommand() {
@@ -312,7 +61,9 @@ fn asked_for(alloc: Global, matches: &ArgMatches<'_>) -> Result<Order, LineFault
         Some(("verify", inner)) => verified(alloc, inner),
         Some(("eval", inner)) => evaluated(alloc, inner),
         Some(("replay", inner)) => replayed(alloc, inner),
-        Some(("leases", inner)) => listed(alloc, inner),
+        Some(("leases", inner)) => listed(alloc, Listing::Leases, inner),
+        Some(("pools", inner)) => listed_pools(alloc, inner),
+        Some(("import", inner)) => imported(alloc, inner),
         Some(("serve", inner)) => served(alloc, inner),
         _ => Err(LineFault::CommandLine),
     }
@@ -450,27 +201,81 @@ fn replayed(alloc: Global, matches: &ArgMatches<'_>) -> Result<Order, LineFault>
     })
 }
 
-// What matches of `leases` ask for.
-fn listed(alloc: Global, matches: &ArgMatches<'_>) -> Result<Order, LineFault>
-    ensures { GivesIfThere (listing_of (first_value (found_of matches.now) (codes "config"))
+// What matches of `leases` or `pools` ask for, by what is printed.
+fn listed(alloc: Global, listing: Listing, matches: &ArgMatches<'_>) -> Result<Order, LineFault>
+    ensures { GivesIfThere (listing_of listing (first_value (found_of matches.now) (codes "config"))
         (first_value (found_of matches.now) (codes "token-dir"))
         (first_value (found_of matches.now) (codes "store"))
+        (flag_is_given (first_value (found_of matches.now) (codes "live")))
         (first_value (found_of matches.now) (codes "at"))) result }
 {
     let Some(at) = number_given(matches.get_str("at")) else {
         return Err(LineFault::CommandLine);
     };
+    let is_live = is_flagged(matches.get_str("live"));
+    let files = files_of(alloc, matches)?;
+    order_at(listing, is_live, files, at)
+}
+
+// The order that lists the store of these files at a moment, or looks into it.
+fn order_at(listing: Listing, is_live: bool, files: Files, at: u64) -> Result<Order, LineFault>
+    ensures { GivesIfThere (listing_at listing (option_map string_bytes files.config)
+        (option_map string_bytes files.token_dir) (option_map string_bytes files.store)
+        is_live at) result }
+{
     let Files {
         config,
         token_dir,
         store,
-    } = files_of(alloc, matches)?;
-    Ok(Order::Leases {
-        config,
-        token_dir,
-        store,
-        at,
-    })
+    } = files;
+    if !is_live {
+        return Ok(Order::List {
+            listing,
+            config,
+            token_dir,
+            store,
+            at,
+        });
+    }
+    match store {
+        Some(store) => Ok(Order::Look {
+            listing,
+            config,
+            token_dir,
+            store,
+            at,
+        }),
+        None => Err(LineFault::CommandLine),
+    }
+}
+
+// What matches of `pools` ask for.
+fn listed_pools(alloc: Global, matches: &ArgMatches<'_>) -> Result<Order, LineFault>
+    ensures { GivesIfThere (listing_of
+        (pools_listing (first_value (found_of matches.now) (codes "prometheus")))
+        (first_value (found_of matches.now) (codes "config"))
+        (first_value (found_of matches.now) (codes "token-dir"))
+        (first_value (found_of matches.now) (codes "store"))
+        (flag_is_given (first_value (found_of matches.now) (codes "live")))
+        (first_value (found_of matches.now) (codes "at"))) result }
+{
+    let listing = if is_flagged(matches.get_str("prometheus")) {
+        Listing::Metrics
+    } else {
+        Listing::Pools
+    };
+    listed(alloc, listing, matches)
+}
+
+// What matches of `import` ask for.
+fn imported(alloc: Global, matches: &ArgMatches<'_>) -> Result<Order, LineFault>
+    ensures { GivesIfThere (option_map (λ store. imports store)
+        (first_value (found_of matches.now) (codes "store"))) result }
+{
+    match text_of(alloc, matches, "store")? {
+        Some(store) => Ok(Order::Import { store }),
+        None => Err(LineFault::CommandLine),
+    }
 }
 
 // What matches of `serve` ask for.

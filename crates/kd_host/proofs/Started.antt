@@ -81,7 +81,7 @@ module _ {D H U L R : Type 0} (d : Disks D) (h : Hosts H (Kept (FileStore D d)) 
   ordered : Says → (files : Files) (work : Work) (path : List ℕ) (before after : H) (status : ℕ) (old new : Streams) → option_map string_bytes files.store ≡ Some path
       → CarriesOut h k unnamed l r (order_of files work) before after status old new → ServesFiles d h k l r image files work status old new (left_of after) ⊎ Told status old new
   ordered says files works.Replay path before after status old new named c = started says files works.Replay path before after status old new named c
-  ordered says files (works.Leases at) path before after status old new named c = started says files (works.Leases at) path before after status old new named c
+  ordered says files (works.List listing at) path before after status old new named c = started says files (works.List listing at) path before after status old new named c
   ordered says files (works.Serve listening count journal) path before after status old new named c =
       started says files (works.Serve listening count journal) path before after status old new named c
 

@@ -1,7 +1,9 @@
 use kd_commands::Listening;
 use kd_config::Config;
 use kd_database::{let_go, rows_in, store_from};
-use kd_io::{Copied, LookFault, Output, Sending, Socket, StartFault, configuration, copy_at, journal};
+use kd_io::{
+    Copied, LookFault, Output, Sending, Socket, StartFault, configuration, copy_at, journal,
+};
 use kd_keeps::{Cause, Opened, StoreFault, Volatile};
 use kd_program::Host;
 use kd_replay::EndFailed;

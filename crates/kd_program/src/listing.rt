@@ -47,12 +47,7 @@ pub fn list<R: Source, O: Sink, E: Sink>(
 }
 
 // What a listing says of a table at a moment.
-fn text_of(
-    alloc: Global,
-    listing: Listing,
-    table: Table<'_>,
-    at: u64,
-) -> Result<String, ServeFault>
+fn text_of(alloc: Global, listing: Listing, table: Table<'_>, at: u64) -> Result<String, ServeFault>
     ensures text { IfOk result (λ text. string_bytes text
         ≡ listing_text listing table.config.now table.rows.now.rows at) }
     ensures fault { IfErr result (IsNoList table.failed at) }

@@ -94,9 +94,14 @@ fn each_fault_has_its_exit_status(rt: HostRuntime) {
 // What is printed for these words.
 fn printed(alloc: Global, words: &[String]) -> Result<Printed, AllocError> {
     match order(alloc, words) {
-        Ok(Order::Replay { .. } | Order::Leases { .. } | Order::Serve { .. }) | Err(_) => {
-            Err(AllocError)
-        }
+        Ok(
+            Order::Replay { .. }
+            | Order::List { .. }
+            | Order::Look { .. }
+            | Order::Import { .. }
+            | Order::Serve { .. },
+        )
+        | Err(_) => { Err(AllocError) }
         Ok(order) => answer(alloc, &order),
     }
 }

@@ -31,7 +31,9 @@ pub fn answer(alloc: Global, order: &Order) -> Result<Printed, AllocError>
             answer_eval_text(alloc, text.as_str(), datagram.as_str())
         }
         Order::Replay { .. } => unreachable!(),
-        Order::Leases { .. } => unreachable!(),
+        Order::List { .. } => unreachable!(),
+        Order::Look { .. } => unreachable!(),
+        Order::Import { .. } => unreachable!(),
         Order::Serve { .. } => unreachable!(),
     }
 }

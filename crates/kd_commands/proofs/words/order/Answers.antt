@@ -14,8 +14,8 @@ pub returns-in-Ok : goal.returns-in-Ok
 returns-in-Ok c =
     let ws = map string_bytes c.args.words.now in
     let texts = are_texts c.args.words.now in
-    let given = from_matches (app_of c.in_ok-command.command) ws c.in-Ok.matches c.asked_for.result texts
-    c.in_ok-command.ensures c.in-Ok.ensures.matches c.in-Ok.ensures.kinds c.asked_for.ensures in
+    let given = from_matches (app_of c.in_ok-command.command) ws c.in-Ok.matches c.order_from.result texts
+    c.in_ok-command.ensures c.in-Ok.ensures.matches c.in-Ok.ensures.kinds c.order_from.ensures in
     record {
       order = given.order;
       fault = given.fault;

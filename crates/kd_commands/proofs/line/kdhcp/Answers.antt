@@ -1,0 +1,12 @@
+use Rattle.kd_commands.specs.Order.{eval_line, import_line, leases_line, pools_line, replay_line, serve_line, tools_line}
+use Rattle.kd_commands.proofs.Commands.{added, added_last}
+use Rattle.kd_commands.proofs.line.kdhcp.Goals as goal
+
+pub returns : goal.returns
+returns c =
+    let one = added _ _ _ tools_line eval_line c.in_ok-subcommand.ensures c.in_ok-tools.ensures c.in_ok-eval.ensures.app c.in_ok-eval.ensures.local in
+    let two = added _ _ _ _ replay_line c.in_ok-subcommand-2.ensures one c.in_ok-replay.ensures.app c.in_ok-replay.ensures.local in
+    let three = added _ _ _ _ leases_line c.in_ok-subcommand-3.ensures two c.in_ok-leases.ensures.app c.in_ok-leases.ensures.local in
+    let four = added _ _ _ _ pools_line c.in_ok-subcommand-4.ensures three c.in_ok-pools.ensures.app c.in_ok-pools.ensures.local in
+    let five = added _ _ _ _ import_line c.in_ok-subcommand-5.ensures four c.in_ok-import.ensures.app c.in_ok-import.ensures.local in
+    added_last _ _ c.subcommand-6.result _ serve_line c.subcommand-6.ensures five c.in_ok-serve.ensures.app c.in_ok-serve.ensures.local

@@ -1,0 +1,320 @@
+ghost use Rattle.std.specs.Prelude.{◌≡◌, IfOk, Some, codes, false};
+ghost use Rattle.clap.specs.Words.{app_of, rule_of};
+ghost use Rattle.clap.specs.declared.builder.command.Command.TheViews.{out-Command};
+ghost use Rattle.kd_commands.specs.Order.{command_line, compile_line, eval_line, expr_line, files_line};
+ghost use Rattle.kd_commands.specs.Order.{import_line, leases_line, listing_line, pools_line};
+ghost use Rattle.kd_commands.specs.Order.{program_line, replay_line, serve_line, show_line, tools_line};
+ghost use Rattle.kd_commands.specs.Order.{flag_rule, needed_rule, needed_value, value_rule, verify_line};
+
+use clap::{Arg, ArgAction, Command};
+use std::alloc::{AllocError, Global};
+
+// The whole command line.
+pub(crate) fn kdhcp<'a>(alloc: Global) -> Result<Command<'a>, AllocError>
+    ensures { IfOk result (λ c. app_of c ≡ command_line) }
+{
+    tools(alloc)?
+        .subcommand(eval(alloc)?)?
+        .subcommand(replay(alloc)?)?
+        .subcommand(leases(alloc)?)?
+        .subcommand(pools(alloc)?)?
+        .subcommand(import(alloc)?)?
+        .subcommand(serve(alloc)?)
+}
+
+// The command line up to its subcommands of one text.
+fn tools<'a>(alloc: Global) -> Result<Command<'a>, AllocError>
+    ensures { IfOk result (λ c. app_of c ≡ tools_line) }
+{
+    program(alloc)?
+        .subcommand(show(alloc)?)?
+        .subcommand(expr(alloc)?)?
+        .subcommand(compile(alloc)?)?
+        .subcommand(verify(alloc)?)
+}
+
+// The command line before its subcommands.
+fn program<'a>(alloc: Global) -> Result<Command<'a>, AllocError>
+    ensures { IfOk result (λ c. app_of c ≡ program_line) }
+{
+    let named = Command::new(alloc, "kdhcp")
+        .about("A DHCPv4 server")
+        .bin_name("kdhcp")?;
+    Ok(named.no_binary_name(true).subcommand_required(true))
+}
+
+// `show HEX`.
+fn show<'a>(alloc: Global) -> Result<Command<'a>, AllocError>
+    ensures app { IfOk result (λ c. app_of c ≡ show_line) }
+    ensures local { IfOk result (λ c. (out-Command c).has_globals ≡ false) }
+{
+    let hex = Arg::new(alloc, "HEX")
+        .help("The bytes of a datagram, two hexadecimal digits each")
+        .required(true);
+    Command::new(alloc, "show")
+        .about("Print the lines of one datagram")
+        .after_help("Example: kdhcp show \"$(cat discover.hex)\"")
+        .arg(hex)
+}
+
+// `expr TEXT`.
+fn expr<'a>(alloc: Global) -> Result<Command<'a>, AllocError>
+    ensures app { IfOk result (λ c. app_of c ≡ expr_line) }
+    ensures local { IfOk result (λ c. (out-Command c).has_globals ≡ false) }
+{
+    let class_test = Arg::new(alloc, "TEXT")
+        .help("A class test in Kea's expression language")
+        .required(true);
+    Command::new(alloc, "expr")
+        .about("Read and type one class test, and print how many nodes it has")
+        .after_help("Example: kdhcp expr \"option[60].hex == 'a'\"")
+        .arg(class_test)
+}
+
+// `compile TEXT`.
+fn compile<'a>(alloc: Global) -> Result<Command<'a>, AllocError>
+    ensures app { IfOk result (λ c. app_of c ≡ compile_line) }
+    ensures local { IfOk result (λ c. (out-Command c).has_globals ≡ false) }
+{
+    let test = Arg::new(alloc, "TEXT")
+        .help("A class test in Kea's expression language")
+        .required(true);
+    Command::new(alloc, "compile")
+        .about("Compile one class test, and print the token file of its program")
+        .after_help("Example: kdhcp compile \"option[60].hex == 'a'\"")
+        .arg(test)
+}
+
+// `verify HEX`.
+fn verify<'a>(alloc: Global) -> Result<Command<'a>, AllocError>
+    ensures app { IfOk result (λ c. app_of c ≡ verify_line) }
+    ensures local { IfOk result (λ c. (out-Command c).has_globals ≡ false) }
+{
+    let file = Arg::new(alloc, "HEX")
+        .help("The bytes of a token file, two hexadecimal digits each")
+        .required(true);
+    Command::new(alloc, "verify")
+        .about("Verify the program of one token file, and print what it declares")
+        .after_help("Example: kdhcp verify 4b34544b010003021000000003033c0100016109")
+        .arg(file)
+}
+
+// An argument that has to be there.
+fn required_text<'a>(alloc: Global, id: &'a str, help: &'a str) -> Arg<'a>
+    ensures rule { rule_of result ≡ needed_rule id.entry.now }
+    ensures help { result.help ≡ Some help.entry }
+    ensures local { result.global ≡ false }
+{
+    Arg::new(alloc, id).help(help).required(true)
+}
+
+// `--NAME`: the flag's name, and what help says of it.
+fn flag<'a>(alloc: Global, name: &'a str, help: &'a str) -> Arg<'a>
+    ensures rule { rule_of result ≡ flag_rule name.entry.now }
+    ensures local { result.global ≡ false }
+{
+    Arg::new(alloc, name)
+        .long(name)
+        .help(help)
+        .action(ArgAction::SetTrue)
+}
+
+// `eval [--text] PROGRAM DATAGRAM`.
+fn eval<'a>(alloc: Global) -> Result<Command<'a>, AllocError>
+    ensures app { IfOk result (λ c. app_of c ≡ eval_line) }
+    ensures local { IfOk result (λ c. (out-Command c).has_globals ≡ false) }
+{
+    let text = flag(
+        alloc,
+        "text",
+        "Take PROGRAM as a class test in Kea's expression language",
+    );
+    let program = required_text(
+        alloc,
+        "PROGRAM",
+        "The bytes of a token file, two hexadecimal digits each",
+    );
+    let datagram = required_text(
+        alloc,
+        "DATAGRAM",
+        "The bytes of a datagram, two hexadecimal digits each",
+    );
+    Command::new(alloc, "eval")
+        .about("Run one program over one datagram, and print its truth value")
+        .after_help("Example: kdhcp eval --text \"pkt4.msgtype == 1\" \"$(cat discover.hex)\"")
+        .arg(text)?
+        .arg(program)?
+        .arg(datagram)
+}
+
+// `--NAME VALUE`: the option's name, what help calls its value, and what help says of it.
+fn valued<'a>(alloc: Global, name: &'a str, value: &'a str, help: &'a str) -> Arg<'a>
+    ensures rule { rule_of result ≡ value_rule name.entry.now }
+    ensures local { result.global ≡ false }
+{
+    Arg::new(alloc, name)
+        .long(name)
+        .value_name(value)
+        .help(help)
+        .action(ArgAction::Set)
+}
+
+// A subcommand over files: `NAME [--config F] [--token-dir D] [--store F]`.
+fn over_files<'a>(
+    alloc: Global,
+    name: &'a str,
+    about: &'a str,
+    example: &'a str,
+) -> Result<Command<'a>, AllocError>
+    ensures app { IfOk result (λ c. app_of c ≡ files_line name.entry.now) }
+    ensures local { IfOk result (λ c. (out-Command c).has_globals ≡ false) }
+{
+    let config = valued(alloc, "config", "F", "The file of the configuration, JSON");
+    let token_dir = valued(alloc, "token-dir", "D", "The folder of the token files");
+    let store = valued(
+        alloc,
+        "store",
+        "F",
+        "The file of the leases, a database of SQLite; in memory without it",
+    );
+    Command::new(alloc, name)
+        .about(about)
+        .after_help(example)
+        .arg(config)?
+        .arg(token_dir)?
+        .arg(store)
+}
+
+// `replay [--config F] [--token-dir D] [--store F]`.
+fn replay<'a>(alloc: Global) -> Result<Command<'a>, AllocError>
+    ensures app { IfOk result (λ c. app_of c ≡ replay_line) }
+    ensures local { IfOk result (λ c. (out-Command c).has_globals ≡ false) }
+{
+    over_files(
+        alloc,
+        "replay",
+        "Replay the events of standard input",
+        "Example, the test of a configuration: kdhcp replay --config config.json < /dev/null",
+    )
+}
+
+// `--at M`, which has to be there.
+fn at_moment<'a>(alloc: Global) -> Arg<'a>
+    ensures rule { rule_of result ≡ needed_value (codes "at") }
+    ensures local { result.global ≡ false }
+{
+    valued(alloc, "at", "M", "The moment, in whole seconds").required(true)
+}
+
+// A subcommand that lists a store at a moment: `NAME [--config F] [--token-dir D] [--store F]
+// [--live] --at M`.
+fn over_store<'a>(
+    alloc: Global,
+    name: &'a str,
+    about: &'a str,
+    example: &'a str,
+) -> Result<Command<'a>, AllocError>
+    ensures app { IfOk result (λ c. app_of c ≡ listing_line name.entry.now) }
+    ensures local { IfOk result (λ c. (out-Command c).has_globals ≡ false) }
+{
+    over_files(alloc, name, about, example)?
+        .arg(flag(
+            alloc,
+            "live",
+            "Read the store beside a server that has it open",
+        ))?
+        .arg(at_moment(alloc))
+}
+
+// `leases [--config F] [--token-dir D] [--store F] [--live] --at M`.
+fn leases<'a>(alloc: Global) -> Result<Command<'a>, AllocError>
+    ensures app { IfOk result (λ c. app_of c ≡ leases_line) }
+    ensures local { IfOk result (λ c. (out-Command c).has_globals ≡ false) }
+{
+    over_store(
+        alloc,
+        "leases",
+        "Print the leases of a store at a moment",
+        "Example: kdhcp leases --store leases.db --at \"$(date +%s)\"",
+    )
+}
+
+// One that looks into the store of a server that runs.
+const POOLS_EXAMPLE: &str =
+    "Example: kdhcp pools --config config.json --store leases.db --live --at \"$(date +%s)\"";
+
+// `pools [--config F] [--token-dir D] [--store F] [--live] --at M [--prometheus]`.
+fn pools<'a>(alloc: Global) -> Result<Command<'a>, AllocError>
+    ensures app { IfOk result (λ c. app_of c ≡ pools_line) }
+    ensures local { IfOk result (λ c. (out-Command c).has_globals ≡ false) }
+{
+    over_store(
+        alloc,
+        "pools",
+        "Print how full the pools are at a moment",
+        POOLS_EXAMPLE,
+    )?
+    .arg(flag(
+        alloc,
+        "prometheus",
+        "Print metrics in Prometheus' text format",
+    ))
+}
+
+// `--store F`, which has to be there.
+fn into_store<'a>(alloc: Global) -> Arg<'a>
+    ensures rule { rule_of result ≡ needed_value (codes "store") }
+    ensures local { result.global ≡ false }
+{
+    let help = "The file of the leases, a database of SQLite";
+    valued(alloc, "store", "F", help).required(true)
+}
+
+// `import --store F`.
+fn import<'a>(alloc: Global) -> Result<Command<'a>, AllocError>
+    ensures app { IfOk result (λ c. app_of c ≡ import_line) }
+    ensures local { IfOk result (λ c. (out-Command c).has_globals ≡ false) }
+{
+    Command::new(alloc, "import")
+        .about("Read the lines of leases from standard input into a store without leases")
+        .after_help("Example: kdhcp import --store leases.db < leases.txt")
+        .arg(into_store(alloc))
+}
+
+// `--count N`, which has to be there.
+fn count<'a>(alloc: Global) -> Arg<'a>
+    ensures rule { rule_of result ≡ needed_value (codes "count") }
+    ensures local { result.global ≡ false }
+{
+    valued(alloc, "count", "N", "How many datagrams are served").required(true)
+}
+
+// One that serves a link without end.
+const SERVE_EXAMPLE: &str =
+    "Example: kdhcp serve --config config.json --store leases.db --bind 0.0.0.0 --count 18446744073709551615";
+
+// `serve [--config F] [--token-dir D] [--store F] [--bind A] [--port P] [--client-port Q] --count N
+// [--broadcast-as A] [--mirror] [--record F]`.
+fn serve<'a>(alloc: Global) -> Result<Command<'a>, AllocError>
+    ensures app { IfOk result (λ c. app_of c ≡ serve_line) }
+    ensures local { IfOk result (λ c. (out-Command c).has_globals ≡ false) }
+{
+    over_files(
+        alloc,
+        "serve",
+        "Serve datagrams on a UDP socket",
+        SERVE_EXAMPLE,
+    )?
+    .arg(valued(alloc, "bind", "A", "The socket's address, or 127.0.0.1"))?
+    .arg(valued(alloc, "port", "P", "The socket's UDP port, or 67"))?
+    .arg(valued(alloc, "client-port", "Q", "The clients' UDP port, or 68"))?
+    .arg(count(alloc))?
+    .arg(valued(alloc, "broadcast-as", "A", "Stands in for 255.255.255.255"))?
+    .arg(flag(alloc, "mirror", "Reply to the sender of a datagram"))?
+    .arg(valued(
+        alloc,
+        "record",
+        "F",
+        "Appends what comes to the file F, as input of replay",
+    ))
+}

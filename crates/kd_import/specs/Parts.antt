@@ -1,0 +1,29 @@
+-- Words of private contracts alone: a text cut at a byte, the words of a line, and rows under their
+-- addresses.
+use Rattle.std.specs.Prelude.{◌≡◌, ℕ, List, [], ◌∷◌, ◌++◌, map, decimal, ◌⊎◌}
+use Rattle.kd_replay.specs.Finding.{HasNo}
+use Rattle.kd_replay.specs.Text.{address_text, bytes_text}
+use Rattle.kd_rows.specs.declared.row.Row.{Row}
+use Rattle.kd_server.specs.Leases.{word_of_live, word_of_state}
+use Rattle.kd_server.specs.declared.leases.Lease.{Lease}
+use Rattle.kd_import.specs.Import.{IsStorable}
+use Rattle.kd_import.specs.declared.words.Words.{Words}
+
+-- a text is cut at the first of a byte, or stays whole where it has none
+pub record IsCut (byte : ℕ) (text front back : List ℕ) : Type 0 where
+  pub plain : HasNo byte front
+  pub parts : (text ≡ front ++ byte ∷ back) ⊎ ((text ≡ front) × (back ≡ []))
+
+-- the words are those of the line of a lease
+pub record AreWords (words : Words) (lease : Lease) : Type 0 where
+  pub address : words.address.now ≡ address_text lease.row.address
+  pub state : words.state.now ≡ word_of_state lease.row.state
+  pub client : words.client.now ≡ bytes_text lease.row.client
+  pub changed : words.changed.now ≡ decimal lease.row.changed
+  pub ends : words.ends.now ≡ decimal lease.row.ends
+  pub live : words.live.now ≡ word_of_live lease.live
+  pub storable : IsStorable lease.row
+
+-- rows, each under its address
+abbrev pub by_address : List Row → List (ℕ × Row)
+by_address rows = map (λ row. (row.address, row)) rows

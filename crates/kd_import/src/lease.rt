@@ -1,0 +1,77 @@
+ghost use Rattle.std.specs.Prelude.{◌≡◌, ◌↔◌, ◌++◌, ◌∷◌, [], Some, IfOk, IfSome, IsTrue, MatchOption};
+ghost use Rattle.hex.specs.Hex.{IsBytes};
+ghost use Rattle.kd_server.specs.Leases.{lease_line};
+ghost use Rattle.kd_server.specs.declared.leases.Lease.{Lease};
+ghost use Rattle.kd_import.specs.Import.{IsLeaseLine};
+ghost use Rattle.kd_import.specs.Parts.{AreWords};
+
+use crate::address::address_in;
+use crate::client::client_in;
+use crate::number::number_in;
+use crate::state::{is_live, state_in};
+use crate::words::{Words, words_of};
+use kd_rows::Row;
+use kd_server::{Lease, lease_lines};
+use kd_wire::Bytes;
+use std::alloc::{AllocError, Global};
+use std::slice;
+
+// The lease of a line, if the line is one's. It is read without looking closely, and then the line
+// is compared with what is printed of it.
+pub(crate) fn lease_of_line(alloc: Global, line: &[u8]) -> Result<Option<Lease>, AllocError>
+    ensures found { IfOk result (λ found. MatchOption found
+        ((lease : Lease) → ¬ IsLeaseLine line.now lease) (λ lease. IsLeaseLine line.now lease)) }
+    ensures only { (lease : Lease) → IsLeaseLine line.now lease
+        → IfOk result (λ found. found ≡ Some lease) }
+{
+    let Some(lease) = lease_in(alloc, line)? else {
+        return Ok(None);
+    };
+    if !lease.row.is_in_range() || !prints(alloc, &lease, line)? {
+        return Ok(None);
+    }
+    Ok(Some(lease))
+}
+
+// The lease of a line that is one's.
+fn lease_in(alloc: Global, line: &[u8]) -> Result<Option<Lease>, AllocError>
+    ensures only { (lease : Lease) → IsLeaseLine line.now lease
+        → IfOk result (λ found. found ≡ Some lease) }
+    ensures bytes { IfOk result (λ found. IfSome found (λ lease. IsBytes lease.row.client)) }
+{
+    let words = words_of(line);
+    let Some(client) = client_in(alloc, words.client)? else {
+        return Ok(None);
+    };
+    Ok(lease_with(words, client))
+}
+
+// The lease of a client with these words.
+fn lease_with(words: Words<'_>, client: Bytes) -> Option<Lease>
+    ensures only { (lease : Lease) → AreWords words.entry lease → client ≡ lease.row.client
+        → result ≡ Some lease }
+    ensures client { IfSome result (λ lease. lease.row.client ≡ client) }
+{
+    let row = Row {
+        address: address_in(words.address)?,
+        client,
+        state: state_in(words.state)?,
+        changed: number_in(words.changed)?,
+        ends: number_in(words.ends)?,
+    };
+    Some(Lease {
+        row,
+        live: is_live(words.live),
+    })
+}
+
+// Whether a line, with a line feed, is what is printed of a lease.
+fn prints(alloc: Global, lease: &Lease, line: &[u8]) -> Result<bool, AllocError>
+    ensures { IfOk result (λ same. IsTrue same ↔ (lease_line lease.now ≡ line.now ++ 10 ∷ [])) }
+{
+    let text = lease_lines(alloc, slice::from_ref(lease))?;
+    match text.as_bytes().split_last() {
+        Some((_, front)) => Ok(front == line),
+        None => Ok(false),
+    }
+}

@@ -1,0 +1,25 @@
+ghost use Rattle.std.specs.Prelude.{◌≡◌, Bool, Some};
+ghost use Rattle.kd_rows.specs.declared.row.State.{State};
+ghost use Rattle.kd_server.specs.Leases.{word_of_live, word_of_state};
+
+use kd_rows::State;
+
+// The state of a text that is the word for one.
+pub(crate) fn state_in(word: &[u8]) -> Option<State>
+    ensures { (state : State) → word.now ≡ word_of_state state → result ≡ Some state }
+{
+    match word {
+        b"Offered" => Some(State::Offered),
+        b"Bound" => Some(State::Bound),
+        b"Released" => Some(State::Released),
+        b"Declined" => Some(State::Declined),
+        _ => None,
+    }
+}
+
+// Whether a text is the word for what is live.
+pub(crate) fn is_live(word: &[u8]) -> bool
+    ensures { (live : Bool) → word.now ≡ word_of_live live → result ≡ live }
+{
+    word == b"live".as_slice()
+}

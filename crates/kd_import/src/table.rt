@@ -1,0 +1,62 @@
+ghost use Rattle.std.specs.Prelude.{◌≡◌, IfOk, IfErr, List, MatchResult, is_some};
+ghost use Rattle.std.specs.BTreeMap.{values};
+ghost use Rattle.std.specs.List.{All};
+ghost use Rattle.kd_rows.specs.Row.{IsInRange};
+ghost use Rattle.kd_rows.specs.Table.{Rise, row_at, with_row};
+ghost use Rattle.kd_rows.specs.declared.row.Row.{Row};
+ghost use Rattle.kd_import.specs.Import.{IsImportFault, IsTable};
+ghost use Rattle.kd_import.specs.Parts.{by_address};
+
+use crate::cut::next_line;
+use crate::fault::ImportFault;
+use crate::lease::lease_of_line;
+use kd_rows::Row;
+use std::alloc::{AllocError, Global};
+use std::collections::BTreeMap;
+
+/// The rows of the leases whose lines a text has, in rising address. Whether a lease is live is
+/// read and not believed.
+///
+/// # Errors
+///
+/// A line is no lease's, or its address stands in an earlier line: the first such line; or there is
+/// no memory for the rows.
+pub fn leases_in(alloc: Global, text: &[u8]) -> Result<Vec<Row>, ImportFault>
+    ensures found { IfOk result (λ rows. IsTable text.now rows.items) }
+    ensures rise { IfOk result (λ rows. Rise rows.items) }
+    ensures ranges { IfOk result (λ rows. All IsInRange rows.items) }
+    ensures fault { IfErr result (λ fault. IsImportFault text.now fault) }
+    ensures only { (rows : List Row) → IsTable text.now rows
+        → MatchResult result (λ found. found.items ≡ rows) (λ fault. fault ≡ ImportFault.Memory) }
+{
+    let mut table = BTreeMap::new(alloc);
+    let mut rest = text;
+    let mut number = 0;
+    while let Some((line, later)) = next_line(rest) {
+        number += 1;
+        let Some(lease) = lease_of_line(alloc, line)? else {
+            return Err(ImportFault::BadLine(number));
+        };
+        if put_row(&mut table, lease.row)? {
+            return Err(ImportFault::BadLine(number));
+        }
+        rest = later;
+    }
+    Ok(rows_of(alloc, table)?)
+}
+
+// Puts a row into a table, and says whether there was one of its address.
+fn put_row(table: &mut BTreeMap<u32, Row>, row: Row) -> Result<bool, AllocError>
+    ensures { (rows : List Row) → table.old.entries ≡ by_address rows → IfOk result (λ had.
+        (table.new.entries ≡ by_address (with_row row rows))
+        × (had ≡ is_some (row_at rows row.address))) }
+{
+    Ok(table.insert(row.address, row)?.is_some())
+}
+
+// The rows of a table.
+fn rows_of(alloc: Global, table: BTreeMap<u32, Row>) -> Result<Vec<Row>, AllocError>
+    ensures { IfOk result (λ rows. rows.items ≡ values table) }
+{
+    table.into_values().collect(alloc)
+}

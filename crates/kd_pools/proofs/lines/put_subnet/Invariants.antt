@@ -1,0 +1,8 @@
+use Rattle.std.proofs.Common.{◌≡◌, ◌++◌, take}
+use Rattle.std.specs.Prelude.{string_bytes}
+use Rattle.std.specs.List.{flat_map}
+use Rattle.kd_pools.specs.Printed.{pool_line}
+use Rattle.kd_pools.proofs.lines.put_subnet.Given as goal
+
+abbrev pub invariant-loop-pool : goal.invariant-loop-pool
+invariant-loop-pool l = string_bytes l.out ≡ string_bytes l.initial.out ++ flat_map (pool_line l.subnet.prefix) (take l.pool-index l.subnet.pools)

@@ -1,0 +1,52 @@
+-- How full the pools of a configuration are at a moment: pool by pool, subnet by subnet, in the
+-- order in which they are written.
+use Rattle.std.specs.Prelude.{ℕ, Bool, List, map}
+use Rattle.std.specs.List.{sum_by}
+use Rattle.kd_config.specs.Configuration.{Configuration}
+use Rattle.kd_config.specs.declared.pool.Pool.{Pool}
+use Rattle.kd_config.specs.declared.prefix.Prefix.{Prefix}
+use Rattle.kd_config.specs.declared.subnet.Subnet.{Subnet}
+use Rattle.kd_lease.specs.Choice.{reserved_anywhere}
+use Rattle.kd_rows.specs.declared.row.Row.{Row}
+use Rattle.kd_pools.specs.Counts.{addresses_in, counts_of}
+use Rattle.kd_pools.specs.declared.counts.Counts.{Counts}
+use Rattle.kd_pools.specs.declared.uses.PoolUse.{PoolUse}
+
+-- the use of a subnet: its prefix, that of each of its pools, and their counts together
+pub record UseOfSubnet : Type 0 where
+  pub prefix : Prefix
+  pub pools : List PoolUse
+  pub counts : Counts
+
+-- the use of a pool at a moment, where these addresses are reserved
+abbrev pub pool_use : (ℕ → Bool) → List Row → ℕ → Pool → PoolUse
+pool_use reserved rows now pool =
+    record { range = pool.range; counts = counts_of reserved rows now (addresses_in pool.range) }
+
+-- the sum of one number of each pool
+abbrev pub sum_of : (Counts → ℕ) → List PoolUse → ℕ
+sum_of number pools = sum_by (λ pool. number pool.counts) pools
+
+-- the counts of pools together
+abbrev pub sums_of : List PoolUse → Counts
+sums_of pools =
+    record {
+      addresses = sum_of (λ counts. counts.addresses) pools;
+      reserved = sum_of (λ counts. counts.reserved) pools;
+      bound = sum_of (λ counts. counts.bound) pools;
+      offered = sum_of (λ counts. counts.offered) pools;
+      declined = sum_of (λ counts. counts.declined) pools;
+      ended = sum_of (λ counts. counts.ended) pools;
+      unused = sum_of (λ counts. counts.unused) pools;
+      free = sum_of (λ counts. counts.free) pools;
+    }
+
+-- the use of a subnet at a moment, where these addresses are reserved
+abbrev pub subnet_use : (ℕ → Bool) → List Row → ℕ → Subnet → UseOfSubnet
+subnet_use reserved rows now subnet =
+    let pools = map (pool_use reserved rows now) subnet.pools in
+    record { prefix = subnet.prefix; pools = pools; counts = sums_of pools }
+
+-- the use of each subnet of a configuration at a moment
+abbrev pub subnet_uses : Configuration → List Row → ℕ → List UseOfSubnet
+subnet_uses config rows now = map (subnet_use (reserved_anywhere config) rows now) config.subnets

@@ -1,0 +1,89 @@
+-- Words of private contracts alone: addresses that are listed, the counts of one address, and
+-- counts together.
+use Rattle.std.specs.Prelude.{ℕ, ◌+◌, ◌<◌, ◌≤◌, Bool, not, ◌&&◌, ◌||◌, ◌==◌, is_none, List, length, map, Option, slice_index}
+use Rattle.std.specs.Int.{from_bool}
+use Rattle.std.specs.List.{flat_map, list_any}
+use Rattle.kd_config.specs.declared.subnet.Subnet.{Subnet}
+use Rattle.kd_lease.specs.Choice.{has_such, live_row}
+use Rattle.kd_lease.specs.Rules.{bound_state, offered_state}
+use Rattle.kd_rows.specs.declared.row.Row.{Row}
+use Rattle.kd_pools.specs.Counts.{declined_state, live_in}
+use Rattle.kd_pools.specs.declared.counts.Counts.{Counts}
+
+-- a list has an address
+abbrev pub lists : List ℕ → ℕ → Bool
+lists list a = list_any (λ b. b == a) list
+
+-- the addresses that a subnet reserves
+abbrev pub subnet_reserved : Subnet → List ℕ
+subnet_reserved subnet = map (λ reservation. reservation.address) subnet.reservations
+
+-- the addresses that subnets reserve, in their order
+abbrev pub all_reserved : List Subnet → List ℕ
+all_reserved subnets = flat_map subnet_reserved subnets
+
+-- the addresses before a place are below this one
+pub record IsBelow (list : List ℕ) (place a : ℕ) : Type 0 where
+  pub in_range : place ≤ length list
+  pub below : (i : ℕ) → i < place → slice_index list i < a
+
+-- the addresses before a place are below this one, and those from it on are not
+pub record IsPlace (list : List ℕ) (place a : ℕ) : Type 0 where
+  pub in_range : place ≤ length list
+  pub below : (i : ℕ) → i < place → slice_index list i < a
+  pub above : (i : ℕ) → place ≤ i → i < length list → a ≤ slice_index list i
+
+-- the counts of no addresses
+abbrev pub no_counts : Counts
+no_counts =
+    record {
+      addresses = 0;
+      reserved = 0;
+      bound = 0;
+      offered = 0;
+      declined = 0;
+      ended = 0;
+      unused = 0;
+      free = 0;
+    }
+
+-- the counts of one address at a moment: it is reserved or not, and has this row or none
+abbrev pub counts_at : Bool → Option Row → ℕ → Counts
+counts_at reserved row now =
+    record {
+      addresses = 1;
+      reserved = from_bool reserved;
+      bound = from_bool (has_such (live_in bound_state now) row);
+      offered = from_bool (has_such (live_in offered_state now) row);
+      declined = from_bool (has_such (live_in declined_state now) row);
+      ended = from_bool (has_such (λ r. not (live_row now r)) row);
+      unused = from_bool (is_none row);
+      free =
+          from_bool
+          (not reserved && (is_none row || has_such (λ r. not (live_row now r)) row));
+    }
+
+-- two counts together
+abbrev pub both_counts : Counts → Counts → Counts
+both_counts a b =
+    record {
+      addresses = a.addresses + b.addresses;
+      reserved = a.reserved + b.reserved;
+      bound = a.bound + b.bound;
+      offered = a.offered + b.offered;
+      declined = a.declined + b.declined;
+      ended = a.ended + b.ended;
+      unused = a.unused + b.unused;
+      free = a.free + b.free;
+    }
+
+-- each number is at most this
+pub record IsAtMost (most : ℕ) (counts : Counts) : Type 0 where
+  pub addresses : counts.addresses ≤ most
+  pub reserved : counts.reserved ≤ most
+  pub bound : counts.bound ≤ most
+  pub offered : counts.offered ≤ most
+  pub declined : counts.declined ≤ most
+  pub ended : counts.ended ≤ most
+  pub unused : counts.unused ≤ most
+  pub free : counts.free ≤ most

@@ -1,0 +1,62 @@
+ghost use Rattle.std.specs.Prelude.{◌≡◌, ◌++◌, IfOk, OnOk, string_bytes};
+ghost use Rattle.kd_pools.specs.Printed.{lines_text, pool_line, subnet_line, subnet_lines};
+
+use crate::text::{put_counts, put_prefix, put_range};
+use crate::uses::{PoolUse, SubnetUse};
+use kd_config::Prefix;
+use std::alloc::{AllocError, Global};
+
+/// The lines of subnets, each with its line feed: for each subnet one for each of its pools, `pool
+/// FIRST-LAST subnet PREFIX` and the counts, each after its name, and then its own, `subnet PREFIX`
+/// and its counts.
+///
+/// # Errors
+///
+/// There is no memory for the lines.
+pub fn use_lines(alloc: Global, uses: &[SubnetUse]) -> Result<String, AllocError>
+    ensures { IfOk result (λ text. string_bytes text ≡ lines_text uses.now) }
+{
+    let mut out = String::new(alloc);
+    for subnet in uses {
+        put_subnet(&mut out, subnet)?;
+    }
+    Ok(out)
+}
+
+// The lines of a subnet.
+#[tactic(auto, unfolding(crate::specs::Printed::subnet_lines))]
+fn put_subnet(out: &mut String, subnet: &SubnetUse) -> Result<(), AllocError>
+    ensures { OnOk result (string_bytes out.new
+        ≡ string_bytes out.old ++ subnet_lines subnet.now) }
+{
+    for pool in &subnet.pools {
+        put_pool(out, subnet.prefix, pool)?;
+    }
+    put_own(out, subnet)
+}
+
+// The line of a pool.
+#[tactic(auto, unfolding(crate::specs::Printed::pool_line))]
+fn put_pool(out: &mut String, prefix: Prefix, pool: &PoolUse) -> Result<(), AllocError>
+    ensures { OnOk result (string_bytes out.new
+        ≡ string_bytes out.old ++ pool_line prefix pool.now) }
+{
+    out.push_str("pool ")?;
+    put_range(out, pool.range)?;
+    out.push_str(" subnet ")?;
+    put_prefix(out, prefix)?;
+    put_counts(out, pool.counts)?;
+    out.push_str("\n")
+}
+
+// The line of the subnet itself.
+#[tactic(auto, unfolding(crate::specs::Printed::subnet_line))]
+fn put_own(out: &mut String, subnet: &SubnetUse) -> Result<(), AllocError>
+    ensures { OnOk result (string_bytes out.new
+        ≡ string_bytes out.old ++ subnet_line subnet.now) }
+{
+    out.push_str("subnet ")?;
+    put_prefix(out, subnet.prefix)?;
+    put_counts(out, subnet.counts)?;
+    out.push_str("\n")
+}

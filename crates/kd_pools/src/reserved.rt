@@ -1,0 +1,79 @@
+ghost use Rattle.std.specs.Prelude.{◌≡◌, ◌++◌, ℕ, IfOk, OnOk};
+ghost use Rattle.std.specs.List.Sorted.{IsNonDecreasing};
+ghost use Rattle.kd_lease.specs.Choice.{reserved_anywhere};
+ghost use Rattle.kd_pools.specs.Walking.{IsBelow, IsPlace, all_reserved, lists, subnet_reserved};
+
+use kd_config::{Config, Subnet};
+use std::alloc::{AllocError, Global};
+
+// The addresses that are reserved in a configuration, rising.
+pub(crate) fn reserved_addresses(alloc: Global, config: &Config) -> Result<Vec<u32>, AllocError>
+    ensures rising { IfOk result (λ list. IsNonDecreasing list.items) }
+    ensures same { IfOk result (λ list.
+        (a : ℕ) → lists list.items a ≡ reserved_anywhere config.now a) }
+{
+    let mut list = reserved_in_order(alloc, config.subnets())?;
+    list.sort()?;
+    Ok(list)
+}
+
+// The addresses that subnets reserve, in their order.
+fn reserved_in_order(alloc: Global, subnets: &[Subnet]) -> Result<Vec<u32>, AllocError>
+    ensures { IfOk result (λ list. list.items ≡ all_reserved subnets.now) }
+{
+    let mut list = Vec::new(alloc);
+    for subnet in subnets {
+        push_reserved(&mut list, subnet)?;
+    }
+    Ok(list)
+}
+
+// Puts the addresses that a subnet reserves at the end of a list.
+fn push_reserved(list: &mut Vec<u32>, subnet: &Subnet) -> Result<(), AllocError>
+    ensures { OnOk result (list.new.items ≡ list.old.items ++ subnet_reserved subnet.now) }
+{
+    for reservation in subnet.reservations.as_slice() {
+        list.push(reservation.address)?;
+    }
+    Ok(())
+}
+
+// The place of the first address of a list that is this one or above it.
+pub(crate) fn place_of(list: &[u32], address: u32) -> usize
+    requires { IsNonDecreasing list.now }
+    ensures { IsPlace list.now result address }
+{
+    let mut low = 0;
+    let mut high = list.len();
+    'halves: while low < high {
+        let middle = low + (high - low) / 2;
+        if list[middle] < address {
+            low = middle + 1;
+        } else {
+            high = middle;
+        }
+    }
+    low
+}
+
+// The same, from a place before which all addresses are below this one.
+pub(crate) fn place_from(list: &[u32], start: usize, address: u32) -> usize
+    requires rising { IsNonDecreasing list.now }
+    requires start { IsBelow list.now start address }
+    ensures { IsPlace list.now result address }
+{
+    let mut place = start;
+    'below: while place < list.len() && list[place] < address {
+        place += 1;
+    }
+    place
+}
+
+// The address at a place of a list is this one.
+pub(crate) fn is_at(list: &[u32], place: usize, address: u32) -> bool
+    requires rising { IsNonDecreasing list.now }
+    requires place { IsPlace list.now place address }
+    ensures { result ≡ lists list.now address }
+{
+    place < list.len() && list[place] == address
+}

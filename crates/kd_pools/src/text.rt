@@ -1,0 +1,65 @@
+ghost use Rattle.std.specs.Prelude.{◌≡◌, ◌++◌, OnOk, string_bytes};
+ghost use Rattle.kd_replay.specs.Text.{address_text};
+ghost use Rattle.kd_pools.specs.Printed.{counts_text, prefix_text, range_text};
+
+use crate::counts::Counts;
+use kd_config::{Prefix, Range};
+use std::alloc::AllocError;
+use std::fmt::Write;
+
+// An address, in decimal.
+fn put_address(out: &mut String, address: u32) -> Result<(), AllocError>
+    ensures { OnOk result (string_bytes out.new ≡ string_bytes out.old ++ address_text address) }
+{
+    let a = address / 0x100_0000;
+    let b = address / 0x1_0000 % 256;
+    let c = address / 0x100 % 256;
+    let d = address % 256;
+    write!(out, "{a}.{b}.{c}.{d}")
+}
+
+// A range: its first address and its last.
+#[tactic(auto, unfolding(crate::specs::Printed::range_text))]
+pub(crate) fn put_range(out: &mut String, range: Range) -> Result<(), AllocError>
+    ensures { OnOk result (string_bytes out.new ≡ string_bytes out.old ++ range_text range) }
+{
+    put_address(out, range.first)?;
+    out.push_str("-")?;
+    put_address(out, range.last)
+}
+
+// A prefix: its address and its length.
+#[tactic(auto, unfolding(crate::specs::Printed::prefix_text))]
+pub(crate) fn put_prefix(out: &mut String, prefix: Prefix) -> Result<(), AllocError>
+    ensures { OnOk result (string_bytes out.new ≡ string_bytes out.old ++ prefix_text prefix) }
+{
+    put_address(out, prefix.address)?;
+    let length = prefix.length;
+    write!(out, "/{length}")
+}
+
+// Counts, each after its name.
+#[tactic(auto, unfolding(crate::specs::Printed::counts_text))]
+pub(crate) fn put_counts(out: &mut String, counts: Counts) -> Result<(), AllocError>
+    ensures { OnOk result (string_bytes out.new ≡ string_bytes out.old ++ counts_text counts) }
+{
+    let Counts {
+        addresses,
+        reserved,
+        bound,
+        offered,
+        declined,
+        ended,
+        unused,
+        free,
+    } = counts;
+    write!(
+        out,
+        " addresses {addresses} reserved {reserved} bound {bound} offered {offered}"
+    )?;
+    write!(
+        out,
+        " declined {declined} ended {ended} unused {unused} free {free}"
+    )?;
+    Ok(())
+}
