@@ -1,14 +1,52 @@
--- The uses of subnets, one after another.
-use Rattle.std.proofs.Common.{◌≡◌, ℕ, ◌+◌, ◌<◌, ◌≤◌, Bool, List, [], ◌∷◌, ◌++◌, map, take, length, get_or, ap, sym, ◌∙◌}
+-- The uses of pools and of subnets, one after another.
+use Rattle.std.proofs.Common.{◌≡◌, ℕ, ◌+◌, ◌*◌, ◌<◌, ◌≤◌, Bool, List, [], ◌∷◌, ◌++◌, map, take, length, get_or, ap, sym, ◌∙◌, arith}
 use Rattle.std.proofs.lemmas.List.{map_more, take_all}
+use Rattle.std.proofs.lemmas.List.Sums.{sum_by_push}
 use Rattle.kd_config.specs.Configuration.{Configuration}
+use Rattle.kd_config.specs.declared.pool.Pool.{Pool}
 use Rattle.kd_config.specs.declared.subnet.Subnet.{Subnet}
 use Rattle.kd_lease.specs.Choice.{reserved_anywhere}
 use Rattle.kd_rows.specs.declared.row.Row.{Row}
 use Rattle.kd_pools.specs.Uses.{UseOfSubnet, pool_use, subnet_use, subnet_uses, sums_of}
-use Rattle.kd_pools.specs.Walking.{lists}
+use Rattle.kd_pools.specs.Walking.{IsAtMost, both_counts, lists}
 use Rattle.kd_pools.specs.declared.counts.Counts.{Counts}
 use Rattle.kd_pools.specs.declared.uses.PoolUse.{PoolUse}
+use Rattle.kd_pools.proofs.Counting.{same_counts}
+
+-- the use of one pool more
+pub next_pool : (reserved : ℕ → Bool) (rows : List Row) (now : ℕ) (pools : List Pool) (i : ℕ) (pool : Pool) (old new : List PoolUse) (used : PoolUse)
+    → i < length pools → pool ≡ get_or pools i pool → old ≡ map (pool_use reserved rows now) (take i pools)
+    → used ≡ pool_use reserved rows now pool → new ≡ old ++ used ∷ [] → new ≡ map (pool_use reserved rows now) (take (i + 1) pools)
+next_pool reserved rows now pools i pool old new used less at before is put =
+    put ∙ ap (λ (list : List PoolUse). list ++ used ∷ []) before
+    ∙ ap (λ (u : PoolUse). map (pool_use reserved rows now) (take i pools) ++ u ∷ []) (is ∙ ap (pool_use reserved rows now) at)
+    ∙ sym (map_more (pool_use reserved rows now) pools i pool less)
+
+push_sums : (old : List PoolUse) (used : PoolUse) → sums_of (old ++ used ∷ []) ≡ both_counts (sums_of old) used.counts
+push_sums old used =
+    same_counts (sums_of (old ++ used ∷ [])) (both_counts (sums_of old) used.counts)
+    (sum_by_push (λ u. u.counts.addresses) old used) (sum_by_push (λ u. u.counts.reserved) old used) (sum_by_push (λ u. u.counts.bound) old used)
+    (sum_by_push (λ u. u.counts.offered) old used) (sum_by_push (λ u. u.counts.declined) old used) (sum_by_push (λ u. u.counts.ended) old used)
+    (sum_by_push (λ u. u.counts.unused) old used) (sum_by_push (λ u. u.counts.free) old used)
+
+-- the sums with it
+pub next_sums : (old new : List PoolUse) (used : PoolUse) (counts both : Counts) → counts ≡ sums_of old → new ≡ old ++ used ∷ [] → both ≡ both_counts counts used.counts
+    → both ≡ sums_of new
+next_sums old new used counts both before put together =
+    together ∙ ap (λ (c : Counts). both_counts c used.counts) before ∙ sym (ap sums_of put ∙ push_sums old used)
+
+-- and how great they are at most
+pub next_most : (i : ℕ) (counts here both : Counts) → IsAtMost (65536 * i) counts → IsAtMost 65536 here → both ≡ both_counts counts here → IsAtMost (65536 * (i + 1)) both
+next_most i counts here both many few together = rw together (record {
+  addresses = omega (arith, many.addresses, few.addresses);
+  reserved = omega (arith, many.reserved, few.reserved);
+  bound = omega (arith, many.bound, few.bound);
+  offered = omega (arith, many.offered, few.offered);
+  declined = omega (arith, many.declined, few.declined);
+  ended = omega (arith, many.ended, few.ended);
+  unused = omega (arith, many.unused, few.unused);
+  free = omega (arith, many.free, few.free);
+})
 
 -- all pools of a subnet make its use
 pub whole_subnet : (reserved : ℕ → Bool) (rows : List Row) (now : ℕ) (subnet : Subnet) (pools : List PoolUse) (counts : Counts) (used : UseOfSubnet) (i : ℕ)
