@@ -1,2 +1,4 @@
+pub mod Imported
 pub mod Opened
+pub mod Risen
 pub mod Told

@@ -1,6 +1,6 @@
 -- What an import does: the table that the lines on standard input stand for is put into a store
 -- without leases, in one commit.
-use Rattle.std.specs.Prelude.{◌≡◌, ◌≢◌, ◌⊎◌, ◌<◌, ℕ, true, List, [], Option, Some, Result, Ok, Err, Unit, length}
+use Rattle.std.specs.Prelude.{◌≡◌, ◌≢◌, ◌⊎◌, ◌<◌, ℕ, true, List, [], Some, Result, Ok, Err, length}
 use Rattle.kd_import.specs.Import.{IsBadLine, IsTable}
 use Rattle.kd_keeps.specs.Fault.{store_fault_number}
 use Rattle.kd_keeps.specs.Moves.{MovesTable}
@@ -24,6 +24,16 @@ EndsImport (Ok done) status old new = (status ≡ 0) × (new ≡ old)
 EndsImport (Err fault) status old new =
     TellsWith (store_fault_number fault) (status_of (store_fault_number fault)) status old new
 
+-- the first bad line of a text is told: it is no lease's, or has the address of one before
+abbrev pub TellsBadLine : List ℕ → ℕ → Stream → Stream → Type 0
+TellsBadLine text status old new =
+    (number : ℕ) × IsBadLine text number × TellsWith 97 (status_of 97) status old new
+
+-- the input is not read, or is too long, which is told
+pub record IsUnread (status : ℕ) (old new : Streams) : Type 0 where
+  pub why : (new.input.failed ≡ true) ⊎ Reads (λ text. most_imported < length text) old.input
+  pub told : Tells 94 status old new
+
 -- over a store of leases
 module _ {S : Type 0} (g : Ghosts S) where
   -- a store that stood at the empty table is moved to this one, in one commit
@@ -35,29 +45,34 @@ module _ {S : Type 0} (g : Ghosts S) where
         → MovesTable (g.stands back) (g.leaves back) (g.is_open back) [] table result
     pub ends : EndsImport result status old new
 
-  -- the input stands for a table, and a store is moved to it
-  pub record Restores (store back : S) (status : ℕ) (old new : Streams) : Type 0 where
-    pub table : List Row
-    pub lines : Reads (λ text. IsTable text table) old.input
-    pub moved : IsMoved table store back status old.faults new.faults
+  -- a text stands for a table, and a store is moved to it
+  abbrev pub Restores : List ℕ → S → S → ℕ → Stream → Stream → Type 0
+  Restores text store back status old new =
+      (table : List Row) × IsTable text table × IsMoved table store back status old new
+
+  -- what an import of a text does: a store is moved to its table; or it stays as it is, and the first
+  -- bad line is told, or want of memory
+  abbrev pub ImportsText : List ℕ → S → S → ℕ → Stream → Stream → Type 0
+  ImportsText text store back status old new =
+      Restores text store back status old new
+      ⊎ ((back ≡ store) × (TellsBadLine text status old new
+      ⊎ TellsWith 91 (status_of 91) status old new))
+
+  -- the text of the input is imported
+  pub record ImportsInput (store back : S) (status : ℕ) (old new : Streams) : Type 0 where
+    pub text : List ℕ
+    pub whole : Reads (λ all. text ≡ all) old.input
+    pub imports : ImportsText text store back status old.faults new.faults
     pub quiet : new.output ≡ old.output
 
-  -- a line of the input is no lease's, or has the address of one before, which is told
-  pub record HasBadLine (status : ℕ) (old new : Streams) : Type 0 where
-    pub number : ℕ
-    pub bad : Reads (λ text. IsBadLine text number) old.input
-    pub told : Tells 97 status old new
+  -- the input is imported, or it is told why it was not read
+  abbrev pub ImportsIfRead : S → S → ℕ → Streams → Streams → Type 0
+  ImportsIfRead store back status old new =
+      ImportsInput store back status old new
+      ⊎ ((back ≡ store) × (IsUnread status old new ⊎ Tells 91 status old new))
 
-  -- the input is not read, or is too long, which is told
-  pub record IsUnread (status : ℕ) (old new : Streams) : Type 0 where
-    pub why : (new.input.failed ≡ true) ⊎ Reads (λ text. most_imported < length text) old.input
-    pub told : Tells 94 status old new
-
-  -- what an import does with a store that has these rows: where it has any it is left alone, and so
-  -- it is where the input is refused
+  -- what an import does with a store that has these rows: where it has any it is left alone
   abbrev pub ImportsInto : List Row → S → S → ℕ → Streams → Streams → Type 0
   ImportsInto rows store back status old new =
-      ((rows ≡ []) × Restores store back status old new)
-      ⊎ ((back ≡ store)
-      × (((rows ≢ []) × Tells 83 status old new)
-      ⊎ (HasBadLine status old new ⊎ (IsUnread status old new ⊎ Tells 91 status old new))))
+      ((rows ≢ []) × (back ≡ store) × Tells 83 status old new)
+      ⊎ ((rows ≡ []) × ImportsIfRead store back status old new)

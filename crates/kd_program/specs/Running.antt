@@ -1,5 +1,5 @@
 -- What the words of a command line do: what is written, and the exit status.
-use Rattle.std.specs.Prelude.{◌≡◌, ◌⊎◌, ℕ, false, true, IfOk, List, Option, Some, None, Result, Ok, Err, MatchResult, is_some, option_map, string_bytes}
+use Rattle.std.specs.Prelude.{◌≡◌, ◌⊎◌, ℕ, false, true, IfOk, List, Option, Some, None, Result, Ok, Err, is_some, option_map, string_bytes}
 use Rattle.std.specs.Result.{IsErrOf}
 use Rattle.kd_tools.specs.Printed.{Answers}
 use Rattle.kd_tools.specs.Status.{replay_status_of, serve_status_of}

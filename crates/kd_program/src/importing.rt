@@ -1,6 +1,6 @@
 ghost use Rattle.std.specs.Prelude.{◌≡◌, false, is_some};
 ghost use Rattle.std.specs.List.{All};
-ghost use Rattle.kd_program.specs.Importing.{ImportsInto, IsMoved};
+ghost use Rattle.kd_program.specs.Importing.{ImportsIfRead, ImportsInto, ImportsText, IsMoved};
 ghost use Rattle.kd_program.specs.Running.{Imports};
 ghost use Rattle.kd_program.specs.Streams.{streams, written_to};
 ghost use Rattle.kd_rows.specs.Row.{IsInRange};
@@ -41,7 +41,8 @@ pub fn import<H: Host, R: Source, O: Sink, E: Sink>(
     ends: &mut Ends<R, O, E>,
     path: &str,
 ) -> u8
-    ensures { Imports H.Host H.Named.Keeps path.now host.old host.new result
+    ensures { Imports H.Host H.Named.Keeps H.Unnamed.Keeps H.Socket.Link H.Journal.Sink
+        path.now host.old host.new result
         (streams R.Source O.Sink E.Sink ends.old) (streams R.Source O.Sink E.Sink ends.new) }
 {
     match host.named_store(path) {
@@ -65,16 +66,38 @@ fn import_into<R: Source, O: Sink, E: Sink, S: Keeps>(
     ensures { ImportsInto S.Keeps rows.now store.old store.new result
         (streams R.Source O.Sink E.Sink ends.old) (streams R.Source O.Sink E.Sink ends.new) }
 {
-    if !rows.is_empty() {
-        return refuse(alloc, &mut ends.faults, NOT_EMPTY, &NotEmpty);
+    if rows.is_empty() {
+        import_input(alloc, ends, store)
+    } else {
+        refuse(alloc, &mut ends.faults, NOT_EMPTY, &NotEmpty)
     }
-    let text = match read_source(alloc, &mut ends.input, MOST_BYTES) {
-        Ok(text) => text,
-        Err(fault) => return refuse(alloc, &mut ends.faults, fault.number(), &fault),
-    };
-    match leases_in(alloc, &text) {
-        Ok(table) => restore(alloc, &mut ends.faults, store, &table),
+}
+
+// Imports what is on standard input into a store.
+fn import_input<R: Source, O: Sink, E: Sink, S: Keeps>(
+    alloc: Global,
+    ends: &mut Ends<R, O, E>,
+    store: &mut S,
+) -> u8
+    requires works { is_some (S.fault store.old) ≡ false }
+    ensures { ImportsIfRead S.Keeps store.old store.new result
+        (streams R.Source O.Sink E.Sink ends.old) (streams R.Source O.Sink E.Sink ends.new) }
+{
+    match read_source(alloc, &mut ends.input, MOST_BYTES) {
+        Ok(text) => import_text(alloc, &mut ends.faults, store, &text),
         Err(fault) => refuse(alloc, &mut ends.faults, fault.number(), &fault),
+    }
+}
+
+// Imports a text into a store.
+fn import_text<E: Sink, S: Keeps>(alloc: Global, faults: &mut E, store: &mut S, text: &[u8]) -> u8
+    requires works { is_some (S.fault store.old) ≡ false }
+    ensures { ImportsText S.Keeps text.now store.old store.new result
+        (written_to E.Sink faults.old) (written_to E.Sink faults.new) }
+{
+    match leases_in(alloc, text) {
+        Ok(table) => restore(alloc, faults, store, &table),
+        Err(fault) => refuse(alloc, faults, fault.number(), &fault),
     }
 }
 

@@ -34,10 +34,10 @@ pub fn list<R: Source, O: Sink, E: Sink>(
     alloc: Global,
     ends: &mut Ends<R, O, E>,
     listing: Listing,
-    table: Table<'_>,
+    table: &Table<'_>,
     at: u64,
 ) -> u8
-    ensures { Lists listing table.failed table.config.now table.rows.now.rows at result
+    ensures { Lists listing table.now.failed table.now.config.now table.now.rows.now.rows at result
         (streams R.Source O.Sink E.Sink ends.old) (streams R.Source O.Sink E.Sink ends.new) }
 {
     match text_of(alloc, listing, table, at) {
@@ -47,10 +47,15 @@ pub fn list<R: Source, O: Sink, E: Sink>(
 }
 
 // What a listing says of a table at a moment.
-fn text_of(alloc: Global, listing: Listing, table: Table<'_>, at: u64) -> Result<String, ServeFault>
+fn text_of(
+    alloc: Global,
+    listing: Listing,
+    table: &Table<'_>,
+    at: u64,
+) -> Result<String, ServeFault>
     ensures text { IfOk result (λ text. string_bytes text
-        ≡ listing_text listing table.config.now table.rows.now.rows at) }
-    ensures fault { IfErr result (IsNoList table.failed at) }
+        ≡ listing_text listing table.now.config.now table.now.rows.now.rows at) }
+    ensures fault { IfErr result (IsNoList table.now.failed at) }
 {
     match listing {
         Listing::Leases => {
@@ -63,11 +68,12 @@ fn text_of(alloc: Global, listing: Listing, table: Table<'_>, at: u64) -> Result
 }
 
 // How full the pools are at a moment.
-fn uses_at(alloc: Global, table: Table<'_>, at: u64) -> Result<Vec<SubnetUse>, ServeFault>
+fn uses_at(alloc: Global, table: &Table<'_>, at: u64) -> Result<Vec<SubnetUse>, ServeFault>
     ensures uses { IfOk result (λ list. list.items
-        ≡ subnet_uses table.config.now table.rows.now.rows (max at (latest_of table.rows.now.rows))) }
-    ensures works { IfOk result (λ list. (table.failed ≡ false) × (at < 2 ^ 40)) }
-    ensures fault { IfErr result (IsNoList table.failed at) }
+        ≡ subnet_uses table.now.config.now table.now.rows.now.rows
+        (max at (latest_of table.now.rows.now.rows))) }
+    ensures works { IfOk result (λ list. (table.now.failed ≡ false) × (at < 2 ^ 40)) }
+    ensures fault { IfErr result (IsNoList table.now.failed at) }
 {
     if table.failed {
         return Err(ServeFault::Failed);

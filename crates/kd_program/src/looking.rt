@@ -28,7 +28,8 @@ pub fn look<H: Host, R: Source, O: Sink, E: Sink>(
     listing: Listing,
     at: u64,
 ) -> u8
-    ensures { Looks H.Host files.now path.now listing at host.old host.new result
+    ensures { Looks H.Host H.Named.Keeps H.Unnamed.Keeps H.Socket.Link H.Journal.Sink
+        files.now path.now listing at host.old host.new result
         (streams R.Source O.Sink E.Sink ends.old) (streams R.Source O.Sink E.Sink ends.new) }
 {
     match configured(host, files) {
@@ -47,9 +48,11 @@ fn look_at<H: Host, R: Source, O: Sink, E: Sink>(
     listing: Listing,
     at: u64,
 ) -> u8
-    ensures { ListsCopy H.Host path.now listing config.now at host.old host.new result
+    ensures { ListsCopy H.Host H.Named.Keeps H.Unnamed.Keeps H.Socket.Link H.Journal.Sink
+        path.now listing config.now at host.old host.new result
         (streams R.Source O.Sink E.Sink ends.old) (streams R.Source O.Sink E.Sink ends.new)
-        ⊎ HasNoCopy H.Host path.now host.old host.new result
+        ⊎ HasNoCopy H.Host H.Named.Keeps H.Unnamed.Keeps H.Socket.Link H.Journal.Sink
+        path.now host.old host.new result
         (streams R.Source O.Sink E.Sink ends.old) (streams R.Source O.Sink E.Sink ends.new) }
 {
     match host.copy(path) {
@@ -81,7 +84,7 @@ fn list_rows<R: Source, O: Sink, E: Sink>(
                 rows: &rows,
                 failed: false,
             };
-            list(alloc, ends, listing, table, at)
+            list(alloc, ends, listing, &table, at)
         }
         Err(_) => refuse_memory(&mut ends.faults),
     }

@@ -196,7 +196,7 @@ fn worked<H: Host, R: Source, O: Sink, E: Sink, S: Keeps>(
 {
     match work {
         Work::Replay => replayed(alloc, ends, server),
-        Work::List(listing, at) => list(alloc, ends, *listing, table_of(server), *at),
+        Work::List(listing, at) => list(alloc, ends, *listing, &table_of(server), *at),
         Work::Serve(listening, count, journal) => {
             let banner = Banner {
                 listening: *listening,

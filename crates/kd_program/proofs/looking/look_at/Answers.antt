@@ -1,0 +1,11 @@
+use Rattle.std.proofs.Common.{refl, inr}
+use Rattle.kd_program.specs.Streams.{written_to}
+use Rattle.kd_program.proofs.Told.{told_own}
+use Rattle.kd_program.proofs.looking.look_at.Goals as goal
+
+pub returns-in-Err : goal.returns-in-Err
+returns-in-Err g c = inr (record {
+  fault = c.in-Err.fault;
+  given = c.in-Err.ensures.given;
+  told = (refl, told_own _ _ _ (written_to g.E.Sink c.args.ends.now.faults) _ c.number.ensures c.refuse.ensures);
+})

@@ -1,7 +1,0 @@
-use Rattle.std.proofs.Common.{refl, inl, inr}
-use Rattle.kd_program.specs.Streams.{written_to}
-use Rattle.kd_program.proofs.Told.{told_own}
-use Rattle.kd_program.proofs.serving.listed.Goals as goal
-
-pub returns-in-Err : goal.returns-in-Err
-returns-in-Err g c = inr (inl (c.in-Err.fault, c.in-Err.ensures.failed, (refl, told_own _ _ _ (written_to g.E.Sink c.args.ends.now.faults) _ c.number.ensures c.refuse.ensures)))
