@@ -8,7 +8,6 @@ use Rattle.kd_import.proofs.table.put_row.Goals as goal
 pub returns : goal.returns
 returns c = λ rows is.
     let row = c.args.row in
-    let e = c.in_ok-insert.ensures in (
-      e.entries ∙ ap (λ es. insert_entry nat_cmp es row.address row) is ∙ put_by_address row rows,
-      c.is_some.ensures ∙ ap is_some (e.old ∙ ap (lookup (is_at (nat_cmp row.address))) is ∙ found_by_address row.address rows),
-    )
+    let e = c.in_ok-insert.ensures in
+    let had = ap is_some (e.old ∙ ap (lookup (is_at (nat_cmp row.address))) is ∙ found_by_address row.address rows) in
+    (e.entries ∙ ap (λ es. insert_entry nat_cmp es row.address row) is ∙ put_by_address row rows, cc had)
