@@ -1,5 +1,5 @@
 //! Tests of what meets the host: rows and whole servers over a file that is closed and opened again
-//! by its path, more rows than any block of them, the record of what came, replies over sockets, and
+//! by its path or looked at while it is open, more rows than any block of them, the record of what came, replies over sockets, and
 //! the host's clock.
 //!
 //! They are a crate of their own since a crate is proved once more with its tests.
@@ -13,6 +13,8 @@ mod datagrams;
 mod files;
 #[cfg(test)]
 mod leased;
+#[cfg(test)]
+mod looks;
 #[cfg(test)]
 mod many;
 #[cfg(test)]

@@ -1,4 +1,6 @@
 use crate::files::{Steps, expect, over_file, put, remove};
+use kd_database::rows_in;
+use kd_io::copy_at;
 use kd_keeps::{Keeps, Opened};
 use kd_rows::{Row, State};
 use kd_wire::Bytes;
@@ -108,10 +110,22 @@ fn is_own(rt: &HostRuntime, path: &str) -> Result<bool, Fail> {
     Ok(fs::metadata(rt, path)?.permissions().mode() & 0o777 == 0o600)
 }
 
-// Fills a store that has no rows.
-fn fill<S: Keeps>(alloc: Global, store: &mut S, rows: &[Row]) -> Result<(), Fail> {
+// The rows of the file, which a store has open.
+fn look(rt: &HostRuntime) -> Result<Vec<Row>, Fail> {
+    let copy = copy_at(rt, "rows.db")?;
+    Ok(rows_in(rt.alloc(), copy.log.as_slice(), copy.db.as_slice())?)
+}
+
+// Fills a store that has no rows, and looks at it before and after.
+fn fill<S: Keeps>(rt: &HostRuntime, store: &mut S, rows: &[Row]) -> Result<(), Fail> {
+    let alloc = rt.alloc();
     expect(rows.is_empty(), "a new file has rows")?;
-    put_all(alloc, store)
+    expect(look(rt)?.is_empty(), "a look finds rows in a new file")?;
+    put_all(alloc, store)?;
+    expect(
+        are_all(alloc, &look(rt)?)?,
+        "a look does not find the rows that were put",
+    )
 }
 
 // Finds all rows in a store, whose file and its log are for their user alone.
@@ -140,7 +154,7 @@ impl Steps for Step {
         let Opened { mut store, rows } = opened;
         let rows = rows.as_slice();
         let result = match self {
-            Step::Fill => fill(rt.alloc(), &mut store, rows),
+            Step::Fill => fill(rt, &mut store, rows),
             Step::Find => find(rt, rows),
             Step::FindNone => expect(rows.is_empty(), "another file has rows"),
         };
