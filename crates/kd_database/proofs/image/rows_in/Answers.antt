@@ -30,5 +30,5 @@ returns-clause-held c =
     let same = same_image c.in-Ok.log.bytes.items c.args.log.now c.in-Ok-file_of.db.bytes.items c.args.db.now c.in-Ok.ensures.bytes c.in-Ok-file_of.ensures.bytes in
     let image = bytes_image c.in-Ok.log.bytes.items c.in-Ok-file_of.db.bytes.items in
     let held = IfOk-weaker c.rows_on.result _ (λ rows. AreRowsIn image rows.items)
-        (λ rows over. held_rows {D = Memory} {g = ghosts} _ image rows.items memory_is_clean (λ store clean. clean) (λ store table at. at) over) c.rows_on.ensures.over in
+    (λ rows over. held_rows {D = Memory} {g = ghosts} _ image rows.items memory_is_clean (λ store clean. clean) (λ store table at. at) over) c.rows_on.ensures.over in
     IfOk-weaker c.rows_on.result (λ rows. AreRowsIn image rows.items) _ (λ rows it. subst (λ im. AreRowsIn im rows.items) same it) held
