@@ -42,8 +42,8 @@ IsOfHanded below (Some (Ok socket)) result = IfOk result (λ link. below link �
 IsOfHanded below (Some (Err fault)) result = result ≡ Err fault
 
 -- rows are those in the bytes of a database and of its log
-abbrev pub IsFound : List Row → Type 0
-IsFound rows = (log db : List ℕ) × AreRowsIn (bytes_image log db) rows
+abbrev pub AreRowsFound : List Row → Type 0
+AreRowsFound rows = (log db : List ℕ) × AreRowsIn (bytes_image log db) rows
 
 -- the order for a work over files
 abbrev pub order_of : Files → Work → Order

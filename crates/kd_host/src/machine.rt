@@ -56,7 +56,7 @@ impl<'a, F: Start> Host for Machine<'a, F, Below<F>> {
     ghost use Rattle.kd_database.specs.Stops.{LiesBelow};
     ghost use Rattle.kd_database.specs.Stores.{IsStoreIn, StandsAsHeld};
     ghost use Rattle.kd_io.specs.Start.{IsOfFiles};
-    ghost use Rattle.kd_host.specs.OnFiles.{IsFound, IsOfHanded, sending_of};
+    ghost use Rattle.kd_host.specs.OnFiles.{AreRowsFound, IsOfHanded, sending_of};
 
     type Named = Store<Below<F>>;
 
@@ -78,7 +78,7 @@ impl<'a, F: Start> Host for Machine<'a, F, Below<F>> {
     ghost closes = { λ old path store new.
         (it : _) × (new.left ≡ Some it) × (IsClean (view it) → LiesBelow store.conn it) };
 
-    ghost copies = { λ old path result new. IfOk result IsFound };
+    ghost copies = { λ old path result new. IfOk result AreRowsFound };
 
     ghost binds = { λ old listening result new.
         IfOk result (λ link. link.sending ≡ sending_of listening)

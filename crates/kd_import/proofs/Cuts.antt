@@ -6,9 +6,9 @@ use Rattle.memchr.specs.Find.{IsFirstByte, is_byte}
 use Rattle.kd_replay.specs.Finding.{HasNo}
 use Rattle.kd_replay.specs.Lines.{lines_of}
 use Rattle.kd_replay.proofs.Looking.{lines_line, plain_all, plain_front, split_first}
-use Rattle.kd_import.specs.Parts.{IsCut}
+use Rattle.kd_import.specs.Parts.{IsSplitAt}
 
-pub cut_at : (byte : ℕ) (text : List ℕ) (at : ℕ) → IsFirstByte (is_byte byte) text (Some at) → IsCut byte text (take at text) (take (length text - (at + 1)) (drop (at + 1) text))
+pub cut_at : (byte : ℕ) (text : List ℕ) (at : ℕ) → IsFirstByte (is_byte byte) text (Some at) → IsSplitAt byte text (take at text) (take (length text - (at + 1)) (drop (at + 1) text))
 cut_at byte text at is =
     let all = take_all (length text - (at + 1)) (drop (at + 1) text) (omega (arith, length-drop (at + 1) text)) in
     record {
@@ -16,7 +16,7 @@ cut_at byte text at is =
       parts = inl (split_first byte text at is.0.high is.1 ∙ ap (λ r. take at text ++ byte ∷ r) (sym all));
     }
 
-pub cut_none : (byte : ℕ) (text front back : List ℕ) → IsFirstByte (is_byte byte) text None → front ≡ take (length text) text → back ≡ drop (length text) text → IsCut byte text front back
+pub cut_none : (byte : ℕ) (text front back : List ℕ) → IsFirstByte (is_byte byte) text None → front ≡ take (length text) text → back ≡ drop (length text) text → IsSplitAt byte text front back
 cut_none byte text front back is first last =
     let same : front ≡ text = first ∙ take_all (length text) text (omega arith) in
     record {
@@ -39,7 +39,7 @@ one_split byte (x ∷ xs) ys (x' ∷ xs') ys' p p' e =
     (cc (head, rest.0), rest.1)
 
 -- a text is cut where it has the byte after a text without it
-pub cut_is : {byte : ℕ} {text front back : List ℕ} → IsCut byte text front back → (xs ys : List ℕ) → HasNo byte xs → text ≡ xs ++ byte ∷ ys → (front ≡ xs) × (back ≡ ys)
+pub cut_is : {byte : ℕ} {text front back : List ℕ} → IsSplitAt byte text front back → (xs ys : List ℕ) → HasNo byte xs → text ≡ xs ++ byte ∷ ys → (front ≡ xs) × (back ≡ ys)
 cut_is {byte} {text} {front} {back} cut xs ys plain whole = by cut.parts
   where
     by : (text ≡ front ++ byte ∷ back) ⊎ ((text ≡ front) × (back ≡ [])) → (front ≡ xs) × (back ≡ ys)
@@ -55,7 +55,7 @@ line_last [] some plain = absurd (omega arith)
 line_last (b ∷ text) some plain = lines_last b text plain
 
 -- what is cut at a line feed is the first line and the later ones
-pub cut_lines : {text front back : List ℕ} → IsCut 10 text front back → 0 < length text → (lines_of text ≡ front ∷ lines_of back) × (length back < length text)
+pub cut_lines : {text front back : List ℕ} → IsSplitAt 10 text front back → 0 < length text → (lines_of text ≡ front ∷ lines_of back) × (length back < length text)
 cut_lines {text} {front} {back} cut some = by cut.parts
   where
     by : (text ≡ front ++ 10 ∷ back) ⊎ ((text ≡ front) × (back ≡ [])) → (lines_of text ≡ front ∷ lines_of back) × (length back < length text)

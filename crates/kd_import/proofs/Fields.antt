@@ -7,7 +7,7 @@ use Rattle.std.proofs.lemmas.Str.{IsUtf8-from_ascii}
 use Rattle.hex.specs.Hex.{IsBytes, decode_of, lower_digits}
 use Rattle.hex.proofs.HexLemmas.{decode_of-encode_lower, decode_of-same, length-encode_with}
 use Rattle.kd_replay.specs.Text.{address_text, bytes_text}
-use Rattle.kd_import.specs.Parts.{IsCut}
+use Rattle.kd_import.specs.Parts.{IsSplitAt}
 use Rattle.kd_import.proofs.Cuts.{cut_is}
 use Rattle.kd_import.proofs.Plain.{decimal_plain}
 
@@ -30,7 +30,7 @@ address_is : (a : ℕ) → a < 2 ^ 32 → a / 2 ^ 24 * 16777216 + a / 2 ^ 16 % 2
 address_is a small = omega (arith, small)
 
 -- an address cut at its dots has its four bytes
-pub bytes_of_address : {word first r1 second r2 third last : List ℕ} → IsCut 46 word first r1 → IsCut 46 r1 second r2 → IsCut 46 r2 third last → (a : ℕ) → a < 2 ^ 32 → word ≡ address_text a
+pub bytes_of_address : {word first r1 second r2 third last : List ℕ} → IsSplitAt 46 word first r1 → IsSplitAt 46 r1 second r2 → IsSplitAt 46 r2 third last → (a : ℕ) → a < 2 ^ 32 → word ≡ address_text a
     → (first ≡ decimal (a / 2 ^ 24)) × (second ≡ decimal (a / 2 ^ 16 % 256)) × (third ≡ decimal (a / 2 ^ 8 % 256)) × (last ≡ decimal (a % 256))
 bytes_of_address k1 k2 k3 a small is =
     let d1 = decimal (a / 2 ^ 24) in

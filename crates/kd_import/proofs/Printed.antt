@@ -10,7 +10,7 @@ use Rattle.kd_rows.specs.declared.row.Row.{Row}
 use Rattle.kd_server.specs.Leases.{lease_line, word_of_live, word_of_state}
 use Rattle.kd_server.specs.declared.leases.Lease.{Lease}
 use Rattle.kd_import.specs.Import.{IsLeaseLine, IsStorable}
-use Rattle.kd_import.specs.Parts.{AreWords, IsCut}
+use Rattle.kd_import.specs.Parts.{AreWords, IsSplitAt}
 use Rattle.kd_import.specs.declared.words.Words.{Words}
 use Rattle.kd_import.proofs.Cuts.{cut_is}
 use Rattle.kd_import.proofs.Plain.{address_plain, bytes_plain, changed_spaceless, decimal_plain, ends_spaceless, live_plain, state_plain, state_spaceless}
@@ -52,8 +52,8 @@ ends_small : (row : Row) → IsInRange row → row.ends < 2 ^ 64
 ends_small row range = let h = range.set_at in let g = range.last in omega (arith, h, g)
 
 -- a line cut at its first seven spaces has the words of its lease
-pub words_are : (words : Words) (line r1 r2 r3 r4 r5 r6 fourth sixth : List ℕ) → IsCut 32 line words.address.now r1 → IsCut 32 r1 words.state.now r2 → IsCut 32 r2 words.client.now r3 → IsCut 32 r3 fourth r4
-    → IsCut 32 r4 words.changed.now r5 → IsCut 32 r5 sixth r6 → IsCut 32 r6 words.ends.now words.live.now → (lease : Lease) → IsLeaseLine line lease → AreWords words lease
+pub words_are : (words : Words) (line r1 r2 r3 r4 r5 r6 fourth sixth : List ℕ) → IsSplitAt 32 line words.address.now r1 → IsSplitAt 32 r1 words.state.now r2 → IsSplitAt 32 r2 words.client.now r3 → IsSplitAt 32 r3 fourth r4
+    → IsSplitAt 32 r4 words.changed.now r5 → IsSplitAt 32 r5 sixth r6 → IsSplitAt 32 r6 words.ends.now words.live.now → (lease : Lease) → IsLeaseLine line lease → AreWords words lease
 words_are words line r1 r2 r3 r4 r5 r6 fourth sixth k1 k2 k3 k4 k5 k6 k7 lease is =
     let row = lease.row in
     let p1 = cut_is k1 (address_text row.address) (word_of_state row.state ++ 32 ∷ after_state lease) (address_plain 32 row.address (omega arith) is.storable.address) (body_of_line line lease is) in

@@ -10,7 +10,7 @@ use Rattle.kd_import.specs.Import.{IsStorable}
 use Rattle.kd_import.specs.declared.words.Words.{Words}
 
 -- a text is cut at the first of a byte, or stays whole where it has none
-pub record IsCut (byte : ℕ) (text front back : List ℕ) : Type 0 where
+pub record IsSplitAt (byte : ℕ) (text front back : List ℕ) : Type 0 where
   pub plain : HasNo byte front
   pub parts : (text ≡ front ++ byte ∷ back) ⊎ ((text ≡ front) × (back ≡ []))
 

@@ -1,12 +1,12 @@
 ghost use Rattle.std.specs.Prelude.{◌≡◌, ◌<◌, ◌∷◌, [], MatchOption, length};
 ghost use Rattle.kd_replay.specs.Lines.{lines_of};
-ghost use Rattle.kd_import.specs.Parts.{IsCut};
+ghost use Rattle.kd_import.specs.Parts.{IsSplitAt};
 
 use memchr::memchr;
 
 // What stands before the first of a byte, and after it; without that byte, all and nothing.
 pub(crate) fn cut(text: &[u8], byte: u8) -> (&[u8], &[u8])
-    ensures { IsCut byte text.now result.0.now result.1.now }
+    ensures { IsSplitAt byte text.now result.0.now result.1.now }
 {
     match memchr(byte, text) {
         Some(at) => (&text[..at], &text[at + 1..]),

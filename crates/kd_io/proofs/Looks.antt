@@ -1,7 +1,7 @@
 -- What was read, part after part.
 use Rattle.std.proofs.Common.{◌≡◌, ℕ, ◌+◌, List, [], ◌∷◌, ◌++◌, Option, None, Some, suc, refl, sym, ap, subst, ◌∙◌, arith}
 use Rattle.std.proofs.lemmas.List.{append_assoc, append-nil}
-use Rattle.kd_io.specs.Looking.{AreChanged, AreReadAs, IsReadAs, IsSettled, IsTry, IsUnsettled, one_try}
+use Rattle.kd_io.specs.Looking.{AreChanged, AreReadAs, IsReadAs, IsSettledCopy, IsTry, IsUnsettled, one_try}
 use Rattle.kd_io.specs.declared.look.Copied.{Copied}
 use Rattle.kd_io.specs.declared.look.Part.{Part}
 use Rattle.kd_io.specs.declared.look.Part.TheVariants.{Header, Database, Log}
@@ -36,7 +36,7 @@ once_more n a b c before try =
     }
 
 -- and one at which it stayed the same
-pub settled : (n : ℕ) (copy : Copied) (a b c : Option (List Part)) → IsUnsettled n a b → IsTry (Some copy) b c → IsSettled copy.log copy.db a c
+pub settled : (n : ℕ) (copy : Copied) (a b c : Option (List Part)) → IsUnsettled n a b → IsTry (Some copy) b c → IsSettledCopy copy.log copy.db a c
 settled n copy a b c before try =
     record {
       tries = n;

@@ -32,7 +32,7 @@ AreChanged (suc n) parts =
 
 -- a log and a database were read at a try at which the header stayed the same, behind others at which
 -- it changed
-pub record IsSettled (log db : List ℕ) (old new : Option (List Part)) : Type 0 where
+pub record IsSettledCopy (log db : List ℕ) (old new : Option (List Part)) : Type 0 where
   pub tries : ℕ
   pub parts : List Part
   pub changed : AreChanged tries parts

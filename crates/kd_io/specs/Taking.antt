@@ -3,7 +3,7 @@ use Rattle.std.specs.Prelude.{◌≡◌, ◌<◌, ℕ, Bool, true, false, List, 
 use Rattle.std.specs.Io.KnownBytes.{Consumes, IsAtEnd}
 
 -- a text grows by a part that is read of what is left; there is none only at the end
-pub record TakesPart (more : Bool) (left rest : Option (List ℕ)) (old new : List ℕ) : Type 0 where
+pub record GrowsByPart (more : Bool) (left rest : Option (List ℕ)) (old new : List ℕ) : Type 0 where
   pub part : List ℕ
   pub read : Consumes left rest part
   pub grows : new ≡ old ++ part

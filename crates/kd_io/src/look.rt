@@ -1,6 +1,6 @@
 ghost use Rattle.std.specs.Prelude.{◌≡◌, Err, IfOk};
 ghost use Rattle.kd_io.specs.Faults.{look_fault_number};
-ghost use Rattle.kd_io.specs.Looking.{IsSettled, IsUnsettled, IsTry, most_tries};
+ghost use Rattle.kd_io.specs.Looking.{IsSettledCopy, IsUnsettled, IsTry, most_tries};
 ghost use Rattle.kd_io.specs.declared.look.LookFault.TheVariants as faults;
 
 use crate::files::InputFault;
@@ -124,7 +124,7 @@ const TRIES: u32 = 100;
 #[tactic(auto, using(crate::proofs::Looks::none_yet, crate::proofs::Looks::once_more, crate::proofs::Looks::settled))]
 pub fn settled_copy<W: Watched>(files: &mut W) -> Result<Copied, LookFault>
     ensures copied { IfOk result (λ copy.
-        IsSettled copy.log copy.db (W.trace files.old) (W.trace files.new)) }
+        IsSettledCopy copy.log copy.db (W.trace files.old) (W.trace files.new)) }
     ensures unsettled { result ≡ Err faults.Unsettled
         → IsUnsettled most_tries (W.trace files.old) (W.trace files.new) }
 {

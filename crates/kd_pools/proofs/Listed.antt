@@ -10,20 +10,20 @@ use Rattle.kd_config.specs.Configuration.{Configuration}
 use Rattle.kd_config.specs.declared.reservation.Reservation.{Reservation}
 use Rattle.kd_config.specs.declared.subnet.Subnet.{Subnet}
 use Rattle.kd_lease.specs.Choice.{reserved_anywhere, reserved_in}
-use Rattle.kd_pools.specs.Walking.{IsPlace, all_reserved, lists, subnet_reserved}
+use Rattle.kd_pools.specs.Walking.{IsPlaceFor, subnets_reserved, is_listed, subnet_reserved}
 
-in_subnet : (a : ℕ) (rs : List Reservation) → lists (map (λ r. r.address) rs) a ≡ list_any (λ r. r.address == a) rs
+in_subnet : (a : ℕ) (rs : List Reservation) → is_listed (map (λ r. r.address) rs) a ≡ list_any (λ r. r.address == a) rs
 in_subnet a [] = refl
 in_subnet a (r ∷ rs) = ap (λ b. (r.address == a) || b) (in_subnet a rs)
 
-in_subnets : (a : ℕ) (subnets : List Subnet) → lists (all_reserved subnets) a ≡ list_any (reserved_in a) subnets
+in_subnets : (a : ℕ) (subnets : List Subnet) → is_listed (subnets_reserved subnets) a ≡ list_any (reserved_in a) subnets
 in_subnets a [] = refl
 in_subnets a (s ∷ subnets) =
-    list_any-append (λ b. b == a) (subnet_reserved s) (all_reserved subnets) ∙ ap (λ b. b || lists (all_reserved subnets) a) (in_subnet a s.reservations)
+    list_any-append (λ b. b == a) (subnet_reserved s) (subnets_reserved subnets) ∙ ap (λ b. b || is_listed (subnets_reserved subnets) a) (in_subnet a s.reservations)
     ∙ ap (λ b. reserved_in a s || b) (in_subnets a subnets)
 
 -- the list of all reserved addresses has those that are reserved
-pub all_listed : (config : Configuration) (a : ℕ) → lists (all_reserved config.subnets) a ≡ reserved_anywhere config a
+pub all_listed : (config : Configuration) (a : ℕ) → is_listed (subnets_reserved config.subnets) a ≡ reserved_anywhere config a
 all_listed config a = in_subnets a config.subnets
 
 differs : (x a : ℕ) → x ≢ a → nat_eq x a ≡ false
@@ -33,20 +33,20 @@ differs x a h = by (eqb_tells x a) where
   by (inr f) = f.0
 
 -- a list without an address
-none_listed : (list : List ℕ) (a : ℕ) → ((i : ℕ) → i < length list → get_or list i 0 ≢ a) → lists list a ≡ false
-none_listed list a h = or_from_places (λ xs. lists xs a) (λ b. b == a) refl (λ x xs. refl) list 0 (λ i small. differs (get_or list i 0) a (h i small))
+none_listed : (list : List ℕ) (a : ℕ) → ((i : ℕ) → i < length list → get_or list i 0 ≢ a) → is_listed list a ≡ false
+none_listed list a h = or_from_places (λ xs. is_listed xs a) (λ b. b == a) refl (λ x xs. refl) list 0 (λ i small. differs (get_or list i 0) a (h i small))
 
 -- a rising list has an address where it stands at its place
-pub at_place : (list : List ℕ) (place a : ℕ) → IsNonDecreasing list → IsPlace list place a → place < length list → nat_eq (get_or list place 0) a ≡ lists list a
+pub at_place : (list : List ℕ) (place a : ℕ) → IsNonDecreasing list → IsPlaceFor list place a → place < length list → nat_eq (get_or list place 0) a ≡ is_listed list a
 at_place list place a rise is less = by (eqb_tells (get_or list place 0) a) where
   apart : get_or list place 0 ≢ a → (i : ℕ) → i < length list → get_or list i 0 ≡ a → (i < place) ⊎ (place ≤ i) → ⊥
   apart ne i small e (inl before) = omega (arith, is.below i before)
   apart ne i small e (inr behind) = ne (omega (arith, is.above place (omega arith) less, rise place i 0 behind small))
 
-  by : ((nat_eq (get_or list place 0) a ≡ true) × (get_or list place 0 ≡ a)) ⊎ ((nat_eq (get_or list place 0) a ≡ false) × (get_or list place 0 ≢ a)) → nat_eq (get_or list place 0) a ≡ lists list a
+  by : ((nat_eq (get_or list place 0) a ≡ true) × (get_or list place 0 ≡ a)) ⊎ ((nat_eq (get_or list place 0) a ≡ false) × (get_or list place 0 ≢ a)) → nat_eq (get_or list place 0) a ≡ is_listed list a
   by (inl t) = t.0 ∙ sym (list_any_at (λ b. b == a) list place 0 less t.0)
   by (inr f) = f.0 ∙ sym (none_listed list a (λ i small e. apart f.1 i small e (cases_lt i place)))
 
 -- and has none past its end
-pub past_place : (list : List ℕ) (place a : ℕ) → IsPlace list place a → length list ≤ place → lists list a ≡ false
+pub past_place : (list : List ℕ) (place a : ℕ) → IsPlaceFor list place a → length list ≤ place → is_listed list a ≡ false
 past_place list place a is past = none_listed list a (λ i small e. absurd (omega (arith, is.below i)))

@@ -8,7 +8,7 @@ use Rattle.kd_config.specs.declared.subnet.Subnet.{Subnet}
 use Rattle.kd_lease.specs.Choice.{reserved_anywhere}
 use Rattle.kd_rows.specs.declared.row.Row.{Row}
 use Rattle.kd_pools.specs.Uses.{UseOfSubnet, pool_use, subnet_use, subnet_uses, sums_of}
-use Rattle.kd_pools.specs.Walking.{IsAtMost, both_counts, lists}
+use Rattle.kd_pools.specs.Walking.{IsAtMost, both_counts, is_listed}
 use Rattle.kd_pools.specs.declared.counts.Counts.{Counts}
 use Rattle.kd_pools.specs.declared.uses.PoolUse.{PoolUse}
 use Rattle.kd_pools.proofs.Counting.{same_counts}
@@ -71,9 +71,9 @@ next_subnet reserved rows now subnets i subnet old new used less at before is pu
 
 -- the uses of all subnets, where a list has the addresses that are reserved
 pub whole_list : (list : List ℕ) (config : Configuration) (rows : List Row) (now : ℕ) (uses : List UseOfSubnet) (i : ℕ)
-    → ((a : ℕ) → lists list a ≡ reserved_anywhere config a) → uses ≡ map (subnet_use (lists list) rows now) (take i config.subnets) → length config.subnets ≤ i
+    → ((a : ℕ) → is_listed list a ≡ reserved_anywhere config a) → uses ≡ map (subnet_use (is_listed list) rows now) (take i config.subnets) → length config.subnets ≤ i
     → uses ≡ subnet_uses config rows now
 whole_list list config rows now uses i h each past =
-    let same : lists list ≡ reserved_anywhere config = λ j a. h a j in
-    each ∙ ap (map (subnet_use (lists list) rows now)) (take_all i config.subnets past)
+    let same : is_listed list ≡ reserved_anywhere config = λ j a. h a j in
+    each ∙ ap (map (subnet_use (is_listed list) rows now)) (take_all i config.subnets past)
     ∙ ap (λ (reserved : ℕ → Bool). map (subnet_use reserved rows now) config.subnets) same

@@ -38,8 +38,8 @@ abbrev pub free_at : (ℕ → Bool) → List Row → ℕ → ℕ → Bool
 free_at reserved rows now a = not (reserved a) && (unused_at rows a || ended_at rows now a)
 
 -- the addresses of a range, rising
-abbrev pub addresses_in : Range → List ℕ
-addresses_in range = range_with_len range.first (range.last - range.first + 1)
+abbrev pub addresses_of_range : Range → List ℕ
+addresses_of_range range = range_with_len range.first (range.last - range.first + 1)
 
 -- the counts of addresses at a moment, where these are reserved
 abbrev pub counts_of : (ℕ → Bool) → List Row → ℕ → List ℕ → Counts

@@ -8,7 +8,7 @@ use Rattle.kd_config.specs.declared.prefix.Prefix.{Prefix}
 use Rattle.kd_config.specs.declared.subnet.Subnet.{Subnet}
 use Rattle.kd_lease.specs.Choice.{reserved_anywhere}
 use Rattle.kd_rows.specs.declared.row.Row.{Row}
-use Rattle.kd_pools.specs.Counts.{addresses_in, counts_of}
+use Rattle.kd_pools.specs.Counts.{addresses_of_range, counts_of}
 use Rattle.kd_pools.specs.declared.counts.Counts.{Counts}
 use Rattle.kd_pools.specs.declared.uses.PoolUse.{PoolUse}
 
@@ -21,24 +21,24 @@ pub record UseOfSubnet : Type 0 where
 -- the use of a pool at a moment, where these addresses are reserved
 abbrev pub pool_use : (ℕ → Bool) → List Row → ℕ → Pool → PoolUse
 pool_use reserved rows now pool =
-    record { range = pool.range; counts = counts_of reserved rows now (addresses_in pool.range) }
+    record { range = pool.range; counts = counts_of reserved rows now (addresses_of_range pool.range) }
 
 -- the sum of one number of each pool
-abbrev pub sum_of : (Counts → ℕ) → List PoolUse → ℕ
-sum_of number pools = sum_by (λ pool. number pool.counts) pools
+abbrev pub sum_over : (Counts → ℕ) → List PoolUse → ℕ
+sum_over number pools = sum_by (λ pool. number pool.counts) pools
 
 -- the counts of pools together
 abbrev pub sums_of : List PoolUse → Counts
 sums_of pools =
     record {
-      addresses = sum_of (λ counts. counts.addresses) pools;
-      reserved = sum_of (λ counts. counts.reserved) pools;
-      bound = sum_of (λ counts. counts.bound) pools;
-      offered = sum_of (λ counts. counts.offered) pools;
-      declined = sum_of (λ counts. counts.declined) pools;
-      ended = sum_of (λ counts. counts.ended) pools;
-      unused = sum_of (λ counts. counts.unused) pools;
-      free = sum_of (λ counts. counts.free) pools;
+      addresses = sum_over (λ counts. counts.addresses) pools;
+      reserved = sum_over (λ counts. counts.reserved) pools;
+      bound = sum_over (λ counts. counts.bound) pools;
+      offered = sum_over (λ counts. counts.offered) pools;
+      declined = sum_over (λ counts. counts.declined) pools;
+      ended = sum_over (λ counts. counts.ended) pools;
+      unused = sum_over (λ counts. counts.unused) pools;
+      free = sum_over (λ counts. counts.free) pools;
     }
 
 -- the use of a subnet at a moment, where these addresses are reserved

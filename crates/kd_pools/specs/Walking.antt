@@ -11,24 +11,24 @@ use Rattle.kd_pools.specs.Counts.{declined_state, live_in}
 use Rattle.kd_pools.specs.declared.counts.Counts.{Counts}
 
 -- a list has an address
-abbrev pub lists : List ℕ → ℕ → Bool
-lists list a = list_any (λ b. b == a) list
+abbrev pub is_listed : List ℕ → ℕ → Bool
+is_listed list a = list_any (λ b. b == a) list
 
 -- the addresses that a subnet reserves
 abbrev pub subnet_reserved : Subnet → List ℕ
 subnet_reserved subnet = map (λ reservation. reservation.address) subnet.reservations
 
 -- the addresses that subnets reserve, in their order
-abbrev pub all_reserved : List Subnet → List ℕ
-all_reserved subnets = flat_map subnet_reserved subnets
+abbrev pub subnets_reserved : List Subnet → List ℕ
+subnets_reserved subnets = flat_map subnet_reserved subnets
 
 -- the addresses before a place are below this one
-pub record IsBelow (list : List ℕ) (place a : ℕ) : Type 0 where
+pub record PassesBelow (list : List ℕ) (place a : ℕ) : Type 0 where
   pub in_range : place ≤ length list
   pub below : (i : ℕ) → i < place → slice_index list i < a
 
 -- the addresses before a place are below this one, and those from it on are not
-pub record IsPlace (list : List ℕ) (place a : ℕ) : Type 0 where
+pub record IsPlaceFor (list : List ℕ) (place a : ℕ) : Type 0 where
   pub in_range : place ≤ length list
   pub below : (i : ℕ) → i < place → slice_index list i < a
   pub above : (i : ℕ) → place ≤ i → i < length list → a ≤ slice_index list i

@@ -1,7 +1,7 @@
 ghost use Rattle.std.specs.Prelude.{◌≡◌, ◌++◌, ℕ, IfOk, OnOk};
 ghost use Rattle.std.specs.List.Sorted.{IsNonDecreasing};
 ghost use Rattle.kd_lease.specs.Choice.{reserved_anywhere};
-ghost use Rattle.kd_pools.specs.Walking.{IsBelow, IsPlace, all_reserved, lists, subnet_reserved};
+ghost use Rattle.kd_pools.specs.Walking.{PassesBelow, IsPlaceFor, subnets_reserved, is_listed, subnet_reserved};
 
 use kd_config::{Config, Subnet};
 use std::alloc::{AllocError, Global};
@@ -10,7 +10,7 @@ use std::alloc::{AllocError, Global};
 pub(crate) fn reserved_addresses(alloc: Global, config: &Config) -> Result<Vec<u32>, AllocError>
     ensures rising { IfOk result (λ list. IsNonDecreasing list.items) }
     ensures same { IfOk result (λ list.
-        (a : ℕ) → lists list.items a ≡ reserved_anywhere config.now a) }
+        (a : ℕ) → is_listed list.items a ≡ reserved_anywhere config.now a) }
 {
     let mut list = reserved_in_order(alloc, config.subnets())?;
     list.sort()?;
@@ -19,7 +19,7 @@ pub(crate) fn reserved_addresses(alloc: Global, config: &Config) -> Result<Vec<u
 
 // The addresses that subnets reserve, in their order.
 fn reserved_in_order(alloc: Global, subnets: &[Subnet]) -> Result<Vec<u32>, AllocError>
-    ensures { IfOk result (λ list. list.items ≡ all_reserved subnets.now) }
+    ensures { IfOk result (λ list. list.items ≡ subnets_reserved subnets.now) }
 {
     let mut list = Vec::new(alloc);
     for subnet in subnets {
@@ -41,7 +41,7 @@ fn push_reserved(list: &mut Vec<u32>, subnet: &Subnet) -> Result<(), AllocError>
 // The place of the first address of a list that is this one or above it.
 pub(crate) fn place_of(list: &[u32], address: u32) -> usize
     requires { IsNonDecreasing list.now }
-    ensures { IsPlace list.now result address }
+    ensures { IsPlaceFor list.now result address }
 {
     let mut low = 0;
     let mut high = list.len();
@@ -59,8 +59,8 @@ pub(crate) fn place_of(list: &[u32], address: u32) -> usize
 // The same, from a place before which all addresses are below this one.
 pub(crate) fn place_from(list: &[u32], start: usize, address: u32) -> usize
     requires rising { IsNonDecreasing list.now }
-    requires start { IsBelow list.now start address }
-    ensures { IsPlace list.now result address }
+    requires start { PassesBelow list.now start address }
+    ensures { IsPlaceFor list.now result address }
 {
     let mut place = start;
     'below: while place < list.len() && list[place] < address {
@@ -72,8 +72,8 @@ pub(crate) fn place_from(list: &[u32], start: usize, address: u32) -> usize
 // The address at a place of a list is this one.
 pub(crate) fn is_at(list: &[u32], place: usize, address: u32) -> bool
     requires rising { IsNonDecreasing list.now }
-    requires place { IsPlace list.now place address }
-    ensures { result ≡ lists list.now address }
+    requires place { IsPlaceFor list.now place address }
+    ensures { result ≡ is_listed list.now address }
 {
     place < list.len() && list[place] == address
 }

@@ -2,7 +2,7 @@ ghost use Rattle.std.specs.Prelude.{◌≡◌, IfOk};
 ghost use Rattle.std.specs.List.Sorted.{IsNonDecreasing};
 ghost use Rattle.kd_config.specs.Sound.{IsSubnet};
 ghost use Rattle.kd_pools.specs.Uses.{subnet_use, subnet_uses};
-ghost use Rattle.kd_pools.specs.Walking.{lists};
+ghost use Rattle.kd_pools.specs.Walking.{is_listed};
 
 use crate::counts::Counts;
 use crate::reserved::reserved_addresses;
@@ -74,7 +74,7 @@ fn use_of(
     requires rising { IsNonDecreasing reserved.now }
     requires subnet { IsSubnet subnet.now }
     ensures { IfOk result (λ found.
-        found ≡ subnet_use (lists reserved.now) rows.now.rows now subnet.now) }
+        found ≡ subnet_use (is_listed reserved.now) rows.now.rows now subnet.now) }
 {
     let mut pools = Vec::new(alloc);
     let mut counts = Counts::new();

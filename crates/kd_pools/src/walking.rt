@@ -3,8 +3,8 @@ ghost use Rattle.std.specs.List.Sorted.{IsNonDecreasing};
 ghost use Rattle.std.specs.Option.{option_copied};
 ghost use Rattle.kd_config.specs.Sound.{IsRange};
 ghost use Rattle.kd_rows.specs.Table.{IsNext, row_at};
-ghost use Rattle.kd_pools.specs.Counts.{addresses_in, counts_of};
-ghost use Rattle.kd_pools.specs.Walking.{IsAtMost, lists};
+ghost use Rattle.kd_pools.specs.Counts.{addresses_of_range, counts_of};
+ghost use Rattle.kd_pools.specs.Walking.{IsAtMost, is_listed};
 
 use crate::counts::Counts;
 use crate::reserved::{is_at, place_from, place_of};
@@ -17,7 +17,7 @@ pub(crate) fn counts_in(reserved: &[u32], rows: &Rows, now: u64, range: Range) -
     requires rising { IsNonDecreasing reserved.now }
     requires range { IsRange range }
     ensures counts { result
-        ≡ counts_of (lists reserved.now) rows.now.rows now (addresses_in range) }
+        ≡ counts_of (is_listed reserved.now) rows.now.rows now (addresses_of_range range) }
     ensures few { IsAtMost 65536 result }
 {
     let mut counts = Counts::new();

@@ -15,8 +15,8 @@ abbrev pub most_imported : ℕ
 most_imported = 268435456
 
 -- where the bytes of a stream are known, they are such
-abbrev pub Reads : (List ℕ → Type 0) → Stream → Type 0
-Reads IsSuch stream = (text : List ℕ) → stream.bytes ≡ Some text → IsSuch text
+abbrev pub WhereKnown : (List ℕ → Type 0) → Stream → Type 0
+WhereKnown IsSuch stream = (text : List ℕ) → stream.bytes ≡ Some text → IsSuch text
 
 -- how an import ends: with nothing said, or its fault is told
 abbrev pub EndsImport : Result Unit StoreFault → ℕ → Stream → Stream → Type 0
@@ -30,8 +30,8 @@ TellsBadLine text status old new =
     (number : ℕ) × IsBadLine text number × TellsWith 97 (status_of 97) status old new
 
 -- the input is not read, or is too long, which is told
-pub record IsUnread (status : ℕ) (old new : Streams) : Type 0 where
-  pub why : (new.input.failed ≡ true) ⊎ Reads (λ text. most_imported < length text) old.input
+pub record HasUnreadInput (status : ℕ) (old new : Streams) : Type 0 where
+  pub why : (new.input.failed ≡ true) ⊎ WhereKnown (λ text. most_imported < length text) old.input
   pub told : Tells 94 status old new
 
 -- over a store of leases
@@ -61,7 +61,7 @@ module _ {S : Type 0} (g : Ghosts S) where
   -- the text of the input is imported
   pub record ImportsInput (store back : S) (status : ℕ) (old new : Streams) : Type 0 where
     pub text : List ℕ
-    pub whole : Reads (λ all. text ≡ all) old.input
+    pub whole : WhereKnown (λ all. text ≡ all) old.input
     pub imports : ImportsText text store back status old.faults new.faults
     pub quiet : new.output ≡ old.output
 
@@ -69,7 +69,7 @@ module _ {S : Type 0} (g : Ghosts S) where
   abbrev pub ImportsIfRead : S → S → ℕ → Streams → Streams → Type 0
   ImportsIfRead store back status old new =
       ImportsInput store back status old new
-      ⊎ ((back ≡ store) × (IsUnread status old new ⊎ Tells 91 status old new))
+      ⊎ ((back ≡ store) × (HasUnreadInput status old new ⊎ Tells 91 status old new))
 
   -- what an import does with a store that has these rows: where it has any it is left alone
   abbrev pub ImportsInto : List Row → S → S → ℕ → Streams → Streams → Type 0

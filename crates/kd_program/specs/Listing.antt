@@ -23,8 +23,8 @@ listing_text listings.Metrics config rows at =
     metrics_text (subnet_uses config rows (max at (latest_of rows)))
 
 -- a listing of rows is shown, by whether their store has failed, or it is told why there is none
-abbrev pub Lists : Listing → Bool → Configuration → List Row → ℕ → ℕ → Streams → Streams → Type 0
-Lists listing failed config rows at status old new =
+abbrev pub ShowsListing : Listing → Bool → Configuration → List Row → ℕ → ℕ → Streams → Streams → Type 0
+ShowsListing listing failed config rows at status old new =
     ShowsOrBreaks (listing_text listing config rows at) 0 status old.output new.output old.faults
     new.faults
     ⊎ ((fault : ServeFault) × IsNoList failed at fault × Tells (serve_fault_number fault) status old

@@ -34,7 +34,7 @@ use Rattle.kd_replay.specs.declared.fault.ServeFault.{ServeFault}
 use Rattle.kd_server.specs.Batch.{Batched}
 use Rattle.kd_server.specs.Keeping.{IsUnopened, Keeping, Opens, Refuses, Steps}
 use Rattle.kd_program.specs.Importing.{ImportsInto}
-use Rattle.kd_program.specs.Listing.{Lists}
+use Rattle.kd_program.specs.Listing.{ShowsListing}
 use Rattle.kd_program.specs.Streams.{Prints, Puts, Starves, Stream, Streams, Tells, TellsWith}
 use Rattle.kd_program.specs.declared.host.Host.{Ghosts as Hosts}
 use Rattle.kd_program.specs.declared.serving.Files.{Files}
@@ -178,7 +178,7 @@ module _ {H N U L R S : Type 0} (h : Hosts H N U L R) (l : Links L) (r : Sinks R
       (after ≡ before) × ReplaysInput g server left status old new
   Works (works.List listing at) before after server left status old new =
       (after ≡ before) × ((left ≡ server)
-      × Lists listing (is_some (g.fault server.store)) server.config server.rows at status old new)
+      × ShowsListing listing (is_some (g.fault server.store)) server.config server.rows at status old new)
   Works (works.Serve listening count journal) before after server left status old new =
       Listens listening (option_map string_bytes journal) count before after server left status old
       new
@@ -288,7 +288,7 @@ module _ {H N U L R : Type 0} (h : Hosts H N U L R) (named : Ghosts N) (unnamed 
       (before after : H) (status : ℕ) (old new : Streams) : Type 0 where
     pub rows : List Row
     pub given : h.copies before path (Ok rows) after
-    pub lists : Lists listing false config rows at status old new ⊎ Starves status old new
+    pub lists : ShowsListing listing false config rows at status old new ⊎ Starves status old new
 
   -- the host gives no rows of a database at a path, which is told
   pub record HasNoCopy (path : List ℕ) (before after : H) (status : ℕ)

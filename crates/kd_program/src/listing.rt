@@ -1,5 +1,5 @@
 ghost use Rattle.std.specs.Prelude.{◌≡◌, ◌<◌, ◌^◌, IfErr, IfOk, false, max, string_bytes};
-ghost use Rattle.kd_program.specs.Listing.{Lists, listing_text};
+ghost use Rattle.kd_program.specs.Listing.{ShowsListing, listing_text};
 ghost use Rattle.kd_program.specs.Streams.{streams};
 ghost use Rattle.kd_pools.specs.Uses.{subnet_uses};
 ghost use Rattle.kd_rows.specs.Table.{latest_of};
@@ -37,7 +37,7 @@ pub fn list<R: Source, O: Sink, E: Sink>(
     table: &Table<'_>,
     at: u64,
 ) -> u8
-    ensures { Lists listing table.now.failed table.now.config.now table.now.rows.now.rows at result
+    ensures { ShowsListing listing table.now.failed table.now.config.now table.now.rows.now.rows at result
         (streams R.Source O.Sink E.Sink ends.old) (streams R.Source O.Sink E.Sink ends.new) }
 {
     match text_of(alloc, listing, table, at) {

@@ -1,6 +1,6 @@
 ghost use Rattle.std.specs.Prelude.{◌⊎◌, false};
 ghost use Rattle.std.specs.List.{All};
-ghost use Rattle.kd_program.specs.Listing.{Lists};
+ghost use Rattle.kd_program.specs.Listing.{ShowsListing};
 ghost use Rattle.kd_program.specs.Running.{HasNoCopy, ListsCopy, Looks};
 ghost use Rattle.kd_program.specs.Streams.{Starves, streams};
 ghost use Rattle.kd_rows.specs.Row.{IsInRange};
@@ -72,7 +72,7 @@ fn list_rows<R: Source, O: Sink, E: Sink>(
 ) -> u8
     requires rise { Rise rows.items }
     requires ranges { All IsInRange rows.items }
-    ensures { Lists listing false config.now rows.items at result
+    ensures { ShowsListing listing false config.now rows.items at result
         (streams R.Source O.Sink E.Sink ends.old) (streams R.Source O.Sink E.Sink ends.new)
         ⊎ Starves result
         (streams R.Source O.Sink E.Sink ends.old) (streams R.Source O.Sink E.Sink ends.new) }

@@ -1,7 +1,7 @@
 use Rattle.std.proofs.Common.{ap, sym, ◌∙◌, ◌==◌, ℕ, List}
 use Rattle.std.proofs.lemmas.List.Sorted.{IsNonDecreasingBy-from_sort, list_any-IsPermutation}
 use Rattle.kd_config.specs.declared.subnet.Subnet.{Subnet}
-use Rattle.kd_pools.specs.Walking.{all_reserved, lists}
+use Rattle.kd_pools.specs.Walking.{subnets_reserved, is_listed}
 use Rattle.kd_pools.proofs.Listed.{all_listed}
 use Rattle.kd_pools.proofs.reserved.reserved_addresses.Goals as goal
 
@@ -10,5 +10,5 @@ returns-clause-rising c = IsNonDecreasingBy-from_sort (λ x. x) c.sort.new.self.
 
 pub returns-clause-same : goal.returns-clause-same
 returns-clause-same c = λ a. sym (list_any-IsPermutation (λ b. b == a) c.in_ok-list.list.items c.sort.new.self.items c.in_ok-sort.ensures.permutation)
-    ∙ ap (λ (list : List ℕ). lists list a) c.in_ok-list.ensures ∙ ap (λ (subnets : List Subnet). lists (all_reserved subnets) a) c.subnets.ensures.same
+    ∙ ap (λ (list : List ℕ). is_listed list a) c.in_ok-list.ensures ∙ ap (λ (subnets : List Subnet). is_listed (subnets_reserved subnets) a) c.subnets.ensures.same
     ∙ all_listed c.args.config.now a

@@ -1,7 +1,7 @@
 use Rattle.std.proofs.Common.{◌≡◌, ◌<◌, List, length, get_or, refl, ap, ◌∙◌, arith}
 use Rattle.kd_config.specs.declared.pool.Pool.{Pool}
 use Rattle.kd_pools.specs.Uses.{pool_use}
-use Rattle.kd_pools.specs.Walking.{lists}
+use Rattle.kd_pools.specs.Walking.{is_listed}
 use Rattle.kd_pools.specs.declared.uses.PoolUse.{PoolUse}
 use Rattle.kd_pools.proofs.Together.{next_most, next_pool, next_sums, whole_subnet}
 use Rattle.kd_pools.proofs.uses.use_of.Goals as goal
@@ -14,15 +14,15 @@ loop-pool-preserved c =
     let used : PoolUse = record { range = pool.range; counts = c.counts_in-here.result } in
     let less : n < length pools = omega (arith, c.loop-pool-test.true, ap (length {A = Pool}) c.as_slice-pool-items.ensures) in
     let at : pool ≡ get_or pools n pool = c.pool-item.is ∙ ap (λ (xs : List Pool). get_or xs n pool) c.as_slice-pool-items.ensures in
-    let is : used ≡ pool_use (lists c.args.reserved.now) c.args.rows.now.rows c.args.now pool =
+    let is : used ≡ pool_use (is_listed c.args.reserved.now) c.args.rows.now.rows c.args.now pool =
     λ i. record { range = pool.range; counts = c.counts_in-here.ensures.counts i } in
     record {
-      pools = next_pool (lists c.args.reserved.now) c.args.rows.now.rows c.args.now pools n pool c.loop-pool.pools.items c.push.new.self.items used less at c.loop-pool.invariant.pools is c.in_ok-push.ensures.items;
+      pools = next_pool (is_listed c.args.reserved.now) c.args.rows.now.rows c.args.now pools n pool c.loop-pool.pools.items c.push.new.self.items used less at c.loop-pool.invariant.pools is c.in_ok-push.ensures.items;
       counts = next_sums c.loop-pool.pools.items c.push.new.self.items used c.loop-pool.counts c.and-counts.result c.loop-pool.invariant.counts c.in_ok-push.ensures.items c.and-counts.ensures;
       few = next_most n c.loop-pool.counts c.counts_in-here.result c.and-counts.result c.loop-pool.invariant.few c.counts_in-here.ensures.few c.and-counts.ensures;
     }
 
 pub returns : goal.returns
 returns c =
-    whole_subnet (lists c.args.reserved.now) c.args.rows.now.rows c.args.now c.args.subnet.now c.loop-pool.pools.items c.loop-pool.counts _ c.loop-pool.pool-index refl
+    whole_subnet (is_listed c.args.reserved.now) c.args.rows.now.rows c.args.now c.args.subnet.now c.loop-pool.pools.items c.loop-pool.counts _ c.loop-pool.pool-index refl
     c.loop-pool.invariant.pools c.loop-pool.invariant.counts (omega (arith, c.loop-pool-test.false, ap (length {A = Pool}) c.as_slice-pool-items.ensures))
