@@ -23,20 +23,21 @@ _kdhcp() {
     fi
     for word in "${COMP_WORDS[@]:1:COMP_CWORD - 1}"; do
         case $word in
-            show | expr | compile | verify | eval | replay | serve | leases | help) command=$word && break ;;
+            show | expr | compile | verify | eval | replay | serve | leases | pools | import | help) command=$word && break ;;
             --) return ;;
         esac
     done
     if [[ -z $command ]]; then
-        _kdhcp_words "show expr compile verify eval replay serve leases help -h --help" "$current"
+        _kdhcp_words "show expr compile verify eval replay serve leases pools import help -h --help" "$current"
         return
     fi
     case $command:$option in
-        replay:--config | replay:--store | serve:--config | serve:--store | serve:--record | leases:--config | leases:--store)
+        replay:--config | replay:--store | serve:--config | serve:--store | serve:--record | leases:--config | leases:--store \
+            | pools:--config | pools:--store | import:--store)
             _kdhcp_paths -f "$current"
             return
             ;;
-        replay:--token-dir | serve:--token-dir | leases:--token-dir)
+        replay:--token-dir | serve:--token-dir | leases:--token-dir | pools:--token-dir)
             _kdhcp_paths -d "$current"
             return
             ;;
@@ -45,13 +46,15 @@ _kdhcp() {
         serve:--client-port) _kdhcp_words "68" "$current" && return ;;
         serve:--count) _kdhcp_words "18446744073709551615" "$current" && return ;;
         serve:--broadcast-as) return ;;
-        leases:--at) _kdhcp_words "$(date +%s)" "$current" && return ;;
+        leases:--at | pools:--at) _kdhcp_words "$(date +%s)" "$current" && return ;;
     esac
     case $command in
-        help) _kdhcp_words "show expr compile verify eval replay serve leases" "$current" ;;
+        help) _kdhcp_words "show expr compile verify eval replay serve leases pools import" "$current" ;;
         eval) _kdhcp_words "--text -h --help" "$current" ;;
         replay) _kdhcp_words "$files -h --help" "$current" ;;
-        leases) _kdhcp_words "$files --at -h --help" "$current" ;;
+        leases) _kdhcp_words "$files --live --at -h --help" "$current" ;;
+        pools) _kdhcp_words "$files --live --at --prometheus -h --help" "$current" ;;
+        import) _kdhcp_words "--store -h --help" "$current" ;;
         serve)
             _kdhcp_words "$files --bind --port --client-port --count --broadcast-as --mirror --record -h --help" "$current"
             ;;
