@@ -1,5 +1,5 @@
 -- A log of an input grows, and what is served of it.
-use Rattle.std.proofs.Common.{◌≡◌, ℕ, ◌+◌, Bool, true, false, List, [], ◌∷◌, ◌++◌, ◌<◌, Option, None, Some, Result, Ok, Err, OnOk, refl, sym, ap, ◌∙◌, subst, arith, append_assoc, drop, get_or, length, map, take}
+use Rattle.std.proofs.Common.{◌≡◌, inl, inr, ℕ, ◌+◌, Bool, true, false, List, [], ◌∷◌, ◌++◌, ◌<◌, Option, None, Some, Result, Ok, Err, OnOk, refl, sym, ap, ◌∙◌, subst, arith, append_assoc, drop, get_or, length, map, take}
 use Rattle.std.proofs.lemmas.List.{append-nil, length-append, length-map, map-append, nil_from_length, take-append-drop, take_more}
 use Rattle.std.specs.List.{flat_map}
 use Rattle.kd_event.specs.declared.event.Event.{Event}
@@ -11,9 +11,11 @@ use Rattle.kd_replay.specs.Log.{HasCome, IsLogOf, ServesInput, cut_event, last_m
 use Rattle.kd_replay.specs.Lines.{lines_of}
 use Rattle.kd_replay.specs.Posting.{IsKnownLogOf, IsPosted}
 use Rattle.kd_replay.specs.Replay.{AreEvents}
+use Rattle.kd_replay.proofs.Batches.{passes_then}
 use Rattle.kd_replay.proofs.Recorded.{batches_replay}
 use Rattle.std.specs.Io.KnownBytes.{Appends}
-use Rattle.kd_replay.specs.Serving.{Answered, Batch, HasServed, ServesTo, Traffic, events_in, packets_in, packets_of, record_of, trace_of}
+use Rattle.kd_replay.specs.Ahead.{asking}
+use Rattle.kd_replay.specs.Serving.{Answered, Batch, HasBegun, HasServed, ServesTo, Timed, Traffic, events_in, gathering, packets_in, packets_of, record_of, trace_of}
 use Rattle.kd_replay.specs.Trace.{Grows}
 use Rattle.kd_replay.specs.declared.fault.LoopFault.{LoopFault}
 use Rattle.kd_replay.specs.declared.fault.ServeFault.{ServeFault}
@@ -32,6 +34,7 @@ log_came moment [] (x ∷ first) event waited is = absurd is
 log_came moment (happens.Came w datagram ∷ log) [] event waited is = absurd is
 log_came moment (happens.Came w datagram ∷ log) (x ∷ first) event waited is = (is.0, log_came x.moment log first event waited is.1)
 log_came moment (happens.Said said ∷ log) first event waited is = (is.0, log_came moment log first event waited is.1)
+log_came moment (happens.Passed steady ∷ log) first event waited is = log_came moment log first event waited is
 log_came moment (happens.Went packet ∷ log) first event waited is = log_came moment log first event waited is
 
 log_said : (moment : ℕ) (log : List Happening) (first : List Event) (said : ℕ) → said ≡ last_moment moment first → IsLogOf moment log first
@@ -41,6 +44,7 @@ log_said moment [] (x ∷ first) said same is = absurd is
 log_said moment (happens.Came w datagram ∷ log) [] said same is = absurd is
 log_said moment (happens.Came w datagram ∷ log) (x ∷ first) said same is = (is.0, log_said x.moment log first said same is.1)
 log_said moment (happens.Said s ∷ log) first said same is = (is.0, log_said moment log first said same is.1)
+log_said moment (happens.Passed steady ∷ log) first said same is = log_said moment log first said same is
 log_said moment (happens.Went packet ∷ log) first said same is = log_said moment log first said same is
 
 log_went : (moment : ℕ) (log : List Happening) (first : List Event) (packet : Packet) → IsLogOf moment log first
@@ -50,7 +54,18 @@ log_went moment [] (x ∷ first) packet is = absurd is
 log_went moment (happens.Came w datagram ∷ log) [] packet is = absurd is
 log_went moment (happens.Came w datagram ∷ log) (x ∷ first) packet is = (is.0, log_went x.moment log first packet is.1)
 log_went moment (happens.Said s ∷ log) first packet is = (is.0, log_went moment log first packet is.1)
+log_went moment (happens.Passed steady ∷ log) first packet is = log_went moment log first packet is
 log_went moment (happens.Went p ∷ log) first packet is = log_went moment log first packet is
+
+log_passed : (moment : ℕ) (log : List Happening) (first : List Event) (steady : ℕ) → IsLogOf moment log first
+    → IsLogOf moment (log ++ happens.Passed steady ∷ []) first
+log_passed moment [] [] steady is = tt
+log_passed moment [] (x ∷ first) steady is = absurd is
+log_passed moment (happens.Came w datagram ∷ log) [] steady is = absurd is
+log_passed moment (happens.Came w datagram ∷ log) (x ∷ first) steady is = (is.0, log_passed x.moment log first steady is.1)
+log_passed moment (happens.Said s ∷ log) first steady is = (is.0, log_passed moment log first steady is.1)
+log_passed moment (happens.Passed s ∷ log) first steady is = log_passed moment log first steady is
+log_passed moment (happens.Went p ∷ log) first steady is = log_passed moment log first steady is
 
 -- what is known of a log that grew
 grown : (old new : Option (List Happening)) (more : List Happening) (first after : List Event)
@@ -80,6 +95,12 @@ module _ (given input : List Event) (next moment : ℕ) (old new : Option (List 
   posted_said before grows =
       let first = take next input in
       (before.0, (before.1.0, grown old new _ first first (λ log h. log_said 0 log first moment before.1.0 h) grows before.1.1))
+
+  -- the steady clock says what it has counted
+  pub posted_passed : (steady : ℕ) → IsPosted given input next moment old → Grows old new (happens.Passed steady ∷ []) → IsPosted given input next moment new
+  posted_passed steady before grows =
+      let first = take next input in
+      (before.0, (before.1.0, grown old new _ first first (λ log h. log_passed 0 log first steady h) grows before.1.1))
 
   -- a reply is handed over
   pub posted_went : (packet : Packet) → IsPosted given input next moment old → Grows old new (happens.Went packet ∷ []) → IsPosted given input next moment new
@@ -144,9 +165,11 @@ log_batches [] moment [] is = refl
 log_batches [] moment (event ∷ events) is = absurd is
 log_batches (b ∷ list) moment events is =
     let P : List Happening → Type 0 = λ l. IsLogOf moment l events in
-    let came = log_coming true b.arrivals moment (flat_map packets_of b.answers ++ flat_map trace_of list) events
-    (subst P (append_assoc (coming true b.arrivals) (flat_map packets_of b.answers) (flat_map trace_of list)) is) in
-    let rest = log_batches list came.later came.behind (log_packets b.answers came.later (flat_map trace_of list) came.behind came.is) in
+    let packets = flat_map packets_of b.answers in
+    let later = flat_map trace_of list in
+    let whole = subst P (append_assoc (coming true b.arrivals) (asking b.clocks) (packets ++ later)) (subst P (append_assoc (gathering b.arrivals b.clocks) packets later) is) in
+    let came = log_coming true b.arrivals moment (asking b.clocks ++ packets ++ later) events whole in
+    let rest = log_batches list came.later came.behind (log_packets b.answers came.later later came.behind came.is.1) in
     ap (λ es. es ++ flat_map events_in list) came.same ∙ ap (λ es. map cut_event came.front ++ es) rest
     ∙ sym (map-append cut_event came.front came.behind) ∙ sym (ap (map cut_event) came.all)
 
@@ -155,34 +178,40 @@ events_length [] = refl
 events_length (b ∷ list) =
     omega (arith, length-append (events_in b) (flat_map events_in list), length-append b.arrivals (flat_map (λ (b : Batch). b.arrivals) list), length-map b.arrivals event_of, events_length list)
 
-module _ {H : Type 0} (batches : H → List Event → List Handled → Option ServeFault → H → Type 0) (input : List Event) (log : List Happening)
+module _ {H : Type 0} (latest : H → ℕ) (batches : H → List Event → List Handled → Option ServeFault → H → Type 0) (input : List Event) (log : List Happening)
     (journal : List ℕ) (server new : H) (old out : Traffic) (came : HasCome input log) (none : old.trace ≡ Some []) (all : out.trace ≡ Some log)
     (empty : old.recorded ≡ Some []) (put : out.recorded ≡ Some journal) where
   -- where as many were served as the input has, these are the input's
-  events_are : (served : HasServed batches (length input) server new old out) → flat_map events_in served.list ≡ map cut_event input
-  events_are served =
+  events_are : (b : HasBegun None latest batches (Ok tt) (length input) server new old out) → flat_map events_in b.goes.1.list ≡ map cut_event input
+  events_are b =
+      let served = b.goes.1 in
       let P : List Happening → Type 0 = λ l. IsLogOf 0 l came.first in
       let more = flat_map trace_of served.list in
-      let grows : Grows (Some []) (Some log) more = subst (λ (t : Option (List Happening)). Grows t (Some log) more) none
-      (subst (λ (t : Option (List Happening)). Grows old.trace t more) all served.passes.trace_grows) in
-      let events = log_batches served.list 0 came.first (subst P grows came.is) in
+      let passed = passes_then old b.begun out _ _ _ _ _ _ b.asked served.passes in
+      let grows : Grows (Some []) (Some log) (asking b.clocks ++ more) = subst (λ (t : Option (List Happening)). Grows t (Some log) (asking b.clocks ++ more)) none
+      (subst (λ (t : Option (List Happening)). Grows old.trace t (asking b.clocks ++ more)) all passed.trace_grows) in
+      let events = log_batches served.list 0 came.first (subst P grows came.is).1 in
       let count : length came.first ≡ length input =
       sym (length-map came.first cut_event) ∙ sym (ap length events) ∙ events_length served.list ∙ served.counted in
       let rest : came.rest ≡ [] = nil_from_length came.rest (omega (arith, ap length came.all, length-append came.first came.rest)) in
       let whole : came.first ≡ input = sym (append-nil came.first) ∙ ap (λ r. came.first ++ r) (sym rest) ∙ sym came.all in
       events ∙ ap (map cut_event) whole
 
-  pub serves_all : (result : Result Unit LoopFault) → ServesTo batches result (length input) server new old out → OnOk result (ServesInput batches input server new)
-  serves_all (Ok done) served = record { list = served.list; events = events_are served; follow = served.follow }
+  pub serves_all : (result : Result Unit LoopFault) → ServesTo None latest batches result (length input) server new old out → OnOk result (ServesInput latest batches input server new)
+  serves_all (Ok done) (inl b) = record { list = b.goes.1.list; events = events_are b; first = b.clocks; last = b.goes.0; follow = b.goes.1.follow }
+  serves_all (Ok done) (inr n) = absurd n.1
   serves_all (Err fault) served = tt
 
   -- and what was recorded is a replay of the input
-  pub records_all : (result : Result Unit LoopFault) → ServesTo batches result (length input) server new old out
+  pub records_all : (result : Result Unit LoopFault) → ServesTo None latest batches result (length input) server new old out
       → OnOk result (AreEvents (lines_of journal) (map cut_event input))
-  records_all (Ok done) served =
+  records_all (Ok done) (inl b) =
+      let served = b.goes.1 in
       let more = flat_map record_of served.list in
+      let passed = passes_then old b.begun out _ _ _ _ _ _ b.asked served.passes in
       let lines : journal ≡ more = subst (λ (t : Option (List ℕ)). Appends t (Some journal) more) empty
-      (subst (λ (t : Option (List ℕ)). Appends old.recorded t more) put served.passes.recorded_grows) in
+      (subst (λ (t : Option (List ℕ)). Appends old.recorded t more) put passed.recorded_grows) in
       let P : List ℕ → List Event → Type 0 = λ text events. AreEvents (lines_of text) events in
-      subst (P journal) (events_are served) (subst (λ (text : List ℕ). P text (flat_map events_in served.list)) (sym lines) (batches_replay served.list))
+      subst (P journal) (events_are b) (subst (λ (text : List ℕ). P text (flat_map events_in served.list)) (sym lines) (batches_replay served.list))
+  records_all (Ok done) (inr n) = absurd n.1
   records_all (Err fault) served = tt

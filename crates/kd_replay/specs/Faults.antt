@@ -29,3 +29,4 @@ loop_fault_number looping.Read = 94
 loop_fault_number looping.Write = 95
 loop_fault_number (looping.Serve fault) = 96
 loop_fault_number looping.Record = 100
+loop_fault_number looping.Ahead = 101

@@ -1,10 +1,11 @@
 -- The log of a link in memory: which events of an input came, and what the clock said.
-use Rattle.std.specs.Prelude.{◌≡◌, ℕ, List, [], ◌∷◌, ◌++◌, Option, map, take}
+use Rattle.std.specs.Prelude.{◌≡◌, ℕ, List, [], ◌∷◌, ◌++◌, Option, None, map, take}
 use Rattle.std.specs.List.{flat_map}
 use Rattle.kd_event.specs.declared.event.Event.{Event}
 use Rattle.kd_event.specs.declared.event.Handled.{Handled}
 use Rattle.kd_replay.specs.Arriving.{datagram_room}
-use Rattle.kd_replay.specs.Serving.{Batch, Follow, events_in}
+use Rattle.kd_replay.specs.Serving.{Batch, Follow, Timed, events_in}
+use Rattle.kd_replay.specs.declared.clocks.Clocks.{Clocks}
 use Rattle.kd_replay.specs.declared.fault.ServeFault.{ServeFault}
 use Rattle.kd_replay.specs.declared.happening.Happening.{Happening}
 use Rattle.kd_replay.specs.declared.happening.Happening.TheVariants as happens
@@ -23,6 +24,7 @@ IsLogOf moment (happens.Came waited datagram ∷ log) [] = ⊥
 IsLogOf moment (happens.Came waited datagram ∷ log) (event ∷ events) =
     (datagram ≡ event.bytes) × IsLogOf event.moment log events
 IsLogOf moment (happens.Said said ∷ log) events = (said ≡ moment) × IsLogOf moment log events
+IsLogOf moment (happens.Passed steady ∷ log) events = IsLogOf moment log events
 IsLogOf moment (happens.Went packet ∷ log) events = IsLogOf moment log events
 
 -- the first events of an input came, and a log is of them
@@ -36,10 +38,13 @@ pub record HasCome (input : List Event) (log : List Happening) : Type 0 where
 abbrev pub cut_event : Event → Event
 cut_event event = record { moment = event.moment; bytes = take datagram_room event.bytes }
 
--- all events of an input are served, in batches that follow one another
-pub record ServesInput {H : Type 0}
+-- all events of an input are served, in batches that follow one another, without a limit to the clock
+pub record ServesInput {H : Type 0} (latest : H → ℕ)
     (batches : H → List Event → List Handled → Option ServeFault → H → Type 0)
     (input : List Event) (server new : H) : Type 0 where
   pub list : List Batch
   pub events : flat_map events_in list ≡ map cut_event input
-  pub follow : Follow batches server list new
+  pub first : Clocks
+  pub last : Clocks
+  pub follow : Follow None latest batches (record { server = server; clocks = first }) list
+      (record { server = new; clocks = last })

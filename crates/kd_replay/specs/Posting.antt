@@ -23,6 +23,7 @@ event_code =
     code_by (ℕ × List ℕ) (coded× coded_ℕ (coded_list coded_ℕ)) (λ e. (e.moment, e.bytes))
     (λ p. record { moment = p.0; bytes = p.1 }) (λ _. refl)
 
+-- a log is of events in one way
 IsLogOf-prop : (moment : ℕ) (log : List Happening) (events : List Event) → IsProp (IsLogOf moment log events)
 IsLogOf-prop moment [] [] = Unit-prop
 IsLogOf-prop moment [] (event ∷ events) = λ x y. absurd x
@@ -31,8 +32,10 @@ IsLogOf-prop moment (happens.Came waited datagram ∷ log) (event ∷ events) =
     ×_prop (Coded-set (coded_list coded_ℕ) datagram event.bytes) (IsLogOf-prop event.moment log events)
 IsLogOf-prop moment (happens.Said said ∷ log) events =
     ×_prop (Coded-set coded_ℕ said moment) (IsLogOf-prop moment log events)
+IsLogOf-prop moment (happens.Passed steady ∷ log) events = IsLogOf-prop moment log events
 IsLogOf-prop moment (happens.Went packet ∷ log) events = IsLogOf-prop moment log events
 
+-- so where it is known
 IsKnownLogOf-prop : (log : Option (List Happening)) (events : List Event) → IsProp (IsKnownLogOf log events)
 IsKnownLogOf-prop None events = Unit-prop
 IsKnownLogOf-prop (Some log) events = IsLogOf-prop 0 log events

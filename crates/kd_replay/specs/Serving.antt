@@ -1,15 +1,18 @@
--- Datagrams that are served in batches as they arrive: what is recorded, handled, sent and written.
+-- Datagrams that are served in batches as they arrive: what is recorded, handled, sent and written,
+-- and when the clock runs ahead.
 use Rattle.std.specs.Prelude.{◌≡◌, ◌≢◌, ◌⊎◌, ℕ, ◌+◌, ◌<◌, ◌≤◌, Bool, true, false, List, [], ◌∷◌, ◌++◌, Option, None, Some, Result, Ok, Err, codes, length, map}
-use Rattle.std.specs.List.{All, flat_map}
+use Rattle.std.specs.List.{All, flat_map, list_any}
 use Rattle.std.specs.Io.KnownBytes.{Appends}
 use Rattle.kd_event.specs.declared.event.Event.{Event}
 use Rattle.kd_event.specs.declared.event.Handled.{Handled}
 use Rattle.kd_event.specs.declared.event.Response.{Response}
 use Rattle.kd_event.specs.declared.event.Response.TheVariants as responses
+use Rattle.kd_replay.specs.Ahead.{asking, is_ahead, is_behind}
 use Rattle.kd_replay.specs.Arriving.{Arrival, IsRecordable, coming, event_of}
 use Rattle.kd_replay.specs.Recording.{record_line}
 use Rattle.kd_replay.specs.Text.{line_of}
 use Rattle.kd_replay.specs.Trace.{Grows}
+use Rattle.kd_replay.specs.declared.clocks.Clocks.{Clocks}
 use Rattle.kd_replay.specs.declared.ends.Sink.{Ghosts as Sinks}
 use Rattle.kd_replay.specs.declared.fault.LoopFault.{LoopFault}
 use Rattle.kd_replay.specs.declared.fault.LoopFault.TheVariants as faults
@@ -48,10 +51,12 @@ packets_of answered = packets_in answered.sent answered.handled.response
 abbrev pub text_of : Answered → List ℕ
 text_of answered = line_of answered.handled ++ behind_line answered.sent answered.handled.response
 
--- datagrams that arrived together, each an event that a record can say, and what was done with them
+-- datagrams that arrived together, each an event that a record can say, what the clocks said once
+-- they had come, and what was done with them
 pub record Batch : Type 0 where
   pub arrivals : List Arrival
   pub recordable : All IsRecordable (map event_of arrivals)
+  pub clocks : Clocks
   pub answers : List Answered
 
 -- the events of a batch
@@ -62,9 +67,14 @@ events_in b = map event_of b.arrivals
 abbrev pub handled_in : Batch → List Handled
 handled_in b = map (λ a. a.handled) b.answers
 
--- what happens at the link in a batch: its datagrams come, then its replies are handed over
+-- datagrams arrive, and then the clocks are asked
+abbrev pub gathering : List Arrival → Clocks → List Happening
+gathering arrivals clocks = coming true arrivals ++ asking clocks
+
+-- what happens at the link in a batch: its datagrams come, the clocks are asked, and then its
+-- replies are handed over
 abbrev pub trace_of : Batch → List Happening
-trace_of b = coming true b.arrivals ++ flat_map packets_of b.answers
+trace_of b = gathering b.arrivals b.clocks ++ flat_map packets_of b.answers
 
 -- what is recorded of a batch: the lines of its events
 abbrev pub record_of : Batch → List ℕ
@@ -109,97 +119,145 @@ pub record Passes (old out : Traffic) (trace : List Happening)
   pub recorded_grows : Appends old.recorded out.recorded recorded
   pub written_grows : Appends old.written out.written written
 
--- of the lines of the events that arrived a front is recorded, and nothing of them is handled
-pub record IsUnrecorded (left : ℕ) (old out : Traffic) : Type 0 where
-  pub arrivals : List Arrival
-  pub few : length arrivals ≤ left
-  pub recordable : All IsRecordable (map event_of arrivals)
-  pub part : List ℕ
-  pub more : List ℕ
-  pub cut : flat_map record_line (map event_of arrivals) ≡ part ++ more
-  pub passes : Passes old out (coming true arrivals) part []
+-- a server, and what the clocks said before
+pub record Timed (H : Type 0) : Type 0 where
+  pub server : H
+  pub clocks : Clocks
 
--- the relation that says what a batch gives: the server before it, its events, what was done with
+-- by how many seconds the clock may run ahead, of what handles events the latest change of its table,
+-- and the relation that says what a batch gives: the server before it, its events, what was done with
 -- the first of them, the fault of the next, the server after it
-module _ {H : Type 0} (batches : H → List Event → List Handled → Option ServeFault → H → Type 0) where
-  -- batches follow one another, all events of each handled, from the old server to the new one
-  abbrev pub Follow : H → List Batch → H → Type 0
+module _ {H : Type 0} (limit : Option ℕ) (latest : H → ℕ)
+    (batches : H → List Event → List Handled → Option ServeFault → H → Type 0) where
+  -- whether one of the events that arrived is ahead
+  abbrev pub ran_ahead : Timed H → Clocks → List Event → Bool
+  ran_ahead old clocks events = list_any
+      (λ event. is_ahead limit (latest old.server) old.clocks clocks.steady event.moment) events
+
+  -- batches follow one another, no event ahead and all handled, from the old server to the new one
+  abbrev pub Follow : Timed H → List Batch → Timed H → Type 0
   Follow old [] new = new ≡ old
   Follow old (b ∷ more) new =
-      (mid : H) × batches old (events_in b) (handled_in b) None mid × Follow mid more new
+      (ran_ahead old b.clocks (events_in b) ≡ false)
+      × ((mid : H) × batches old.server (events_in b) (handled_in b) None mid
+      × Follow (record { server = mid; clocks = b.clocks }) more new)
 
   -- so many datagrams were served, in batches: their events were recorded and handled, their replies
   -- were handed over to be sent, and what was written is their texts, in that order
-  pub record HasServed (count : ℕ) (server new : H) (old out : Traffic) : Type 0 where
+  pub record HasServed (count : ℕ) (old new : Timed H) (before after : Traffic) : Type 0 where
     pub list : List Batch
     pub counted : length (flat_map (λ b. b.arrivals) list) ≡ count
-    pub follow : Follow server list new
-    pub passes : Passes old out (flat_map trace_of list) (flat_map record_of list)
+    pub follow : Follow old list new
+    pub passes : Passes before after (flat_map trace_of list) (flat_map record_of list)
         (flat_map texts_of list)
 
-  -- a batch has a fault: its events were recorded, and those before the fault were handled and their
-  -- replies handed over and texts written
-  pub record HasFailed (fault : ServeFault) (left : ℕ) (server new : H)
-      (old out : Traffic) : Type 0 where
-    pub batch : Batch
-    pub few : length batch.arrivals ≤ left
-    pub given : batches server (events_in batch) (handled_in batch) (Some fault) new
-    pub passes : Passes old out (trace_of batch) (record_of batch) (texts_of batch)
+  -- one of the events that arrived is ahead, and nothing of them is recorded or handled
+  pub record IsCutOff (left : ℕ) (old : Timed H) (before after : Traffic) : Type 0 where
+    pub arrivals : List Arrival
+    pub few : length arrivals ≤ left
+    pub clocks : Clocks
+    pub ahead : ran_ahead old clocks (map event_of arrivals) ≡ true
+    pub passes : Passes before after (gathering arrivals clocks) [] []
 
-  -- a batch was recorded and handled; of its replies the first were handed over, and of the text of
-  -- the last of these a front was written
-  pub record HasCut (left : ℕ) (server new : H) (old out : Traffic) : Type 0 where
+  -- of the lines of the events that arrived, none of them ahead, a front is recorded, and nothing of
+  -- them is handled
+  pub record IsUnrecorded (left : ℕ) (old : Timed H) (before after : Traffic) : Type 0 where
     pub arrivals : List Arrival
     pub few : length arrivals ≤ left
     pub recordable : All IsRecordable (map event_of arrivals)
+    pub clocks : Clocks
+    pub in_time : ran_ahead old clocks (map event_of arrivals) ≡ false
+    pub part : List ℕ
+    pub more : List ℕ
+    pub cut : flat_map record_line (map event_of arrivals) ≡ part ++ more
+    pub passes : Passes before after (gathering arrivals clocks) part []
+
+  -- a batch has a fault: its events, none of them ahead, were recorded, and those before the fault
+  -- were handled and their replies handed over and texts written
+  pub record HasFailed (fault : ServeFault) (left : ℕ) (old : Timed H) (new : H)
+      (before after : Traffic) : Type 0 where
+    pub batch : Batch
+    pub few : length batch.arrivals ≤ left
+    pub in_time : ran_ahead old batch.clocks (events_in batch) ≡ false
+    pub given : batches old.server (events_in batch) (handled_in batch) (Some fault) new
+    pub passes : Passes before after (trace_of batch) (record_of batch) (texts_of batch)
+
+  -- a batch, no event of it ahead, was recorded and handled; of its replies the first were handed
+  -- over, and of the text of the last of these a front was written
+  pub record HasCut (left : ℕ) (old : Timed H) (new : H) (before after : Traffic) : Type 0 where
+    pub arrivals : List Arrival
+    pub few : length arrivals ≤ left
+    pub recordable : All IsRecordable (map event_of arrivals)
+    pub clocks : Clocks
+    pub in_time : ran_ahead old clocks (map event_of arrivals) ≡ false
     pub told : List Answered
     pub last : Answered
     pub untold : List Handled
     pub fault : Option ServeFault
-    pub given : batches server (map event_of arrivals)
+    pub given : batches old.server (map event_of arrivals)
         (map (λ a. a.handled) told ++ last.handled ∷ untold) fault new
     pub part : List ℕ
     pub more : List ℕ
     pub cut : text_of last ≡ part ++ more
-    pub passes : Passes old out
-        (coming true arrivals ++ flat_map packets_of (told ++ last ∷ []))
+    pub passes : Passes before after
+        (gathering arrivals clocks ++ flat_map packets_of (told ++ last ∷ []))
         (flat_map record_line (map event_of arrivals)) (flat_map text_of told ++ part)
 
-  -- how serving ends at a batch: no datagram could be received; its record could not be written; the
-  -- server says that there is no memory for it, or has another fault; or its text could not be
-  -- written
-  abbrev pub EndsServing : LoopFault → ℕ → H → H → Traffic → Traffic → Type 0
-  EndsServing faults.Read left server new old out = (new ≡ server) × (out ≡ old)
-  EndsServing faults.Record left server new old out = (new ≡ server) × IsUnrecorded left old out
-  EndsServing faults.Memory left server new old out =
-      HasFailed serving.Memory left server new old out
-  EndsServing (faults.Serve fault) left server new old out =
-      (fault ≢ serving.Memory) × HasFailed fault left server new old out
-  EndsServing faults.Write left server new old out = HasCut left server new old out
+  -- how serving ends at a batch: no datagram could be received; the clock ran ahead; its record could
+  -- not be written; the server says that there is no memory for it, or has another fault; or its text
+  -- could not be written
+  abbrev pub EndsServing : LoopFault → ℕ → Timed H → H → Traffic → Traffic → Type 0
+  EndsServing faults.Read left old new before after = (new ≡ old.server) × (after ≡ before)
+  EndsServing faults.Ahead left old new before after =
+      (new ≡ old.server) × IsCutOff left old before after
+  EndsServing faults.Record left old new before after =
+      (new ≡ old.server) × IsUnrecorded left old before after
+  EndsServing faults.Memory left old new before after =
+      HasFailed serving.Memory left old new before after
+  EndsServing (faults.Serve fault) left old new before after =
+      (fault ≢ serving.Memory) × HasFailed fault left old new before after
+  EndsServing faults.Write left old new before after = HasCut left old new before after
 
   -- some datagrams were served, fewer than were asked for, and serving ends at the next batch
-  pub record EndsAfter (fault : LoopFault) (count : ℕ) (server new : H)
-      (old out : Traffic) : Type 0 where
+  pub record EndsAfter (fault : LoopFault) (count : ℕ) (old : Timed H) (new : H)
+      (before after : Traffic) : Type 0 where
     pub done : ℕ
     pub left : ℕ
     pub all : done + left ≡ count
     pub some : 0 < left
-    pub mid : H
+    pub mid : Timed H
     pub between : Traffic
-    pub served : HasServed done server mid old between
-    pub ends : EndsServing fault left mid new between out
+    pub served : HasServed done old mid before between
+    pub ends : EndsServing fault left mid new between after
 
--- there is no memory to begin in, and nothing happens
-pub record IsNotBegun {H : Type 0} (fault : LoopFault) (server new : H)
-    (old out : Traffic) : Type 0 where
-  pub want : fault ≡ faults.Memory
-  pub same : new ≡ server
-  pub none : out ≡ old
+  -- from the start on all datagrams that were asked for are served, or serving ends after some of them
+  abbrev pub GoesOn : Result Unit LoopFault → ℕ → Timed H → H → Traffic → Traffic → Type 0
+  GoesOn (Ok done) count start new begun after =
+      (clocks : Clocks)
+      × HasServed count start (record { server = new; clocks = clocks }) begun after
+  GoesOn (Err fault) count start new begun after = EndsAfter fault count start new begun after
 
--- serving, by its result: all datagrams that were asked for are served, or it does not begin, or it
--- ends after some of them
-module _ {H : Type 0} (batches : H → List Event → List Handled → Option ServeFault → H → Type 0) where
+  -- the clocks are asked at the start, the clock is not behind the latest change, and it goes on
+  pub record HasBegun (result : Result Unit LoopFault) (count : ℕ) (server new : H)
+      (before after : Traffic) : Type 0 where
+    pub clocks : Clocks
+    pub begun : Traffic
+    pub asked : Passes before begun (asking clocks) [] []
+    pub in_time : is_behind limit (latest server) clocks.moment ≡ false
+    pub goes : GoesOn result count (record { server = server; clocks = clocks }) new begun after
+
+  -- serving does not begin: there is no memory, and nothing happens; or the clocks are asked, and the
+  -- clock is behind the latest change
+  abbrev pub IsNotBegun : Result Unit LoopFault → H → Traffic → Traffic → Type 0
+  IsNotBegun (Err faults.Memory) server before after = after ≡ before
+  IsNotBegun (Err faults.Ahead) server before after =
+      (clocks : Clocks) × (is_behind limit (latest server) clocks.moment ≡ true)
+      × Passes before after (asking clocks) [] []
+  IsNotBegun result server before after = ⊥
+
+  -- serving, by its result: it begins, and all datagrams that were asked for are served, or it ends
+  -- after some of them; or it does not begin
   abbrev pub ServesTo : Result Unit LoopFault → ℕ → H → H → Traffic → Traffic → Type 0
-  ServesTo (Ok done) count server new old out = HasServed batches count server new old out
-  ServesTo (Err fault) count server new old out =
-      IsNotBegun fault server new old out ⊎ EndsAfter batches fault count server new old out
+  ServesTo result count server new before after =
+      HasBegun result count server new before after
+      ⊎ ((new ≡ server) × IsNotBegun result server before after)

@@ -12,9 +12,9 @@ use std::marker::Model;
 
 const BUFFER: usize = 65_536;
 
-// The bytes that were read from a source and not taken yet.
+/// The bytes that were read from a source and not taken yet.
 #[derive(Drop)]
-pub(crate) struct Ahead {
+pub struct Ahead {
     buffer: Vec<u8>,
     from: usize,
     to: usize,
@@ -45,7 +45,12 @@ pub(crate) enum Part {
 }
 
 impl Ahead {
-    pub(crate) fn new(alloc: Global) -> Result<Ahead, AllocError>
+    /// No bytes yet.
+    ///
+    /// # Errors
+    ///
+    /// There is no memory for the buffer, of 65,536 bytes.
+    pub fn new(alloc: Global) -> Result<Ahead, AllocError>
         ensures { IfOk result (λ ahead. ahead ≡ []) }
     {
         let mut buffer = Vec::with_capacity(alloc, BUFFER)?;

@@ -120,6 +120,9 @@ pub enum LoopFault {
     /// The record of what came can not be written.
     #[error("Record")]
     Record,
+    /// The clock runs ahead of the limit, or is behind the latest change by more than the limit.
+    #[error("Ahead")]
+    Ahead,
     /// An event is not handled, for a fault that is not want of memory.
     #[error("Serve {0}")]
     Serve(ServeFault),
@@ -132,7 +135,7 @@ impl fmt::Debug for LoopFault {
 }
 
 impl LoopFault {
-    /// The fault's number: 91, 94 to 96, or 100.
+    /// The fault's number: 91, 94 to 96, 100 or 101.
     pub fn number(self) -> u8
         ensures { result ≡ loop_fault_number self }
     {
@@ -142,6 +145,7 @@ impl LoopFault {
             LoopFault::Write => 95,
             LoopFault::Serve(_) => 96,
             LoopFault::Record => 100,
+            LoopFault::Ahead => 101,
         }
     }
 }

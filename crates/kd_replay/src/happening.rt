@@ -19,6 +19,8 @@ pub enum Happening {
     Came(bool, Bytes),
     /// The clock said this moment, in whole seconds.
     Said(u64),
+    /// The steady clock had counted so many whole seconds.
+    Passed(u64),
     /// A reply was handed over to be sent.
     Went(Packet),
 }

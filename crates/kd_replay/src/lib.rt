@@ -7,13 +7,15 @@
 //! Whatever a server does with a batch (`ServesAll`), serving takes the datagrams of a link in
 //! batches, each at the moment of the clock after it came (`specs/Trace.antt`,
 //! `specs/Arriving.antt`), records them (`specs/Recording.antt`), and answers them in order
-//! (`specs/Serving.antt`); the record is an input of a replay (`specs/Laws.antt`).
+//! (`specs/Serving.antt`), and ends where the clock runs ahead (`specs/Ahead.antt`); the record is an
+//! input of a replay (`specs/Laws.antt`).
 #![tactic(auto)]
 
 mod ahead;
 mod answering;
 mod arrived;
 mod bytes;
+mod clocks;
 mod ends;
 mod fault;
 mod happening;
@@ -32,17 +34,20 @@ mod serving;
 mod text;
 mod writing;
 
+pub use ahead::Ahead;
 pub use arrived::Arrived;
 pub use bytes::replay_bytes;
+pub use clocks::Clocks;
 pub use ends::{EndFailed, Sink, Source};
 pub use fault::{LoopFault, ReplayFault, ServeFault};
 pub use happening::{Happening, Packet};
 pub use laws::records_replay;
+pub use lines::{Found, LINE_LIMIT, next_line};
 pub use link::Link;
 pub use replaying::replay_with;
 pub use running::run_with;
 pub use served::{ServedBytes, serve_bytes};
 pub use serves::{Serves, ServesAll};
-pub use serving::serve_with;
+pub use serving::{Limits, serve_with};
 pub use text::event_line;
 pub use writing::write_all;

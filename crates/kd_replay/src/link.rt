@@ -1,8 +1,8 @@
 use crate::ends::EndFailed;
 use kd_event::Destination;
 
-/// Where datagrams come from, with the clock that says when, and where replies are handed over to
-/// be sent.
+/// Where datagrams come from, with the clock that says when and one that counts the time, and where
+/// replies are handed over to be sent.
 pub trait Link {
     ghost use Rattle.std.specs.Prelude.{Bool, List, Option, ◌≡◌, ◌≤◌, ◌||◌, ◌∷◌, [], ℕ, true, false, length, take, IfNone, IfOk, IfSome, OnErr, is_err, is_ok};
     ghost use Rattle.kd_replay.specs.Trace.{Comes, Grows};
@@ -40,6 +40,11 @@ pub trait Link {
     /// The moment, in whole seconds, as the clock says it.
     fn now(&mut self) -> u64
         ensures said { Grows (trace self.old) (trace self.new) (happens.Said result ∷ []) }
+        ensures failed { has_failed self.new ≡ has_failed self.old };
+
+    /// How many whole seconds the steady clock has counted since some start. Nobody sets it.
+    fn steady(&mut self) -> u64
+        ensures said { Grows (trace self.old) (trace self.new) (happens.Passed result ∷ []) }
         ensures failed { has_failed self.new ≡ has_failed self.old };
 
     /// Hands a datagram over to be sent.

@@ -25,8 +25,8 @@ impl Given for Brand {
     ghost given = { [] };
 }
 
-// An input in memory, as a link: its clock says the moment of the event that came last, or 0, and
-// each reply is sent.
+// An input in memory, as a link: both its clocks say the moment of the event that came last, or 0,
+// and each reply is sent.
 #[derive(Drop)]
 pub(crate) struct Post<'a, I: Given> {
     pub(crate) alloc: Global,
@@ -71,6 +71,11 @@ impl<I: Given> Link for Post<'_, I> {
 
     fn now(&mut self) -> u64 {
         note(&mut self.log, Happening::Said(self.moment));
+        self.moment
+    }
+
+    fn steady(&mut self) -> u64 {
+        note(&mut self.log, Happening::Passed(self.moment));
         self.moment
     }
 

@@ -1,4 +1,4 @@
-ghost use Rattle.std.specs.Prelude.{◌≡◌, ◌<◌, IfSome, OnOk, Some, length, map};
+ghost use Rattle.std.specs.Prelude.{◌≡◌, ◌<◌, IfSome, None, OnOk, Some, length, map};
 ghost use Rattle.kd_replay.specs.Lines.{lines_of};
 ghost use Rattle.kd_replay.specs.Log.{HasCome, ServesInput, cut_event};
 ghost use Rattle.kd_replay.specs.Replay.{AreEvents};
@@ -9,7 +9,7 @@ use crate::fault::LoopFault;
 use crate::happening::Happening;
 use crate::post::{Given, Post};
 use crate::serves::ServesAll;
-use crate::serving::serve_with;
+use crate::serving::{Limits, serve_with};
 use kd_event::Event;
 use std::alloc::Global;
 use std::marker::{Brand, PhantomData};
@@ -29,7 +29,7 @@ pub struct ServedBytes {
 
 /// Serves an input in memory, as `serve_with` serves a link: behind each datagram that is waited for,
 /// the next `waiting` datagrams have come already. The clock says the moment of the event that came
-/// last, and each reply is sent. It asks nothing of its caller.
+/// last, and each reply is sent. The clock has no limit. It asks nothing of its caller.
 ///
 /// `None` where `most` is 0, or where there is no memory to keep what happened.
 pub fn serve_bytes<H: ServesAll>(
@@ -40,7 +40,7 @@ pub fn serve_bytes<H: ServesAll>(
     most: usize,
 ) -> Option<ServedBytes>
     ensures served { IfSome result
-        (λ served. ServesTo H.batches served.end (length input.now) server.old server.new nothing
+        (λ served. ServesTo None H.latest H.batches served.end (length input.now) server.old server.new nothing
         (record {
           trace = Some served.log.items;
           recorded = Some served.journal.items;
@@ -48,7 +48,7 @@ pub fn serve_bytes<H: ServesAll>(
         })) }
     ensures came { IfSome result (λ served. HasCome input.now served.log.items) }
     ensures all { IfSome result (λ served. OnOk served.end
-        (ServesInput H.batches input.now server.old server.new)) }
+        (ServesInput H.latest H.batches input.now server.old server.new)) }
     ensures recorded { IfSome result (λ served. OnOk served.end
         (AreEvents (lines_of served.journal.items) (map cut_event input.now))) }
 {
@@ -69,7 +69,7 @@ fn serve_post<I: Given, H: ServesAll>(
     requires input { input.now ≡ I.given }
     requires most { 0 < most }
     ensures served { IfSome result
-        (λ served. ServesTo H.batches served.end (length input.now) server.old server.new nothing
+        (λ served. ServesTo None H.latest H.batches served.end (length input.now) server.old server.new nothing
         (record {
           trace = Some served.log.items;
           recorded = Some served.journal.items;
@@ -77,7 +77,7 @@ fn serve_post<I: Given, H: ServesAll>(
         })) }
     ensures came { IfSome result (λ served. HasCome input.now served.log.items) }
     ensures all { IfSome result (λ served. OnOk served.end
-        (ServesInput H.batches input.now server.old server.new)) }
+        (ServesInput H.latest H.batches input.now server.old server.new)) }
     ensures recorded { IfSome result (λ served. OnOk served.end
         (AreEvents (lines_of served.journal.items) (map cut_event input.now))) }
 {
@@ -94,16 +94,12 @@ fn serve_post<I: Given, H: ServesAll>(
     };
     let mut journal = Some(Kept::new(alloc));
     let mut sink = Kept::new(alloc);
-    let count = input.len() as u64;
-    let end = serve_with(
-        alloc,
-        &mut post,
-        &mut journal,
-        &mut sink,
-        server,
+    let limits = Limits {
         most,
-        count,
-    );
+        count: input.len() as u64,
+        max_ahead: None,
+    };
+    let end = serve_with(alloc, &mut post, &mut journal, &mut sink, server, limits);
     Some(ServedBytes {
         log: post.log?,
         journal: journal?.bytes,

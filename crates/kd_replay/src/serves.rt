@@ -35,16 +35,23 @@ pub trait Serves {
 
 /// What handles events in batches: serving is written over it, whatever a batch does.
 pub trait ServesAll {
-    ghost use Rattle.std.specs.Prelude.{List, Option};
+    ghost use Rattle.std.specs.Prelude.{◌≡◌, ℕ, List, Option};
     ghost use Rattle.std.specs.List.{All};
     ghost use Rattle.kd_replay.specs.Text.{IsSmall};
     ghost use Rattle.kd_event.specs.declared.event.Event.{Event};
     ghost use Rattle.kd_event.specs.declared.event.Handled.{Handled};
     ghost use Rattle.kd_replay.specs.declared.fault.ServeFault.{ServeFault};
 
+    /// The latest change of its table, in whole seconds.
+    ghost latest: { Self → ℕ };
+
     /// What a batch gives: the server before it, its events, what was done with the first of them,
     /// the fault of the next, the server after.
     ghost batches: { Self → List Event → List Handled → Option ServeFault → Self → Type 0 };
+
+    /// The latest change of its table, in whole seconds; 0 where nothing has changed.
+    fn latest(&self) -> u64
+        ensures { result ≡ latest self.now };
 
     /// What is sent for the events of a batch, in order, up to the first fault.
     fn handle_all(&mut self, events: &[Arrived]) -> (Vec<Handled>, Option<ServeFault>)

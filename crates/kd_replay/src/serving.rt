@@ -2,11 +2,12 @@ ghost use Rattle.std.specs.Prelude.{◌≡◌, ◌<◌, ◌≤◌, IfErr, IfOk, 
 ghost use Rattle.std.specs.Result.{IsErrOf};
 ghost use Rattle.kd_replay.specs.Answering.{Gathers};
 ghost use Rattle.kd_replay.specs.Handling.{loop_fault_of, text_room};
-ghost use Rattle.kd_replay.specs.Serving.{EndsServing, HasServed, ServesTo, failed_in, traffic};
+ghost use Rattle.kd_replay.specs.Serving.{EndsServing, GoesOn, HasServed, ServesTo, failed_in, traffic};
 ghost use Rattle.kd_replay.specs.declared.fault.LoopFault.TheVariants as faults;
 
 use crate::answering::answer_all;
 use crate::arrived::Arrived;
+use crate::clocks::{Clocks, some_ahead, starts_behind};
 use crate::ends::{EndFailed, Sink};
 use crate::fault::{LoopFault, ServeFault};
 use crate::link::Link;
@@ -36,6 +37,24 @@ impl Work {
     }
 }
 
+// How far the clock may run ahead, and what the clocks said before.
+#[derive(Clone, Copy)]
+struct Watch {
+    limit: Option<u64>,
+    clocks: Clocks,
+}
+
+/// How much is served, and when it ends before that.
+#[derive(Clone, Copy)]
+pub struct Limits {
+    /// The most datagrams of a batch, 1 at least.
+    pub most: usize,
+    /// How many datagrams are served.
+    pub count: u64,
+    /// By how many seconds the clock may run ahead; without it, by any number.
+    pub max_ahead: Option<u64>,
+}
+
 /// Serves `count` datagrams in batches of at most `most`. It waits for the first datagram of a batch,
 /// and takes without waiting those that have come already. The moment of each is what the link's
 /// clock says after it came. The whole batch is recorded in the journal, if there is one, before it
@@ -43,26 +62,31 @@ impl Work {
 /// the line of a reply that could not be sent stands `fault 99 Send`. All memory of its own is taken
 /// at the start.
 ///
+/// The clocks are asked at the start and after each batch has come. A moment is ahead where it is
+/// more than `max_ahead` seconds after the latest change, and more than `max_ahead` seconds after
+/// what the clocks said before and the time that the steady clock has counted since.
+///
 /// # Errors
 ///
-/// `Read` where nothing can be received; `Record` where the journal fails: nothing of that batch is
-/// handled; `Serve` with the fault of an event, after those before it are answered; `Write` where
-/// the sink fails; `Memory` before the first datagram, or where the server is out of memory. What was
-/// served before stands.
+/// `Read` where nothing can be received; `Ahead` where a moment is ahead, or where at the start the
+/// latest change is more than `max_ahead` seconds after the clock, and `Record` where the journal
+/// fails: nothing of that batch is handled; `Serve` with the fault of an event, after those before it
+/// are answered; `Write` where the sink fails; `Memory` before the first datagram, or where the server
+/// is out of memory. What was served before stands.
 pub fn serve_with<L: Link, R: Sink, W: Sink, H: ServesAll>(
     alloc: Global,
     link: &mut L,
     journal: &mut Option<R>,
     sink: &mut W,
     server: &mut H,
-    most: usize,
-    count: u64,
+    limits: Limits,
 ) -> Result<(), LoopFault>
-    requires most { 0 < most }
+    requires most { 0 < limits.most }
     requires link { L.has_failed link.old ≡ false }
     requires journal { failed_in R.Sink journal.old ≡ false }
     requires sink { W.has_failed sink.old ≡ false }
-    ensures served { ServesTo H.batches result count server.old server.new
+    ensures served { ServesTo limits.max_ahead H.latest H.batches
+        result limits.count server.old server.new
         (traffic L.Link R.Sink W.Sink link.old journal.old sink.old)
         (traffic L.Link R.Sink W.Sink link.new journal.new sink.new) }
     ensures read { IsErrOf result faults.Read → L.has_failed link.new ≡ true }
@@ -70,23 +94,61 @@ pub fn serve_with<L: Link, R: Sink, W: Sink, H: ServesAll>(
     ensures kept { is_some journal.new ≡ is_some journal.old }
     ensures write { IsErrOf result faults.Write → W.has_failed sink.new ≡ true }
 {
-    let mut work = Work::new(alloc, most)?;
+    let mut work = Work::new(alloc, limits.most)?;
+    let watch = Watch {
+        limit: limits.max_ahead,
+        clocks: Clocks::ask(link),
+    };
+    if starts_behind(watch.limit, server.latest(), watch.clocks.moment) {
+        return Err(LoopFault::Ahead);
+    }
+    let count = limits.count;
+    serve_from(link, journal, sink, server, &mut work, watch, count)
+}
+
+// Serves `count` datagrams after the clocks were asked.
+fn serve_from<L: Link, R: Sink, W: Sink, H: ServesAll>(
+    link: &mut L,
+    journal: &mut Option<R>,
+    sink: &mut W,
+    server: &mut H,
+    work: &mut Work,
+    watch: Watch,
+    count: u64,
+) -> Result<(), LoopFault>
+    requires buffers { 0 < vec_len work.old.buffers }
+    requires text { text_room ≤ vec_capacity work.old.text }
+    ensures served { GoesOn watch.limit H.latest H.batches result count
+        (record { server = server.old; clocks = watch.clocks }) server.new
+        (traffic L.Link R.Sink W.Sink link.old journal.old sink.old)
+        (traffic L.Link R.Sink W.Sink link.new journal.new sink.new) }
+    ensures read { IsErrOf result faults.Read → L.has_failed link.new ≡ true }
+    ensures recorded { IsErrOf result faults.Record → failed_in R.Sink journal.new ≡ true }
+    ensures kept { is_some journal.new ≡ is_some journal.old }
+    ensures write { IsErrOf result faults.Write → W.has_failed sink.new ≡ true }
+{
+    let limit = watch.limit;
+    let mut clocks = watch.clocks;
     let mut left = count;
     while left > 0 {
-        left -= serve_batch(
+        let (served, asked) = serve_batch(
             link,
             journal,
             sink,
             server,
             &mut work.text,
             work.buffers.as_mut_slice(),
+            Watch { limit, clocks },
             left,
         )?;
+        clocks = asked;
+        left -= served;
     }
     Ok(())
 }
 
-// Serves the next batch, of at most `left` datagrams, and returns how many it had.
+// Serves the next batch, of at most `left` datagrams, and returns how many it had, and what the
+// clocks said once they had come.
 fn serve_batch<L: Link, R: Sink, W: Sink, H: ServesAll>(
     link: &mut L,
     journal: &mut Option<R>,
@@ -94,17 +156,21 @@ fn serve_batch<L: Link, R: Sink, W: Sink, H: ServesAll>(
     server: &mut H,
     text: &mut Vec<u8>,
     buffers: &mut [Arrived],
+    watch: Watch,
     left: u64,
-) -> Result<u64, LoopFault>
+) -> Result<(u64, Clocks), LoopFault>
     requires buffers { 0 < length buffers.old }
     requires left { 0 < left }
     requires text { text_room ≤ vec_capacity text.old }
-    ensures served { IfOk result (λ count. HasServed H.batches count server.old server.new
+    ensures served { IfOk result (λ served. HasServed watch.limit H.latest H.batches served.0
+        (record { server = server.old; clocks = watch.clocks })
+        (record { server = server.new; clocks = served.1 })
         (traffic L.Link R.Sink W.Sink link.old journal.old sink.old)
         (traffic L.Link R.Sink W.Sink link.new journal.new sink.new)) }
-    ensures some { IfOk result (λ count. 0 < count) }
-    ensures few { IfOk result (λ count. count ≤ left) }
-    ensures ended { IfErr result (λ fault. EndsServing H.batches fault left server.old server.new
+    ensures some { IfOk result (λ served. 0 < served.0) }
+    ensures few { IfOk result (λ served. served.0 ≤ left) }
+    ensures ended { IfErr result (λ fault. EndsServing watch.limit H.latest H.batches fault left
+        (record { server = server.old; clocks = watch.clocks }) server.new
         (traffic L.Link R.Sink W.Sink link.old journal.old sink.old)
         (traffic L.Link R.Sink W.Sink link.new journal.new sink.new)) }
     ensures read { IsErrOf result faults.Read → L.has_failed link.new ≡ true }
@@ -116,7 +182,17 @@ fn serve_batch<L: Link, R: Sink, W: Sink, H: ServesAll>(
     let Ok(count) = gather(link, buffers, left) else {
         return Err(LoopFault::Read);
     };
+    let asked = Clocks::ask(link);
     let (batch, _) = buffers.split_at(count);
+    if some_ahead(
+        watch.limit,
+        server.latest(),
+        watch.clocks,
+        asked.steady,
+        batch,
+    ) {
+        return Err(LoopFault::Ahead);
+    }
     if let Err(_) = record_all(journal, text, batch) {
         return Err(LoopFault::Record);
     }
@@ -126,7 +202,7 @@ fn serve_batch<L: Link, R: Sink, W: Sink, H: ServesAll>(
     }
     match fault {
         Some(fault) => Err(loop_fault(fault)),
-        None => Ok(count as u64),
+        None => Ok((count as u64, asked)),
     }
 }
 

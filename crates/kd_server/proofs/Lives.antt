@@ -11,7 +11,7 @@ use Rattle.kd_keeps.specs.declared.keeps.Keeps.{Ghosts}
 use Rattle.kd_lease.specs.Change.{Changes}
 use Rattle.kd_replay.specs.History as past
 use Rattle.kd_replay.specs.Arriving.{event_of}
-use Rattle.kd_replay.specs.Serving.{Answered, Batch, EndsServing, Follow, Traffic, events_in, handled_in}
+use Rattle.kd_replay.specs.Serving.{Answered, Batch, EndsServing, Follow, Timed, Traffic, events_in, handled_in}
 use Rattle.kd_replay.specs.declared.fault.LoopFault.{LoopFault}
 use Rattle.kd_replay.specs.declared.fault.LoopFault.TheVariants as loops
 use Rattle.kd_replay.specs.declared.fault.ServeFault.{ServeFault}
@@ -21,7 +21,7 @@ use Rattle.kd_rows.specs.Table.{latest_of}
 use Rattle.kd_rows.specs.declared.row.Row.{Row}
 use Rattle.kd_keeps.specs.declared.fault.StoreFault.{StoreFault}
 use Rattle.kd_server.specs.Batch.{Batched, IsCommitted, IsLost, LeavesOut}
-use Rattle.kd_server.specs.Keeping.{IsStopped, Keeping, Refuses, Steps, StepsTo, StoreHolds}
+use Rattle.kd_server.specs.Keeping.{IsStopped, Keeping, Refuses, Steps, StepsTo, StoreHolds, latest_in}
 use Rattle.kd_server.specs.Lives.{AreCalls, AreSteps, Call, CallAnswers, Called, IsAnswerOf, IsDone, IsIdle, IsLeft, IsNoRun, IsRun, LivesAreHistories, LivesKeepConfigurations, Opening, OpeningsAreHistories, OpeningsEnd, ReachingIsCalls, Report, RunsAreCalls, ServingIsCalls, calls_of, reports, reports_of}
 use Rattle.kd_server.specs.Lives.Call.{one, batch}
 use Rattle.kd_server.specs.NoOverlap.{AreOfOne, HistoryTo, LeaseHistory, LeaseStep, now_of}
@@ -479,28 +479,33 @@ module _ {S : Type 0} (g : Ghosts S) where
       r.last
 
   -- batches that follow one another are calls, before other calls
-  followed_calls : (list : List Batch) (old mid new : Keeping S) (calls : List Call) → Follow (Batched g) old list mid → Called g mid calls new → AreCalls g old new
-  followed_calls [] old mid new calls same c = (calls, subst (λ (s : Keeping S). Called g s calls new) same c)
-  followed_calls (b ∷ list) old mid new calls f c =
-      let later = followed_calls list f.0 mid new calls f.2 c in
-      (batch (events_in b) (handled_in b) None ∷ later.0, (f.0, f.1, later.1))
+  followed_calls : (limit : Option ℕ) (list : List Batch) (old mid : Timed (Keeping S)) (new : Keeping S) (calls : List Call) → Follow limit latest_in (Batched g) old list mid
+      → Called g mid.server calls new → AreCalls g old.server new
+  followed_calls limit [] old mid new calls same c = (calls, subst (λ (s : Timed (Keeping S)). Called g s.server calls new) same c)
+  followed_calls limit (b ∷ list) old mid new calls f c =
+      let later = followed_calls limit list (record { server = f.1.0; clocks = b.clocks }) mid new calls f.1.2 c in
+      (batch (events_in b) (handled_in b) None ∷ later.0, (f.1.0, f.1.1, later.1))
 
   -- so is the batch at which serving ends
-  ended_calls : (fault : LoopFault) (left : ℕ) (old new : Keeping S) (before after : Traffic) → EndsServing (Batched g) fault left old new before after → AreCalls g old new
-  ended_calls loops.Read left old new before after e = ([], e.0)
-  ended_calls loops.Record left old new before after e = ([], e.0)
-  ended_calls loops.Memory left old new before after e = (batch (events_in e.batch) (handled_in e.batch) (Some faults.Memory) ∷ [], (new, e.given, refl))
-  ended_calls (loops.Serve fault) left old new before after e = (batch (events_in e.1.batch) (handled_in e.1.batch) (Some fault) ∷ [], (new, e.1.given, refl))
-  ended_calls loops.Write left old new before after e =
+  ended_calls : (limit : Option ℕ) (fault : LoopFault) (left : ℕ) (old : Timed (Keeping S)) (new : Keeping S) (before after : Traffic)
+      → EndsServing limit latest_in (Batched g) fault left old new before after → AreCalls g old.server new
+  ended_calls limit loops.Read left old new before after e = ([], e.0)
+  ended_calls limit loops.Ahead left old new before after e = ([], e.0)
+  ended_calls limit loops.Record left old new before after e = ([], e.0)
+  ended_calls limit loops.Memory left old new before after e = (batch (events_in e.batch) (handled_in e.batch) (Some faults.Memory) ∷ [], (new, e.given, refl))
+  ended_calls limit (loops.Serve fault) left old new before after e = (batch (events_in e.1.batch) (handled_in e.1.batch) (Some fault) ∷ [], (new, e.1.given, refl))
+  ended_calls limit loops.Write left old new before after e =
       (batch (map event_of e.arrivals) (map (λ (a : Answered). a.handled) e.told ++ e.last.handled ∷ e.untold) e.fault ∷ [], (new, e.given, refl))
 
   -- so is serving
   pub serving : ServingIsCalls g
-  serving (Ok done) count old new before after s = followed_calls s.list old new new [] s.follow refl
-  serving (Err fault) count old new before after (inl n) = ([], n.same)
-  serving (Err fault) count old new before after (inr e) =
-      let last = ended_calls fault e.left e.mid new e.between after e.ends in
-      followed_calls e.served.list old e.mid new last.0 e.served.follow last.1
+  serving limit result count old new before after (inr n) = ([], n.0)
+  serving limit (Ok done) count old new before after (inl s) =
+      followed_calls limit s.goes.1.list (record { server = old; clocks = s.clocks }) (record { server = new; clocks = s.goes.0 }) new [] s.goes.1.follow refl
+  serving limit (Err fault) count old new before after (inl s) =
+      let e = s.goes in
+      let last = ended_calls limit fault e.left e.mid new e.between after e.ends in
+      followed_calls limit e.served.list (record { server = old; clocks = s.clocks }) e.mid new last.0 e.served.follow last.1
 
 -- a life is a history with stops
 pub histories : LivesAreHistories

@@ -24,6 +24,10 @@ pub record Keeping (S : Type 0) : Type 0 where
   pub rows : List Row
   pub store : S
 
+-- the latest change of a server's rows
+abbrev pub latest_in : {S : Type 0} → Keeping S → ℕ
+latest_in server = latest_of server.rows
+
 -- one event of the history, from rows to rows
 abbrev pub StepsTo : Configuration → Ports → List Row → Event → Handled → List Row → Type 0
 StepsTo config ports rows event handled new =

@@ -16,7 +16,7 @@ use Rattle.kd_replay.specs.declared.fault.ServeFault.{ServeFault}
 use Rattle.kd_replay.specs.declared.fault.ServeFault.TheVariants as faults
 use Rattle.kd_rows.specs.declared.row.Row.{Row}
 use Rattle.kd_server.specs.Batch.{Batched}
-use Rattle.kd_server.specs.Keeping.{IsUnopened, Keeping, Opens, Refuses, Steps}
+use Rattle.kd_server.specs.Keeping.{IsUnopened, Keeping, Opens, Refuses, Steps, latest_in}
 use Rattle.kd_server.specs.NoOverlap.{AreOfOne, HistoryTo, LeaseHistory, LeaseStep, now_of}
 use Rattle.kd_server.specs.Step.{Responds}
 
@@ -235,5 +235,6 @@ ReachingIsCalls {S} g =
 -- so is what it does where it serves datagrams, however that ends
 abbrev pub ServingIsCalls : {S : Type 0} → Ghosts S → Type 0
 ServingIsCalls {S} g =
-    (result : Result Unit LoopFault) (count : ℕ) (old new : Keeping S) (before after : Traffic)
-    → ServesTo (Batched g) result count old new before after → AreCalls g old new
+    (limit : Option ℕ) (result : Result Unit LoopFault) (count : ℕ) (old new : Keeping S)
+    (before after : Traffic)
+    → ServesTo limit latest_in (Batched g) result count old new before after → AreCalls g old new

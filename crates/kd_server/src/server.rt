@@ -230,8 +230,15 @@ impl<S: Keeps> Server<S> {
 
 impl<S: Keeps> ServesAll for Server<S> {
     ghost use Rattle.kd_server.specs.Batch.{Batched};
+    ghost use Rattle.kd_server.specs.Keeping.{latest_in};
+
+    ghost latest = { latest_in };
 
     ghost batches = { Batched S.Keeps };
+
+    fn latest(&self) -> u64 {
+        self.latest_change()
+    }
 
     fn handle_all(&mut self, events: &[Arrived]) -> (Vec<Handled>, Option<ServeFault>) {
         Server::handle_all(self, events)
