@@ -5,6 +5,7 @@ ghost use Rattle.kd_io.specs.Sending.{GoesTo, HasAddressAndPort, address_for};
 use kd_event::{Destination, Mode};
 use kd_replay::{EndFailed, Link};
 use std::net::{IpAddr, Ipv4Addr, SocketAddr, UdpSocket};
+use std::rt::Clock;
 use std::time::{SystemTime, UNIX_EPOCH};
 
 // 255.255.255.255.
@@ -57,7 +58,7 @@ fn place_at(address: u32, port: u16) -> SocketAddr
     SocketAddr::new(IpAddr::V4(Ipv4Addr::from(address)), port)
 }
 
-/// A UDP socket and the clock of the host, as the link of a server. What comes and goes no proof
+/// A UDP socket and the clocks of the host, as the link of a server. What comes and goes no proof
 /// knows.
 #[derive(Drop)]
 pub struct Socket<'a> {
@@ -188,6 +189,13 @@ impl Link for Socket<'_> {
     fn now(&mut self) -> u64 {
         match SystemTime::now(self.rt) {
             Ok(time) => seconds_of(time),
+            Err(_) => 0,
+        }
+    }
+
+    fn steady(&mut self) -> u64 {
+        match self.rt.monotonic() {
+            Ok(counted) => counted.as_secs(),
             Err(_) => 0,
         }
     }

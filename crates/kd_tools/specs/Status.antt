@@ -11,7 +11,7 @@ abbrev pub status_of : ℕ → ℕ
 status_of number =
     if number == 91 || number == 94 || number == 95 || number == 100 then 1
     else if number == 98 then 2
-    else if number == 80 || number == 81 || number == 82 || number == 83 || number == 92 || number == 93 then 4
+    else if number == 80 || number == 81 || number == 82 || number == 83 || number == 92 || number == 93 || number == 101 then 4
     else 3
 
 -- the exit status of a fault of a replay: that of the server's fault in it, or its own
