@@ -1,6 +1,7 @@
 pub mod Arrivals
 pub mod Batches
 pub mod Coming
+pub mod Filtered
 pub mod Fitting
 pub mod Going
 pub mod Growing

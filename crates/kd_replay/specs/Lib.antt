@@ -2,6 +2,7 @@ pub mod Ahead
 pub mod Answering
 pub mod Arriving
 pub mod Faults
+pub mod Filtering
 pub mod Finding
 pub mod Handling
 pub mod History
