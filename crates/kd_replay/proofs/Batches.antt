@@ -9,7 +9,7 @@ use Rattle.kd_event.specs.declared.event.Event.{Event}
 use Rattle.kd_event.specs.declared.event.Handled.{Handled}
 use Rattle.kd_replay.specs.Answering.{AreCut, AreTold, Gathers}
 use Rattle.kd_replay.specs.Ahead.{asking}
-use Rattle.kd_replay.specs.Arriving.{Arrival, IsRecordable, coming, event_of}
+use Rattle.kd_replay.specs.Arriving.{coming, event_of}
 use Rattle.kd_replay.specs.Handling.{loop_fault_of}
 use Rattle.kd_replay.specs.Parts.{WritesPart}
 use Rattle.kd_replay.specs.Recording.{record_line}

@@ -1,13 +1,12 @@
 -- A filter that goes on: the lines so far are filtered, and the rest of the input is not read.
-use Rattle.std.proofs.Common.{◌≡◌, ℕ, ◌+◌, ◌≤◌, List, [], ◌∷◌, ◌++◌, Some, None, refl, sym, ap, ◌∙◌, arith, append_assoc, length, length-append}
+use Rattle.std.proofs.Common.{◌≡◌, ℕ, ◌+◌, List, [], ◌∷◌, ◌++◌, Some, None, refl, sym, ap, ◌∙◌, arith, append_assoc, length, length-append}
 use Rattle.std.specs.Prelude.{Option, Ok, Err}
-use Rattle.std.specs.List.{AllZip, flat_map}
 use Rattle.std.specs.Io.KnownBytes.{Appends}
 use Rattle.std.proofs.lemmas.List.{append-nil, flat_map_more}
 use Rattle.std.proofs.lemmas.List.Elements.{AllZip-push}
 use Rattle.kd_replay.specs.Filtering.{AreFiltered, EndsFiltering, GivesNoText, GivesText, LeavesFiltered}
 use Rattle.kd_replay.specs.Finding.{FindsIn}
-use Rattle.kd_replay.specs.Lines.{line_limit, lines_of}
+use Rattle.kd_replay.specs.Lines.{lines_of}
 use Rattle.kd_replay.specs.Parts.{WritesPart}
 use Rattle.kd_replay.specs.declared.fault.ReplayFault.{ReplayFault}
 use Rattle.kd_replay.specs.declared.fault.ReplayFault.TheVariants as faults

@@ -15,7 +15,7 @@ use Rattle.kd_replay.proofs.Batches.{passes_then}
 use Rattle.kd_replay.proofs.Recorded.{batches_replay}
 use Rattle.std.specs.Io.KnownBytes.{Appends}
 use Rattle.kd_replay.specs.Ahead.{asking}
-use Rattle.kd_replay.specs.Serving.{Answered, Batch, HasBegun, HasServed, ServesTo, Timed, Traffic, events_in, gathering, packets_in, packets_of, record_of, trace_of}
+use Rattle.kd_replay.specs.Serving.{Answered, Batch, HasBegun, ServesTo, Traffic, events_in, gathering, packets_in, packets_of, record_of, trace_of}
 use Rattle.kd_replay.specs.Trace.{Grows}
 use Rattle.kd_replay.specs.declared.fault.LoopFault.{LoopFault}
 use Rattle.kd_replay.specs.declared.fault.ServeFault.{ServeFault}

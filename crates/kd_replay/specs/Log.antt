@@ -4,7 +4,7 @@ use Rattle.std.specs.List.{flat_map}
 use Rattle.kd_event.specs.declared.event.Event.{Event}
 use Rattle.kd_event.specs.declared.event.Handled.{Handled}
 use Rattle.kd_replay.specs.Arriving.{datagram_room}
-use Rattle.kd_replay.specs.Serving.{Batch, Follow, Timed, events_in}
+use Rattle.kd_replay.specs.Serving.{Batch, Follow, events_in}
 use Rattle.kd_replay.specs.declared.clocks.Clocks.{Clocks}
 use Rattle.kd_replay.specs.declared.fault.ServeFault.{ServeFault}
 use Rattle.kd_replay.specs.declared.happening.Happening.{Happening}

@@ -12,9 +12,9 @@ use std::marker::Model;
 
 const BUFFER: usize = 65_536;
 
-/// The bytes that were read from a source and not taken yet.
+// The bytes that were read from a source and not taken yet.
 #[derive(Drop)]
-pub struct Ahead {
+pub(crate) struct Ahead {
     buffer: Vec<u8>,
     from: usize,
     to: usize,
@@ -45,12 +45,7 @@ pub(crate) enum Part {
 }
 
 impl Ahead {
-    /// No bytes yet.
-    ///
-    /// # Errors
-    ///
-    /// There is no memory for the buffer, of 65,536 bytes.
-    pub fn new(alloc: Global) -> Result<Ahead, AllocError>
+    pub(crate) fn new(alloc: Global) -> Result<Ahead, AllocError>
         ensures { IfOk result (λ ahead. ahead ≡ []) }
     {
         let mut buffer = Vec::with_capacity(alloc, BUFFER)?;

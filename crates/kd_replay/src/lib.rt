@@ -35,7 +35,6 @@ mod serving;
 mod text;
 mod writing;
 
-pub use ahead::Ahead;
 pub use arrived::Arrived;
 pub use bytes::replay_bytes;
 pub use clocks::Clocks;
@@ -44,7 +43,6 @@ pub use fault::{LoopFault, ReplayFault, ServeFault};
 pub use filtering::{Filters, filter_with};
 pub use happening::{Happening, Packet};
 pub use laws::records_replay;
-pub use lines::{Found, LINE_LIMIT, next_line};
 pub use link::Link;
 pub use replaying::replay_with;
 pub use running::run_with;

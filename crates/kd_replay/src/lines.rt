@@ -6,27 +6,20 @@ ghost use Rattle.kd_replay.specs.Finding.{FailsIn, FindsIn};
 use crate::ahead::{Ahead, Part};
 use crate::ends::{EndFailed, Source};
 
-/// The most bytes that a line has, without its line feed.
-pub const LINE_LIMIT: usize = 131_072;
+// The most bytes that a line has, without its line feed.
+pub(crate) const LINE_LIMIT: usize = 131_072;
 
-/// What comes next in a source.
+// What the next line is.
 #[derive(Clone, Copy)]
-pub enum Found {
-    /// A line.
+pub(crate) enum Found {
     Line,
-    /// A line of more than 131,072 bytes.
     TooLong,
-    /// The end.
     End,
 }
 
-/// Reads the next line, without its line feed, into `line`, which has room for the longest: no memory
-/// is taken. A line that is too long is found before its end.
-///
-/// # Errors
-///
-/// The source fails.
-pub fn next_line<S: Source>(
+// Reads the next line, without its line feed, into `line`. What is too long is found before its
+// end.
+pub(crate) fn next_line<S: Source>(
     ahead: &mut Ahead,
     source: &mut S,
     line: &mut Vec<u8>,
