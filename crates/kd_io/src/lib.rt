@@ -16,6 +16,7 @@ mod look;
 mod source;
 mod start;
 mod streams;
+mod trying;
 mod watching;
 
 pub use activation::inherited;
@@ -26,4 +27,5 @@ pub use look::{Copied, LookFault, Part, Watched, settled_copy};
 pub use source::read_source;
 pub use start::{StartFault, configuration, configured};
 pub use streams::{Input, Output};
+pub use trying::{start_words, try_database, try_socket};
 pub use watching::copy_at;

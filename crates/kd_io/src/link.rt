@@ -52,7 +52,7 @@ pub fn target(sending: Sending, sender: Option<SocketAddr>, to: Destination) -> 
 }
 
 // The place with this address, a number in host order, and this port.
-fn place_at(address: u32, port: u16) -> SocketAddr
+pub(crate) fn place_at(address: u32, port: u16) -> SocketAddr
     ensures { HasAddressAndPort address port result }
 {
     SocketAddr::new(IpAddr::V4(Ipv4Addr::from(address)), port)

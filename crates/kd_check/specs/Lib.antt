@@ -1,0 +1,5 @@
+pub mod Findings
+pub mod Lookup
+pub mod Mark
+pub mod Report
+pub mod Words

@@ -1,0 +1,132 @@
+//! What a step of a start met, in words that an operator can act on.
+
+ghost use Rattle.std.specs.Prelude.{◌≡◌};
+ghost use Rattle.kd_check.specs.Findings.{file_trouble_words, store_trouble_words, socket_trouble_words};
+
+use std::fmt;
+
+/// Why a file is not read.
+#[derive(Clone, Copy, Debug, PartialEq, Eq)]
+pub enum FileTrouble {
+    /// No file has the path.
+    Absent,
+    /// The account has no right to read the file or to enter a folder of its path.
+    Denied,
+    /// The path is that of a folder.
+    IsFolder,
+    /// The file has more than 16 MiB.
+    TooLarge,
+    /// Another cause.
+    Other,
+}
+
+impl FileTrouble {
+    /// The trouble in words, in ASCII.
+    pub fn words(self) -> &'static str
+        ensures { result.now ≡ file_trouble_words self }
+    {
+        match self {
+            FileTrouble::Absent => "there is no such file",
+            FileTrouble::Denied => "this account may not read it",
+            FileTrouble::IsFolder => "it is a folder",
+            FileTrouble::TooLarge => "it has more than 16777216 bytes",
+            FileTrouble::Other => "it can't be read",
+        }
+    }
+}
+
+impl fmt::Display for FileTrouble {
+    ghost use Rattle.std.specs.Prelude.{Some};
+    ghost use Rattle.kd_check.specs.Findings.{file_trouble_words};
+
+    ghost output = { λ trouble. Some (file_trouble_words trouble) };
+
+    fn fmt<W: fmt::Write>(&self, f: &mut fmt::Formatter<W>) -> fmt::Result {
+        let words = self.words();
+        write!(f, "{words}")
+    }
+}
+
+/// Why a database is not opened.
+#[derive(Clone, Copy, Debug, PartialEq, Eq)]
+pub enum StoreTrouble {
+    /// Another process has it open.
+    Locked,
+    /// It has a table `lease` with other columns.
+    Schema,
+    /// Its files are no database, or a damaged one.
+    Damaged,
+    /// The account has no right to read and write its files or to make them.
+    Denied,
+    /// The folder that it would be in does not exist.
+    NoFolder,
+    /// Another cause.
+    Other,
+}
+
+impl StoreTrouble {
+    /// The trouble in words, in ASCII.
+    pub fn words(self) -> &'static str
+        ensures { result.now ≡ store_trouble_words self }
+    {
+        match self {
+            StoreTrouble::Locked => "another process has it open",
+            StoreTrouble::Schema => "its table lease is not the one that kdhcp makes",
+            StoreTrouble::Damaged => "it is damaged",
+            StoreTrouble::Denied => "this account may not read and write it",
+            StoreTrouble::NoFolder => "there is no such folder",
+            StoreTrouble::Other => "it can't be opened",
+        }
+    }
+}
+
+impl fmt::Display for StoreTrouble {
+    ghost use Rattle.std.specs.Prelude.{Some};
+    ghost use Rattle.kd_check.specs.Findings.{store_trouble_words};
+
+    ghost output = { λ trouble. Some (store_trouble_words trouble) };
+
+    fn fmt<W: fmt::Write>(&self, f: &mut fmt::Formatter<W>) -> fmt::Result {
+        let words = self.words();
+        write!(f, "{words}")
+    }
+}
+
+/// Why a socket is not opened.
+#[derive(Clone, Copy, Debug, PartialEq, Eq)]
+pub enum SocketTrouble {
+    /// Another process has the port at this address.
+    Taken,
+    /// The account has no right to the port.
+    Denied,
+    /// No interface of the machine has the address.
+    NoSuchAddress,
+    /// Another cause.
+    Other,
+}
+
+impl SocketTrouble {
+    /// The trouble in words, in ASCII.
+    pub fn words(self) -> &'static str
+        ensures { result.now ≡ socket_trouble_words self }
+    {
+        match self {
+            SocketTrouble::Taken => "another process has this port",
+            SocketTrouble::Denied => "this account may not take this port",
+            SocketTrouble::NoSuchAddress => "this machine has no such address",
+            SocketTrouble::Other => "it can't be opened",
+        }
+    }
+}
+
+impl fmt::Display for SocketTrouble {
+    ghost use Rattle.std.specs.Prelude.{Some};
+    ghost use Rattle.kd_check.specs.Findings.{socket_trouble_words};
+
+    ghost output = { λ trouble. Some (socket_trouble_words trouble) };
+
+    fn fmt<W: fmt::Write>(&self, f: &mut fmt::Formatter<W>) -> fmt::Result {
+        let words = self.words();
+        write!(f, "{words}")
+    }
+}

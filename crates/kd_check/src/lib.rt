@@ -1,0 +1,21 @@
+//! What is wrong with a configuration or with another step of a start, in words.
+//!
+//! What this layer promises to the one above: the report of a text and of the fault that was found
+//! in it is that of `specs/Report.antt`, byte for byte, but for two parts that the JSON reader
+//! chooses: the place where a text stops being JSON, and the digits of a number that is no integer.
+//! The words for the faults are in `specs/Words.antt`, which value of the configuration they are
+//! about in `specs/Lookup.antt`, the mark under a place in `specs/Mark.antt`, and the words for the
+//! other steps of a start in `specs/Findings.antt`.
+#![tactic(auto)]
+
+mod class;
+pub mod findings;
+mod line;
+mod lookup;
+mod mark;
+mod report;
+mod unread;
+mod value;
+mod words;
+
+pub use report::config_report;
