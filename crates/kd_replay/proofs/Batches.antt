@@ -8,12 +8,12 @@ use Rattle.std.specs.Io.KnownBytes.{Appends}
 use Rattle.kd_event.specs.declared.event.Event.{Event}
 use Rattle.kd_event.specs.declared.event.Handled.{Handled}
 use Rattle.kd_replay.specs.Answering.{AreCut, AreTold, Gathers}
-use Rattle.kd_replay.specs.Ahead.{asking}
+use Rattle.kd_replay.specs.Ahead.{clocks_asked}
 use Rattle.kd_replay.specs.Arriving.{coming, event_of}
 use Rattle.kd_replay.specs.Handling.{loop_fault_of}
 use Rattle.kd_replay.specs.Parts.{WritesPart}
 use Rattle.kd_replay.specs.Recording.{record_line}
-use Rattle.kd_replay.specs.Serving.{Answered, Batch, EndsServing, Follow, HasCut, HasFailed, HasServed, IsCutOff, IsUnrecorded, Passes, Timed, Traffic, gathering, packets_of, ran_ahead, record_of, text_of, texts_of, trace_of}
+use Rattle.kd_replay.specs.Serving.{Answered, Batch, EndsServing, Follow, HasCut, HasFailed, HasServed, HasRunAhead, IsUnrecorded, Passes, Timed, Traffic, gathering, packets_of, ran_ahead, record_of, text_of, texts_of, trace_of}
 use Rattle.kd_replay.specs.declared.clocks.Clocks.{Clocks}
 use Rattle.kd_replay.specs.declared.fault.ServeFault.{ServeFault}
 use Rattle.kd_replay.specs.declared.fault.ServeFault.TheVariants as serving
@@ -64,9 +64,9 @@ module _ {H : Type 0} (limit : Option ℕ) (latest : H → ℕ) (batches : H →
 
   -- a batch came, and the clocks were asked
   module _ (old : Timed H) (events : List Event) (clocks : Clocks) (trace between asked : Option (List Happening)) (recorded written : Option (List ℕ))
-      (g : Gathers trace between events) (a : Grows between asked (asking clocks)) where
+      (g : Gathers trace between events) (a : Grows between asked (clocks_asked clocks)) where
     grows_in : Grows trace asked (gathering g.arrivals clocks)
-    grows_in = grows_trans trace between asked (coming true g.arrivals) (asking clocks) g.grows a
+    grows_in = grows_trans trace between asked (coming true g.arrivals) (clocks_asked clocks) g.grows a
 
     counted_in : length g.arrivals ≡ length events
     counted_in = sym (length-map g.arrivals event_of) ∙ ap length g.are
@@ -76,7 +76,7 @@ module _ {H : Type 0} (limit : Option ℕ) (latest : H → ℕ) (batches : H →
 
     -- one of its events is ahead
     pub cut_off : (left : ℕ) → length events ≤ left → ran_ahead limit latest batches old clocks events ≡ true
-        → IsCutOff limit latest batches left old (record { trace = trace; recorded = recorded; written = written }) (record { trace = asked; recorded = recorded; written = written })
+        → HasRunAhead limit latest batches left old (record { trace = trace; recorded = recorded; written = written }) (record { trace = asked; recorded = recorded; written = written })
     cut_off left few is = record {
       arrivals = g.arrivals;
       few = omega (arith, counted_in);

@@ -1,5 +1,5 @@
 -- A filter that goes on: the lines so far are filtered, and the rest of the input is not read.
-use Rattle.std.proofs.Common.{◌≡◌, ℕ, ◌+◌, List, [], ◌∷◌, ◌++◌, Some, None, refl, sym, ap, ◌∙◌, arith, append_assoc, length, length-append}
+use Rattle.std.proofs.Common.{◌≡◌, ℕ, ◌+◌, ◌^◌, ◌<◌, ◌⊎◌, inl, inr, List, [], ◌∷◌, ◌++◌, Some, None, refl, sym, ap, ◌∙◌, arith, append_assoc, length, length-append}
 use Rattle.std.specs.Prelude.{Option, Ok, Err}
 use Rattle.std.specs.Io.KnownBytes.{Appends}
 use Rattle.std.proofs.lemmas.List.{append-nil, flat_map_more}
@@ -73,8 +73,11 @@ module _ (gives : List ℕ → List ℕ → Type 0) where
     pub filtered_read : source_failed → LeavesFiltered gives source_failed (Err faults.Read) input old contents
     filtered_read failed = stopped faults.Read g.out contents g.told (failed, refl)
 
-    pub filtered_memory : LeavesFiltered gives source_failed (Err faults.Memory) input old contents
-    filtered_memory = stopped faults.Memory g.out contents g.told refl
+    pub filtered_memory : (number + 1 ≡ 1) ⊎ ((0 < length (lines_of g.rest)) ⊎ (number + 1 ≡ 2 ^ 64)) → LeavesFiltered gives source_failed (Err faults.Memory) input old contents
+    filtered_memory where_is = stopped faults.Memory g.out contents g.told (where_is, refl)
+
+    pub filtered_memory_at : (left' : Option (List ℕ)) (line : List ℕ) → FindsIn found.Line g.rest left' line → LeavesFiltered gives source_failed (Err faults.Memory) input old contents
+    filtered_memory_at left' line f = filtered_memory (inr (inl (rw f.finds.0 (omega arith))))
 
     pub filtered_too_long : (left' : Option (List ℕ)) (line : List ℕ) → FindsIn found.TooLong g.rest left' line → LeavesFiltered gives source_failed (Err (faults.BadLine (number + 1))) input old contents
     filtered_too_long left' line f =

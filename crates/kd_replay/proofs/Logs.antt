@@ -14,7 +14,7 @@ use Rattle.kd_replay.specs.Replay.{AreEvents}
 use Rattle.kd_replay.proofs.Batches.{passes_then}
 use Rattle.kd_replay.proofs.Recorded.{batches_replay}
 use Rattle.std.specs.Io.KnownBytes.{Appends}
-use Rattle.kd_replay.specs.Ahead.{asking}
+use Rattle.kd_replay.specs.Ahead.{clocks_asked}
 use Rattle.kd_replay.specs.Serving.{Answered, Batch, HasBegun, ServesTo, Traffic, events_in, gathering, packets_in, packets_of, record_of, trace_of}
 use Rattle.kd_replay.specs.Trace.{Grows}
 use Rattle.kd_replay.specs.declared.fault.LoopFault.{LoopFault}
@@ -167,8 +167,8 @@ log_batches (b ∷ list) moment events is =
     let P : List Happening → Type 0 = λ l. IsLogOf moment l events in
     let packets = flat_map packets_of b.answers in
     let later = flat_map trace_of list in
-    let whole = subst P (append_assoc (coming true b.arrivals) (asking b.clocks) (packets ++ later)) (subst P (append_assoc (gathering b.arrivals b.clocks) packets later) is) in
-    let came = log_coming true b.arrivals moment (asking b.clocks ++ packets ++ later) events whole in
+    let whole = subst P (append_assoc (coming true b.arrivals) (clocks_asked b.clocks) (packets ++ later)) (subst P (append_assoc (gathering b.arrivals b.clocks) packets later) is) in
+    let came = log_coming true b.arrivals moment (clocks_asked b.clocks ++ packets ++ later) events whole in
     let rest = log_batches list came.later came.behind (log_packets b.answers came.later later came.behind came.is.1) in
     ap (λ es. es ++ flat_map events_in list) came.same ∙ ap (λ es. map cut_event came.front ++ es) rest
     ∙ sym (map-append cut_event came.front came.behind) ∙ sym (ap (map cut_event) came.all)
@@ -188,8 +188,8 @@ module _ {H : Type 0} (latest : H → ℕ) (batches : H → List Event → List 
       let P : List Happening → Type 0 = λ l. IsLogOf 0 l came.first in
       let more = flat_map trace_of served.list in
       let passed = passes_then old b.begun out _ _ _ _ _ _ b.asked served.passes in
-      let grows : Grows (Some []) (Some log) (asking b.clocks ++ more) = subst (λ (t : Option (List Happening)). Grows t (Some log) (asking b.clocks ++ more)) none
-      (subst (λ (t : Option (List Happening)). Grows old.trace t (asking b.clocks ++ more)) all passed.trace_grows) in
+      let grows : Grows (Some []) (Some log) (clocks_asked b.clocks ++ more) = subst (λ (t : Option (List Happening)). Grows t (Some log) (clocks_asked b.clocks ++ more)) none
+      (subst (λ (t : Option (List Happening)). Grows old.trace t (clocks_asked b.clocks ++ more)) all passed.trace_grows) in
       let events = log_batches served.list 0 came.first (subst P grows came.is).1 in
       let count : length came.first ≡ length input =
       sym (length-map came.first cut_event) ∙ sym (ap length events) ∙ events_length served.list ∙ served.counted in

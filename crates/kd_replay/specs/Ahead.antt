@@ -5,8 +5,8 @@ use Rattle.kd_replay.specs.declared.happening.Happening.{Happening}
 use Rattle.kd_replay.specs.declared.happening.Happening.TheVariants as happens
 
 -- both clocks are asked
-abbrev pub asking : Clocks → List Happening
-asking clocks = happens.Said clocks.moment ∷ happens.Passed clocks.steady ∷ []
+abbrev pub clocks_asked : Clocks → List Happening
+clocks_asked clocks = happens.Said clocks.moment ∷ happens.Passed clocks.steady ∷ []
 
 -- a moment is ahead of a limit in seconds: it is more than so many seconds after the latest change,
 -- and more than so many after what the clocks said before and the time that passed since; without a

@@ -1,5 +1,5 @@
 -- A stream of lines through a filter: which text each line gives, and how it ends.
-use Rattle.std.specs.Prelude.{◌≡◌, ℕ, ◌+◌, ◌≤◌, List, ◌++◌, Option, Some, Result, Ok, Err, length}
+use Rattle.std.specs.Prelude.{◌≡◌, ℕ, ◌+◌, ◌^◌, ◌<◌, ◌≤◌, List, ◌++◌, ◌⊎◌, Option, Some, Result, Ok, Err, length}
 use Rattle.std.specs.List.{AllZip, flat_map}
 use Rattle.kd_replay.specs.Lines.{line_limit, lines_of}
 use Rattle.kd_replay.specs.Replay.{FirstLineIs}
@@ -31,14 +31,16 @@ module _ (gives : List ℕ → List ℕ → Type 0) where
     pub written : out ≡ old ++ part
 
   -- how a filter ends at the line with a number, the first of those that are left: at a line that
-  -- gives no text, while its text is written, where the source has failed, or out of memory
+  -- gives no text, while its text is written, where the source has failed, or out of memory: that
+  -- comes at the start, at a line, or where no number is left for a line
   abbrev pub EndsFiltering : Type 0 → ReplayFault → ℕ → List (List ℕ) → List ℕ → List ℕ → Type 0
   EndsFiltering source_failed (faults.BadLine k) number lines old out =
       (k ≡ number) × FirstLineIs GivesNoText lines × (out ≡ old)
   EndsFiltering source_failed faults.Write number lines old out =
       FirstLineIs (λ line. CutsText line old out) lines
   EndsFiltering source_failed faults.Read number lines old out = source_failed × (out ≡ old)
-  EndsFiltering source_failed faults.Memory number lines old out = out ≡ old
+  EndsFiltering source_failed faults.Memory number lines old out =
+      ((number ≡ 1) ⊎ ((0 < length lines) ⊎ (number ≡ 2 ^ 64))) × (out ≡ old)
   EndsFiltering source_failed (faults.Serve fault) number lines old out = ⊥
 
   -- a filter stops: the lines before are filtered, and it ends at the next

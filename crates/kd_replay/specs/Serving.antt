@@ -7,7 +7,7 @@ use Rattle.kd_event.specs.declared.event.Event.{Event}
 use Rattle.kd_event.specs.declared.event.Handled.{Handled}
 use Rattle.kd_event.specs.declared.event.Response.{Response}
 use Rattle.kd_event.specs.declared.event.Response.TheVariants as responses
-use Rattle.kd_replay.specs.Ahead.{asking, is_ahead, is_behind}
+use Rattle.kd_replay.specs.Ahead.{clocks_asked, is_ahead, is_behind}
 use Rattle.kd_replay.specs.Arriving.{Arrival, IsRecordable, coming, event_of}
 use Rattle.kd_replay.specs.Recording.{record_line}
 use Rattle.kd_replay.specs.Text.{line_of}
@@ -69,7 +69,7 @@ handled_in b = map (λ a. a.handled) b.answers
 
 -- datagrams arrive, and then the clocks are asked
 abbrev pub gathering : List Arrival → Clocks → List Happening
-gathering arrivals clocks = coming true arrivals ++ asking clocks
+gathering arrivals clocks = coming true arrivals ++ clocks_asked clocks
 
 -- what happens at the link in a batch: its datagrams come, the clocks are asked, and then its
 -- replies are handed over
@@ -152,7 +152,7 @@ module _ {H : Type 0} (limit : Option ℕ) (latest : H → ℕ)
         (flat_map texts_of list)
 
   -- one of the events that arrived is ahead, and nothing of them is recorded or handled
-  pub record IsCutOff (left : ℕ) (old : Timed H) (before after : Traffic) : Type 0 where
+  pub record HasRunAhead (left : ℕ) (old : Timed H) (before after : Traffic) : Type 0 where
     pub arrivals : List Arrival
     pub few : length arrivals ≤ left
     pub clocks : Clocks
@@ -209,7 +209,7 @@ module _ {H : Type 0} (limit : Option ℕ) (latest : H → ℕ)
   abbrev pub EndsServing : LoopFault → ℕ → Timed H → H → Traffic → Traffic → Type 0
   EndsServing faults.Read left old new before after = (new ≡ old.server) × (after ≡ before)
   EndsServing faults.Ahead left old new before after =
-      (new ≡ old.server) × IsCutOff left old before after
+      (new ≡ old.server) × HasRunAhead left old before after
   EndsServing faults.Record left old new before after =
       (new ≡ old.server) × IsUnrecorded left old before after
   EndsServing faults.Memory left old new before after =
@@ -231,20 +231,20 @@ module _ {H : Type 0} (limit : Option ℕ) (latest : H → ℕ)
     pub ends : EndsServing fault left mid new between after
 
   -- from the start on all datagrams that were asked for are served, or serving ends after some of them
-  abbrev pub GoesOn : Result Unit LoopFault → ℕ → Timed H → H → Traffic → Traffic → Type 0
-  GoesOn (Ok done) count start new begun after =
+  abbrev pub ServesOn : Result Unit LoopFault → ℕ → Timed H → H → Traffic → Traffic → Type 0
+  ServesOn (Ok done) count start new begun after =
       (clocks : Clocks)
       × HasServed count start (record { server = new; clocks = clocks }) begun after
-  GoesOn (Err fault) count start new begun after = EndsAfter fault count start new begun after
+  ServesOn (Err fault) count start new begun after = EndsAfter fault count start new begun after
 
   -- the clocks are asked at the start, the clock is not behind the latest change, and it goes on
   pub record HasBegun (result : Result Unit LoopFault) (count : ℕ) (server new : H)
       (before after : Traffic) : Type 0 where
     pub clocks : Clocks
     pub begun : Traffic
-    pub asked : Passes before begun (asking clocks) [] []
+    pub asked : Passes before begun (clocks_asked clocks) [] []
     pub in_time : is_behind limit (latest server) clocks.moment ≡ false
-    pub goes : GoesOn result count (record { server = server; clocks = clocks }) new begun after
+    pub goes : ServesOn result count (record { server = server; clocks = clocks }) new begun after
 
   -- serving does not begin: there is no memory, and nothing happens; or the clocks are asked, and the
   -- clock is behind the latest change
@@ -252,7 +252,7 @@ module _ {H : Type 0} (limit : Option ℕ) (latest : H → ℕ)
   IsNotBegun (Err faults.Memory) server before after = after ≡ before
   IsNotBegun (Err faults.Ahead) server before after =
       (clocks : Clocks) × (is_behind limit (latest server) clocks.moment ≡ true)
-      × Passes before after (asking clocks) [] []
+      × Passes before after (clocks_asked clocks) [] []
   IsNotBegun result server before after = ⊥
 
   -- serving, by its result: it begins, and all datagrams that were asked for are served, or it ends

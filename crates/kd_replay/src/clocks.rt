@@ -1,6 +1,6 @@
 ghost use Rattle.std.specs.Prelude.{◌≡◌, ◌+◌, nat_lt};
 ghost use Rattle.std.specs.List.{list_any};
-ghost use Rattle.kd_replay.specs.Ahead.{asking, is_ahead, is_behind};
+ghost use Rattle.kd_replay.specs.Ahead.{clocks_asked, is_ahead, is_behind};
 ghost use Rattle.kd_replay.specs.Trace.{Grows};
 
 use crate::arrived::Arrived;
@@ -18,7 +18,7 @@ pub struct Clocks {
 impl Clocks {
     // Asks both clocks of a link.
     pub(crate) fn ask<L: Link>(link: &mut L) -> Clocks
-        ensures asked { Grows (L.trace link.old) (L.trace link.new) (asking result) }
+        ensures asked { Grows (L.trace link.old) (L.trace link.new) (clocks_asked result) }
         ensures failed { L.has_failed link.new ≡ L.has_failed link.old }
     {
         let moment = link.now();

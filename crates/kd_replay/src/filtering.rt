@@ -22,7 +22,7 @@ pub trait Filters {
     /// # Errors
     ///
     /// There is no memory for it.
-    fn text_of(&self, alloc: Global, line: &[u8]) -> Result<Option<String>, AllocError>
+    fn line_text(&self, alloc: Global, line: &[u8]) -> Result<Option<String>, AllocError>
         ensures { IfOk result (λ found. MatchOption found
             ((text : List ℕ) → ¬ gives self.now line.now text)
             (λ text. gives self.now line.now (string_bytes text))) };
@@ -55,7 +55,7 @@ pub fn filter_with<R: Source, W: Sink, F: Filters>(
     for number in 0..u64::MAX {
         match next_line(&mut ahead, source, &mut line) {
             Ok(Found::Line) => {
-                let Some(text) = filter.text_of(alloc, &line)? else {
+                let Some(text) = filter.line_text(alloc, &line)? else {
                     return Err(ReplayFault::BadLine(number + 1));
                 };
                 match write_all(sink, text.as_bytes()) {

@@ -2,7 +2,7 @@ ghost use Rattle.std.specs.Prelude.{◌≡◌, ◌<◌, ◌≤◌, IfErr, IfOk, 
 ghost use Rattle.std.specs.Result.{IsErrOf};
 ghost use Rattle.kd_replay.specs.Answering.{Gathers};
 ghost use Rattle.kd_replay.specs.Handling.{loop_fault_of, text_room};
-ghost use Rattle.kd_replay.specs.Serving.{EndsServing, GoesOn, HasServed, ServesTo, failed_in, traffic};
+ghost use Rattle.kd_replay.specs.Serving.{EndsServing, ServesOn, HasServed, ServesTo, failed_in, traffic};
 ghost use Rattle.kd_replay.specs.declared.fault.LoopFault.TheVariants as faults;
 
 use crate::answering::answer_all;
@@ -118,7 +118,7 @@ fn serve_from<L: Link, R: Sink, W: Sink, H: ServesAll>(
 ) -> Result<(), LoopFault>
     requires buffers { 0 < vec_len work.old.buffers }
     requires text { text_room ≤ vec_capacity work.old.text }
-    ensures served { GoesOn watch.limit H.latest H.batches result count
+    ensures served { ServesOn watch.limit H.latest H.batches result count
         (record { server = server.old; clocks = watch.clocks }) server.new
         (traffic L.Link R.Sink W.Sink link.old journal.old sink.old)
         (traffic L.Link R.Sink W.Sink link.new journal.new sink.new) }

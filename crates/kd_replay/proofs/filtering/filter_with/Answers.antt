@@ -1,18 +1,18 @@
-use Rattle.std.proofs.Common.{arith}
+use Rattle.std.proofs.Common.{arith, inl, inr, refl}
 use Rattle.std.proofs.lemmas.Result.{err_from_is_err_and}
-use Rattle.kd_replay.proofs.Filtered.{filtered_bad, filtered_cut, filtered_end, filtered_memory, filtered_read, filtered_too_long, goes_line, goes_none}
+use Rattle.kd_replay.proofs.Filtered.{filtered_bad, filtered_cut, filtered_end, filtered_memory, filtered_memory_at, filtered_read, filtered_too_long, goes_line, goes_none}
 use Rattle.kd_replay.proofs.Going.{none_ahead}
 use Rattle.kd_replay.proofs.filtering.filter_with.Goals as goal
 
 pub returns-in_err-ahead-clause-filtered : goal.returns-in_err-ahead-clause-filtered
 returns-in_err-ahead-clause-filtered g c = λ input old known told.
     let p = err_from_is_err_and c.from_residual.result c.from_residual.ensures.1 in
-    rw (p.1, p.2) (filtered_memory (g.F.Filters.gives c.args.filter.now) _ _ _ _ _ _ (goes_none (g.F.Filters.gives c.args.filter.now) input old _ _ known told))
+    rw (p.1, p.2) (filtered_memory (g.F.Filters.gives c.args.filter.now) _ _ _ _ _ _ (goes_none (g.F.Filters.gives c.args.filter.now) input old _ _ known told) (inl refl))
 
 pub returns-in_err-line-clause-filtered : goal.returns-in_err-line-clause-filtered
 returns-in_err-line-clause-filtered g c = λ input old known told.
     let p = err_from_is_err_and c.from_residual-in_err-line.result c.from_residual-in_err-line.ensures.1 in
-    rw (p.1, p.2) (filtered_memory (g.F.Filters.gives c.args.filter.now) _ _ _ _ _ _ (goes_none (g.F.Filters.gives c.args.filter.now) input old _ _ known told))
+    rw (p.1, p.2) (filtered_memory (g.F.Filters.gives c.args.filter.now) _ _ _ _ _ _ (goes_none (g.F.Filters.gives c.args.filter.now) input old _ _ known told) (inl refl))
 
 pub loop-number-init : goal.loop-number-init
 loop-number-init g c = record {
@@ -24,7 +24,9 @@ pub returns-in_err-text-in-Ok-Line-clause-filtered :
     goal.returns-in_err-text-in-Ok-Line-clause-filtered
 returns-in_err-text-in-Ok-Line-clause-filtered g c = λ input old known told.
     let p = err_from_is_err_and c.from_residual-in_err-text-in-Ok-Line.result c.from_residual-in_err-text-in-Ok-Line.ensures.1 in
-    rw (p.1, p.2) (filtered_memory (g.F.Filters.gives c.args.filter.now) _ _ _ _ _ _ (c.loop-number.invariant.goes input old known told))
+    let goes = c.loop-number.invariant.goes input old known told in
+    let found = rw c.in-Ok-Line.field-0-is at (c.in-Ok-Line.ensures.found goes.rest goes.known) in
+    rw (p.1, p.2) (filtered_memory_at (g.F.Filters.gives c.args.filter.now) _ _ _ _ _ _ goes _ _ found)
 
 pub returns-in_default-clause-filtered : goal.returns-in_default-clause-filtered
 returns-in_default-clause-filtered g c = λ input old known told.
@@ -70,4 +72,4 @@ loop-number-preserved g c = record {
 
 pub returns-clause-filtered : goal.returns-clause-filtered
 returns-clause-filtered g c = λ input old known told.
-    filtered_memory (g.F.Filters.gives c.args.filter.now) _ _ _ _ _ _ (c.loop-number.invariant.goes input old known told)
+    filtered_memory (g.F.Filters.gives c.args.filter.now) _ _ _ _ _ _ (c.loop-number.invariant.goes input old known told) (inr (inr (omega arith)))

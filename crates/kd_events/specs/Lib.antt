@@ -1,0 +1,5 @@
+pub mod Laws
+pub mod Logged
+pub mod Parts
+pub mod People
+pub mod Printed

@@ -1,0 +1,44 @@
+-- Words of private contracts alone: a text cut at a byte, and the words of a line.
+use Rattle.std.specs.Prelude.{◌≡◌, ℕ, List, [], ◌∷◌, ◌++◌, codes, decimal, ◌⊎◌}
+use Rattle.kd_event.specs.Reason.{reason_name, reason_number}
+use Rattle.kd_event.specs.declared.destination.Destination.{Destination}
+use Rattle.kd_event.specs.declared.event.Handled.{Handled}
+use Rattle.kd_event.specs.declared.event.Response.{Response}
+use Rattle.kd_event.specs.declared.event.Response.TheVariants as responses
+use Rattle.kd_replay.specs.Finding.{HasNo}
+use Rattle.kd_replay.specs.Text.{address_text, bytes_text, mode_word}
+use Rattle.kd_events.specs.Logged.{IsWritable}
+use Rattle.kd_events.specs.declared.words.Words.{Words}
+
+-- a text is cut at the first of a byte, or stays whole where it has none
+pub record IsCutOff (byte : ℕ) (text front back : List ℕ) : Type 0 where
+  pub plain : HasNo byte front
+  pub parts : (text ≡ front ++ byte ∷ back) ⊎ ((text ≡ front) × (back ≡ []))
+
+-- the second word of a line
+abbrev pub second_word : Response → List ℕ
+second_word (responses.Reply destination bytes) = codes "reply"
+second_word (responses.Quiet reason) = codes "quiet"
+
+-- the third word of a line
+abbrev pub third_word : Response → List ℕ
+third_word (responses.Reply destination bytes) = mode_word destination.mode
+third_word (responses.Quiet reason) = decimal (reason_number reason)
+
+-- what follows the third word of a reply's line
+abbrev pub after_mode : Destination → List ℕ → List ℕ
+after_mode destination bytes =
+    address_text destination.address ++ 58 ∷ (decimal destination.port ++ 32 ∷ bytes_text bytes)
+
+-- what follows the third word of a line
+abbrev pub after_third : Response → List ℕ
+after_third (responses.Reply destination bytes) = after_mode destination bytes
+after_third (responses.Quiet reason) = reason_name reason
+
+-- the words are those of the line of a handled event
+pub record AreLineWords (words : Words) (handled : Handled) : Type 0 where
+  pub moment : words.moment.now ≡ decimal handled.now
+  pub second : words.second.now ≡ second_word handled.response
+  pub third : words.third.now ≡ third_word handled.response
+  pub rest : words.rest.now ≡ after_third handled.response
+  pub writable : IsWritable handled

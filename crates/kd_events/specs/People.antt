@@ -1,0 +1,79 @@
+-- The text of a reply for people: one line of words, with one space between them.
+use Rattle.std.specs.Prelude.{◌≡◌, ℕ, ◌*◌, ◌<◌, ◌≤◌, ◌==◌, ◌⊎◌, List, [], ◌∷◌, ◌++◌, Option, None, Some, codes, decimal, if◌then◌else◌, nat_eq, pos}
+use Rattle.std.specs.List.{flat_map}
+use Rattle.std.specs.Map.{lookup}
+use Rattle.hex.specs.Hex.{encode_lower}
+use Rattle.jiff.specs.Types.{DateTime}
+use Rattle.jiff.specs.Words.{civil_nanos, iso_datetime_text}
+use Rattle.kd_options.specs.Joined.{value_of}
+use Rattle.kd_options.specs.Kind.{type_number}
+use Rattle.kd_options.specs.Message.{Seen, mac_of}
+use Rattle.kd_options.specs.RelayWalk.{relay_list}
+use Rattle.kd_options.specs.declared.kind.MessageType.{MessageType}
+use Rattle.kd_options.specs.declared.kind.MessageType.TheVariants as types
+use Rattle.kd_replay.specs.Text.{address_text, bytes_text}
+
+-- the last moment that has a date and time: 9999-12-30T22:00:00Z
+abbrev pub last_dated : ℕ
+last_dated = 253402207200
+
+-- a moment as date and time in UTC (RFC 3339), as `2026-11-26T14:03:07Z`
+pub record IsDateTimeText (moment : ℕ) (text : List ℕ) : Type 0 where
+  pub early : moment ≤ last_dated
+  pub clock : DateTime
+  pub at : civil_nanos clock ≡ pos (moment * 1000000000)
+  pub text_is : text ≡ iso_datetime_text clock ++ codes "Z"
+
+-- a moment: its date and time, or its seconds in decimal where it is later than the last
+abbrev pub IsTimeText : ℕ → List ℕ → Type 0
+IsTimeText moment text = IsDateTimeText moment text ⊎ ((last_dated < moment) × (text ≡ decimal moment))
+
+-- the name of a type of message (RFC 2131 section 2, without DHCP in front)
+abbrev pub type_word : MessageType → List ℕ
+type_word types.Discover = codes "DISCOVER"
+type_word types.Offer = codes "OFFER"
+type_word types.Request = codes "REQUEST"
+type_word types.Decline = codes "DECLINE"
+type_word types.Ack = codes "ACK"
+type_word types.Nak = codes "NAK"
+type_word types.Release = codes "RELEASE"
+type_word types.Inform = codes "INFORM"
+
+-- a byte of a hardware address, behind the one before
+abbrev pub colon_byte : ℕ → List ℕ
+colon_byte byte = codes ":" ++ encode_lower (byte ∷ [])
+
+-- a hardware address: its bytes in hexadecimal, with colons between them; no bytes are a dash
+abbrev pub mac_text : List ℕ → List ℕ
+mac_text [] = codes "-"
+mac_text (byte ∷ bytes) = encode_lower (byte ∷ []) ++ flat_map colon_byte bytes
+
+-- an address; 0.0.0.0 is a dash
+abbrev pub address_or_dash : ℕ → List ℕ
+address_or_dash a = if a == 0 then codes "-" else address_text a
+
+-- a value in hexadecimal; an absent or empty one is a dash
+abbrev pub value_text : Option (List ℕ) → List ℕ
+value_text None = codes "-"
+value_text (Some value) = bytes_text value
+
+-- a sub-option of relay information: 1 is the circuit, 2 the remote end (RFC 3046 section 2)
+abbrev pub relay_word : ℕ → Seen → List ℕ
+relay_word code m = value_text (lookup (nat_eq code) (relay_list m.options))
+
+-- what follows the type of a reply: the hardware address, the address that it gives, the client
+-- identifier (option 61), the relay, and two sub-options of its information
+abbrev pub reply_words : Seen → List ℕ
+reply_words m =
+    (codes " " ++ mac_text (mac_of m.header)) ++ (codes " " ++ address_or_dash m.header.yiaddr)
+    ++ (codes " client " ++ value_text (value_of 61 m.options))
+    ++ (codes " relay " ++ address_or_dash m.header.giaddr)
+    ++ (codes " circuit " ++ relay_word 1 m) ++ (codes " remote " ++ relay_word 2 m)
+
+-- the line of a reply for people, with its line feed
+pub record IsPeopleLine (moment : ℕ) (m : Seen) (text : List ℕ) : Type 0 where
+  pub time : List ℕ
+  pub kind : MessageType
+  pub time_is : IsTimeText moment time
+  pub kind_is : value_of 53 m.options ≡ Some (type_number kind ∷ [])
+  pub text_is : text ≡ time ++ (codes " " ++ type_word kind) ++ reply_words m ++ codes "\n"

@@ -1,0 +1,44 @@
+ghost use Rattle.std.specs.Prelude.{◌≡◌, List, Some, ℕ, true};
+ghost use Rattle.std.specs.Result.{IsErrOf};
+ghost use Rattle.kd_events.specs.Printed.{IsEventText};
+ghost use Rattle.kd_replay.specs.Filtering.{LeavesFiltered};
+ghost use Rattle.kd_replay.specs.declared.fault.ReplayFault.TheVariants as faults;
+
+use crate::filter::Filter;
+use crate::printed::text_of_line;
+use kd_replay::{Filters, ReplayFault, Sink, Source, filter_with};
+use std::alloc::{AllocError, Global};
+
+impl Filters for Filter {
+    ghost use Rattle.kd_events.specs.Printed.{IsEventText};
+
+    ghost gives = { λ filter line text. IsEventText filter line text };
+
+    fn line_text(&self, alloc: Global, line: &[u8]) -> Result<Option<String>, AllocError> {
+        text_of_line(alloc, line, self)
+    }
+}
+
+/// Writes the replies of a log that are asked for, a line each for people, up to the first line
+/// that is bad, and returns how many lines the log has.
+///
+/// # Errors
+///
+/// `BadLine` at the first line that is bad, counted from 1: one that is neither what a server
+/// writes of an event nor a remark, or that has more than 131,072 bytes; `Read` where the source
+/// fails; `Write` where the sink fails; `Memory`. What is printed for the lines before is written.
+pub fn events_with<R: Source, W: Sink>(
+    alloc: Global,
+    source: &mut R,
+    sink: &mut W,
+    filter: &Filter,
+) -> Result<u64, ReplayFault>
+    ensures printed { (input old : List ℕ) → R.remaining source.old ≡ Some input
+        → W.contents sink.old ≡ Some old
+        → LeavesFiltered (IsEventText filter.now) (R.has_failed source.new ≡ true) result input old
+        (W.contents sink.new) }
+    ensures read { IsErrOf result faults.Read → R.has_failed source.new ≡ true }
+    ensures write { IsErrOf result faults.Write → W.has_failed sink.new ≡ true }
+{
+    filter_with(alloc, source, sink, filter)
+}

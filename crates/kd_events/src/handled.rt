@@ -1,0 +1,174 @@
+ghost use Rattle.std.specs.Prelude.{◌≡◌, ◌↔◌, ◌++◌, ◌∷◌, ◌^◌, ◌<◌, ℕ, List, [], Some, IfOk, IfSome, IsTrue, MatchOption, decimal};
+ghost use Rattle.hex.specs.Hex.{IsBytes};
+ghost use Rattle.kd_event.specs.Reason.{reason_name};
+ghost use Rattle.kd_event.specs.declared.destination.Destination.{Destination};
+ghost use Rattle.kd_event.specs.declared.destination.Mode.{Mode};
+ghost use Rattle.kd_event.specs.declared.event.Handled.{Handled};
+ghost use Rattle.kd_event.specs.declared.event.Response.{Response};
+ghost use Rattle.kd_event.specs.declared.event.Response.TheVariants as responses;
+ghost use Rattle.kd_event.specs.declared.reason.Reason.{Reason};
+ghost use Rattle.kd_replay.specs.Text.{IsSmall, address_text, line_of, mode_word};
+ghost use Rattle.kd_events.specs.Logged.{HasBytes, IsHandledLine};
+ghost use Rattle.kd_events.specs.Parts.{AreLineWords, after_mode};
+
+use crate::address::address_of_word;
+use crate::bytes::bytes_of_word;
+use crate::cut::cut;
+use crate::number::{number_of_word, port_of_word};
+use crate::words::{Words, words_of};
+use kd_event::{Destination, Handled, Mode, Reason, Response};
+use kd_replay::event_line;
+use std::alloc::{AllocError, Global};
+
+// The most bytes that a reply has.
+const LONGEST_REPLY: usize = 1472;
+
+// The handled event of a line, if the line is one's. It is read without looking closely, and then
+// the line is compared with what is written of it.
+pub(crate) fn handled_of_line(alloc: Global, line: &[u8]) -> Result<Option<Handled>, AllocError>
+    ensures found { IfOk result (λ found. MatchOption found
+        ((handled : Handled) → ¬ IsHandledLine line.now handled)
+        (λ handled. IsHandledLine line.now handled)) }
+    ensures only { (handled : Handled) → IsHandledLine line.now handled
+        → IfOk result (λ found. found ≡ Some handled) }
+{
+    let Some(handled) = handled_with(alloc, words_of(line))? else {
+        return Ok(None);
+    };
+    if !is_small(&handled.response) || !is_written(alloc, &handled, line)? {
+        return Ok(None);
+    }
+    Ok(Some(handled))
+}
+
+// The handled event with these words.
+fn handled_with(alloc: Global, words: Words<'_>) -> Result<Option<Handled>, AllocError>
+    ensures only { (handled : Handled) → AreLineWords words.entry handled
+        → IfOk result (λ found. found ≡ Some handled) }
+    ensures moment { IfOk result (λ found. IfSome found (λ handled. handled.now < 2 ^ 64)) }
+    ensures bytes { IfOk result (λ found. IfSome found (λ handled. HasBytes handled.response)) }
+{
+    let Some(now) = number_of_word(words.moment) else {
+        return Ok(None);
+    };
+    let Some(response) = response_with(alloc, words)? else {
+        return Ok(None);
+    };
+    Ok(Some(Handled { now, response }))
+}
+
+// The response with these words.
+fn response_with(alloc: Global, words: Words<'_>) -> Result<Option<Response>, AllocError>
+    ensures only { (handled : Handled) → AreLineWords words.entry handled
+        → IfOk result (λ found. found ≡ Some handled.response) }
+    ensures bytes { IfOk result (λ found. IfSome found HasBytes) }
+{
+    match words.second {
+        b"reply" => reply_with(alloc, words.third, words.rest),
+        b"quiet" => Ok(quiet_with(words.rest)),
+        _ => Ok(None),
+    }
+}
+
+// The reply that is sent in a mode, with these words after it.
+fn reply_with(alloc: Global, mode: &[u8], rest: &[u8]) -> Result<Option<Response>, AllocError>
+    ensures only { (destination : Destination) (bytes : List ℕ)
+        → IsSmall (responses.Reply destination bytes) → IsBytes bytes
+        → mode.now ≡ mode_word destination.mode → rest.now ≡ after_mode destination bytes
+        → IfOk result (λ found. found ≡ Some (responses.Reply destination bytes)) }
+    ensures bytes { IfOk result (λ found. IfSome found HasBytes) }
+{
+    let (address, rest) = cut(rest, b':');
+    let (port, hex) = cut(rest, b' ');
+    let Some(destination) = destination_of_words(mode, address, port) else {
+        return Ok(None);
+    };
+    let Some(bytes) = bytes_of_word(alloc, hex)? else {
+        return Ok(None);
+    };
+    Ok(Some(Response::Reply(destination, bytes)))
+}
+
+fn destination_of_words(mode: &[u8], address: &[u8], port: &[u8]) -> Option<Destination>
+    ensures { (destination : Destination) → destination.address < 2 ^ 32
+        → destination.port < 2 ^ 16 → mode.now ≡ mode_word destination.mode
+        → address.now ≡ address_text destination.address → port.now ≡ decimal destination.port
+        → result ≡ Some destination }
+{
+    Some(Destination {
+        mode: mode_of_word(mode)?,
+        address: address_of_word(address)?,
+        port: port_of_word(port)?,
+    })
+}
+
+// The mode of a text that is the word for one.
+fn mode_of_word(word: &[u8]) -> Option<Mode>
+    ensures { (mode : Mode) → word.now ≡ mode_word mode → result ≡ Some mode }
+{
+    match word {
+        b"relay" => Some(Mode::Relay),
+        b"unicast" => Some(Mode::Unicast),
+        b"broadcast" => Some(Mode::Broadcast),
+        b"hardware" => Some(Mode::Hardware),
+        _ => None,
+    }
+}
+
+// The response without a reply whose reason has this name.
+fn quiet_with(name: &[u8]) -> Option<Response>
+    ensures only { (reason : Reason) → name.now ≡ reason_name reason
+        → result ≡ Some (responses.Quiet reason) }
+    ensures bytes { IfSome result HasBytes }
+{
+    Some(Response::Quiet(reason_of_name(name)?))
+}
+
+// The reason of a text that is the name of one.
+fn reason_of_name(name: &[u8]) -> Option<Reason>
+    ensures { (reason : Reason) → name.now ≡ reason_name reason → result ≡ Some reason }
+{
+    match name {
+        b"Unreadable" => Some(Reason::Unreadable),
+        b"NotRequest" => Some(Reason::NotRequest),
+        b"NoIdentity" => Some(Reason::NoIdentity),
+        b"DropClass" => Some(Reason::DropClass),
+        b"NoSubnet" => Some(Reason::NoSubnet),
+        b"NoAddress" => Some(Reason::NoAddress),
+        b"NoRequested" => Some(Reason::NoRequested),
+        b"OtherServer" => Some(Reason::OtherServer),
+        b"NoRecord" => Some(Reason::NoRecord),
+        b"NoCiaddr" => Some(Reason::NoCiaddr),
+        b"ReplyTooLong" => Some(Reason::ReplyTooLong),
+        b"Released" => Some(Reason::Released),
+        b"Declined" => Some(Reason::Declined),
+        b"NotHeld" => Some(Reason::NotHeld),
+        _ => None,
+    }
+}
+
+// Whether a reply has no more bytes than a server sends.
+fn is_small(response: &Response) -> bool
+    ensures { IsTrue result ↔ IsSmall response.now }
+{
+    match response {
+        Response::Reply(destination, bytes) => {
+            // They are below 2^32 and 2^16.
+            let (_address, _port) = (destination.address, destination.port);
+            bytes.as_slice().len() <= LONGEST_REPLY
+        }
+        Response::Quiet(_) => true,
+    }
+}
+
+// Whether a line, with a line feed, is what is written of a handled event.
+fn is_written(alloc: Global, handled: &Handled, line: &[u8]) -> Result<bool, AllocError>
+    requires { IsSmall handled.now.response }
+    ensures { IfOk result (λ same. IsTrue same ↔ (line_of handled.entry.now ≡ line.now ++ 10 ∷ [])) }
+{
+    let text = event_line(alloc, handled)?;
+    match text.as_slice().split_last() {
+        Some((_, front)) => Ok(front == line),
+        None => Ok(false),
+    }
+}

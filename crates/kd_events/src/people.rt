@@ -1,0 +1,150 @@
+ghost use Rattle.std.specs.Prelude.{◌≡◌, ◌∷◌, ◌++◌, [], IfOk, OnOk, codes, option_copied, string_bytes};
+ghost use Rattle.std.specs.List.{flat_map};
+ghost use Rattle.hex.specs.Hex.{encode_lower};
+ghost use Rattle.kd_options.specs.Message.{mac_of};
+ghost use Rattle.kd_replay.specs.Text.{address_text, bytes_text};
+ghost use Rattle.kd_events.specs.People.{IsPeopleLine, address_or_dash, colon_byte, mac_text, reply_words, type_word, value_text};
+
+use crate::time::time_text;
+use kd_options::{Message, MessageType};
+use std::alloc::{AllocError, Global};
+use std::fmt::Write;
+
+const OPTION_CLIENT_IDENTIFIER: u8 = 61;
+
+const RELAY_CIRCUIT: u8 = 1;
+
+const RELAY_REMOTE: u8 = 2;
+
+// The line of a reply for people, with its line feed.
+pub(crate) fn people_line(
+    alloc: Global,
+    moment: u64,
+    message: &Message<'_>,
+) -> Result<String, AllocError>
+    ensures { IfOk result (λ text. IsPeopleLine moment message.now (string_bytes text)) }
+{
+    let mut out = time_text(alloc, moment)?;
+    put_type(&mut out, message.kind())?;
+    put_reply(alloc, &mut out, message)?;
+    out.push_str("\n")?;
+    Ok(out)
+}
+
+fn put_type(out: &mut String, kind: MessageType) -> Result<(), AllocError>
+    ensures { OnOk result
+        (string_bytes out.new ≡ string_bytes out.old ++ (codes " " ++ type_word kind)) }
+{
+    out.push_str(" ")?;
+    out.push_str(type_name(kind))
+}
+
+fn type_name(kind: MessageType) -> &'static str
+    ensures { result.now ≡ type_word kind }
+{
+    match kind {
+        MessageType::Discover => "DISCOVER",
+        MessageType::Offer => "OFFER",
+        MessageType::Request => "REQUEST",
+        MessageType::Decline => "DECLINE",
+        MessageType::Ack => "ACK",
+        MessageType::Nak => "NAK",
+        MessageType::Release => "RELEASE",
+        MessageType::Inform => "INFORM",
+    }
+}
+
+// What follows the type of a reply.
+fn put_reply(alloc: Global, out: &mut String, message: &Message<'_>) -> Result<(), AllocError>
+    ensures { OnOk result (string_bytes out.new ≡ string_bytes out.old ++ reply_words message.now) }
+{
+    let header = message.header();
+    put_mac(alloc, out, message.mac())?;
+    put_address(out, " ", header.yiaddr)?;
+    put_value(
+        alloc,
+        out,
+        " client ",
+        message.option(OPTION_CLIENT_IDENTIFIER),
+    )?;
+    put_address(out, " relay ", header.giaddr)?;
+    put_value(alloc, out, " circuit ", message.relay(RELAY_CIRCUIT))?;
+    put_value(alloc, out, " remote ", message.relay(RELAY_REMOTE))
+}
+
+// A space and a hardware address.
+fn put_mac(alloc: Global, out: &mut String, mac: &[u8]) -> Result<(), AllocError>
+    ensures { OnOk result
+        (string_bytes out.new ≡ string_bytes out.old ++ (codes " " ++ mac_text mac.now)) }
+{
+    out.push_str(" ")?;
+    match mac {
+        [] => out.push_str("-"),
+        [byte, rest @ ..] => {
+            put_byte(alloc, out, *byte)?;
+            put_bytes_behind(alloc, out, rest)
+        }
+    }
+}
+
+// The bytes of a hardware address behind its first.
+fn put_bytes_behind(alloc: Global, out: &mut String, bytes: &[u8]) -> Result<(), AllocError>
+    ensures { OnOk result
+        (string_bytes out.new ≡ string_bytes out.old ++ flat_map colon_byte bytes.now) }
+{
+    for byte in bytes {
+        out.push_str(":")?;
+        put_byte(alloc, out, *byte)?;
+    }
+    Ok(())
+}
+
+fn put_byte(alloc: Global, out: &mut String, byte: u8) -> Result<(), AllocError>
+    ensures { OnOk result
+        (string_bytes out.new ≡ string_bytes out.old ++ encode_lower (byte ∷ [])) }
+{
+    let text = hex::encode(alloc, [byte])?;
+    out.push_str(text.as_str())
+}
+
+// A word, and a value in hexadecimal.
+fn put_value(
+    alloc: Global,
+    out: &mut String,
+    word: &str,
+    value: Option<&[u8]>,
+) -> Result<(), AllocError>
+    ensures { OnOk result (string_bytes out.new
+        ≡ string_bytes out.old ++ (word.now ++ value_text (option_copied value.entry))) }
+{
+    out.push_str(word)?;
+    match value {
+        Some(bytes) => put_bytes(alloc, out, bytes),
+        None => out.push_str("-"),
+    }
+}
+
+fn put_bytes(alloc: Global, out: &mut String, bytes: &[u8]) -> Result<(), AllocError>
+    ensures { OnOk result (string_bytes out.new ≡ string_bytes out.old ++ bytes_text bytes.now) }
+{
+    if bytes.is_empty() {
+        return out.push_str("-");
+    }
+    let text = hex::encode(alloc, bytes)?;
+    out.push_str(text.as_str())
+}
+
+// A word, and an address in decimal.
+fn put_address(out: &mut String, word: &str, address: u32) -> Result<(), AllocError>
+    ensures { OnOk result
+        (string_bytes out.new ≡ string_bytes out.old ++ (word.now ++ address_or_dash address)) }
+{
+    if address == 0 {
+        return write!(out, "{word}-");
+    }
+    let first = address / 0x100_0000;
+    let second = address / 0x1_0000 % 256;
+    let third = address / 0x100 % 256;
+    let last = address % 256;
+    write!(out, "{word}{first}.{second}.{third}.{last}")
+}

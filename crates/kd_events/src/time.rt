@@ -1,0 +1,35 @@
+ghost use Rattle.std.specs.Prelude.{◌≡◌, ◌*◌, ◌<◌, ◌≤◌, IfOk, MatchOption, pos, string_bytes};
+ghost use Rattle.jiff.specs.Words.{civil_nanos};
+ghost use Rattle.kd_events.specs.People.{IsTimeText, last_dated};
+
+use jiff::Timestamp;
+use jiff::civil::DateTime;
+use jiff::tz::Offset;
+use std::alloc::{AllocError, Global};
+
+// The last moment that has a date and time.
+const LAST_DATED: u64 = 253_402_207_200;
+
+// A moment as date and time in UTC, or its seconds in decimal where it is later than the last.
+pub(crate) fn time_text(alloc: Global, moment: u64) -> Result<String, AllocError>
+    ensures { IfOk result (λ text. IsTimeText moment (string_bytes text)) }
+{
+    match clock_at(moment) {
+        Some(clock) => format!(in alloc; "{clock}Z"),
+        None => format!(in alloc; "{moment}"),
+    }
+}
+
+// What a clock at UTC shows at a moment.
+fn clock_at(moment: u64) -> Option<DateTime>
+    ensures { MatchOption result (last_dated < moment) (λ clock.
+        (moment ≤ last_dated) × (civil_nanos clock ≡ pos (moment * 1000000000))) }
+{
+    if moment > LAST_DATED {
+        return None;
+    }
+    match Timestamp::from_second(moment as i64) {
+        Ok(timestamp) => Some(Offset::UTC.to_datetime(timestamp)),
+        Err(_) => unreachable!(),
+    }
+}
