@@ -60,8 +60,9 @@ pub(crate) fn some_ahead(
     false
 }
 
-// Whether the latest change is too far ahead of a moment.
-pub(crate) fn starts_behind(limit: Option<u64>, latest: u64, moment: u64) -> bool
+/// Whether a moment is behind the latest change by more than a limit, in seconds; without a limit it
+/// is not.
+pub fn starts_behind(limit: Option<u64>, latest: u64, moment: u64) -> bool
     ensures { result ≡ is_behind limit latest moment }
 {
     match limit {

@@ -37,7 +37,7 @@ mod writing;
 
 pub use arrived::Arrived;
 pub use bytes::replay_bytes;
-pub use clocks::Clocks;
+pub use clocks::{Clocks, starts_behind};
 pub use ends::{EndFailed, Sink, Source};
 pub use fault::{LoopFault, ReplayFault, ServeFault};
 pub use filtering::{Filters, filter_with};

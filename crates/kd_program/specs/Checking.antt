@@ -1,0 +1,86 @@
+-- What a check of a start finds: the number of the fault with which serving would end there, or none.
+use Rattle.std.specs.Prelude.{◌≡◌, ◌⊎◌, ℕ, Bool, true, false, List, [], ◌∷◌, Option, Some, None, Result, Ok, Err, if◌then◌else◌, option_map, string_bytes}
+use Rattle.std.specs.Result.{result_err}
+use Rattle.kd_check.specs.declared.findings.StoreTrouble.{StoreTrouble}
+use Rattle.kd_check.specs.declared.findings.StoreTrouble.TheVariants as troubles
+use Rattle.kd_check.specs.declared.findings.SocketTrouble.{SocketTrouble}
+use Rattle.kd_config.specs.Configuration.{Configuration}
+use Rattle.kd_io.specs.Faults.{look_fault_number, start_fault_number}
+use Rattle.kd_io.specs.declared.look.LookFault.{LookFault}
+use Rattle.kd_io.specs.declared.start.StartFault.{StartFault}
+use Rattle.kd_program.specs.Streams.{ShowsOrBreaks, Starves, Streams}
+use Rattle.kd_program.specs.declared.host.Host.{Ghosts as Hosts}
+use Rattle.kd_program.specs.declared.serving.Files.{Files}
+use Rattle.kd_replay.specs.Ahead.{is_behind}
+use Rattle.kd_rows.specs.Table.{latest_of}
+use Rattle.kd_rows.specs.declared.row.Row.{Row}
+use Rattle.kd_tools.specs.Status.{status_of}
+
+-- the exit status of a check: that of the first fault that was found
+abbrev pub check_status : List (Option ℕ) → ℕ
+check_status [] = 0
+check_status (None ∷ more) = check_status more
+check_status (Some number ∷ more) = status_of number
+
+-- the number of the fault of a store that is not opened
+abbrev pub trouble_number : StoreTrouble → ℕ
+trouble_number troubles.Schema = 80
+trouble_number other = 81
+
+-- what is found of a configuration, a socket
+abbrev pub config_finding : Result Configuration StartFault → Option ℕ
+config_finding result = option_map (λ fault. start_fault_number fault) (result_err result)
+
+abbrev pub socket_finding : Result Bool SocketTrouble → Option ℕ
+socket_finding answer = option_map (λ trouble. 94) (result_err answer)
+
+-- what is found of rows that were read: whether the clock is behind them by more than the limit
+abbrev pub rows_finding : Option ℕ → List Row → ℕ → Option ℕ
+rows_finding limit rows moment = if is_behind limit (latest_of rows) moment then Some 101 else None
+
+-- over a host
+module _ {H N U L R : Type 0} (h : Hosts H N U L R) where
+  -- the rows of a database are read, and the clock is asked; or they are not read
+  abbrev pub FindsRows : List ℕ → Option ℕ → H → H → Option ℕ → Type 0
+  FindsRows path limit before after found =
+      ((rows : List Row) × (moment : ℕ) × h.copies before path (Ok rows) after
+      × h.tells_time after moment × (found ≡ rows_finding limit rows moment))
+      ⊎ ((fault : LookFault) × h.copies before path (Err fault) after
+      × (found ≡ Some (look_fault_number fault)))
+
+  -- a database was tried: it is in trouble, or not there, or its rows are looked at
+  abbrev pub FindsDatabase : List ℕ → Option ℕ → Result Bool StoreTrouble → H → H → Option ℕ → Type 0
+  FindsDatabase path limit (Err trouble) before after found =
+      (after ≡ before) × (found ≡ Some (trouble_number trouble))
+  FindsDatabase path limit (Ok false) before after found = (after ≡ before) × (found ≡ None)
+  FindsDatabase path limit (Ok true) before after found = FindsRows path limit before after found
+
+  -- the store at a path is tried, where there is a path
+  abbrev pub FindsStore : Option (List ℕ) → Option ℕ → H → H → Option ℕ → Type 0
+  FindsStore None limit before after found = (after ≡ before) × (found ≡ None)
+  FindsStore (Some path) limit before after found =
+      (answer : Result Bool StoreTrouble) × h.tries before path answer
+      × FindsDatabase path limit answer before after found
+
+  -- a socket at an address and a port is tried
+  abbrev pub FindsSocket : ℕ → ℕ → H → Option ℕ → Type 0
+  FindsSocket address port host found =
+      (answer : Result Bool SocketTrouble) × h.reaches host address port answer
+      × (found ≡ socket_finding answer)
+
+  -- the steps of a start are tried in their order, a report of them is shown, and the exit status is
+  -- that of the first fault; memory may run out for the report
+  pub record ChecksStart (files : Files) (address port : ℕ) (limit : Option ℕ)
+      (before after : H) (status : ℕ) (old new : Streams) : Type 0 where
+    pub config : Result Configuration StartFault
+    pub asked : H
+    pub given : h.configures before (option_map string_bytes files.config)
+        (option_map string_bytes files.token_dir) config asked
+    pub store : Option ℕ
+    pub store_found : FindsStore (option_map string_bytes files.store) limit asked after store
+    pub socket : Option ℕ
+    pub socket_found : FindsSocket address port after socket
+    pub report : List ℕ
+    pub shown : ShowsOrBreaks report (check_status (config_finding config ∷ store ∷ socket ∷ []))
+        status old.output new.output old.faults new.faults
+        ⊎ Starves status old new
