@@ -16,13 +16,13 @@ use Rattle.clap.specs.declared.parser.matches.ArgMatches.TheViews.{out-ArgMatche
 use Rattle.clap.specs.declared.parser.matches.SubCommand.{SubCommand}
 use Rattle.clap.proofs.WalkLemmas.{first_value-rows}
 use Rattle.clap.proofs.OnLiterals.{clap_on_literals}
-use Rattle.kd_commands.specs.Order.{Asked, Asks, AsksFor, GivesUnlessFull, HasFault, HelpsUnlessFull, asked_by, asked_of, command_line, compiles, evaluates, evaluation_of, flag_is_given, given_by, imports, listing_of, lists, looks, pools_listing, replays, serves, serving_of, shows, tests, types, verifies}
+use Rattle.kd_commands.specs.Order.{Asked, Asks, AsksFor, GivesUnlessFull, HasFault, HelpsUnlessFull, asked_by, asked_of, checking_of, checks, command_line, compiles, evaluates, evaluation_of, filtering_of, filters, flag_is_given, given_by, imports, listing_of, lists, looks, pools_listing, replays, serves, serving_of, shows, tests, types, verifies}
 use Rattle.kd_commands.proofs.Lines.{one_asked}
 use Rattle.kd_commands.specs.Steps.{AnswersKind, GivesIfThere}
 use Rattle.kd_commands.specs.declared.fault.LineFault.{LineFault}
 use Rattle.kd_commands.specs.declared.fault.LineFault.TheVariants.{CommandLine, Memory}
 use Rattle.kd_commands.specs.declared.orders.Order.{Order}
-use Rattle.kd_commands.specs.declared.orders.Order.TheVariants.{Help, Show, Expr, Compile, Verify, Eval, EvalText, Replay, Import, Look, Serve, List as ListOrder}
+use Rattle.kd_commands.specs.declared.orders.Order.TheVariants.{Help, Show, Expr, Compile, Verify, Eval, EvalText, Replay, Check, Events, Import, Look, Serve, List as ListOrder}
 use Rattle.kd_commands.specs.declared.orders.Listing.{Listing}
 use Rattle.kd_commands.specs.declared.orders.Listing.TheVariants.{Leases}
 
@@ -70,7 +70,20 @@ asks_for ws (Look listing config token_dir store at) asked gives h =
     let is : looks listing (option_map string_bytes config) (option_map string_bytes token_dir) (string_bytes store) at ≡ asked = cc in
     subst (Asks ws) (sym is) h
 asks_for ws (Import store) asked gives h = let is : imports (string_bytes store) ≡ asked = cc in subst (Asks ws) (sym is) h
-asks_for ws (Serve config token_dir store listening count journal) asked gives h =
+asks_for ws (Events mac address) asked gives h =
+    let is : filters (option_map (λ bytes. bytes.items) mac) address ≡ asked = cc in
+    subst (Asks ws) (sym is) h
+asks_for ws (Check config token_dir store bind port max_ahead) asked gives h =
+    let is : checks (record {
+      config = option_map string_bytes config;
+      token_dir = option_map string_bytes token_dir;
+      store = option_map string_bytes store;
+      bind = bind;
+      port = port;
+      max_ahead = max_ahead;
+    }) ≡ asked = cc in
+    subst (Asks ws) (sym is) h
+asks_for ws (Serve config token_dir store listening count journal max_ahead) asked gives h =
     let is : serves (record {
       config = option_map string_bytes config;
       token_dir = option_map string_bytes token_dir;
@@ -78,6 +91,7 @@ asks_for ws (Serve config token_dir store listening count journal) asked gives h
       listening = listening;
       count = count;
       journal = option_map string_bytes journal;
+      max_ahead = max_ahead;
     }) ≡ asked = cc in
     subst (Asks ws) (sym is) h
 
@@ -158,53 +172,55 @@ names_in (Some b) = refl
 names : (m : ArgMatches) → option_map (λ p. p.0) (subcommand_rows_of m) ≡ subcommand_name_of m
 names m = names_in (out-ArgMatches m).subcommand
 
--- what the subcommand of this name asks for
-at_name : (m : ArgMatches) (name wanted : Text) (rows : List Row) → Some name ≡ subcommand_name_of m
-    → Some rows ≡ option_map (λ p. p.1) (subcommand_rows_of m) → name ≡ wanted
-    → asked_of (subcommand_rows_of m) ≡ asked_by wanted rows
-at_name m name wanted rows named has is = go (subcommand_rows_of m) (named ∙ sym (names m)) has
+-- what the subcommand that was entered asks for
+pub at_entered : (m inner : ArgMatches) (name : Text) (r : Result Order LineFault) → Some name ≡ subcommand_name_of m
+    → Some (rows_of (found_of inner)) ≡ option_map (λ p. p.1) (subcommand_rows_of m)
+    → GivesIfThere (asked_by name (rows_of (found_of inner))) r → GivesIfThere (asked_of (subcommand_rows_of m)) r
+at_entered m inner name r named has gives =
+    subst (λ o. GivesIfThere o r) (sym (go (subcommand_rows_of m) (named ∙ sym (names m)) has)) gives
   where
-    go : (o : Option (Text × List Row)) → Some name ≡ option_map (λ p. p.0) o → Some rows ≡ option_map (λ p. p.1) o
-        → asked_of o ≡ asked_by wanted rows
+    go : (o : Option (Text × List Row)) → Some name ≡ option_map (λ p. p.0) o → Some (rows_of (found_of inner)) ≡ option_map (λ p. p.1) o
+        → asked_of o ≡ asked_by name (rows_of (found_of inner))
     go None n h = cc
     go (Some p) n h =
-        let is_name : p.0 ≡ wanted = let same : Some name ≡ Some p.0 = n in cc in
-        let is_rows : p.1 ≡ rows = let same : Some rows ≡ Some p.1 = h in cc in
+        let is_name : p.0 ≡ name = let same : Some name ≡ Some p.0 = n in cc in
+        let is_rows : p.1 ≡ rows_of (found_of inner) = let same : Some (rows_of (found_of inner)) ≡ Some p.1 = h in cc in
         ap₂ asked_by is_name is_rows
 
+-- which is what the subcommand of its name does
+named : (name wanted : Text) (inner : ArgMatches) → name ≡ wanted → asked_by name (rows_of (found_of inner)) ≡ asked_by wanted (rows_of (found_of inner))
+named name wanted inner is = ap (λ x. asked_by x (rows_of (found_of inner))) is
+
 -- what is made of the text of this subcommand
-pub at_text : (m inner : ArgMatches) (name wanted id : Text) (f : Text → Asked) (r : Result Order LineFault) → Some name ≡ subcommand_name_of m
-    → Some (rows_of (found_of inner)) ≡ option_map (λ p. p.1) (subcommand_rows_of m) → name ≡ wanted
+pub at_text : (inner : ArgMatches) (name wanted id : Text) (f : Text → Asked) (r : Result Order LineFault) → name ≡ wanted
     → asked_by wanted (rows_of (found_of inner)) ≡ option_map f (first_of id (rows_of (found_of inner)))
-    → GivesIfThere (option_map f (first_value (found_of inner) id)) r → GivesIfThere (asked_of (subcommand_rows_of m)) r
-at_text m inner name wanted id f r named has is asks gives =
-    let same : option_map f (first_value (found_of inner) id) ≡ asked_of (subcommand_rows_of m) =
-    ap (option_map f) (first_value-rows (found_of inner) id) ∙ sym (at_name m name wanted (rows_of (found_of inner)) named has is ∙ asks) in
+    → GivesIfThere (option_map f (first_value (found_of inner) id)) r → GivesIfThere (asked_by name (rows_of (found_of inner))) r
+at_text inner name wanted id f r is asks gives =
+    let same : option_map f (first_value (found_of inner) id) ≡ asked_by name (rows_of (found_of inner)) =
+    ap (option_map f) (first_value-rows (found_of inner) id) ∙ sym (named name wanted inner is ∙ asks) in
     subst (λ o. GivesIfThere o r) same gives
 
 -- what is made of the flag and the two texts of `eval`
-pub at_eval : (m inner : ArgMatches) (name : Text) (r : Result Order LineFault) → Some name ≡ subcommand_name_of m
-    → Some (rows_of (found_of inner)) ≡ option_map (λ p. p.1) (subcommand_rows_of m) → name ≡ codes "eval"
+pub at_eval : (inner : ArgMatches) (name : Text) (r : Result Order LineFault) → name ≡ codes "eval"
     → GivesIfThere (evaluation_of (first_value (found_of inner) (codes "text")) (first_value (found_of inner) (codes "PROGRAM")) (first_value (found_of inner) (codes "DATAGRAM"))) r
-    → GivesIfThere (asked_of (subcommand_rows_of m)) r
-at_eval m inner name r named has is gives =
+    → GivesIfThere (asked_by name (rows_of (found_of inner))) r
+at_eval inner name r is gives =
     let value = first_value-rows (found_of inner) (codes "text") in
     let program = first_value-rows (found_of inner) (codes "PROGRAM") in
     let datagram = first_value-rows (found_of inner) (codes "DATAGRAM") in
-    let at_name_is = at_name m name (codes "eval") (rows_of (found_of inner)) named has is in
+    let at_name_is = named name (codes "eval") inner is in
     subst (λ o. GivesIfThere o r) (sym at_name_is) (rw (value, program, datagram) at gives)
 
 -- what is made of the options of `replay`
-pub at_replay : (m inner : ArgMatches) (name : Text) (r : Result Order LineFault) → Some name ≡ subcommand_name_of m
-    → Some (rows_of (found_of inner)) ≡ option_map (λ p. p.1) (subcommand_rows_of m) → name ≡ codes "replay"
+pub at_replay : (inner : ArgMatches) (name : Text) (r : Result Order LineFault) → name ≡ codes "replay"
     → GivesIfThere (Some (replays (first_value (found_of inner) (codes "config")) (first_value (found_of inner) (codes "token-dir"))
     (first_value (found_of inner) (codes "store")))) r
-    → GivesIfThere (asked_of (subcommand_rows_of m)) r
-at_replay m inner name r named has is gives =
+    → GivesIfThere (asked_by name (rows_of (found_of inner))) r
+at_replay inner name r is gives =
     let config = first_value-rows (found_of inner) (codes "config") in
     let token_dir = first_value-rows (found_of inner) (codes "token-dir") in
     let store = first_value-rows (found_of inner) (codes "store") in
-    let at_name_is = at_name m name (codes "replay") (rows_of (found_of inner)) named has is in
+    let at_name_is = named name (codes "replay") inner is in
     subst (λ o. GivesIfThere o r) (sym at_name_is) (rw (config, token_dir, store) at gives)
 
 -- what is made of the options of `leases` or of `pools`
@@ -215,44 +231,65 @@ listed_of listing text = listing_of listing (text (codes "config")) (text (codes
 same_listed : (listing : Listing) (f g : Text → Option Text) → ((n : Text) → f n ≡ g n) → listed_of listing f ≡ listed_of listing g
 same_listed listing f g same = rw (same (codes "config"), same (codes "token-dir"), same (codes "store"), same (codes "live"), same (codes "at")) refl
 
-pub at_leases : (m inner : ArgMatches) (name : Text) (r : Result Order LineFault) → Some name ≡ subcommand_name_of m
-    → Some (rows_of (found_of inner)) ≡ option_map (λ p. p.1) (subcommand_rows_of m) → name ≡ codes "leases"
+pub at_leases : (inner : ArgMatches) (name : Text) (r : Result Order LineFault) → name ≡ codes "leases"
     → GivesIfThere (listed_of Leases (λ n. first_value (found_of inner) n)) r
-    → GivesIfThere (asked_of (subcommand_rows_of m)) r
-at_leases m inner name r named has is gives =
+    → GivesIfThere (asked_by name (rows_of (found_of inner))) r
+at_leases inner name r is gives =
     let same = same_listed Leases (λ n. first_value (found_of inner) n) (λ n. first_of n (rows_of (found_of inner))) (λ n. first_value-rows (found_of inner) n) in
-    let at_name_is = at_name m name (codes "leases") (rows_of (found_of inner)) named has is in
+    let at_name_is = named name (codes "leases") inner is in
     subst (λ o. GivesIfThere o r) (same ∙ sym at_name_is) gives
 
-pub at_pools : (m inner : ArgMatches) (name : Text) (r : Result Order LineFault) → Some name ≡ subcommand_name_of m
-    → Some (rows_of (found_of inner)) ≡ option_map (λ p. p.1) (subcommand_rows_of m) → name ≡ codes "pools"
+pub at_pools : (inner : ArgMatches) (name : Text) (r : Result Order LineFault) → name ≡ codes "pools"
     → GivesIfThere (listed_of (pools_listing (first_value (found_of inner) (codes "prometheus"))) (λ n. first_value (found_of inner) n)) r
-    → GivesIfThere (asked_of (subcommand_rows_of m)) r
-at_pools m inner name r named has is gives =
+    → GivesIfThere (asked_by name (rows_of (found_of inner))) r
+at_pools inner name r is gives =
     let text : Text → Option Text = λ n. first_value (found_of inner) n in
     let printed : pools_listing (text (codes "prometheus")) ≡ pools_listing (first_of (codes "prometheus") (rows_of (found_of inner))) =
     ap pools_listing (first_value-rows (found_of inner) (codes "prometheus")) in
     let same = same_listed (pools_listing (first_of (codes "prometheus") (rows_of (found_of inner)))) text (λ n. first_of n (rows_of (found_of inner)))
     (λ n. first_value-rows (found_of inner) n) in
-    let at_name_is = at_name m name (codes "pools") (rows_of (found_of inner)) named has is in
+    let at_name_is = named name (codes "pools") inner is in
     subst (λ o. GivesIfThere o r) (ap (λ listing. listed_of listing text) printed ∙ same ∙ sym at_name_is) gives
+
+-- what is made of the options of `events`
+pub at_events : (inner : ArgMatches) (name : Text) (r : Result Order LineFault) → name ≡ codes "events"
+    → GivesIfThere (filtering_of (first_value (found_of inner) (codes "mac")) (first_value (found_of inner) (codes "address"))) r
+    → GivesIfThere (asked_by name (rows_of (found_of inner))) r
+at_events inner name r is gives =
+    let same = ap₂ filtering_of (first_value-rows (found_of inner) (codes "mac")) (first_value-rows (found_of inner) (codes "address")) in
+    let at_name_is = named name (codes "events") inner is in
+    subst (λ o. GivesIfThere o r) (same ∙ sym at_name_is) gives
+
+-- what is made of the options of `check`
+same_checking : (f g : Text → Option Text) → ((n : Text) → f n ≡ g n) → checking_of f ≡ checking_of g
+same_checking f g same =
+    rw (same (codes "config"), same (codes "token-dir"), same (codes "store"), same (codes "bind"), same (codes "port"), same (codes "max-ahead")) refl
+
+pub at_check : (inner : ArgMatches) (name : Text) (r : Result Order LineFault) → name ≡ codes "check"
+    → GivesIfThere (checking_of (λ option. first_value (found_of inner) option)) r
+    → GivesIfThere (asked_by name (rows_of (found_of inner))) r
+at_check inner name r is gives =
+    let same = same_checking (λ n. first_value (found_of inner) n) (λ n. first_of n (rows_of (found_of inner))) (λ n. first_value-rows (found_of inner) n) in
+    let at_name_is = named name (codes "check") inner is in
+    subst (λ o. GivesIfThere o r) (same ∙ sym at_name_is) gives
 
 -- what is made of the options of `serve`
 same_serving : (f g : Text → Option Text) → f (codes "config") ≡ g (codes "config") → f (codes "token-dir") ≡ g (codes "token-dir")
     → f (codes "store") ≡ g (codes "store") → f (codes "bind") ≡ g (codes "bind") → f (codes "port") ≡ g (codes "port")
     → f (codes "client-port") ≡ g (codes "client-port") → f (codes "count") ≡ g (codes "count") → f (codes "broadcast-as") ≡ g (codes "broadcast-as")
-    → f (codes "mirror") ≡ g (codes "mirror") → f (codes "record") ≡ g (codes "record") → serving_of f ≡ serving_of g
-same_serving f g config token_dir store bind port client_port count broadcast_as mirror journal =
-    rw (config, token_dir, store, bind, port, client_port, count, broadcast_as, mirror, journal) refl
+    → f (codes "mirror") ≡ g (codes "mirror") → f (codes "record") ≡ g (codes "record") → f (codes "max-ahead") ≡ g (codes "max-ahead")
+    → serving_of f ≡ serving_of g
+same_serving f g config token_dir store bind port client_port count broadcast_as mirror journal max_ahead =
+    rw (config, token_dir, store, bind, port, client_port, count, broadcast_as, mirror, journal, max_ahead) refl
 
-pub at_serve : (m inner : ArgMatches) (name : Text) (r : Result Order LineFault) → Some name ≡ subcommand_name_of m
-    → Some (rows_of (found_of inner)) ≡ option_map (λ p. p.1) (subcommand_rows_of m) → name ≡ codes "serve"
+pub at_serve : (inner : ArgMatches) (name : Text) (r : Result Order LineFault) → name ≡ codes "serve"
     → GivesIfThere (serving_of (λ option. first_value (found_of inner) option)) r
-    → GivesIfThere (asked_of (subcommand_rows_of m)) r
-at_serve m inner name r named has is gives =
+    → GivesIfThere (asked_by name (rows_of (found_of inner))) r
+at_serve inner name r is gives =
     let value : (option : Text) → first_value (found_of inner) option ≡ first_of option (rows_of (found_of inner)) = λ option. first_value-rows (found_of inner) option in
     let same : serving_of (λ option. first_value (found_of inner) option) ≡ serving_of (λ option. first_of option (rows_of (found_of inner))) =
     same_serving (λ option. first_value (found_of inner) option) (λ option. first_of option (rows_of (found_of inner))) (value (codes "config")) (value (codes "token-dir")) (value (codes "store")) (value (codes "bind")) (value (codes "port"))
-    (value (codes "client-port")) (value (codes "count")) (value (codes "broadcast-as")) (value (codes "mirror")) (value (codes "record")) in
-    let at_name_is = at_name m name (codes "serve") (rows_of (found_of inner)) named has is in
+    (value (codes "client-port")) (value (codes "count")) (value (codes "broadcast-as")) (value (codes "mirror")) (value (codes "record"))
+    (value (codes "max-ahead")) in
+    let at_name_is = named name (codes "serve") inner is in
     subst (λ o. GivesIfThere o r) (same ∙ sym at_name_is) gives

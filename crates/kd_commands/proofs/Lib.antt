@@ -1,8 +1,10 @@
 pub mod Apart
+pub mod CheckLine
 pub mod Commands
 pub mod Defaults
 pub mod Entries
 pub mod EvalLine
+pub mod EventsLine
 pub mod FileLines
 pub mod Flags
 pub mod FromMatches
@@ -14,5 +16,6 @@ pub mod ListingLines
 pub mod OptionLine
 pub mod Options
 pub mod ServeLine
+pub mod Spelled
 pub mod TextLine
 pub mod Top

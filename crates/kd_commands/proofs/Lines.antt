@@ -7,8 +7,10 @@ use Rattle.std.proofs.lemmas.List.Elements.{All-tail}
 use Rattle.clap.specs.Words.{Text, fault_of, subcommand_of}
 use Rattle.clap.specs.declared.error.kind.ErrorKind.TheVariants.{DisplayHelp}
 use Rattle.kd_commands.specs.Line.{IsHelpFlag, IsHelpLine, IsLine, IsOneOf, subcommands}
-use Rattle.kd_commands.specs.Order.{Asked, Asks, asked_of, command_line, compiles, evaluates, imports, lists, looks, replays, serves, shows, tests, types, verifies}
+use Rattle.kd_commands.specs.Order.{Asked, Asks, asked_of, checks, command_line, compiles, evaluates, filters, imports, lists, looks, replays, serves, shows, tests, types, verifies}
+use Rattle.kd_commands.proofs.CheckLine.{check_built, check_helps, check_in, check_passes}
 use Rattle.kd_commands.proofs.EvalLine.{flagged_passes, eval_built, eval_helps, eval_in, eval_passes}
+use Rattle.kd_commands.proofs.EventsLine.{events_built, events_helps, events_in, events_passes}
 use Rattle.kd_commands.proofs.FileLines.{import_built, import_helps, import_in, import_passes, replay_built, replay_helps, replay_in, replay_passes}
 use Rattle.kd_commands.proofs.ListingLines.{AreSubs, leases_built, leases_helps, leases_in, lists_passes, looks_passes, pools_built, pools_helps, pools_in}
 use Rattle.kd_commands.proofs.ServeLine.{serve_built, serve_helps, serve_in, serve_passes}
@@ -47,6 +49,12 @@ listings = record { leases = leases; pools = pools }
 import_sub : IsSub (codes "import") import_built
 import_sub = record { met = refl; ours = refl; found = refl }
 
+events : IsSub (codes "events") events_built
+events = record { met = refl; ours = refl; found = refl }
+
+check : IsSub (codes "check") check_built
+check = record { met = refl; ours = refl; found = refl }
+
 serve : IsSub (codes "serve") serve_built
 serve = record { met = refl; ours = refl; found = refl }
 
@@ -74,8 +82,10 @@ asked_in name rest (inr (inr (inr (inr (inr (inl is)))))) texts none = rw is (in
 asked_in name rest (inr (inr (inr (inr (inr (inr (inl is))))))) texts none = rw is (leases_in listings rest texts (rw is at none))
 asked_in name rest (inr (inr (inr (inr (inr (inr (inr (inl is)))))))) texts none = rw is (pools_in listings rest texts (rw is at none))
 asked_in name rest (inr (inr (inr (inr (inr (inr (inr (inr (inl is))))))))) texts none = rw is (inl (import_in rest import_sub texts (rw is at none)))
-asked_in name rest (inr (inr (inr (inr (inr (inr (inr (inr (inr (inl is)))))))))) texts none = rw is (serve_in rest serve texts (rw is at none))
-asked_in name rest (inr (inr (inr (inr (inr (inr (inr (inr (inr (inr never)))))))))) texts none = absurd never
+asked_in name rest (inr (inr (inr (inr (inr (inr (inr (inr (inr (inl is)))))))))) texts none = rw is (events_in rest events texts (rw is at none))
+asked_in name rest (inr (inr (inr (inr (inr (inr (inr (inr (inr (inr (inl is))))))))))) texts none = rw is (check_in rest check texts (rw is at none))
+asked_in name rest (inr (inr (inr (inr (inr (inr (inr (inr (inr (inr (inr (inl is)))))))))))) texts none = rw is (serve_in rest serve texts (rw is at none))
+asked_in name rest (inr (inr (inr (inr (inr (inr (inr (inr (inr (inr (inr (inr never)))))))))))) texts none = absurd never
 
 -- a line asks by clap for what it asks for in plain words
 pub clap_from_line : (ws : List Text) (asked : Asked) → IsLine ws asked → Asks ws asked
@@ -109,6 +119,12 @@ clap_from_line ws (looks listing config token_dir store moment) h =
 clap_from_line ws (imports store) h =
     let got = import_passes ws store import_sub h in
     record { whole = got.0; entered = got.1 }
+clap_from_line ws (filters bytes number) h =
+    let got = events_passes ws bytes number events h in
+    record { whole = got.0; entered = got.1 }
+clap_from_line ws (checks checking) h =
+    let got = check_passes ws checking check h in
+    record { whole = got.0; entered = got.1 }
 clap_from_line ws (serves serving) h =
     let got = serve_passes ws serving serve h in
     record { whole = got.0; entered = got.1 }
@@ -125,8 +141,10 @@ helps_second name next rest (inr (inr (inr (inr (inr (inl is)))))) h = rw is (re
 helps_second name next rest (inr (inr (inr (inr (inr (inr (inl is))))))) h = rw is (leases_helps next rest leases h)
 helps_second name next rest (inr (inr (inr (inr (inr (inr (inr (inl is)))))))) h = rw is (pools_helps next rest pools h)
 helps_second name next rest (inr (inr (inr (inr (inr (inr (inr (inr (inl is))))))))) h = rw is (import_helps next rest import_sub h)
-helps_second name next rest (inr (inr (inr (inr (inr (inr (inr (inr (inr (inl is)))))))))) h = rw is (serve_helps next rest serve h)
-helps_second name next rest (inr (inr (inr (inr (inr (inr (inr (inr (inr (inr never)))))))))) h = absurd never
+helps_second name next rest (inr (inr (inr (inr (inr (inr (inr (inr (inr (inl is)))))))))) h = rw is (events_helps next rest events h)
+helps_second name next rest (inr (inr (inr (inr (inr (inr (inr (inr (inr (inr (inl is))))))))))) h = rw is (check_helps next rest check h)
+helps_second name next rest (inr (inr (inr (inr (inr (inr (inr (inr (inr (inr (inr (inl is)))))))))))) h = rw is (serve_helps next rest serve h)
+helps_second name next rest (inr (inr (inr (inr (inr (inr (inr (inr (inr (inr (inr (inr never)))))))))))) h = absurd never
 
 -- ---- whatever the subcommands
 

@@ -1,17 +1,16 @@
 -- The lines of the program in plain words: a subcommand and the texts that it wants, as `show HEX`
 -- or `eval PROGRAM DATAGRAM`. `--` may stand before any of the texts or after them, and a text is
 -- no flag unless `--` stands before it. The flag of `eval` may stand anywhere but behind `--`.
--- `replay`, `leases`, `pools`, `import` and `serve` have options in any order, which stand once at
--- most, each with a value, as `--config F` or `--config=F`; all may be left out but the moment of
--- `leases` and of `pools`, `--at M`, the store of `import`, `--store F`, and the count of `serve`,
--- `--count N`. A flag stands among the options, once at most and with no value: `--live` of `leases`
--- and of `pools`, which stands only where `--store F` does, `--prometheus` of `pools`, and
--- `--mirror` of `serve`.
-use Rattle.std.specs.Prelude.{◌≡◌, ◌⊎◌, ◌==◌, Bool, true, false, List, [], ◌∷◌, ◌++◌, Option, Some, None, codes}
+-- The others have options in any order, which stand once at most, each with a value, as
+-- `--config F` or `--config=F`; all may be left out but the moment of `leases` and of `pools`,
+-- `--at M`, the store of `import`, `--store F`, and the count of `serve`, `--count N`. A flag
+-- stands among the options, once at most and with no value: `--live` of `leases` and of `pools`,
+-- which stands only where `--store F` does, `--prometheus` of `pools`, and `--mirror` of `serve`.
+use Rattle.std.specs.Prelude.{◌≡◌, ◌⊎◌, ◌==◌, ℕ, Bool, true, false, List, [], ◌∷◌, ◌++◌, Option, Some, None, codes}
 use Rattle.std.specs.List.Sorted.{IsPermutation}
 use Rattle.clap.specs.Words.{Text}
-use Rattle.kd_commands.specs.Order.{Asked, Serving, shows, types, compiles, verifies, evaluates, tests, replays, lists, looks, imports, serves, listening_of}
-use Rattle.kd_commands.specs.Values.{number_of}
+use Rattle.kd_commands.specs.Order.{Asked, Checking, Serving, shows, types, compiles, verifies, evaluates, tests, replays, lists, looks, imports, filters, checks, serves, listening_of, loopback}
+use Rattle.kd_commands.specs.Values.{address_of, hardware_of, number_of, port_of, read_if_given, read_or}
 use Rattle.kd_commands.specs.declared.orders.Listing.{Listing}
 use Rattle.kd_commands.specs.declared.orders.Listing.TheVariants.{Leases, Metrics, Pools}
 
@@ -98,6 +97,29 @@ IsListingLine words Pools options = IsOptionLine (codes "pools") words options
 IsListingLine words Metrics options = IsOptionLine (codes "pools") words
     (options ++ flag_given (codes "prometheus") true)
 
+-- the words are `events` with texts in its options that spell these bytes and this number
+pub record IsEventsLine (words : List Text) (bytes : Option (List ℕ))
+    (number : Option ℕ) : Type 0 where
+  pub mac : Option Text
+  pub address : Option Text
+  pub has_bytes : read_if_given hardware_of mac ≡ Some bytes
+  pub has_number : read_if_given address_of address ≡ Some number
+  pub line : IsOptionLine (codes "events") words
+      (given_values ((codes "mac", mac) ∷ (codes "address", address) ∷ []))
+
+-- the words are `check` with texts in its options that say this
+pub record IsCheckLine (words : List Text) (checking : Checking) : Type 0 where
+  pub bind : Option Text
+  pub port : Option Text
+  pub seconds : Option Text
+  pub binds : read_or address_of loopback bind ≡ Some checking.bind
+  pub opens : read_or port_of 67 port ≡ Some checking.port
+  pub bounds : read_if_given number_of seconds ≡ Some checking.max_ahead
+  pub line : IsOptionLine (codes "check") words
+      (given_values ((codes "config", checking.config) ∷ (codes "token-dir", checking.token_dir)
+      ∷ (codes "store", checking.store) ∷ (codes "bind", bind) ∷ (codes "port", port)
+      ∷ (codes "max-ahead", seconds) ∷ []))
+
 -- the words are `serve` with texts in its options that say this, and with the flag where replies
 -- are mirrored
 pub record IsServeLine (words : List Text) (serving : Serving) : Type 0 where
@@ -106,14 +128,17 @@ pub record IsServeLine (words : List Text) (serving : Serving) : Type 0 where
   pub client_port : Option Text
   pub digits : Text
   pub broadcast_as : Option Text
+  pub seconds : Option Text
   pub listens : listening_of bind port client_port broadcast_as serving.listening.mirror
       ≡ Some serving.listening
   pub counts : number_of digits ≡ Some serving.count
+  pub bounds : read_if_given number_of seconds ≡ Some serving.max_ahead
   pub line : IsOptionLine (codes "serve") words
       (given_values ((codes "config", serving.config) ∷ (codes "token-dir", serving.token_dir)
       ∷ (codes "store", serving.store) ∷ (codes "bind", bind) ∷ (codes "port", port)
       ∷ (codes "client-port", client_port) ∷ (codes "count", Some digits)
-      ∷ (codes "broadcast-as", broadcast_as) ∷ (codes "record", serving.journal) ∷ [])
+      ∷ (codes "broadcast-as", broadcast_as) ∷ (codes "record", serving.journal)
+      ∷ (codes "max-ahead", seconds) ∷ [])
       ++ flag_given (codes "mirror") serving.listening.mirror)
 
 -- the words are a line that asks for this
@@ -135,13 +160,16 @@ IsLine words (looks listing config token_dir store moment) =
     × IsListingLine words listing (listing_options config token_dir (Some store) digits true)
 IsLine words (imports store) =
     IsOptionLine (codes "import") words ((codes "store", Some store) ∷ [])
+IsLine words (filters bytes number) = IsEventsLine words bytes number
+IsLine words (checks checking) = IsCheckLine words checking
 IsLine words (serves serving) = IsServeLine words serving
 
 -- the names of the subcommands
 abbrev pub subcommands : List Text
 subcommands =
     codes "show" ∷ codes "expr" ∷ codes "compile" ∷ codes "verify" ∷ codes "eval" ∷ codes "replay"
-    ∷ codes "leases" ∷ codes "pools" ∷ codes "import" ∷ codes "serve" ∷ []
+    ∷ codes "leases" ∷ codes "pools" ∷ codes "import" ∷ codes "events" ∷ codes "check"
+    ∷ codes "serve" ∷ []
 
 -- the flag that asks for help
 abbrev pub IsHelpFlag : Text → Type 0

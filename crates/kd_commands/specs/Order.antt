@@ -14,13 +14,13 @@ use Rattle.clap.specs.declared.error.kind.ErrorKind.TheVariants.{DisplayHelp}
 use Rattle.kd_commands.specs.declared.fault.LineFault.{LineFault}
 use Rattle.kd_commands.specs.declared.fault.LineFault.TheVariants.{CommandLine, Memory}
 use Rattle.kd_wire.specs.Steps.{◌>>=◌}
-use Rattle.kd_commands.specs.Values.{address_of, number_of, port_of, read_or}
+use Rattle.kd_commands.specs.Values.{address_of, hardware_of, number_of, port_of, read_if_given, read_or}
 use Rattle.kd_commands.specs.declared.orders.Listening.{Listening}
 use Rattle.kd_commands.specs.declared.orders.Listing.{Listing}
 use Rattle.kd_commands.specs.declared.orders.Listing.TheVariants.{Leases, Metrics, Pools}
 use Rattle.kd_commands.specs.declared.orders.Order.{Order}
 use Rattle.kd_commands.specs.declared.orders.Order.TheVariants.{Help, Show, Expr, Compile, Verify, Eval, EvalText, Replay}
-use Rattle.kd_commands.specs.declared.orders.Order.TheVariants.{Import, Look, Serve, List as ListOrder}
+use Rattle.kd_commands.specs.declared.orders.Order.TheVariants.{Check, Events, Import, Look, Serve, List as ListOrder}
 
 -- the number that a fault is printed with
 abbrev pub line_fault_number : LineFault → ℕ
@@ -100,15 +100,28 @@ pools_line = with_rule (listing_line (codes "pools")) (flag_rule (codes "prometh
 abbrev pub import_line : App
 import_line = with_rule (new_app (codes "import")) (needed_value (codes "store"))
 
+-- `events [--mac M] [--address A]`
+abbrev pub events_line : App
+events_line = with_rule (with_rule (new_app (codes "events")) (value_rule (codes "mac")))
+    (value_rule (codes "address"))
+
+-- `check [--config F] [--token-dir D] [--store F] [--bind A] [--port P] [--max-ahead SECONDS]`
+abbrev pub check_line : App
+check_line =
+    with_rule (with_rule (with_rule (files_line (codes "check")) (value_rule (codes "bind")))
+    (value_rule (codes "port")))
+    (value_rule (codes "max-ahead"))
+
 -- `serve [--config F] [--token-dir D] [--store F] [--bind A] [--port P] [--client-port Q] --count N
--- [--broadcast-as A] [--mirror] [--record F]`
+-- [--broadcast-as A] [--mirror] [--record F] [--max-ahead SECONDS]`
 abbrev pub serve_line : App
 serve_line =
-    with_rule (with_rule (with_rule
+    with_rule (with_rule (with_rule (with_rule
     (with_rule (with_rule
     (with_rule (with_rule (files_line (codes "serve")) (value_rule (codes "bind")))
     (value_rule (codes "port"))) (value_rule (codes "client-port"))) (needed_value (codes "count")))
-    (value_rule (codes "broadcast-as"))) (flag_rule (codes "mirror"))) (value_rule (codes "record"))
+    (value_rule (codes "broadcast-as"))) (flag_rule (codes "mirror")))
+    (value_rule (codes "record"))) (value_rule (codes "max-ahead"))
 
 -- the program, with no word for its name, and a subcommand that has to be there
 abbrev pub program_line : App
@@ -127,11 +140,25 @@ abbrev pub command_line : App
 command_line =
     with_subcommand (with_subcommand
     (with_subcommand (with_subcommand
+    (with_subcommand (with_subcommand
     (with_subcommand (with_subcommand tools_line eval_line.top) replay_line.top) leases_line.top)
-    pools_line.top) import_line.top)
+    pools_line.top) import_line.top) events_line.top) check_line.top)
     serve_line.top
 
 -- ---- what the words ask for
+
+-- what `check` is asked for
+pub record Checking : Type 0 where
+  -- the file of the configuration, the folder of the token files and the file of the leases, where
+  -- they are given
+  pub config : Option Text
+  pub token_dir : Option Text
+  pub store : Option Text
+  -- the address and the port of the socket
+  pub bind : ℕ
+  pub port : ℕ
+  -- how many seconds the clock may run ahead, where a limit is given
+  pub max_ahead : Option ℕ
 
 -- what `serve` is asked for
 pub record Serving : Type 0 where
@@ -146,6 +173,8 @@ pub record Serving : Type 0 where
   pub count : ℕ
   -- the file to which what comes is appended, where one is given
   pub journal : Option Text
+  -- how many seconds the clock may run ahead, where a limit is given
+  pub max_ahead : Option ℕ
 
 -- what a subcommand asks for
 pub data Asked : Type 0 where
@@ -170,6 +199,11 @@ pub data Asked : Type 0 where
   looks : Listing → Option Text → Option Text → Text → ℕ → Asked
   -- the lines of leases on standard input, read into the store in this file
   imports : Text → Asked
+  -- the lines of a log on standard input, printed for people: those of the hardware address of
+  -- these bytes and of this address, where they are given
+  filters : Option (List ℕ) → Option ℕ → Asked
+  -- each step of a start, tried without serving
+  checks : Checking → Asked
   -- datagrams of a socket, served
   serves : Serving → Asked
 
@@ -215,8 +249,31 @@ listening_of bind port client_port broadcast_as mirror = do
   address ← read_or address_of loopback bind
   own ← read_or port_of 67 port
   clients ← read_or port_of 68 client_port
-  everyone ← read_or (λ text. option_map (λ a. Some a) (address_of text)) None broadcast_as
+  everyone ← read_if_given address_of broadcast_as
   Some (record { bind = address; port = own; client_port = clients; broadcast_as = everyone; mirror = mirror })
+
+-- what these texts ask `events` for, where each that is given spells what it has to
+abbrev pub filtering_of : Option Text → Option Text → Option Asked
+filtering_of mac address = do
+  bytes ← read_if_given hardware_of mac
+  number ← read_if_given address_of address
+  Some (filters bytes number)
+
+-- what these texts of the options ask `check` for, where each that is given is in range; without
+-- texts the address is 127.0.0.1 and the port 67
+abbrev pub checking_of : (Text → Option Text) → Option Asked
+checking_of text = do
+  address ← read_or address_of loopback (text (codes "bind"))
+  own ← read_or port_of 67 (text (codes "port"))
+  seconds ← read_if_given number_of (text (codes "max-ahead"))
+  Some (checks (record {
+    config = text (codes "config");
+    token_dir = text (codes "token-dir");
+    store = text (codes "store");
+    bind = address;
+    port = own;
+    max_ahead = seconds;
+  }))
 
 -- what these texts of the options ask `serve` for, where each that is given is in range and the
 -- count is there
@@ -226,6 +283,7 @@ serving_of text = do
       (text (codes "broadcast-as")) (flag_is_given (text (codes "mirror")))
   digits ← text (codes "count")
   count ← number_of digits
+  seconds ← read_if_given number_of (text (codes "max-ahead"))
   Some (serves (record {
     config = text (codes "config");
     token_dir = text (codes "token-dir");
@@ -233,6 +291,7 @@ serving_of text = do
     listening = listening;
     count = count;
     journal = text (codes "record");
+    max_ahead = seconds;
   }))
 
 -- what the subcommand of this name asks for, with these matches
@@ -262,8 +321,11 @@ asked_by name rows =
     (first_of (codes "at") rows)
     else (if bytes_eq name (codes "import")
     then option_map (λ store. imports store) (first_of (codes "store") rows)
+    else (if bytes_eq name (codes "events")
+    then filtering_of (first_of (codes "mac") rows) (first_of (codes "address") rows)
+    else (if bytes_eq name (codes "check") then checking_of (λ option. first_of option rows)
     else (if bytes_eq name (codes "serve") then serving_of (λ option. first_of option rows)
-    else None)))))))))
+    else None)))))))))))
 
 -- the same of the subcommand that was entered, if one was
 abbrev pub asked_of : Option (Text × List Row) → Option Asked
@@ -312,7 +374,18 @@ AsksFor words (Look listing config token_dir store at) = Asks words
     (looks listing (option_map string_bytes config) (option_map string_bytes token_dir)
     (string_bytes store) at)
 AsksFor words (Import store) = Asks words (imports (string_bytes store))
-AsksFor words (Serve config token_dir store listening count journal) =
+AsksFor words (Events mac address) =
+    Asks words (filters (option_map (λ bytes. bytes.items) mac) address)
+AsksFor words (Check config token_dir store bind port max_ahead) =
+    Asks words (checks (record {
+      config = option_map string_bytes config;
+      token_dir = option_map string_bytes token_dir;
+      store = option_map string_bytes store;
+      bind = bind;
+      port = port;
+      max_ahead = max_ahead;
+    }))
+AsksFor words (Serve config token_dir store listening count journal max_ahead) =
     Asks words (serves (record {
       config = option_map string_bytes config;
       token_dir = option_map string_bytes token_dir;
@@ -320,6 +393,7 @@ AsksFor words (Serve config token_dir store listening count journal) =
       listening = listening;
       count = count;
       journal = option_map string_bytes journal;
+      max_ahead = max_ahead;
     }))
 
 -- the words have this fault; memory may run out at any words
@@ -346,7 +420,17 @@ given_by (Look listing config token_dir store at) = Some
     (looks listing (option_map string_bytes config) (option_map string_bytes token_dir)
     (string_bytes store) at)
 given_by (Import store) = Some (imports (string_bytes store))
-given_by (Serve config token_dir store listening count journal) =
+given_by (Events mac address) = Some (filters (option_map (λ bytes. bytes.items) mac) address)
+given_by (Check config token_dir store bind port max_ahead) =
+    Some (checks (record {
+      config = option_map string_bytes config;
+      token_dir = option_map string_bytes token_dir;
+      store = option_map string_bytes store;
+      bind = bind;
+      port = port;
+      max_ahead = max_ahead;
+    }))
+given_by (Serve config token_dir store listening count journal max_ahead) =
     Some (serves (record {
       config = option_map string_bytes config;
       token_dir = option_map string_bytes token_dir;
@@ -354,6 +438,7 @@ given_by (Serve config token_dir store listening count journal) =
       listening = listening;
       count = count;
       journal = option_map string_bytes journal;
+      max_ahead = max_ahead;
     }))
 
 -- the answer gives what was asked, or memory ran out

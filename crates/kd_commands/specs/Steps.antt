@@ -1,8 +1,11 @@
--- What the steps of reading an order answer.
-use Rattle.std.specs.Prelude.{◌≡◌, ◌≢◌, Option, Some, None, Result, Ok, Err}
+-- What the steps of reading an order answer, and those of reading a hardware address.
+use Rattle.std.specs.Prelude.{◌≡◌, ◌≢◌, ◌==◌, ℕ, [], ◌∷◌, Option, Some, None, Result, Ok, Err}
+use Rattle.std.specs.Prelude.{if◌then◌else◌, option_map}
+use Rattle.clap.specs.Words.{Text}
 use Rattle.clap.specs.declared.error.kind.ErrorKind.{ErrorKind}
 use Rattle.clap.specs.declared.error.kind.ErrorKind.TheVariants.{DisplayHelp, OutOfMemory}
 use Rattle.kd_commands.specs.Order.{Asked, GivesUnlessFull}
+use Rattle.kd_commands.specs.Values.{byte_spelled}
 use Rattle.kd_commands.specs.declared.fault.LineFault.{LineFault}
 use Rattle.kd_commands.specs.declared.fault.LineFault.TheVariants.{CommandLine, Memory}
 use Rattle.kd_commands.specs.declared.orders.Order.{Order}
@@ -24,3 +27,14 @@ AnswersKind kind (Ok (Help text)) = kind ≡ DisplayHelp
 AnswersKind kind (Ok order) = ⊥
 AnswersKind kind (Err CommandLine) = (kind ≢ DisplayHelp) × (kind ≢ OutOfMemory)
 AnswersKind kind (Err Memory) = Unit {0}
+
+-- the byte of the two digits that a text begins with, and what stands behind them
+unfoldable pub byte_at_front : Text → Option (ℕ × Text)
+byte_at_front [] = None
+byte_at_front (high ∷ []) = None
+byte_at_front (high ∷ low ∷ behind) = option_map (λ byte. (byte, behind)) (byte_spelled high low)
+
+-- the same behind `:`
+unfoldable pub byte_behind_colon : Text → Option (ℕ × Text)
+byte_behind_colon [] = None
+byte_behind_colon (colon ∷ text) = if colon == 58 then byte_at_front text else None

@@ -1,6 +1,8 @@
--- The values of options, by their texts: numbers, ports, and IPv4 addresses as numbers in host
--- order.
-use Rattle.std.specs.Prelude.{◌&&◌, ◌^◌, ℕ, Bool, length, nat_lt, nat_le, Option, Some, None, if◌then◌else◌, option_and_then, option_map}
+-- The values of options, by their texts: numbers, ports, IPv4 addresses as numbers in host order,
+-- and hardware addresses.
+use Rattle.std.specs.Prelude.{◌&&◌, ◌==◌, ◌+◌, ◌*◌, ◌^◌, ℕ, Bool, List, [], ◌∷◌, length, nat_lt, nat_le, Option, Some, None, if◌then◌else◌, option_and_then, option_map}
+use Rattle.std.specs.Char.{digit_value}
+use Rattle.kd_wire.specs.Steps.{◌>>=◌}
 use Rattle.std.specs.Int.{from_be_bytes, w32}
 use Rattle.std.specs.Str.{all_ascii_digits}
 use Rattle.std.specs.Str.Parse.{digits_value}
@@ -28,7 +30,41 @@ port_of text =
 abbrev pub address_of : Text → Option ℕ
 address_of text = option_map (from_be_bytes w32) (lexing.address_read text)
 
+-- the number of a hexadecimal digit, in either case
+abbrev pub digit_spelled : ℕ → Option ℕ
+digit_spelled digit = if nat_lt (digit_value digit) 16 then Some (digit_value digit) else None
+
+-- the byte of two hexadecimal digits
+abbrev pub byte_spelled : ℕ → ℕ → Option ℕ
+byte_spelled high low = do
+  sixteens ← digit_spelled high
+  ones ← digit_spelled low
+  Some (sixteens * 16 + ones)
+
+-- the bytes of a text that has `:` and two hexadecimal digits for each
+unfoldable pub bytes_behind : Text → Option (List ℕ)
+bytes_behind [] = Some []
+bytes_behind (colon ∷ []) = None
+bytes_behind (colon ∷ high ∷ []) = None
+bytes_behind (colon ∷ high ∷ low ∷ behind) =
+    if colon == 58 then (do
+      byte ← byte_spelled high low
+      bytes ← bytes_behind behind
+      Some (byte ∷ bytes)) else None
+
+-- the hardware address of a text, where it is one: 1 to 16 bytes, two hexadecimal digits each with
+-- `:` between them, so that with `:` before it the text has `:` and two digits for each byte
+abbrev pub hardware_of : Text → Option (List ℕ)
+hardware_of text = do
+  bytes ← bytes_behind (58 ∷ text)
+  if nat_le (length bytes) 16 then Some bytes else None
+
 -- what is read of a text, and what stands where none is given
 abbrev pub read_or : {A : Type 0} → (Text → Option A) → A → Option Text → Option A
 read_or read standard None = Some standard
 read_or read standard (Some text) = read text
+
+-- what is read of a text that may be left out, where one is given
+abbrev pub read_if_given : {A : Type 0} → (Text → Option A) → Option Text → Option (Option A)
+read_if_given read None = Some None
+read_if_given read (Some text) = option_map (λ a. Some a) (read text)

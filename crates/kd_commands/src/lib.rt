@@ -8,6 +8,7 @@
 
 mod address;
 mod fault;
+mod hardware;
 mod line;
 mod number;
 mod orders;

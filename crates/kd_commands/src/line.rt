@@ -1,8 +1,8 @@
 ghost use Rattle.std.specs.Prelude.{◌≡◌, IfOk, Some, codes, false};
 ghost use Rattle.clap.specs.Words.{app_of, rule_of};
 ghost use Rattle.clap.specs.declared.builder.command.Command.TheViews.{out-Command};
-ghost use Rattle.kd_commands.specs.Order.{command_line, compile_line, eval_line, expr_line, files_line};
-ghost use Rattle.kd_commands.specs.Order.{import_line, leases_line, listing_line, pools_line};
+ghost use Rattle.kd_commands.specs.Order.{command_line, compile_line, eval_line, events_line, expr_line, files_line};
+ghost use Rattle.kd_commands.specs.Order.{check_line, import_line, leases_line, listing_line, pools_line};
 ghost use Rattle.kd_commands.specs.Order.{program_line, replay_line, serve_line, show_line, tools_line};
 ghost use Rattle.kd_commands.specs.Order.{flag_rule, needed_rule, needed_value, value_rule, verify_line};
 
@@ -19,6 +19,8 @@ pub(crate) fn kdhcp<'a>(alloc: Global) -> Result<Command<'a>, AllocError>
         .subcommand(leases(alloc)?)?
         .subcommand(pools(alloc)?)?
         .subcommand(import(alloc)?)?
+        .subcommand(events(alloc)?)?
+        .subcommand(check(alloc)?)?
         .subcommand(serve(alloc)?)
 }
 
@@ -281,6 +283,50 @@ fn import<'a>(alloc: Global) -> Result<Command<'a>, AllocError>
         .arg(into_store(alloc))
 }
 
+// `events [--mac M] [--address A]`.
+fn events<'a>(alloc: Global) -> Result<Command<'a>, AllocError>
+    ensures app { IfOk result (λ c. app_of c ≡ events_line) }
+    ensures local { IfOk result (λ c. (out-Command c).has_globals ≡ false) }
+{
+    let mac = valued(
+        alloc,
+        "mac",
+        "M",
+        "Only replies to the hardware address M, as 02:00:00:00:00:01",
+    );
+    let address = valued(alloc, "address", "A", "Only replies with the address A");
+    Command::new(alloc, "events")
+        .about("Print the replies of a log for people")
+        .after_help("Example: kdhcp events --address 192.0.2.17 < kdhcp.log")
+        .arg(mac)?
+        .arg(address)
+}
+
+// `--max-ahead SECONDS`.
+fn max_ahead<'a>(alloc: Global) -> Arg<'a>
+    ensures rule { rule_of result ≡ value_rule (codes "max-ahead") }
+    ensures local { result.global ≡ false }
+{
+    let help = "End where the clock runs more than SECONDS seconds ahead";
+    valued(alloc, "max-ahead", "SECONDS", help)
+}
+
+// `check [--config F] [--token-dir D] [--store F] [--bind A] [--port P] [--max-ahead SECONDS]`.
+fn check<'a>(alloc: Global) -> Result<Command<'a>, AllocError>
+    ensures app { IfOk result (λ c. app_of c ≡ check_line) }
+    ensures local { IfOk result (λ c. (out-Command c).has_globals ≡ false) }
+{
+    over_files(
+        alloc,
+        "check",
+        "Try each step of a start, and say in words what is wrong",
+        "Example: kdhcp check --config kdhcp.json --store leases.db --bind 0.0.0.0",
+    )?
+    .arg(valued(alloc, "bind", "A", "The socket's address, or 127.0.0.1"))?
+    .arg(valued(alloc, "port", "P", "The socket's UDP port, or 67"))?
+    .arg(max_ahead(alloc))
+}
+
 // `--count N`, which has to be there.
 fn count<'a>(alloc: Global) -> Arg<'a>
     ensures rule { rule_of result ≡ needed_value (codes "count") }
@@ -294,7 +340,7 @@ const SERVE_EXAMPLE: &str =
     "Example: kdhcp serve --config config.json --store leases.db --bind 0.0.0.0 --count 18446744073709551615";
 
 // `serve [--config F] [--token-dir D] [--store F] [--bind A] [--port P] [--client-port Q] --count N
-// [--broadcast-as A] [--mirror] [--record F]`.
+// [--broadcast-as A] [--mirror] [--record F] [--max-ahead SECONDS]`.
 fn serve<'a>(alloc: Global) -> Result<Command<'a>, AllocError>
     ensures app { IfOk result (λ c. app_of c ≡ serve_line) }
     ensures local { IfOk result (λ c. (out-Command c).has_globals ≡ false) }
@@ -316,5 +362,6 @@ fn serve<'a>(alloc: Global) -> Result<Command<'a>, AllocError>
         "record",
         "F",
         "Appends what comes to the file F, as input of replay",
-    ))
+    ))?
+    .arg(max_ahead(alloc))
 }

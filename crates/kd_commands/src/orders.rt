@@ -77,6 +77,30 @@ pub enum Order {
         /// The path of the file of the leases.
         store: String,
     },
+    /// The lines of a log on standard input, printed for people.
+    Events {
+        /// The hardware address whose replies are printed, 1 to 16 bytes, where the line gives one.
+        mac: Option<Vec<u8>>,
+        /// The address whose replies are printed, an IPv4 address in host order, where the line
+        /// gives one.
+        address: Option<u32>,
+    },
+    /// Each step of a start, tried without serving.
+    Check {
+        /// The path of the configuration's file, where the line gives one.
+        config: Option<String>,
+        /// The path of the token files' folder, where the line gives one.
+        token_dir: Option<String>,
+        /// The path of the file of the leases, where the line gives one.
+        store: Option<String>,
+        /// The address of the socket, an IPv4 address in host order.
+        bind: u32,
+        /// The UDP port of the socket, 1 to 65,535.
+        port: u16,
+        /// How many seconds the clock may run ahead, 0 to 2^64 - 1; no limit where the line gives
+        /// none.
+        max_ahead: Option<u64>,
+    },
     /// Datagrams of a UDP socket, served.
     Serve {
         /// The path of the configuration's file, where the line gives one.
@@ -91,6 +115,9 @@ pub enum Order {
         count: u64,
         /// The path of the file to which what comes is appended, where the line gives one.
         journal: Option<String>,
+        /// How many seconds the clock may run ahead, 0 to 2^64 - 1; no limit where the line gives
+        /// none.
+        max_ahead: Option<u64>,
     },
 }
 

@@ -1,17 +1,18 @@
 ghost use Rattle.std.specs.Prelude.{◌≡◌, ◌↔◌, IfErr, IfOk, None, Some, codes, if◌then◌else◌, map};
 ghost use Rattle.std.specs.Prelude.{option_and_then, option_map};
 ghost use Rattle.std.specs.String.{string_bytes};
-ghost use Rattle.clap.specs.Words.{first_value, found_of, kind_of, subcommand_rows_of};
+ghost use Rattle.clap.specs.Words.{first_value, found_of, kind_of, rows_of, subcommand_rows_of};
 ghost use Rattle.kd_commands.specs.Line.{IsHelpLine, IsLine};
 ghost use Rattle.kd_commands.specs.Order.{Asked, Asks, AsksFor, GivesUnlessFull, HasFault, HelpsUnlessFull};
-ghost use Rattle.kd_commands.specs.Order.{asked_of, compiles, evaluates, evaluation_of, flag_is_given};
-ghost use Rattle.kd_commands.specs.Order.{given_by, imports, listening_of, listing_at, listing_of};
+ghost use Rattle.kd_commands.specs.Order.{asked_by, asked_of, compiles, evaluates, evaluation_of, flag_is_given};
+ghost use Rattle.kd_commands.specs.Order.{checking_of, filtering_of, given_by, imports, listening_of, listing_at, listing_of};
 ghost use Rattle.kd_commands.specs.Order.{pools_listing, replays, serving_of, shows, tests, types, verifies};
-ghost use Rattle.kd_commands.specs.Values.{address_of, number_of, port_of, read_or};
+ghost use Rattle.kd_commands.specs.Values.{address_of, hardware_of, number_of, port_of, read_if_given, read_or};
 ghost use Rattle.kd_commands.specs.Steps.{AnswersKind, GivesIfThere};
 
 use crate::address::address_in;
 use crate::fault::LineFault;
+use crate::hardware::hardware_in;
 use crate::line::kdhcp;
 use crate::number::{number_in, port_in};
 use crate::orders::{Listening, Listing, Order};
@@ -55,16 +56,28 @@ fn order_from(alloc: Global, matches: &ArgMatches<'_>) -> Result<Order, LineFaul
     ensures { GivesIfThere (asked_of (subcommand_rows_of matches.now)) result }
 {
     match matches.subcommand() {
-        Some(("show", inner)) => shown(alloc, inner),
-        Some(("expr", inner)) => typed(alloc, inner),
-        Some(("compile", inner)) => compiled(alloc, inner),
-        Some(("verify", inner)) => verified(alloc, inner),
-        Some(("eval", inner)) => evaluated(alloc, inner),
-        Some(("replay", inner)) => replayed(alloc, inner),
-        Some(("leases", inner)) => listed(alloc, Listing::Leases, inner),
-        Some(("pools", inner)) => listed_pools(alloc, inner),
-        Some(("import", inner)) => imported(alloc, inner),
-        Some(("serve", inner)) => served(alloc, inner),
+        Some((name, inner)) => order_named(alloc, name, inner),
+        None => Err(LineFault::CommandLine),
+    }
+}
+
+// What matches of the subcommand of this name ask for.
+fn order_named(alloc: Global, name: &str, inner: &ArgMatches<'_>) -> Result<Order, LineFault>
+    ensures { GivesIfThere (asked_by name.now (rows_of (found_of inner.now))) result }
+{
+    match name {
+        "show" => shown(alloc, inner),
+        "expr" => typed(alloc, inner),
+        "compile" => compiled(alloc, inner),
+        "verify" => verified(alloc, inner),
+        "eval" => evaluated(alloc, inner),
+        "replay" => replayed(alloc, inner),
+        "leases" => listed(alloc, Listing::Leases, inner),
+        "pools" => listed_pools(alloc, inner),
+        "import" => imported(alloc, inner),
+        "events" => filtered(alloc, inner),
+        "check" => checked(alloc, inner),
+        "serve" => served(alloc, inner),
         _ => Err(LineFault::CommandLine),
     }
 }
@@ -278,6 +291,48 @@ fn imported(alloc: Global, matches: &ArgMatches<'_>) -> Result<Order, LineFault>
     }
 }
 
+// What matches of `events` ask for.
+fn filtered(alloc: Global, matches: &ArgMatches<'_>) -> Result<Order, LineFault>
+    ensures { GivesIfThere (filtering_of (first_value (found_of matches.now) (codes "mac"))
+        (first_value (found_of matches.now) (codes "address"))) result }
+{
+    let Some(mac) = hardware_if_given(alloc, matches.get_str("mac"))? else {
+        return Err(LineFault::CommandLine);
+    };
+    let Some(address) = address_if_given(matches.get_str("address")) else {
+        return Err(LineFault::CommandLine);
+    };
+    Ok(Order::Events { mac, address })
+}
+
+// What matches of `check` ask for.
+fn checked(alloc: Global, matches: &ArgMatches<'_>) -> Result<Order, LineFault>
+    ensures { GivesIfThere (checking_of (λ name. first_value (found_of matches.now) name)) result }
+{
+    let Some(bind) = address_or(matches.get_str("bind"), LOOPBACK) else {
+        return Err(LineFault::CommandLine);
+    };
+    let Some(port) = port_or(matches.get_str("port"), SERVER_PORT) else {
+        return Err(LineFault::CommandLine);
+    };
+    let Some(max_ahead) = number_if_given(matches.get_str("max-ahead")) else {
+        return Err(LineFault::CommandLine);
+    };
+    let Files {
+        config,
+        token_dir,
+        store,
+    } = files_of(alloc, matches)?;
+    Ok(Order::Check {
+        config,
+        token_dir,
+        store,
+        bind,
+        port,
+        max_ahead,
+    })
+}
+
 // What matches of `serve` ask for.
 fn served(alloc: Global, matches: &ArgMatches<'_>) -> Result<Order, LineFault>
     ensures { GivesIfThere (serving_of (λ name. first_value (found_of matches.now) name)) result }
@@ -286,6 +341,9 @@ fn served(alloc: Global, matches: &ArgMatches<'_>) -> Result<Order, LineFault>
         return Err(LineFault::CommandLine);
     };
     let Some(count) = number_given(matches.get_str("count")) else {
+        return Err(LineFault::CommandLine);
+    };
+    let Some(max_ahead) = number_if_given(matches.get_str("max-ahead")) else {
         return Err(LineFault::CommandLine);
     };
     let Files {
@@ -301,6 +359,7 @@ fn served(alloc: Global, matches: &ArgMatches<'_>) -> Result<Order, LineFault>
         listening,
         count,
         journal,
+        max_ahead,
     })
 }
 
@@ -338,12 +397,28 @@ fn address_or(value: Option<&str>, standard: u32) -> Option<u32>
 
 // The address of an argument, if it is there.
 fn address_if_given(value: Option<&str>) -> Option<Option<u32>>
-    ensures { result ≡ read_or (λ text. option_map (λ a. Some a) (address_of text)) None
-        (option_map (λ s. s.now) value.entry) }
+    ensures { result ≡ read_if_given address_of (option_map (λ s. s.now) value.entry) }
 {
     match value {
         Some(text) => Some(Some(address_in(text)?)),
         None => Some(None),
+    }
+}
+
+// The hardware address of an argument, if it is there.
+fn hardware_if_given(
+    alloc: Global,
+    value: Option<&str>,
+) -> Result<Option<Option<Vec<u8>>>, AllocError>
+    ensures { IfOk result (λ mac. option_map (option_map (λ bytes. bytes.items)) mac
+        ≡ read_if_given hardware_of (option_map (λ s. s.now) value.entry)) }
+{
+    match value {
+        Some(text) => match hardware_in(alloc, text)? {
+            Some(mac) => Ok(Some(Some(mac))),
+            None => Ok(None),
+        },
+        None => Ok(Some(None)),
     }
 }
 
@@ -364,6 +439,16 @@ fn number_given(value: Option<&str>) -> Option<u64>
     match value {
         Some(text) => number_in(text),
         None => None,
+    }
+}
+
+// The number of an argument, if it is there.
+fn number_if_given(value: Option<&str>) -> Option<Option<u64>>
+    ensures { result ≡ read_if_given number_of (option_map (λ s. s.now) value.entry) }
+{
+    match value {
+        Some(text) => Some(Some(number_in(text)?)),
+        None => Some(None),
     }
 }
 

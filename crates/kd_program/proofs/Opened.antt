@@ -17,15 +17,15 @@ module _ {H N U L R S : Type 0} (h : Hosts H N U L R) (l : Links L) (r : Sinks R
   same_calls : (server left : Keeping S) → left ≡ server → AreCalls g server left
   same_calls server left same = ([], same)
 
-  receives_calls : (count : ℕ) (link rest : L) (journal recorded : Option R) (server left : Keeping S) (status : ℕ) (old new : Streams)
-      → Receives l r g count link rest journal recorded server left status old new → AreCalls g server left
-  receives_calls count link rest journal recorded server left status old new it = serving it.result count server left _ _ it.served
+  receives_calls : (limit : Option ℕ) (count : ℕ) (link rest : L) (journal recorded : Option R) (server left : Keeping S) (status : ℕ) (old new : Streams)
+      → Receives l r g limit count link rest journal recorded server left status old new → AreCalls g server left
+  receives_calls limit count link rest journal recorded server left status old new it = serving limit it.result count server left _ _ it.served
 
   works_calls : (work : Work) (before after : H) (server left : Keeping S) (status : ℕ) (old new : Streams) → Works h l r g work before after server left status old new → AreCalls g server left
   works_calls works.Replay before after server left status old new w = reaching server left w.1.reached
   works_calls (works.List listing at) before after server left status old new w = same_calls server left w.1.0
-  works_calls (works.Serve listening count journal) before after server left status old new w = ⊎_elim
-      (λ b. receives_calls count b.link b.rest b.journal b.recorded server left status _ new b.receives)
+  works_calls (works.Serve listening count journal max_ahead) before after server left status old new w = ⊎_elim
+      (λ b. receives_calls max_ahead count b.link b.rest b.journal b.recorded server left status _ new b.receives)
       (λ n. same_calls server left n.0)
       w
 

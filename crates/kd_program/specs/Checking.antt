@@ -40,13 +40,15 @@ rows_finding limit rows moment = if is_behind limit (latest_of rows) moment then
 
 -- over a host
 module _ {H N U L R : Type 0} (h : Hosts H N U L R) where
-  -- the rows of a database are read, and the clock is asked; or they are not read
+  -- the rows of a database are read, and the clock is asked, or memory runs out for them; or they are
+  -- not read
   abbrev pub FindsRows : List ℕ → Option ℕ → H → H → Option ℕ → Type 0
   FindsRows path limit before after found =
       ((rows : List Row) × (moment : ℕ) × h.copies before path (Ok rows) after
       × h.tells_time after moment × (found ≡ rows_finding limit rows moment))
+      ⊎ (((rows : List Row) × h.copies before path (Ok rows) after × (found ≡ Some 91))
       ⊎ ((fault : LookFault) × h.copies before path (Err fault) after
-      × (found ≡ Some (look_fault_number fault)))
+      × (found ≡ Some (look_fault_number fault))))
 
   -- a database was tried: it is in trouble, or not there, or its rows are looked at
   abbrev pub FindsDatabase : List ℕ → Option ℕ → Result Bool StoreTrouble → H → H → Option ℕ → Type 0

@@ -1,5 +1,5 @@
 -- What the words of a command line do: what is written, and the exit status.
-use Rattle.std.specs.Prelude.{◌≡◌, ◌⊎◌, ℕ, false, true, IfOk, List, Option, Some, None, Result, Ok, Err, is_some, option_map, string_bytes}
+use Rattle.std.specs.Prelude.{◌≡◌, ◌⊎◌, ℕ, false, true, IfOk, List, Option, Some, None, Result, Ok, Err, is_some, option_map, string_bytes, vec_items}
 use Rattle.std.specs.Result.{IsErrOf}
 use Rattle.kd_tools.specs.Printed.{Answers}
 use Rattle.kd_tools.specs.Status.{replay_status_of, serve_status_of}
@@ -32,9 +32,12 @@ use Rattle.kd_replay.specs.declared.fault.ReplayFault.TheVariants as replaying
 use Rattle.kd_replay.specs.declared.link.Link.{Ghosts as Links}
 use Rattle.kd_replay.specs.declared.fault.ServeFault.{ServeFault}
 use Rattle.kd_server.specs.Batch.{Batched}
-use Rattle.kd_server.specs.Keeping.{IsUnopened, Keeping, Opens, Refuses, Steps}
+use Rattle.kd_server.specs.Keeping.{IsUnopened, Keeping, Opens, Refuses, Steps, latest_in}
+use Rattle.kd_events.specs.declared.filter.Filter.{Filter}
+use Rattle.kd_program.specs.Checking.{ChecksStart}
 use Rattle.kd_program.specs.Importing.{ImportsInto}
 use Rattle.kd_program.specs.Listing.{ShowsListing}
+use Rattle.kd_program.specs.Printing.{PrintsEvents}
 use Rattle.kd_program.specs.Streams.{Prints, Puts, Starves, Stream, Streams, Tells, TellsWith}
 use Rattle.kd_program.specs.declared.host.Host.{Ghosts as Hosts}
 use Rattle.kd_program.specs.declared.serving.Files.{Files}
@@ -44,7 +47,7 @@ use Rattle.kd_program.specs.declared.serving.Work.TheVariants as works
 
 -- the ports of a server: those of its words, and else those of the standard (RFC 2131 section 4.1)
 abbrev pub ports_asked : Work → Ports
-ports_asked (works.Serve listening count journal) =
+ports_asked (works.Serve listening count journal max_ahead) =
     record { server = listening.port; client = listening.client_port }
 ports_asked other = record { server = 67; client = 68 }
 
@@ -71,13 +74,13 @@ traffic_over l r link journal output =
 
 -- over a link, a record and a store of leases
 module _ {L R S : Type 0} (l : Links L) (r : Sinks R) (g : Ghosts S) where
-  -- a server serves so many datagrams of a link, of which it keeps a record, and whose lines are
-  -- written to standard output; where nothing can be received the link has failed, and so with the
+  -- a server serves so many datagrams of a link, while the clock is not ahead of its limit; it keeps a
+  -- record of them, and their lines are written to standard output; where nothing can be received the link has failed, and so with the
   -- record and with standard output
-  pub record Receives (count : ℕ) (link left : L) (journal rest : Option R)
+  pub record Receives (limit : Option ℕ) (count : ℕ) (link left : L) (journal rest : Option R)
       (server after : Keeping S) (status : ℕ) (old new : Streams) : Type 0 where
     pub result : Result Unit LoopFault
-    pub served : ServesTo (Batched g) result count server after
+    pub served : ServesTo limit latest_in (Batched g) result count server after
         (traffic_over l r link journal old.output) (traffic_over l r left rest new.output)
     pub read : IsErrOf result looping.Read → l.has_failed left ≡ true
     pub recorded : IsErrOf result looping.Record → failed_in r rest ≡ true
@@ -103,6 +106,12 @@ module _ {S : Type 0} (g : Ghosts S) where
     pub reached : Reaches (Steps g) (Refuses g) server after
     pub ends : EndsReplay result status old.faults new.faults
 
+-- the replies of the log on standard input are printed, those that are asked for
+pub record SaysEvents (filter : Filter) (status : ℕ) (old new : Streams) : Type 0 where
+  pub result : Result ℕ ReplayFault
+  pub prints : PrintsEvents filter result old new
+  pub ends : EndsReplay result status old.faults new.faults
+
 -- over a host and the records that it gives
 module _ {H N U L R : Type 0} (h : Hosts H N U L R) (r : Sinks R) where
   -- the host gives the record at a path, or there is none without a path
@@ -118,8 +127,8 @@ module _ {H N U L R S : Type 0} (h : Hosts H N U L R) (l : Links L) (r : Sinks R
     (g : Ghosts S) where
   -- the host gives a socket and a record, where there is a path for one, and neither has failed; a
   -- line is told of what the server does, and it serves datagrams of that socket
-  pub record BeginsServing (listening : Listening) (path : Option (List ℕ)) (count : ℕ)
-      (before after : H) (server left : Keeping S) (status : ℕ) (old new : Streams) : Type 0 where
+  pub record BeginsServing (listening : Listening) (path : Option (List ℕ)) (limit : Option ℕ)
+      (count : ℕ) (before after : H) (server left : Keeping S) (status : ℕ) (old new : Streams) : Type 0 where
     pub link : L
     pub bound : H
     pub given : h.binds before listening (Ok link) bound
@@ -132,7 +141,7 @@ module _ {H N U L R S : Type 0} (h : Hosts H N U L R) (l : Links L) (r : Sinks R
     pub told : Puts line old.faults between
     pub rest : L
     pub recorded : Option R
-    pub receives : Receives l r g count link rest journal recorded server left status
+    pub receives : Receives l r g limit count link rest journal recorded server left status
         (record { input = old.input; output = old.output; faults = between }) new
 
   -- the host gives no socket, which is told
@@ -163,10 +172,10 @@ module _ {H N U L R S : Type 0} (h : Hosts H N U L R) (l : Links L) (r : Sinks R
     pub told : Starves status old new
 
   -- a server serves datagrams of the host's socket, or stays as it is
-  abbrev pub Listens : Listening → Option (List ℕ) → ℕ → H → H → Keeping S → Keeping S → ℕ → Streams
-      → Streams → Type 0
-  Listens listening path count before after server left status old new =
-      BeginsServing listening path count before after server left status old new
+  abbrev pub Listens : Listening → Option (List ℕ) → Option ℕ → ℕ → H → H → Keeping S → Keeping S
+      → ℕ → Streams → Streams → Type 0
+  Listens listening path limit count before after server left status old new =
+      BeginsServing listening path limit count before after server left status old new
       ⊎ ((left ≡ server) ×
       (HasNoSocket listening before after status old new
       ⊎ (HasNoJournal listening path before after status old new
@@ -179,9 +188,9 @@ module _ {H N U L R S : Type 0} (h : Hosts H N U L R) (l : Links L) (r : Sinks R
   Works (works.List listing at) before after server left status old new =
       (after ≡ before) × ((left ≡ server)
       × ShowsListing listing (is_some (g.fault server.store)) server.config server.rows at status old new)
-  Works (works.Serve listening count journal) before after server left status old new =
-      Listens listening (option_map string_bytes journal) count before after server left status old
-      new
+  Works (works.Serve listening count journal max_ahead) before after server left status old new =
+      Listens listening (option_map string_bytes journal) max_ahead count before after server left
+      status old new
 
   -- a server that goes by a configuration is opened over a store, does its work, and gives back its
   -- store
@@ -350,10 +359,16 @@ module _ {H N U L R : Type 0} (h : Hosts H N U L R) (named : Ghosts N) (unnamed 
       listing at before after status old new
   CarriesOut (orders.Import store) before after status old new =
       Imports (string_bytes store) before after status old new
-  CarriesOut (orders.Serve config token_dir store listening count journal) before after status old
-      new =
+  CarriesOut (orders.Serve config token_dir store listening count journal max_ahead) before after
+      status old new =
       Starts (record { config = config; token_dir = token_dir; store = store })
-      (works.Serve listening count journal) before after status old new
+      (works.Serve listening count journal max_ahead) before after status old new
+  CarriesOut (orders.Check config token_dir store bind port max_ahead) before after status old new =
+      ChecksStart h (record { config = config; token_dir = token_dir; store = store }) bind port
+      max_ahead before after status old new
+  CarriesOut (orders.Events mac address) before after status old new =
+      (after ≡ before)
+      × SaysEvents (record { mac = option_map vec_items mac; address = address }) status old new
   CarriesOut other before after status old new = (after ≡ before) × Says other status old new
 
   -- what words do: the fault that they have is told, or what they ask for is done

@@ -1,21 +1,20 @@
-ghost use Rattle.std.specs.Prelude.{◌≡◌, option_map, string_bytes};
-ghost use Rattle.std.specs.Option.{option_copied};
-ghost use Rattle.kd_program.specs.Checking.{ChecksStart, FindsRows, FindsDatabase, FindsStore, check_status, rows_finding, trouble_number};
+ghost use Rattle.std.specs.Prelude.{◌≡◌, ◌∷◌, [], option_map, string_bytes};
+ghost use Rattle.kd_program.specs.Checking.{ChecksStart, FindsRows, FindsStore, check_status, config_finding, socket_finding};
+ghost use Rattle.kd_program.specs.Staging.{finding_number};
 ghost use Rattle.kd_program.specs.Streams.{streams};
 
-use crate::banner::pool_addresses;
 use crate::ends::Ends;
 use crate::host::Host;
 use crate::printing::{refuse_memory, show};
+use crate::report::report_of;
 use crate::serving::{Files, configured};
 use kd_check::findings::{SocketTrouble, StoreTrouble};
 use kd_config::Config;
 use kd_io::{LookFault, StartFault};
-use kd_replay::{Sink, Source, is_behind_at};
-use kd_rows::Row;
+use kd_replay::{Sink, Source, starts_behind};
+use kd_rows::Rows;
 use kd_tools::exit_status;
-use std::alloc::{AllocError, Global};
-use std::fmt::Write;
+use std::alloc::Global;
 
 // The number of the fault that the clock is ahead, or behind.
 const AHEAD: u8 = 101;
@@ -36,7 +35,7 @@ pub struct Place {
 
 // What is found of a store.
 #[derive(Drop)]
-enum StoreFinding {
+pub(crate) enum StoreFinding {
     // There is no path of one.
     Unasked,
     // The database is not there, and would be made.
@@ -45,16 +44,146 @@ enum StoreFinding {
     Trouble(StoreTrouble),
     // It is not read.
     Unread(LookFault),
-    // It has so many rows, the latest change, and the clock says this moment.
-    Rows(Seen),
+    // There is no memory for its rows.
+    Memory,
+    // Its rows were read.
+    Open(Seen),
 }
 
 // What is seen of the rows of a store.
 #[derive(Clone, Copy)]
-struct Seen {
-    count: usize,
-    latest: u64,
-    moment: u64,
+pub(crate) struct Seen {
+    pub(crate) count: usize,
+    pub(crate) latest: u64,
+    pub(crate) moment: u64,
     // Whether the clock is too far behind the latest change.
-    is_behind: bool,
+    pub(crate) is_behind: bool,
+}
+
+// What was found at the steps of a start.
+#[derive(Clone, Copy)]
+pub(crate) struct Found<'a> {
+    pub(crate) config: &'a Result<Config, StartFault>,
+    pub(crate) store: &'a StoreFinding,
+    pub(crate) socket: Result<bool, SocketTrouble>,
+    pub(crate) place: Place,
+}
+
+/// Tries each step of a start in its order, without a change to a file, says in words what is found,
+/// and the exit status: 0 where a server would start.
+pub fn check<H: Host, R: Source, O: Sink, E: Sink>(
+    alloc: Global,
+    host: &mut H,
+    ends: &mut Ends<R, O, E>,
+    files: &Files,
+    place: Place,
+) -> u8
+    ensures { ChecksStart H.Host files.now place.address place.port place.max_ahead
+        host.old host.new result
+        (streams R.Source O.Sink E.Sink ends.old) (streams R.Source O.Sink E.Sink ends.new) }
+{
+    let config = configured(host, files);
+    let store = find_store(host, &files.store, place.max_ahead);
+    let socket = host.try_socket(place.address, place.port);
+    let status = status_of_first(
+        number_of_config(&config),
+        store.number(),
+        number_of_socket(socket),
+    );
+    let found = Found {
+        config: &config,
+        store: &store,
+        socket,
+        place,
+    };
+    match report_of(alloc, host, files, &found) {
+        Ok(text) => show(&mut ends.output, &mut ends.faults, text.as_bytes(), status),
+        Err(_) => refuse_memory(&mut ends.faults),
+    }
+}
+
+// Tries the store at a path, if there is one.
+fn find_store<H: Host>(host: &mut H, path: &Option<String>, limit: Option<u64>) -> StoreFinding
+    ensures { FindsStore H.Host (option_map string_bytes path.now) limit host.old host.new
+        (finding_number result) }
+{
+    let Some(path) = path else {
+        return StoreFinding::Unasked;
+    };
+    let path = path.as_str();
+    match host.try_database(path) {
+        Ok(true) => find_rows(host, path, limit),
+        Ok(false) => StoreFinding::New,
+        Err(trouble) => StoreFinding::Trouble(trouble),
+    }
+}
+
+// Reads the rows of the database at a path, and asks the clock.
+fn find_rows<H: Host>(host: &mut H, path: &str, limit: Option<u64>) -> StoreFinding
+    ensures { FindsRows H.Host path.now limit host.old host.new (finding_number result) }
+{
+    match host.copy(path) {
+        Ok(rows) => match Rows::new(rows) {
+            Ok(rows) => {
+                let moment = host.clock();
+                let latest = rows.latest();
+                StoreFinding::Open(Seen {
+                    count: rows.len(),
+                    latest,
+                    moment,
+                    is_behind: starts_behind(limit, latest, moment),
+                })
+            }
+            Err(_) => StoreFinding::Memory,
+        },
+        Err(fault) => StoreFinding::Unread(fault),
+    }
+}
+
+impl StoreFinding {
+    // The number of the fault that is found, if one is.
+    fn number(&self) -> Option<u8>
+        ensures { result ≡ finding_number self.now }
+    {
+        match self {
+            StoreFinding::Unasked => None,
+            StoreFinding::New => None,
+            StoreFinding::Trouble(StoreTrouble::Schema) => Some(80),
+            StoreFinding::Trouble(_) => Some(81),
+            StoreFinding::Unread(fault) => Some(fault.number()),
+            StoreFinding::Memory => Some(91),
+            StoreFinding::Open(seen) if seen.is_behind => Some(AHEAD),
+            StoreFinding::Open(_) => None,
+        }
+    }
+}
+
+// The number of the fault of a configuration, if it has one.
+fn number_of_config(config: &Result<Config, StartFault>) -> Option<u8>
+    ensures { result ≡ config_finding config.now }
+{
+    match config {
+        Ok(_) => None,
+        Err(fault) => Some(fault.number()),
+    }
+}
+
+// The number of the fault that there is no socket, if there is none.
+fn number_of_socket(socket: Result<bool, SocketTrouble>) -> Option<u8>
+    ensures { result ≡ socket_finding socket }
+{
+    match socket {
+        Ok(_) => None,
+        Err(_) => Some(UNREAD),
+    }
+}
+
+// The exit status of the first fault that was found, 0 where there is none.
+fn status_of_first(config: Option<u8>, store: Option<u8>, socket: Option<u8>) -> u8
+    ensures { result ≡ check_status (config ∷ store ∷ socket ∷ []) }
+{
+    match config.or(store).or(socket) {
+        Some(number) => exit_status(number),
+        None => 0,
+    }
 }

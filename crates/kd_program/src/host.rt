@@ -1,15 +1,19 @@
+use kd_check::findings::{SocketTrouble, StoreTrouble};
 use kd_commands::Listening;
 use kd_config::Config;
 use kd_io::{LookFault, StartFault};
 use kd_keeps::{Keeps, Opened, StoreFault};
 use kd_replay::{EndFailed, Link, Sink};
 use kd_rows::Row;
+use std::alloc::AllocError;
 
 /// What a command finds outside of its words and of the standard streams.
 pub trait Host {
-    ghost use Rattle.std.specs.Prelude.{◌≡◌, ℕ, Err, IfOk, List, MatchResult, Ok, Option, Result, false, is_some};
+    ghost use Rattle.std.specs.Prelude.{◌≡◌, ℕ, Bool, Err, IfOk, List, MatchResult, Ok, Option, Result, false, is_some};
     ghost use Rattle.std.specs.List.{All};
     ghost use Rattle.std.specs.Option.{option_copied};
+    ghost use Rattle.kd_check.specs.declared.findings.SocketTrouble.{SocketTrouble};
+    ghost use Rattle.kd_check.specs.declared.findings.StoreTrouble.{StoreTrouble};
     ghost use Rattle.kd_commands.specs.declared.orders.Listening.{Listening};
     ghost use Rattle.kd_config.specs.Configuration.{Configuration};
     ghost use Rattle.kd_io.specs.declared.look.LookFault.{LookFault};
@@ -56,6 +60,19 @@ pub trait Host {
 
     /// The record at a path.
     ghost records: { Self → List ℕ → Result Self.Journal EndFailed → Self → Type 0 };
+
+    /// Why the database at a path cannot be opened, or whether it is there, as it was tried.
+    ghost tries: { Self → List ℕ → Result Bool StoreTrouble → Type 0 };
+
+    /// Why there is no socket at an address and a port, or whether it reaches all hosts of its link,
+    /// as it was tried.
+    ghost reaches: { Self → ℕ → ℕ → Result Bool SocketTrouble → Type 0 };
+
+    /// The moment that the clock says.
+    ghost tells_time: { Self → ℕ → Type 0 };
+
+    /// The line that says which program it is.
+    ghost version: { Self → List ℕ };
 
     /// The configuration of the file at a path, with the token files of a folder; the built-in one
     /// without a file. The folder is read first.
@@ -128,4 +145,42 @@ pub trait Host {
     fn journal(&mut self, path: &str) -> Result<Self::Journal, EndFailed>
         ensures given { records self.old path.now result self.new }
         ensures works { IfOk result (λ sink. Self.Journal.has_failed sink ≡ false) };
+
+    /// Why there is no configuration of these files, in words: lines, each with its line feed. The
+    /// files are tried again.
+    ///
+    /// # Errors
+    ///
+    /// There is no memory for the words.
+    fn start_words(
+        &self,
+        file: Option<&str>,
+        folder: Option<&str>,
+        fault: &StartFault,
+    ) -> Result<String, AllocError>;
+
+    /// Whether the database at a path is there. Nothing is made.
+    ///
+    /// # Errors
+    ///
+    /// It cannot be opened.
+    fn try_database(&self, path: &str) -> Result<bool, StoreTrouble>
+        ensures { tries self.now path.now result };
+
+    /// Whether a socket at an address, a number in host order, and a port could send to all hosts of
+    /// its link. Nothing is sent.
+    ///
+    /// # Errors
+    ///
+    /// There is no such socket.
+    fn try_socket(&self, address: u32, port: u16) -> Result<bool, SocketTrouble>
+        ensures { reaches self.now address port result };
+
+    /// The moment, in whole seconds, as the clock says it.
+    fn clock(&self) -> u64
+        ensures { tells_time self.now result };
+
+    /// The name of the program, its version and its commit, as a line with its line feed.
+    fn version(&self) -> &str
+        ensures { result.now ≡ version self.now };
 }

@@ -6,13 +6,16 @@
 #![tactic(auto)]
 
 mod banner;
+mod checking;
 mod ends;
 mod host;
 mod importing;
 pub mod laws;
 mod listing;
+mod log;
 mod looking;
 mod printing;
+mod report;
 mod running;
 mod serving;
 

@@ -2,9 +2,11 @@ ghost use Rattle.std.specs.Prelude.{◌≡◌, false, map, string_bytes};
 ghost use Rattle.kd_program.specs.Streams.{streams};
 ghost use Rattle.kd_program.specs.Running.{Carries, CarriesOut};
 
+use crate::checking::{Place, check};
 use crate::ends::Ends;
 use crate::host::Host;
 use crate::importing::import;
+use crate::log::{filter_of, print_events};
 use crate::looking::look;
 use crate::printing::{print, refuse_memory, refuse_words};
 use crate::serving::{Files, Work, served};
@@ -102,15 +104,37 @@ fn carried_out<H: Host, R: Source, O: Sink, E: Sink>(
             listening,
             count,
             journal,
+            max_ahead,
         } => {
             let files = Files {
                 config,
                 token_dir,
                 store,
             };
-            let work = Work::Serve(listening, count, journal);
+            let work = Work::Serve(listening, count, journal, max_ahead);
             served(alloc, host, ends, &files, &work)
         }
+        Order::Check {
+            config,
+            token_dir,
+            store,
+            bind,
+            port,
+            max_ahead,
+        } => {
+            let files = Files {
+                config,
+                token_dir,
+                store,
+            };
+            let place = Place {
+                address: bind,
+                port,
+                max_ahead,
+            };
+            check(alloc, host, ends, &files, place)
+        }
+        Order::Events { mac, address } => print_events(alloc, ends, &filter_of(mac, address)),
         other => match answer(alloc, &other) {
             Ok(printed) => print(ends, &printed),
             Err(_) => refuse_memory(&mut ends.faults),

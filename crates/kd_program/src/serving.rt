@@ -18,7 +18,7 @@ use kd_config::Config;
 use kd_event::Ports;
 use kd_io::StartFault;
 use kd_keeps::{Keeps, Opened, StoreFault};
-use kd_replay::{EndFailed, Link, LoopFault, Sink, Source};
+use kd_replay::{EndFailed, Limits, Link, LoopFault, Sink, Source};
 use kd_server::{Server, replay, serve};
 use kd_tools::{replay_status, serve_status};
 use std::alloc::Global;
@@ -41,9 +41,10 @@ pub enum Work {
     Replay,
     /// To print a listing of the leases at a moment, in whole seconds.
     List(Listing, u64),
-    /// To serve so many datagrams of a socket, and to append what comes to the file at a path,
-    /// where there is one.
-    Serve(Listening, u64, Option<String>),
+    /// To serve so many datagrams of a socket, to append what comes to the file at a path, where there
+    /// is one, and to end where the clock runs ahead by more than so many seconds, where there is such
+    /// a limit.
+    Serve(Listening, u64, Option<String>, Option<u64>),
 }
 
 // A store as the operator names it.
@@ -197,7 +198,7 @@ fn worked<H: Host, R: Source, O: Sink, E: Sink, S: Keeps>(
     match work {
         Work::Replay => replayed(alloc, ends, server),
         Work::List(listing, at) => list(alloc, ends, *listing, &table_of(server), *at),
-        Work::Serve(listening, count, journal) => {
+        Work::Serve(listening, count, journal, max_ahead) => {
             let banner = Banner {
                 listening: *listening,
                 sizes,
@@ -205,9 +206,12 @@ fn worked<H: Host, R: Source, O: Sink, E: Sink, S: Keeps>(
                 latest: server.latest_change(),
                 store: place.name,
             };
-            let most = batch_size(place.is_file, listening.mirror);
-            let path = text_of(journal);
-            listened(alloc, host, ends, server, &banner, path, most, *count)
+            let limits = Limits {
+                most: batch_size(place.is_file, listening.mirror),
+                count: *count,
+                max_ahead: *max_ahead,
+            };
+            listened(alloc, host, ends, server, &banner, text_of(journal), limits)
         }
     }
 }
@@ -230,7 +234,7 @@ fn ports_of(work: &Work) -> Ports
     ensures { result ≡ ports_asked work.now }
 {
     match work {
-        Work::Serve(listening, _, _) => Ports {
+        Work::Serve(listening, ..) => Ports {
             server: listening.port,
             client: listening.client_port,
         },
@@ -272,13 +276,13 @@ fn listened<H: Host, R: Source, O: Sink, E: Sink, S: Keeps>(
     server: &mut Server<S>,
     banner: &Banner<'_>,
     path: Option<&str>,
-    most: usize,
-    count: u64,
+    limits: Limits,
 ) -> u8
     requires output { O.has_failed ends.old.output ≡ false }
-    requires most { 0 < most }
+    requires most { 0 < limits.most }
     ensures { Listens H.Host H.Socket.Link H.Journal.Sink S.Keeps
-        banner.now.listening (option_copied path.entry) count host.old host.new
+        banner.now.listening (option_copied path.entry) limits.max_ahead limits.count
+        host.old host.new
         server.old server.new result
         (streams R.Source O.Sink E.Sink ends.old) (streams R.Source O.Sink E.Sink ends.new) }
 {
@@ -294,7 +298,7 @@ fn listened<H: Host, R: Source, O: Sink, E: Sink, S: Keeps>(
         return refuse_memory(&mut ends.faults);
     };
     tell(&mut ends.faults, line.as_bytes());
-    received(alloc, &mut link, &mut journal, ends, server, most, count)
+    received(alloc, &mut link, &mut journal, ends, server, limits)
 }
 
 // The record at a path, where there is one.
@@ -316,18 +320,17 @@ fn received<L: Link, J: Sink, R: Source, O: Sink, E: Sink, S: Keeps>(
     journal: &mut Option<J>,
     ends: &mut Ends<R, O, E>,
     server: &mut Server<S>,
-    most: usize,
-    count: u64,
+    limits: Limits,
 ) -> u8
     requires link { L.has_failed link.old ≡ false }
     requires journal { failed_in J.Sink journal.old ≡ false }
     requires output { O.has_failed ends.old.output ≡ false }
-    requires most { 0 < most }
+    requires most { 0 < limits.most }
     ensures { Receives L.Link J.Sink S.Keeps
-        count link.old link.new journal.old journal.new server.old server.new result
+        limits.max_ahead limits.count link.old link.new journal.old journal.new server.old server.new result
         (streams R.Source O.Sink E.Sink ends.old) (streams R.Source O.Sink E.Sink ends.new) }
 {
-    match serve(alloc, link, journal, &mut ends.output, server, most, count) {
+    match serve(alloc, link, journal, &mut ends.output, server, limits) {
         Ok(()) => 0,
         Err(fault) => refuse_as(
             alloc,

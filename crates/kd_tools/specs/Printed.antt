@@ -32,7 +32,7 @@ use Rattle.kd_tools.specs.Show.{show_text, line_feed}
 use Rattle.kd_tools.specs.Status.{status_of}
 use Rattle.kd_tools.specs.declared.printed.Printed.{Printed}
 use Rattle.kd_commands.specs.declared.orders.Order.{Order}
-use Rattle.kd_commands.specs.declared.orders.Order.TheVariants.{Help, Show, Expr, Compile, Verify, Eval, EvalText, Replay, List as ListOrder, Look, Import, Serve}
+use Rattle.kd_commands.specs.declared.orders.Order.TheVariants.{Help, Show, Expr, Compile, Verify, Eval, EvalText}
 
 -- this text and nothing else
 pub record IsSuccess (text : List ℕ) (p : Printed) : Type 0 where
@@ -235,11 +235,7 @@ IsPrinted (Compile text) = Unit {0}
 IsPrinted (Verify hex) = Unit {0}
 IsPrinted (Eval program datagram) = Unit {0}
 IsPrinted (EvalText text datagram) = Unit {0}
-IsPrinted (Replay config token_dir store) = ⊥
-IsPrinted (ListOrder listing config token_dir store moment) = ⊥
-IsPrinted (Look listing config token_dir store moment) = ⊥
-IsPrinted (Import store) = ⊥
-IsPrinted (Serve config token_dir store listening count journal) = ⊥
+IsPrinted other = ⊥
 
 -- what each such order prints
 abbrev pub Answers : Order → Printed → Type 0
@@ -252,8 +248,4 @@ Answers (Eval program datagram) p =
     RunsDecoded (decode_of (string_bytes program)) (decode_of (string_bytes datagram)) p
 Answers (EvalText text datagram) p =
     TestsDecoded (string_bytes text) (decode_of (string_bytes datagram)) p
-Answers (Replay config token_dir store) p = ⊥
-Answers (ListOrder listing config token_dir store moment) p = ⊥
-Answers (Look listing config token_dir store moment) p = ⊥
-Answers (Import store) p = ⊥
-Answers (Serve config token_dir store listening count journal) p = ⊥
+Answers other p = ⊥

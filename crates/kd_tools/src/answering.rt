@@ -30,10 +30,6 @@ pub fn answer(alloc: Global, order: &Order) -> Result<Printed, AllocError>
         Order::EvalText { text, datagram } => {
             answer_eval_text(alloc, text.as_str(), datagram.as_str())
         }
-        Order::Replay { .. } => unreachable!(),
-        Order::List { .. } => unreachable!(),
-        Order::Look { .. } => unreachable!(),
-        Order::Import { .. } => unreachable!(),
-        Order::Serve { .. } => unreachable!(),
+        _ => unreachable!(),
     }
 }

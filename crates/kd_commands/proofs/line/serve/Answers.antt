@@ -12,7 +12,8 @@ returns-clause-app c =
     let four = with_arg _ _ _ _ (needed_value (codes "count")) c.in_ok-arg-4.ensures three c.count.ensures.rule c.count.ensures.local in
     let five = with_arg _ _ _ _ (value_rule (codes "broadcast-as")) c.in_ok-arg-5.ensures four c.valued-4.ensures.rule c.valued-4.ensures.local in
     let six = with_arg _ _ _ _ (flag_rule (codes "mirror")) c.in_ok-arg-6.ensures five c.flag.ensures.rule c.flag.ensures.local in
-    last_app _ _ c.arg-7.result _ (value_rule (codes "record")) c.arg-7.ensures six c.valued-5.ensures.rule c.valued-5.ensures.local
+    let seven = with_arg _ _ _ _ (value_rule (codes "record")) c.in_ok-arg-7.ensures six c.valued-5.ensures.rule c.valued-5.ensures.local in
+    last_app _ _ c.arg-8.result _ (value_rule (codes "max-ahead")) c.arg-8.ensures seven c.max_ahead.ensures.rule c.max_ahead.ensures.local
 
 pub returns-clause-local : goal.returns-clause-local
 returns-clause-local c =
@@ -23,4 +24,5 @@ returns-clause-local c =
     let four = with_arg _ _ _ _ (needed_value (codes "count")) c.in_ok-arg-4.ensures three c.count.ensures.rule c.count.ensures.local in
     let five = with_arg _ _ _ _ (value_rule (codes "broadcast-as")) c.in_ok-arg-5.ensures four c.valued-4.ensures.rule c.valued-4.ensures.local in
     let six = with_arg _ _ _ _ (flag_rule (codes "mirror")) c.in_ok-arg-6.ensures five c.flag.ensures.rule c.flag.ensures.local in
-    last_local _ _ c.arg-7.result _ (value_rule (codes "record")) c.arg-7.ensures six c.valued-5.ensures.rule c.valued-5.ensures.local
+    let seven = with_arg _ _ _ _ (value_rule (codes "record")) c.in_ok-arg-7.ensures six c.valued-5.ensures.rule c.valued-5.ensures.local in
+    last_local _ _ c.arg-8.result _ (value_rule (codes "max-ahead")) c.arg-8.ensures seven c.max_ahead.ensures.rule c.max_ahead.ensures.local

@@ -1,0 +1,15 @@
+use Rattle.std.proofs.Common.{[], inr, refl}
+use Rattle.kd_program.proofs.checking.check.Goals as goal
+
+pub returns : goal.returns
+returns g c = record {
+  config = c.configured-config.result;
+  asked = c.configured-config.new.host;
+  given = c.configured-config.ensures;
+  store = _;
+  store_found = c.find_store-store.ensures;
+  socket = _;
+  socket_found = (c.try_socket-socket.result, c.try_socket-socket.ensures, refl);
+  report = [];
+  shown = inr (refl, c.refuse_memory.ensures.0, c.refuse_memory.ensures.1);
+}

@@ -1,0 +1,15 @@
+-- Words of private contracts alone: what was found of a store.
+use Rattle.std.specs.Prelude.{ℕ, Option, Some, None, if◌then◌else◌}
+use Rattle.kd_io.specs.Faults.{look_fault_number}
+use Rattle.kd_program.specs.Checking.{trouble_number}
+use Rattle.kd_program.specs.declared.checking.StoreFinding.{StoreFinding}
+use Rattle.kd_program.specs.declared.checking.StoreFinding.TheVariants as findings
+
+-- the number of the fault that is found of a store, if one is
+abbrev pub finding_number : StoreFinding → Option ℕ
+finding_number findings.Unasked = None
+finding_number findings.New = None
+finding_number (findings.Trouble trouble) = Some (trouble_number trouble)
+finding_number (findings.Unread fault) = Some (look_fault_number fault)
+finding_number findings.Memory = Some 91
+finding_number (findings.Open seen) = if seen.is_behind then Some 101 else None

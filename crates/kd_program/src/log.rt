@@ -1,0 +1,43 @@
+ghost use Rattle.std.specs.Prelude.{◌≡◌, option_map, vec_items};
+ghost use Rattle.kd_program.specs.Running.{SaysEvents};
+ghost use Rattle.kd_program.specs.Streams.{streams};
+
+use crate::ends::Ends;
+use crate::printing::refuse_as;
+use kd_events::{Filter, events_with};
+use kd_replay::{Sink, Source};
+use kd_tools::replay_status;
+use kd_wire::Bytes;
+use std::alloc::Global;
+
+/// Prints the replies of the log on standard input that are asked for, and says the exit status.
+pub fn print_events<R: Source, O: Sink, E: Sink>(
+    alloc: Global,
+    ends: &mut Ends<R, O, E>,
+    filter: &Filter,
+) -> u8
+    ensures { SaysEvents filter.now result
+        (streams R.Source O.Sink E.Sink ends.old) (streams R.Source O.Sink E.Sink ends.new) }
+{
+    match events_with(alloc, &mut ends.input, &mut ends.output, filter) {
+        Ok(_) => 0,
+        Err(fault) => refuse_as(
+            alloc,
+            &mut ends.faults,
+            fault.number(),
+            &fault,
+            replay_status(fault),
+        ),
+    }
+}
+
+/// The replies of a hardware address and of an address, where these are given.
+pub fn filter_of(mac: Option<Vec<u8>>, address: Option<u32>) -> Filter
+    ensures { result ≡ record { mac = option_map vec_items mac; address = address } }
+{
+    let mac = match mac {
+        Some(bytes) => Some(Bytes::own(bytes)),
+        None => None,
+    };
+    Filter { mac, address }
+}

@@ -1,0 +1,113 @@
+use crate::banner::pool_addresses;
+use crate::checking::{Found, Place, Seen, StoreFinding};
+use crate::host::Host;
+use crate::serving::Files;
+use kd_check::findings::SocketTrouble;
+use kd_config::Config;
+use kd_io::StartFault;
+use std::alloc::{AllocError, Global};
+use std::fmt::Write;
+use std::net::Ipv4Addr;
+
+// What was found at the steps of a start, in words: a few lines.
+pub(crate) fn report_of<H: Host>(
+    alloc: Global,
+    host: &H,
+    files: &Files,
+    found: &Found<'_>,
+) -> Result<String, AllocError> {
+    let mut text = String::new(alloc);
+    put_config(&mut text, host, files, found.config)?;
+    if let Some(path) = &files.store {
+        put_store(&mut text, path.as_str(), found.store)?;
+    }
+    put_socket(&mut text, found.place, found.socket)?;
+    Ok(text)
+}
+
+// What was found of a configuration.
+fn put_config<H: Host>(
+    text: &mut String,
+    host: &H,
+    files: &Files,
+    config: &Result<Config, StartFault>,
+) -> Result<(), AllocError> {
+    let file = text_of(&files.config);
+    match config {
+        Ok(config) => {
+            let name = file.unwrap_or("the built-in configuration");
+            let subnets = config.subnets().len();
+            let addresses = pool_addresses(config.subnets());
+            write!(text, "{name}: subnets {subnets}, addresses {addresses}\n")
+        }
+        Err(fault) => {
+            let words = host.start_words(file, text_of(&files.token_dir), fault)?;
+            text.push_str(words.as_str())
+        }
+    }
+}
+
+// A path, where one is given.
+fn text_of(path: &Option<String>) -> Option<&str> {
+    match path {
+        Some(path) => Some(path.as_str()),
+        None => None,
+    }
+}
+
+// What was found of a store.
+fn put_store(text: &mut String, path: &str, store: &StoreFinding) -> Result<(), AllocError> {
+    text.push_str(path)?;
+    match store {
+        StoreFinding::Unasked => {}
+        StoreFinding::New => text.push_str(": not there yet, serve makes it")?,
+        StoreFinding::Trouble(trouble) => {
+            text.push_str(": ")?;
+            text.push_str(trouble.words())?;
+        }
+        StoreFinding::Unread(fault) => write!(text, ": it can't be read: {fault}")?,
+        StoreFinding::Memory => text.push_str(": out of memory")?,
+        StoreFinding::Open(seen) => put_seen(text, *seen)?,
+    }
+    text.push_str("\n")
+}
+
+// What was seen of the rows of a store.
+fn put_seen(text: &mut String, seen: Seen) -> Result<(), AllocError> {
+    let Seen {
+        count,
+        latest,
+        moment,
+        ..
+    } = seen;
+    write!(text, ": leases {count}, latest change {latest}")?;
+    if latest > moment {
+        let by = latest - moment;
+        write!(text, ", which is {by} seconds ahead of the clock")?;
+    }
+    if seen.is_behind {
+        text.push_str(", more than --max-ahead")?;
+    }
+    Ok(())
+}
+
+// What was found of a socket.
+fn put_socket(
+    text: &mut String,
+    place: Place,
+    socket: Result<bool, SocketTrouble>,
+) -> Result<(), AllocError> {
+    let address = Ipv4Addr::from(place.address);
+    let port = place.port;
+    write!(text, "{address}:{port}: ")?;
+    match socket {
+        Ok(true) => text.push_str("free\n"),
+        Ok(false) => text.push_str(
+            "free\n255.255.255.255: there is no route, so clients without an address get no answer\n",
+        ),
+        Err(trouble) => {
+            text.push_str(trouble.words())?;
+            text.push_str("\n")
+        }
+    }
+}
