@@ -1,4 +1,4 @@
--- Which words clap takes for flags, and that no flag passes but those that ask for help.
+-- Which words clap takes for flags, and that no flag passes but those that ask for help or for the version.
 use Rattle.std.proofs.Common.{◌≡◌, ◌⊎◌, ◌∙◌, ap, refl, subst, sym, inl, inr, ℕ, suc, ◌+◌, arith, true, false, Bool, List, [], ◌∷◌, Option, Some, None}
 use Rattle.std.specs.Prelude.{slice_get, ◌==◌, ◌||◌, if◌then◌else◌}
 use Rattle.std.specs.List.{before_first, position_or_len}
@@ -11,14 +11,18 @@ use Rattle.clap.specs.Lexer.{has_byte, long_of, name_and_value, short_of}
 use Rattle.clap.specs.Words.{Kinds, Rule, Text}
 use Rattle.clap.specs.Kinds.{or_else}
 use Rattle.clap.specs.Walk.{Held, arg_by_long, arg_by_short, has_long, has_short, takes_values}
-use Rattle.clap.specs.Simple.{filled, help_rule, with_index}
+use Rattle.clap.specs.Simple.{filled, help_rule, version_rule, with_index}
 use Rattle.clap.specs.Faults.{bundle_fault, flag_word_fault, flags_fault, long_fault, react_fault, settle_fault, short_fault}
-use Rattle.clap.specs.declared.error.kind.ErrorKind.TheVariants.{DisplayHelp, TooManyValues}
+use Rattle.clap.specs.declared.error.kind.ErrorKind.TheVariants.{DisplayHelp, DisplayVersion, TooManyValues}
 use Rattle.kd_commands.specs.Line.{is_flag}
 
 -- the flag for help, as clap builds it
 abbrev pub help_built : Rule
 help_built = with_index 1 (filled help_rule)
+
+-- and the one for the version
+abbrev pub version_built : Rule
+version_built = with_index 1 (filled version_rule)
 
 -- ---- two steps of which neither fails
 
@@ -61,36 +65,68 @@ no_short (b ∷ c ∷ rest) h = rw h refl
 
 -- ---- flags
 
+-- a flag is unknown, or asks for help or for the version
+abbrev pub IsRefused : Option Rule → Type 0
+IsRefused o = (o ≡ None) ⊎ ((o ≡ Some help_built) ⊎ (o ≡ Some version_built))
+
 -- at each flag the rules fail
 pub record FlagsFail (c : List Rule) : Type 0 where
-  pub long : (name : Text) → (arg_by_long c name ≡ None) ⊎ (arg_by_long c name ≡ Some help_built)
-  pub short : (x : ℕ) → (arg_by_short c x ≡ None) ⊎ (arg_by_short c x ≡ Some help_built)
+  pub long : (name : Text) → IsRefused (arg_by_long c name)
+  pub short : (x : ℕ) → IsRefused (arg_by_short c x)
 
 -- rules that have the flags for help and no others
 pub flags_fail : (c : List Rule) → ((name : Text) → arg_by_long c name ≡ (if has_long help_built name then Some help_built else None))
     → ((x : ℕ) → arg_by_short c x ≡ (if has_short help_built x then Some help_built else None)) → FlagsFail c
 flags_fail c long short = record { long = λ name. go (has_long help_built name) (arg_by_long c name) (long name); short = λ x. go (has_short help_built x) (arg_by_short c x) (short x) }
   where
-    go : (t : Bool) (o : Option Rule) → o ≡ (if t then Some help_built else None) → (o ≡ None) ⊎ (o ≡ Some help_built)
-    go true o e = inr e
+    go : (t : Bool) (o : Option Rule) → o ≡ (if t then Some help_built else None) → IsRefused o
+    go true o e = inr (inl e)
     go false o e = inl e
+
+-- rules that have those for the version beside them
+pub both_fail : (c : List Rule)
+    → ((name : Text) → arg_by_long c name ≡ (if has_long help_built name then Some help_built else (if has_long version_built name then Some version_built else None)))
+    → ((x : ℕ) → arg_by_short c x ≡ (if has_short help_built x then Some help_built else (if has_short version_built x then Some version_built else None)))
+    → FlagsFail c
+both_fail c long short = record {
+  long = λ name. go (has_long help_built name) (has_long version_built name) (arg_by_long c name) (long name);
+  short = λ x. go (has_short help_built x) (has_short version_built x) (arg_by_short c x) (short x);
+}
+  where
+    go : (t u : Bool) (o : Option Rule) → o ≡ (if t then Some help_built else (if u then Some version_built else None)) → IsRefused o
+    go true u o e = inr (inl e)
+    go false true o e = inr (inr e)
+    go false false o e = inl e
 
 asks : (c : List Rule) (h : Held) → react_fault c false help_built [] h ≡ [] → ⊥
 asks c h none =
     let bad : DisplayHelp ∷ [] ≡ [] = (neither (settle_fault c false h) (DisplayHelp ∷ []) none).1 in
     cc
 
+asks_version : (c : List Rule) (h : Held) → react_fault c false version_built [] h ≡ [] → ⊥
+asks_version c h none =
+    let bad : DisplayVersion ∷ [] ≡ [] = (neither (settle_fault c false h) (DisplayVersion ∷ []) none).1 in
+    cc
+
+pub long_refused : (c : List Rule) (o : Option Rule) (v : Option Text) (h : Held) → IsRefused o → long_fault c false o v h ≡ [] → ⊥
+long_refused c o v h (inl e) none = let bad : long_fault c false None v h ≡ [] = subst (λ x. long_fault c false x v h ≡ []) e none in cc
+long_refused c o (Some v) h (inr (inl e)) none = let bad = subst (λ x. long_fault c false x (Some v) h ≡ []) e none in cc
+long_refused c o None h (inr (inl e)) none = asks c h (subst (λ x. long_fault c false x None h ≡ []) e none)
+long_refused c o (Some v) h (inr (inr e)) none = let bad = subst (λ x. long_fault c false x (Some v) h ≡ []) e none in cc
+long_refused c o None h (inr (inr e)) none = asks_version c h (subst (λ x. long_fault c false x None h ≡ []) e none)
+
 pub long_fails : (c : List Rule) (o : Option Rule) (v : Option Text) (h : Held) → (o ≡ None) ⊎ (o ≡ Some help_built)
     → long_fault c false o v h ≡ [] → ⊥
-long_fails c o v h (inl e) none = let bad : long_fault c false None v h ≡ [] = subst (λ x. long_fault c false x v h ≡ []) e none in cc
-long_fails c o (Some v) h (inr e) none = let bad = subst (λ x. long_fault c false x (Some v) h ≡ []) e none in cc
-long_fails c o None h (inr e) none = asks c h (subst (λ x. long_fault c false x None h ≡ []) e none)
+long_fails c o v h (inl e) none = long_refused c o v h (inl e) none
+long_fails c o v h (inr e) none = long_refused c o v h (inr (inl e)) none
 
-short_fails : (c : List Rule) (o : Option Rule) (rest : Text) (h : Held) (next : Held → Kinds) → (o ≡ None) ⊎ (o ≡ Some help_built)
+short_fails : (c : List Rule) (o : Option Rule) (rest : Text) (h : Held) (next : Held → Kinds) → IsRefused o
     → short_fault c false o rest h next ≡ [] → ⊥
 short_fails c o rest h next (inl e) none = let bad : short_fault c false None rest h next ≡ [] = subst (λ x. short_fault c false x rest h next ≡ []) e none in cc
-short_fails c o rest h next (inr e) none =
+short_fails c o rest h next (inr (inl e)) none =
     asks c h (neither _ _ (subst (λ x. short_fault c false x rest h next ≡ []) e none)).0
+short_fails c o rest h next (inr (inr e)) none =
+    asks_version c h (neither _ _ (subst (λ x. short_fault c false x rest h next ≡ []) e none)).0
 
 -- text after a hyphen has a first character
 first_char : (x : ℕ) (xs : Text) → IsUtf8 (45 ∷ x ∷ xs) → slice_get (chars (x ∷ xs)) 0 ≡ None → ⊥
@@ -108,14 +144,18 @@ first_char x xs text none = go (chars (x ∷ xs)) refl none
 abbrev pub ShortsFail : List Rule → Type 0
 ShortsFail c = (x : ℕ) → (arg_by_short c x ≡ None) ⊎ (arg_by_short c x ≡ Some help_built)
 
-pub bundle_fails : (c : List Rule) → ShortsFail c → (x : ℕ) (xs : Text) (h : Held) → h.skip ≡ 0 → IsUtf8 (45 ∷ x ∷ xs)
+letters_refused : (c : List Rule) → ((x : ℕ) → IsRefused (arg_by_short c x)) → (x : ℕ) (xs : Text) (h : Held) → h.skip ≡ 0 → IsUtf8 (45 ∷ x ∷ xs)
     → bundle_fault c false (x ∷ xs) h ≡ [] → ⊥
 unfolding flags_fault
-bundle_fails c shorts x xs h start text none = go (slice_get (chars (x ∷ xs)) 0) refl
+letters_refused c shorts x xs h start text none = go (slice_get (chars (x ∷ xs)) 0) refl
   where
     go : (o : Option ℕ) → slice_get (chars (x ∷ xs)) 0 ≡ o → ⊥
     go None e = first_char x xs text e
     go (Some y) e = short_fails c (arg_by_short c y) _ _ _ (shorts y) (rw (start, e) at none)
+
+pub bundle_fails : (c : List Rule) → ShortsFail c → (x : ℕ) (xs : Text) (h : Held) → h.skip ≡ 0 → IsUtf8 (45 ∷ x ∷ xs)
+    → bundle_fault c false (x ∷ xs) h ≡ [] → ⊥
+bundle_fails c shorts = letters_refused c (λ x. elim (shorts x) [ inl none ↦ inl none | inr help ↦ inr (inl help) ])
 
 -- after a hyphen
 hyphen_fails : (c : List Rule) → FlagsFail c → (d : ℕ) (rest : Text) (h : Held) → h.skip ≡ 0 → IsUtf8 (45 ∷ d ∷ rest)
@@ -125,11 +165,11 @@ hyphen_fails c fails d rest h start text none = go (d == 45) refl
   where
     long : (rest2 : Text) → d ≡ 45 → rest2 ≡ rest → (45 ∷ d ∷ rest) ≡ 45 ∷ 45 ∷ []
     long [] e same = rw (e, ← same) refl
-    long (y ∷ ys) e same = absurd (long_fails c _ _ h (fails.long _) (rw (e, ← same) at none))
+    long (y ∷ ys) e same = absurd (long_refused c _ _ h (fails.long _) (rw (e, ← same) at none))
 
     go : (t : Bool) → (d == 45) ≡ t → (45 ∷ d ∷ rest) ≡ 45 ∷ 45 ∷ []
     go true e = long rest (eqb-true d 45 e) refl
-    go false e = absurd (bundle_fails c fails.short d rest h start text (let once = rw e at none in rw e at once))
+    go false e = absurd (letters_refused c fails.short d rest h start text (let once = rw e at none in rw e at once))
 
 -- a word that neither fails nor names a subcommand is `--` or no flag
 pub no_flag : (c : List Rule) → FlagsFail c → (w : Text) (h : Held) → h.skip ≡ 0 → IsUtf8 w

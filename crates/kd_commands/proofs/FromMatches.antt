@@ -10,19 +10,19 @@ use Rattle.std.specs.Box.{box_value}
 use Rattle.std.specs.String.{string_bytes}
 use Rattle.clap.specs.Words.{found_of, first_value, rows_of, App, HasMatchesOf, IsAmong, Kinds, Row, Text, fault_of, first_of, is_simple, is_simple_and_free, subcommand_name_of, subcommand_of, subcommand_rows, subcommand_rows_of}
 use Rattle.clap.specs.declared.error.kind.ErrorKind.{ErrorKind}
-use Rattle.clap.specs.declared.error.kind.ErrorKind.TheVariants.{DisplayHelp, OutOfMemory}
+use Rattle.clap.specs.declared.error.kind.ErrorKind.TheVariants.{DisplayHelp, DisplayVersion, OutOfMemory}
 use Rattle.clap.specs.declared.parser.matches.ArgMatches.{ArgMatches}
 use Rattle.clap.specs.declared.parser.matches.ArgMatches.TheViews.{out-ArgMatches, out-SubCommand}
 use Rattle.clap.specs.declared.parser.matches.SubCommand.{SubCommand}
 use Rattle.clap.proofs.WalkLemmas.{first_value-rows}
 use Rattle.clap.proofs.OnLiterals.{clap_on_literals}
-use Rattle.kd_commands.specs.Order.{Asked, Asks, AsksFor, GivesUnlessFull, HasFault, HelpsUnlessFull, asked_by, asked_of, checking_of, checks, command_line, compiles, evaluates, evaluation_of, filtering_of, filters, flag_is_given, given_by, imports, listing_of, lists, looks, pools_listing, replays, serves, serving_of, shows, tests, types, verifies}
+use Rattle.kd_commands.specs.Order.{Asked, Asks, AsksFor, GivesUnlessFull, HasFault, HelpsUnlessFull, IsVersionUnlessFull, asked_by, asked_of, checking_of, checks, command_line, compiles, evaluates, evaluation_of, filtering_of, filters, flag_is_given, given_by, imports, listing_of, lists, looks, pools_listing, replays, serves, serving_of, shows, tests, types, verifies}
 use Rattle.kd_commands.proofs.Lines.{one_asked}
 use Rattle.kd_commands.specs.Steps.{AnswersKind, GivesIfThere}
 use Rattle.kd_commands.specs.declared.fault.LineFault.{LineFault}
 use Rattle.kd_commands.specs.declared.fault.LineFault.TheVariants.{CommandLine, Memory}
 use Rattle.kd_commands.specs.declared.orders.Order.{Order}
-use Rattle.kd_commands.specs.declared.orders.Order.TheVariants.{Help, Show, Expr, Compile, Verify, Eval, EvalText, Replay, Check, Events, Import, Look, Serve, List as ListOrder}
+use Rattle.kd_commands.specs.declared.orders.Order.TheVariants.{Help, Version, Show, Expr, Compile, Verify, Eval, EvalText, Replay, Check, Events, Import, Look, Serve, List as ListOrder}
 use Rattle.kd_commands.specs.declared.orders.Listing.{Listing}
 use Rattle.kd_commands.specs.declared.orders.Listing.TheVariants.{Leases}
 
@@ -41,6 +41,7 @@ pub record Answers (ws : List Text) (r : Result Order LineFault) : Type 0 where
   pub fault : IfErr r (HasFault ws)
   pub only : (asked : Asked) → Asks ws asked → GivesUnlessFull asked r
   pub help : fault_of command_line ws ≡ DisplayHelp ∷ [] → HelpsUnlessFull r
+  pub version : fault_of command_line ws ≡ DisplayVersion ∷ [] → IsVersionUnlessFull r
 
 -- a text is UTF-8
 pub are_texts : {Z : Type 0} (ws : List (String Z)) → All IsUtf8 (map string_bytes ws)
@@ -50,6 +51,7 @@ are_texts (w ∷ ws) = All-cons IsUtf8 (string_bytes w) (map string_bytes ws) (I
 -- an order gives what the words ask for
 asks_for : (ws : List Text) (order : Order) (asked : Asked) → given_by order ≡ Some asked → Asks ws asked → AsksFor ws order
 asks_for ws (Help text) asked gives h = cc
+asks_for ws Version asked gives h = cc
 asks_for ws (Show hex) asked gives h = let is : shows (string_bytes hex) ≡ asked = cc in subst (Asks ws) (sym is) h
 asks_for ws (Expr text) asked gives h = let is : types (string_bytes text) ≡ asked = cc in subst (Asks ws) (sym is) h
 asks_for ws (Compile text) asked gives h = let is : compiles (string_bytes text) ≡ asked = cc in subst (Asks ws) (sym is) h
@@ -95,6 +97,10 @@ asks_for ws (Serve config token_dir store listening count journal max_ahead) ask
     }) ≡ asked = cc in
     subst (Asks ws) (sym is) h
 
+-- where memory ran out
+memory_answers : (ws : List Text) → Answers ws (Err Memory)
+memory_answers ws = record { order = tt; fault = tt; only = λ asked h. tt; help = λ h. tt; version = λ h. tt }
+
 -- where clap finds no fault
 pub at_matches : (ws : List Text) (o : Option Asked) (r : Result Order LineFault) → All IsUtf8 ws → fault_of command_line ws ≡ []
     → asked_of (subcommand_of command_line ws) ≡ o → GivesIfThere o r → Answers ws r
@@ -104,8 +110,9 @@ at_matches ws None (Err CommandLine) texts none is gives = record {
   fault = inr (record { whole = none; entered = is });
   only = λ asked h. let bad : Some asked ≡ None = sym h.entered ∙ is in cc;
   help = λ h. let bad : DisplayHelp ∷ [] ≡ [] = sym h ∙ none in cc;
+  version = λ h. let bad : DisplayVersion ∷ [] ≡ [] = sym h ∙ none in cc;
 }
-at_matches ws None (Err Memory) texts none is gives = record { order = tt; fault = tt; only = λ other h. tt; help = λ h. tt }
+at_matches ws None (Err Memory) texts none is gives = memory_answers ws
 at_matches ws (Some asked) (Ok order) texts none is gives =
     let here : Asks ws asked = record { whole = none; entered = is } in
     record {
@@ -113,17 +120,18 @@ at_matches ws (Some asked) (Ok order) texts none is gives =
       fault = tt;
       only = λ other h. gives ∙ ap (λ x. Some x) (one_asked ws asked other here h);
       help = λ h. let bad : DisplayHelp ∷ [] ≡ [] = sym h ∙ none in cc;
+      version = λ h. let bad : DisplayVersion ∷ [] ≡ [] = sym h ∙ none in cc;
     }
 at_matches ws (Some asked) (Err CommandLine) texts none is gives = absurd gives
-at_matches ws (Some asked) (Err Memory) texts none is gives = record { order = tt; fault = tt; only = λ other h. tt; help = λ h. tt }
+at_matches ws (Some asked) (Err Memory) texts none is gives = memory_answers ws
 
 -- no kind stands in an empty list
 none_among : (k : ErrorKind) (ks : Kinds) → ks ≡ [] → IsAmong k ks → ⊥
 none_among k ks is h = rw is at h
 
 -- a lone kind is the only one
-one_among : (k : ErrorKind) (ks : Kinds) → ks ≡ DisplayHelp ∷ [] → IsAmong k ks → k ≡ DisplayHelp
-one_among k ks is h = elim (subst (IsAmong k) is h) [ inl same ↦ same | inr never ↦ absurd never ]
+one_among : (k only : ErrorKind) (ks : Kinds) → ks ≡ only ∷ [] → IsAmong k ks → k ≡ only
+one_among k only ks is h = elim (subst (IsAmong k) is h) [ inl same ↦ same | inr never ↦ absurd never ]
 
 -- where clap's fault has this kind
 pub at_kind : (ws : List Text) (k : ErrorKind) (r : Result Order LineFault)
@@ -134,16 +142,26 @@ at_kind ws k (Ok (Help text)) (inr among) answers = record {
   fault = tt;
   only = λ asked h. absurd (none_among k (fault_of command_line ws) h.whole among);
   help = λ h. tt;
+  version = λ h. let bad : DisplayHelp ≡ DisplayVersion = sym answers ∙ one_among k DisplayVersion (fault_of command_line ws) h among in cc;
+}
+at_kind ws k (Ok Version) (inl full) answers = let bad : DisplayVersion ≡ OutOfMemory = sym answers ∙ full in cc
+at_kind ws k (Ok Version) (inr among) answers = record {
+  order = subst (λ x. IsAmong x (fault_of command_line ws)) answers among;
+  fault = tt;
+  only = λ asked h. absurd (none_among k (fault_of command_line ws) h.whole among);
+  help = λ h. let bad : DisplayVersion ≡ DisplayHelp = sym answers ∙ one_among k DisplayHelp (fault_of command_line ws) h among in cc;
+  version = λ h. tt;
 }
 at_kind ws k (Ok order) h answers = absurd answers
-at_kind ws k (Err CommandLine) (inl full) answers = absurd (answers.1 full)
+at_kind ws k (Err CommandLine) (inl full) answers = absurd (answers.2 full)
 at_kind ws k (Err CommandLine) (inr among) answers = record {
   order = tt;
-  fault = inl (k, among, answers.0);
+  fault = inl (k, among, answers.0, answers.1);
   only = λ asked h. none_among k (fault_of command_line ws) h.whole among;
-  help = λ h. answers.0 (one_among k (fault_of command_line ws) h among);
+  help = λ h. answers.0 (one_among k DisplayHelp (fault_of command_line ws) h among);
+  version = λ h. answers.1 (one_among k DisplayVersion (fault_of command_line ws) h among);
 }
-at_kind ws k (Err Memory) h answers = record { order = tt; fault = tt; only = λ asked g. tt; help = λ g. tt }
+at_kind ws k (Err Memory) h answers = memory_answers ws
 
 -- ---- the same, from a parse of a command line that is ours
 

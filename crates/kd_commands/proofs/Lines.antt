@@ -5,8 +5,8 @@ use Rattle.std.specs.List.{All}
 use Rattle.std.specs.Str.{IsUtf8}
 use Rattle.std.proofs.lemmas.List.Elements.{All-tail}
 use Rattle.clap.specs.Words.{Text, fault_of, subcommand_of}
-use Rattle.clap.specs.declared.error.kind.ErrorKind.TheVariants.{DisplayHelp}
-use Rattle.kd_commands.specs.Line.{IsHelpFlag, IsHelpLine, IsLine, IsOneOf, subcommands}
+use Rattle.clap.specs.declared.error.kind.ErrorKind.TheVariants.{DisplayHelp, DisplayVersion}
+use Rattle.kd_commands.specs.Line.{IsHelpFlag, IsHelpLine, IsLine, IsOneOf, IsVersionLine, subcommands}
 use Rattle.kd_commands.specs.Order.{Asked, Asks, asked_of, checks, command_line, compiles, evaluates, filters, imports, lists, looks, replays, serves, shows, tests, types, verifies}
 use Rattle.kd_commands.proofs.CheckLine.{check_built, check_helps, check_in, check_passes}
 use Rattle.kd_commands.proofs.EvalLine.{flagged_passes, eval_built, eval_helps, eval_in, eval_passes}
@@ -15,7 +15,7 @@ use Rattle.kd_commands.proofs.FileLines.{import_built, import_helps, import_in, 
 use Rattle.kd_commands.proofs.ListingLines.{AreSubs, leases_built, leases_helps, leases_in, lists_passes, looks_passes, pools_built, pools_helps, pools_in}
 use Rattle.kd_commands.proofs.ServeLine.{serve_built, serve_helps, serve_in, serve_passes}
 use Rattle.kd_commands.proofs.TextLine.{one, text_helps, text_in, text_passes}
-use Rattle.kd_commands.proofs.Top.{IsSub, begins, helps_first}
+use Rattle.kd_commands.proofs.Top.{IsSub, begins, helps_first, versions_first}
 
 -- ---- the subcommands
 
@@ -174,3 +174,8 @@ help_line [] h = absurd h
 help_line (w ∷ []) h = helps_first w [] h
 help_line (w ∷ next ∷ rest) (inl h) = helps_first w (next ∷ rest) h
 help_line (w ∷ next ∷ rest) (inr h) = helps_second w next rest h.0 h.1
+
+-- and those that ask for the version
+pub version_line : (ws : List Text) → IsVersionLine ws → fault_of command_line ws ≡ DisplayVersion ∷ []
+version_line [] h = absurd h
+version_line (w ∷ rest) h = versions_first w rest h

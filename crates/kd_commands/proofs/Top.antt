@@ -12,12 +12,12 @@ use Rattle.clap.specs.Kinds.{or_else}
 use Rattle.clap.specs.Walk.{Names, Walk, answers_to, finished, idle, nothing_held, settled, subcommand_met, subcommand_or_other, walked}
 use Rattle.clap.specs.Simple.{entered, label_of, names_of}
 use Rattle.clap.specs.Faults.{check_fault, defaults_fault, entered_fault, other_fault, settle_fault, step_fault, turn_fault, walk_fault}
-use Rattle.clap.specs.declared.error.kind.ErrorKind.TheVariants.{DisplayHelp, InvalidSubcommand, MissingSubcommand, UnknownArgument}
+use Rattle.clap.specs.declared.error.kind.ErrorKind.TheVariants.{DisplayHelp, DisplayVersion, InvalidSubcommand, MissingSubcommand, UnknownArgument}
 use Rattle.clap.proofs.FaultLemmas.{stopped_fault}
 use Rattle.clap.proofs.OnLiterals.{clap_on_literals}
-use Rattle.kd_commands.specs.Line.{IsHelpFlag, IsOneOf, is_flag, subcommands}
+use Rattle.kd_commands.specs.Line.{IsHelpFlag, IsOneOf, IsVersionFlag, is_flag, subcommands}
 use Rattle.kd_commands.specs.Order.{command_line}
-use Rattle.kd_commands.proofs.Flags.{FlagsFail, flags_fail, neither, no_dashes, no_flag, no_long, no_short, then_none}
+use Rattle.kd_commands.proofs.Flags.{FlagsFail, both_fail, neither, no_dashes, no_flag, no_long, no_short, then_none}
 use Rattle.kd_commands.proofs.Level.{dashed, found, level, start}
 
 abbrev top : Shape
@@ -27,7 +27,7 @@ abbrev names : Names
 names = names_of (built command_line)
 
 top_flags : FlagsFail top.rules
-top_flags = flags_fail top.rules (λ name. refl) (λ x. refl)
+top_flags = both_fail top.rules (λ name. refl) (λ x. refl)
 
 -- the faults of the command line, from those of the walk and from where it ends
 abbrev in_all : Kinds → Walk → Kinds
@@ -159,10 +159,16 @@ begins (w ∷ rest) text none =
       ]
     ]
 
--- ---- help
+-- ---- help and version
 
 -- a first word that asks for help
 pub helps_first : (w : Text) (rest : List Text) → IsHelpFlag w → fault_of command_line (w ∷ rest) ≡ DisplayHelp ∷ []
 unfolding clap_on_literals
 helps_first w rest (inl is) = ap (λ x. fault_of command_line (x ∷ rest)) is
 helps_first w rest (inr is) = ap (λ x. fault_of command_line (x ∷ rest)) is
+
+-- and one that asks for the version
+pub versions_first : (w : Text) (rest : List Text) → IsVersionFlag w → fault_of command_line (w ∷ rest) ≡ DisplayVersion ∷ []
+unfolding clap_on_literals
+versions_first w rest (inl is) = ap (λ x. fault_of command_line (x ∷ rest)) is
+versions_first w rest (inr is) = ap (λ x. fault_of command_line (x ∷ rest)) is

@@ -180,3 +180,12 @@ abbrev pub IsHelpLine : List Text → Type 0
 IsHelpLine [] = ⊥
 IsHelpLine (word ∷ []) = IsHelpFlag word
 IsHelpLine (word ∷ next ∷ behind) = IsHelpFlag word ⊎ (IsOneOf word subcommands × IsHelpFlag next)
+
+-- the flag that asks for the version
+abbrev pub IsVersionFlag : Text → Type 0
+IsVersionFlag word = (word ≡ codes "--version") ⊎ (word ≡ codes "-V")
+
+-- the words ask for the version at once, whatever follows
+abbrev pub IsVersionLine : List Text → Type 0
+IsVersionLine [] = ⊥
+IsVersionLine (word ∷ behind) = IsVersionFlag word

@@ -10,7 +10,7 @@ use Rattle.clap.specs.Words.{subcommand_of, with_rule, with_subcommand}
 use Rattle.clap.specs.Simple.{on_top}
 use Rattle.clap.specs.declared.builder.action.ArgAction.TheVariants.{Set, SetTrue}
 use Rattle.clap.specs.declared.error.kind.ErrorKind.{ErrorKind}
-use Rattle.clap.specs.declared.error.kind.ErrorKind.TheVariants.{DisplayHelp}
+use Rattle.clap.specs.declared.error.kind.ErrorKind.TheVariants.{DisplayHelp, DisplayVersion}
 use Rattle.kd_commands.specs.declared.fault.LineFault.{LineFault}
 use Rattle.kd_commands.specs.declared.fault.LineFault.TheVariants.{CommandLine, Memory}
 use Rattle.kd_wire.specs.Steps.{◌>>=◌}
@@ -19,7 +19,7 @@ use Rattle.kd_commands.specs.declared.orders.Listening.{Listening}
 use Rattle.kd_commands.specs.declared.orders.Listing.{Listing}
 use Rattle.kd_commands.specs.declared.orders.Listing.TheVariants.{Leases, Metrics, Pools}
 use Rattle.kd_commands.specs.declared.orders.Order.{Order}
-use Rattle.kd_commands.specs.declared.orders.Order.TheVariants.{Help, Show, Expr, Compile, Verify, Eval, EvalText, Replay}
+use Rattle.kd_commands.specs.declared.orders.Order.TheVariants.{Help, Version, Show, Expr, Compile, Verify, Eval, EvalText, Replay}
 use Rattle.kd_commands.specs.declared.orders.Order.TheVariants.{Check, Events, Import, Look, Serve, List as ListOrder}
 
 -- the number that a fault is printed with
@@ -123,9 +123,11 @@ serve_line =
     (value_rule (codes "broadcast-as"))) (flag_rule (codes "mirror")))
     (value_rule (codes "record"))) (value_rule (codes "max-ahead"))
 
--- the program, with no word for its name, and a subcommand that has to be there
+-- the program, with no word for its name, a flag for its version, and a subcommand that has to be
+-- there
 abbrev pub program_line : App
-program_line = on_top (λ s. record s { no_binary_name = true; subcommand_required = true })
+program_line =
+    on_top (λ s. record s { has_version = true; no_binary_name = true; subcommand_required = true })
     (new_app (codes "kdhcp"))
 
 -- the command line up to its subcommands of one text
@@ -340,22 +342,28 @@ pub record Asks (words : List Text) (asked : Asked) : Type 0 where
 abbrev pub IsHelp : List Text → Type 0
 IsHelp words = IsAmong DisplayHelp (fault_of command_line words)
 
+-- the first step at which the words fail may be a request for the version
+abbrev pub IsVersion : List Text → Type 0
+IsVersion words = IsAmong DisplayVersion (fault_of command_line words)
+
 -- the words are no mistake for `clap`, but their subcommand asks for nothing: a text is out of
--- range, or `--live` stands without `--store`
+-- range or form, or `--live` stands without `--store`
 pub record AsksNothing (words : List Text) : Type 0 where
   pub whole : fault_of command_line words ≡ []
   pub entered : asked_of (subcommand_of command_line words) ≡ None
 
--- the first step at which the words fail may be other than a request for help, or the words ask for
--- nothing
+-- the first step at which the words fail may be other than a request for help or for the version,
+-- or the words ask for nothing
 abbrev pub IsMistake : List Text → Type 0
 IsMistake words =
-    ((kind : ErrorKind) × IsAmong kind (fault_of command_line words) × (kind ≢ DisplayHelp))
+    ((kind : ErrorKind) × IsAmong kind (fault_of command_line words) × (kind ≢ DisplayHelp)
+    × (kind ≢ DisplayVersion))
     ⊎ AsksNothing words
 
 -- the words ask for this order
 abbrev pub AsksFor : List Text → Order → Type 0
 AsksFor words (Help text) = IsHelp words
+AsksFor words Version = IsVersion words
 AsksFor words (Show hex) = Asks words (shows (string_bytes hex))
 AsksFor words (Expr text) = Asks words (types (string_bytes text))
 AsksFor words (Compile text) = Asks words (compiles (string_bytes text))
@@ -404,6 +412,7 @@ HasFault words Memory = Unit {0}
 -- what the order gives that a subcommand can ask for
 abbrev pub given_by : Order → Option Asked
 given_by (Help text) = None
+given_by Version = None
 given_by (Show hex) = Some (shows (string_bytes hex))
 given_by (Expr text) = Some (types (string_bytes text))
 given_by (Compile text) = Some (compiles (string_bytes text))
@@ -453,3 +462,10 @@ HelpsUnlessFull (Ok (Help text)) = Unit {0}
 HelpsUnlessFull (Ok order) = ⊥
 HelpsUnlessFull (Err CommandLine) = ⊥
 HelpsUnlessFull (Err Memory) = Unit {0}
+
+-- the answer is the version, or memory ran out
+abbrev pub IsVersionUnlessFull : Result Order LineFault → Type 0
+IsVersionUnlessFull (Ok Version) = Unit {0}
+IsVersionUnlessFull (Ok order) = ⊥
+IsVersionUnlessFull (Err CommandLine) = ⊥
+IsVersionUnlessFull (Err Memory) = Unit {0}

@@ -3,13 +3,13 @@ use Rattle.std.specs.Prelude.{◌≡◌, ◌≢◌, ◌==◌, ℕ, [], ◌∷◌
 use Rattle.std.specs.Prelude.{if◌then◌else◌, option_map}
 use Rattle.clap.specs.Words.{Text}
 use Rattle.clap.specs.declared.error.kind.ErrorKind.{ErrorKind}
-use Rattle.clap.specs.declared.error.kind.ErrorKind.TheVariants.{DisplayHelp, OutOfMemory}
+use Rattle.clap.specs.declared.error.kind.ErrorKind.TheVariants.{DisplayHelp, DisplayVersion, OutOfMemory}
 use Rattle.kd_commands.specs.Order.{Asked, GivesUnlessFull}
 use Rattle.kd_commands.specs.Values.{byte_spelled}
 use Rattle.kd_commands.specs.declared.fault.LineFault.{LineFault}
 use Rattle.kd_commands.specs.declared.fault.LineFault.TheVariants.{CommandLine, Memory}
 use Rattle.kd_commands.specs.declared.orders.Order.{Order}
-use Rattle.kd_commands.specs.declared.orders.Order.TheVariants.{Help}
+use Rattle.kd_commands.specs.declared.orders.Order.TheVariants.{Help, Version}
 
 -- a mistake, or memory ran out
 abbrev pub IsMistakeUnlessFull : Result Order LineFault → Type 0
@@ -21,11 +21,13 @@ abbrev pub GivesIfThere : Option Asked → Result Order LineFault → Type 0
 GivesIfThere (Some asked) r = GivesUnlessFull asked r
 GivesIfThere None r = IsMistakeUnlessFull r
 
--- an error of this kind is help, a mistake, or memory that ran out
+-- an error of this kind is help, the version, a mistake, or memory that ran out
 abbrev pub AnswersKind : ErrorKind → Result Order LineFault → Type 0
 AnswersKind kind (Ok (Help text)) = kind ≡ DisplayHelp
+AnswersKind kind (Ok Version) = kind ≡ DisplayVersion
 AnswersKind kind (Ok order) = ⊥
-AnswersKind kind (Err CommandLine) = (kind ≢ DisplayHelp) × (kind ≢ OutOfMemory)
+AnswersKind kind (Err CommandLine) =
+    (kind ≢ DisplayHelp) × (kind ≢ DisplayVersion) × (kind ≢ OutOfMemory)
 AnswersKind kind (Err Memory) = Unit {0}
 
 -- the byte of the two digits that a text begins with, and what stands behind them

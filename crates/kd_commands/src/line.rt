@@ -39,8 +39,10 @@ fn tools<'a>(alloc: Global) -> Result<Command<'a>, AllocError>
 fn program<'a>(alloc: Global) -> Result<Command<'a>, AllocError>
     ensures { IfOk result (λ c. app_of c ≡ program_line) }
 {
+    // The program prints its version itself, so `clap` has no text of it.
     let named = Command::new(alloc, "kdhcp")
         .about("A DHCPv4 server")
+        .version("")
         .bin_name("kdhcp")?;
     Ok(named.no_binary_name(true).subcommand_required(true))
 }

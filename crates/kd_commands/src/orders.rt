@@ -3,6 +3,8 @@
 pub enum Order {
     /// The help text, for standard output.
     Help(String),
+    /// The name of the program, its version and its commit.
+    Version,
     /// The lines of one datagram.
     Show {
         /// The datagram's bytes, as the word gives them.

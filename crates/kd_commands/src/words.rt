@@ -2,8 +2,9 @@ ghost use Rattle.std.specs.Prelude.{◌≡◌, ◌↔◌, IfErr, IfOk, None, Som
 ghost use Rattle.std.specs.Prelude.{option_and_then, option_map};
 ghost use Rattle.std.specs.String.{string_bytes};
 ghost use Rattle.clap.specs.Words.{first_value, found_of, kind_of, rows_of, subcommand_rows_of};
-ghost use Rattle.kd_commands.specs.Line.{IsHelpLine, IsLine};
+ghost use Rattle.kd_commands.specs.Line.{IsHelpLine, IsLine, IsVersionLine};
 ghost use Rattle.kd_commands.specs.Order.{Asked, Asks, AsksFor, GivesUnlessFull, HasFault, HelpsUnlessFull};
+ghost use Rattle.kd_commands.specs.Order.{IsVersionUnlessFull};
 ghost use Rattle.kd_commands.specs.Order.{asked_by, asked_of, compiles, evaluates, evaluation_of, flag_is_given};
 ghost use Rattle.kd_commands.specs.Order.{checking_of, filtering_of, given_by, imports, listening_of, listing_at, listing_of};
 ghost use Rattle.kd_commands.specs.Order.{pools_listing, replays, serving_of, shows, tests, types, verifies};
@@ -34,7 +35,7 @@ const CLIENT_PORT: u16 = 68;
 /// # Errors
 ///
 /// `CommandLine` where the words are no command of the program, the text of an option is out of
-/// range, or `--live` stands without `--store`, and `Memory`.
+/// range or form, or `--live` stands without `--store`, and `Memory`.
 pub fn order(alloc: Global, words: &[String]) -> Result<Order, LineFault>
     ensures order { IfOk result (AsksFor (map string_bytes words.now)) }
     ensures fault { IfErr result (HasFault (map string_bytes words.now)) }
@@ -43,6 +44,7 @@ pub fn order(alloc: Global, words: &[String]) -> Result<Order, LineFault>
     ensures line { (asked : Asked) → Asks (map string_bytes words.now) asked
         ↔ IsLine (map string_bytes words.now) asked }
     ensures help { IsHelpLine (map string_bytes words.now) → HelpsUnlessFull result }
+    ensures version { IsVersionLine (map string_bytes words.now) → IsVersionUnlessFull result }
 {
     let command = kdhcp(alloc)?;
     match command.try_get_matches_from(words) {
@@ -463,12 +465,13 @@ fn text_of(alloc: Global, matches: &ArgMatches<'_>, id: &str) -> Result<Option<S
     }
 }
 
-// Where the words give no matches, help or a fault.
+// Where the words give no matches, help, the version or a fault.
 fn answer_to(alloc: Global, error: &clap::Error) -> Result<Order, LineFault>
     ensures { AnswersKind (kind_of error.now) result }
 {
     match error.kind() {
         ErrorKind::DisplayHelp => Ok(Order::Help(format!(in alloc; "{error}")?)),
+        ErrorKind::DisplayVersion => Ok(Order::Version),
         ErrorKind::OutOfMemory => Err(LineFault::Memory),
         _ => Err(LineFault::CommandLine),
     }

@@ -144,7 +144,7 @@ fn machine_socket<'a, F: Start>(
 ) -> Result<Socket<'a>, EndFailed>
     ensures { IfOk result (λ link. link.failed ≡ false) }
 {
-    socket_of(&mut Machine::of(rt, start, handed), listening)
+    socket_of(&mut Machine::of(rt, "", start, handed), listening)
 }
 
 // A socket of loopback whose replies go to their senders.

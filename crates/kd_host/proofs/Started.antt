@@ -82,8 +82,8 @@ module _ {D H U L R : Type 0} (d : Disks D) (h : Hosts H (Kept (FileStore D d)) 
       → CarriesOut h k unnamed l r (order_of files work) before after status old new → ServesFiles d h k l r image files work status old new (left_of after) ⊎ Told status old new
   ordered says files works.Replay path before after status old new named c = started says files works.Replay path before after status old new named c
   ordered says files (works.List listing at) path before after status old new named c = started says files (works.List listing at) path before after status old new named c
-  ordered says files (works.Serve listening count journal) path before after status old new named c =
-      started says files (works.Serve listening count journal) path before after status old new named c
+  ordered says files (works.Serve listening count journal max_ahead) path before after status old new named c =
+      started says files (works.Serve listening count journal max_ahead) path before after status old new named c
 
   pub on_files : Says → (words : List (List ℕ)) (before after : H) (status : ℕ) (old new : Streams) → Carries h k unnamed l r words before after status old new
       → RunsOnFiles d h k l r image words status old new (left_of after)

@@ -50,8 +50,8 @@ abbrev pub order_of : Files → Work → Order
 order_of files works.Replay = orders.Replay files.config files.token_dir files.store
 order_of files (works.List listing at) =
     orders.List listing files.config files.token_dir files.store at
-order_of files (works.Serve listening count journal) =
-    orders.Serve files.config files.token_dir files.store listening count journal
+order_of files (works.Serve listening count journal max_ahead) =
+    orders.Serve files.config files.token_dir files.store listening count journal max_ahead
 
 -- over the disk of the database's files, a host, its store in those files, its sockets and its records
 module _ {D H U L R : Type 0} (d : Disks D) (h : Hosts H (Kept (FileStore D d)) U L R)

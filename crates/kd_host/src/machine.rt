@@ -1,8 +1,10 @@
+use kd_check::findings::{SocketTrouble, StoreTrouble};
 use kd_commands::Listening;
 use kd_config::Config;
 use kd_database::{let_go, rows_in, store_from};
 use kd_io::{
     Copied, LookFault, Output, Sending, Socket, StartFault, configuration, copy_at, journal,
+    seconds_of, start_words, try_database, try_socket,
 };
 use kd_keeps::{Cause, Opened, StoreFault, Volatile};
 use kd_program::Host;
@@ -10,8 +12,10 @@ use kd_replay::EndFailed;
 use kd_rows::Row;
 use kd_store::Store;
 use sqlite::{FileFrom, FileStore, Start};
+use std::alloc::AllocError;
 use std::fs::File;
 use std::net::UdpSocket;
+use std::time::SystemTime;
 
 /// What lies below a store of leases in files that held what a start stands for.
 pub type Below<F> = FileStore<FileFrom<F>>;
@@ -21,6 +25,7 @@ pub type Below<F> = FileStore<FileFrom<F>>;
 #[derive(Drop)]
 pub struct Machine<'a, F: Start, L: Drop> {
     pub(crate) rt: &'a HostRuntime,
+    version: &'a str,
     start: Option<F>,
     handed: Option<Result<UdpSocket, EndFailed>>,
     left: Option<L>,
@@ -29,18 +34,21 @@ pub struct Machine<'a, F: Start, L: Drop> {
 impl<'a, F: Start> Machine<'a, F, Below<F>> {
     ghost use Rattle.std.specs.Prelude.{◌≡◌, None};
 
-    /// The machine of a runtime, with the socket that was handed to the process, if one was, below
-    /// whose store nothing has been left yet.
+    /// The machine of a runtime, on which a program of this version runs, with the socket that was
+    /// handed to the process, if one was; below its store nothing has been left yet.
     pub fn of(
         rt: &'a HostRuntime,
+        version: &'a str,
         start: F,
         handed: Option<Result<UdpSocket, EndFailed>>,
     ) -> Machine<'a, F, Below<F>>
         ensures left { result.left ≡ None }
         ensures handed { result.handed ≡ handed }
+        ensures version { result.version.now ≡ version.now }
     {
         Machine {
             rt,
+            version,
             start: Some(start),
             handed,
             left: None,
@@ -85,6 +93,14 @@ impl<'a, F: Start> Host for Machine<'a, F, Below<F>> {
         × IsOfHanded (λ link. link.socket) old.handed result };
 
     ghost records = { λ old path result new. IfOk result (λ sink. sink.failed ≡ false) };
+
+    ghost tries = { λ machine path answer. Unit {0} };
+
+    ghost reaches = { λ machine address port answer. Unit {0} };
+
+    ghost tells_time = { λ machine moment. Unit {0} };
+
+    ghost version = { λ machine. machine.version.now };
 
     fn configuration(
         &mut self,
@@ -136,5 +152,33 @@ impl<'a, F: Start> Host for Machine<'a, F, Below<F>> {
 
     fn journal(&mut self, path: &str) -> Result<Output<File>, EndFailed> {
         journal(self.rt, path)
+    }
+
+    fn start_words(
+        &self,
+        file: Option<&str>,
+        folder: Option<&str>,
+        fault: &StartFault,
+    ) -> Result<String, AllocError> {
+        start_words(self.rt, file, folder, fault)
+    }
+
+    fn try_database(&self, path: &str) -> Result<bool, StoreTrouble> {
+        try_database(self.rt, path)
+    }
+
+    fn try_socket(&self, address: u32, port: u16) -> Result<bool, SocketTrouble> {
+        try_socket(self.rt, address, port)
+    }
+
+    fn clock(&self) -> u64 {
+        match SystemTime::now(self.rt) {
+            Ok(time) => seconds_of(time),
+            Err(_) => 0,
+        }
+    }
+
+    fn version(&self) -> &str {
+        self.version
     }
 }

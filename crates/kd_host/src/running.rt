@@ -41,8 +41,14 @@ pub fn run_on<'a, F: Start, R: Source, O: Sink, E: Sink>(
 }
 
 /// Carries out the words after the program's name over this machine and its standard streams, and
-/// says the exit status. A socket that was handed to the process is that of `serve`.
-pub fn carry_out<'a, F: Start>(rt: &'a HostRuntime, start: F, words: &[String]) -> u8
+/// says the exit status. The version is the line that `--version` prints. A socket that was handed to
+/// the process is that of `serve`.
+pub fn carry_out<'a, F: Start>(
+    rt: &'a HostRuntime,
+    version: &'a str,
+    start: F,
+    words: &[String],
+) -> u8
     ensures { IsStatusOnFiles ⟦<FileFrom<F> as Disk>⟧ ⟦<Machine<'a, F, Below<F>> as Host>⟧
         ⟦<Store<Below<F>> as Keeps>⟧ ⟦<Socket<'a> as Link>⟧ ⟦<Output<File> as Sink>⟧ (image_at F.Start)
         (map string_bytes words.now) result }
@@ -54,7 +60,11 @@ pub fn carry_out<'a, F: Start>(rt: &'a HostRuntime, start: F, words: &[String]) 
         output: Output::over(io::writer(rt)),
         faults: Output::over(io::writer(&stderr)),
     };
-    run_on(&mut Machine::of(rt, start, handed), words, &mut ends)
+    run_on(
+        &mut Machine::of(rt, version, start, handed),
+        words,
+        &mut ends,
+    )
 }
 
 /// Tells on standard error why there are no words, and says the exit status.

@@ -38,7 +38,7 @@ use Rattle.kd_program.specs.Checking.{ChecksStart}
 use Rattle.kd_program.specs.Importing.{ImportsInto}
 use Rattle.kd_program.specs.Listing.{ShowsListing}
 use Rattle.kd_program.specs.Printing.{PrintsEvents}
-use Rattle.kd_program.specs.Streams.{Prints, Puts, Starves, Stream, Streams, Tells, TellsWith}
+use Rattle.kd_program.specs.Streams.{Prints, Puts, ShowsOrBreaks, Starves, Stream, Streams, Tells, TellsWith}
 use Rattle.kd_program.specs.declared.host.Host.{Ghosts as Hosts}
 use Rattle.kd_program.specs.declared.serving.Files.{Files}
 use Rattle.kd_rows.specs.declared.row.Row.{Row}
@@ -369,6 +369,9 @@ module _ {H N U L R : Type 0} (h : Hosts H N U L R) (named : Ghosts N) (unnamed 
   CarriesOut (orders.Events mac address) before after status old new =
       (after ≡ before)
       × SaysEvents (record { mac = option_map vec_items mac; address = address }) status old new
+  CarriesOut orders.Version before after status old new =
+      (after ≡ before)
+      × ShowsOrBreaks (h.version before) 0 status old.output new.output old.faults new.faults
   CarriesOut other before after status old new = (after ≡ before) × Says other status old new
 
   -- what words do: the fault that they have is told, or what they ask for is done

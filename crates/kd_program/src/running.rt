@@ -8,7 +8,7 @@ use crate::host::Host;
 use crate::importing::import;
 use crate::log::{filter_of, print_events};
 use crate::looking::look;
-use crate::printing::{print, refuse_memory, refuse_words};
+use crate::printing::{print, refuse_memory, refuse_words, show};
 use crate::serving::{Files, Work, served};
 use kd_commands::{Order, order};
 use kd_replay::{Sink, Source};
@@ -135,6 +135,10 @@ fn carried_out<H: Host, R: Source, O: Sink, E: Sink>(
             check(alloc, host, ends, &files, place)
         }
         Order::Events { mac, address } => print_events(alloc, ends, &filter_of(mac, address)),
+        Order::Version => {
+            let text = host.version();
+            show(&mut ends.output, &mut ends.faults, text.as_bytes(), 0)
+        }
         other => match answer(alloc, &other) {
             Ok(printed) => print(ends, &printed),
             Err(_) => refuse_memory(&mut ends.faults),

@@ -10,7 +10,7 @@ use std::io;
 fn main(rt: HostRuntime) -> io::Result<()> {
     let words: Vec<String> = std::env::args(&rt)?.skip(1).collect(rt.alloc())?;
     for command in words.split(|word| word.as_str() == "then") {
-        let status = carry_out(&rt, Unknown, command);
+        let status = carry_out(&rt, "kdhcp\n", Unknown, command);
         println!(rt; "status {status}")?;
     }
     Ok(())

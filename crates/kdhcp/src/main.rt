@@ -1,18 +1,28 @@
 //! The program `kdhcp`: the words after its name are carried out over this machine (`kd_host`).
 #![tactic(auto)]
 
+mod version;
+
 use kd_commands::LineFault;
 use kd_host::{carry_out, refuse};
 use sqlite::Unknown;
 use std::io;
 use std::process::ExitCode;
+use version::version_line;
 
 fn main(rt: HostRuntime) -> ExitCode {
-    let status = match words(&rt) {
-        Ok(words) => carry_out(&rt, Unknown, &words),
+    let status = match begin(&rt) {
+        Ok((words, version)) => carry_out(&rt, version.as_str(), Unknown, &words),
         Err(fault) => refuse(&rt, fault),
     };
     ExitCode::from(status)
+}
+
+// The words after the program's name, and the line that says its version.
+fn begin(rt: &HostRuntime) -> Result<(Vec<String>, String), LineFault> {
+    let words = words(rt)?;
+    let version = version_line(rt.alloc())?;
+    Ok((words, version))
 }
 
 // The words after the program's name.

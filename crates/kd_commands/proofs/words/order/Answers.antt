@@ -1,7 +1,7 @@
 use Rattle.std.proofs.Common.{map}
 use Rattle.std.specs.String.{string_bytes}
 use Rattle.clap.specs.Words.{app_of, kind_of}
-use Rattle.kd_commands.proofs.Lines.{clap_from_line, help_line, line_from_clap}
+use Rattle.kd_commands.proofs.Lines.{clap_from_line, help_line, line_from_clap, version_line}
 use Rattle.kd_commands.proofs.FromMatches.{are_texts, from_error, from_matches}
 use Rattle.kd_commands.proofs.words.order.Goals as goal
 
@@ -22,6 +22,7 @@ returns-in-Ok c =
       only = given.only;
       line = λ asked. (line_from_clap ws asked texts, clap_from_line ws asked);
       help = λ h. given.help (help_line ws h);
+      version = λ h. given.version (version_line ws h);
     }
 
 pub returns-in-Err : goal.returns-in-Err
@@ -36,4 +37,5 @@ returns-in-Err c =
       only = given.only;
       line = λ asked. (line_from_clap ws asked texts, clap_from_line ws asked);
       help = λ h. given.help (help_line ws h);
+      version = λ h. given.version (version_line ws h);
     }

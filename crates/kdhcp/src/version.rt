@@ -1,0 +1,21 @@
+use std::alloc::{AllocError, Global};
+
+// The version of the program.
+const VERSION: &str = "0.9.0";
+
+// The commit that it is built from: `git archive` writes it between the quotes, where a checkout has
+// a word that begins with a dollar sign.
+const COMMIT: &str = "$Format:%H$";
+
+/// The line that `--version` prints: the name of the program, its version and its commit.
+///
+/// # Errors
+///
+/// There is no memory for it.
+pub fn version_line(alloc: Global) -> Result<String, AllocError> {
+    if COMMIT.starts_with('$') {
+        format!(in alloc; "kdhcp {VERSION}, built from a checkout\n")
+    } else {
+        format!(in alloc; "kdhcp {VERSION}, commit {COMMIT}\n")
+    }
+}
