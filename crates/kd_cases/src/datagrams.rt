@@ -6,17 +6,19 @@ use kd_replay::{EndFailed, Link};
 use std::alloc::Global;
 use std::str::Lines;
 
-// The address at which there is no socket: 203.0.113.1.
-const NO_ADDRESS: u32 = 0xcb00_7101;
+/// The address at which there is no socket: 203.0.113.1.
+pub const NO_ADDRESS: u32 = 0xcb00_7101;
 
 /// A socket that receives the datagrams of lines, each `MOMENT HEX`, and a clock that says the moment
-/// of the line that came last. All wait at once; at a port of 1 to 32 so many come together. Of
-/// replies those by broadcast are not sent, unless they go to another address.
+/// of the line that came last, or of the first before any came. The steady clock counts a second for
+/// each line. All wait at once; at a port of 1 to 32 so many come together. Of replies those by
+/// broadcast are not sent, unless they go to another address.
 #[derive(Drop)]
 pub struct Datagrams<'a> {
     alloc: Global,
     lines: Lines<'a>,
     moment: u64,
+    counted: u64,
     // How many come together, and how many of these are still to come.
     together: u64,
     left: u64,
@@ -30,6 +32,14 @@ fn together(port: u16) -> u64 {
         u64::from(port)
     } else {
         u64::MAX
+    }
+}
+
+// The moment of the first line of a text, 0 where it has none.
+fn first_moment(text: &str) -> u64 {
+    match text.split_once(' ') {
+        Some((moment, _)) => moment.parse().unwrap_or(0),
+        None => 0,
     }
 }
 
@@ -52,7 +62,8 @@ impl<'a> Datagrams<'a> {
         Ok(Datagrams {
             alloc: rt.alloc(),
             lines: text.lines(),
-            moment: 0,
+            moment: first_moment(text),
+            counted: 0,
             together: together(listening.port),
             left: 0,
             broadcasts: listening.mirror || listening.broadcast_as.is_some(),
@@ -66,6 +77,7 @@ impl<'a> Datagrams<'a> {
     {
         let (moment, digits) = self.lines.next()?.split_once(' ')?;
         self.moment = moment.parse().unwrap_or(0);
+        self.counted = self.counted.saturating_add(1);
         hex::decode(self.alloc, digits).ok()
     }
 
@@ -111,6 +123,10 @@ impl Link for Datagrams<'_> {
 
     fn now(&mut self) -> u64 {
         self.moment
+    }
+
+    fn steady(&mut self) -> u64 {
+        self.counted
     }
 
     fn send(&mut self, _bytes: &[u8], to: Destination) -> Result<(), EndFailed> {

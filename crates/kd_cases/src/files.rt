@@ -67,8 +67,8 @@ impl Files {
         }
     }
 
-    // The latest file of a name.
-    fn file(&self, path: &str) -> Option<&[u8]> {
+    /// The bytes of the latest file of a name.
+    pub fn file(&self, path: &str) -> Option<&[u8]> {
         for (name, bytes) in self.files.iter().rev() {
             if name.as_str() == path {
                 return Some(bytes.as_slice());

@@ -1,7 +1,9 @@
-use crate::datagrams::Datagrams;
+use crate::datagrams::{Datagrams, NO_ADDRESS};
 use crate::files::Files;
 use crate::page::Page;
 use crate::stores::Stores;
+use kd_check::config_report;
+use kd_check::findings::{FileTrouble, SocketTrouble, StoreTrouble};
 use kd_commands::Listening;
 use kd_config::Config;
 use kd_database::InMemory;
@@ -11,6 +13,10 @@ use kd_program::Host;
 use kd_replay::EndFailed;
 use kd_rows::Row;
 use kd_store::Store;
+use std::alloc::AllocError;
+
+// What the clock says to a check.
+const MOMENT: u64 = 1_000;
 
 /// A host in memory: its files and stores, for a socket the lines of standard input, and for a record
 /// what stands in memory. There is no record of the name `none`.
@@ -24,6 +30,8 @@ pub struct Room<'a, 'r> {
 }
 
 impl<'a, 'r> Host for Room<'a, 'r> {
+    ghost use Rattle.std.specs.Prelude.{◌≡◌, codes};
+
     type Named = Store<InMemory>;
 
     type Unnamed = Volatile;
@@ -45,6 +53,14 @@ impl<'a, 'r> Host for Room<'a, 'r> {
     ghost binds = { λ old listening result new. Unit {0} };
 
     ghost records = { λ old path result new. Unit {0} };
+
+    ghost tries = { λ room path answer. Unit {0} };
+
+    ghost reaches = { λ room address port answer. Unit {0} };
+
+    ghost tells_time = { λ room moment. moment ≡ 1000 };
+
+    ghost version = { λ room. codes "kdhcp 1.2.3, commit 0123456789abcdef\n" };
 
     fn configuration(
         &mut self,
@@ -89,5 +105,55 @@ impl<'a, 'r> Host for Room<'a, 'r> {
             Some(text) if path != "none" => Ok(Page::named(text, path)),
             _ => Err(EndFailed),
         }
+    }
+
+    fn start_words(
+        &self,
+        file: Option<&str>,
+        _folder: Option<&str>,
+        fault: &StartFault,
+    ) -> Result<String, AllocError> {
+        let alloc = self.rt.alloc();
+        let name = file.unwrap_or("the built-in configuration");
+        match fault {
+            StartFault::Config(fault) => {
+                let text = self.files.file(name).unwrap_or(b"");
+                config_report(alloc, name, text, fault)
+            }
+            StartFault::Input(_) => {
+                let why = FileTrouble::Absent;
+                format!(in alloc; "{name}: {why}\n")
+            }
+        }
+    }
+
+    // A database of another process is locked.db, and there is no folder none.
+    fn try_database(&self, path: &str) -> Result<bool, StoreTrouble> {
+        if path == "locked.db" {
+            return Err(StoreTrouble::Locked);
+        }
+        if path.starts_with("none/") {
+            return Err(StoreTrouble::NoFolder);
+        }
+        Ok(self.stores.has(path))
+    }
+
+    // Port 66 is another process's, and those of 1 to 32 are not allowed. From 127.0.0.1 there is no
+    // route to 255.255.255.255.
+    fn try_socket(&self, address: u32, port: u16) -> Result<bool, SocketTrouble> {
+        match port {
+            1..=32 => Err(SocketTrouble::Denied),
+            66 => Err(SocketTrouble::Taken),
+            _ if address == NO_ADDRESS => Err(SocketTrouble::NoSuchAddress),
+            _ => Ok(address != 0x7f00_0001),
+        }
+    }
+
+    fn clock(&self) -> u64 {
+        MOMENT
+    }
+
+    fn version(&self) -> &str {
+        "kdhcp 1.2.3, commit 0123456789abcdef\n"
     }
 }

@@ -63,8 +63,8 @@ impl Stores {
         }
     }
 
-    // Whether a command has left a store of a name.
-    fn has(&self, name: &str) -> bool {
+    /// Whether a command has left a store of a name.
+    pub fn has(&self, name: &str) -> bool {
         self.stores.iter().any(|kept| kept.0.as_str() == name)
     }
 

@@ -9,7 +9,7 @@ use kd_event::{Destination, Mode, Ports};
 use kd_host::Machine;
 use kd_io::{Output, Sending, Socket};
 use kd_program::Host;
-use kd_replay::{EndFailed, Link};
+use kd_replay::{EndFailed, Limits, Link};
 use kd_server::{Server, serve};
 use kd_table_tests::Fused;
 use sqlite::{Start, Unknown};
@@ -81,14 +81,18 @@ fn serve_one(rt: &HostRuntime, link: &mut Socket<'_>, ports: Ports) -> Result<()
 {
     let alloc = rt.alloc();
     let mut sink = Output::over(Vec::new(alloc));
+    let limits = Limits {
+        most: 1,
+        count: 1,
+        max_ahead: None,
+    };
     serve(
         alloc,
         link,
         &mut None::<Output<Vec<u8>>>,
         &mut sink,
         &mut server(alloc, ports)?,
-        1,
-        1,
+        limits,
     )?;
     Ok(())
 }

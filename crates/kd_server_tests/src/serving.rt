@@ -7,7 +7,8 @@ use kd_config::Config;
 use kd_event::{Destination, Event, Ports};
 use kd_io::{Sending, Socket};
 use kd_replay::{
-    EndFailed, Happening, Link, LoopFault, ServeFault, ServedBytes, replay_bytes, serve_bytes,
+    EndFailed, Happening, Limits, Link, LoopFault, ServeFault, ServedBytes, replay_bytes,
+    serve_bytes,
 };
 use kd_server::{Server, serve};
 use kd_table_tests::Fused;
@@ -25,6 +26,17 @@ fn server(alloc: Global) -> Result<Server<Fused>, AllocError> {
         client: 68,
     };
     server_on(alloc, ports)
+}
+
+// So many datagrams in batches of at most so many, whatever the clock says.
+fn limits(most: usize, count: u64) -> Limits
+    ensures { result.most ≡ most }
+{
+    Limits {
+        most,
+        count,
+        max_ahead: None,
+    }
 }
 
 // The DISCOVER of the client 0a00000000 with this last byte.
@@ -90,8 +102,7 @@ fn two_datagrams_are_served_over_a_socket(rt: HostRuntime) -> Result<(), Fail> {
         &mut None::<Keeping>,
         &mut sink,
         &mut server(alloc)?,
-        1,
-        2,
+        limits(1, 2),
     );
     assert!(rt; served == Ok(()));
     let mut reply = [0; 1_500];
@@ -101,13 +112,18 @@ fn two_datagrams_are_served_over_a_socket(rt: HostRuntime) -> Result<(), Fail> {
     Ok(())
 }
 
-// A link that gives a DISCOVER so many times and then fails, all at the moment 100, and keeps the last
-// reply; none is sent where it loses them.
+// A link that gives a DISCOVER so many times and then fails, and keeps the last reply; none is sent
+// where it loses them. Its clock says a moment, and jumps with each datagram; so does what its steady
+// clock has counted.
 #[derive(Drop)]
 struct Wired {
     discover: Vec<u8>,
     left: u64,
     loses: bool,
+    moment: u64,
+    jump: u64,
+    counted: u64,
+    passes: u64,
     reply: Vec<u8>,
     failed: bool,
 }
@@ -120,6 +136,10 @@ impl Wired {
             discover: discover(alloc, 1)?,
             left,
             loses,
+            moment: 100,
+            jump: 0,
+            counted: 0,
+            passes: 0,
             reply: Vec::new(alloc),
             failed: false,
         })
@@ -135,6 +155,8 @@ impl Wired {
             return None;
         }
         self.left -= 1;
+        self.moment = self.moment.saturating_add(self.jump);
+        self.counted = self.counted.saturating_add(self.passes);
         buf[..len].copy_from_slice(self.discover.as_slice());
         Some(len)
     }
@@ -164,7 +186,11 @@ impl Link for Wired {
     }
 
     fn now(&mut self) -> u64 {
-        100
+        self.moment
+    }
+
+    fn steady(&mut self) -> u64 {
+        self.counted
     }
 
     fn send(&mut self, bytes: &[u8], _to: Destination) -> Result<(), EndFailed> {
@@ -191,8 +217,7 @@ fn served(
         &mut None::<Keeping>,
         &mut sink,
         &mut server(alloc)?,
-        2,
-        3,
+        limits(2, 3),
     );
     let Wired { reply, .. } = link;
     Ok((result, sink, reply))
@@ -288,8 +313,7 @@ fn served_over(
         &mut None::<Keeping>,
         &mut sink,
         &mut server,
-        32,
-        count,
+        limits(32, count),
     );
     (served, lines_of(sink.as_slice()))
 }
@@ -355,6 +379,7 @@ fn told(alloc: Global, log: &[Happening]) -> Result<String, AllocError> {
             }
             Happening::Came(false, bytes) => write!(text, "waits {}\n", bytes.as_slice().len())?,
             Happening::Said(moment) => write!(text, "said {moment}\n")?,
+            Happening::Passed(seconds) => write!(text, "passed {seconds}\n")?,
             Happening::Went(packet) => write!(
                 text,
                 "went {}\n",
@@ -393,14 +418,16 @@ fn record(alloc: Global) -> Result<String, AllocError> {
     format!(in alloc; "100 {first}\n110 0a\n300 {last}\n")
 }
 
-// Two batches, of two events and of one: the clock is asked after each datagram, the record is of
-// all, and the replies of a batch go behind its last datagram.
+// Two batches, of two events and of one: both clocks are asked at the start and behind each batch, the
+// clock also after each datagram, the record is of all, and the replies of a batch go behind its last
+// datagram.
 #[test]
 fn what_happens_is_told_in_its_order(rt: HostRuntime) -> Result<(), Fail> {
     let served = served_input(rt.alloc())?;
     assert!(rt; served.end == Ok(()));
-    let wanted = "waited for 244\nsaid 100\nwaits 1\nsaid 110\nwent 10\n\
-        waited for 244\nsaid 300\nwent 11\n";
+    let wanted = "said 0\npassed 0\n\
+        waited for 244\nsaid 100\nwaits 1\nsaid 110\nsaid 110\npassed 110\nwent 10\n\
+        waited for 244\nsaid 300\nsaid 300\npassed 300\nwent 11\n";
     assert!(rt; told(rt.alloc(), served.log.as_slice())?.as_str() == wanted);
     assert!(rt; served.journal.as_slice() == record(rt.alloc())?.as_bytes());
     Ok(())
@@ -418,5 +445,89 @@ fn what_is_recorded_replays_to_what_was_written(rt: HostRuntime) -> Result<(), F
             .as_slice()
             .starts_with(b"100 reply hardware 192.0.2.10:68 02")
     );
+    Ok(())
+}
+
+// How serving one datagram ends over a server where the clock may run 50 seconds ahead. It says a
+// moment at the start, and so many seconds more once the datagram has come; the steady clock has
+// counted `passes` by then.
+fn ended(
+    alloc: Global,
+    server: &mut Server<Fused>,
+    moment: u64,
+    jump: u64,
+    passes: u64,
+) -> Result<Result<(), LoopFault>, AllocError> {
+    let mut link = Wired::new(alloc, 1, false)?;
+    link.moment = moment;
+    link.jump = jump;
+    link.passes = passes;
+    let limits = Limits {
+        most: 1,
+        count: 1,
+        max_ahead: Some(50),
+    };
+    let mut sink = Keeping::new(alloc, usize::MAX, usize::MAX);
+    let none = &mut None::<Keeping>;
+    Ok(serve(alloc, &mut link, none, &mut sink, server, limits))
+}
+
+// The moment at the start, the seconds by which the clock jumps, those that the steady clock counts,
+// and whether that is ahead, over no leases.
+const JUMPS: [(u64, u64, u64, bool); 8] = [
+    (1_000, 50, 0, false),
+    (1_000, 51, 0, true),
+    (1_000, 51, 1, false),
+    (1_000, 52, 1, true),
+    (1_000, 100_000, 100_000, false),
+    (1_000, 0, 9, false),
+    (0, 50, 0, false),
+    (0, 51, 0, true),
+];
+
+#[test]
+fn serving_ends_where_the_clock_jumps_ahead(rt: HostRuntime) -> Result<(), Fail> {
+    let alloc = rt.alloc();
+    for (moment, jump, passes, is_ahead) in JUMPS {
+        let wanted = if is_ahead {
+            Err(LoopFault::Ahead)
+        } else {
+            Ok(())
+        };
+        let end = ended(alloc, &mut server(alloc)?, moment, jump, passes)?;
+        assert!(rt;
+            end == wanted || end == Err(LoopFault::Memory),
+            "{moment} {jump} {passes}"
+        );
+    }
+    Ok(())
+}
+
+// The same over an offer that was made at the moment 1,000: the clock may be 50 seconds behind it at the
+// start, and where it was set back it is not ahead before it is 50 seconds after it.
+const SETS_BACK: [(u64, u64, u64, bool); 6] = [
+    (949, 0, 0, true),
+    (950, 0, 0, false),
+    (960, 90, 0, false),
+    (960, 91, 0, true),
+    (960, 91, 41, false),
+    (960, 50, 0, false),
+];
+
+#[test]
+fn the_clock_is_measured_at_the_latest_change(rt: HostRuntime) -> Result<(), Fail> {
+    let alloc = rt.alloc();
+    for (moment, jump, passes, is_ahead) in SETS_BACK {
+        let wanted = if is_ahead {
+            Err(LoopFault::Ahead)
+        } else {
+            Ok(())
+        };
+        let mut server = server(alloc)?;
+        let first = ended(alloc, &mut server, 1_000, 0, 0)?;
+        let end = ended(alloc, &mut server, moment, jump, passes)?;
+        let is_full = first == Err(LoopFault::Memory) || end == Err(LoopFault::Memory);
+        assert!(rt; is_full || end == wanted, "{moment} {jump} {passes}");
+    }
     Ok(())
 }

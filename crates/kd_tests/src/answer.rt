@@ -86,6 +86,8 @@ fn each_fault_has_its_exit_status(rt: HostRuntime) {
         (95, 1),
         (96, 3),
         (99, 3),
+        (100, 1),
+        (101, 4),
     ] {
         assert!(rt; exit_status(number) == status, "{number}");
     }
@@ -99,6 +101,9 @@ fn printed(alloc: Global, words: &[String]) -> Result<Printed, AllocError> {
             | Order::List { .. }
             | Order::Look { .. }
             | Order::Import { .. }
+            | Order::Events { .. }
+            | Order::Check { .. }
+            | Order::Version
             | Order::Serve { .. },
         )
         | Err(_) => { Err(AllocError) }
