@@ -1,6 +1,7 @@
 use kd_io::{Sending, Socket, seconds_of};
 use kd_replay::Link;
 use std::net::UdpSocket;
+use std::rt::Clock;
 use std::test::Fail;
 use std::time::{Duration, UNIX_EPOCH};
 
@@ -18,6 +19,22 @@ fn the_hosts_clock_tells_the_time(rt: HostRuntime) -> Result<(), Fail> {
     let first = link.now();
     let second = link.now();
     assert!(rt; YEARS[0] < first && first <= second && second < YEARS[1]);
+    Ok(())
+}
+
+// The steady clock is the system's: it is read between two readings of that.
+#[test]
+fn the_steady_clock_counts_the_systems_seconds(rt: HostRuntime) -> Result<(), Fail> {
+    let sending = Sending {
+        mirror: false,
+        broadcast_as: None,
+    };
+    let socket = UdpSocket::bind(&rt, ("127.0.0.1", 0))?;
+    let mut link = Socket::over(&rt, socket, sending);
+    let before = rt.monotonic()?.as_secs();
+    let counted = link.steady();
+    let after = rt.monotonic()?.as_secs();
+    assert!(rt; 0 < before && before <= counted && counted <= after);
     Ok(())
 }
 

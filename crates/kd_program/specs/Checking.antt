@@ -25,7 +25,11 @@ check_status (Some number ∷ more) = status_of number
 -- the number of the fault of a store that is not opened
 abbrev pub trouble_number : StoreTrouble → ℕ
 trouble_number troubles.Schema = 80
-trouble_number other = 81
+trouble_number troubles.Locked = 81
+trouble_number troubles.Damaged = 81
+trouble_number troubles.Denied = 81
+trouble_number troubles.NoFolder = 81
+trouble_number troubles.Other = 81
 
 -- what is found of a configuration, a socket
 abbrev pub config_finding : Result Configuration StartFault → Option ℕ

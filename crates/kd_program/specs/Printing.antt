@@ -1,5 +1,5 @@
 -- What `events` prints: the replies of the log on standard input.
-use Rattle.std.specs.Prelude.{◌≡◌, ℕ, true, List, Option, Some, Result}
+use Rattle.std.specs.Prelude.{◌≡◌, ℕ, true, List, Some, Result}
 use Rattle.std.specs.Result.{IsErrOf}
 use Rattle.kd_events.specs.Printed.{IsEventText}
 use Rattle.kd_events.specs.declared.filter.Filter.{Filter}

@@ -1,4 +1,4 @@
-use Rattle.std.proofs.Common.{Ok, Err, refl}
+use Rattle.std.proofs.Common.{Err}
 use Rattle.kd_program.specs.Streams.{written_to}
 use Rattle.kd_program.proofs.Told.{told_as}
 use Rattle.kd_program.proofs.log.print_events.Goals as goal
