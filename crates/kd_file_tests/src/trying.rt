@@ -71,7 +71,7 @@ fn a_file_that_is_not_read_is_named(rt: HostRuntime) -> Result<(), Fail> {
             "none.json: there is no such file\n",
         ),
         (Some("."), None, ".: it is a folder\n"),
-        (None, Some("none"), "none: there is no such file\n"),
+        (None, Some("none"), "none: there is no such folder\n"),
     ] {
         let words = start_words(&rt, file, folder, &fault)?;
         assert!(rt; words.as_str() == wanted, "{words}");

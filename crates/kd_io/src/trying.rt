@@ -10,6 +10,7 @@ use std::fs::File;
 use std::io::ErrorKind;
 use std::net::UdpSocket;
 use std::os::fd::AsRawFd;
+use std::os::unix::fs::MetadataExt;
 use std::{fs, io};
 
 // 255.255.255.255.
@@ -69,6 +70,13 @@ fn unread_words(
 ) -> Result<String, AllocError> {
     let alloc = rt.alloc();
     if let Some(folder) = folder {
+        match fs::metadata(rt, folder) {
+            Ok(found) if !found.is_dir() => return line_of(alloc, folder, "it is no folder"),
+            Err(error) if error.kind() == ErrorKind::NotFound => {
+                return line_of(alloc, folder, "there is no such folder");
+            }
+            _ => {}
+        }
         if let Some(why) = folder_trouble(rt, folder) {
             return line_of(alloc, folder, why.words());
         }
@@ -129,6 +137,9 @@ fn line_of(alloc: Global, subject: &str, words: &str) -> Result<String, AllocErr
 /// Another process has it open, this account may not read and write it, or the folder that it would
 /// be in is not there.
 pub fn try_database(rt: &HostRuntime, path: &str) -> Result<bool, StoreTrouble> {
+    if !may_be_database(rt, path) {
+        return Err(StoreTrouble::Other);
+    }
     match fs::OpenOptions::new().read(true).write(true).open(rt, path) {
         Ok(file) if is_locked(&file) => Err(StoreTrouble::Locked),
         Ok(_) => Ok(true),
@@ -140,10 +151,26 @@ pub fn try_database(rt: &HostRuntime, path: &str) -> Result<bool, StoreTrouble> 
     }
 }
 
+// Whether a server would take what stands at a path, or make a file there: a plain file with one
+// name, or nothing, not even a link that leads nowhere. These names are no files to SQLite.
+fn may_be_database(rt: &HostRuntime, path: &str) -> bool {
+    if path.is_empty() || path == ":memory:" || path.starts_with("file:") {
+        return false;
+    }
+    match fs::metadata(rt, path) {
+        Ok(found) => found.is_file() && found.nlink() == 1,
+        Err(error) if error.kind() == ErrorKind::NotFound => {
+            fs::symlink_metadata(rt, path).is_err()
+        }
+        Err(_) => true,
+    }
+}
+
 // Whether another process has a database open.
 fn is_locked(file: &File) -> bool {
     let (from, count) = LOCKED;
-    if os::try_lock_range(file.as_raw_fd(), RangeLock::Shared, from, count) == 0 {
+    // As a server asks for it: a reader of SQLite has a shared one.
+    if os::try_lock_range(file.as_raw_fd(), RangeLock::Exclusive, from, count) == 0 {
         return false;
     }
     io::Error::from_raw_os_error(os::errno()).kind() == ErrorKind::WouldBlock

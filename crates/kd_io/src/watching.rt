@@ -2,6 +2,7 @@ use crate::files::{InputFault, read_whole};
 use crate::look::{Copied, LookFault, Watched, settled_copy};
 use kd_wire::Bytes;
 use std::alloc::{AllocError, Global};
+use std::fs;
 use std::fs::File;
 use std::io::{ErrorKind, Read};
 use std::rt::Files;
@@ -54,16 +55,17 @@ fn whole<R: Read + Drop>(alloc: Global, reader: R) -> Result<Bytes, InputFault> 
 }
 
 /// A copy of the database at a path and of its log, without a lock: see `settled_copy`. A log that is
-/// not there has no bytes.
+/// not there has no bytes. Both lie where a link leads, as for a server that opens them.
 ///
 /// # Errors
 ///
 /// Those of `settled_copy`; the database is not there, or has 4 GiB or more.
 pub fn copy_at<R: Files + AllocGlobal>(rt: &R, path: &str) -> Result<Copied, LookFault> {
-    let log = log_path(rt.alloc(), path).map_err(InputFault::from)?;
+    let real = fs::canonicalize(rt, path).map_err(InputFault::from)?;
+    let log = log_path(rt.alloc(), real.as_str()).map_err(InputFault::from)?;
     settled_copy(&mut AtPaths {
         rt,
-        db: path,
+        db: real.as_str(),
         log: log.as_str(),
     })
 }

@@ -2,9 +2,10 @@ use crate::banner::pool_addresses;
 use crate::checking::{Found, Place, Seen, StoreFinding};
 use crate::host::Host;
 use crate::serving::Files;
-use kd_check::findings::SocketTrouble;
+use kd_check::findings::{SocketTrouble, StoreTrouble};
 use kd_config::Config;
-use kd_io::StartFault;
+use kd_io::{LookFault, StartFault};
+use kd_keeps::StoreFault;
 use std::alloc::{AllocError, Global};
 use std::fmt::Write;
 use std::net::Ipv4Addr;
@@ -60,12 +61,26 @@ fn put_store(text: &mut String, path: &str, store: &StoreFinding) -> Result<(), 
     text.push_str(path)?;
     match store {
         StoreFinding::Unasked => {}
-        StoreFinding::New => text.push_str(": not there yet, serve makes it")?,
+        StoreFinding::New => text.push_str(
+            ": not there yet, serve makes it if this account may write in its folder",
+        )?,
         StoreFinding::Trouble(trouble) => {
             text.push_str(": ")?;
             text.push_str(trouble.words())?;
         }
-        StoreFinding::Unread(fault) => write!(text, ": it can't be read: {fault}")?,
+        StoreFinding::Unread(LookFault::Store(StoreFault::Schema)) => {
+            text.push_str(": ")?;
+            text.push_str(StoreTrouble::Schema.words())?;
+        }
+        StoreFinding::Unread(LookFault::Store(StoreFault::Sql(_))) => {
+            text.push_str(": it is no database, or damaged")?;
+        }
+        StoreFinding::Unread(LookFault::Input(_)) => {
+            text.push_str(": its files can't be read")?;
+        }
+        StoreFinding::Unread(LookFault::Unsettled) => {
+            text.push_str(": it was changed at each try, try again")?;
+        }
         StoreFinding::Memory => text.push_str(": out of memory")?,
         StoreFinding::Open(seen) => put_seen(text, *seen)?,
     }
@@ -80,6 +95,9 @@ fn put_seen(text: &mut String, seen: Seen) -> Result<(), AllocError> {
         moment,
         ..
     } = seen;
+    if count == 0 {
+        return text.push_str(": leases 0, latest change -");
+    }
     write!(text, ": leases {count}, latest change {latest}")?;
     if latest > moment {
         let by = latest - moment;
