@@ -7,6 +7,7 @@ HARDWARE is the client's hardware address, twelve hexadecimal digits.
 """
 import socket
 import sys
+import time
 
 COOKIE = bytes.fromhex("63825363")
 
@@ -35,8 +36,10 @@ def answered(link, text):
         link.send(text)
         try:
             return link.recv(2_000)
-        except (TimeoutError, ConnectionRefusedError):
+        except TimeoutError:
             continue
+        except ConnectionRefusedError:
+            time.sleep(1)
     sys.exit("no reply")
 
 
