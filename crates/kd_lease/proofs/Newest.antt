@@ -8,7 +8,8 @@ use Rattle.kd_rows.specs.declared.row.Row.{Row}
 use Rattle.kd_lease.specs.Choice.{Asking, changed_in, fitting_for, has_rank, has_such, held_row, holding_state, live_row, set_later, past_row}
 use Rattle.kd_lease.specs.Choice.Rank.{own, past}
 use Rattle.kd_lease.specs.Rules.{IsNewest, client_has, held_at, offered_state}
-use Rattle.kd_lease.specs.Seeking.{IsRanked, newer_of, past_at, sought_at}
+use Rattle.kd_lease.specs.Ranks.{IsRanked}
+use Rattle.kd_lease.specs.Seeking.{newer_of, past_at, sought_at}
 use Rattle.kd_lease.specs.declared.seeking.Sought.{Sought}
 use Rattle.kd_lease.specs.declared.seeking.Sought.TheVariants as seeks
 use Rattle.kd_config.specs.Address.{has_address}

@@ -8,7 +8,8 @@ use Rattle.kd_config.specs.declared.pool.Pool.{Pool}
 use Rattle.kd_config.specs.declared.range.Range.{Range}
 use Rattle.kd_config.specs.declared.subnet.Subnet.{Subnet}
 use Rattle.kd_lease.specs.Choice.{Asking, IsFirstOf, has_rank, pooled, is_before, is_earlier, pool_place}
-use Rattle.kd_lease.specs.Seeking.{IsLeastOpen, IsRanked, is_open, pool_rank}
+use Rattle.kd_lease.specs.Ranks.{IsRanked}
+use Rattle.kd_lease.specs.Seeking.{IsLeastOpen, is_open, pool_rank}
 
 -- no address is open from the first up to an end
 abbrev pub NoneUpTo : Asking → Subnet → Bool → ℕ → ℕ → Type 0

@@ -6,6 +6,7 @@ pub mod Destination
 pub mod Given
 pub mod Laws
 pub mod Plan
+pub mod Ranks
 pub mod ReplyOf
 pub mod ReplyOptions
 pub mod Rules

@@ -1,5 +1,5 @@
 -- Words of private contracts alone: what the rules are asked over as the code holds it, what is
--- sought among a client's addresses and in pools, and the first of one rank.
+-- sought among a client's addresses and in pools.
 use Rattle.std.specs.Prelude.{◌≡◌, ℕ, ◌<◌, ◌≤◌, Bool, true, false, not, ◌&&◌, is_none, List, Option, Some, None, if◌then◌else◌}
 use Rattle.std.specs.Str.{bytes_eq}
 use Rattle.kd_config.specs.Address.{has_address}
@@ -7,7 +7,7 @@ use Rattle.kd_config.specs.declared.reservation.Identity.{Identity}
 use Rattle.kd_config.specs.declared.reservation.Identity.TheVariants.{Hardware, ClientId}
 use Rattle.kd_config.specs.declared.subnet.Subnet.{Subnet}
 use Rattle.kd_rows.specs.Table.{row_at}
-use Rattle.kd_lease.specs.Choice.{Asking, Choice, IsFirstOf, NoChoice, Rank, fitting_for, has_rank, has_such, live_row, set_later, past_row, reserved_in, same_value}
+use Rattle.kd_lease.specs.Choice.{Asking, Choice, NoChoice, Rank, fitting_for, has_rank, has_such, live_row, set_later, past_row, reserved_in, same_value}
 use Rattle.kd_lease.specs.Choice.Rank.{own, past, fresh, expired}
 use Rattle.kd_lease.specs.Rules.{offered_to, is_record}
 use Rattle.kd_lease.specs.declared.seeking.Sought.{Sought}
@@ -29,11 +29,6 @@ abbrev pub newer_of : Asking → Sought → Option ℕ → ℕ → Option ℕ
 newer_of q sought None a = if sought_at q sought a then Some a else None
 newer_of q sought (Some b) a =
     if sought_at q sought a && set_later q.rows a b then Some a else Some b
-
--- what is found is the first of a rank, or nothing where no address has it
-abbrev pub IsRanked : Asking → Subnet → Rank → Option ℕ → Type 0
-IsRanked q s rank None = (b : ℕ) → has_rank q s rank b ≡ false
-IsRanked q s rank (Some a) = IsFirstOf q s rank a
 
 -- what is found is the address for the client, or nothing where there is none
 abbrev pub IsChosen : Asking → Subnet → Option ℕ → Type 0

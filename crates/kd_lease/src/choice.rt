@@ -1,7 +1,8 @@
 ghost use Rattle.std.specs.Prelude.{◌≡◌};
 ghost use Rattle.kd_lease.specs.Choice.Rank.{asked, reserved};
 ghost use Rattle.kd_lease.specs.Rules.{asking};
-ghost use Rattle.kd_lease.specs.Seeking.{IsChosen, IsRanked};
+ghost use Rattle.kd_lease.specs.Ranks.{IsRanked};
+ghost use Rattle.kd_lease.specs.Seeking.{IsChosen};
 
 use crate::fitting::{is_free, is_usable, requested_of};
 use crate::pooling::pooled;
@@ -39,7 +40,7 @@ pub(crate) fn choose(question: &Question<'_>, subnet: &Subnet) -> Option<u32>
 }
 
 // The address that is reserved for the client, where it is free.
-fn kept(question: &Question<'_>, subnet: &Subnet) -> Option<u32>
+pub(crate) fn kept(question: &Question<'_>, subnet: &Subnet) -> Option<u32>
     ensures { IsRanked (asking question.now) subnet.now reserved result }
 {
     match reserved_address(question.message, subnet) {
@@ -55,7 +56,7 @@ fn kept(question: &Question<'_>, subnet: &Subnet) -> Option<u32>
 }
 
 // The address that the client asks for, where it may be given it.
-fn asked_for(question: &Question<'_>, subnet: &Subnet) -> Option<u32>
+pub(crate) fn asked_for(question: &Question<'_>, subnet: &Subnet) -> Option<u32>
     ensures { IsRanked (asking question.now) subnet.now asked result }
 {
     match requested_of(question.message) {

@@ -19,8 +19,9 @@ pub(crate) fn is_from_server(message: &Message<'_>) -> bool
     }
 }
 
-// The message asks for the option with this code.
-pub(crate) fn asks_for(message: &Message<'_>, code: u8) -> bool
+/// The message asks for the option with this code: option 55 lists it, or is absent (RFC 2132
+/// section 9.8).
+pub fn asks_for(message: &Message<'_>, code: u8) -> bool
     ensures { result ≡ wants_option code message.now }
 {
     match message.option(55) {

@@ -9,7 +9,7 @@ use crate::choice::choose;
 use crate::fitting::{address_in, fits, is_usable, requested_of};
 use crate::planned::{Effect, Planned};
 use crate::question::Question;
-use crate::seeking::{Sought, is_client_at, is_held_at, newest};
+use crate::seeking::{Sought, is_client_at, is_held_at, knows_client, newest};
 use crate::setting::{declined, leased, offer_row, released};
 use crate::subnet::subnet_of;
 use kd_config::{Config, Subnet};
@@ -186,15 +186,13 @@ fn renew_in(
     if !subnet.prefix.contains(address) {
         return Ok(nak());
     }
-    match newest(question, &Sought::Record(subnet)) {
-        Some(_) => {
-            if may_renew(question, subnet, address) {
-                lease(alloc, question, address)
-            } else {
-                Ok(nak())
-            }
-        }
-        None => Ok(quiet(Reason::NoRecord)),
+    if !knows_client(question, subnet) {
+        return Ok(quiet(Reason::NoRecord));
+    }
+    if may_renew(question, subnet, address) {
+        lease(alloc, question, address)
+    } else {
+        Ok(nak())
     }
 }
 
@@ -307,8 +305,8 @@ pub(crate) fn subnet_for<'a>(question: &Question<'a>) -> Option<&'a Subnet>
     subnet_of(question.config, question.names, &question.message.header())
 }
 
-// The server that a message names (RFC 2132 section 9.7).
-fn server_of(message: &Message<'_>) -> Option<u32>
+/// The server that a message names, option 54, in host order (RFC 2132 section 9.7).
+pub fn server_of(message: &Message<'_>) -> Option<u32>
     ensures { result ≡ named_server message.now }
 {
     address_in(message.option(54))
@@ -324,9 +322,9 @@ fn names_other(server: u32, named: Option<u32>) -> bool
     }
 }
 
-// The address of a REQUEST that names no server: the one that the client has, else the one that it
-// asks for.
-fn renewed_of(message: &Message<'_>) -> Option<u32>
+/// The address of a REQUEST that names no server, in host order: the one that the client has, else
+/// the one that it asks for (RFC 2131 section 4.3.2).
+pub fn renewed_of(message: &Message<'_>) -> Option<u32>
     ensures { result ≡ renewed_address message.now }
 {
     let ciaddr = message.header().ciaddr;

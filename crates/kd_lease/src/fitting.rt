@@ -10,17 +10,17 @@ use kd_config::Subnet;
 use kd_options::Message;
 use kd_rows::{Row, State};
 
-// An address fits: it is in a pool of the subnet and reserved for nobody, or reserved for the
-// client.
-pub(crate) fn fits(question: &Question<'_>, subnet: &Subnet, address: u32) -> bool
+/// An address, in host order, fits: it is in a pool of the subnet and reserved for nobody, or
+/// reserved for the client.
+pub fn fits(question: &Question<'_>, subnet: &Subnet, address: u32) -> bool
     ensures { result ≡ fitting_for (asking question.now) subnet.now address }
 {
     (in_pools(subnet, address) && !is_reserved(question.config, address))
         || is_address(reserved_address(question.message, subnet), address)
 }
 
-// A pool of the subnet has this address.
-fn in_pools(subnet: &Subnet, address: u32) -> bool
+/// A pool of the subnet has this address, in host order.
+pub fn in_pools(subnet: &Subnet, address: u32) -> bool
     ensures { result ≡ pooled subnet.now address }
 {
     subnet
@@ -47,8 +47,9 @@ pub(crate) fn is_usable(question: &Question<'_>, subnet: &Subnet, address: u32) 
     fits(question, subnet, address) && is_free(question, address)
 }
 
-// An address is free for the client: it has no row, or one that leaves it free.
-pub(crate) fn is_free(question: &Question<'_>, address: u32) -> bool
+/// An address, in host order, is free for the client: it has no row, or one that has ended, or that
+/// is the client's, offered or bound.
+pub fn is_free(question: &Question<'_>, address: u32) -> bool
     ensures { result ≡ free_for (asking question.now) address }
 {
     match question.rows.get(address) {
@@ -111,8 +112,8 @@ fn is_holding(state: State) -> bool
     }
 }
 
-// The address that the client asks for (RFC 2132 section 9.1).
-pub(crate) fn requested_of(message: &Message<'_>) -> Option<u32>
+/// The address that the client asks for, option 50, in host order (RFC 2132 section 9.1).
+pub fn requested_of(message: &Message<'_>) -> Option<u32>
     ensures { result ≡ requested_address message.now }
 {
     address_in(message.option(50))

@@ -1,6 +1,7 @@
 ghost use Rattle.std.specs.Prelude.{◌≡◌, true, false};
 ghost use Rattle.kd_lease.specs.Rules.{asking};
-ghost use Rattle.kd_lease.specs.Seeking.{IsLeastOpen, IsRanked, pool_rank};
+ghost use Rattle.kd_lease.specs.Ranks.{IsRanked};
+ghost use Rattle.kd_lease.specs.Seeking.{IsLeastOpen, pool_rank};
 
 use crate::fitting::fits;
 use crate::question::Question;

@@ -17,9 +17,10 @@ pub(crate) fn reserved_address(message: &Message<'_>, subnet: &Subnet) -> Option
     }
 }
 
-// The first reservation of a subnet that is for the client of a message.
+/// The first reservation of a subnet that is for the client of a message: by its hardware address or
+/// by its option 61.
 #[tactic(auto, using(crate::proofs::Reserved::reservation_by))]
-fn reservation_of<'a>(message: &Message<'_>, subnet: &'a Subnet) -> Option<&'a Reservation>
+pub fn reservation_of<'a>(message: &Message<'_>, subnet: &'a Subnet) -> Option<&'a Reservation>
     ensures { option_copied result ≡ client_reservation message.now subnet.now }
 {
     let mac = message.mac();
@@ -51,8 +52,8 @@ fn is_value(bytes: &[u8], value: Option<&[u8]>) -> bool
     }
 }
 
-// A subnet of the configuration has a reservation of this address.
-pub(crate) fn is_reserved(config: &Config, address: u32) -> bool
+/// A subnet of the configuration has a reservation of this address, in host order.
+pub fn is_reserved(config: &Config, address: u32) -> bool
     ensures { result ≡ reserved_anywhere config.now address }
 {
     are_keeping(address, config.subnets())

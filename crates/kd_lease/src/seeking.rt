@@ -1,8 +1,9 @@
-ghost use Rattle.std.specs.Prelude.{◌≡◌};
+ghost use Rattle.std.specs.Prelude.{◌≡◌, ℕ, IsTrue, false, true};
 ghost use Rattle.kd_lease.specs.Choice.{changed_in, set_later};
 ghost use Rattle.kd_lease.specs.Choice.Rank.{own, past};
 ghost use Rattle.kd_lease.specs.Rules.{IsNewest, asking, bound_state, client_has, held_at, leased_to, offered_to, offered_state, is_record};
-ghost use Rattle.kd_lease.specs.Seeking.{IsRanked, newer_of, past_at, sought_at};
+ghost use Rattle.kd_lease.specs.Ranks.{IsRanked};
+ghost use Rattle.kd_lease.specs.Seeking.{newer_of, past_at, sought_at};
 ghost use Rattle.kd_rows.specs.Table.{row_at};
 
 use crate::fitting::{fits, is_held_by, is_live, is_of, is_past};
@@ -68,6 +69,14 @@ pub(crate) fn newest(question: &Question<'_>, sought: &Sought<'_>) -> Option<u32
     best
 }
 
+/// The server knows the client in a subnet: the client has a row at an address in its prefix.
+pub fn knows_client(question: &Question<'_>, subnet: &Subnet) -> bool
+    ensures some { IsTrue result → (b : ℕ) × (is_record (asking question.now) subnet.now b ≡ true) }
+    ensures none { result ≡ false → (b : ℕ) → is_record (asking question.now) subnet.now b ≡ false }
+{
+    newest(question, &Sought::Record(subnet)).is_some()
+}
+
 // The newer of what was found and an address that is sought.
 fn better(
     question: &Question<'_>,
@@ -126,8 +135,9 @@ fn changed_at(rows: &Rows, address: u32) -> u64
     }
 }
 
-// The client holds an address: its row is the client's, live, and offered or bound.
-pub(crate) fn is_held_at(question: &Question<'_>, address: u32) -> bool
+/// The client holds an address, in host order: its row is the client's, has not ended, and is
+/// offered or bound.
+pub fn is_held_at(question: &Question<'_>, address: u32) -> bool
     ensures { result ≡ held_at (asking question.now) address }
 {
     match question.rows.get(address) {
@@ -146,8 +156,8 @@ fn is_past_at(question: &Question<'_>, address: u32) -> bool
     }
 }
 
-// The row of an address is the client's.
-pub(crate) fn is_client_at(question: &Question<'_>, address: u32) -> bool
+/// The row of an address, in host order, is the client's.
+pub fn is_client_at(question: &Question<'_>, address: u32) -> bool
     ensures { result ≡ client_has (asking question.now) address }
 {
     match question.rows.get(address) {

@@ -9,9 +9,10 @@ use kd_config::{Config, Pool, Subnet};
 use kd_machine::Held;
 use kd_wire::Header;
 
-// The first subnet that serves a message with this header, whose classes have these names.
+/// The first subnet that serves a message with this header, whose classes have these names: its
+/// prefix has the place of the message, and the class that it asks for is held.
 #[tactic(auto, unfolding(crate::specs::SubnetOf::subnet_serving))]
-pub(crate) fn subnet_of<'a>(config: &'a Config, names: &Held, header: &Header) -> Option<&'a Subnet>
+pub fn subnet_of<'a>(config: &'a Config, names: &Held, header: &Header) -> Option<&'a Subnet>
     ensures { option_copied result ≡ subnet_serving config.now names.now header.now }
 {
     let place = place_of(config.server(), header);
@@ -21,8 +22,9 @@ pub(crate) fn subnet_of<'a>(config: &'a Config, names: &Held, header: &Header) -
         .find(|subnet| serves(place, names, subnet))
 }
 
-// Where a message comes from: its relay, else its client's address, else the server's link.
-fn place_of(server: u32, header: &Header) -> u32
+/// Where a message comes from, an address in host order: its relay, else its client's address, else
+/// that of the server.
+pub fn place_of(server: u32, header: &Header) -> u32
     ensures { result ≡ message_place server header.now }
 {
     if header.giaddr != 0 {

@@ -6,5 +6,6 @@ pub mod NoOverlap
 pub mod OneStep
 pub mod Staging
 pub mod Step
+pub mod Trial
 pub mod Turn
 pub mod Unkept

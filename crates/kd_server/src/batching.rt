@@ -72,7 +72,25 @@ fn handle_one(
         (λ fault. LeavesOut rows.old.rows event.now fault rows.new.rows) }
     ensures set { Stages rows.old.rows set.old.items rows.new.rows set.new.items }
 {
-    let moment = event.moment();
+    handle_at(rules, rows, set, event.moment(), event.bytes())
+}
+
+// Handles a datagram at a moment, in the same way.
+pub(crate) fn handle_at(
+    rules: Rules<'_>,
+    rows: &mut Rows,
+    set: &mut Vec<Row>,
+    moment: u64,
+    bytes: &[u8],
+) -> Result<Handled, ServeFault>
+    ensures handled { IfOk result (λ handled.
+        StepsTo rules.entry.config.now rules.entry.ports rows.old.rows
+        (record { moment = moment; bytes = bytes.now }) handled rows.new.rows) }
+    ensures small { IfOk result (λ handled. IsSmall handled.response) }
+    ensures failed { IfErr result (λ fault. LeavesOut rows.old.rows
+        (record { moment = moment; bytes = bytes.now }) fault rows.new.rows) }
+    ensures set { Stages rows.old.rows set.old.items rows.new.rows set.new.items }
+{
     if moment >= MOMENTS {
         return Err(ServeFault::MomentTooLarge);
     }
@@ -82,7 +100,7 @@ fn handle_one(
         config,
     } = rules;
     let now = moment.max(rows.latest());
-    let turn = turn_at(alloc, ports, config, rows, now, event.bytes())?;
+    let turn = turn_at(alloc, ports, config, rows, now, bytes)?;
     stage_turn(alloc, rows, set, now, turn)
 }
 

@@ -13,9 +13,11 @@ mod leases;
 mod replaying;
 mod server;
 mod serving;
+mod trial;
 mod turning;
 
 pub use leases::{Lease, lease_lines, leases_at};
 pub use replaying::replay;
 pub use server::Server;
 pub use serving::serve;
+pub use trial::Trial;

@@ -1,0 +1,20 @@
+-- The first address of each rank for a client: what the choice of its address is made of.
+use Rattle.std.specs.Prelude.{◌≡◌, ℕ, false, Option, None, Some}
+use Rattle.kd_config.specs.declared.subnet.Subnet.{Subnet}
+use Rattle.kd_lease.specs.Choice.{Asking, IsFirstOf, Rank, has_rank}
+use Rattle.kd_lease.specs.Choice.Rank as rank
+use Rattle.kd_lease.specs.declared.ranks.Ranks.{Ranks}
+
+-- what is found is the first address of a rank, or none where no address has the rank
+abbrev pub IsRanked : Asking → Subnet → Rank → Option ℕ → Type 0
+IsRanked q s r None = (b : ℕ) → has_rank q s r b ≡ false
+IsRanked q s r (Some a) = IsFirstOf q s r a
+
+-- the first address of each rank, where it has one
+pub record AreRanks (q : Asking) (s : Subnet) (found : Ranks) : Type 0 where
+  pub reserved : IsRanked q s rank.reserved found.reserved
+  pub own : IsRanked q s rank.own found.own
+  pub past : IsRanked q s rank.past found.past
+  pub asked : IsRanked q s rank.asked found.asked
+  pub fresh : IsRanked q s rank.fresh found.fresh
+  pub expired : IsRanked q s rank.expired found.expired

@@ -1,0 +1,41 @@
+ghost use Rattle.kd_lease.specs.Ranks.{AreRanks};
+ghost use Rattle.kd_lease.specs.Rules.{asking};
+
+use crate::choice::{asked_for, kept};
+use crate::pooling::pooled;
+use crate::question::Question;
+use crate::seeking::newest_known;
+use kd_config::Subnet;
+
+/// What speaks for an address, the strongest first, and the first address of each for a client in a
+/// subnet (RFC 2131 section 4.3.1; the order of pools is ours). An address is in host order.
+#[derive(Clone, Copy)]
+pub struct Ranks {
+    /// It is reserved for the client, and free.
+    pub reserved: Option<u32>,
+    /// The client holds it, and it fits.
+    pub own: Option<u32>,
+    /// The client had it, and it fits.
+    pub past: Option<u32>,
+    /// The client asks for it, and may be given it.
+    pub asked: Option<u32>,
+    /// Nobody had it yet, and it fits.
+    pub fresh: Option<u32>,
+    /// Its row has ended, and it fits.
+    pub expired: Option<u32>,
+}
+
+/// The first address of each rank. The client is offered that of the strongest rank which has one.
+pub fn ranks_of(question: &Question<'_>, subnet: &Subnet) -> Ranks
+    ensures { AreRanks (asking question.now) subnet.now result }
+{
+    let known = newest_known(question, subnet);
+    Ranks {
+        reserved: kept(question, subnet),
+        own: known.own,
+        past: known.past,
+        asked: asked_for(question, subnet),
+        fresh: pooled(question, subnet, true),
+        expired: pooled(question, subnet, false),
+    }
+}

@@ -1,0 +1,5 @@
+pub mod Checks
+pub mod Explaining
+pub mod Origins
+pub mod Saying
+pub mod Testing

@@ -1,0 +1,96 @@
+ghost use Rattle.std.specs.Prelude.{◌≡◌, ◌<◌, ◌^◌, IfOk, None, option_copied};
+ghost use Rattle.kd_lease.specs.Rules.{asking};
+ghost use Rattle.kd_why.specs.Explaining.{Explains, AreFoundIn, IsReservedIn};
+
+use crate::classes::{Trace, trace};
+use kd_config::{Config, Reservation, Subnet};
+use kd_lease::{Decision, Question, Ranks, decide, identity, ranks_of, reservation_of, subnet_of};
+use kd_machine::{Held, Outcome};
+use kd_options::Message;
+use kd_rows::Rows;
+use kd_wire::Bytes;
+use std::alloc::{AllocError, Global};
+
+/// What a message is, and what the rules make of it.
+#[derive(Drop)]
+pub struct Explanation<'a> {
+    /// The identity of its client, if it has one (RFC 2131 section 4.2).
+    pub client: Option<Bytes>,
+    /// For each class of the configuration, in order, what its test gave; nothing where it has none.
+    pub outcomes: Vec<Option<Outcome>>,
+    /// The names of the classes that the message is in.
+    pub names: Held,
+    /// The subnet that serves it, if one does.
+    pub subnet: Option<&'a Subnet>,
+    /// The reservation for its client in that subnet, if there is one.
+    pub reservation: Option<&'a Reservation>,
+    /// The first address of each rank, where a subnet serves it and it has a client.
+    pub ranks: Option<Ranks>,
+    /// The row that it sets, and what it gets.
+    pub decision: Decision,
+}
+
+/// Explains a message at a moment, in seconds, over a table of leases.
+///
+/// # Errors
+///
+/// Out of memory.
+pub fn explain<'a>(
+    alloc: Global,
+    config: &'a Config,
+    rows: &Rows,
+    message: &Message<'_>,
+    moment: u64,
+) -> Result<Explanation<'a>, AllocError>
+    requires { moment < 2 ^ 40 }
+    ensures { IfOk result (Explains config.now rows.now.rows message.now moment) }
+{
+    let Trace { outcomes, names } = trace(alloc, config.classes(), message)?;
+    let client = identity(alloc, message)?;
+    let subnet = subnet_of(config, &names, &message.header());
+    let reservation = reservation_in(message, subnet);
+    let ranks = match &client {
+        Some(client) => found_in(
+            &Question {
+                config,
+                rows,
+                names: &names,
+                message,
+                client: client.as_slice(),
+                moment,
+            },
+            subnet,
+        ),
+        None => None,
+    };
+    let decision = decide(alloc, config, rows, message, &names, moment)?;
+    Ok(Explanation {
+        client,
+        outcomes,
+        names,
+        subnet,
+        reservation,
+        ranks,
+        decision,
+    })
+}
+
+// The reservation for the client of a message in a subnet, if there is one.
+fn reservation_in<'a>(message: &Message<'_>, subnet: Option<&'a Subnet>) -> Option<&'a Reservation>
+    ensures { IsReservedIn message.now (option_copied subnet.entry) (option_copied result) }
+{
+    match subnet {
+        Some(subnet) => reservation_of(message, subnet),
+        None => None,
+    }
+}
+
+// The first address of each rank in a subnet, if there is one.
+fn found_in(question: &Question<'_>, subnet: Option<&Subnet>) -> Option<Ranks>
+    ensures { AreFoundIn (asking question.now) (option_copied subnet.entry) result }
+{
+    match subnet {
+        Some(subnet) => Some(ranks_of(question, subnet)),
+        None => None,
+    }
+}

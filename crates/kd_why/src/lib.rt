@@ -1,0 +1,21 @@
+//! Why a client gets what it gets: what a server would do with one datagram, part by part.
+//!
+//! What this layer promises to the one above: the parts of an explanation are those of the rules
+//! (`specs/Explaining.antt`): the value of each class test and its steps, the subnet, the
+//! reservation, the first address of each rank, and the decision; `specs/Checks.antt` says what is
+//! checked of the address that the message is about, and `specs/Origins.antt` where each option
+//! comes from. The last line of the text is the line that a replay would write.
+#![tactic(auto)]
+
+mod checks;
+mod classes;
+mod explaining;
+mod origins;
+mod text;
+mod why;
+
+pub use checks::{Checks, checks_of, subject_of};
+pub use classes::{Trace, trace};
+pub use explaining::{Explanation, explain};
+pub use origins::{Origin, origin_of};
+pub use why::why_text;

@@ -1,0 +1,103 @@
+ghost use Rattle.std.specs.Prelude.{◌≡◌, ℕ, ◌<◌, ◌∷◌, [], MatchOption, false, true};
+ghost use Rattle.kd_lease.specs.Given.{class_options, options_of_pool};
+ghost use Rattle.kd_why.specs.Origins.{IsOrigin, class_has, has_code};
+
+use kd_classes::{ClassDef, Classes, OptionData};
+use kd_config::{Config, Subnet};
+use kd_machine::Held;
+
+/// Where a configured option comes from (Kea Administrator Reference Manual, chapters DHCPv4 Server
+/// Configuration and Client Classification).
+#[derive(Clone, Copy, PartialEq, Eq)]
+pub enum Origin {
+    /// The pool that has the address.
+    Pool,
+    /// The subnet.
+    Subnet,
+    /// The class at an index of the configuration, of which the client is a member.
+    Class(usize),
+    /// The options of all replies.
+    Global,
+    /// The prefix of the subnet, which gives option 1.
+    Mask,
+}
+
+/// Where the option with a code comes from at an address, in host order, of a subnet, for a member of
+/// the classes with these names: the strongest of pool, subnet, classes in order, all replies and
+/// mask that has the code; nothing where none has it.
+pub fn origin_of(
+    config: &Config,
+    subnet: &Subnet,
+    names: &Held,
+    address: u32,
+    code: u8,
+) -> Option<Origin>
+    ensures { IsOrigin config.now subnet.now names.now address code result }
+{
+    if pool_lists(subnet, address, code) {
+        return Some(Origin::Pool);
+    }
+    if lists(subnet.options.as_slice(), code) {
+        return Some(Origin::Subnet);
+    }
+    if let Some(index) = class_with(config.classes(), names, code) {
+        return Some(Origin::Class(index));
+    }
+    if lists(config.options(), code) {
+        return Some(Origin::Global);
+    }
+    if code == 1 {
+        Some(Origin::Mask)
+    } else {
+        None
+    }
+}
+
+// The first pool that has the address lists the code.
+fn pool_lists(subnet: &Subnet, address: u32, code: u8) -> bool
+    ensures { result ≡ has_code code (options_of_pool subnet.now.pools address) }
+{
+    match subnet
+        .pools
+        .as_slice()
+        .iter()
+        .find(|pool| pool.range.contains(address))
+    {
+        Some(pool) => lists(pool.options.as_slice(), code),
+        None => false,
+    }
+}
+
+// The index of the first class with the code of which the client is a member.
+fn class_with(classes: &Classes, names: &Held, code: u8) -> Option<usize>
+    ensures { MatchOption result
+        ((j : ℕ) → class_has classes.now names.now code j ≡ false)
+        (λ i. (class_has classes.now names.now code i ≡ true)
+        × ((j : ℕ) → j < i → class_has classes.now names.now code j ≡ false)) }
+{
+    for i in 0..classes.len() {
+        match classes.def_at(i) {
+            Some(class) => {
+                if gives(class, names, code) {
+                    return Some(i);
+                }
+            }
+            None => unreachable!(),
+        }
+    }
+    None
+}
+
+// The client is a member of the class, which lists the code.
+fn gives(class: &ClassDef, names: &Held, code: u8) -> bool
+    ensures { result ≡ has_code code (class_options (class.now ∷ []) names.now) }
+{
+    names.contains(class.name.as_slice()) && lists(class.options.as_slice(), code)
+}
+
+// Options list a code.
+fn lists(options: &[OptionData], code: u8) -> bool
+    ensures { result ≡ has_code code options.now }
+{
+    options.iter().any(|option| option.code == code)
+}
