@@ -17,6 +17,7 @@ use Rattle.kd_keeps.specs.declared.keeps.Keeps.{Ghosts}
 use Rattle.kd_program.specs.Running.{Carries, CarriesOut, HasConfiguration, Starts, WorksOver}
 use Rattle.kd_program.specs.Streams.{Streams, Tells}
 use Rattle.kd_program.specs.declared.host.Host.{Ghosts as Hosts}
+use Rattle.kd_program.specs.declared.listing.View.TheVariants as views
 use Rattle.kd_program.specs.declared.serving.Files.{Files}
 use Rattle.kd_program.specs.declared.serving.Work.{Work}
 use Rattle.kd_program.specs.declared.serving.Work.TheVariants as works
@@ -81,7 +82,11 @@ module _ {D H U L R : Type 0} (d : Disks D) (h : Hosts H (Kept (FileStore D d)) 
   ordered : Says → (files : Files) (work : Work) (path : List ℕ) (before after : H) (status : ℕ) (old new : Streams) → option_map string_bytes files.store ≡ Some path
       → CarriesOut h k unnamed l r (order_of files work) before after status old new → ServesFiles d h k l r image files work status old new (left_of after) ⊎ Told status old new
   ordered says files works.Replay path before after status old new named c = started says files works.Replay path before after status old new named c
-  ordered says files (works.List listing at) path before after status old new named c = started says files (works.List listing at) path before after status old new named c
+  ordered says files (works.Explain number) path before after status old new named c = started says files (works.Explain number) path before after status old new named c
+  ordered says files (works.Show (views.Listing listing) at) path before after status old new named c =
+      started says files (works.Show (views.Listing listing) at) path before after status old new named c
+  ordered says files (works.Show (views.Why word) at) path before after status old new named c =
+      started says files (works.Show (views.Why word) at) path before after status old new named c
   ordered says files (works.Serve listening count journal max_ahead) path before after status old new named c =
       started says files (works.Serve listening count journal max_ahead) path before after status old new named c
 

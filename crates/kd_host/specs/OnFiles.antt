@@ -1,5 +1,5 @@
 -- What the words of a command line do over a machine whose files held these bytes.
-use Rattle.std.specs.Prelude.{◌≡◌, ◌⊎◌, ℕ, Err, IfOk, List, Ok, Option, None, Result, Some, is_some, option_map, string_bytes}
+use Rattle.std.specs.Prelude.{◌≡◌, ◌⊎◌, ℕ, Err, IfOk, List, Ok, Option, None, Result, Some, false, is_some, option_map, string_bytes}
 use Rattle.sqlite_disk.specs.declared.Disk.{Ghosts as Disks}
 use Rattle.sqlite_store.specs.FileStore.{view}
 use Rattle.sqlite_store.specs.declared.store.FileStore.{FileStore}
@@ -20,6 +20,7 @@ use Rattle.kd_keeps.specs.declared.keeps.Keeps.{Ghosts}
 use Rattle.kd_program.specs.Running.{Serves}
 use Rattle.kd_program.specs.Streams.{Stream, Streams, Tells, TellsWith}
 use Rattle.kd_program.specs.declared.host.Host.{Ghosts as Hosts}
+use Rattle.kd_program.specs.declared.listing.View.TheVariants as views
 use Rattle.kd_program.specs.declared.serving.Files.{Files}
 use Rattle.kd_program.specs.declared.serving.Work.{Work}
 use Rattle.kd_program.specs.declared.serving.Work.TheVariants as works
@@ -47,9 +48,13 @@ AreRowsFound rows = (log db : List ℕ) × AreRowsIn (bytes_image log db) rows
 
 -- the order for a work over files
 abbrev pub order_of : Files → Work → Order
-order_of files works.Replay = orders.Replay files.config files.token_dir files.store
-order_of files (works.List listing at) =
+order_of files works.Replay = orders.Replay files.config files.token_dir files.store None
+order_of files (works.Explain number) =
+    orders.Replay files.config files.token_dir files.store (Some number)
+order_of files (works.Show (views.Listing listing) at) =
     orders.List listing files.config files.token_dir files.store at
+order_of files (works.Show (views.Why word) at) =
+    orders.Why files.config files.token_dir files.store false at word
 order_of files (works.Serve listening count journal max_ahead) =
     orders.Serve files.config files.token_dir files.store listening count journal max_ahead
 

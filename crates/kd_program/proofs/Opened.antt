@@ -23,7 +23,8 @@ module _ {H N U L R S : Type 0} (h : Hosts H N U L R) (l : Links L) (r : Sinks R
 
   works_calls : (work : Work) (before after : H) (server left : Keeping S) (status : ℕ) (old new : Streams) → Works h l r g work before after server left status old new → AreCalls g server left
   works_calls works.Replay before after server left status old new w = reaching server left w.1.reached
-  works_calls (works.List listing at) before after server left status old new w = same_calls server left w.1.0
+  works_calls (works.Explain number) before after server left status old new w = same_calls server left w.1.0
+  works_calls (works.Show view at) before after server left status old new w = same_calls server left w.1.0
   works_calls (works.Serve listening count journal max_ahead) before after server left status old new w = ⊎_elim
       (λ b. receives_calls max_ahead count b.link b.rest b.journal b.recorded server left status _ new b.receives)
       (λ n. same_calls server left n.0)

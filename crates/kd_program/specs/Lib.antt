@@ -1,4 +1,5 @@
 pub mod Checking
+pub mod Explaining
 pub mod Importing
 pub mod Listing
 pub mod Openings

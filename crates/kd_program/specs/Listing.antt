@@ -1,12 +1,17 @@
--- What is printed of a table of leases at a moment: its leases, or how full the pools are.
-use Rattle.std.specs.Prelude.{ℕ, ◌⊎◌, Bool, List, max}
+-- What is printed of a table of leases at a moment: its leases, how full the pools are, or what a
+-- datagram gets, and why.
+use Rattle.std.specs.Prelude.{ℕ, ◌⊎◌, Bool, List, max, string_bytes}
 use Rattle.std.specs.List.{flat_map}
 use Rattle.kd_commands.specs.declared.orders.Listing.{Listing}
 use Rattle.kd_commands.specs.declared.orders.Listing.TheVariants as listings
+use Rattle.hex.specs.Hex.{decode_of}
 use Rattle.kd_config.specs.Configuration.{Configuration}
 use Rattle.kd_pools.specs.Printed.{lines_text, metrics_text}
 use Rattle.kd_pools.specs.Uses.{subnet_uses}
+use Rattle.kd_program.specs.Explaining.{ShowsWhyOf}
 use Rattle.kd_program.specs.Streams.{ShowsOrBreaks, Streams, Tells}
+use Rattle.kd_program.specs.declared.listing.View.{View}
+use Rattle.kd_program.specs.declared.listing.View.TheVariants as views
 use Rattle.kd_replay.specs.Faults.{serve_fault_number}
 use Rattle.kd_replay.specs.declared.fault.ServeFault.{ServeFault}
 use Rattle.kd_rows.specs.Table.{latest_of}
@@ -29,3 +34,10 @@ ShowsListing listing failed config rows at status old new =
     new.faults
     ⊎ ((fault : ServeFault) × IsNoList failed at fault × Tells (serve_fault_number fault) status old
     new)
+
+-- a view of rows is shown: a listing of them, or the explanation of the datagram of a word
+abbrev pub ShowsView : View → Bool → Configuration → List Row → ℕ → ℕ → Streams → Streams → Type 0
+ShowsView (views.Listing listing) failed config rows at status old new =
+    ShowsListing listing failed config rows at status old new
+ShowsView (views.Why word) failed config rows at status old new =
+    ShowsWhyOf (decode_of (string_bytes word)) failed config rows at status old new

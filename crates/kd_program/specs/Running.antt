@@ -1,5 +1,5 @@
 -- What the words of a command line do: what is written, and the exit status.
-use Rattle.std.specs.Prelude.{◌≡◌, ◌⊎◌, ℕ, false, true, IfOk, List, Option, Some, None, Result, Ok, Err, is_some, option_map, string_bytes, vec_items}
+use Rattle.std.specs.Prelude.{◌≡◌, ◌⊎◌, ℕ, Bool, false, true, IfOk, List, Option, Some, None, Result, Ok, Err, is_some, option_map, string_bytes, vec_items}
 use Rattle.std.specs.Result.{IsErrOf}
 use Rattle.kd_tools.specs.Printed.{Answers}
 use Rattle.kd_tools.specs.Status.{replay_status_of, serve_status_of}
@@ -16,7 +16,6 @@ use Rattle.kd_keeps.specs.declared.keeps.Keeps.{Ghosts}
 use Rattle.kd_commands.specs.Order.{AsksFor, HasFault, line_fault_number}
 use Rattle.kd_commands.specs.declared.fault.LineFault.{LineFault}
 use Rattle.kd_commands.specs.declared.orders.Listening.{Listening}
-use Rattle.kd_commands.specs.declared.orders.Listing.{Listing}
 use Rattle.kd_commands.specs.declared.orders.Order.{Order}
 use Rattle.kd_commands.specs.declared.orders.Order.TheVariants as orders
 use Rattle.kd_replay.specs.Faults.{loop_fault_number, replay_fault_number, serve_fault_number}
@@ -36,10 +35,13 @@ use Rattle.kd_server.specs.Keeping.{IsUnopened, Keeping, Opens, Refuses, Steps, 
 use Rattle.kd_events.specs.declared.filter.Filter.{Filter}
 use Rattle.kd_program.specs.Checking.{ChecksStart}
 use Rattle.kd_program.specs.Importing.{ImportsInto}
-use Rattle.kd_program.specs.Listing.{ShowsListing}
+use Rattle.kd_program.specs.Explaining.{ExplainsLine, standard_trial}
+use Rattle.kd_program.specs.Listing.{ShowsView}
 use Rattle.kd_program.specs.Printing.{PrintsEvents}
 use Rattle.kd_program.specs.Streams.{Prints, Puts, ShowsOrBreaks, Starves, Stream, Streams, Tells, TellsWith}
 use Rattle.kd_program.specs.declared.host.Host.{Ghosts as Hosts}
+use Rattle.kd_program.specs.declared.listing.View.{View}
+use Rattle.kd_program.specs.declared.listing.View.TheVariants as views
 use Rattle.kd_program.specs.declared.serving.Files.{Files}
 use Rattle.kd_rows.specs.declared.row.Row.{Row}
 use Rattle.kd_program.specs.declared.serving.Work.{Work}
@@ -185,9 +187,12 @@ module _ {H N U L R S : Type 0} (h : Hosts H N U L R) (l : Links L) (r : Sinks R
   abbrev pub Works : Work → H → H → Keeping S → Keeping S → ℕ → Streams → Streams → Type 0
   Works works.Replay before after server left status old new =
       (after ≡ before) × ReplaysInput g server left status old new
-  Works (works.List listing at) before after server left status old new =
+  Works (works.Explain number) before after server left status old new =
       (after ≡ before) × ((left ≡ server)
-      × ShowsListing listing (is_some (g.fault server.store)) server.config server.rows at status old new)
+      × ExplainsLine (standard_trial server.config server.rows) number status old new)
+  Works (works.Show view at) before after server left status old new =
+      (after ≡ before) × ((left ≡ server)
+      × ShowsView view (is_some (g.fault server.store)) server.config server.rows at status old new)
   Works (works.Serve listening count journal max_ahead) before after server left status old new =
       Listens listening (option_map string_bytes journal) max_ahead count before after server left
       status old new
@@ -291,13 +296,13 @@ module _ {H N U L R : Type 0} (h : Hosts H N U L R) (named : Ghosts N) (unnamed 
       HasConfiguration files work before after status old new
       ⊎ HasNoConfiguration files before after status old new
 
-  -- the host gives the rows of the database at a path, and a listing of them is shown; memory may
-  -- run out for it
-  pub record ListsCopy (path : List ℕ) (listing : Listing) (config : Configuration) (at : ℕ)
+  -- the host gives the rows of the database at a path, and a view of them is shown; memory may run
+  -- out for it
+  pub record ShowsCopy (path : List ℕ) (view : View) (config : Configuration) (at : ℕ)
       (before after : H) (status : ℕ) (old new : Streams) : Type 0 where
     pub rows : List Row
     pub given : h.copies before path (Ok rows) after
-    pub lists : ShowsListing listing false config rows at status old new ⊎ Starves status old new
+    pub shows : ShowsView view false config rows at status old new ⊎ Starves status old new
 
   -- the host gives no rows of a database at a path, which is told
   pub record HasNoCopy (path : List ℕ) (before after : H) (status : ℕ)
@@ -307,19 +312,19 @@ module _ {H N U L R : Type 0} (h : Hosts H N U L R) (named : Ghosts N) (unnamed 
     pub told : Tells (look_fault_number fault) status old new
 
   -- the host gives the configuration of these files, and a database at a path is looked at
-  pub record LooksUnder (files : Files) (path : List ℕ) (listing : Listing) (at : ℕ)
+  pub record LooksUnder (files : Files) (path : List ℕ) (view : View) (at : ℕ)
       (before after : H) (status : ℕ) (old new : Streams) : Type 0 where
     pub config : Configuration
     pub asked : H
     pub given : h.configures before (option_map string_bytes files.config)
         (option_map string_bytes files.token_dir) (Ok config) asked
-    pub looks : ListsCopy path listing config at asked after status old new
+    pub looks : ShowsCopy path view config at asked after status old new
         ⊎ HasNoCopy path asked after status old new
 
   -- a look at the database at a path, which another process may have open
-  abbrev pub Looks : Files → List ℕ → Listing → ℕ → H → H → ℕ → Streams → Streams → Type 0
-  Looks files path listing at before after status old new =
-      LooksUnder files path listing at before after status old new
+  abbrev pub Looks : Files → List ℕ → View → ℕ → H → H → ℕ → Streams → Streams → Type 0
+  Looks files path view at before after status old new =
+      LooksUnder files path view at before after status old new
       ⊎ HasNoConfiguration files before after status old new
 
   -- the lines on standard input are imported into the store that the host opens at a path, and the
@@ -346,17 +351,36 @@ module _ {H N U L R : Type 0} (h : Hosts H N U L R) (named : Ghosts N) (unnamed 
       ((printed : Printed) × Answers order printed × Prints printed status old new)
       ⊎ Starves status old new
 
+  -- what a replay is opened for: to handle the events of standard input, or to explain that of a line
+  abbrev pub replay_work : Option ℕ → Work
+  replay_work None = works.Replay
+  replay_work (Some number) = works.Explain number
+
+  -- a view of the store with a path, if there is one: a look where another process may have it open
+  abbrev pub ViewsStore : Bool → Option (List ℕ) → Files → View → ℕ → H → H → ℕ → Streams → Streams
+      → Type 0
+  ViewsStore true (Some path) files view at before after status old new =
+      Looks files path view at before after status old new
+  ViewsStore true None files view at before after status old new =
+      Starts files (works.Show view at) before after status old new
+  ViewsStore false path files view at before after status old new =
+      Starts files (works.Show view at) before after status old new
+
   -- what an order does
   abbrev pub CarriesOut : Order → H → H → ℕ → Streams → Streams → Type 0
-  CarriesOut (orders.Replay config token_dir store) before after status old new =
-      Starts (record { config = config; token_dir = token_dir; store = store }) works.Replay before
-      after status old new
+  CarriesOut (orders.Replay config token_dir store why) before after status old new =
+      Starts (record { config = config; token_dir = token_dir; store = store }) (replay_work why)
+      before after status old new
   CarriesOut (orders.List listing config token_dir store at) before after status old new =
       Starts (record { config = config; token_dir = token_dir; store = store })
-      (works.List listing at) before after status old new
+      (works.Show (views.Listing listing) at) before after status old new
   CarriesOut (orders.Look listing config token_dir store at) before after status old new =
       Looks (record { config = config; token_dir = token_dir; store = None }) (string_bytes store)
-      listing at before after status old new
+      (views.Listing listing) at before after status old new
+  CarriesOut (orders.Why config token_dir store live at word) before after status old new =
+      ViewsStore live (option_map string_bytes store)
+      (record { config = config; token_dir = token_dir; store = store }) (views.Why word) at before
+      after status old new
   CarriesOut (orders.Import store) before after status old new =
       Imports (string_bytes store) before after status old new
   CarriesOut (orders.Serve config token_dir store listening count journal max_ahead) before after

@@ -8,6 +8,7 @@
 mod banner;
 mod checking;
 mod ends;
+mod explaining;
 mod host;
 mod importing;
 pub mod laws;

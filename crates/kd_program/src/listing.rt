@@ -1,11 +1,12 @@
 ghost use Rattle.std.specs.Prelude.{◌≡◌, ◌<◌, ◌^◌, IfErr, IfOk, false, max, string_bytes};
-ghost use Rattle.kd_program.specs.Listing.{ShowsListing, listing_text};
+ghost use Rattle.kd_program.specs.Listing.{ShowsListing, ShowsView, listing_text};
 ghost use Rattle.kd_program.specs.Streams.{streams};
 ghost use Rattle.kd_pools.specs.Uses.{subnet_uses};
 ghost use Rattle.kd_rows.specs.Table.{latest_of};
 ghost use Rattle.kd_server.specs.Leases.{IsNoList};
 
 use crate::ends::Ends;
+use crate::explaining::explain_word;
 use crate::printing::{refuse, show};
 use kd_commands::Listing;
 use kd_config::Config;
@@ -29,8 +30,35 @@ pub struct Table<'a> {
     pub failed: bool,
 }
 
-/// Prints what a listing says of a table at a moment, and says the exit status.
-pub fn list<R: Source, O: Sink, E: Sink>(
+/// What is printed of a table of leases at a moment.
+#[derive(Drop)]
+pub enum View {
+    /// A listing of it.
+    Listing(Listing),
+    /// What the datagram of this word gets, and why.
+    Why(String),
+}
+
+/// Prints a view of a table at a moment, and says the exit status.
+pub fn print_view<R: Source, O: Sink, E: Sink>(
+    alloc: Global,
+    ends: &mut Ends<R, O, E>,
+    view: &View,
+    table: &Table<'_>,
+    at: u64,
+) -> u8
+    ensures { ShowsView view.now table.now.failed table.now.config.now table.now.rows.now.rows at
+        result
+        (streams R.Source O.Sink E.Sink ends.old) (streams R.Source O.Sink E.Sink ends.new) }
+{
+    match view {
+        View::Listing(listing) => list(alloc, ends, *listing, table, at),
+        View::Why(word) => explain_word(alloc, ends, word.as_str(), table, at),
+    }
+}
+
+// Prints what a listing says of a table at a moment, and says the exit status.
+fn list<R: Source, O: Sink, E: Sink>(
     alloc: Global,
     ends: &mut Ends<R, O, E>,
     listing: Listing,

@@ -1,23 +1,22 @@
 ghost use Rattle.std.specs.Prelude.{◌⊎◌, false};
 ghost use Rattle.std.specs.List.{All};
-ghost use Rattle.kd_program.specs.Listing.{ShowsListing};
-ghost use Rattle.kd_program.specs.Running.{HasNoCopy, ListsCopy, Looks};
+ghost use Rattle.kd_program.specs.Listing.{ShowsView};
+ghost use Rattle.kd_program.specs.Running.{HasNoCopy, ShowsCopy, Looks};
 ghost use Rattle.kd_program.specs.Streams.{Starves, streams};
 ghost use Rattle.kd_rows.specs.Row.{IsInRange};
 ghost use Rattle.kd_rows.specs.Table.{Rise};
 
 use crate::ends::Ends;
 use crate::host::Host;
-use crate::listing::{Table, list};
+use crate::listing::{Table, View, print_view};
 use crate::printing::{refuse, refuse_memory};
 use crate::serving::{Files, configured, refuse_start};
-use kd_commands::Listing;
 use kd_config::Config;
 use kd_replay::{Sink, Source};
 use kd_rows::{Row, Rows};
 use std::alloc::Global;
 
-/// Prints a listing of the database at a path, which another process may have open, under the
+/// Prints a view of the database at a path, which another process may have open, under the
 /// configuration of these files, and says the exit status.
 pub fn look<H: Host, R: Source, O: Sink, E: Sink>(
     alloc: Global,
@@ -25,15 +24,15 @@ pub fn look<H: Host, R: Source, O: Sink, E: Sink>(
     ends: &mut Ends<R, O, E>,
     files: &Files,
     path: &str,
-    listing: Listing,
+    view: &View,
     at: u64,
 ) -> u8
     ensures { Looks H.Host H.Named.Keeps H.Unnamed.Keeps H.Socket.Link H.Journal.Sink
-        files.now path.now listing at host.old host.new result
+        files.now path.now view.now at host.old host.new result
         (streams R.Source O.Sink E.Sink ends.old) (streams R.Source O.Sink E.Sink ends.new) }
 {
     match configured(host, files) {
-        Ok(config) => look_at(alloc, host, ends, &config, path, listing, at),
+        Ok(config) => look_at(alloc, host, ends, &config, path, view, at),
         Err(fault) => refuse_start(alloc, &mut ends.faults, &fault),
     }
 }
@@ -45,34 +44,34 @@ fn look_at<H: Host, R: Source, O: Sink, E: Sink>(
     ends: &mut Ends<R, O, E>,
     config: &Config,
     path: &str,
-    listing: Listing,
+    view: &View,
     at: u64,
 ) -> u8
-    ensures { ListsCopy H.Host H.Named.Keeps H.Unnamed.Keeps H.Socket.Link H.Journal.Sink
-        path.now listing config.now at host.old host.new result
+    ensures { ShowsCopy H.Host H.Named.Keeps H.Unnamed.Keeps H.Socket.Link H.Journal.Sink
+        path.now view.now config.now at host.old host.new result
         (streams R.Source O.Sink E.Sink ends.old) (streams R.Source O.Sink E.Sink ends.new)
         ⊎ HasNoCopy H.Host H.Named.Keeps H.Unnamed.Keeps H.Socket.Link H.Journal.Sink
         path.now host.old host.new result
         (streams R.Source O.Sink E.Sink ends.old) (streams R.Source O.Sink E.Sink ends.new) }
 {
     match host.copy(path) {
-        Ok(rows) => list_rows(alloc, ends, config, rows, listing, at),
+        Ok(rows) => list_rows(alloc, ends, config, rows, view, at),
         Err(fault) => refuse(alloc, &mut ends.faults, fault.number(), &fault),
     }
 }
 
-// Prints a listing of rows.
+// Prints a view of rows.
 fn list_rows<R: Source, O: Sink, E: Sink>(
     alloc: Global,
     ends: &mut Ends<R, O, E>,
     config: &Config,
     rows: Vec<Row>,
-    listing: Listing,
+    view: &View,
     at: u64,
 ) -> u8
     requires rise { Rise rows.items }
     requires ranges { All IsInRange rows.items }
-    ensures { ShowsListing listing false config.now rows.items at result
+    ensures { ShowsView view.now false config.now rows.items at result
         (streams R.Source O.Sink E.Sink ends.old) (streams R.Source O.Sink E.Sink ends.new)
         ⊎ Starves result
         (streams R.Source O.Sink E.Sink ends.old) (streams R.Source O.Sink E.Sink ends.new) }
@@ -84,7 +83,7 @@ fn list_rows<R: Source, O: Sink, E: Sink>(
                 rows: &rows,
                 failed: false,
             };
-            list(alloc, ends, listing, &table, at)
+            print_view(alloc, ends, view, &table, at)
         }
         Err(_) => refuse_memory(&mut ends.faults),
     }

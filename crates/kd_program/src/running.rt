@@ -1,11 +1,12 @@
-ghost use Rattle.std.specs.Prelude.{◌≡◌, false, map, string_bytes};
+ghost use Rattle.std.specs.Prelude.{◌≡◌, false, map, option_map, string_bytes};
 ghost use Rattle.kd_program.specs.Streams.{streams};
-ghost use Rattle.kd_program.specs.Running.{Carries, CarriesOut};
+ghost use Rattle.kd_program.specs.Running.{Carries, CarriesOut, ViewsStore, replay_work};
 
 use crate::checking::{Place, check};
 use crate::ends::Ends;
 use crate::host::Host;
 use crate::importing::import;
+use crate::listing::View;
 use crate::log::{filter_of, print_events};
 use crate::looking::look;
 use crate::printing::{print, refuse_memory, refuse_words, show};
@@ -54,6 +55,7 @@ fn carried_out<H: Host, R: Source, O: Sink, E: Sink>(
             config,
             token_dir,
             store,
+            why,
         } => served(
             alloc,
             host,
@@ -63,7 +65,7 @@ fn carried_out<H: Host, R: Source, O: Sink, E: Sink>(
                 token_dir,
                 store,
             },
-            &Work::Replay,
+            &replaying(why),
         ),
         Order::List {
             listing,
@@ -80,7 +82,7 @@ fn carried_out<H: Host, R: Source, O: Sink, E: Sink>(
                 token_dir,
                 store,
             },
-            &Work::List(listing, at),
+            &Work::Show(View::Listing(listing), at),
         ),
         Order::Look {
             listing,
@@ -94,7 +96,23 @@ fn carried_out<H: Host, R: Source, O: Sink, E: Sink>(
                 token_dir,
                 store: None,
             };
-            look(alloc, host, ends, &files, store.as_str(), listing, at)
+            let view = View::Listing(listing);
+            look(alloc, host, ends, &files, store.as_str(), &view, at)
+        }
+        Order::Why {
+            config,
+            token_dir,
+            store,
+            live,
+            at,
+            hex,
+        } => {
+            let files = Files {
+                config,
+                token_dir,
+                store,
+            };
+            explained(alloc, host, ends, &files, live, View::Why(hex), at)
         }
         Order::Import { store } => import(alloc, host, ends, store.as_str()),
         Order::Serve {
@@ -143,5 +161,37 @@ fn carried_out<H: Host, R: Source, O: Sink, E: Sink>(
             Ok(printed) => print(ends, &printed),
             Err(_) => refuse_memory(&mut ends.faults),
         },
+    }
+}
+
+// What a replay is opened for: to handle the events of standard input, or to explain that of a line.
+fn replaying(why: Option<u64>) -> Work
+    ensures { result ≡ replay_work why }
+{
+    match why {
+        Some(number) => Work::Explain(number),
+        None => Work::Replay,
+    }
+}
+
+// Prints a view of the store of these files, which another process may have open where `live` is.
+fn explained<H: Host, R: Source, O: Sink, E: Sink>(
+    alloc: Global,
+    host: &mut H,
+    ends: &mut Ends<R, O, E>,
+    files: &Files,
+    live: bool,
+    view: View,
+    at: u64,
+) -> u8
+    requires input { R.has_failed ends.old.input ≡ false }
+    requires output { O.has_failed ends.old.output ≡ false }
+    ensures { ViewsStore H.Host H.Named.Keeps H.Unnamed.Keeps H.Socket.Link H.Journal.Sink
+        live (option_map string_bytes files.now.store) files.now view at host.old host.new result
+        (streams R.Source O.Sink E.Sink ends.old) (streams R.Source O.Sink E.Sink ends.new) }
+{
+    match &files.store {
+        Some(path) if live => look(alloc, host, ends, files, path.as_str(), &view, at),
+        _ => served(alloc, host, ends, files, &Work::Show(view, at)),
     }
 }

@@ -10,10 +10,11 @@ ghost use Rattle.kd_program.specs.Running.{GivesJournal, Listens, Receives, Repl
 
 use crate::banner::{Banner, Sizes, banner_line, pool_addresses};
 use crate::ends::Ends;
+use crate::explaining::explain_line;
 use crate::host::Host;
-use crate::listing::{Table, list};
+use crate::listing::{Table, View, print_view};
 use crate::printing::{refuse, refuse_as, refuse_memory, tell};
-use kd_commands::{Listening, Listing};
+use kd_commands::Listening;
 use kd_config::Config;
 use kd_event::Ports;
 use kd_io::StartFault;
@@ -39,8 +40,10 @@ pub struct Files {
 pub enum Work {
     /// To replay the events of standard input to standard output.
     Replay,
-    /// To print a listing of the leases at a moment, in whole seconds.
-    List(Listing, u64),
+    /// To explain the event of a line of standard input.
+    Explain(u64),
+    /// To print a view of the leases at a moment, in whole seconds.
+    Show(View, u64),
     /// To serve so many datagrams of a socket, to append what comes to the file at a path, where there
     /// is one, and to end where the clock runs ahead by more than so many seconds, where there is such
     /// a limit.
@@ -197,7 +200,8 @@ fn worked<H: Host, R: Source, O: Sink, E: Sink, S: Keeps>(
 {
     match work {
         Work::Replay => replayed(alloc, ends, server),
-        Work::List(listing, at) => list(alloc, ends, *listing, &table_of(server), *at),
+        Work::Explain(number) => explain_line(alloc, ends, &table_of(server), *number),
+        Work::Show(view, at) => print_view(alloc, ends, view, &table_of(server), *at),
         Work::Serve(listening, count, journal, max_ahead) => {
             let banner = Banner {
                 listening: *listening,

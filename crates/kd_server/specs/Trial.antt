@@ -6,6 +6,7 @@ use Rattle.kd_event.specs.declared.event.Handled.{Handled}
 use Rattle.kd_event.specs.declared.ports.Ports.{Ports}
 use Rattle.kd_rows.specs.declared.row.Row.{Row}
 use Rattle.kd_server.specs.Keeping.{StepsTo}
+use Rattle.kd_server.specs.declared.batching.Rules.{Rules}
 
 -- what contracts see of a trial: its ports, the configuration that it goes by, and its rows
 pub record Trying : Type 0 where
@@ -13,7 +14,12 @@ pub record Trying : Type 0 where
   pub config : Configuration
   pub rows : List Row
 
--- a trial with these ports and this configuration, at these rows
+-- a trial by these rules, at these rows
+abbrev pub trying : Rules → List Row → Trying
+trying rules rows =
+    record { ports = rules.ports; config = rules.config.now; rows = rows }
+
+-- the same trial at other rows
 abbrev pub at_rows : Trying → List Row → Trying
 at_rows t rows = record { ports = t.ports; config = t.config; rows = rows }
 

@@ -21,12 +21,15 @@ use kd_replay::{Arrived, ServeFault};
 use kd_rows::{Row, Rows};
 use std::alloc::{AllocError, Global};
 
-// What a batch works with: the memory, and what a server goes by.
+/// What a server works with: the memory, and what it goes by.
 #[derive(Clone, Copy)]
-pub(crate) struct Rules<'a> {
-    pub(crate) alloc: Global,
-    pub(crate) ports: Ports,
-    pub(crate) config: &'a Config,
+pub struct Rules<'a> {
+    /// Where memory is taken from.
+    pub alloc: Global,
+    /// The ports to which replies go.
+    pub ports: Ports,
+    /// The configuration.
+    pub config: &'a Config,
 }
 
 // Handles events one after another, up to the first fault: their rows are set, and those to be

@@ -16,6 +16,7 @@ mod serving;
 mod trial;
 mod turning;
 
+pub use batching::Rules;
 pub use leases::{Lease, lease_lines, leases_at};
 pub use replaying::replay;
 pub use server::Server;

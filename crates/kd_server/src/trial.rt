@@ -1,53 +1,51 @@
 ghost use Rattle.std.specs.Prelude.{◌≡◌, IfErr, IfOk};
 ghost use Rattle.kd_replay.specs.Text.{IsSmall};
 ghost use Rattle.kd_server.specs.Batch.{LeavesOut};
-ghost use Rattle.kd_server.specs.Trial.{TriesStep, WouldAnswer, at_rows};
+ghost use Rattle.kd_server.specs.Trial.{TriesStep, WouldAnswer, at_rows, trying};
 
 use crate::batching::{Rules, handle_at};
+use crate::leases::copy_of;
 use crate::server::MOMENTS;
 use crate::turning::{Turn, turn_at};
-use kd_config::Config;
-use kd_event::{Handled, Ports};
+use kd_event::Handled;
 use kd_replay::ServeFault;
 use kd_rows::Rows;
-use std::alloc::Global;
+use std::alloc::{AllocError, Global};
 use std::marker::Model;
 
-/// A server that keeps nothing: what a server of this configuration would do over these rows.
+/// A server that keeps nothing: what a server that goes by these rules would do.
 #[derive(Drop)]
-pub struct Trial {
-    ports: Ports,
-    config: Config,
+pub struct Trial<'a> {
+    rules: Rules<'a>,
     rows: Rows,
-    alloc: Global,
 }
 
-impl Model for Trial {
-    ghost use Rattle.kd_server.specs.Trial.{Trying};
+impl Model for Trial<'_> {
+    ghost use Rattle.kd_server.specs.Trial.{Trying, trying};
 
     ghost Value = { Trying };
 
-    ghost view = { λ t. record { ports = t.ports; config = t.config; rows = t.rows.rows } };
+    ghost view = { λ t. trying t.rules t.rows.rows };
 }
 
-impl Trial {
-    /// A trial with these ports, which goes by this configuration and begins at these rows.
-    pub fn new(alloc: Global, config: Config, rows: Rows, ports: Ports) -> Trial
-        ensures { result ≡ record { ports = ports; config = config; rows = rows.rows } }
+impl<'a> Trial<'a> {
+    /// A trial that begins at a copy of these rows.
+    ///
+    /// # Errors
+    ///
+    /// Out of memory.
+    pub fn over(rules: Rules<'a>, rows: &Rows) -> Result<Trial<'a>, AllocError>
+        ensures { IfOk result (λ t. t ≡ trying rules rows.now.rows) }
     {
-        Trial {
-            ports,
-            config,
-            rows,
-            alloc,
-        }
+        let rows = copied(rules.alloc, rows)?;
+        Ok(Trial { rules, rows })
     }
 
-    /// The configuration that it goes by.
-    pub fn config(&self) -> &Config
-        ensures { result.now ≡ self.now.config }
+    /// The rules that it goes by.
+    pub fn rules(&self) -> Rules<'a>
+        ensures { trying result self.now.rows ≡ self.now }
     {
-        &self.config
+        self.rules
     }
 
     /// The rows of leases, ended ones among them.
@@ -55,28 +53,6 @@ impl Trial {
         ensures { result.now.rows ≡ self.now.rows }
     {
         &self.rows
-    }
-
-    /// What `Server::handle` would answer to a datagram at a moment, in whole seconds. Nothing is
-    /// changed.
-    ///
-    /// # Errors
-    ///
-    /// `MomentTooLarge` where the moment is not below 2^40, and `Memory`.
-    pub fn foresee(&self, moment: u64, bytes: &[u8]) -> Result<Handled, ServeFault>
-        ensures answer { IfOk result (WouldAnswer self.now
-            (record { moment = moment; bytes = bytes.now })) }
-        ensures small { IfOk result (λ handled. IsSmall handled.response) }
-        ensures failed { IfErr result (λ fault. LeavesOut self.now.rows
-            (record { moment = moment; bytes = bytes.now }) fault self.now.rows) }
-    {
-        if moment >= MOMENTS {
-            return Err(ServeFault::MomentTooLarge);
-        }
-        let now = moment.max(self.rows.latest());
-        let turn = turn_at(self.alloc, self.ports, &self.config, &self.rows, now, bytes)?;
-        let Turn { response, .. } = turn;
-        Ok(Handled { now, response })
     }
 
     /// What `Server::handle` would answer to a datagram at a moment, in whole seconds; the row that
@@ -93,12 +69,45 @@ impl Trial {
             (record { moment = moment; bytes = bytes.now }) fault self.new.rows) }
         ensures same { self.new ≡ at_rows self.old self.new.rows }
     {
-        let mut set = Vec::new(self.alloc);
-        let rules = Rules {
-            alloc: self.alloc,
-            ports: self.ports,
-            config: &self.config,
-        };
-        handle_at(rules, &mut self.rows, &mut set, moment, bytes)
+        let mut set = Vec::new(self.rules.alloc);
+        handle_at(self.rules, &mut self.rows, &mut set, moment, bytes)
     }
+}
+
+impl Rules<'_> {
+    /// What `Server::handle` would answer to a datagram at a moment, in whole seconds, over rows.
+    /// Nothing is changed.
+    ///
+    /// # Errors
+    ///
+    /// `MomentTooLarge` where the moment is not below 2^40, and `Memory`.
+    pub fn foresee(&self, rows: &Rows, moment: u64, bytes: &[u8]) -> Result<Handled, ServeFault>
+        ensures answer { IfOk result (WouldAnswer (trying self.now rows.now.rows)
+            (record { moment = moment; bytes = bytes.now })) }
+        ensures small { IfOk result (λ handled. IsSmall handled.response) }
+        ensures failed { IfErr result (λ fault. LeavesOut rows.now.rows
+            (record { moment = moment; bytes = bytes.now }) fault rows.now.rows) }
+    {
+        if moment >= MOMENTS {
+            return Err(ServeFault::MomentTooLarge);
+        }
+        let now = moment.max(rows.latest());
+        let turn = turn_at(self.alloc, self.ports, self.config, rows, now, bytes)?;
+        let Turn { response, .. } = turn;
+        Ok(Handled { now, response })
+    }
+}
+
+// A copy of rows.
+fn copied(alloc: Global, rows: &Rows) -> Result<Rows, AllocError>
+    ensures { IfOk result (λ copy. copy.rows ≡ rows.now.rows) }
+{
+    let mut list = Vec::with_capacity(alloc, rows.len())?;
+    for i in 0..rows.len() {
+        match rows.at(i) {
+            Some(row) => list.push(copy_of(alloc, row)?)?,
+            None => unreachable!(),
+        }
+    }
+    Rows::new(list)
 }

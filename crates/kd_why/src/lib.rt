@@ -10,6 +10,8 @@
 mod checks;
 mod classes;
 mod explaining;
+mod inquiry;
+mod lines;
 mod origins;
 mod text;
 mod why;
@@ -17,5 +19,6 @@ mod why;
 pub use checks::{Checks, checks_of, subject_of};
 pub use classes::{Trace, trace};
 pub use explaining::{Explanation, explain};
+pub use inquiry::why_line;
 pub use origins::{Origin, origin_of};
 pub use why::why_text;

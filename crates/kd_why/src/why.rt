@@ -1,35 +1,37 @@
-ghost use Rattle.std.specs.Prelude.{◌≡◌, IfErr, IfOk};
-ghost use Rattle.kd_server.specs.Batch.{LeavesOut};
-ghost use Rattle.kd_why.specs.Saying.{EndsInAnswer};
+ghost use Rattle.std.specs.Prelude.{◌≡◌, ◌<◌, ◌^◌, IfErr, IfOk};
+ghost use Rattle.kd_server.specs.Trial.{trying};
+ghost use Rattle.kd_why.specs.Saying.{EndsInAnswer, IsUnsaid};
 
 use crate::explaining::explain;
 use crate::text::{Scene, put_explanation, put_unreadable};
-use kd_event::Handled;
 use kd_options::{Message, ReadFault};
 use kd_replay::{ServeFault, event_line};
-use kd_server::Trial;
-use std::alloc::{AllocError, Global};
+use kd_rows::Rows;
+use kd_server::Rules;
+use std::alloc::AllocError;
 
-/// Explains a datagram at a moment, in whole seconds, over the rows of a trial, which it does not
-/// change: lines about each part, and last the line that `kd_replay::event_line` writes of what a
-/// server would answer.
+/// Explains a datagram at a moment, in whole seconds, over rows of leases, which it does not change:
+/// lines about each part, and last the line that a replay would write of what a server that goes by
+/// these rules answers.
 ///
 /// # Errors
 ///
 /// `MomentTooLarge` where the moment is not below 2^40, and `Memory`.
 pub fn why_text(
-    alloc: Global,
-    trial: &Trial,
+    rules: Rules<'_>,
+    rows: &Rows,
     moment: u64,
     bytes: &[u8],
 ) -> Result<Vec<u8>, ServeFault>
-    ensures text { IfOk result (λ text. EndsInAnswer trial.now
+    ensures text { IfOk result (λ text. EndsInAnswer (trying rules rows.now.rows)
         (record { moment = moment; bytes = bytes.now }) text.items) }
+    ensures failed { IfErr result (IsUnsaid moment) }
 {
-    let handled = trial.foresee(moment, bytes)?;
+    let alloc = rules.alloc;
+    let handled = rules.foresee(rows, moment, bytes)?;
     let mut out = String::new(alloc);
     match Message::read(alloc, bytes) {
-        Ok(message) => put_message(alloc, &mut out, trial, &message, &handled)?,
+        Ok(message) => put_message(&mut out, rules, rows, &message, handled.now)?,
         Err(ReadFault::Memory) => return Err(ServeFault::Memory),
         Err(fault) => put_unreadable(&mut out, &fault)?,
     }
@@ -39,21 +41,21 @@ pub fn why_text(
     Ok(text)
 }
 
-// The lines about a message.
+// The lines about a message at a moment.
 fn put_message(
-    alloc: Global,
     out: &mut String,
-    trial: &Trial,
+    rules: Rules<'_>,
+    rows: &Rows,
     message: &Message<'_>,
-    handled: &Handled,
+    moment: u64,
 ) -> Result<(), AllocError>
-    requires { handled.now.now < 2 ^ 40 }
+    requires { moment < 2 ^ 40 }
 {
-    let moment = handled.now;
-    let explanation = explain(alloc, trial.config(), trial.rows(), message, moment)?;
+    let Rules { alloc, config, .. } = rules;
+    let explanation = explain(alloc, config, rows, message, moment)?;
     let scene = Scene {
-        config: trial.config(),
-        rows: trial.rows(),
+        config,
+        rows,
         message,
         moment,
         explanation: &explanation,

@@ -1,0 +1,115 @@
+ghost use Rattle.std.specs.Prelude.{◌≡◌, IfErr, IfOk, false};
+ghost use Rattle.hex.specs.Hex.{decode_of};
+ghost use Rattle.kd_program.specs.Explaining.{ExplainsLine, ShowsWhy, ShowsWhyOf, standard_trial};
+ghost use Rattle.kd_program.specs.Streams.{streams};
+ghost use Rattle.kd_server.specs.Leases.{IsNoList};
+ghost use Rattle.kd_why.specs.Saying.{EndsInAnswer};
+
+use crate::ends::Ends;
+use crate::listing::Table;
+use crate::printing::{refuse, refuse_as, refuse_memory, refuse_words, show};
+use hex::FromHexError;
+use kd_commands::LineFault;
+use kd_event::Ports;
+use kd_replay::{ServeFault, Sink, Source};
+use kd_server::Rules;
+use kd_tools::replay_status;
+use kd_why::{why_line, why_text};
+use std::alloc::Global;
+
+/// Explains the datagram of a word at a moment, in whole seconds, over a table of leases, and says the
+/// exit status.
+pub fn explain_word<R: Source, O: Sink, E: Sink>(
+    alloc: Global,
+    ends: &mut Ends<R, O, E>,
+    word: &str,
+    table: &Table<'_>,
+    at: u64,
+) -> u8
+    ensures { ShowsWhyOf (decode_of word.now) table.now.failed table.now.config.now
+        table.now.rows.now.rows at result
+        (streams R.Source O.Sink E.Sink ends.old) (streams R.Source O.Sink E.Sink ends.new) }
+{
+    match hex::decode(alloc, word) {
+        Ok(bytes) => explain_datagram(alloc, ends, bytes.as_slice(), table, at),
+        Err(FromHexError::OutOfMemory) => refuse_memory(&mut ends.faults),
+        Err(_) => refuse_words(alloc, &mut ends.faults, LineFault::CommandLine),
+    }
+}
+
+// Explains a datagram.
+fn explain_datagram<R: Source, O: Sink, E: Sink>(
+    alloc: Global,
+    ends: &mut Ends<R, O, E>,
+    bytes: &[u8],
+    table: &Table<'_>,
+    at: u64,
+) -> u8
+    ensures { ShowsWhy bytes.now table.now.failed table.now.config.now table.now.rows.now.rows at
+        result
+        (streams R.Source O.Sink E.Sink ends.old) (streams R.Source O.Sink E.Sink ends.new) }
+{
+    match text_over(alloc, bytes, table, at) {
+        Ok(text) => show(&mut ends.output, &mut ends.faults, &text, 0),
+        Err(fault) => refuse(alloc, &mut ends.faults, fault.number(), &fault),
+    }
+}
+
+// What is said of a datagram over a table.
+fn text_over(
+    alloc: Global,
+    bytes: &[u8],
+    table: &Table<'_>,
+    at: u64,
+) -> Result<Vec<u8>, ServeFault>
+    ensures text { IfOk result (λ text. EndsInAnswer
+        (standard_trial table.now.config.now table.now.rows.now.rows)
+        (record { moment = at; bytes = bytes.now }) text.items) }
+    ensures fault { IfErr result (IsNoList table.now.failed at) }
+{
+    if table.failed {
+        return Err(ServeFault::Failed);
+    }
+    let rules = Rules {
+        alloc,
+        ports: STANDARD,
+        config: table.config,
+    };
+    why_text(rules, table.rows, at, bytes)
+}
+
+// The ports of DHCP (RFC 2131 section 4.1).
+const STANDARD: Ports = Ports {
+    server: 67,
+    client: 68,
+};
+
+/// Explains the event of a line of standard input over a table of leases, which the events of the
+/// lines before it changed in a copy, and says the exit status.
+pub fn explain_line<R: Source, O: Sink, E: Sink>(
+    alloc: Global,
+    ends: &mut Ends<R, O, E>,
+    table: &Table<'_>,
+    number: u64,
+) -> u8
+    requires input { R.has_failed ends.old.input ≡ false }
+    ensures { ExplainsLine (standard_trial table.now.config.now table.now.rows.now.rows) number
+        result
+        (streams R.Source O.Sink E.Sink ends.old) (streams R.Source O.Sink E.Sink ends.new) }
+{
+    let rules = Rules {
+        alloc,
+        ports: STANDARD,
+        config: table.config,
+    };
+    match why_line(&mut ends.input, rules, table.rows, number) {
+        Ok(text) => show(&mut ends.output, &mut ends.faults, &text, 0),
+        Err(fault) => refuse_as(
+            alloc,
+            &mut ends.faults,
+            fault.number(),
+            &fault,
+            replay_status(fault),
+        ),
+    }
+}

@@ -1,0 +1,118 @@
+ghost use Rattle.std.specs.Prelude.{◌≡◌, ℕ, List, MatchResult, Some, false, true};
+ghost use Rattle.kd_server.specs.Trial.{trying};
+ghost use Rattle.kd_why.specs.Inquiring.{IsExplainedAt, IsNotExplained, IsReached};
+
+use crate::lines::Lines;
+use crate::why::why_text;
+use kd_event::Handled;
+use kd_replay::{ReplayFault, ServeFault, Serves, Source, replay_with};
+use kd_rows::Rows;
+use kd_server::{Rules, Trial};
+use std::marker::Model;
+
+/// Explains the event of a line of an input, over the rows that the events of the lines before it
+/// leave: they are handled by these rules, beginning at these rows, which stay as they are. Lines are
+/// counted from 1.
+///
+/// # Errors
+///
+/// Those of a replay of the lines up to this one, but for `Write`; and `BadLine` with the number where
+/// the input has no such line.
+pub fn why_line<R: Source>(
+    source: &mut R,
+    rules: Rules<'_>,
+    rows: &Rows,
+    number: u64,
+) -> Result<Vec<u8>, ReplayFault>
+    requires source { R.has_failed source.old ≡ false }
+    ensures explained { (input : List ℕ) → R.remaining source.old ≡ Some input
+        → MatchResult result
+        (λ text. IsExplainedAt (trying rules rows.now.rows) input number text.items)
+        (IsNotExplained (R.has_failed source.new ≡ true) (trying rules rows.now.rows) input
+        number) }
+{
+    let Some(left) = number.checked_sub(1) else {
+        return Err(ReplayFault::BadLine(0));
+    };
+    let mut sink = Lines::new(rules.alloc);
+    let mut inquiry = Inquiry {
+        trial: Trial::over(rules, rows)?,
+        left,
+        text: None,
+    };
+    let done = replay_with(rules.alloc, source, &mut sink, &mut inquiry);
+    let Inquiry { text, .. } = inquiry;
+    told(text, done, number)
+}
+
+// What is said at the end: the text, where the line was reached, or the fault.
+fn told(
+    text: Option<Vec<u8>>,
+    done: Result<u64, ReplayFault>,
+    number: u64,
+) -> Result<Vec<u8>, ReplayFault> {
+    match text {
+        Some(text) => Ok(text),
+        None => match done {
+            Ok(_) => Err(ReplayFault::BadLine(number)),
+            Err(ReplayFault::Write) => Err(ReplayFault::Memory),
+            Err(fault) => Err(fault),
+        },
+    }
+}
+
+// A server that handles events, and explains the one behind as many as are left.
+#[derive(Drop)]
+struct Inquiry<'a> {
+    trial: Trial<'a>,
+    left: u64,
+    text: Option<Vec<u8>>,
+}
+
+impl Model for Inquiry<'_> {
+    ghost use Rattle.std.specs.Prelude.{option_map};
+    ghost use Rattle.kd_why.specs.Inquiring.{Inquiring};
+
+    ghost Value = { Inquiring };
+
+    ghost view = { λ i. record {
+      trial = i.trial;
+      left = i.left;
+      text = option_map (λ text. text.items) i.text;
+    } };
+}
+
+impl Inquiry<'_> {
+    // Explains an event, and says the fault that ends the replay there.
+    fn explain(&mut self, moment: u64, bytes: &[u8]) -> ServeFault
+        ensures reached { IsReached self.old (record { moment = moment; bytes = bytes.now }) result
+            self.new }
+    {
+        match why_text(self.trial.rules(), self.trial.rows(), moment, bytes) {
+            Ok(text) => {
+                self.text = Some(text);
+                ServeFault::Failed
+            }
+            Err(fault) => fault,
+        }
+    }
+}
+
+impl Serves for Inquiry<'_> {
+    ghost use Rattle.kd_why.specs.Inquiring.{IsEarlier, IsEnding};
+
+    ghost gives = { IsEarlier };
+
+    ghost fails = { IsEnding };
+
+    fn handle(&mut self, moment: u64, bytes: &[u8]) -> Result<Handled, ServeFault> {
+        match self.left.checked_sub(1) {
+            Some(left) => {
+                let handled = self.trial.handle(moment, bytes)?;
+                self.left = left;
+                Ok(handled)
+            }
+            None => Err(self.explain(moment, bytes)),
+        }
+    }
+}
