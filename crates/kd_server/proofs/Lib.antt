@@ -9,3 +9,4 @@ pub mod Ruled
 pub mod Staged
 pub mod Stopping
 pub mod Taken
+pub mod Tried

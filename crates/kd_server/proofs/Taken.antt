@@ -12,6 +12,15 @@ module _ {X Y : Type 0} (f : X → Y) where
       let next : suc i + 1 ≡ suc (i + 1) = omega arith in
       rw next (ap (λ r. f y ∷ r) (map_taken list i x at))
 
+-- the entries with one more
+pub one_taken : {X : Type 0} (list : List X) (i : ℕ) (x : X) → Some x ≡ slice_get list i → take (i + 1) list ≡ take i list ++ x ∷ []
+one_taken [] i x at = absurd (true≢false (ap is_some at))
+one_taken (y ∷ list) zero x at =
+    let same : x ≡ y = cc in ap (λ z. z ∷ []) (sym same)
+one_taken (y ∷ list) (suc i) x at =
+    let next : suc i + 1 ≡ suc (i + 1) = omega arith in
+    rw next (ap (λ r. y ∷ r) (one_taken list i x at))
+
 -- past the last entry there are all
 pub all_taken : {X : Type 0} (list : List X) (i : ℕ) → None ≡ slice_get list i → take i list ≡ list
 all_taken [] zero at = refl

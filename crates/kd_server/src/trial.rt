@@ -9,7 +9,7 @@ use crate::server::MOMENTS;
 use crate::turning::{Turn, turn_at};
 use kd_event::Handled;
 use kd_replay::ServeFault;
-use kd_rows::Rows;
+use kd_rows::{Row, Rows};
 use std::alloc::{AllocError, Global};
 use std::marker::Model;
 
@@ -20,7 +20,7 @@ pub struct Trial<'a> {
     rows: Rows,
 }
 
-impl Model for Trial<'_> {
+impl<'a> Model for Trial<'a> {
     ghost use Rattle.kd_server.specs.Trial.{Trying, trying};
 
     ghost Value = { Trying };
@@ -35,7 +35,7 @@ impl<'a> Trial<'a> {
     ///
     /// Out of memory.
     pub fn over(rules: Rules<'a>, rows: &Rows) -> Result<Trial<'a>, AllocError>
-        ensures { IfOk result (λ t. t ≡ trying rules rows.now.rows) }
+        ensures { IfOk result (λ t. t ≡ trying rules.entry rows.now.rows) }
     {
         let rows = copied(rules.alloc, rows)?;
         Ok(Trial { rules, rows })
@@ -102,12 +102,29 @@ impl Rules<'_> {
 fn copied(alloc: Global, rows: &Rows) -> Result<Rows, AllocError>
     ensures { IfOk result (λ copy. copy.rows ≡ rows.now.rows) }
 {
-    let mut list = Vec::with_capacity(alloc, rows.len())?;
-    for i in 0..rows.len() {
-        match rows.at(i) {
-            Some(row) => list.push(copy_of(alloc, row)?)?,
-            None => unreachable!(),
-        }
-    }
+    let list = listed(alloc, rows)?;
+    seated(rows, list)
+}
+
+// The table of a list that has the same rows as this table.
+fn seated(rows: &Rows, list: Vec<Row>) -> Result<Rows, AllocError>
+    requires { list.items ≡ rows.now.rows }
+    ensures { IfOk result (λ copy. copy.rows ≡ rows.now.rows) }
+{
+    // They rise, and each is in its range, as the length says beside itself.
+    let _count = rows.len();
     Rows::new(list)
+}
+
+// A list of copies of rows.
+fn listed(alloc: Global, rows: &Rows) -> Result<Vec<Row>, AllocError>
+    ensures { IfOk result (λ list. list.items ≡ rows.now.rows) }
+{
+    let mut list = Vec::with_capacity(alloc, rows.len())?;
+    let mut index = 0;
+    while let Some(row) = rows.at(index) {
+        list.push(copy_of(alloc, row)?)?;
+        index += 1;
+    }
+    Ok(list)
 }

@@ -69,7 +69,7 @@ struct Inquiry<'a> {
     text: Option<Vec<u8>>,
 }
 
-impl Model for Inquiry<'_> {
+impl<'a> Model for Inquiry<'a> {
     ghost use Rattle.std.specs.Prelude.{option_map};
     ghost use Rattle.kd_why.specs.Inquiring.{Inquiring};
 

@@ -1,0 +1,9 @@
+use Rattle.std.proofs.Common.{arith, ap, max, ◌∙◌}
+use Rattle.kd_server.proofs.Tried.{foreseen}
+use Rattle.kd_server.proofs.batching.Rules.foresee.Goals as goal
+
+pub returns-clause-answer : goal.returns-clause-answer
+returns-clause-answer c =
+    let turn = c.in_ok-turn.turn in
+    foreseen c.args.self.now.config.now c.args.self.now.ports c.args.rows.now.rows (record { moment = c.args.moment; bytes = c.args.bytes.now }) c.max-now.result turn.row turn.response
+    (omega arith) (c.max-now.ensures ∙ ap (max c.args.moment) c.latest.ensures.latest) c.in_ok-turn.ensures.found
