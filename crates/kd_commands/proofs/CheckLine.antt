@@ -66,7 +66,6 @@ check_rules = record {
   flag = λ n never. absurd never;
   long = check_long;
   short = check_short;
-  no_place = refl;
   defaults = λ rows. defaults_pass check_built.rules rows (inl refl, (inl refl, (inl refl, (inl refl, (inl refl, (inl refl, (inl refl, tt)))))));
   needs = λ rows. refl;
 }
@@ -147,7 +146,7 @@ asks_or_not rest c d s a p m (Some bind) (Some port) (Some seconds) sub line ex 
 pub check_in : (rest : List Text) → IsSub (codes "check") check_built → All IsUtf8 rest → fault_of command_line (codes "check" ∷ rest) ≡ []
     → ((asked : Asked) × IsLine (codes "check" ∷ rest) asked) ⊎ (asked_of (subcommand_of command_line (codes "check" ∷ rest)) ≡ None)
 check_in rest sub utf8 none =
-    let read = options_in (codes "check") option_names [] [] check_built.rules check_rules rest sub utf8 none in
+    let read = options_in (codes "check") option_names [] [] check_built.rules check_rules rest refl sub utf8 none in
     let os = read.options in
     let line = line_of (codes "check") option_names [] [] check_built.rules check_rules rest read names_apart in
     asks_or_not rest (text_at (codes "config") os) (text_at (codes "token-dir") os) (text_at (codes "store") os) (text_at (codes "bind") os)

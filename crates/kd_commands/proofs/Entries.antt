@@ -89,7 +89,7 @@ pub have_of : (os options : List (Text × Value)) (l : List (Text × Option Valu
 have_of os options l order is apart = have_in_order os (kept l) l (subst (IsPermutation os) is order) (apart_given l apart) (have_given l apart)
 
 -- the name of an option or a flag is one of theirs
-one_of_both : (names flags : List Text) (n : Text) (v : Value) → Belongs names flags n v → IsOneOf n (names ++ flags)
+pub one_of_both : (names flags : List Text) (n : Text) (v : Value) → Belongs names flags n v → IsOneOf n (names ++ flags)
 one_of_both names flags n (Some v) one = left names one
   where
     left : (ns : List Text) → IsOneOf n ns → IsOneOf n (ns ++ flags)
@@ -124,7 +124,7 @@ flag_kept f false = refl
 
 -- ---- with the default of the flag
 
-has_is : (n : Text) (os : List (Text × Value)) → has_row n (rows_of os) ≡ is_some (value_of n os)
+pub has_is : (n : Text) (os : List (Text × Value)) → has_row n (rows_of os) ≡ is_some (value_of n os)
 has_is n [] = refl
 has_is n (o ∷ os) = go (bytes_eq o.0 n) refl (has_is n os)
   where

@@ -58,7 +58,6 @@ events_rules = record {
   flag = λ n never. absurd never;
   long = events_long;
   short = events_short;
-  no_place = refl;
   defaults = λ rows. defaults_pass events_built.rules rows (inl refl, (inl refl, (inl refl, tt)));
   needs = λ rows. refl;
 }
@@ -113,7 +112,7 @@ asks_or_not rest m a (Some bytes) (Some number) sub line ex ey =
 pub events_in : (rest : List Text) → IsSub (codes "events") events_built → All IsUtf8 rest → fault_of command_line (codes "events" ∷ rest) ≡ []
     → ((asked : Asked) × IsLine (codes "events" ∷ rest) asked) ⊎ (asked_of (subcommand_of command_line (codes "events" ∷ rest)) ≡ None)
 events_in rest sub utf8 none =
-    let read = options_in (codes "events") option_names [] [] events_built.rules events_rules rest sub utf8 none in
+    let read = options_in (codes "events") option_names [] [] events_built.rules events_rules rest refl sub utf8 none in
     let line = line_of (codes "events") option_names [] [] events_built.rules events_rules rest read names_apart in
     asks_or_not rest (text_at (codes "mac") read.options) (text_at (codes "address") read.options) _ _ sub
     (subst (IsOptionLine (codes "events") (codes "events" ∷ rest)) (append-nil _) line) refl refl

@@ -1,5 +1,5 @@
 -- Which words are a line of `replay` or of `import`: the rules of the two, and what their options ask for.
-use Rattle.std.proofs.Common.{◌≡◌, ◌⊎◌, ◌∙◌, sym, ap, refl, subst, inl, inr, true, false, Bool, List, [], ◌∷◌, ◌++◌, codes, Option, Some, None, option_map}
+use Rattle.std.proofs.Common.{◌≡◌, ◌⊎◌, ◌∙◌, sym, ap, refl, subst, inl, inr, ℕ, true, false, Bool, List, [], ◌∷◌, ◌++◌, codes, Option, Some, None, option_map}
 use Rattle.std.specs.Prelude.{◌||◌, if◌then◌else◌, not}
 use Rattle.std.specs.List.{All, AllByRecursion, IsDistinct}
 use Rattle.std.specs.Str.{bytes_eq, IsUtf8}
@@ -10,7 +10,8 @@ use Rattle.clap.specs.Walk.{arg_by_long, arg_by_short, has_short}
 use Rattle.clap.specs.declared.error.kind.ErrorKind.TheVariants.{DisplayHelp}
 use Rattle.clap.proofs.OnLiterals.{clap_on_literals}
 use Rattle.kd_commands.specs.Line.{IsHelpFlag, IsLine, IsOneOf, IsOptionLine, given_values}
-use Rattle.kd_commands.specs.Order.{Asked, asked_of, command_line, import_line, imports, replay_line, replays}
+use Rattle.kd_commands.specs.Order.{Asked, asked_of, command_line, import_line, imports, replay_line, replaying_of, replays}
+use Rattle.kd_commands.specs.Values.{event_line_of, read_if_given}
 use Rattle.kd_commands.proofs.Apart.{each_has}
 use Rattle.kd_commands.proofs.Entries.{found_text, text_at}
 use Rattle.kd_commands.proofs.Flags.{ShortsFail, help_built}
@@ -32,12 +33,15 @@ import_built = leaf import_line
 abbrev file_names : List Text
 file_names = codes "config" ∷ codes "token-dir" ∷ codes "store" ∷ []
 
+abbrev replay_names : List Text
+replay_names = file_names ++ codes "why" ∷ []
+
 abbrev store_name : List Text
 store_name = codes "store" ∷ []
 
 -- ---- the rules of `replay`
 
-replay_option : (n : Text) → IsOneOf n file_names → IsOption replay_built.rules n
+replay_option : (n : Text) → IsOneOf n replay_names → IsOption replay_built.rules n
 unfolding clap_on_literals
 replay_option n (inl is) = subst (IsOption replay_built.rules) (sym is)
     (record { needed = false; by_id = refl; by_long = refl; alone_is = refl; joined_is = λ v. refl; alone_apart = refl; joined_apart = λ v. refl })
@@ -45,7 +49,9 @@ replay_option n (inr (inl is)) = subst (IsOption replay_built.rules) (sym is)
     (record { needed = false; by_id = refl; by_long = refl; alone_is = refl; joined_is = λ v. refl; alone_apart = refl; joined_apart = λ v. refl })
 replay_option n (inr (inr (inl is))) = subst (IsOption replay_built.rules) (sym is)
     (record { needed = false; by_id = refl; by_long = refl; alone_is = refl; joined_is = λ v. refl; alone_apart = refl; joined_apart = λ v. refl })
-replay_option n (inr (inr (inr never))) = absurd never
+replay_option n (inr (inr (inr (inl is)))) = subst (IsOption replay_built.rules) (sym is)
+    (record { needed = false; by_id = refl; by_long = refl; alone_is = refl; joined_is = λ v. refl; alone_apart = refl; joined_apart = λ v. refl })
+replay_option n (inr (inr (inr (inr never)))) = absurd never
 
 replay_short : ShortsFail replay_built.rules
 replay_short x = go (has_short help_built x) (arg_by_short replay_built.rules x) refl
@@ -54,26 +60,28 @@ replay_short x = go (has_short help_built x) (arg_by_short replay_built.rules x)
     go true o e = inr e
     go false o e = inl e
 
-replay_long : (n : Text) → Known file_names [] n (arg_by_long replay_built.rules n)
-replay_long n = known_of file_names [] replay_built.rules n (
+replay_long : (n : Text) → Known replay_names [] n (arg_by_long replay_built.rules n)
+replay_long n = known_of replay_names [] replay_built.rules n (
   inl (codes "config", false, inl refl, refl),
   (
     inl (codes "token-dir", false, inr (inl refl), refl),
-    (inl (codes "store", false, inr (inr (inl refl)), refl), (inr (inr refl), tt)),
+    (
+      inl (codes "store", false, inr (inr (inl refl)), refl),
+      (inl (codes "why", false, inr (inr (inr (inl refl))), refl), (inr (inr refl), tt)),
+    ),
   ),
 )
 
 replay_plain : AllByRecursion (λ a. a.defaults ≡ []) replay_built.rules
-replay_plain = (refl, (refl, (refl, (refl, tt))))
+replay_plain = (refl, (refl, (refl, (refl, (refl, tt)))))
 
-replay_rules : AreRules file_names [] [] replay_built.rules
+replay_rules : AreRules replay_names [] [] replay_built.rules
 replay_rules = record {
   option = replay_option;
   flag = λ n never. absurd never;
   long = replay_long;
   short = replay_short;
-  no_place = refl;
-  defaults = λ rows. defaults_pass replay_built.rules rows (inl refl, (inl refl, (inl refl, (inl refl, tt))));
+  defaults = λ rows. defaults_pass replay_built.rules rows (inl refl, (inl refl, (inl refl, (inl refl, (inl refl, tt)))));
   needs = λ rows. refl;
 }
 
@@ -104,16 +112,15 @@ import_rules = record {
   flag = λ n never. absurd never;
   long = import_long;
   short = import_short;
-  no_place = refl;
   defaults = λ rows. defaults_pass import_built.rules rows (inl refl, (inl refl, tt));
   needs = λ rows. ap (λ r. not (is_given (codes "store") r) || false) (no_defaults import_built.rules rows import_plain);
 }
 
 -- ---- names
 
-file_names_apart : IsDistinct bytes_eq file_names
+replay_names_apart : IsDistinct bytes_eq replay_names
 unfolding IsDistinct
-file_names_apart = ((refl, (refl, tt)), ((refl, tt), (tt, tt)))
+replay_names_apart = ((refl, (refl, (refl, tt))), ((refl, (refl, tt)), ((refl, tt), (tt, tt))))
 
 store_name_apart : IsDistinct bytes_eq store_name
 unfolding IsDistinct
@@ -125,33 +132,53 @@ store_name_apart = (tt, tt)
 pub replay_helps : (word : Text) (rest : List Text) → IsSub (codes "replay") replay_built → IsHelpFlag word
     → fault_of command_line (codes "replay" ∷ word ∷ rest) ≡ DisplayHelp ∷ []
 unfolding clap_on_literals
-replay_helps word rest sub h = option_helps (codes "replay") file_names [] [] replay_built.rules replay_rules word rest sub refl refl h
+replay_helps word rest sub h = option_helps (codes "replay") replay_names [] [] replay_built.rules replay_rules word rest sub refl refl h
 
--- a line that does not fail asks for a replay
-pub replay_in : (rest : List Text) → IsSub (codes "replay") replay_built → All IsUtf8 rest → fault_of command_line (codes "replay" ∷ rest) ≡ []
-    → (asked : Asked) × IsLine (codes "replay" ∷ rest) asked
-replay_in rest sub utf8 none =
-    let read = options_in (codes "replay") file_names [] [] replay_built.rules replay_rules rest sub utf8 none in
-    let line = line_of (codes "replay") file_names [] [] replay_built.rules replay_rules rest read file_names_apart in (
-      replays (text_at (codes "config") read.options) (text_at (codes "token-dir") read.options) (text_at (codes "store") read.options),
-      subst (IsOptionLine (codes "replay") (codes "replay" ∷ rest)) (append-nil _) line,
-    )
+-- the options with these texts
+abbrev replay_values : Option Text → Option Text → Option Text → Option Text → List (Text × Option Text)
+replay_values c d s y = (codes "config", c) ∷ (codes "token-dir", d) ∷ (codes "store", s) ∷ (codes "why", y) ∷ []
 
-same_replays : (a b c d e f : Option Text) → a ≡ d → b ≡ e → c ≡ f → Some (replays a b c) ≡ Some (replays d e f)
-same_replays a b c d e f p q r = rw (p, q, r) refl
+same_replays : (a b c y d e f z : Option Text) → a ≡ d → b ≡ e → c ≡ f → y ≡ z → replaying_of a b c y ≡ replaying_of d e f z
+same_replays a b c y d e f z p q r t = rw (p, q, r, t) refl
 
--- a line does not fail, and the values of its options are found
-pub replay_passes : (ws : List Text) (c d s : Option Text) → IsSub (codes "replay") replay_built → IsLine ws (replays c d s)
-    → (fault_of command_line ws ≡ []) × (asked_of (subcommand_of command_line ws) ≡ Some (replays c d s))
-replay_passes ws c d s sub line =
-    let values : List (Text × Option Text) = (codes "config", c) ∷ (codes "token-dir", d) ∷ (codes "store", s) ∷ [] in
-    let p = given_passes (codes "replay") file_names [] [] replay_built.rules replay_rules ws (given_values values) values [] sub line
-    (sym (append-nil (given_values values))) file_names_apart (each_has (λ n. IsOneOf n file_names) file_names (λ n one. one)) tt (λ os have. refl) in
+-- a line does not fail, and asks for what the texts of its options say
+replay_found : (ws : List Text) (c d s y : Option Text) → IsSub (codes "replay") replay_built
+    → IsOptionLine (codes "replay") ws (given_values (replay_values c d s y))
+    → (fault_of command_line ws ≡ []) × (asked_of (subcommand_of command_line ws) ≡ replaying_of c d s y)
+replay_found ws c d s y sub line =
+    let values = replay_values c d s y in
+    let p = given_passes (codes "replay") replay_names [] [] replay_built.rules replay_rules ws (given_values values) values [] sub line
+    (sym (append-nil (given_values values))) replay_names_apart (each_has (λ n. IsOneOf n replay_names) replay_names (λ n one. one)) tt (λ os have. refl) in
     let found = p.found ∙ ap (λ l. Some (codes "replay", l)) (no_defaults replay_built.rules (rows_of p.options) replay_plain) in (
       p.whole,
-      ap asked_of found ∙ same_replays _ _ _ c d s (found_text (codes "config") p.options c p.have.0)
-          (found_text (codes "token-dir") p.options d p.have.1.0) (found_text (codes "store") p.options s p.have.1.1.0),
+      ap asked_of found ∙ same_replays _ _ _ _ c d s y (found_text (codes "config") p.options c p.have.0)
+          (found_text (codes "token-dir") p.options d p.have.1.0) (found_text (codes "store") p.options s p.have.1.1.0)
+          (found_text (codes "why") p.options y p.have.1.1.1.0),
     )
+
+-- a line does not fail, and the values of its options are found
+pub replay_passes : (ws : List Text) (c d s : Option Text) (line : Option ℕ) → IsSub (codes "replay") replay_built → IsLine ws (replays c d s line)
+    → (fault_of command_line ws ≡ []) × (asked_of (subcommand_of command_line ws) ≡ Some (replays c d s line))
+replay_passes ws c d s line sub (digits, spells, is) =
+    let p = replay_found ws c d s digits sub is in
+    (p.0, p.1 ∙ rw spells refl)
+
+-- a line asks for a replay, or for nothing where the text is no line of an event
+replays_or_not : (ws : List Text) (c d s y : Option Text) (o : Option (Option ℕ)) → IsSub (codes "replay") replay_built
+    → IsOptionLine (codes "replay") ws (given_values (replay_values c d s y)) → read_if_given event_line_of y ≡ o
+    → ((asked : Asked) × IsLine ws asked) ⊎ (asked_of (subcommand_of command_line ws) ≡ None)
+replays_or_not ws c d s y None sub line spells = inr ((replay_found ws c d s y sub line).1 ∙ rw spells refl)
+replays_or_not ws c d s y (Some event) sub line spells = inl (replays c d s event, (y, spells, line))
+
+-- a line that does not fail asks for a replay, or for nothing
+pub replay_in : (rest : List Text) → IsSub (codes "replay") replay_built → All IsUtf8 rest → fault_of command_line (codes "replay" ∷ rest) ≡ []
+    → ((asked : Asked) × IsLine (codes "replay" ∷ rest) asked) ⊎ (asked_of (subcommand_of command_line (codes "replay" ∷ rest)) ≡ None)
+replay_in rest sub utf8 none =
+    let read = options_in (codes "replay") replay_names [] [] replay_built.rules replay_rules rest refl sub utf8 none in
+    let line = line_of (codes "replay") replay_names [] [] replay_built.rules replay_rules rest read replay_names_apart in
+    replays_or_not (codes "replay" ∷ rest) (text_at (codes "config") read.options) (text_at (codes "token-dir") read.options)
+    (text_at (codes "store") read.options) (text_at (codes "why") read.options) _ sub
+    (subst (IsOptionLine (codes "replay") (codes "replay" ∷ rest)) (append-nil _) line) refl
 
 -- ---- the lines of `import`
 
@@ -164,7 +191,7 @@ import_helps word rest sub h = option_helps (codes "import") store_name [] store
 pub import_in : (rest : List Text) → IsSub (codes "import") import_built → All IsUtf8 rest → fault_of command_line (codes "import" ∷ rest) ≡ []
     → (asked : Asked) × IsLine (codes "import" ∷ rest) asked
 import_in rest sub utf8 none =
-    let read = options_in (codes "import") store_name [] store_name import_built.rules import_rules rest sub utf8 none in
+    let read = options_in (codes "import") store_name [] store_name import_built.rules import_rules rest refl sub utf8 none in
     let line = line_of (codes "import") store_name [] store_name import_built.rules import_rules rest read store_name_apart in
     let store_is = needed_text store_name [] (codes "store") read.options (λ x. x) read.ones read.enough in (
       imports store_is.0,

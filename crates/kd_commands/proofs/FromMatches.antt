@@ -16,13 +16,13 @@ use Rattle.clap.specs.declared.parser.matches.ArgMatches.TheViews.{out-ArgMatche
 use Rattle.clap.specs.declared.parser.matches.SubCommand.{SubCommand}
 use Rattle.clap.proofs.WalkLemmas.{first_value-rows}
 use Rattle.clap.proofs.OnLiterals.{clap_on_literals}
-use Rattle.kd_commands.specs.Order.{Asked, Asks, AsksFor, GivesUnlessFull, HasFault, HelpsUnlessFull, IsVersionUnlessFull, asked_by, asked_of, checking_of, checks, command_line, compiles, evaluates, evaluation_of, filtering_of, filters, flag_is_given, given_by, imports, listing_of, lists, looks, pools_listing, replays, serves, serving_of, shows, tests, types, verifies}
+use Rattle.kd_commands.specs.Order.{Asked, Asks, AsksFor, GivesUnlessFull, HasFault, HelpsUnlessFull, IsVersionUnlessFull, asked_by, asked_of, checking_of, checks, command_line, compiles, evaluates, evaluation_of, explaining_of, explains, filtering_of, filters, flag_is_given, given_by, imports, listing_of, lists, looks, pools_listing, replaying_of, replays, serves, serving_of, showing_of, shows, tests, types, verifies}
 use Rattle.kd_commands.proofs.Lines.{one_asked}
 use Rattle.kd_commands.specs.Steps.{AnswersKind, GivesIfThere}
 use Rattle.kd_commands.specs.declared.fault.LineFault.{LineFault}
 use Rattle.kd_commands.specs.declared.fault.LineFault.TheVariants.{CommandLine, Memory}
 use Rattle.kd_commands.specs.declared.orders.Order.{Order}
-use Rattle.kd_commands.specs.declared.orders.Order.TheVariants.{Help, Version, Show, Expr, Compile, Verify, Eval, EvalText, Replay, Check, Events, Import, Look, Serve, List as ListOrder}
+use Rattle.kd_commands.specs.declared.orders.Order.TheVariants.{Help, Version, Show, Expr, Compile, Verify, Eval, EvalText, Replay, Check, Events, Import, Look, Serve, Why, List as ListOrder}
 use Rattle.kd_commands.specs.declared.orders.Listing.{Listing}
 use Rattle.kd_commands.specs.declared.orders.Listing.TheVariants.{Leases}
 
@@ -52,7 +52,7 @@ are_texts (w ∷ ws) = All-cons IsUtf8 (string_bytes w) (map string_bytes ws) (I
 asks_for : (ws : List Text) (order : Order) (asked : Asked) → given_by order ≡ Some asked → Asks ws asked → AsksFor ws order
 asks_for ws (Help text) asked gives h = cc
 asks_for ws Version asked gives h = cc
-asks_for ws (Show hex) asked gives h = let is : shows (string_bytes hex) ≡ asked = cc in subst (Asks ws) (sym is) h
+asks_for ws (Show hex names) asked gives h = let is : shows (string_bytes hex) names ≡ asked = cc in subst (Asks ws) (sym is) h
 asks_for ws (Expr text) asked gives h = let is : types (string_bytes text) ≡ asked = cc in subst (Asks ws) (sym is) h
 asks_for ws (Compile text) asked gives h = let is : compiles (string_bytes text) ≡ asked = cc in subst (Asks ws) (sym is) h
 asks_for ws (Verify hex) asked gives h = let is : verifies (string_bytes hex) ≡ asked = cc in subst (Asks ws) (sym is) h
@@ -62,14 +62,24 @@ asks_for ws (Eval program datagram) asked gives h =
 asks_for ws (EvalText text datagram) asked gives h =
     let is : tests (string_bytes text) (string_bytes datagram) ≡ asked = cc in
     subst (Asks ws) (sym is) h
-asks_for ws (Replay config token_dir store) asked gives h =
-    let is : replays (option_map string_bytes config) (option_map string_bytes token_dir) (option_map string_bytes store) ≡ asked = cc in
+asks_for ws (Replay config token_dir store why) asked gives h =
+    let is : replays (option_map string_bytes config) (option_map string_bytes token_dir) (option_map string_bytes store) why ≡ asked = cc in
     subst (Asks ws) (sym is) h
 asks_for ws (ListOrder listing config token_dir store at) asked gives h =
     let is : lists listing (option_map string_bytes config) (option_map string_bytes token_dir) (option_map string_bytes store) at ≡ asked = cc in
     subst (Asks ws) (sym is) h
 asks_for ws (Look listing config token_dir store at) asked gives h =
     let is : looks listing (option_map string_bytes config) (option_map string_bytes token_dir) (string_bytes store) at ≡ asked = cc in
+    subst (Asks ws) (sym is) h
+asks_for ws (Why config token_dir store live at hex) asked gives h =
+    let is : explains (record {
+      config = option_map string_bytes config;
+      token_dir = option_map string_bytes token_dir;
+      store = option_map string_bytes store;
+      live = live;
+      at = at;
+      hex = string_bytes hex;
+    }) ≡ asked = cc in
     subst (Asks ws) (sym is) h
 asks_for ws (Import store) asked gives h = let is : imports (string_bytes store) ≡ asked = cc in subst (Asks ws) (sym is) h
 asks_for ws (Events mac address) asked gives h =
@@ -229,17 +239,27 @@ at_eval inner name r is gives =
     let at_name_is = named name (codes "eval") inner is in
     subst (λ o. GivesIfThere o r) (sym at_name_is) (rw (value, program, datagram) at gives)
 
+-- what is made of the flag and the text of `show`
+pub at_show : (inner : ArgMatches) (name : Text) (r : Result Order LineFault) → name ≡ codes "show"
+    → GivesIfThere (showing_of (first_value (found_of inner) (codes "names")) (first_value (found_of inner) (codes "HEX"))) r
+    → GivesIfThere (asked_by name (rows_of (found_of inner))) r
+at_show inner name r is gives =
+    let same = ap₂ showing_of (first_value-rows (found_of inner) (codes "names")) (first_value-rows (found_of inner) (codes "HEX")) in
+    let at_name_is = named name (codes "show") inner is in
+    subst (λ o. GivesIfThere o r) (same ∙ sym at_name_is) gives
+
 -- what is made of the options of `replay`
 pub at_replay : (inner : ArgMatches) (name : Text) (r : Result Order LineFault) → name ≡ codes "replay"
-    → GivesIfThere (Some (replays (first_value (found_of inner) (codes "config")) (first_value (found_of inner) (codes "token-dir"))
-    (first_value (found_of inner) (codes "store")))) r
+    → GivesIfThere (replaying_of (first_value (found_of inner) (codes "config")) (first_value (found_of inner) (codes "token-dir"))
+    (first_value (found_of inner) (codes "store")) (first_value (found_of inner) (codes "why"))) r
     → GivesIfThere (asked_by name (rows_of (found_of inner))) r
 at_replay inner name r is gives =
     let config = first_value-rows (found_of inner) (codes "config") in
     let token_dir = first_value-rows (found_of inner) (codes "token-dir") in
     let store = first_value-rows (found_of inner) (codes "store") in
+    let why = first_value-rows (found_of inner) (codes "why") in
     let at_name_is = named name (codes "replay") inner is in
-    subst (λ o. GivesIfThere o r) (sym at_name_is) (rw (config, token_dir, store) at gives)
+    subst (λ o. GivesIfThere o r) (sym at_name_is) (rw (config, token_dir, store, why) at gives)
 
 -- what is made of the options of `leases` or of `pools`
 abbrev listed_of : Listing → (Text → Option Text) → Option Asked
@@ -289,6 +309,19 @@ pub at_check : (inner : ArgMatches) (name : Text) (r : Result Order LineFault) �
 at_check inner name r is gives =
     let same = same_checking (λ n. first_value (found_of inner) n) (λ n. first_of n (rows_of (found_of inner))) (λ n. first_value-rows (found_of inner) n) in
     let at_name_is = named name (codes "check") inner is in
+    subst (λ o. GivesIfThere o r) (same ∙ sym at_name_is) gives
+
+-- what is made of the datagram and the options of `why`
+same_explaining : (f g : Text → Option Text) → ((n : Text) → f n ≡ g n) → explaining_of f ≡ explaining_of g
+same_explaining f g same =
+    rw (same (codes "at"), same (codes "HEX"), same (codes "config"), same (codes "token-dir"), same (codes "store"), same (codes "live")) refl
+
+pub at_why : (inner : ArgMatches) (name : Text) (r : Result Order LineFault) → name ≡ codes "why"
+    → GivesIfThere (explaining_of (λ option. first_value (found_of inner) option)) r
+    → GivesIfThere (asked_by name (rows_of (found_of inner))) r
+at_why inner name r is gives =
+    let same = same_explaining (λ n. first_value (found_of inner) n) (λ n. first_of n (rows_of (found_of inner))) (λ n. first_value-rows (found_of inner) n) in
+    let at_name_is = named name (codes "why") inner is in
     subst (λ o. GivesIfThere o r) (same ∙ sym at_name_is) gives
 
 -- what is made of the options of `serve`

@@ -6,13 +6,13 @@ use Rattle.std.specs.Str.{bytes_eq}
 use Rattle.std.proofs.lemmas.List.{append-nil, map-append}
 use Rattle.std.proofs.lemmas.Slice.Eq.{bytes_eq-Decides}
 use Rattle.clap.specs.Words.{Row, Rule, Text, first_of}
-use Rattle.clap.specs.Walk.{Held, at_row, has_row, is_empty, more_values, nothing_held, reacted, reading_by, settled, used, with_default, without}
+use Rattle.clap.specs.Walk.{Held, arg_by_id, at_row, has_row, is_empty, more_values, nothing_held, reacted, reading_by, settled, used, with_default, without}
 use Rattle.clap.specs.Faults.{default_fault, defaults_fault, given_default_fault, settle_fault, use_fault}
 use Rattle.clap.specs.declared.builder.value_parser.Reading.{Reading}
 use Rattle.clap.specs.declared.error.kind.ErrorKind.TheVariants.{ArgumentConflict, InvalidValue}
 use Rattle.clap.specs.declared.parser.matches.ValueSource.TheVariants.{CommandLine, DefaultValue}
 use Rattle.clap.proofs.OnLiterals.{clap_on_literals}
-use Rattle.kd_commands.proofs.Options.{IsOption, built_of, flag_of}
+use Rattle.kd_commands.proofs.Options.{IsOption, built_of, flag_of, needed_built}
 
 -- what stands after a name: a value, or none after that of a flag
 abbrev pub Value : Type 0
@@ -144,6 +144,39 @@ filled_in_is_held c n v h gs option held fresh =
       settles = rw option.by_id settles;
       skip = held.skip;
     }
+
+-- and with a text, which has to be there
+text_used : (id v : Text) (rows : List Row) → used (needed_built id) (v ∷ []) rows ≡ used (built_of true id) (v ∷ []) rows
+unfolding clap_on_literals
+text_used id v rows = refl
+
+text_passes : (id v : Text) (rows : List Row) → has_row id rows ≡ false → use_fault false (needed_built id) (v ∷ []) rows ≡ []
+unfolding clap_on_literals
+text_passes id v rows h = rw h refl
+
+pub text_is_held : (c : List Rule) (id v : Text) (h : Held) (gs : List (Text × Value)) → arg_by_id c id ≡ Some (needed_built id) → IsHeld c h gs
+    → has_row id (rows_of gs) ≡ false → IsHeld c (filled_in c id v h) (gs ++ (id, Some v) ∷ [])
+text_is_held c id v h gs by_id held fresh =
+    let none : has_row id (settled c h).rows ≡ false = ap (λ l. has_row id l) held.rows ∙ fresh in
+    let settles : use_fault false (needed_built id) (v ∷ []) (settled c h).rows ≡ [] = text_passes id v (settled c h).rows none in
+    record {
+      rows = rw by_id (ap (λ l. used (needed_built id) (v ∷ []) l) held.rows ∙ text_used id v (rows_of gs) ∙ used_once true id v gs fresh);
+      settles = rw by_id settles;
+      skip = held.skip;
+    }
+
+-- a name has no row where it has none and the last option has another
+pub no_row_more : (id n : Text) (v : Value) (gs : List (Text × Value)) → has_row id (rows_of gs) ≡ false → bytes_eq n id ≡ false
+    → has_row id (rows_of (gs ++ (n, v) ∷ [])) ≡ false
+no_row_more id n v [] fresh other = rw other refl
+no_row_more id n v (g ∷ gs) fresh other = go (bytes_eq g.0 id) refl (no_row_more id n v gs)
+  where
+    go : (t : Bool) → bytes_eq g.0 id ≡ t → (has_row id (rows_of gs) ≡ false → bytes_eq n id ≡ false → has_row id (rows_of (gs ++ (n, v) ∷ [])) ≡ false)
+        → has_row id (rows_of (g ∷ gs ++ (n, v) ∷ [])) ≡ false
+    go true e more = let bad : true ≡ false = rw e at fresh in cc
+    go false e more =
+        let rest : has_row id (rows_of gs) ≡ false = rw e at fresh in
+        rw e (more rest other)
 
 -- ---- the end
 

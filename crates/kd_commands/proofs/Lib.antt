@@ -1,4 +1,5 @@
 pub mod Apart
+pub mod AroundText
 pub mod CheckLine
 pub mod Commands
 pub mod Defaults
@@ -16,6 +17,8 @@ pub mod ListingLines
 pub mod OptionLine
 pub mod Options
 pub mod ServeLine
+pub mod ShowLine
 pub mod Spelled
 pub mod TextLine
 pub mod Top
+pub mod WhyLine

@@ -7,19 +7,21 @@ use Rattle.std.proofs.lemmas.List.Elements.{All-tail}
 use Rattle.clap.specs.Words.{Text, fault_of, subcommand_of}
 use Rattle.clap.specs.declared.error.kind.ErrorKind.TheVariants.{DisplayHelp, DisplayVersion}
 use Rattle.kd_commands.specs.Line.{IsHelpFlag, IsHelpLine, IsLine, IsOneOf, IsVersionLine, subcommands}
-use Rattle.kd_commands.specs.Order.{Asked, Asks, asked_of, checks, command_line, compiles, evaluates, filters, imports, lists, looks, replays, serves, shows, tests, types, verifies}
+use Rattle.kd_commands.specs.Order.{Asked, Asks, asked_of, checks, command_line, compiles, evaluates, explains, filters, imports, lists, looks, replays, serves, shows, tests, types, verifies}
 use Rattle.kd_commands.proofs.CheckLine.{check_built, check_helps, check_in, check_passes}
 use Rattle.kd_commands.proofs.EvalLine.{flagged_passes, eval_built, eval_helps, eval_in, eval_passes}
 use Rattle.kd_commands.proofs.EventsLine.{events_built, events_helps, events_in, events_passes}
 use Rattle.kd_commands.proofs.FileLines.{import_built, import_helps, import_in, import_passes, replay_built, replay_helps, replay_in, replay_passes}
 use Rattle.kd_commands.proofs.ListingLines.{AreSubs, leases_built, leases_helps, leases_in, lists_passes, looks_passes, pools_built, pools_helps, pools_in}
 use Rattle.kd_commands.proofs.ServeLine.{serve_built, serve_helps, serve_in, serve_passes}
+use Rattle.kd_commands.proofs.ShowLine.{show_built, show_helps, show_in, show_passes}
 use Rattle.kd_commands.proofs.TextLine.{one, text_helps, text_in, text_passes}
 use Rattle.kd_commands.proofs.Top.{IsSub, begins, helps_first, versions_first}
+use Rattle.kd_commands.proofs.WhyLine.{why_built, why_helps, why_in, why_passes}
 
 -- ---- the subcommands
 
-show : IsSub (codes "show") (one (codes "show") (codes "HEX"))
+show : IsSub (codes "show") show_built
 show = record { met = refl; ours = refl; found = refl }
 
 expr : IsSub (codes "expr") (one (codes "expr") (codes "TEXT"))
@@ -43,6 +45,9 @@ leases = record { met = refl; ours = refl; found = refl }
 pools : IsSub (codes "pools") pools_built
 pools = record { met = refl; ours = refl; found = refl }
 
+why : IsSub (codes "why") why_built
+why = record { met = refl; ours = refl; found = refl }
+
 listings : AreSubs
 listings = record { leases = leases; pools = pools }
 
@@ -65,9 +70,7 @@ IsLineOrNothing ws = ((asked : Asked) × IsLine ws asked) ⊎ (asked_of (subcomm
 -- a line of a subcommand that does not fail asks for something or nothing
 asked_in : (name : Text) (rest : List Text) → IsOneOf name subcommands → All IsUtf8 rest → fault_of command_line (name ∷ rest) ≡ []
     → IsLineOrNothing (name ∷ rest)
-asked_in name rest (inl is) texts none = rw is (
-    let got = text_in (codes "show") (codes "HEX") rest show texts (rw is at none) in
-    inl (shows got.0, got.1))
+asked_in name rest (inl is) texts none = rw is (inl (show_in rest show texts (rw is at none)))
 asked_in name rest (inr (inl is)) texts none = rw is (
     let got = text_in (codes "expr") (codes "TEXT") rest expr texts (rw is at none) in
     inl (types got.0, got.1))
@@ -78,20 +81,21 @@ asked_in name rest (inr (inr (inr (inl is)))) texts none = rw is (
     let got = text_in (codes "verify") (codes "HEX") rest verify texts (rw is at none) in
     inl (verifies got.0, got.1))
 asked_in name rest (inr (inr (inr (inr (inl is))))) texts none = rw is (inl (eval_in rest eval texts (rw is at none)))
-asked_in name rest (inr (inr (inr (inr (inr (inl is)))))) texts none = rw is (inl (replay_in rest replay texts (rw is at none)))
+asked_in name rest (inr (inr (inr (inr (inr (inl is)))))) texts none = rw is (replay_in rest replay texts (rw is at none))
 asked_in name rest (inr (inr (inr (inr (inr (inr (inl is))))))) texts none = rw is (leases_in listings rest texts (rw is at none))
 asked_in name rest (inr (inr (inr (inr (inr (inr (inr (inl is)))))))) texts none = rw is (pools_in listings rest texts (rw is at none))
-asked_in name rest (inr (inr (inr (inr (inr (inr (inr (inr (inl is))))))))) texts none = rw is (inl (import_in rest import_sub texts (rw is at none)))
-asked_in name rest (inr (inr (inr (inr (inr (inr (inr (inr (inr (inl is)))))))))) texts none = rw is (events_in rest events texts (rw is at none))
-asked_in name rest (inr (inr (inr (inr (inr (inr (inr (inr (inr (inr (inl is))))))))))) texts none = rw is (check_in rest check texts (rw is at none))
-asked_in name rest (inr (inr (inr (inr (inr (inr (inr (inr (inr (inr (inr (inl is)))))))))))) texts none = rw is (serve_in rest serve texts (rw is at none))
-asked_in name rest (inr (inr (inr (inr (inr (inr (inr (inr (inr (inr (inr (inr never)))))))))))) texts none = absurd never
+asked_in name rest (inr (inr (inr (inr (inr (inr (inr (inr (inl is))))))))) texts none = rw is (why_in rest why texts (rw is at none))
+asked_in name rest (inr (inr (inr (inr (inr (inr (inr (inr (inr (inl is)))))))))) texts none = rw is (inl (import_in rest import_sub texts (rw is at none)))
+asked_in name rest (inr (inr (inr (inr (inr (inr (inr (inr (inr (inr (inl is))))))))))) texts none = rw is (events_in rest events texts (rw is at none))
+asked_in name rest (inr (inr (inr (inr (inr (inr (inr (inr (inr (inr (inr (inl is)))))))))))) texts none = rw is (check_in rest check texts (rw is at none))
+asked_in name rest (inr (inr (inr (inr (inr (inr (inr (inr (inr (inr (inr (inr (inl is))))))))))))) texts none = rw is (serve_in rest serve texts (rw is at none))
+asked_in name rest (inr (inr (inr (inr (inr (inr (inr (inr (inr (inr (inr (inr (inr never))))))))))))) texts none = absurd never
 
 -- a line asks by clap for what it asks for in plain words
 pub clap_from_line : (ws : List Text) (asked : Asked) → IsLine ws asked → Asks ws asked
-clap_from_line ws (shows hex) h =
-    let got = text_passes (codes "show") (codes "HEX") refl ws hex show h in
-    record { whole = got.1; entered = ap asked_of got.2 ∙ ap (option_map (λ x. shows x)) got.3 }
+clap_from_line ws (shows hex names) h =
+    let got = show_passes ws hex names show h in
+    record { whole = got.0; entered = got.1 }
 clap_from_line ws (types text) h =
     let got = text_passes (codes "expr") (codes "TEXT") refl ws text expr h in
     record { whole = got.1; entered = ap asked_of got.2 ∙ ap (option_map (λ x. types x)) got.3 }
@@ -107,14 +111,17 @@ clap_from_line ws (evaluates program datagram) h =
 clap_from_line ws (tests text datagram) h =
     let got = flagged_passes ws text datagram eval h in
     record { whole = got.1; entered = ap asked_of got.2 ∙ got.3 }
-clap_from_line ws (replays config token_dir store) h =
-    let got = replay_passes ws config token_dir store replay h in
+clap_from_line ws (replays config token_dir store line) h =
+    let got = replay_passes ws config token_dir store line replay h in
     record { whole = got.0; entered = got.1 }
 clap_from_line ws (lists listing config token_dir store moment) h =
     let got = lists_passes listings ws listing config token_dir store moment h in
     record { whole = got.0; entered = got.1 }
 clap_from_line ws (looks listing config token_dir store moment) h =
     let got = looks_passes listings ws listing config token_dir store moment h in
+    record { whole = got.0; entered = got.1 }
+clap_from_line ws (explains explaining) h =
+    let got = why_passes ws explaining why h in
     record { whole = got.0; entered = got.1 }
 clap_from_line ws (imports store) h =
     let got = import_passes ws store import_sub h in
@@ -132,7 +139,7 @@ clap_from_line ws (serves serving) h =
 -- a line that goes on with a flag for help fails by that alone
 helps_second : (name next : Text) (rest : List Text) → IsOneOf name subcommands → IsHelpFlag next
     → fault_of command_line (name ∷ next ∷ rest) ≡ DisplayHelp ∷ []
-helps_second name next rest (inl is) h = rw is (text_helps (codes "show") (codes "HEX") next rest show h)
+helps_second name next rest (inl is) h = rw is (show_helps next rest show h)
 helps_second name next rest (inr (inl is)) h = rw is (text_helps (codes "expr") (codes "TEXT") next rest expr h)
 helps_second name next rest (inr (inr (inl is))) h = rw is (text_helps (codes "compile") (codes "TEXT") next rest compile h)
 helps_second name next rest (inr (inr (inr (inl is)))) h = rw is (text_helps (codes "verify") (codes "HEX") next rest verify h)
@@ -140,11 +147,12 @@ helps_second name next rest (inr (inr (inr (inr (inl is))))) h = rw is (eval_hel
 helps_second name next rest (inr (inr (inr (inr (inr (inl is)))))) h = rw is (replay_helps next rest replay h)
 helps_second name next rest (inr (inr (inr (inr (inr (inr (inl is))))))) h = rw is (leases_helps next rest leases h)
 helps_second name next rest (inr (inr (inr (inr (inr (inr (inr (inl is)))))))) h = rw is (pools_helps next rest pools h)
-helps_second name next rest (inr (inr (inr (inr (inr (inr (inr (inr (inl is))))))))) h = rw is (import_helps next rest import_sub h)
-helps_second name next rest (inr (inr (inr (inr (inr (inr (inr (inr (inr (inl is)))))))))) h = rw is (events_helps next rest events h)
-helps_second name next rest (inr (inr (inr (inr (inr (inr (inr (inr (inr (inr (inl is))))))))))) h = rw is (check_helps next rest check h)
-helps_second name next rest (inr (inr (inr (inr (inr (inr (inr (inr (inr (inr (inr (inl is)))))))))))) h = rw is (serve_helps next rest serve h)
-helps_second name next rest (inr (inr (inr (inr (inr (inr (inr (inr (inr (inr (inr (inr never)))))))))))) h = absurd never
+helps_second name next rest (inr (inr (inr (inr (inr (inr (inr (inr (inl is))))))))) h = rw is (why_helps next rest why h)
+helps_second name next rest (inr (inr (inr (inr (inr (inr (inr (inr (inr (inl is)))))))))) h = rw is (import_helps next rest import_sub h)
+helps_second name next rest (inr (inr (inr (inr (inr (inr (inr (inr (inr (inr (inl is))))))))))) h = rw is (events_helps next rest events h)
+helps_second name next rest (inr (inr (inr (inr (inr (inr (inr (inr (inr (inr (inr (inl is)))))))))))) h = rw is (check_helps next rest check h)
+helps_second name next rest (inr (inr (inr (inr (inr (inr (inr (inr (inr (inr (inr (inr (inl is))))))))))))) h = rw is (serve_helps next rest serve h)
+helps_second name next rest (inr (inr (inr (inr (inr (inr (inr (inr (inr (inr (inr (inr (inr never))))))))))))) h = absurd never
 
 -- ---- whatever the subcommands
 

@@ -91,7 +91,6 @@ leases_rules = record {
   flag = leases_flag;
   long = leases_long;
   short = leases_short;
-  no_place = refl;
   defaults = λ rows. defaults_pass leases_built.rules rows (inl refl, (inl refl, (inl refl, (inr refl, (inl refl, (inl refl, tt))))));
   needs = λ rows. ap (λ r. not (is_given (codes "at") r) || false) (leases_end rows)
       ∙ ap (λ o. not (option_map_or (λ r. explicit_source r.source) o false) || false) (defaults_apart (codes "at") leases_flags rows (refl, tt));
@@ -139,7 +138,6 @@ pools_rules = record {
   flag = pools_flag;
   long = pools_long;
   short = pools_short;
-  no_place = refl;
   defaults = λ rows. defaults_pass pools_built.rules rows (inl refl, (inl refl, (inl refl, (inr refl, (inl refl, (inr refl, (inl refl, tt)))))));
   needs = λ rows. ap (λ r. not (is_given (codes "at") r) || false) (pools_end rows)
       ∙ ap (λ o. not (option_map_or (λ r. explicit_source r.source) o false) || false) (defaults_apart (codes "at") pools_flags rows (refl, (refl, tt)));
@@ -301,7 +299,7 @@ line_or_not subs ws listing c d s digits live line = elim (asks_or_not ws listin
 pub leases_in : AreSubs → (rest : List Text) → All IsUtf8 rest → fault_of command_line (codes "leases" ∷ rest) ≡ []
     → ((asked : Asked) × IsLine (codes "leases" ∷ rest) asked) ⊎ (asked_of (subcommand_of command_line (codes "leases" ∷ rest)) ≡ None)
 leases_in subs rest utf8 none =
-    let read = options_in (codes "leases") option_names leases_flags needed_names leases_built.rules leases_rules rest subs.leases utf8 none in
+    let read = options_in (codes "leases") option_names leases_flags needed_names leases_built.rules leases_rules rest refl subs.leases utf8 none in
     let os = read.options in
     let live = is_some (value_of (codes "live") os) in
     let at_is = needed_text option_names leases_flags (codes "at") os (not_in_both option_names leases_flags leases_apart (codes "at") (inr (inr (inr (inl refl)))))
@@ -315,7 +313,7 @@ leases_in subs rest utf8 none =
 pub pools_in : AreSubs → (rest : List Text) → All IsUtf8 rest → fault_of command_line (codes "pools" ∷ rest) ≡ []
     → ((asked : Asked) × IsLine (codes "pools" ∷ rest) asked) ⊎ (asked_of (subcommand_of command_line (codes "pools" ∷ rest)) ≡ None)
 pools_in subs rest utf8 none =
-    let read = options_in (codes "pools") option_names pools_flags needed_names pools_built.rules pools_rules rest subs.pools utf8 none in
+    let read = options_in (codes "pools") option_names pools_flags needed_names pools_built.rules pools_rules rest refl subs.pools utf8 none in
     let os = read.options in
     let live = is_some (value_of (codes "live") os) in
     let metrics = is_some (value_of (codes "prometheus") os) in

@@ -7,13 +7,13 @@ use Rattle.std.proofs.lemmas.Bool.{eqb-true}
 use Rattle.std.proofs.lemmas.Slice.Eq.{bytes_eq-Decides}
 use Rattle.clap.specs.Lexer.{has_byte, long_of, name_and_value}
 use Rattle.clap.specs.Words.{Row, Rule, Text}
-use Rattle.clap.specs.Walk.{Held, arg_by_id, arg_by_index, arg_by_long, has_long, with_default}
+use Rattle.clap.specs.Walk.{Held, arg_by_id, arg_by_long, has_long, with_default}
 use Rattle.clap.specs.Simple.{filled, with_index}
 use Rattle.clap.specs.Takes.{is_given}
 use Rattle.clap.specs.Faults.{defaults_fault, flag_word_fault, long_fault, option_fault, react_fault}
 use Rattle.clap.specs.declared.error.kind.ErrorKind.TheVariants.{TooManyValues}
 use Rattle.kd_commands.specs.Line.{IsOneOf, is_flag}
-use Rattle.kd_commands.specs.Order.{flag_rule, value_rule}
+use Rattle.kd_commands.specs.Order.{flag_rule, needed_rule, value_rule}
 use Rattle.kd_commands.proofs.Flags.{ShortsFail, bundle_fails, help_built, long_fails, whole_before}
 
 -- an option, as clap builds it, and whether it has to be there
@@ -23,6 +23,10 @@ built_of needed name = record (with_index 1 (filled (value_rule name))) { requir
 -- a flag, as clap builds it
 abbrev pub flag_of : Text → Rule
 flag_of name = with_index 1 (filled (flag_rule name))
+
+-- a text that has to be there, as clap builds it
+abbrev pub needed_built : Text → Rule
+needed_built id = with_index 1 (filled (needed_rule id))
 
 -- the option's word, alone and with a value
 abbrev pub alone : Text → Text
@@ -60,7 +64,6 @@ pub record AreRules (names flags wanted : List Text) (c : List Rule) : Type 0 wh
   pub flag : (n : Text) → IsOneOf n flags → IsFlag c n
   pub long : (n : Text) → Known names flags n (arg_by_long c n)
   pub short : ShortsFail c
-  pub no_place : arg_by_index c 1 ≡ None
   pub defaults : (rows : List Row) → defaults_fault rows c ≡ []
   pub needs : (rows : List Row) → list_any (λ a. a.required && not (is_given a.id (fold with_default rows c))) c ≡ list_any (λ n. not (is_given n rows)) wanted
 

@@ -101,7 +101,6 @@ serve_rules = record {
   flag = serve_flag;
   long = serve_long;
   short = serve_short;
-  no_place = refl;
   defaults = λ rows. defaults_pass serve_built.rules rows (inl refl, (inl refl, (inl refl, (inl refl, (inl refl, (inl refl, (inl refl, (inl refl, (inr refl, (inl refl, (inl refl, (inl refl, tt))))))))))));
   needs = λ rows. ap (λ b. not b || false) (count_given rows);
 }
@@ -238,7 +237,7 @@ asks_or_not rest c d s a p q b j x digits m (Some listening) (Some count) (Some 
 pub serve_in : (rest : List Text) → IsSub (codes "serve") serve_built → All IsUtf8 rest → fault_of command_line (codes "serve" ∷ rest) ≡ []
     → ((asked : Asked) × IsLine (codes "serve" ∷ rest) asked) ⊎ (asked_of (subcommand_of command_line (codes "serve" ∷ rest)) ≡ None)
 serve_in rest sub utf8 none =
-    let read = options_in (codes "serve") option_names flag_names needed_names serve_built.rules serve_rules rest sub utf8 none in
+    let read = options_in (codes "serve") option_names flag_names needed_names serve_built.rules serve_rules rest refl sub utf8 none in
     let os = read.options in
     let mirror = is_some (value_of (codes "mirror") os) in
     let count_is = needed_text option_names flag_names (codes "count") os

@@ -1,16 +1,18 @@
--- The lines of the program in plain words: a subcommand and the texts that it wants, as `show HEX`
+-- The lines of the program in plain words: a subcommand and the texts that it wants, as `expr TEXT`
 -- or `eval PROGRAM DATAGRAM`. `--` may stand before any of the texts or after them, and a text is
 -- no flag unless `--` stands before it. The flag of `eval` may stand anywhere but behind `--`.
 -- The others have options in any order, which stand once at most, each with a value, as
--- `--config F` or `--config=F`; all may be left out but the moment of `leases` and of `pools`,
+-- `--config F` or `--config=F`; all may be left out but the moment of `leases`, `pools` and `why`,
 -- `--at M`, the store of `import`, `--store F`, and the count of `serve`, `--count N`. A flag
--- stands among the options, once at most and with no value: `--live` of `leases` and of `pools`,
--- which stands only where `--store F` does, `--prometheus` of `pools`, and `--mirror` of `serve`.
-use Rattle.std.specs.Prelude.{◌≡◌, ◌⊎◌, ◌==◌, ℕ, Bool, true, false, List, [], ◌∷◌, ◌++◌, Option, Some, None, codes}
+-- stands among the options, once at most and with no value: `--live` of `leases`, `pools` and
+-- `why`, which stands only where `--store F` does, `--prometheus` of `pools`, and `--mirror` of
+-- `serve`. The datagram of `show` and of `why`, `HEX`, stands anywhere among their options and
+-- flags, or behind `--` after them.
+use Rattle.std.specs.Prelude.{◌≡◌, ◌⊎◌, ◌==◌, ◌||◌, ℕ, Bool, true, false, not, List, [], ◌∷◌, ◌++◌, Option, Some, None, is_some, codes}
 use Rattle.std.specs.List.Sorted.{IsPermutation}
 use Rattle.clap.specs.Words.{Text}
-use Rattle.kd_commands.specs.Order.{Asked, Checking, Serving, shows, types, compiles, verifies, evaluates, tests, replays, lists, looks, imports, filters, checks, serves, listening_of, loopback}
-use Rattle.kd_commands.specs.Values.{address_of, hardware_of, number_of, port_of, read_if_given, read_or}
+use Rattle.kd_commands.specs.Order.{Asked, Checking, Explaining, Serving, shows, types, compiles, verifies, evaluates, tests, replays, lists, looks, explains, imports, filters, checks, serves, listening_of, loopback}
+use Rattle.kd_commands.specs.Values.{address_of, event_line_of, hardware_of, number_of, port_of, read_if_given, read_or}
 use Rattle.kd_commands.specs.declared.orders.Listing.{Listing}
 use Rattle.kd_commands.specs.declared.orders.Listing.TheVariants.{Leases, Metrics, Pools}
 
@@ -60,6 +62,20 @@ AreOptionWords words [] = AreTexts words []
 AreOptionWords words (option ∷ options) =
     (behind : List Text) × BeginWith option.0 option.1 words behind × AreOptionWords behind options
 
+-- the words are these options and flags, in this order, and what is behind them
+abbrev pub BeginWithOptions : List (Text × Option Text) → List Text → List Text → Type 0
+BeginWithOptions [] words behind = words ≡ behind
+BeginWithOptions (option ∷ options) words behind =
+    (rest : List Text) × BeginWith option.0 option.1 words rest
+    × BeginWithOptions options rest behind
+
+-- the words are this text, which is no flag, and these options and flags behind it, or `--` and the
+-- text alone
+abbrev pub AreTextAndOptions : Text → List Text → List (Text × Option Text) → Type 0
+AreTextAndOptions text words options = ((words ≡ codes "--" ∷ text ∷ []) × (options ≡ []))
+    ⊎ ((behind : List Text) × (words ≡ text ∷ behind) × (is_flag text ≡ false)
+    × AreOptionWords behind options)
+
 -- those of the options that have a value
 abbrev pub given_values : List (Text × Option Text) → List (Text × Option Text)
 given_values [] = []
@@ -74,6 +90,18 @@ pub record IsOptionLine (name : Text) (words : List Text)
   pub named : words ≡ name ∷ behind
   pub options_behind : AreOptionWords behind in_order
   pub in_some_order : IsPermutation in_order options
+
+-- the words are this subcommand with this text among these options and flags, in any order
+pub record IsLineAround (name text : Text) (words : List Text)
+    (options : List (Text × Option Text)) : Type 0 where
+  pub behind : List Text
+  pub from_text : List Text
+  pub before : List (Text × Option Text)
+  pub after : List (Text × Option Text)
+  pub named : words ≡ name ∷ behind
+  pub options_before : BeginWithOptions before behind from_text
+  pub text_then : AreTextAndOptions text from_text after
+  pub in_some_order : IsPermutation (before ++ after) options
 
 -- the flag of this name, where it stands
 abbrev pub flag_given : Text → Bool → List (Text × Option Text)
@@ -120,6 +148,15 @@ pub record IsCheckLine (words : List Text) (checking : Checking) : Type 0 where
       ∷ (codes "store", checking.store) ∷ (codes "bind", bind) ∷ (codes "port", port)
       ∷ (codes "max-ahead", seconds) ∷ []))
 
+-- the words are `why` with this datagram, and with texts in its options that say this
+pub record IsWhyLine (words : List Text) (explaining : Explaining) : Type 0 where
+  pub digits : Text
+  pub dates : number_of digits ≡ Some explaining.at
+  pub has_store : not explaining.live || is_some explaining.store ≡ true
+  pub line : IsLineAround (codes "why") explaining.hex words
+      (listing_options explaining.config explaining.token_dir explaining.store digits
+      explaining.live)
+
 -- the words are `serve` with texts in its options that say this, and with the flag where replies
 -- are mirrored
 pub record IsServeLine (words : List Text) (serving : Serving) : Type 0 where
@@ -143,21 +180,25 @@ pub record IsServeLine (words : List Text) (serving : Serving) : Type 0 where
 
 -- the words are a line that asks for this
 abbrev pub IsLine : List Text → Asked → Type 0
-IsLine words (shows hex) = IsLineOf (codes "show") words (hex ∷ [])
+IsLine words (shows hex names) =
+    IsLineAround (codes "show") hex words (flag_given (codes "names") names)
 IsLine words (types text) = IsLineOf (codes "expr") words (text ∷ [])
 IsLine words (compiles text) = IsLineOf (codes "compile") words (text ∷ [])
 IsLine words (verifies hex) = IsLineOf (codes "verify") words (hex ∷ [])
 IsLine words (evaluates program datagram) = IsLineOf (codes "eval") words (program ∷ datagram ∷ [])
 IsLine words (tests text datagram) = IsFlaggedLine (codes "eval") words (text ∷ datagram ∷ [])
-IsLine words (replays config token_dir store) = IsOptionLine (codes "replay") words
+IsLine words (replays config token_dir store why) =
+    (digits : Option Text) × (read_if_given event_line_of digits ≡ Some why)
+    × IsOptionLine (codes "replay") words
     (given_values ((codes "config", config) ∷ (codes "token-dir", token_dir)
-    ∷ (codes "store", store) ∷ []))
+    ∷ (codes "store", store) ∷ (codes "why", digits) ∷ []))
 IsLine words (lists listing config token_dir store moment) =
     (digits : Text) × (number_of digits ≡ Some moment)
     × IsListingLine words listing (listing_options config token_dir store digits false)
 IsLine words (looks listing config token_dir store moment) =
     (digits : Text) × (number_of digits ≡ Some moment)
     × IsListingLine words listing (listing_options config token_dir (Some store) digits true)
+IsLine words (explains explaining) = IsWhyLine words explaining
 IsLine words (imports store) =
     IsOptionLine (codes "import") words ((codes "store", Some store) ∷ [])
 IsLine words (filters bytes number) = IsEventsLine words bytes number
@@ -168,8 +209,8 @@ IsLine words (serves serving) = IsServeLine words serving
 abbrev pub subcommands : List Text
 subcommands =
     codes "show" ∷ codes "expr" ∷ codes "compile" ∷ codes "verify" ∷ codes "eval" ∷ codes "replay"
-    ∷ codes "leases" ∷ codes "pools" ∷ codes "import" ∷ codes "events" ∷ codes "check"
-    ∷ codes "serve" ∷ []
+    ∷ codes "leases" ∷ codes "pools" ∷ codes "why" ∷ codes "import" ∷ codes "events"
+    ∷ codes "check" ∷ codes "serve" ∷ []
 
 -- the flag that asks for help
 abbrev pub IsHelpFlag : Text → Type 0

@@ -1,7 +1,7 @@
 -- The orders of the command line, over what the crate `clap` makes of a command line and words: the
 -- command line itself, which words give which order, and the numbers of the faults.
-use Rattle.std.specs.Prelude.{◌≡◌, ◌≢◌, ◌⊎◌, ◌+◌, ◌*◌, ◌^◌, ℕ, Bool, true, false, List, []}
-use Rattle.std.specs.Prelude.{Option, Some, None, Result, Ok, Err, codes, option_and_then, option_map, if◌then◌else◌}
+use Rattle.std.specs.Prelude.{◌≡◌, ◌≢◌, ◌⊎◌, ◌+◌, ◌*◌, ◌^◌, ◌||◌, ℕ, Bool, true, false, not, List, []}
+use Rattle.std.specs.Prelude.{Option, Some, None, is_some, Result, Ok, Err, codes, option_and_then, option_map, if◌then◌else◌}
 use Rattle.std.specs.Option.{option_map_or}
 use Rattle.std.specs.Str.{bytes_eq}
 use Rattle.std.specs.String.{string_bytes}
@@ -14,13 +14,13 @@ use Rattle.clap.specs.declared.error.kind.ErrorKind.TheVariants.{DisplayHelp, Di
 use Rattle.kd_commands.specs.declared.fault.LineFault.{LineFault}
 use Rattle.kd_commands.specs.declared.fault.LineFault.TheVariants.{CommandLine, Memory}
 use Rattle.kd_wire.specs.Steps.{◌>>=◌}
-use Rattle.kd_commands.specs.Values.{address_of, hardware_of, number_of, port_of, read_if_given, read_or}
+use Rattle.kd_commands.specs.Values.{address_of, event_line_of, hardware_of, number_of, port_of, read_if_given, read_or}
 use Rattle.kd_commands.specs.declared.orders.Listening.{Listening}
 use Rattle.kd_commands.specs.declared.orders.Listing.{Listing}
 use Rattle.kd_commands.specs.declared.orders.Listing.TheVariants.{Leases, Metrics, Pools}
 use Rattle.kd_commands.specs.declared.orders.Order.{Order}
 use Rattle.kd_commands.specs.declared.orders.Order.TheVariants.{Help, Version, Show, Expr, Compile, Verify, Eval, EvalText, Replay}
-use Rattle.kd_commands.specs.declared.orders.Order.TheVariants.{Check, Events, Import, Look, Serve, List as ListOrder}
+use Rattle.kd_commands.specs.declared.orders.Order.TheVariants.{Check, Events, Import, Look, Serve, Why, List as ListOrder}
 
 -- the number that a fault is printed with
 abbrev pub line_fault_number : LineFault → ℕ
@@ -49,9 +49,10 @@ needed_value name = record (value_rule name) { required = true }
 abbrev pub text_line : Text → Text → App
 text_line name id = with_rule (new_app name) (needed_rule id)
 
--- `show HEX`
+-- `show [--names] HEX`
 abbrev pub show_line : App
-show_line = text_line (codes "show") (codes "HEX")
+show_line = with_rule (with_rule (new_app (codes "show")) (flag_rule (codes "names")))
+    (needed_rule (codes "HEX"))
 
 -- `expr TEXT`
 abbrev pub expr_line : App
@@ -79,9 +80,9 @@ files_line name =
     (value_rule (codes "token-dir")))
     (value_rule (codes "store"))
 
--- `replay [--config F] [--token-dir D] [--store F]`
+-- `replay [--config F] [--token-dir D] [--store F] [--why N]`
 abbrev pub replay_line : App
-replay_line = files_line (codes "replay")
+replay_line = with_rule (files_line (codes "replay")) (value_rule (codes "why"))
 
 -- a subcommand that lists a store: `NAME [--config F] [--token-dir D] [--store F] [--live] --at M`
 abbrev pub listing_line : Text → App
@@ -95,6 +96,10 @@ leases_line = listing_line (codes "leases")
 -- `pools [--config F] [--token-dir D] [--store F] [--live] --at M [--prometheus]`
 abbrev pub pools_line : App
 pools_line = with_rule (listing_line (codes "pools")) (flag_rule (codes "prometheus"))
+
+-- `why [--config F] [--token-dir D] [--store F] [--live] --at M HEX`
+abbrev pub why_line : App
+why_line = with_rule (listing_line (codes "why")) (needed_rule (codes "HEX"))
 
 -- `import --store F`
 abbrev pub import_line : App
@@ -143,8 +148,9 @@ command_line =
     with_subcommand (with_subcommand
     (with_subcommand (with_subcommand
     (with_subcommand (with_subcommand
-    (with_subcommand (with_subcommand tools_line eval_line.top) replay_line.top) leases_line.top)
-    pools_line.top) import_line.top) events_line.top) check_line.top)
+    (with_subcommand (with_subcommand
+    (with_subcommand tools_line eval_line.top) replay_line.top) leases_line.top)
+    pools_line.top) why_line.top) import_line.top) events_line.top) check_line.top)
     serve_line.top
 
 -- ---- what the words ask for
@@ -161,6 +167,20 @@ pub record Checking : Type 0 where
   pub port : ℕ
   -- how many seconds the clock may run ahead, where a limit is given
   pub max_ahead : Option ℕ
+
+-- what `why` is asked for
+pub record Explaining : Type 0 where
+  -- the file of the configuration, the folder of the token files and the file of the leases, where
+  -- they are given
+  pub config : Option Text
+  pub token_dir : Option Text
+  pub store : Option Text
+  -- whether another process may have the file of the leases open
+  pub live : Bool
+  -- the moment of the datagram
+  pub at : ℕ
+  -- the text of the datagram
+  pub hex : Text
 
 -- what `serve` is asked for
 pub record Serving : Type 0 where
@@ -180,8 +200,8 @@ pub record Serving : Type 0 where
 
 -- what a subcommand asks for
 pub data Asked : Type 0 where
-  -- the lines of the datagram in this text
-  shows : Text → Asked
+  -- the lines of the datagram in this text, and whether the names of its options are printed
+  shows : Text → Bool → Asked
   -- the number of nodes of the class test in this text
   types : Text → Asked
   -- the token file of the program of the class test in this text
@@ -193,12 +213,15 @@ pub data Asked : Type 0 where
   -- the run of the program of the class test in the one text over the datagram in the other
   tests : Text → Text → Asked
   -- the events of standard input, replayed, with the file of the configuration, the folder of the
-  -- token files and the file of the leases, where they are given
-  replays : Option Text → Option Text → Option Text → Asked
+  -- token files and the file of the leases, where they are given, and with the line of the event
+  -- that is explained, where one is
+  replays : Option Text → Option Text → Option Text → Option ℕ → Asked
   -- this listing of the store at this moment, with the same files
   lists : Listing → Option Text → Option Text → Option Text → ℕ → Asked
   -- the same of the store in this file, which another process may have open
   looks : Listing → Option Text → Option Text → Text → ℕ → Asked
+  -- what one datagram gets, and why
+  explains : Explaining → Asked
   -- the lines of leases on standard input, read into the store in this file
   imports : Text → Asked
   -- the lines of a log on standard input, printed for people: those of the hardware address of
@@ -213,11 +236,20 @@ pub data Asked : Type 0 where
 abbrev pub flag_is_given : Option Text → Bool
 flag_is_given value = option_map_or (λ v. bytes_eq v (codes "true")) value false
 
+-- what a text asks `show` for, where it is there, with the flag's value
+abbrev pub showing_of : Option Text → Option Text → Option Asked
+showing_of value hex = option_map (λ text. shows text (flag_is_given value)) hex
+
 -- what two texts ask `eval` for, where both are there, with the flag's value
 abbrev pub evaluation_of : Option Text → Option Text → Option Text → Option Asked
 evaluation_of value program datagram =
     option_and_then (λ p. option_map
     (λ d. if flag_is_given value then tests p d else evaluates p d) datagram) program
+
+-- what these files ask `replay` for, where the text that says a line is one, if it is given
+abbrev pub replaying_of : Option Text → Option Text → Option Text → Option Text → Option Asked
+replaying_of config token_dir store why =
+    option_map (λ line. replays config token_dir store line) (read_if_given event_line_of why)
 
 -- what these files ask for at a moment: a listing, or with the flag `--live` one of a store that
 -- another process may have open, where its file is given
@@ -237,6 +269,27 @@ listing_of listing config token_dir store live at =
 -- what `pools` prints, by the value of its flag `--prometheus`
 abbrev pub pools_listing : Option Text → Listing
 pools_listing value = if flag_is_given value then Metrics else Pools
+
+-- what is asked of `why`, which needs the file of the leases where another process may have it open
+abbrev pub explaining_with : Explaining → Option Asked
+explaining_with explaining =
+    if not explaining.live || is_some explaining.store then Some (explains explaining) else None
+
+-- what these texts of the arguments ask `why` for, where the moment and the datagram are there, and
+-- the moment is a number
+abbrev pub explaining_of : (Text → Option Text) → Option Asked
+explaining_of text = do
+  digits ← text (codes "at")
+  moment ← number_of digits
+  datagram ← text (codes "HEX")
+  explaining_with (record {
+    config = text (codes "config");
+    token_dir = text (codes "token-dir");
+    store = text (codes "store");
+    live = flag_is_given (text (codes "live"));
+    at = moment;
+    hex = datagram;
+  })
 
 -- 127.0.0.1
 abbrev pub loopback : ℕ
@@ -299,7 +352,8 @@ serving_of text = do
 -- what the subcommand of this name asks for, with these matches
 abbrev pub asked_by : Text → List Row → Option Asked
 asked_by name rows =
-    if bytes_eq name (codes "show") then option_map (λ hex. shows hex) (first_of (codes "HEX") rows)
+    if bytes_eq name (codes "show")
+    then showing_of (first_of (codes "names") rows) (first_of (codes "HEX") rows)
     else (if bytes_eq name (codes "expr") then option_map (λ text. types text)
     (first_of (codes "TEXT") rows)
     else (if bytes_eq name (codes "compile") then option_map (λ text. compiles text)
@@ -310,8 +364,8 @@ asked_by name rows =
     then evaluation_of (first_of (codes "text") rows) (first_of (codes "PROGRAM") rows)
     (first_of (codes "DATAGRAM") rows)
     else (if bytes_eq name (codes "replay")
-    then Some (replays (first_of (codes "config") rows) (first_of (codes "token-dir") rows)
-    (first_of (codes "store") rows))
+    then replaying_of (first_of (codes "config") rows) (first_of (codes "token-dir") rows)
+    (first_of (codes "store") rows) (first_of (codes "why") rows)
     else (if bytes_eq name (codes "leases")
     then listing_of Leases (first_of (codes "config") rows) (first_of (codes "token-dir") rows)
     (first_of (codes "store") rows) (flag_is_given (first_of (codes "live") rows))
@@ -321,13 +375,14 @@ asked_by name rows =
     (first_of (codes "config") rows) (first_of (codes "token-dir") rows)
     (first_of (codes "store") rows) (flag_is_given (first_of (codes "live") rows))
     (first_of (codes "at") rows)
+    else (if bytes_eq name (codes "why") then explaining_of (λ option. first_of option rows)
     else (if bytes_eq name (codes "import")
     then option_map (λ store. imports store) (first_of (codes "store") rows)
     else (if bytes_eq name (codes "events")
     then filtering_of (first_of (codes "mac") rows) (first_of (codes "address") rows)
     else (if bytes_eq name (codes "check") then checking_of (λ option. first_of option rows)
     else (if bytes_eq name (codes "serve") then serving_of (λ option. first_of option rows)
-    else None)))))))))))
+    else None))))))))))))
 
 -- the same of the subcommand that was entered, if one was
 abbrev pub asked_of : Option (Text × List Row) → Option Asked
@@ -364,7 +419,7 @@ IsMistake words =
 abbrev pub AsksFor : List Text → Order → Type 0
 AsksFor words (Help text) = IsHelp words
 AsksFor words Version = IsVersion words
-AsksFor words (Show hex) = Asks words (shows (string_bytes hex))
+AsksFor words (Show hex names) = Asks words (shows (string_bytes hex) names)
 AsksFor words (Expr text) = Asks words (types (string_bytes text))
 AsksFor words (Compile text) = Asks words (compiles (string_bytes text))
 AsksFor words (Verify hex) = Asks words (verifies (string_bytes hex))
@@ -372,15 +427,24 @@ AsksFor words (Eval program datagram) =
     Asks words (evaluates (string_bytes program) (string_bytes datagram))
 AsksFor words (EvalText text datagram) =
     Asks words (tests (string_bytes text) (string_bytes datagram))
-AsksFor words (Replay config token_dir store) = Asks words
+AsksFor words (Replay config token_dir store why) = Asks words
     (replays (option_map string_bytes config) (option_map string_bytes token_dir)
-    (option_map string_bytes store))
+    (option_map string_bytes store) why)
 AsksFor words (ListOrder listing config token_dir store at) = Asks words
     (lists listing (option_map string_bytes config) (option_map string_bytes token_dir)
     (option_map string_bytes store) at)
 AsksFor words (Look listing config token_dir store at) = Asks words
     (looks listing (option_map string_bytes config) (option_map string_bytes token_dir)
     (string_bytes store) at)
+AsksFor words (Why config token_dir store live at hex) =
+    Asks words (explains (record {
+      config = option_map string_bytes config;
+      token_dir = option_map string_bytes token_dir;
+      store = option_map string_bytes store;
+      live = live;
+      at = at;
+      hex = string_bytes hex;
+    }))
 AsksFor words (Import store) = Asks words (imports (string_bytes store))
 AsksFor words (Events mac address) =
     Asks words (filters (option_map (λ bytes. bytes.items) mac) address)
@@ -413,21 +477,30 @@ HasFault words Memory = Unit {0}
 abbrev pub given_by : Order → Option Asked
 given_by (Help text) = None
 given_by Version = None
-given_by (Show hex) = Some (shows (string_bytes hex))
+given_by (Show hex names) = Some (shows (string_bytes hex) names)
 given_by (Expr text) = Some (types (string_bytes text))
 given_by (Compile text) = Some (compiles (string_bytes text))
 given_by (Verify hex) = Some (verifies (string_bytes hex))
 given_by (Eval program datagram) = Some (evaluates (string_bytes program) (string_bytes datagram))
 given_by (EvalText text datagram) = Some (tests (string_bytes text) (string_bytes datagram))
-given_by (Replay config token_dir store) = Some
+given_by (Replay config token_dir store why) = Some
     (replays (option_map string_bytes config) (option_map string_bytes token_dir)
-    (option_map string_bytes store))
+    (option_map string_bytes store) why)
 given_by (ListOrder listing config token_dir store at) = Some
     (lists listing (option_map string_bytes config) (option_map string_bytes token_dir)
     (option_map string_bytes store) at)
 given_by (Look listing config token_dir store at) = Some
     (looks listing (option_map string_bytes config) (option_map string_bytes token_dir)
     (string_bytes store) at)
+given_by (Why config token_dir store live at hex) =
+    Some (explains (record {
+      config = option_map string_bytes config;
+      token_dir = option_map string_bytes token_dir;
+      store = option_map string_bytes store;
+      live = live;
+      at = at;
+      hex = string_bytes hex;
+    }))
 given_by (Import store) = Some (imports (string_bytes store))
 given_by (Events mac address) = Some (filters (option_map (λ bytes. bytes.items) mac) address)
 given_by (Check config token_dir store bind port max_ahead) =

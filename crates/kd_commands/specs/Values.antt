@@ -25,6 +25,12 @@ port_of text =
     option_and_then (λ port. if nat_lt 0 port && nat_lt port (2 ^ 16) then Some port else None)
     (number_of text)
 
+-- the line of an event that a text says, where it says one: a number from 1 to 1,000,000
+abbrev pub event_line_of : Text → Option ℕ
+event_line_of text =
+    option_and_then (λ line. if nat_lt 0 line && nat_le line 1000000 then Some line else None)
+    (number_of text)
+
 -- the address of a text, where it is one: four decimal numbers with dots between them, each at most
 -- 255 and of one to three digits
 abbrev pub address_of : Text → Option ℕ

@@ -4,7 +4,7 @@ ghost use Rattle.clap.specs.declared.builder.command.Command.TheViews.{out-Comma
 ghost use Rattle.kd_commands.specs.Order.{command_line, compile_line, eval_line, events_line, expr_line, files_line};
 ghost use Rattle.kd_commands.specs.Order.{check_line, import_line, leases_line, listing_line, pools_line};
 ghost use Rattle.kd_commands.specs.Order.{program_line, replay_line, serve_line, show_line, tools_line};
-ghost use Rattle.kd_commands.specs.Order.{flag_rule, needed_rule, needed_value, value_rule, verify_line};
+ghost use Rattle.kd_commands.specs.Order.{flag_rule, needed_rule, needed_value, value_rule, verify_line, why_line};
 
 use clap::{Arg, ArgAction, Command};
 use std::alloc::{AllocError, Global};
@@ -18,6 +18,7 @@ pub(crate) fn kdhcp<'a>(alloc: Global) -> Result<Command<'a>, AllocError>
         .subcommand(replay(alloc)?)?
         .subcommand(leases(alloc)?)?
         .subcommand(pools(alloc)?)?
+        .subcommand(why(alloc)?)?
         .subcommand(import(alloc)?)?
         .subcommand(events(alloc)?)?
         .subcommand(check(alloc)?)?
@@ -47,17 +48,17 @@ fn program<'a>(alloc: Global) -> Result<Command<'a>, AllocError>
     Ok(named.no_binary_name(true).subcommand_required(true))
 }
 
-// `show HEX`.
+// `show [--names] HEX`.
 fn show<'a>(alloc: Global) -> Result<Command<'a>, AllocError>
     ensures app { IfOk result (λ c. app_of c ≡ show_line) }
     ensures local { IfOk result (λ c. (out-Command c).has_globals ≡ false) }
 {
-    let hex = Arg::new(alloc, "HEX")
-        .help("The bytes of a datagram, two hexadecimal digits each")
-        .required(true);
+    let names = flag(alloc, "names", "Print the options' names and values too");
+    let hex = datagram_text(alloc);
     Command::new(alloc, "show")
         .about("Print the lines of one datagram")
         .after_help("Example: kdhcp show \"$(cat discover.hex)\"")
+        .arg(names)?
         .arg(hex)
 }
 
@@ -110,6 +111,15 @@ fn required_text<'a>(alloc: Global, id: &'a str, help: &'a str) -> Arg<'a>
     ensures local { result.global ≡ false }
 {
     Arg::new(alloc, id).help(help).required(true)
+}
+
+// `HEX`, the bytes of a datagram.
+fn datagram_text<'a>(alloc: Global) -> Arg<'a>
+    ensures rule { rule_of result ≡ needed_rule (codes "HEX") }
+    ensures local { result.global ≡ false }
+{
+    let help = "The bytes of a datagram, two hexadecimal digits each";
+    required_text(alloc, "HEX", help)
 }
 
 // `--NAME`: the flag's name, and what help says of it.
@@ -189,7 +199,7 @@ fn over_files<'a>(
         .arg(store)
 }
 
-// `replay [--config F] [--token-dir D] [--store F]`.
+// `replay [--config F] [--token-dir D] [--store F] [--why N]`.
 fn replay<'a>(alloc: Global) -> Result<Command<'a>, AllocError>
     ensures app { IfOk result (λ c. app_of c ≡ replay_line) }
     ensures local { IfOk result (λ c. (out-Command c).has_globals ≡ false) }
@@ -199,7 +209,13 @@ fn replay<'a>(alloc: Global) -> Result<Command<'a>, AllocError>
         "replay",
         "Replay the events of standard input",
         "Example, the test of a configuration: kdhcp replay --config config.json < /dev/null",
-    )
+    )?
+    .arg(valued(
+        alloc,
+        "why",
+        "N",
+        "Explain the event of line N in place of handling it",
+    ))
 }
 
 // `--at M`, which has to be there.
@@ -263,6 +279,24 @@ fn pools<'a>(alloc: Global) -> Result<Command<'a>, AllocError>
         "prometheus",
         "Print metrics in Prometheus' text format",
     ))
+}
+
+// One that looks into the store of a server that runs.
+const WHY_EXAMPLE: &str =
+    "Example: kdhcp why --config config.json --store leases.db --live --at \"$(date +%s)\" \"$(cat discover.hex)\"";
+
+// `why [--config F] [--token-dir D] [--store F] [--live] --at M HEX`.
+fn why<'a>(alloc: Global) -> Result<Command<'a>, AllocError>
+    ensures app { IfOk result (λ c. app_of c ≡ why_line) }
+    ensures local { IfOk result (λ c. (out-Command c).has_globals ≡ false) }
+{
+    over_store(
+        alloc,
+        "why",
+        "Explain what one datagram gets, and why",
+        WHY_EXAMPLE,
+    )?
+    .arg(datagram_text(alloc))
 }
 
 // `--store F`, which has to be there.

@@ -1,9 +1,12 @@
 ghost use Rattle.std.specs.Prelude.{◌≡◌};
 ghost use Rattle.std.specs.Str.{all_ascii_digits};
-ghost use Rattle.kd_commands.specs.Values.{are_digits, number_of, port_of};
+ghost use Rattle.kd_commands.specs.Values.{are_digits, event_line_of, number_of, port_of};
 
 // The most digits that a number has.
 const MOST_DIGITS: usize = 20;
+
+// The last line of an event that can be explained.
+const LAST_EVENT_LINE: u64 = 1_000_000;
 
 // The number of a text, where it is one.
 pub(crate) fn number_in(text: &str) -> Option<u64>
@@ -22,6 +25,16 @@ pub(crate) fn port_in(text: &str) -> Option<u16>
 {
     match number_in(text) {
         Some(number) if number > 0 && number < 65_536 => Some(number as u16),
+        _ => None,
+    }
+}
+
+// The line of an event, where the text is one.
+pub(crate) fn event_line_in(text: &str) -> Option<u64>
+    ensures { result ≡ event_line_of text.now }
+{
+    match number_in(text) {
+        Some(line) if line > 0 && line <= LAST_EVENT_LINE => Some(line),
         _ => None,
     }
 }

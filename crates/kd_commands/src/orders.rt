@@ -9,6 +9,8 @@ pub enum Order {
     Show {
         /// The datagram's bytes, as the word gives them.
         hex: String,
+        /// Whether the names of the options are printed.
+        names: bool,
     },
     /// The number of nodes of one class test.
     Expr {
@@ -47,6 +49,9 @@ pub enum Order {
         token_dir: Option<String>,
         /// The path of the file of the leases, where the line gives one.
         store: Option<String>,
+        /// The line of the event that is explained in place of handling it, 1 to 1,000,000, where
+        /// the line gives one.
+        why: Option<u64>,
     },
     /// A table of the leases of a store at a moment.
     List {
@@ -73,6 +78,21 @@ pub enum Order {
         store: String,
         /// The moment, in whole seconds.
         at: u64,
+    },
+    /// What one datagram gets, and why.
+    Why {
+        /// The path of the configuration's file, where the line gives one.
+        config: Option<String>,
+        /// The path of the token files' folder, where the line gives one.
+        token_dir: Option<String>,
+        /// The path of the file of the leases; it is there where `live` is.
+        store: Option<String>,
+        /// Whether another process may have the file of the leases open.
+        live: bool,
+        /// The moment of the datagram, in whole seconds.
+        at: u64,
+        /// The datagram's bytes, as the word gives them.
+        hex: String,
     },
     /// The lines of leases on standard input, read into a store without leases.
     Import {

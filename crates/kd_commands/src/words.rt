@@ -7,15 +7,16 @@ ghost use Rattle.kd_commands.specs.Order.{Asked, Asks, AsksFor, GivesUnlessFull,
 ghost use Rattle.kd_commands.specs.Order.{IsVersionUnlessFull};
 ghost use Rattle.kd_commands.specs.Order.{asked_by, asked_of, compiles, evaluates, evaluation_of, flag_is_given};
 ghost use Rattle.kd_commands.specs.Order.{checking_of, filtering_of, given_by, imports, listening_of, listing_at, listing_of};
-ghost use Rattle.kd_commands.specs.Order.{pools_listing, replays, serving_of, shows, tests, types, verifies};
-ghost use Rattle.kd_commands.specs.Values.{address_of, hardware_of, number_of, port_of, read_if_given, read_or};
+ghost use Rattle.kd_commands.specs.Order.{explaining_of, explaining_with, pools_listing, replaying_of};
+ghost use Rattle.kd_commands.specs.Order.{serving_of, showing_of, tests, types, verifies};
+ghost use Rattle.kd_commands.specs.Values.{address_of, event_line_of, hardware_of, number_of, port_of, read_if_given, read_or};
 ghost use Rattle.kd_commands.specs.Steps.{AnswersKind, GivesIfThere};
 
 use crate::address::address_in;
 use crate::fault::LineFault;
 use crate::hardware::hardware_in;
 use crate::line::kdhcp;
-use crate::number::{number_in, port_in};
+use crate::number::{event_line_in, number_in, port_in};
 use crate::orders::{Listening, Listing, Order};
 use clap::ArgMatches;
 use clap::error::ErrorKind;
@@ -76,6 +77,7 @@ fn order_named(alloc: Global, name: &str, inner: &ArgMatches<'_>) -> Result<Orde
         "replay" => replayed(alloc, inner),
         "leases" => listed(alloc, Listing::Leases, inner),
         "pools" => listed_pools(alloc, inner),
+        "why" => explained(alloc, inner),
         "import" => imported(alloc, inner),
         "events" => filtered(alloc, inner),
         "check" => checked(alloc, inner),
@@ -86,11 +88,12 @@ fn order_named(alloc: Global, name: &str, inner: &ArgMatches<'_>) -> Result<Orde
 
 // What matches of `show` ask for.
 fn shown(alloc: Global, matches: &ArgMatches<'_>) -> Result<Order, LineFault>
-    ensures { GivesIfThere (option_map (λ hex. shows hex)
+    ensures { GivesIfThere (showing_of (first_value (found_of matches.now) (codes "names"))
         (first_value (found_of matches.now) (codes "HEX"))) result }
 {
+    let names = is_flagged(matches.get_str("names"));
     match text_of(alloc, matches, "HEX")? {
-        Some(hex) => Ok(Order::Show { hex }),
+        Some(hex) => Ok(Order::Show { hex, names }),
         None => Err(LineFault::CommandLine),
     }
 }
@@ -200,10 +203,14 @@ fn files_of(alloc: Global, matches: &ArgMatches<'_>) -> Result<Files, AllocError
 
 // What matches of `replay` ask for.
 fn replayed(alloc: Global, matches: &ArgMatches<'_>) -> Result<Order, LineFault>
-    ensures { GivesIfThere (Some (replays (first_value (found_of matches.now) (codes "config"))
+    ensures { GivesIfThere (replaying_of (first_value (found_of matches.now) (codes "config"))
         (first_value (found_of matches.now) (codes "token-dir"))
-        (first_value (found_of matches.now) (codes "store")))) result }
+        (first_value (found_of matches.now) (codes "store"))
+        (first_value (found_of matches.now) (codes "why"))) result }
 {
+    let Some(why) = event_line_if_given(matches.get_str("why")) else {
+        return Err(LineFault::CommandLine);
+    };
     let Files {
         config,
         token_dir,
@@ -213,6 +220,7 @@ fn replayed(alloc: Global, matches: &ArgMatches<'_>) -> Result<Order, LineFault>
         config,
         token_dir,
         store,
+        why,
     })
 }
 
@@ -280,6 +288,50 @@ fn listed_pools(alloc: Global, matches: &ArgMatches<'_>) -> Result<Order, LineFa
         Listing::Pools
     };
     listed(alloc, listing, matches)
+}
+
+// What matches of `why` ask for.
+fn explained(alloc: Global, matches: &ArgMatches<'_>) -> Result<Order, LineFault>
+    ensures { GivesIfThere (explaining_of (λ name. first_value (found_of matches.now) name)) result }
+{
+    let Some(moment) = number_given(matches.get_str("at")) else {
+        return Err(LineFault::CommandLine);
+    };
+    let Some(hex) = text_of(alloc, matches, "HEX")? else {
+        return Err(LineFault::CommandLine);
+    };
+    let live = is_flagged(matches.get_str("live"));
+    let files = files_of(alloc, matches)?;
+    explanation(files, live, moment, hex)
+}
+
+// The order that explains a datagram at a moment, over the store of these files.
+fn explanation(files: Files, live: bool, at: u64, hex: String) -> Result<Order, LineFault>
+    ensures { GivesIfThere (explaining_with (record {
+      config = option_map string_bytes files.config;
+      token_dir = option_map string_bytes files.token_dir;
+      store = option_map string_bytes files.store;
+      live = live;
+      at = at;
+      hex = string_bytes hex;
+    })) result }
+{
+    let Files {
+        config,
+        token_dir,
+        store,
+    } = files;
+    if live && store.is_none() {
+        return Err(LineFault::CommandLine);
+    }
+    Ok(Order::Why {
+        config,
+        token_dir,
+        store,
+        live,
+        at,
+        hex,
+    })
 }
 
 // What matches of `import` ask for.
@@ -450,6 +502,16 @@ fn number_if_given(value: Option<&str>) -> Option<Option<u64>>
 {
     match value {
         Some(text) => Some(Some(number_in(text)?)),
+        None => Some(None),
+    }
+}
+
+// The line of an event of an argument, if it is there.
+fn event_line_if_given(value: Option<&str>) -> Option<Option<u64>>
+    ensures { result ≡ read_if_given event_line_of (option_map (λ s. s.now) value.entry) }
+{
+    match value {
+        Some(text) => Some(Some(event_line_in(text)?)),
         None => Some(None),
     }
 }

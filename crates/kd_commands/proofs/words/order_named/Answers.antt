@@ -1,11 +1,10 @@
 use Rattle.std.proofs.Common.{refl, codes}
-use Rattle.kd_commands.specs.Order.{compiles, imports, shows, types, verifies}
-use Rattle.kd_commands.proofs.FromMatches.{at_check, at_eval, at_events, at_leases, at_pools, at_replay, at_serve, at_text}
+use Rattle.kd_commands.specs.Order.{compiles, imports, types, verifies}
+use Rattle.kd_commands.proofs.FromMatches.{at_check, at_eval, at_events, at_leases, at_pools, at_replay, at_serve, at_show, at_text, at_why}
 use Rattle.kd_commands.proofs.words.order_named.Goals as goal
 
 pub returns-in-show : goal.returns-in-show
-returns-in-show c =
-    at_text c.args.inner.now c.args.name.now (codes "show") (codes "HEX") (λ hex. shows hex) c.shown.result c.in-show.is refl c.shown.ensures
+returns-in-show c = at_show c.args.inner.now c.args.name.now c.shown.result c.in-show.is c.shown.ensures
 
 pub returns-in-expr : goal.returns-in-expr
 returns-in-expr c =
@@ -30,6 +29,9 @@ returns-in-leases c = at_leases c.args.inner.now c.args.name.now c.listed.result
 
 pub returns-in-pools : goal.returns-in-pools
 returns-in-pools c = at_pools c.args.inner.now c.args.name.now c.listed_pools.result c.in-pools.is c.listed_pools.ensures
+
+pub returns-in-why : goal.returns-in-why
+returns-in-why c = at_why c.args.inner.now c.args.name.now c.explained.result c.in-why.is c.explained.ensures
 
 pub returns-in-import : goal.returns-in-import
 returns-in-import c =
