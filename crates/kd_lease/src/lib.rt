@@ -43,4 +43,4 @@ pub use ranks::{Ranks, ranks_of};
 pub use reservation::{is_reserved, reservation_of};
 pub use seeking::{is_client_at, is_held_at, knows_client};
 pub use sending::destination;
-pub use subnet::{place_of, subnet_of};
+pub use subnet::{place_of, pool_options, subnet_of};

@@ -53,8 +53,9 @@ fn admits(subnet: &Subnet, names: &Held) -> bool
     }
 }
 
-// The options of the first pool of the subnet that has the address.
-pub(crate) fn pool_options(subnet: &Subnet, address: u32) -> &[OptionData]
+/// The options of the first pool of the subnet that has the address, in host order; none where no
+/// pool has it.
+pub fn pool_options(subnet: &Subnet, address: u32) -> &[OptionData]
     ensures { result.now ≡ options_of_pool subnet.now.pools address }
 {
     match pool_of(subnet, address) {

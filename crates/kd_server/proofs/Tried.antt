@@ -15,19 +15,18 @@ pub foreseen : (config : Configuration) (ports : Ports) (rows : List Row) (event
     → WouldAnswer (record { ports = ports; config = config; rows = rows }) event (record { now = now; response = response })
 foreseen config ports rows event now row response early is (inl none) =
     (after rows row, record { early = early; now = is; done = inl (record { unreadable = none.unreadable; quiet = none.quiet; table = ap (after rows) none.none }) })
-foreseen config ports rows event now row response early is (inr t) =
-    (
-      after rows row,
-      record {
-        early = early;
-        now = is;
-        done =
-            inr (record {
-              message = t.message;
-              reads = t.reads;
-              outcome = t.turns.outcome;
-              changes = record { names = t.turns.names; held = t.turns.held; set = row; decides = t.turns.decides; becomes = refl };
-              responds = t.turns.responds;
-            });
-      },
-    )
+foreseen config ports rows event now row response early is (inr t) = (
+  after rows row,
+  record {
+    early = early;
+    now = is;
+    done =
+        inr (record {
+          message = t.message;
+          reads = t.reads;
+          outcome = t.turns.outcome;
+          changes = record { names = t.turns.names; held = t.turns.held; set = row; decides = t.turns.decides; becomes = refl };
+          responds = t.turns.responds;
+        });
+  },
+)

@@ -1,4 +1,4 @@
-ghost use Rattle.std.specs.Prelude.{◌≡◌, IfErr, IfOk};
+ghost use Rattle.std.specs.Prelude.{◌≡◌, ◌<◌, ◌^◌, IfErr, IfOk};
 ghost use Rattle.kd_replay.specs.Text.{IsSmall};
 ghost use Rattle.kd_server.specs.Batch.{LeavesOut};
 ghost use Rattle.kd_server.specs.Trial.{TriesStep, WouldAnswer, at_rows, trying};
@@ -85,6 +85,7 @@ impl Rules<'_> {
         ensures answer { IfOk result (WouldAnswer (trying self.now rows.now.rows)
             (record { moment = moment; bytes = bytes.now })) }
         ensures small { IfOk result (λ handled. IsSmall handled.response) }
+        ensures early { IfOk result (λ handled. handled.now < 2 ^ 40) }
         ensures failed { IfErr result (λ fault. LeavesOut rows.now.rows
             (record { moment = moment; bytes = bytes.now }) fault rows.now.rows) }
     {

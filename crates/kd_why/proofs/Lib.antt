@@ -1,0 +1,3 @@
+pub mod Giving
+pub mod Inquired
+pub mod Testing

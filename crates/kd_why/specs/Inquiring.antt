@@ -1,5 +1,5 @@
 -- A line of an input that is explained, over the rows that the events of the lines before it leave.
-use Rattle.std.specs.Prelude.{◌≡◌, ◌⊎◌, ◌+◌, ◌≤◌, ◌<◌, ◌++◌, ◌∷◌, ℕ, List, Option, Some, length}
+use Rattle.std.specs.Prelude.{◌≡◌, ◌⊎◌, ◌+◌, ◌≤◌, ◌<◌, ◌++◌, ◌∷◌, ℕ, List, Option, Some, Result, Ok, Err, length}
 use Rattle.kd_event.specs.declared.event.Event.{Event}
 use Rattle.kd_event.specs.declared.event.Handled.{Handled}
 use Rattle.kd_replay.specs.History.{History}
@@ -99,3 +99,10 @@ IsReached old event fault new =
 abbrev pub IsEnding : Inquiring → Event → ServeFault → Inquiring → Type 0
 IsEnding old event fault new =
     ((old.left ≡ 0) × IsReached old event fault new) ⊎ IsLeftUnsaid old event fault new
+
+-- why a line is not explained, by the end of the replay of the lines before it: there is no such
+-- line, or no memory for what a replay writes, or its own fault
+abbrev pub ending_fault : Result ℕ ReplayFault → ℕ → ReplayFault
+ending_fault (Ok count) number = faults.BadLine number
+ending_fault (Err faults.Write) number = faults.Memory
+ending_fault (Err fault) number = fault

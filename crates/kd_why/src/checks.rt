@@ -4,8 +4,10 @@ ghost use Rattle.kd_lease.specs.Rules.{asking};
 ghost use Rattle.kd_why.specs.Checks.{AreChecks, ciaddr_in, subject_in};
 
 use kd_config::Subnet;
-use kd_lease::{Question, fits, in_pools, is_client_at, is_free, is_held_at, is_reserved};
-use kd_lease::{knows_client, renewed_of, requested_of, reservation_of, server_of};
+use kd_lease::{
+    Question, fits, in_pools, is_client_at, is_free, is_held_at, is_reserved, knows_client,
+    renewed_of, requested_of, reservation_of, server_of,
+};
 use kd_options::{Message, MessageType};
 
 /// What is checked of an address for a client, in a subnet (RFC 2131 section 4.3).
@@ -79,9 +81,5 @@ fn ciaddr_of(message: &Message<'_>) -> Option<u32>
     ensures { result ≡ ciaddr_in message.now }
 {
     let address = message.header().ciaddr;
-    if address == 0 {
-        None
-    } else {
-        Some(address)
-    }
+    if address == 0 { None } else { Some(address) }
 }

@@ -24,7 +24,11 @@ pub struct Trace {
 /// # Errors
 ///
 /// There is no memory for the names or the values of a test.
-pub fn trace(alloc: Global, classes: &Classes, message: &Message<'_>) -> Result<Trace, AllocError>
+pub fn trace_classes(
+    alloc: Global,
+    classes: &Classes,
+    message: &Message<'_>,
+) -> Result<Trace, AllocError>
     ensures tested { IfOk result (λ t. AreTested message.now classes.now
         (base_names (value_of 60 message.now.options)) t.outcomes.items t.names) }
     ensures held { IfOk result (λ t. HeldSet message.now classes.now t.names) }

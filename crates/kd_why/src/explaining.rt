@@ -1,8 +1,9 @@
 ghost use Rattle.std.specs.Prelude.{◌≡◌, ◌<◌, ◌^◌, IfOk, None, option_copied};
+ghost use Rattle.kd_lease.specs.Change.{asked_for};
 ghost use Rattle.kd_lease.specs.Rules.{asking};
-ghost use Rattle.kd_why.specs.Explaining.{Explains, AreFoundIn, IsReservedIn};
+ghost use Rattle.kd_why.specs.Explaining.{AreFoundFor, AreFoundIn, Explains, IsReservedIn};
 
-use crate::classes::{Trace, trace};
+use crate::classes::{Trace, trace_classes};
 use kd_config::{Config, Reservation, Subnet};
 use kd_lease::{Decision, Question, Ranks, decide, identity, ranks_of, reservation_of, subnet_of};
 use kd_machine::{Held, Outcome};
@@ -38,31 +39,24 @@ pub struct Explanation<'a> {
 pub fn explain<'a>(
     alloc: Global,
     config: &'a Config,
-    rows: &Rows,
-    message: &Message<'_>,
+    rows: &'a Rows,
+    message: &'a Message<'a>,
     moment: u64,
 ) -> Result<Explanation<'a>, AllocError>
     requires { moment < 2 ^ 40 }
     ensures { IfOk result (Explains config.now rows.now.rows message.now moment) }
 {
-    let Trace { outcomes, names } = trace(alloc, config.classes(), message)?;
+    let Trace { outcomes, names } = trace_classes(alloc, config.classes(), message)?;
     let client = identity(alloc, message)?;
     let subnet = subnet_of(config, &names, &message.header());
     let reservation = reservation_in(message, subnet);
-    let ranks = match &client {
-        Some(client) => found_in(
-            &Question {
-                config,
-                rows,
-                names: &names,
-                message,
-                client: client.as_slice(),
-                moment,
-            },
-            subnet,
-        ),
-        None => None,
+    let asked = Asked {
+        config,
+        rows,
+        message,
+        moment,
     };
+    let ranks = found_for(asked, &names, &client, subnet);
     let decision = decide(alloc, config, rows, message, &names, moment)?;
     Ok(Explanation {
         client,
@@ -81,6 +75,48 @@ fn reservation_in<'a>(message: &Message<'_>, subnet: Option<&'a Subnet>) -> Opti
 {
     match subnet {
         Some(subnet) => reservation_of(message, subnet),
+        None => None,
+    }
+}
+
+// What is asked of the rules, but for the client and the names of its classes.
+#[derive(Clone, Copy)]
+struct Asked<'a> {
+    config: &'a Config,
+    rows: &'a Rows,
+    message: &'a Message<'a>,
+    moment: u64,
+}
+
+// The first address of each rank for a client in a subnet, if there are both.
+fn found_for(
+    asked: Asked<'_>,
+    names: &Held,
+    client: &Option<Bytes>,
+    subnet: Option<&Subnet>,
+) -> Option<Ranks>
+    ensures { AreFoundFor client.now (asked_for asked.entry.config.now asked.entry.rows.now.rows
+        names.now asked.entry.message.now asked.entry.moment)
+        (option_copied subnet.entry) result }
+{
+    let Asked {
+        config,
+        rows,
+        message,
+        moment,
+    } = asked;
+    match client {
+        Some(client) => found_in(
+            &Question {
+                config,
+                rows,
+                names,
+                message,
+                client: client.as_slice(),
+                moment,
+            },
+            subnet,
+        ),
         None => None,
     }
 }

@@ -1,6 +1,6 @@
 ghost use Rattle.std.specs.Prelude.{◌≡◌, ℕ, List, MatchResult, Some, false, true};
 ghost use Rattle.kd_server.specs.Trial.{trying};
-ghost use Rattle.kd_why.specs.Inquiring.{IsExplainedAt, IsNotExplained, IsReached};
+ghost use Rattle.kd_why.specs.Inquiring.{IsExplainedAt, IsNotExplained, IsReached, ending_fault};
 
 use crate::lines::Lines;
 use crate::why::why_text;
@@ -27,8 +27,8 @@ pub fn why_line<R: Source>(
     requires source { R.has_failed source.old ≡ false }
     ensures explained { (input : List ℕ) → R.remaining source.old ≡ Some input
         → MatchResult result
-        (λ text. IsExplainedAt (trying rules rows.now.rows) input number text.items)
-        (IsNotExplained (R.has_failed source.new ≡ true) (trying rules rows.now.rows) input
+        (λ text. IsExplainedAt (trying rules.entry rows.now.rows) input number text.items)
+        (IsNotExplained (R.has_failed source.new ≡ true) (trying rules.entry rows.now.rows) input
         number) }
 {
     let Some(left) = number.checked_sub(1) else {
@@ -42,22 +42,20 @@ pub fn why_line<R: Source>(
     };
     let done = replay_with(rules.alloc, source, &mut sink, &mut inquiry);
     let Inquiry { text, .. } = inquiry;
-    told(text, done, number)
-}
-
-// What is said at the end: the text, where the line was reached, or the fault.
-fn told(
-    text: Option<Vec<u8>>,
-    done: Result<u64, ReplayFault>,
-    number: u64,
-) -> Result<Vec<u8>, ReplayFault> {
     match text {
         Some(text) => Ok(text),
-        None => match done {
-            Ok(_) => Err(ReplayFault::BadLine(number)),
-            Err(ReplayFault::Write) => Err(ReplayFault::Memory),
-            Err(fault) => Err(fault),
-        },
+        None => Err(ending(done, number)),
+    }
+}
+
+// Why a line is not explained, by the end of the replay of the lines before it.
+fn ending(done: Result<u64, ReplayFault>, number: u64) -> ReplayFault
+    ensures { result ≡ ending_fault done number }
+{
+    match done {
+        Ok(_) => ReplayFault::BadLine(number),
+        Err(ReplayFault::Write) => ReplayFault::Memory,
+        Err(fault) => fault,
     }
 }
 

@@ -17,7 +17,7 @@ mod text;
 mod why;
 
 pub use checks::{Checks, checks_of, subject_of};
-pub use classes::{Trace, trace};
+pub use classes::{Trace, trace_classes};
 pub use explaining::{Explanation, explain};
 pub use inquiry::why_line;
 pub use origins::{Origin, origin_of};

@@ -1,9 +1,10 @@
-ghost use Rattle.std.specs.Prelude.{◌≡◌, ℕ, ◌<◌, ◌∷◌, [], MatchOption, false, true};
-ghost use Rattle.kd_lease.specs.Given.{class_options, options_of_pool};
+ghost use Rattle.std.specs.Prelude.{◌≡◌, ℕ, ◌<◌, ◌∷◌, [], MatchOption, false, length, true};
+ghost use Rattle.kd_lease.specs.Given.{class_options};
 ghost use Rattle.kd_why.specs.Origins.{IsOrigin, class_has, has_code};
 
 use kd_classes::{ClassDef, Classes, OptionData};
 use kd_config::{Config, Subnet};
+use kd_lease::pool_options;
 use kd_machine::Held;
 
 /// Where a configured option comes from (Kea Administrator Reference Manual, chapters DHCPv4 Server
@@ -34,7 +35,7 @@ pub fn origin_of(
 ) -> Option<Origin>
     ensures { IsOrigin config.now subnet.now names.now address code result }
 {
-    if pool_lists(subnet, address, code) {
+    if lists(pool_options(subnet, address), code) {
         return Some(Origin::Pool);
     }
     if lists(subnet.options.as_slice(), code) {
@@ -46,33 +47,14 @@ pub fn origin_of(
     if lists(config.options(), code) {
         return Some(Origin::Global);
     }
-    if code == 1 {
-        Some(Origin::Mask)
-    } else {
-        None
-    }
-}
-
-// The first pool that has the address lists the code.
-fn pool_lists(subnet: &Subnet, address: u32, code: u8) -> bool
-    ensures { result ≡ has_code code (options_of_pool subnet.now.pools address) }
-{
-    match subnet
-        .pools
-        .as_slice()
-        .iter()
-        .find(|pool| pool.range.contains(address))
-    {
-        Some(pool) => lists(pool.options.as_slice(), code),
-        None => false,
-    }
+    if code == 1 { Some(Origin::Mask) } else { None }
 }
 
 // The index of the first class with the code of which the client is a member.
 fn class_with(classes: &Classes, names: &Held, code: u8) -> Option<usize>
     ensures { MatchOption result
         ((j : ℕ) → class_has classes.now names.now code j ≡ false)
-        (λ i. (class_has classes.now names.now code i ≡ true)
+        (λ i. (i < length classes.now) × (class_has classes.now names.now code i ≡ true)
         × ((j : ℕ) → j < i → class_has classes.now names.now code j ≡ false)) }
 {
     for i in 0..classes.len() {

@@ -23,7 +23,7 @@ pub fn why_text(
     moment: u64,
     bytes: &[u8],
 ) -> Result<Vec<u8>, ServeFault>
-    ensures text { IfOk result (λ text. EndsInAnswer (trying rules rows.now.rows)
+    ensures text { IfOk result (λ text. EndsInAnswer (trying rules.entry rows.now.rows)
         (record { moment = moment; bytes = bytes.now }) text.items) }
     ensures failed { IfErr result (IsUnsaid moment) }
 {

@@ -1,0 +1,100 @@
+-- Which class gives an option, and which origin is the first that has it.
+use Rattle.std.proofs.Common.{◌≡◌, ℕ, zero, suc, ◌+◌, ◌<◌, ◌≤◌, arith, Bool, true, false, List, [], ◌∷◌, ◌⊎◌, inl, inr, length, drop, take, Option, Some, None, refl, sym, ap, ◌∙◌, subst, ⊎_elim}
+use Rattle.std.specs.Prelude.{slice_get}
+use Rattle.std.proofs.lemmas.List.{at_drop_all}
+use Rattle.kd_classes.specs.declared.definition.ClassDef.{ClassDef}
+use Rattle.kd_config.specs.Configuration.{Configuration}
+use Rattle.kd_config.specs.declared.subnet.Subnet.{Subnet}
+use Rattle.kd_lease.specs.Given.{class_options, options_of_pool}
+use Rattle.kd_why.proofs.Testing.{left_at}
+use Rattle.kd_why.specs.Origins.{IsOrigin, class_has, has_code, options_from, origin_place}
+use Rattle.kd_why.specs.declared.origins.Origin.{Origin}
+use Rattle.kd_why.specs.declared.origins.Origin.TheVariants as origins
+
+-- a class at an index has the code where its options as a member's have it
+pub has_at : (classes : List ClassDef) (names : List (List ℕ)) (code i : ℕ) (class : ClassDef) (b : Bool) → Some class ≡ slice_get classes i
+    → b ≡ has_code code (class_options (class ∷ []) names) → class_has classes names code i ≡ b
+has_at classes names code i class b at is = ap (λ cs. has_code code (class_options (take 1 cs) names)) (left_at classes i class (sym at)) ∙ sym is
+
+-- behind the last class there is none
+pub none_past : (classes : List ClassDef) (names : List (List ℕ)) (code j : ℕ) → length classes ≤ j → class_has classes names code j ≡ false
+none_past classes names code j past = ap (λ cs. has_code code (class_options (take 1 cs) names)) (at_drop_all (λ xs. xs) classes j past)
+
+below_or : (j i : ℕ) → j < i + 1 → (j < i) ⊎ (j ≡ i)
+below_or j zero h = inr (omega (arith, h))
+below_or zero (suc i) h = inl (omega arith)
+below_or (suc j) (suc i) h = ⊎_elim (λ l. inl (omega (arith, l))) (λ e. inr (ap suc e)) (below_or j i (omega (arith, h)))
+
+-- one class more has not the code
+pub none_on : (classes : List ClassDef) (names : List (List ℕ)) (code i : ℕ) → ((j : ℕ) → j < i → class_has classes names code j ≡ false) → class_has classes names code i ≡ false
+    → (j : ℕ) → j < i + 1 → class_has classes names code j ≡ false
+none_on classes names code i earlier here j h =
+    ⊎_elim (earlier j) (λ e. subst (λ (k : ℕ). class_has classes names code k ≡ false) (sym e) here) (below_or j i h)
+
+-- no class has the code where none of those that there are has
+pub none_at_all : (classes : List ClassDef) (names : List (List ℕ)) (code i : ℕ) → length classes ≤ i → ((j : ℕ) → j < i → class_has classes names code j ≡ false)
+    → (j : ℕ) → class_has classes names code j ≡ false
+none_at_all classes names code i past earlier j = ⊎_elim (earlier j) (λ h. none_past classes names code j (omega (arith, h, past))) (split j i) where
+  split : (j i : ℕ) → (j < i) ⊎ (i ≤ j)
+  split j zero = inr (omega arith)
+  split zero (suc i) = inl (omega arith)
+  split (suc j) (suc i) = ⊎_elim (λ l. inl (omega (arith, l))) (λ l. inr (omega (arith, l))) (split j i)
+
+module _ (config : Configuration) (s : Subnet) (names : List (List ℕ)) (a code : ℕ) where
+  abbrev pub Misses : Origin → Type 0
+  Misses o = has_code code (options_from config s names a o) ≡ false
+
+  abbrev pub Has : Origin → Type 0
+  Has o = has_code code (options_from config s names a o) ≡ true
+
+  pub is_pool : Has origins.Pool → IsOrigin config s names a code (Some origins.Pool)
+  is_pool has = (has, λ other h. before other h) where
+    before : (other : Origin) → origin_place (length config.classes) other < 0 → Misses other
+    before other h = absurd (omega (arith, h))
+
+  pub is_subnet : Misses origins.Pool → Has origins.Subnet → IsOrigin config s names a code (Some origins.Subnet)
+  is_subnet no_pool has = (has, before) where
+    before : (other : Origin) → origin_place (length config.classes) other < 1 → Misses other
+    before origins.Pool h = no_pool
+    before origins.Subnet h = absurd (omega (arith, h))
+    before (origins.Class i) h = absurd (omega (arith, h))
+    before origins.Global h = absurd (omega (arith, h))
+    before origins.Mask h = absurd (omega (arith, h))
+
+  pub is_class : (i : ℕ) → i < length config.classes → Misses origins.Pool → Misses origins.Subnet → ((j : ℕ) → j < i → Misses (origins.Class j)) → Has (origins.Class i)
+      → IsOrigin config s names a code (Some (origins.Class i))
+  is_class i within no_pool no_subnet earlier has = (has, before) where
+    before : (other : Origin) → origin_place (length config.classes) other < 2 + i → Misses other
+    before origins.Pool h = no_pool
+    before origins.Subnet h = no_subnet
+    before (origins.Class j) h = earlier j (omega (arith, h))
+    before origins.Global h = absurd (omega (arith, h, within))
+    before origins.Mask h = absurd (omega (arith, h, within))
+
+  pub is_global : Misses origins.Pool → Misses origins.Subnet → ((j : ℕ) → Misses (origins.Class j)) → Has origins.Global → IsOrigin config s names a code (Some origins.Global)
+  is_global no_pool no_subnet no_class has = (has, before) where
+    before : (other : Origin) → origin_place (length config.classes) other < 2 + length config.classes → Misses other
+    before origins.Pool h = no_pool
+    before origins.Subnet h = no_subnet
+    before (origins.Class j) h = no_class j
+    before origins.Global h = absurd (omega (arith, h))
+    before origins.Mask h = absurd (omega (arith, h))
+
+  pub is_mask : Misses origins.Pool → Misses origins.Subnet → ((j : ℕ) → Misses (origins.Class j)) → Misses origins.Global → code ≡ 1 → IsOrigin config s names a code (Some origins.Mask)
+  is_mask no_pool no_subnet no_class no_global one = (by_code, before) where
+    by_code : Has origins.Mask
+    by_code = rw one refl
+
+    before : (other : Origin) → origin_place (length config.classes) other < 3 + length config.classes → Misses other
+    before origins.Pool h = no_pool
+    before origins.Subnet h = no_subnet
+    before (origins.Class j) h = no_class j
+    before origins.Global h = no_global
+    before origins.Mask h = absurd (omega (arith, h))
+
+  pub is_none : Misses origins.Pool → Misses origins.Subnet → ((j : ℕ) → Misses (origins.Class j)) → Misses origins.Global → Misses origins.Mask → IsOrigin config s names a code None
+  is_none no_pool no_subnet no_class no_global no_mask origins.Pool = no_pool
+  is_none no_pool no_subnet no_class no_global no_mask origins.Subnet = no_subnet
+  is_none no_pool no_subnet no_class no_global no_mask (origins.Class j) = no_class j
+  is_none no_pool no_subnet no_class no_global no_mask origins.Global = no_global
+  is_none no_pool no_subnet no_class no_global no_mask origins.Mask = no_mask
