@@ -1,7 +1,7 @@
 -- A replay up to a line, over a server that explains the event of that line.
 use Rattle.std.specs.Prelude.{◌⊎◌}
 use Rattle.std.proofs.Common.{◌≡◌, ℕ, zero, suc, ◌+◌, ◌<◌, ◌≤◌, arith, List, [], ◌∷◌, ◌++◌, length, Option, Some, None, Ok, Err, Result, refl, sym, ap, ◌∙◌, subst, inl, inr, true≢false, is_some}
-use Rattle.std.proofs.lemmas.List.{length_append}
+use Rattle.std.proofs.lemmas.List.{length-append}
 use Rattle.kd_event.specs.declared.event.Event.{Event}
 use Rattle.kd_event.specs.declared.event.Handled.{Handled}
 use Rattle.kd_replay.specs.History.{History}
@@ -16,7 +16,7 @@ use Rattle.kd_why.specs.Inquiring.{Inquiring, IsBadAt, IsEarlier, IsEnding, IsEx
 -- the events of lines are as many as the lines
 as_many : (lines : List (List ℕ)) (events : List Event) → AreEvents lines events → length lines ≡ length events
 as_many [] [] h = refl
-as_many (line ∷ lines) (event ∷ events) h = ap (λ n. n + 1) (as_many lines events h.1)
+as_many (line ∷ lines) (event ∷ events) h = ap suc (as_many lines events h.1)
 as_many [] (event ∷ events) h = absurd h
 as_many (line ∷ lines) [] h = absurd h
 
@@ -27,7 +27,9 @@ record Passed (old : Inquiring) (events : List Event) (list : List Handled) (new
   text : new.text ≡ old.text
 
 passed : (old : Inquiring) (events : List Event) (list : List Handled) (new : Inquiring) → History IsEarlier old events list new → Passed old events list new
-passed old [] [] new same = record { trial = ap (λ (i : Inquiring). i.trial) same; left = sym (ap (λ (i : Inquiring). i.left + 0) same); text = ap (λ (i : Inquiring). i.text) same }
+passed old [] [] new same =
+    let left = ap (λ (i : Inquiring). i.left) same in
+    record { trial = ap (λ (i : Inquiring). i.trial) same; left = omega (arith, left); text = ap (λ (i : Inquiring). i.text) same }
 passed old (event ∷ events) (handled ∷ list) new h =
     let rest = passed h.0 events list new h.2 in
     record {
@@ -129,7 +131,7 @@ module _ (F : Type 0) (t : Trying) (number : ℕ) (input : List ℕ) (start new 
   pub explained : (done : Result ℕ ReplayFault) (out text : List ℕ) → Replays IsEarlier IsEnding F done (lines_of input) start new [] out → new.text ≡ Some text → IsExplainedAt t input number text
   explained (Ok count) out text r some = absurd (none_some new.text text (unsaid (lines_of input) new [] out r.2) some)
   explained (Err (faults.BadLine k)) out text r some =
-      absurd (none_some new.text text (ap (λ (i : Inquiring). i.text) r.ends.2.0 ∙ unsaid r.before r.mid [] r.between r.did) some)
+      absurd (none_some new.text text (ap (λ (i : Inquiring). i.text) r.ends.2 ∙ unsaid r.before r.mid [] r.between r.did) some)
   explained (Err (faults.Serve fault)) out text r some = said_at fault r.before r.after r.mid [] r.between text r.all r.did r.ends.0 some
   explained (Err faults.Write) out text r some = cut r.after r.ends where
     cut : (after : List (List ℕ)) → Ends IsEarlier IsEnding F faults.Write (length r.before + 1) after r.mid new r.between out → IsExplainedAt t input number text
@@ -149,6 +151,6 @@ module _ (F : Type 0) (t : Trying) (number : ℕ) (input : List ℕ) (start new 
     by : F ⊎ ((length r.before + 1 ≡ most_lines + 1) × (0 < length r.after)) → F ⊎ (most_lines < length (lines_of input))
     by (inl failed) = inl failed
     by (inr many) =
-        let all = ap length r.all ∙ length_append r.before r.after in
+        let all = ap length r.all ∙ length-append r.before r.after in
         inr (omega (arith, all, many.0, many.1))
   unexplained (Err faults.Memory) out r quiet = tt

@@ -1,12 +1,25 @@
-use Rattle.std.proofs.Common.{rules, ◌≡◌, ℕ, List, MatchResult, Some, false, true, ◌+◌, ◌-◌, ◌*◌, ◌<◌, ◌≤◌, length, ◌/◌, ◌%◌, Bool, nat_eq, nat_lt, [], ◌∷◌, ◌++◌, slice_index_or, slice_set, bit_and, bit_or, Fits, w8, w32, w64, Bor, MutBor}
+use Rattle.std.proofs.Common.{◌≡◌, ◌∙◌, [], Some, None, ap, arith, refl, sym, true}
+use Rattle.std.specs.Prelude.{option_map}
 use Rattle.kd_server.specs.Trial.{trying}
-use Rattle.kd_why.specs.Inquiring.{IsExplainedAt, IsNotExplained, IsReached, ending_fault}
+use Rattle.kd_why.proofs.Inquired.{explained, unexplained}
+use Rattle.kd_why.specs.Inquiring.{Inquiring}
 use Rattle.kd_why.proofs.inquiry.why_line.Goals as goal
 
--- src/inquiry.rt:33:1
 pub returns-in-Some-text : goal.returns-in-Some-text
-returns-in-Some-text g c = ?
+returns-in-Some-text g c = record {
+  explained = λ input tells.
+      let left = c.replay_with-done.ensures.replayed input [] tells (ap Some c.new-sink.ensures.bytes) in
+      explained (g.R.Source.has_failed c.replay_with-done.new.source ≡ true) (trying c.args.rules c.args.rows.now.rows) c.args.number input
+      (record { trial = c.in_ok-over.field-0; left = c.in-Some.left; text = None }) c.replay_with-done.new.server c.in_ok-over.ensures (omega (arith, c.in-Some.ensures)) refl c.replay_with-done.result
+      left.out c.in-Some-text.text.items left.replays (ap (λ (i : Inquiring). i.text) (sym c.inquiry.view_is) ∙ ap (option_map (λ t. t.items)) c.in-Some-text.is);
+}
 
--- src/inquiry.rt:21:1
 pub returns : goal.returns
-returns g c = ?
+returns g c = record {
+  explained = λ input tells.
+      let left = c.replay_with-done.ensures.replayed input [] tells (ap Some c.new-sink.ensures.bytes) in
+      rw c.ending.ensures
+      (unexplained (g.R.Source.has_failed c.replay_with-done.new.source ≡ true) (trying c.args.rules c.args.rows.now.rows) c.args.number input
+      (record { trial = c.in_ok-over.field-0; left = c.in-Some.left; text = None }) c.replay_with-done.new.server c.in_ok-over.ensures (omega (arith, c.in-Some.ensures)) refl c.replay_with-done.result
+      left.out left.replays (ap (λ (i : Inquiring). i.text) (sym c.inquiry.view_is) ∙ ap (option_map (λ t. t.items)) c.in-None.is));
+}
