@@ -4,6 +4,7 @@ pub mod Leases
 pub mod Lives
 pub mod NoOverlap
 pub mod OneStep
+pub mod Recorded
 pub mod Staging
 pub mod Step
 pub mod Trial

@@ -2,6 +2,7 @@
 //! that does nothing but name the laws it rests on.
 ghost use Rattle.kd_server.specs.Lives.{LivesAreHistories, LivesKeepConfigurations, OpeningsAreHistories, OpeningsEnd, ReachingIsCalls, RunsAreCalls, ServingIsCalls};
 ghost use Rattle.kd_server.specs.OneStep.{OneHistory, OneStep};
+ghost use Rattle.kd_server.specs.Recorded.{ReplayRepeatsSession, ReplayRepeatsSessions, ReplayStopsOnTheWay, SessionsAreHistories};
 ghost use Rattle.kd_server.specs.NoOverlap.{NoOverlap, NoOverlapAcross, NoOverlapForShortest, NoOverlapWhereNoneIsShorter};
 
 use kd_keeps::Keeps;
@@ -101,6 +102,41 @@ pub fn one_step()
 /// rows and stores of whatever types, answer the same events alike, byte for byte.
 pub fn one_history<S: Keeps, T: Keeps>()
     ensures { OneHistory S.Keeps T.Keeps }
+{
+    one_step();
+}
+
+/// A replay of what a session of `serve` recorded, over the configuration, the ports and the rows
+/// with which the session began, writes what the session logged, line for line, but for the lines
+/// `fault 99 Send`, and ends with the session's last rows. The two stores may be of any types. The
+/// session must end between two batches, and the replay must reach the end of the record.
+pub fn replay_repeats_session<S: Keeps, T: Keeps>()
+    ensures { ReplayRepeatsSession S.Keeps T.Keeps }
+{
+    one_step();
+}
+
+/// A session of `serve` that ends between two batches is a history of the events that it recorded,
+/// and what it logged is what the server answered them, whatever its store.
+pub fn sessions_are_histories<S: Keeps>()
+    ensures { SessionsAreHistories S.Keeps }
+{}
+
+/// The same for a day with restarts: each session begins with the rows with which the one before it
+/// ended, all have one configuration, and their stores may be of any types. One replay of all that
+/// they recorded, over the rows with which the first began, writes all that they logged, but for
+/// the lines `fault 99 Send`, and ends with the rows of the last.
+pub fn replay_repeats_sessions<T: Keeps>()
+    ensures { ReplayRepeatsSessions T.Keeps }
+{
+    one_step();
+}
+
+/// Where such a replay stops on the way, as it does when memory runs out, it has written a prefix
+/// of what the sessions logged, but for those lines. It never stops because a line of the record is
+/// no event.
+pub fn replay_stops_on_the_way<T: Keeps>()
+    ensures { ReplayStopsOnTheWay T.Keeps }
 {
     one_step();
 }
