@@ -16,7 +16,7 @@ fn owned(alloc: Global, words: &[&str]) -> Result<Vec<String>, AllocError> {
 // The name of an order and its texts, the second one empty where it has one alone.
 fn texts_of(order: &Order) -> (&str, &str, &str) {
     match order {
-        Order::Show { hex } => ("show", hex.as_str(), ""),
+        Order::Show { hex, .. } => ("show", hex.as_str(), ""),
         Order::Verify { hex } => ("verify", hex.as_str(), ""),
         Order::Eval { program, datagram } => ("eval", program.as_str(), datagram.as_str()),
         Order::EvalText { text, datagram } => ("--text", text.as_str(), datagram.as_str()),
@@ -100,6 +100,7 @@ fn printed(alloc: Global, words: &[String]) -> Result<Printed, AllocError> {
             Order::Replay { .. }
             | Order::List { .. }
             | Order::Look { .. }
+            | Order::Why { .. }
             | Order::Import { .. }
             | Order::Events { .. }
             | Order::Check { .. }

@@ -64,13 +64,13 @@ abbrev pub OfDecoded : (List ℕ → Printed → Type 0) → Result (List ℕ) F
 OfDecoded says (Ok bytes) p = says bytes p
 OfDecoded says (Err error) p = IsRefusal 98 p
 
--- the lines of a datagram
-abbrev pub ShowsDatagram : List ℕ → Printed → Type 0
-ShowsDatagram = OfDatagram (λ m p. IsSuccess (show_text m) p)
+-- the lines of a datagram, with the names of its options or without them
+abbrev pub ShowsDatagram : Bool → List ℕ → Printed → Type 0
+ShowsDatagram names = OfDatagram (λ m p. IsSuccess (show_text names m) p)
 
 -- the same of a word
-abbrev pub ShowsDecoded : Result (List ℕ) FromHexError → Printed → Type 0
-ShowsDecoded = OfDecoded ShowsDatagram
+abbrev pub ShowsDecoded : Bool → Result (List ℕ) FromHexError → Printed → Type 0
+ShowsDecoded names = OfDecoded (ShowsDatagram names)
 
 -- a class test's line, with the number of its nodes
 abbrev pub nodes_line : ℕ → List ℕ
@@ -229,7 +229,7 @@ TestsDecoded text datagram = OfDecoded (λ bytes p. OfText (TestsTree bytes) tex
 -- the order prints something that its words alone tell
 abbrev pub IsPrinted : Order → Type 0
 IsPrinted (Help text) = Unit {0}
-IsPrinted (Show hex) = Unit {0}
+IsPrinted (Show hex names) = Unit {0}
 IsPrinted (Expr text) = Unit {0}
 IsPrinted (Compile text) = Unit {0}
 IsPrinted (Verify hex) = Unit {0}
@@ -240,7 +240,7 @@ IsPrinted other = ⊥
 -- what each such order prints
 abbrev pub Answers : Order → Printed → Type 0
 Answers (Help text) p = IsSuccess (string_bytes text) p
-Answers (Show hex) p = ShowsDecoded (decode_of (string_bytes hex)) p
+Answers (Show hex names) p = ShowsDecoded names (decode_of (string_bytes hex)) p
 Answers (Expr text) p = TypesText (string_bytes text) p
 Answers (Compile text) p = CompilesText (string_bytes text) p
 Answers (Verify hex) p = VerifiesDecoded (decode_of (string_bytes hex)) p

@@ -1,6 +1,6 @@
 -- What `show` prints of a datagram: its header (RFC 2131 section 2), its joined options and the
 -- sub-options of its relay information (RFC 3046), a line each.
-use Rattle.std.specs.Prelude.{ℕ, ◌++◌, List, [], ◌∷◌, codes}
+use Rattle.std.specs.Prelude.{ℕ, ◌++◌, Bool, if◌then◌else◌, List, [], ◌∷◌, codes}
 use Rattle.std.specs.Fmt.{decimal}
 use Rattle.std.specs.List.{flat_map}
 use Rattle.byteorder.specs.Endian.{big_bytes}
@@ -11,6 +11,7 @@ use Rattle.kd_options.specs.Message.{Seen, mac_of}
 use Rattle.kd_options.specs.Relay.{firsts}
 use Rattle.kd_options.specs.RelayWalk.{relay_list}
 use Rattle.kd_machine.specs.Parts.{type_in}
+use Rattle.kd_names.specs.Values.{named_text}
 use Rattle.kd_replay.specs.Text.{address_text, bytes_text}
 
 -- a line's end
@@ -59,12 +60,17 @@ entry_line word p = (word ++ decimal p.0) ++ (codes " " ++ bytes_text p.1) ++ li
 abbrev pub option_line : Piece → List ℕ
 option_line p = entry_line (codes "option ") p
 
+-- the lines of an option: with names the one with its name behind its own, where it has one
+abbrev pub option_lines : Bool → Piece → List ℕ
+option_lines names p = option_line p ++ (if names then named_text p.0 p.1 else [])
+
 -- a sub-option of the relay information
 abbrev pub relay_line : Piece → List ℕ
 relay_line p = entry_line (codes "relay ") p
 
--- all lines of a message: options and sub-options in order of first appearance, each code once
-abbrev pub show_text : Seen → List ℕ
-show_text m =
-    header_lines m ++ flat_map option_line m.options
+-- all lines of a message, with names or without them: options and sub-options in order of first
+-- appearance, each code once
+abbrev pub show_text : Bool → Seen → List ℕ
+show_text names m =
+    header_lines m ++ flat_map (option_lines names) m.options
     ++ flat_map relay_line (firsts (relay_list m.options))

@@ -20,7 +20,7 @@ pub fn answer(alloc: Global, order: &Order) -> Result<Printed, AllocError>
 {
     match order {
         Order::Help(text) => Ok(success(alloc, text.clone()?)),
-        Order::Show { hex } => answer_show(alloc, hex.as_str()),
+        Order::Show { hex, names } => answer_show(alloc, hex.as_str(), *names),
         Order::Expr { text } => answer_expr(alloc, text.as_str()),
         Order::Compile { text } => answer_compile(alloc, text.as_str()),
         Order::Verify { hex } => answer_verify(alloc, hex.as_str()),

@@ -9,23 +9,23 @@ use hex::FromHexError;
 use kd_options::Message;
 use std::alloc::{AllocError, Global};
 
-/// The lines of the datagram in a word.
-pub fn answer_show(alloc: Global, word: &str) -> Result<Printed, AllocError>
-    ensures { IfOk result (ShowsDecoded (decode_of word.now)) }
+/// The lines of the datagram in a word, with the names of its options or without them.
+pub fn answer_show(alloc: Global, word: &str, names: bool) -> Result<Printed, AllocError>
+    ensures { IfOk result (ShowsDecoded names (decode_of word.now)) }
 {
     match hex::decode(alloc, word) {
-        Ok(bytes) => show_datagram(alloc, bytes.as_slice()),
+        Ok(bytes) => show_datagram(alloc, bytes.as_slice(), names),
         Err(FromHexError::OutOfMemory) => Err(AllocError),
         Err(_) => mistake(alloc),
     }
 }
 
 // The lines of a datagram, or its first fault.
-fn show_datagram(alloc: Global, bytes: &[u8]) -> Result<Printed, AllocError>
-    ensures { IfOk result (ShowsDatagram bytes.now) }
+fn show_datagram(alloc: Global, bytes: &[u8], names: bool) -> Result<Printed, AllocError>
+    ensures { IfOk result (ShowsDatagram names bytes.now) }
 {
     match Message::read(alloc, bytes) {
-        Ok(message) => Ok(success(alloc, show(alloc, &message)?)),
+        Ok(message) => Ok(success(alloc, show(alloc, &message, names)?)),
         Err(fault) => refused_datagram(alloc, fault),
     }
 }

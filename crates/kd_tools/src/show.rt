@@ -4,21 +4,23 @@ ghost use Rattle.std.specs.List.{flat_map};
 ghost use Rattle.kd_options.specs.Relay.{firsts};
 ghost use Rattle.kd_options.specs.RelayWalk.{relay_list};
 ghost use Rattle.kd_replay.specs.Text.{address_text, bytes_text};
-ghost use Rattle.kd_tools.specs.Show.{len_line, numbers_line, addresses_line, mac_line, type_line, option_line, relay_line, entry_line, header_lines, show_text};
+ghost use Rattle.kd_tools.specs.Show.{len_line, numbers_line, addresses_line, mac_line, type_line, option_lines, relay_line, entry_line, header_lines, show_text};
 
+use kd_names::put_named;
 use kd_options::Message;
 use kd_wire::Header;
 use std::alloc::{AllocError, Global};
 use std::fmt::Write;
 
 /// The lines of a message: its header, its options in order of first appearance, and the
-/// sub-options of its relay information.
-pub fn show(alloc: Global, message: &Message<'_>) -> Result<String, AllocError>
-    ensures { IfOk result (λ text. string_bytes text ≡ show_text message.now) }
+/// sub-options of its relay information; with `names` each option that has a name has a second line
+/// with its name and its value.
+pub fn show(alloc: Global, message: &Message<'_>, names: bool) -> Result<String, AllocError>
+    ensures { IfOk result (λ text. string_bytes text ≡ show_text names message.now) }
 {
     let mut out = String::new(alloc);
     put_header(alloc, &mut out, message)?;
-    put_options(alloc, &mut out, message)?;
+    put_options(alloc, &mut out, message, names)?;
     put_relays(alloc, &mut out, message)?;
     Ok(out)
 }
@@ -86,14 +88,37 @@ fn put_type(out: &mut String, message: &Message<'_>) -> Result<(), AllocError>
     writeln!(out, "type {number}")
 }
 
-fn put_options(alloc: Global, out: &mut String, message: &Message<'_>) -> Result<(), AllocError>
-    ensures { OnOk result
-        (string_bytes out.new ≡ string_bytes out.old ++ flat_map option_line message.now.options) }
+fn put_options(
+    alloc: Global,
+    out: &mut String,
+    message: &Message<'_>,
+    names: bool,
+) -> Result<(), AllocError>
+    ensures { OnOk result (string_bytes out.new
+        ≡ string_bytes out.old ++ flat_map (option_lines names) message.now.options) }
 {
     let mut index = 0;
     while let Some((code, value)) = message.option_at(index) {
-        put_entry(alloc, out, "option ", code, value)?;
+        put_option(alloc, out, code, value, names)?;
         index += 1;
+    }
+    Ok(())
+}
+
+// The lines of an option.
+fn put_option(
+    alloc: Global,
+    out: &mut String,
+    code: u8,
+    value: &[u8],
+    names: bool,
+) -> Result<(), AllocError>
+    ensures { OnOk result
+        (string_bytes out.new ≡ string_bytes out.old ++ option_lines names (code, value.now)) }
+{
+    put_entry(alloc, out, "option ", code, value)?;
+    if names {
+        put_named(alloc, out, code, value)?;
     }
     Ok(())
 }

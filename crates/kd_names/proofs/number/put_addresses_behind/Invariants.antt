@@ -1,0 +1,10 @@
+use Rattle.std.proofs.Common.{◌≡◌, ◌++◌, length}
+use Rattle.std.specs.Prelude.{string_bytes}
+use Rattle.kd_names.specs.Values.{addresses_behind}
+use Rattle.kd_names.proofs.number.put_addresses_behind.Given as goal
+
+abbrev pub invariant-loop-left : goal.invariant-loop-left
+invariant-loop-left l = string_bytes l.out ++ addresses_behind l.left ≡ string_bytes l.fn.out ++ addresses_behind l.value
+
+abbrev pub decreases-loop-left : goal.decreases-loop-left
+decreases-loop-left l = length l.left

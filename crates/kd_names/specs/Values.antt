@@ -1,0 +1,155 @@
+-- The values of options as text, by their types (RFC 2132), and the line of an option that has a name.
+use Rattle.std.specs.Prelude.{ℕ, ◌+◌, ◌-◌, ◌*◌, ◌^◌, ◌%◌, ◌==◌, ◌&&◌, Bool, false, if◌then◌else◌, nat_le, nat_lt}
+use Rattle.std.specs.Prelude.{List, [], ◌∷◌, ◌++◌, Option, Some, None, codes, decimal, length}
+use Rattle.std.specs.List.{flat_map}
+use Rattle.hex.specs.Hex.{encode_lower}
+use Rattle.kd_names.specs.Table.{definition_of}
+use Rattle.kd_names.specs.declared.kind.Kind.{Kind}
+use Rattle.kd_names.specs.declared.kind.Kind.TheVariants.{Address, Addresses, Pairs, Flag, Byte, Short, Long, Signed, Shorts, Codes, MessageType, Text, Bytes}
+
+-- ---- the form of a value
+
+-- groups of so many bytes, one at least
+abbrev pub is_grouped : ℕ → List ℕ → Bool
+is_grouped size value = nat_lt 0 (length value) && length value % size == 0
+
+-- one byte, from the least to the most
+abbrev pub is_byte_within : ℕ → ℕ → List ℕ → Bool
+is_byte_within least most (b ∷ []) = nat_le least b && nat_le b most
+is_byte_within least most value = false
+
+-- the value has the form of the type
+abbrev pub fits_kind : Kind → List ℕ → Bool
+fits_kind Address value = length value == 4
+fits_kind Addresses value = is_grouped 4 value
+fits_kind Pairs value = is_grouped 8 value
+fits_kind Flag value = is_byte_within 0 1 value
+fits_kind Byte value = length value == 1
+fits_kind Short value = length value == 2
+fits_kind Long value = length value == 4
+fits_kind Signed value = length value == 4
+fits_kind Shorts value = is_grouped 2 value
+fits_kind Codes value = nat_lt 0 (length value)
+fits_kind MessageType value = is_byte_within 1 8 value
+fits_kind Text value = nat_lt 0 (length value)
+fits_kind Bytes value = nat_lt 0 (length value)
+
+-- ---- addresses and numbers
+
+-- what stands between two addresses or numbers
+abbrev pub comma : List ℕ
+comma = codes ", "
+
+-- the address of four bytes: the numbers in decimal, with dots between them
+abbrev pub dotted_text : ℕ → ℕ → ℕ → ℕ → List ℕ
+dotted_text a b c d =
+    decimal a ++ codes "." ++ decimal b ++ codes "." ++ decimal c ++ codes "." ++ decimal d
+
+-- the addresses of bytes, each behind a comma
+unfoldable pub addresses_behind : List ℕ → List ℕ
+addresses_behind (a ∷ b ∷ c ∷ d ∷ rest) = comma ++ dotted_text a b c d ++ addresses_behind rest
+addresses_behind other = []
+
+-- the addresses of bytes, with commas between them
+unfoldable pub addresses_text : List ℕ → List ℕ
+addresses_text (a ∷ b ∷ c ∷ d ∷ rest) = dotted_text a b c d ++ addresses_behind rest
+addresses_text other = []
+
+-- the numbers of two bytes each, each behind a comma
+unfoldable pub shorts_behind : List ℕ → List ℕ
+shorts_behind (a ∷ b ∷ rest) = comma ++ decimal (a * 256 + b) ++ shorts_behind rest
+shorts_behind other = []
+
+-- the numbers of two bytes each, with commas between them
+unfoldable pub shorts_text : List ℕ → List ℕ
+shorts_text (a ∷ b ∷ rest) = decimal (a * 256 + b) ++ shorts_behind rest
+shorts_text other = []
+
+-- a byte's number, behind a comma
+abbrev pub code_behind : ℕ → List ℕ
+code_behind code = comma ++ decimal code
+
+-- the numbers of bytes, with commas between them
+unfoldable pub codes_text : List ℕ → List ℕ
+codes_text [] = []
+codes_text (code ∷ rest) = decimal code ++ flat_map code_behind rest
+
+-- the number of one, two or four bytes, the highest first
+unfoldable pub number_of_bytes : List ℕ → ℕ
+number_of_bytes (a ∷ []) = a
+number_of_bytes (a ∷ b ∷ []) = a * 256 + b
+number_of_bytes (a ∷ b ∷ c ∷ d ∷ []) = ((a * 256 + b) * 256 + c) * 256 + d
+number_of_bytes other = 0
+
+-- a number of four bytes in two's complement
+unfoldable pub signed_text : ℕ → List ℕ
+signed_text n = if nat_lt n (2 ^ 31) then decimal n else codes "-" ++ decimal (2 ^ 32 - n)
+
+-- ---- flags, types of messages and text
+
+-- a flag
+abbrev pub flag_text : ℕ → List ℕ
+flag_text flag = if flag == 0 then codes "false" else codes "true"
+
+-- the name of a type of message (RFC 2132 section 9.6)
+unfoldable pub type_name : ℕ → List ℕ
+type_name number =
+    if number == 1 then codes "DISCOVER"
+    else (if number == 2 then codes "OFFER"
+    else (if number == 3 then codes "REQUEST"
+    else (if number == 4 then codes "DECLINE"
+    else (if number == 5 then codes "ACK"
+    else (if number == 6 then codes "NAK"
+    else (if number == 7 then codes "RELEASE"
+    else codes "INFORM"))))))
+
+-- a type of message: its number and its name
+abbrev pub message_type_text : ℕ → List ℕ
+message_type_text number = decimal number ++ codes " " ++ type_name number
+
+-- a byte of text: a quotation mark and a backslash behind a backslash, any other that prints as it
+-- is, and the rest as `\x` and two hexadecimal digits
+unfoldable pub sign_text : ℕ → List ℕ
+sign_text b =
+    if b == 34 then codes "\\\""
+    else (if b == 92 then codes "\\\\"
+    else (if nat_le 32 b && nat_le b 126 then b ∷ []
+    else codes "\\x" ++ encode_lower (b ∷ [])))
+
+-- text in quotation marks
+unfoldable pub quoted_text : List ℕ → List ℕ
+quoted_text value = codes "\"" ++ flat_map sign_text value ++ codes "\""
+
+-- ---- the line
+
+-- a value by its type
+abbrev pub text_by_kind : Kind → List ℕ → List ℕ
+text_by_kind Address value = addresses_text value
+text_by_kind Addresses value = addresses_text value
+text_by_kind Pairs value = addresses_text value
+text_by_kind Flag value = flag_text (number_of_bytes value)
+text_by_kind Byte value = decimal (number_of_bytes value)
+text_by_kind Short value = decimal (number_of_bytes value)
+text_by_kind Long value = decimal (number_of_bytes value)
+text_by_kind Signed value = signed_text (number_of_bytes value)
+text_by_kind Shorts value = shorts_text value
+text_by_kind Codes value = codes_text value
+text_by_kind MessageType value = message_type_text (number_of_bytes value)
+text_by_kind Text value = quoted_text value
+text_by_kind Bytes value = encode_lower value
+
+-- a name and a value of its type
+unfoldable pub named_value : List ℕ → Kind → List ℕ → List ℕ
+named_value name kind value =
+    codes "  " ++ name ++ codes " " ++ text_by_kind kind value ++ codes "\n"
+
+-- the line of a value of an option with this name and type, where the value has the form of the type
+abbrev pub line_by : Option (List ℕ × Kind) → List ℕ → List ℕ
+line_by None value = []
+line_by (Some definition) value =
+    if fits_kind definition.1 value then named_value definition.0 definition.1 value else []
+
+-- the line of an option that has a name and a value of the form of its type, with its line feed;
+-- none of any other
+abbrev pub named_text : ℕ → List ℕ → List ℕ
+named_text code value = line_by (definition_of code) value

@@ -1,0 +1,43 @@
+ghost use Rattle.std.specs.Prelude.{◌≡◌, ◌<◌};
+ghost use Rattle.kd_names.specs.Values.{fits_kind, is_byte_within, is_grouped};
+
+use crate::kind::Kind;
+
+// Whether a value has the form of its type.
+pub(crate) fn is_well_formed(kind: Kind, value: &[u8]) -> bool
+    ensures { result ≡ fits_kind kind value.now }
+{
+    match kind {
+        Kind::Address => value.len() == 4,
+        Kind::Addresses => has_groups(value, 4),
+        Kind::Pairs => has_groups(value, 8),
+        Kind::Flag => is_byte(value, 0, 1),
+        Kind::Byte => value.len() == 1,
+        Kind::Short => value.len() == 2,
+        Kind::Long => value.len() == 4,
+        Kind::Signed => value.len() == 4,
+        Kind::Shorts => has_groups(value, 2),
+        Kind::Codes => !value.is_empty(),
+        Kind::MessageType => is_byte(value, 1, 8),
+        Kind::Text => !value.is_empty(),
+        Kind::Bytes => !value.is_empty(),
+    }
+}
+
+// Whether a value is groups of so many bytes, one at least.
+fn has_groups(value: &[u8], size: usize) -> bool
+    requires { 0 < size }
+    ensures { result ≡ is_grouped size value.now }
+{
+    !value.is_empty() && value.len() % size == 0
+}
+
+// Whether a value is one byte, from the least to the most.
+fn is_byte(value: &[u8], least: u8, most: u8) -> bool
+    ensures { result ≡ is_byte_within least most value.now }
+{
+    match value {
+        [byte] => least <= *byte && *byte <= most,
+        _ => false,
+    }
+}

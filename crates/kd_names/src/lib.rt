@@ -1,0 +1,16 @@
+//! The names of options, and their values as text.
+//!
+//! What this layer promises to the one above: `put_named` adds the line of an option that has a
+//! name (`specs/Table.antt`) and a value of the form of its type, and that line is the one of
+//! `specs/Values.antt`, byte for byte; for any other option it adds nothing.
+#![tactic(auto)]
+
+mod form;
+mod kind;
+mod named;
+mod number;
+mod table;
+mod text;
+
+pub use kind::Kind;
+pub use named::put_named;

@@ -1,0 +1,91 @@
+ghost use Rattle.std.specs.Prelude.{◌≡◌, ◌++◌, OnOk, codes, decimal, string_bytes};
+ghost use Rattle.std.specs.List.{flat_map};
+ghost use Rattle.hex.specs.Hex.{encode_lower};
+ghost use Rattle.kd_names.specs.Values.{flag_text, message_type_text, quoted_text, sign_text, type_name};
+
+use std::alloc::{AllocError, Global};
+use std::fmt::Write;
+
+// A flag.
+pub(crate) fn put_flag(out: &mut String, flag: u32) -> Result<(), AllocError>
+    ensures { OnOk result (string_bytes out.new ≡ string_bytes out.old ++ flag_text flag) }
+{
+    if flag == 0 {
+        out.push_str("false")
+    } else {
+        out.push_str("true")
+    }
+}
+
+// A type of message: its number and its name.
+pub(crate) fn put_message_type(out: &mut String, number: u32) -> Result<(), AllocError>
+    ensures { OnOk result
+        (string_bytes out.new ≡ string_bytes out.old ++ message_type_text number) }
+{
+    let name = message_type(number);
+    write!(out, "{number} {name}")
+}
+
+// The name of a type of message.
+#[tactic(auto, unfolding(crate::specs::Values::type_name))]
+fn message_type(number: u32) -> &'static str
+    ensures { result.now ≡ type_name number }
+{
+    match number {
+        1 => "DISCOVER",
+        2 => "OFFER",
+        3 => "REQUEST",
+        4 => "DECLINE",
+        5 => "ACK",
+        6 => "NAK",
+        7 => "RELEASE",
+        _ => "INFORM",
+    }
+}
+
+// Text in quotation marks.
+#[tactic(auto, unfolding(crate::specs::Values::quoted_text))]
+pub(crate) fn put_quoted(alloc: Global, out: &mut String, value: &[u8]) -> Result<(), AllocError>
+    ensures { OnOk result (string_bytes out.new ≡ string_bytes out.old ++ quoted_text value.now) }
+{
+    out.push_str("\"")?;
+    put_signs(alloc, out, value)?;
+    out.push_str("\"")
+}
+
+// The bytes of a text.
+fn put_signs(alloc: Global, out: &mut String, value: &[u8]) -> Result<(), AllocError>
+    ensures { OnOk result
+        (string_bytes out.new ≡ string_bytes out.old ++ flat_map sign_text value.now) }
+{
+    for byte in value {
+        put_sign(alloc, out, *byte)?;
+    }
+    Ok(())
+}
+
+// A byte of a text.
+#[tactic(auto, unfolding(crate::specs::Values::sign_text))]
+fn put_sign(alloc: Global, out: &mut String, byte: u8) -> Result<(), AllocError>
+    ensures { OnOk result (string_bytes out.new ≡ string_bytes out.old ++ sign_text byte) }
+{
+    if byte == b'"' {
+        return out.push_str("\\\"");
+    }
+    if byte == b'\\' {
+        return out.push_str("\\\\");
+    }
+    if b' ' <= byte && byte <= b'~' {
+        return out.push(char::from(byte));
+    }
+    out.push_str("\\x")?;
+    put_bytes(alloc, out, &[byte])
+}
+
+// Bytes in hexadecimal.
+pub(crate) fn put_bytes(alloc: Global, out: &mut String, value: &[u8]) -> Result<(), AllocError>
+    ensures { OnOk result (string_bytes out.new ≡ string_bytes out.old ++ encode_lower value.now) }
+{
+    let text = hex::encode(alloc, value)?;
+    out.push_str(text.as_str())
+}
