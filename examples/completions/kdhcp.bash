@@ -23,21 +23,21 @@ _kdhcp() {
     fi
     for word in "${COMP_WORDS[@]:1:COMP_CWORD - 1}"; do
         case $word in
-            show | expr | compile | verify | eval | replay | serve | leases | pools | import | events | check | help) command=$word && break ;;
+            show | expr | compile | verify | eval | replay | serve | leases | pools | why | import | events | check | help) command=$word && break ;;
             --) return ;;
         esac
     done
     if [[ -z $command ]]; then
-        _kdhcp_words "show expr compile verify eval replay serve leases pools import events check help -h --help -V --version" "$current"
+        _kdhcp_words "show expr compile verify eval replay serve leases pools why import events check help -h --help -V --version" "$current"
         return
     fi
     case $command:$option in
         replay:--config | replay:--store | serve:--config | serve:--store | serve:--record | leases:--config | leases:--store \
-            | pools:--config | pools:--store | import:--store | check:--config | check:--store)
+            | pools:--config | pools:--store | why:--config | why:--store | import:--store | check:--config | check:--store)
             _kdhcp_paths -f "$current"
             return
             ;;
-        replay:--token-dir | serve:--token-dir | leases:--token-dir | pools:--token-dir | check:--token-dir)
+        replay:--token-dir | serve:--token-dir | leases:--token-dir | pools:--token-dir | why:--token-dir | check:--token-dir)
             _kdhcp_paths -d "$current"
             return
             ;;
@@ -46,15 +46,17 @@ _kdhcp() {
         serve:--client-port) _kdhcp_words "68" "$current" && return ;;
         serve:--count) _kdhcp_words "18446744073709551615" "$current" && return ;;
         serve:--max-ahead | check:--max-ahead) _kdhcp_words "3600" "$current" && return ;;
-        serve:--broadcast-as | events:--mac | events:--address) return ;;
-        leases:--at | pools:--at) _kdhcp_words "$(date +%s)" "$current" && return ;;
+        serve:--broadcast-as | events:--mac | events:--address | replay:--why) return ;;
+        leases:--at | pools:--at | why:--at) _kdhcp_words "$(date +%s)" "$current" && return ;;
     esac
     case $command in
-        help) _kdhcp_words "show expr compile verify eval replay serve leases pools import events check" "$current" ;;
+        help) _kdhcp_words "show expr compile verify eval replay serve leases pools why import events check" "$current" ;;
         eval) _kdhcp_words "--text -h --help" "$current" ;;
-        replay) _kdhcp_words "$files -h --help" "$current" ;;
+        show) _kdhcp_words "--names -h --help" "$current" ;;
+        replay) _kdhcp_words "$files --why -h --help" "$current" ;;
         leases) _kdhcp_words "$files --live --at -h --help" "$current" ;;
         pools) _kdhcp_words "$files --live --at --prometheus -h --help" "$current" ;;
+        why) _kdhcp_words "$files --live --at -h --help" "$current" ;;
         events) _kdhcp_words "--mac --address -h --help" "$current" ;;
         check) _kdhcp_words "$files --bind --port --max-ahead -h --help" "$current" ;;
         import) _kdhcp_words "--store -h --help" "$current" ;;

@@ -1,8 +1,9 @@
 -- What `why` and `replay --why` print: the explanation of a datagram, or of a line of the input.
 use Rattle.std.specs.Prelude.{◌≡◌, ◌⊎◌, ℕ, Bool, true, List, Some, Result, Ok, Err}
+use Rattle.hex.specs.Hex.{decode_of}
 use Rattle.hex.specs.declared.FromHexError.{FromHexError}
 use Rattle.kd_config.specs.Configuration.{Configuration}
-use Rattle.kd_program.specs.Streams.{ShowsOrBreaks, Streams, Tells, TellsWith}
+use Rattle.kd_program.specs.Streams.{ShowsOrBreaks, Starves, Streams, Tells, TellsWith}
 use Rattle.kd_replay.specs.Faults.{replay_fault_number, serve_fault_number}
 use Rattle.kd_replay.specs.declared.fault.ReplayFault.{ReplayFault}
 use Rattle.kd_replay.specs.declared.fault.ServeFault.{ServeFault}
@@ -34,6 +35,12 @@ abbrev pub ShowsWhyOf : Result (List ℕ) FromHexError → Bool → Configuratio
 ShowsWhyOf (Ok bytes) failed config rows at status old new =
     ShowsWhy bytes failed config rows at status old new
 ShowsWhyOf (Err error) failed config rows at status old new = Tells 98 status old new
+
+-- the explanation of the datagram of a word is shown, or why there is none; memory may run out for it
+abbrev pub ExplainsWord : List ℕ → Bool → Configuration → List Row → ℕ → ℕ → Streams → Streams
+    → Type 0
+ExplainsWord word failed config rows at status old new =
+    ShowsWhyOf (decode_of word) failed config rows at status old new ⊎ Starves status old new
 
 -- the explanation of a line of standard input is shown, where the stream tells its bytes
 pub record ShowsLine (t : Trying) (number status : ℕ) (old new : Streams) : Type 0 where

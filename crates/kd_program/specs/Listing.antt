@@ -4,11 +4,10 @@ use Rattle.std.specs.Prelude.{ℕ, ◌⊎◌, Bool, List, max, string_bytes}
 use Rattle.std.specs.List.{flat_map}
 use Rattle.kd_commands.specs.declared.orders.Listing.{Listing}
 use Rattle.kd_commands.specs.declared.orders.Listing.TheVariants as listings
-use Rattle.hex.specs.Hex.{decode_of}
 use Rattle.kd_config.specs.Configuration.{Configuration}
 use Rattle.kd_pools.specs.Printed.{lines_text, metrics_text}
 use Rattle.kd_pools.specs.Uses.{subnet_uses}
-use Rattle.kd_program.specs.Explaining.{ShowsWhyOf}
+use Rattle.kd_program.specs.Explaining.{ExplainsWord}
 use Rattle.kd_program.specs.Streams.{ShowsOrBreaks, Streams, Tells}
 use Rattle.kd_program.specs.declared.listing.View.{View}
 use Rattle.kd_program.specs.declared.listing.View.TheVariants as views
@@ -40,4 +39,4 @@ abbrev pub ShowsView : View → Bool → Configuration → List Row → ℕ → 
 ShowsView (views.Listing listing) failed config rows at status old new =
     ShowsListing listing failed config rows at status old new
 ShowsView (views.Why word) failed config rows at status old new =
-    ShowsWhyOf (decode_of (string_bytes word)) failed config rows at status old new
+    ExplainsWord (string_bytes word) failed config rows at status old new

@@ -53,6 +53,11 @@ ports_asked (works.Serve listening count journal max_ahead) =
     record { server = listening.port; client = listening.client_port }
 ports_asked other = record { server = 67; client = 68 }
 
+-- what a replay is opened for: to handle the events of standard input, or to explain that of a line
+abbrev pub replay_work : Option ℕ → Work
+replay_work None = works.Replay
+replay_work (Some number) = works.Explain number
+
 -- how a replay ends: without a fault, or its fault is told
 abbrev pub EndsReplay : Result ℕ ReplayFault → ℕ → Stream → Stream → Type 0
 EndsReplay (Ok count) status old new = (status ≡ 0) × (new ≡ old)
@@ -350,11 +355,6 @@ module _ {H N U L R : Type 0} (h : Hosts H N U L R) (named : Ghosts N) (unnamed 
   Says order status old new =
       ((printed : Printed) × Answers order printed × Prints printed status old new)
       ⊎ Starves status old new
-
-  -- what a replay is opened for: to handle the events of standard input, or to explain that of a line
-  abbrev pub replay_work : Option ℕ → Work
-  replay_work None = works.Replay
-  replay_work (Some number) = works.Explain number
 
   -- a view of the store with a path, if there is one: a look where another process may have it open
   abbrev pub ViewsStore : Bool → Option (List ℕ) → Files → View → ℕ → H → H → ℕ → Streams → Streams

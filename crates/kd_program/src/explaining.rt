@@ -1,6 +1,5 @@
 ghost use Rattle.std.specs.Prelude.{◌≡◌, IfErr, IfOk, false};
-ghost use Rattle.hex.specs.Hex.{decode_of};
-ghost use Rattle.kd_program.specs.Explaining.{ExplainsLine, ShowsWhy, ShowsWhyOf, standard_trial};
+ghost use Rattle.kd_program.specs.Explaining.{ExplainsLine, ExplainsWord, ShowsWhy, standard_trial};
 ghost use Rattle.kd_program.specs.Streams.{streams};
 ghost use Rattle.kd_server.specs.Leases.{IsNoList};
 ghost use Rattle.kd_why.specs.Saying.{EndsInAnswer};
@@ -26,7 +25,7 @@ pub fn explain_word<R: Source, O: Sink, E: Sink>(
     table: &Table<'_>,
     at: u64,
 ) -> u8
-    ensures { ShowsWhyOf (decode_of word.now) table.now.failed table.now.config.now
+    ensures { ExplainsWord word.now table.now.failed table.now.config.now
         table.now.rows.now.rows at result
         (streams R.Source O.Sink E.Sink ends.old) (streams R.Source O.Sink E.Sink ends.new) }
 {
@@ -56,12 +55,7 @@ fn explain_datagram<R: Source, O: Sink, E: Sink>(
 }
 
 // What is said of a datagram over a table.
-fn text_over(
-    alloc: Global,
-    bytes: &[u8],
-    table: &Table<'_>,
-    at: u64,
-) -> Result<Vec<u8>, ServeFault>
+fn text_over(alloc: Global, bytes: &[u8], table: &Table<'_>, at: u64) -> Result<Vec<u8>, ServeFault>
     ensures text { IfOk result (λ text. EndsInAnswer
         (standard_trial table.now.config.now table.now.rows.now.rows)
         (record { moment = at; bytes = bytes.now }) text.items) }
