@@ -1,13 +1,17 @@
+ghost use Rattle.std.specs.Prelude.{IfSome};
+ghost use Rattle.libc.specs.Io.{Ended};
+
 use crate::files::{InputFault, MOST_BYTES, read_file, token_files};
 use crate::link::place_at;
 use crate::start::StartFault;
 use kd_check::config_report;
 use kd_check::findings::{FileTrouble, SocketTrouble, StoreTrouble};
 use kd_config::ConfigFault;
+use libc::PATH_MAX;
 use os::RangeLock;
 use std::alloc::{AllocError, Global};
 use std::fs::File;
-use std::io::ErrorKind;
+use std::io::{ErrorKind, Read};
 use std::net::UdpSocket;
 use std::os::fd::AsRawFd;
 use std::os::unix::fs::MetadataExt;
@@ -130,39 +134,55 @@ fn line_of(alloc: Global, subject: &str, words: &str) -> Result<String, AllocErr
     format!(in alloc; "{subject}: {words}\n")
 }
 
-/// Whether the database at a path is there. Nothing is made, and nothing is changed.
+/// Whether the database at a path is there. What a server does to open it is tried, with the rights
+/// of this account: the database and its log are opened, or their folder is asked whether they may
+/// be made in it. Nothing is made, and nothing is changed.
 ///
 /// # Errors
 ///
-/// Another process has it open, this account may not read and write it, or the folder that it would
-/// be in is not there.
+/// Another process has it open; this account may not read and write it or its log, make those that
+/// are missing, or read their folder; the folder is not there; or something is at one of their names
+/// that a server does not open, or a rollback journal that only SQLite plays back.
 pub fn try_database(rt: &HostRuntime, path: &str) -> Result<bool, StoreTrouble> {
-    if !may_be_database(rt, path) {
+    // These names are no files to SQLite.
+    if path.is_empty() || path == ":memory:" || path.starts_with("file:") {
         return Err(StoreTrouble::Other);
     }
-    match fs::OpenOptions::new().read(true).write(true).open(rt, path) {
-        Ok(file) if is_locked(&file) => Err(StoreTrouble::Locked),
-        Ok(_) => Ok(true),
-        Err(error) => match error.kind() {
-            ErrorKind::NotFound => try_folder_of(rt, path),
-            ErrorKind::PermissionDenied => Err(StoreTrouble::Denied),
-            _ => Err(StoreTrouble::Other),
-        },
+    match fs::canonicalize(rt, path) {
+        Ok(real) => {
+            try_file(rt, real.as_str())?;
+            try_beside(rt, real.as_str())?;
+            Ok(true)
+        }
+        Err(error) if error.kind() == ErrorKind::NotFound => {
+            try_new(rt, path)?;
+            try_beside(rt, path)?;
+            Ok(false)
+        }
+        Err(error) => Err(store_trouble(&error)),
     }
 }
 
-// Whether a server would take what stands at a path, or make a file there: a plain file with one
-// name, or nothing, not even a link that leads nowhere. These names are no files to SQLite.
-fn may_be_database(rt: &HostRuntime, path: &str) -> bool {
-    if path.is_empty() || path == ":memory:" || path.starts_with("file:") {
-        return false;
+// The trouble with a store that an error of the system says.
+fn store_trouble(error: &io::Error) -> StoreTrouble {
+    match error.kind() {
+        ErrorKind::PermissionDenied => StoreTrouble::Denied,
+        _ => StoreTrouble::Other,
     }
-    match fs::metadata(rt, path) {
-        Ok(found) => found.is_file() && found.nlink() == 1,
-        Err(error) if error.kind() == ErrorKind::NotFound => {
-            fs::symlink_metadata(rt, path).is_err()
-        }
-        Err(_) => true,
+}
+
+// That what is at a path is a plain file with one name that this account may read and write, and
+// that no other process has it open.
+fn try_file(rt: &HostRuntime, path: &str) -> Result<(), StoreTrouble> {
+    match fs::symlink_metadata(rt, path) {
+        Ok(found) if found.is_file() && found.nlink() == 1 => {}
+        Ok(_) => return Err(StoreTrouble::Other),
+        Err(error) => return Err(store_trouble(&error)),
+    }
+    match fs::OpenOptions::new().read(true).write(true).open(rt, path) {
+        Ok(file) if is_locked(&file) => Err(StoreTrouble::Locked),
+        Ok(_) => Ok(()),
+        Err(error) => Err(store_trouble(&error)),
     }
 }
 
@@ -176,19 +196,105 @@ fn is_locked(file: &File) -> bool {
     io::Error::from_raw_os_error(os::errno()).kind() == ErrorKind::WouldBlock
 }
 
-// That a database is not there, but its folder is.
-fn try_folder_of(rt: &HostRuntime, path: &str) -> Result<bool, StoreTrouble> {
-    let folder = match path.rfind('/') {
-        Some(0) => "/",
-        Some(at) => &path[..at],
-        None => ".",
-    };
+// That a database may be made at a path which leads to nothing: it is no link that leads nowhere, and
+// its folder is there and takes files of this account.
+fn try_new(rt: &HostRuntime, path: &str) -> Result<(), StoreTrouble> {
+    if fs::symlink_metadata(rt, path).is_ok() {
+        return Err(StoreTrouble::Other);
+    }
+    let folder = folder_of(path);
     match fs::metadata(rt, folder) {
-        Ok(found) if found.is_dir() => Ok(false),
+        Ok(found) if found.is_dir() => try_making(folder),
         Ok(_) => Err(StoreTrouble::NoFolder),
         Err(error) if error.kind() == ErrorKind::PermissionDenied => Err(StoreTrouble::Denied),
         Err(_) => Err(StoreTrouble::NoFolder),
     }
+}
+
+// The folder of the file at a path.
+fn folder_of(path: &str) -> &str {
+    match path.rfind('/') {
+        Some(0) => "/",
+        Some(at) => &path[..at],
+        None => ".",
+    }
+}
+
+// That what lies beside a database lets a server open it: no rollback journal that SQLite left, a
+// log that is opened or made, and a folder that is opened, since a server has it written to disk.
+fn try_beside(rt: &HostRuntime, path: &str) -> Result<(), StoreTrouble> {
+    let folder = folder_of(path);
+    match format!(in rt.alloc(); "{path}-journal") {
+        Ok(journal) => try_journal(rt, journal.as_str())?,
+        Err(_) => return Err(StoreTrouble::Other),
+    }
+    match format!(in rt.alloc(); "{path}-wal") {
+        Ok(log) => try_log(rt, folder, log.as_str())?,
+        Err(_) => return Err(StoreTrouble::Other),
+    }
+    match File::open(rt, folder) {
+        Ok(_) => Ok(()),
+        Err(error) => Err(store_trouble(&error)),
+    }
+}
+
+// That no rollback journal at a path has changes to play back: one that is empty or begins with a
+// zero has none (SQLite's file format, section 3).
+fn try_journal(rt: &HostRuntime, path: &str) -> Result<(), StoreTrouble> {
+    match fs::symlink_metadata(rt, path) {
+        Ok(found) if found.is_file() => {}
+        Ok(_) => return Err(StoreTrouble::Other),
+        Err(error) if error.kind() == ErrorKind::NotFound => return Ok(()),
+        Err(error) => return Err(store_trouble(&error)),
+    }
+    match first_of(rt, path) {
+        Ok(0) => Ok(()),
+        Ok(_) => Err(StoreTrouble::Other),
+        Err(error) => Err(store_trouble(&error)),
+    }
+}
+
+// The first byte of the file at a path, 0 where it is empty.
+fn first_of(rt: &HostRuntime, path: &str) -> io::Result<u8> {
+    let mut file = File::open(rt, path)?;
+    let mut first = [0];
+    let _count = file.read(&mut first)?;
+    Ok(first[0])
+}
+
+// That the log at a path is opened, or may be made in its folder.
+fn try_log(rt: &HostRuntime, folder: &str, path: &str) -> Result<(), StoreTrouble> {
+    match fs::symlink_metadata(rt, path) {
+        Ok(_) => try_file(rt, path),
+        Err(error) if error.kind() == ErrorKind::NotFound => try_making(folder),
+        Err(error) => Err(store_trouble(&error)),
+    }
+}
+
+// That this account may make a file in a folder. The `unsafe` is here because C reads the path up to
+// its zero: it has one.
+fn try_making(folder: &str) -> Result<(), StoreTrouble> {
+    let Some(path) = c_path(folder) else {
+        return Err(StoreTrouble::Other);
+    };
+    if unsafe { libc::access(&path, libc::W_OK | libc::X_OK) } == 0 {
+        return Ok(());
+    }
+    Err(store_trouble(&io::Error::from_raw_os_error(os::errno())))
+}
+
+// A path as C reads it, with zeros behind it, if it fits.
+fn c_path(path: &str) -> Option<[u8; PATH_MAX]>
+    ensures { IfSome result Ended }
+{
+    let bytes = path.as_bytes();
+    if bytes.len() >= PATH_MAX {
+        return None;
+    }
+    let mut text = [0; PATH_MAX];
+    text[..bytes.len()].copy_from_slice(bytes);
+    text[PATH_MAX - 1] = 0;
+    Some(text)
 }
 
 /// Whether a socket at an address, a number in host order, and a port could send to all hosts of
