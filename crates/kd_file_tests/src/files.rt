@@ -1,11 +1,11 @@
 // Steps over the store of a file. What moves the store of a file is proved against all parts of a
-// connection, which takes the prover a minute: so `over_file` alone does, and all else is over any
+// connection, which takes the prover a minute: so `over_store` alone does, and all else is over any
 // store.
 ghost use Rattle.std.specs.Prelude.{◌≡◌, false, is_some};
 ghost use Rattle.kd_keeps.specs.Reading.{AreRead};
 
 use kd_database::store_in_file;
-use kd_keeps::{Keeps, Opened};
+use kd_keeps::{Keeps, Opened, StoreFault};
 use kd_rows::Row;
 use kd_store::Store;
 use sqlite::Alter;
@@ -38,9 +38,21 @@ fn taken<S: Alter + Drop, T: Steps>(
 
 /// Opens the store of the file at a path, takes steps over it, and closes it.
 pub(crate) fn over_file<T: Steps>(rt: &HostRuntime, path: &str, steps: T) -> Result<(), Fail> {
-    match store_in_file(rt, path) {
-        Ok(opened) => taken(rt, opened, steps),
+    match over_store(rt, path, steps) {
+        Ok(result) => result,
         Err(fault) => Err(fault.into()),
+    }
+}
+
+/// The same, with the fault of a store that is not opened.
+pub(crate) fn over_store<T: Steps>(
+    rt: &HostRuntime,
+    path: &str,
+    steps: T,
+) -> Result<Result<(), Fail>, StoreFault> {
+    match store_in_file(rt, path) {
+        Ok(opened) => Ok(taken(rt, opened, steps)),
+        Err(fault) => Err(fault),
     }
 }
 

@@ -1,11 +1,12 @@
 // What stands in the way of a start: files, a database that is open, and ports. Nothing is made.
-use crate::files::{Steps, expect, over_file, remove};
+use crate::files::{Steps, expect, over_file, over_store, remove};
 use kd_check::findings::{SocketTrouble, StoreTrouble};
 use kd_io::{InputFault, StartFault, start_words, try_database, try_socket};
 use kd_keeps::{Keeps, Opened};
-use std::fs;
 use std::net::UdpSocket;
+use std::os::unix::fs::{PermissionsExt, symlink};
 use std::test::Fail;
+use std::{fs, io};
 
 const PATH: &str = "tried.db";
 
@@ -46,6 +47,128 @@ fn a_database_is_tried_and_stays_as_it_is(rt: HostRuntime) -> Result<(), Fail> {
     assert!(rt; try_database(&rt, "no-folder/tried.db") == Err(StoreTrouble::NoFolder));
     remove(&rt, &[PATH, LOG]);
     Ok(())
+}
+
+// Nothing is done with a store that is open.
+#[derive(Drop)]
+struct Nothing;
+
+impl Steps for Nothing {
+    fn take<S: Keeps>(self, _rt: &HostRuntime, opened: Opened<S>) -> (Result<(), Fail>, S) {
+        let Opened { store, rows: _ } = opened;
+        (Ok(()), store)
+    }
+}
+
+// Fails where the database at a path is not found so, or where a server opens it all the same, or
+// does not open what is found good.
+fn expect_tried(
+    rt: &HostRuntime,
+    path: &str,
+    wanted: Result<bool, StoreTrouble>,
+) -> Result<(), Fail> {
+    expect(try_database(rt, path) == wanted, "another trouble")?;
+    expect_agreement(rt, path)
+}
+
+// Fails where a server does not open what is found good, or opens what is not.
+fn expect_agreement(rt: &HostRuntime, path: &str) -> Result<(), Fail> {
+    let is_good = try_database(rt, path).is_ok();
+    match over_store(rt, path, Nothing) {
+        Ok(result) => {
+            result?;
+            expect(is_good, "a server opens what is found bad")
+        }
+        Err(_) => expect(!is_good, "a server does not open what is found good"),
+    }
+}
+
+#[test]
+fn a_rollback_journal_is_found(rt: HostRuntime) -> Result<(), Fail> {
+    let (path, log, journal) = ("played.db", "played.db-wal", "played.db-journal");
+    let made = [path, log, journal];
+    remove(&rt, &made);
+    // The first byte of SQLite's header of a journal, that of one which was played back, and none. A
+    // server makes the database before it looks for a journal.
+    for (bytes, wanted) in [
+        (&b"\xd9"[..], Err(StoreTrouble::Other)),
+        (&b"\0"[..], Ok(true)),
+        (&b""[..], Ok(true)),
+    ] {
+        fs::write(&rt, journal, bytes)?;
+        expect_tried(&rt, path, wanted)?;
+    }
+    remove(&rt, &[journal]);
+    symlink(&rt, "nowhere", journal)?;
+    expect_tried(&rt, path, Err(StoreTrouble::Other))?;
+    remove(&rt, &made);
+    Ok(())
+}
+
+#[test]
+fn a_log_that_is_no_plain_file_is_found(rt: HostRuntime) -> Result<(), Fail> {
+    let (path, log, other) = ("logged.db", "logged.db-wal", "logged.other");
+    let made = [path, log, other];
+    remove(&rt, &made);
+    symlink(&rt, "nowhere", log)?;
+    expect_tried(&rt, path, Err(StoreTrouble::Other))?;
+    remove(&rt, &made);
+    fs::write(&rt, other, b"")?;
+    fs::hard_link(&rt, other, log)?;
+    expect_tried(&rt, path, Err(StoreTrouble::Other))?;
+    remove(&rt, &made);
+    fs::create_dir(&rt, log)?;
+    expect_tried(&rt, path, Err(StoreTrouble::Other))?;
+    fs::remove_dir(&rt, log)?;
+    remove(&rt, &made);
+    Ok(())
+}
+
+// The log lies where a link leads.
+#[test]
+fn a_link_to_a_database_is_followed(rt: HostRuntime) -> Result<(), Fail> {
+    let (link, path, log) = ("linked.db", "linked.real", "linked.real-wal");
+    let made = [link, path, log];
+    remove(&rt, &made);
+    symlink(&rt, path, link)?;
+    expect_tried(&rt, link, Err(StoreTrouble::Other))?;
+    expect_tried(&rt, path, Ok(false))?;
+    expect_tried(&rt, link, Ok(true))?;
+    remove(&rt, &[log]);
+    symlink(&rt, "nowhere", log)?;
+    expect_tried(&rt, link, Err(StoreTrouble::Other))?;
+    remove(&rt, &made);
+    Ok(())
+}
+
+// Which rights are enough is the account's: root has them all.
+#[test]
+fn rights_are_tried(rt: HostRuntime) -> Result<(), Fail> {
+    let (folder, path, log) = ("rights", "rights/a.db", "rights/a.db-wal");
+    let _made = fs::create_dir(&rt, folder);
+    for mode in [0o700, 0o500, 0o300, 0o000] {
+        remove(&rt, &[path, log]);
+        set_mode(&rt, folder, mode)?;
+        let agreed = expect_agreement(&rt, path);
+        let _back = set_mode(&rt, folder, 0o700);
+        agreed?;
+    }
+    for named in [path, log] {
+        for mode in [0o600, 0o400, 0o200, 0o000] {
+            over_file(&rt, path, Nothing)?;
+            set_mode(&rt, named, mode)?;
+            let agreed = expect_agreement(&rt, path);
+            let _back = set_mode(&rt, named, 0o600);
+            agreed?;
+        }
+    }
+    remove(&rt, &[path, log]);
+    Ok(())
+}
+
+// Sets the mode of what is at a path.
+fn set_mode(rt: &HostRuntime, path: &str, mode: u32) -> io::Result<()> {
+    fs::set_permissions(rt, path, fs::Permissions::from_mode(mode))
 }
 
 #[test]

@@ -70,7 +70,7 @@ pub(crate) struct Found<'a> {
 }
 
 /// Tries each step of a start in its order, without a change to a file, says in words what is found,
-/// and the exit status: 0 where a server would start.
+/// and the exit status: that of the first fault which the host finds, 0 where it finds none.
 pub fn check<H: Host, R: Source, O: Sink, E: Sink>(
     alloc: Global,
     host: &mut H,
