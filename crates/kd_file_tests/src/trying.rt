@@ -88,8 +88,8 @@ fn a_rollback_journal_is_found(rt: HostRuntime) -> Result<(), Fail> {
     let (path, log, journal) = ("played.db", "played.db-wal", "played.db-journal");
     let made = [path, log, journal];
     remove(&rt, &made);
-    // The first byte of SQLite's header of a journal, that of one which was played back, and none. A
-    // server makes the database before it looks for a journal.
+    // The first byte of SQLite's header of a journal, that of one which was played back, and none.
+    // A server makes the database before it looks for a journal.
     for (bytes, wanted) in [
         (&b"\xd9"[..], Err(StoreTrouble::Other)),
         (&b"\0"[..], Ok(true)),

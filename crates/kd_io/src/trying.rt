@@ -141,8 +141,8 @@ fn line_of(alloc: Global, subject: &str, words: &str) -> Result<String, AllocErr
 /// # Errors
 ///
 /// Another process has it open; this account may not read and write it or its log, make those that
-/// are missing, or read their folder; the folder is not there; or something is at one of their names
-/// that a server does not open, or a rollback journal that only SQLite plays back.
+/// are missing, or read their folder; the folder is not there; something is at one of their names
+/// that a server does not open; or a rollback journal is there, which only SQLite plays back.
 pub fn try_database(rt: &HostRuntime, path: &str) -> Result<bool, StoreTrouble> {
     // These names are no files to SQLite.
     if path.is_empty() || path == ":memory:" || path.starts_with("file:") {
@@ -196,8 +196,8 @@ fn is_locked(file: &File) -> bool {
     io::Error::from_raw_os_error(os::errno()).kind() == ErrorKind::WouldBlock
 }
 
-// That a database may be made at a path which leads to nothing: it is no link that leads nowhere, and
-// its folder is there and takes files of this account.
+// That a database may be made at a path which leads to nothing: it is no link that leads nowhere,
+// and its folder is there and takes files of this account.
 fn try_new(rt: &HostRuntime, path: &str) -> Result<(), StoreTrouble> {
     if fs::symlink_metadata(rt, path).is_ok() {
         return Err(StoreTrouble::Other);
@@ -271,8 +271,8 @@ fn try_log(rt: &HostRuntime, folder: &str, path: &str) -> Result<(), StoreTroubl
     }
 }
 
-// That this account may make a file in a folder. The `unsafe` is here because C reads the path up to
-// its zero: it has one.
+// That this account may make a file in a folder. The `unsafe` is here because C reads the path up
+// to its zero: it has one.
 fn try_making(folder: &str) -> Result<(), StoreTrouble> {
     let Some(path) = c_path(folder) else {
         return Err(StoreTrouble::Other);
