@@ -138,6 +138,15 @@ impl<'a, 'r> Host for Room<'a, 'r> {
         Ok(self.stores.has(path))
     }
 
+    // A start leaves out 4144 bytes of the log of damaged.db.
+    fn left_out(&self, path: &str) -> Option<usize> {
+        if path == "damaged.db" {
+            Some(4144)
+        } else {
+            None
+        }
+    }
+
     // Port 66 is another process's, and those of 1 to 32 are not allowed. From 127.0.0.1 there is no
     // route to 255.255.255.255.
     fn try_socket(&self, address: u32, port: u16) -> Result<bool, SocketTrouble> {

@@ -2,3 +2,4 @@ pub mod Image
 pub mod Staging
 pub mod Stops
 pub mod Stores
+pub mod Tail

@@ -46,7 +46,7 @@ pub fn rows_in(alloc: Global, log: &[u8], db: &[u8]) -> Result<Vec<Row>, StoreFa
 }
 
 // A file in memory with these bytes.
-fn file_of(alloc: Global, bytes: &[u8]) -> Result<Memory, StoreFault>
+pub(crate) fn file_of(alloc: Global, bytes: &[u8]) -> Result<Memory, StoreFault>
     ensures bytes { IfOk result (λ file. memory_bytes file ≡ bytes.now) }
     ensures usable { IfOk result (λ file. IsTrue (memory_is_usable file)) }
     ensures memory { IfErr result (λ fault. fault ≡ StoreFault.Sql Cause.OutOfMemory) }

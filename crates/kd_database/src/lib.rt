@@ -4,13 +4,16 @@
 //! table, or in a file, at the table of the database that it holds, with the rows of that table
 //! (`specs/Stores.antt`); on what a crash left, at the table from before the last call or at the one
 //! after it (`specs/Stops.antt`). The leases in the bytes of a database and its log are read without
-//! a file (`specs/Image.antt`).
+//! a file (`specs/Image.antt`), and so are the bytes of a damaged log that a start leaves out
+//! (`specs/Tail.antt`).
 #![tactic(auto)]
 
 mod image;
 mod stops;
 mod stores;
+mod tail;
 
 pub use image::rows_in;
 pub use stops::{kills, let_go, restarts};
 pub use stores::{InFile, InMemory, store_from, store_in_file, store_in_memory, store_over};
+pub use tail::left_out;

@@ -1,7 +1,7 @@
 use kd_check::findings::{SocketTrouble, StoreTrouble};
 use kd_commands::Listening;
 use kd_config::Config;
-use kd_database::{let_go, rows_in, store_from};
+use kd_database::{left_out, let_go, rows_in, store_from};
 use kd_io::{
     Copied, LookFault, Output, Sending, Socket, StartFault, configuration, copy_at, journal,
     seconds_of, start_words, try_database, try_socket,
@@ -165,6 +165,16 @@ impl<'a, F: Start> Host for Machine<'a, F, Below<F>> {
 
     fn try_database(&self, path: &str) -> Result<bool, StoreTrouble> {
         try_database(self.rt, path)
+    }
+
+    fn left_out(&self, path: &str) -> Option<usize> {
+        match copy_at(self.rt, path) {
+            Ok(Copied { log, .. }) => match left_out(self.rt.alloc(), log.as_slice()) {
+                Ok(bytes) => bytes,
+                Err(_) => None,
+            },
+            Err(_) => None,
+        }
     }
 
     fn try_socket(&self, address: u32, port: u16) -> Result<bool, SocketTrouble> {

@@ -1,88 +1,189 @@
--- The values that options give their codes, and the table that has them.
-use Rattle.std.proofs.Common.{◌≡◌, ◌≢◌, ℕ, ◌<◌, ◌==◌, Bor, List, [], ◌∷◌, ◌++◌, true, false, nat_eq, Option, None, Some, refl, sym, ap, ◌∙◌, get_or, set, length, replicate, option_copied, option_map, ◌⊎◌, inl, inr, arith}
-use Rattle.std.specs.List.{find}
+-- The values that options give their codes, and the list that has them.
+use Rattle.std.proofs.Common.{◌≡◌, ◌≢◌, ℕ, zero, suc, ◌+◌, ◌<◌, ◌≤◌, ◌==◌, Bor, List, [], ◌∷◌, ◌++◌, true, false, nat_eq, nat_lt, Bool, if◌then◌else◌, Option, None, Some, refl, sym, subst, ap, ◌∙◌, length, slice_get, take, option_map, ◌⊎◌, inl, inr, arith}
+use Rattle.std.specs.List.{All, find, flat_map, insert, range_with_len}
 use Rattle.std.specs.Option.{option_or}
-use Rattle.std.proofs.lemmas.Bool.Decides.{eqb_tells}
-use Rattle.std.proofs.lemmas.List.{length-replicate, length-set, get_or-replicate, get_or-set_same, get_or-set_other}
+use Rattle.std.proofs.lemmas.Bool.Decides.{eqb_tells, leb_tells}
 use Rattle.std.proofs.lemmas.List.Folds.{find-append}
+use Rattle.std.proofs.lemmas.Option.{same_Some, slice_get_within}
 use Rattle.kd_classes.specs.declared.option_list.OptionData.{OptionData}
 use Rattle.kd_lease.specs.Given.{value_in}
-use Rattle.kd_lease.specs.Valuing.{HasValues}
+use Rattle.kd_lease.specs.declared.values.Coded.{Coded}
+use Rattle.kd_lease.specs.Valuing.{HasValues, HaveCodes, IsNext, IsPlaceFor, RiseAbove, value_at}
+use Rattle.kd_wire.specs.Area.{IsCode}
+
+is_other : (a b : ℕ) → a ≢ b → nat_eq a b ≡ false
+is_other a b ne = cases (eqb_tells a b) where
+  cases : ((nat_eq a b ≡ true) × (a ≡ b)) ⊎ ((nat_eq a b ≡ false) × (a ≢ b)) → nat_eq a b ≡ false
+  cases (inl t) = absurd (ne t.1)
+  cases (inr f) = f.0
+
+less_other : (a b : ℕ) → a < b → a ≢ b
+less_other a b less eq = omega (arith, less, eq)
+
+above_place : (a b : ℕ) → b ≤ a → a ≢ b → b < a
+above_place a b le ne = omega (arith, le, ne)
+
+is_same : (a : ℕ) → nat_eq a a ≡ true
+is_same a = cases (eqb_tells a a) where
+  cases : ((nat_eq a a ≡ true) × (a ≡ a)) ⊎ ((nat_eq a a ≡ false) × (a ≢ a)) → nat_eq a a ≡ true
+  cases (inl t) = t.0
+  cases (inr f) = absurd (f.1 refl)
 
 map-or : (x y : Option OptionData) → option_map (λ o. o.value) (option_or x y) ≡ option_or (option_map (λ o. o.value) x) (option_map (λ o. o.value) y)
 map-or None y = refl
 map-or (Some x) y = refl
 
+-- the value of an option for a code, if it has that code
+abbrev own_value : OptionData → ℕ → Option (List ℕ)
+own_value o code = if o.code == code then Some o.value else None
+
+one : (o : OptionData) (code : ℕ) → value_in code (o ∷ []) ≡ own_value o code
+one o code = cases (eqb_tells o.code code) where
+  cases : ((nat_eq o.code code ≡ true) × (o.code ≡ code)) ⊎ ((nat_eq o.code code ≡ false) × (o.code ≢ code)) → value_in code (o ∷ []) ≡ own_value o code
+  cases (inl t) = rw (t.0) refl
+  cases (inr f) = rw (f.0) refl
+
+value_in-append : (code : ℕ) (options : List OptionData) (o : OptionData) → value_in code (options ++ o ∷ []) ≡ option_or (value_in code options) (own_value o code)
+value_in-append code options o =
+    ap (option_map (λ p. p.value)) (find-append (λ p. p.code == code) options (o ∷ []))
+    ∙ map-or (find (λ p. p.code == code) options) (find (λ p. p.code == code) (o ∷ []))
+    ∙ ap (λ y. option_or (value_in code options) y) (one o code)
+
+-- a code below those of a list has no value there
+pub none_above : (list : List Coded) (b c : ℕ) → c ≤ b → RiseAbove b list → value_at c list ≡ None
+none_above [] b c low rise = refl
+none_above (x ∷ more) b c low rise =
+    let above : c < x.code = omega (arith, low, rise.0) in
+    let other : nat_eq x.code c ≡ false = is_other x.code c (λ eq. less_other c x.code above (sym eq)) in
+    let last : c ≤ x.code = omega (arith, low, rise.0) in
+    rw other (none_above more x.code c last rise.1)
+
+pub rise_insert : (place : ℕ) (list : List Coded) (e : Coded) (b : ℕ) → b < e.code → RiseAbove b list → IsPlaceFor e.code list place → IsNext e.code list place
+    → RiseAbove b (insert list place e)
+rise_insert zero [] e b less rise at next = (less, tt)
+rise_insert zero (x ∷ more) e b less rise at next = (less, (above_place x.code e.code at (next x refl), rise.1))
+rise_insert (suc place) [] e b less rise at next = (less, tt)
+rise_insert (suc place) (x ∷ more) e b less rise at next = (rise.0, rise_insert place more e x.code at.0 rise.1 at.1 next)
+
+pub codes_insert : (place : ℕ) (list : List Coded) (e : Coded) → IsCode e.code → HaveCodes list → HaveCodes (insert list place e)
+codes_insert zero list e is have = (is, have)
+codes_insert (suc place) [] e is have = (is, tt)
+codes_insert (suc place) (x ∷ more) e is have = (have.0, codes_insert place more e is have.1)
+
+found_new : (place : ℕ) (list : List Coded) (e : Coded) → IsPlaceFor e.code list place → value_at e.code (insert list place e) ≡ Some e.value.now
+found_new zero list e at = rw (is_same e.code) refl
+found_new (suc place) [] e at = rw (is_same e.code) refl
+found_new (suc place) (x ∷ more) e at = rw (is_other x.code e.code (less_other x.code e.code at.0)) (found_new place more e at.1)
+
+none_yet : (place : ℕ) (list : List Coded) (e : Coded) (b : ℕ) → RiseAbove b list → IsPlaceFor e.code list place → IsNext e.code list place → value_at e.code list ≡ None
+none_yet place [] e b rise at next = refl
+none_yet zero (x ∷ more) e b rise at next = rw (is_other x.code e.code (next x refl)) (none_above more x.code e.code at rise.1)
+none_yet (suc place) (x ∷ more) e b rise at next =
+    rw (is_other x.code e.code (less_other x.code e.code at.0)) (none_yet place more e x.code rise.1 at.1 next)
+
+-- behind one entry the values are those behind it
+value_behind : (x : Coded) (k : ℕ) (xs ys : List Coded) → value_at k xs ≡ value_at k ys → value_at k (x ∷ xs) ≡ value_at k (x ∷ ys)
+value_behind x k xs ys same = cases (eqb_tells x.code k) where
+  cases : ((nat_eq x.code k ≡ true) × (x.code ≡ k)) ⊎ ((nat_eq x.code k ≡ false) × (x.code ≢ k)) → value_at k (x ∷ xs) ≡ value_at k (x ∷ ys)
+  cases (inl t) = rw (t.0) refl
+  cases (inr f) = rw (f.0) same
+
+other_insert : (place : ℕ) (list : List Coded) (e : Coded) (k : ℕ) → nat_eq e.code k ≡ false → value_at k (insert list place e) ≡ value_at k list
+other_insert zero list e k ne = rw ne refl
+other_insert (suc place) [] e k ne = rw ne refl
+other_insert (suc place) (x ∷ more) e k ne = value_behind x k (insert more place e) more (other_insert place more e k ne)
+
+known_behind : (y : Coded) (k : ℕ) (more : List Coded) → (v : List ℕ) × (value_at k more ≡ Some v) → (v : List ℕ) × (value_at k (y ∷ more) ≡ Some v)
+known_behind y k more known = cases (eqb_tells y.code k) where
+  cases : ((nat_eq y.code k ≡ true) × (y.code ≡ k)) ⊎ ((nat_eq y.code k ≡ false) × (y.code ≢ k)) → (v : List ℕ) × (value_at k (y ∷ more) ≡ Some v)
+  cases (inl t) = (y.value.now, rw (t.0) refl)
+  cases (inr f) = rw (f.0) known
+
+-- the value of a place's entry
+known_at : (place : ℕ) (list : List Coded) (x : Coded) → slice_get list place ≡ Some x → (v : List ℕ) × (value_at x.code list ≡ Some v)
+known_at place [] x is = absurd (omega (arith, slice_get_within [] place x is))
+known_at zero (y ∷ more) x is = let same : y ≡ x = same_Some y x is in (y.value.now, rw (sym (ap (λ e. e.code) same)) (rw (is_same y.code) refl))
+known_at (suc place) (y ∷ more) x is = known_behind y x.code more (known_at place more x is)
+
 or-none : (x : Option (List ℕ)) → option_or x None ≡ x
 or-none None = refl
 or-none (Some x) = refl
 
-value_in-append : (code : ℕ) (a b : List OptionData) → value_in code (a ++ b) ≡ option_or (value_in code a) (value_in code b)
-value_in-append code a b =
-    ap (option_map (λ o. o.value)) (find-append (λ o. o.code == code) a b) ∙ map-or (find (λ o. o.code == code) a) (find (λ o. o.code == code) b)
+-- an option that changes no code's value
+same_values : (list : List Coded) (options : List OptionData) (o : OptionData) → HasValues list options
+    → ((k : ℕ) → IsCode k → option_or (value_in k options) (own_value o k) ≡ value_in k options) → HasValues list (options ++ o ∷ [])
+same_values list options o h same =
+    record { rise = h.rise; codes = h.codes; each = λ k is. h.each k is ∙ sym (same k is) ∙ sym (value_in-append k options o) }
 
-other : (o : OptionData) (code : ℕ) → nat_eq o.code code ≡ false → value_in code (o ∷ []) ≡ None
-other o code ne = rw ne refl
+-- an option whose code is none
+pub put_none : (list : List Coded) (options : List OptionData) (o : OptionData) → ((k : ℕ) → IsCode k → o.code ≢ k) → HasValues list options → HasValues list (options ++ o ∷ [])
+put_none list options o other h =
+    same_values list options o h (λ k is. rw (is_other o.code k (other k is)) (or-none (value_in k options)))
 
-same : (o : OptionData) (code : ℕ) → nat_eq o.code code ≡ true → value_in code (o ∷ []) ≡ Some o.value
-same o code eq = rw eq refl
+-- an option whose code has a value
+pub put_known : (place : ℕ) (list : List Coded) (x : Coded) (options : List OptionData) (o : OptionData) → slice_get list place ≡ Some x → x.code ≡ o.code → IsCode o.code
+    → HasValues list options → HasValues list (options ++ o ∷ [])
+put_known place list x options o at eq is h = same_values list options o h (λ k isk. cases k (eqb_tells o.code k)) where
+  found : (v : List ℕ) × (value_in o.code options ≡ Some v)
+  found = let known = known_at place list x at in (known.0, sym (h.each o.code is) ∙ ap (λ c. value_at c list) (sym eq) ∙ known.1)
+  cases : (k : ℕ) → ((nat_eq o.code k ≡ true) × (o.code ≡ k)) ⊎ ((nat_eq o.code k ≡ false) × (o.code ≢ k)) → option_or (value_in k options) (own_value o k) ≡ value_in k options
+  cases k (inl t) =
+    let there : value_in k options ≡ Some found.0 = ap (λ c. value_in c options) (sym t.1) ∙ found.1 in
+    ap (λ x. option_or x (own_value o k)) there ∙ sym there
+  cases k (inr f) = rw (f.0) (or-none (value_in k options))
 
-append_one : (code : ℕ) (options : List OptionData) (o : OptionData) (x : Option (List ℕ))
-    → value_in code (o ∷ []) ≡ x → value_in code (options ++ o ∷ []) ≡ option_or (value_in code options) x
-append_one code options o x e = value_in-append code options (o ∷ []) ∙ ap (λ y. option_or (value_in code options) y) e
+-- an option whose code has no value yet
+pub put_new : (place : ℕ) (list : List Coded) (e : Coded) (options : List OptionData) (o : OptionData) → e.code ≡ o.code → e.value.now ≡ o.value → IsCode e.code
+    → IsPlaceFor e.code list place → IsNext e.code list place → HasValues list options → HasValues (insert list place e) (options ++ o ∷ [])
+put_new place list e options o code value is at next h =
+    record {
+      rise = rise_insert place list e 0 is.0 h.rise at next;
+      codes = codes_insert place list e is h.codes;
+      each = λ k isk. each k isk (eqb_tells e.code k)
+    } where
+  each : (k : ℕ) → IsCode k → ((nat_eq e.code k ≡ true) × (e.code ≡ k)) ⊎ ((nat_eq e.code k ≡ false) × (e.code ≢ k)) → value_at k (insert list place e) ≡ value_in k (options ++ o ∷ [])
+  each k isk (inl t) =
+    let empty : value_in k options ≡ None = sym (h.each k isk) ∙ ap (λ c. value_at c list) (sym t.1) ∙ none_yet place list e 0 h.rise at next in
+    let own : own_value o k ≡ Some o.value = ap (λ c. if nat_eq c k then Some o.value else None) (sym code) ∙ ap (λ b. if b then Some o.value else None) t.0 in
+    ap (λ c. value_at c (insert list place e)) (sym t.1) ∙ found_new place list e at ∙ ap Some value
+    ∙ sym (value_in-append k options o ∙ ap (λ x. option_or x (own_value o k)) empty ∙ own)
+  each k isk (inr f) =
+    let own : own_value o k ≡ None = ap (λ c. if nat_eq c k then Some o.value else None) (sym code) ∙ ap (λ b. if b then Some o.value else None) f.0 in
+    other_insert place list e k f.0 ∙ h.each k isk ∙ sym (value_in-append k options o ∙ ap (λ x. option_or (value_in k options) x) own ∙ or-none (value_in k options))
 
--- another option does not change the value of a code
-past : (code : ℕ) (options : List OptionData) (o : OptionData) → nat_eq o.code code ≡ false → value_in code (options ++ o ∷ []) ≡ value_in code options
-past code options o ne = append_one code options o None (other o code ne) ∙ or-none (value_in code options)
+-- a function of codes that gives nothing for a code without a value, over codes that follow one another, gives what it gives for the entries
+pub over_entries : {A : Type 0} (give : ℕ → Option (List ℕ) → List A) (f : ℕ → List A) → ((code : ℕ) → give code None ≡ []) → (n a : ℕ) (list : List Coded) → RiseAbove a list
+    → HaveCodes list → n + a ≡ 254
+    → ((code : ℕ) → a < code → code < 255 → f code ≡ give code (value_at code list)) → flat_map f (range_with_len (a + 1) n) ≡ flat_map (λ e. give e.code (Some e.value.now)) list
+over_entries give f none zero a [] rise have all same = refl
+over_entries give f none zero a (x ∷ more) rise have all same = absurd (omega (arith, rise.0, have.0.1, all))
+over_entries give f none (suc n) a [] rise have all same =
+    let first : f (a + 1) ≡ [] = same (a + 1) (omega arith) (omega (arith, all)) ∙ none (a + 1) in
+    rw first (over_entries give f none n (a + 1) [] tt tt (omega (arith, all)) (λ code low high. same code (omega (arith, low)) high))
+over_entries give f none (suc n) a (x ∷ more) rise have all same = cases (eqb_tells x.code (a + 1))
+    (λ eq. over_entries give f none n (a + 1) more (subst (λ b. RiseAbove b more) eq rise.1) have.1 (omega (arith, all)) (later eq))
+    (λ ne. over_entries give f none n (a + 1) (x ∷ more) (above ne, rise.1) have (omega (arith, all)) (λ code low high. same code (omega (arith, low)) high)) where
+  above : x.code ≢ a + 1 → a + 1 < x.code
+  above ne = above_place x.code (a + 1) (omega (arith, rise.0)) ne
+  later : x.code ≡ a + 1 → (code : ℕ) → a + 1 < code → code < 255 → f code ≡ give code (value_at code more)
+  later eq code low high =
+    let behind : value_at code (x ∷ more) ≡ value_at code more = rw (is_other x.code code (less_other x.code code (omega (arith, eq, low)))) refl in
+    same code (omega (arith, low)) high ∙ ap (give code) behind
+  cases : ((nat_eq x.code (a + 1) ≡ true) × (x.code ≡ a + 1)) ⊎ ((nat_eq x.code (a + 1) ≡ false) × (x.code ≢ a + 1))
+      → (x.code ≡ a + 1 → flat_map f (range_with_len (a + 1 + 1) n) ≡ flat_map (λ e. give e.code (Some e.value.now)) more)
+      → (x.code ≢ a + 1 → flat_map f (range_with_len (a + 1 + 1) n) ≡ flat_map (λ e. give e.code (Some e.value.now)) (x ∷ more))
+      → f (a + 1) ++ flat_map f (range_with_len (a + 1 + 1) n) ≡ flat_map (λ e. give e.code (Some e.value.now)) (x ∷ more)
+  cases (inl t) here beyond =
+    let found : value_at (a + 1) (x ∷ more) ≡ Some x.value.now = rw (t.0) refl in
+    let first : f (a + 1) ≡ give x.code (Some x.value.now) = same (a + 1) (omega arith) (omega (arith, all)) ∙ ap (give (a + 1)) found ∙ ap (λ code. give code (Some x.value.now)) (sym t.1) in
+    ap (λ front. front ++ flat_map f (range_with_len (a + 1 + 1) n)) first ∙ ap (λ back. give x.code (Some x.value.now) ++ back) (here t.1)
+  cases (inr o) here beyond =
+    let found : value_at (a + 1) (x ∷ more) ≡ None = none_above (x ∷ more) (a + 1) (a + 1) (omega arith) (above o.1, rise.1) in
+    let first : f (a + 1) ≡ [] = same (a + 1) (omega arith) (omega (arith, all)) ∙ ap (give (a + 1)) found ∙ none (a + 1) in
+    ap (λ front. front ++ flat_map f (range_with_len (a + 1 + 1) n)) first ∙ beyond o.1
 
--- a code that has a value keeps it
-keeps : (code : ℕ) (options : List OptionData) (o : OptionData) (v : List ℕ) → value_in code options ≡ Some v → value_in code (options ++ o ∷ []) ≡ Some v
-keeps code options o v e = value_in-append code options (o ∷ []) ∙ ap (λ x. option_or x (value_in code (o ∷ []))) e
-
--- a code without a value gets that of the option
-gets : (code : ℕ) (options : List OptionData) (o : OptionData) → nat_eq o.code code ≡ true → value_in code options ≡ None → value_in code (options ++ o ∷ []) ≡ Some o.value
-gets code options o eq none = append_one code options o (Some o.value) (same o code eq) ∙ ap (λ x. option_or x (Some o.value)) none
-
--- no option gives a value
-pub no_values : (table : List (Option (Bor (List ℕ)))) → table ≡ replicate 256 None → HasValues table []
-no_values table e =
-    let empty : (code : ℕ) → code < 256 → get_or table code None ≡ None =
-    λ code small. ap (λ t. get_or t code None) e ∙ get_or-replicate 256 code None None small in
-    record { size = ap length e ∙ length-replicate {A = Option (Bor (List ℕ))} 256 None; each = λ code small. ap option_copied (empty code small) }
-
-keep_at : (table : List (Option (Bor (List ℕ)))) (options : List OptionData) (o : OptionData) (v : Bor (List ℕ))
-    → get_or table o.code None ≡ Some v → HasValues table options → (code : ℕ) → code < 256
-    → ((nat_eq o.code code ≡ true) × (o.code ≡ code)) ⊎ ((nat_eq o.code code ≡ false) × (o.code ≢ code))
-    → option_copied (get_or table code None) ≡ value_in code (options ++ o ∷ [])
-keep_at table options o v some h code small (inl t) =
-    let there : option_copied (get_or table code None) ≡ Some v.now = ap option_copied (ap (λ k. get_or table k None) (sym t.1) ∙ some) in
-    there ∙ sym (keeps code options o v.now (sym (h.each code small) ∙ there))
-keep_at table options o v some h code small (inr f) = h.each code small ∙ sym (past code options o f.0)
-
--- an option after those that give its code a value
-pub keep_value : (table : List (Option (Bor (List ℕ)))) (options : List OptionData) (o : OptionData) (v : Bor (List ℕ)) (place : ℕ)
-    → place ≡ o.code → get_or table place None ≡ Some v → HasValues table options → HasValues table (options ++ o ∷ [])
-keep_value table options o v place is some h =
-    let there : get_or table o.code None ≡ Some v = ap (λ k. get_or table k None) (sym is) ∙ some in
-    record { size = h.size; each = λ code small. keep_at table options o v there h code small (eqb_tells o.code code) }
-
-put_at : (table : List (Option (Bor (List ℕ)))) (options : List OptionData) (o : OptionData) (v : Bor (List ℕ))
-    → get_or table o.code None ≡ None → o.code < length table → o.value ≡ v.now → HasValues table options → (code : ℕ) → code < 256
-    → ((nat_eq o.code code ≡ true) × (o.code ≡ code)) ⊎ ((nat_eq o.code code ≡ false) × (o.code ≢ code))
-    → option_copied (get_or (set table o.code (Some v)) code None) ≡ value_in code (options ++ o ∷ [])
-put_at table options o v none less is h code small (inl t) =
-    let put : get_or (set table o.code (Some v)) code None ≡ Some v =
-    ap (λ k. get_or (set table o.code (Some v)) k None) (sym t.1) ∙ get_or-set_same table o.code (Some v) None less in
-    let empty : value_in code options ≡ None = sym (h.each code small) ∙ ap option_copied (ap (λ k. get_or table k None) (sym t.1) ∙ none) in
-    ap option_copied put ∙ ap Some (sym is) ∙ sym (gets code options o t.0 empty)
-put_at table options o v none less is h code small (inr f) =
-    ap option_copied (get_or-set_other table o.code code (Some v) None (λ e. f.1 (sym e))) ∙ h.each code small ∙ sym (past code options o f.0)
-
--- an option after those that give its code no value
-pub put_value : (table : List (Option (Bor (List ℕ)))) (options : List OptionData) (o : OptionData) (v : Bor (List ℕ)) (place : ℕ)
-    → place ≡ o.code → get_or table place None ≡ None → place < 256 → o.value ≡ v.now → HasValues table options
-    → HasValues (set table place (Some v)) (options ++ o ∷ [])
-put_value table options o v place at none less is h =
-    let empty : get_or table o.code None ≡ None = ap (λ k. get_or table k None) (sym at) ∙ none in
-    let within : o.code < length table = omega (arith, at, h.size) in
-    rw at (record { size = length-set table o.code (Some v) ∙ h.size; each = λ code small. put_at table options o v empty within is h code small (eqb_tells o.code code) })
+-- the entry at an index has a code
+pub code_at : (list : List Coded) (i : ℕ) (x : Coded) → slice_get list i ≡ Some x → HaveCodes list → IsCode x.code
+code_at [] i x is have = absurd (omega (arith, slice_get_within [] i x is))
+code_at (y ∷ more) zero x is have = subst (λ e. IsCode e.code) (same_Some y x is) have.0
+code_at (y ∷ more) (suc i) x is have = code_at more i x is have.1

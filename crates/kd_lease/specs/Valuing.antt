@@ -1,12 +1,38 @@
--- What the table of values holds: for the proofs, no promise names it.
-use Rattle.std.specs.Prelude.{◌≡◌, ℕ, ◌<◌, List, Option, None, option_copied, get_or, length}
-use Rattle.std.specs.Borrow.{Bor}
+-- What the list of values holds: for the proofs, no promise names it.
+use Rattle.std.specs.Prelude.{◌≡◌, ◌≢◌, ℕ, zero, suc, ◌<◌, ◌≤◌, ◌==◌, List, [], ◌∷◌, Option, Some, option_map, slice_get}
+use Rattle.std.specs.List.{find}
 use Rattle.kd_classes.specs.declared.option_list.OptionData.{OptionData}
 use Rattle.kd_lease.specs.Given.{value_in}
+use Rattle.kd_lease.specs.declared.values.Coded.{Coded}
+use Rattle.kd_wire.specs.Area.{IsCode}
 
--- a table has for each code the value that options give it
-pub record HasValues (table : List (Option (Bor (List ℕ))))
-    (options : List OptionData) : Type 0 where
-  pub size : length table ≡ 256
-  pub each : (code : ℕ) → code < 256
-      → option_copied (get_or table code None) ≡ value_in code options
+-- the value of a code in a list: that of the first entry that has it
+abbrev pub value_at : ℕ → List Coded → Option (List ℕ)
+value_at code list =
+    option_map (λ entry. entry.value.now) (find (λ entry. entry.code == code) list)
+
+-- the codes of a list rise, each above this one
+abbrev pub RiseAbove : ℕ → List Coded → Type 0
+RiseAbove code [] = Unit {0}
+RiseAbove code (entry ∷ more) = (code < entry.code) × RiseAbove entry.code more
+
+-- so many entries at the front of a list have codes below this one, and no others
+abbrev pub IsPlaceFor : ℕ → List Coded → ℕ → Type 0
+IsPlaceFor code [] place = place ≡ 0
+IsPlaceFor code (entry ∷ more) zero = code ≤ entry.code
+IsPlaceFor code (entry ∷ more) (suc place) = (entry.code < code) × IsPlaceFor code more place
+
+-- the entry at a place of a list, if there is one, has another code than this one
+abbrev pub IsNext : ℕ → List Coded → ℕ → Type 0
+IsNext code list place = (entry : Coded) → slice_get list place ≡ Some entry → entry.code ≢ code
+
+-- entries have codes of options
+abbrev pub HaveCodes : List Coded → Type 0
+HaveCodes [] = Unit {0}
+HaveCodes (entry ∷ more) = IsCode entry.code × HaveCodes more
+
+-- a list has for each code the value that options give it, in rising code
+pub record HasValues (list : List Coded) (options : List OptionData) : Type 0 where
+  pub rise : RiseAbove 0 list
+  pub codes : HaveCodes list
+  pub each : (code : ℕ) → IsCode code → value_at code list ≡ value_in code options

@@ -1,7 +1,7 @@
-ghost use Rattle.std.specs.Prelude.{◌≡◌, ◌++◌, ◌∷◌, [], IfOk, List, OnOk, map, option_copied};
+ghost use Rattle.std.specs.Prelude.{◌≡◌, ◌++◌, ◌∷◌, [], IfOk, List, OnOk, Some, map};
 ghost use Rattle.kd_classes.specs.declared.option_list.OptionData.{OptionData};
 ghost use Rattle.kd_lease.specs.Client.{wants_option};
-ghost use Rattle.kd_lease.specs.Given.{class_options, configured, configured_options, given, prefix_mask, value_in};
+ghost use Rattle.kd_lease.specs.Given.{class_options, configured, configured_options, given, prefix_mask};
 ghost use Rattle.kd_lease.specs.Plan.{option_of_item};
 ghost use Rattle.kd_lease.specs.Valuing.{HasValues};
 ghost use Rattle.kd_wire.specs.Area.{IsCode};
@@ -9,7 +9,7 @@ ghost use Rattle.kd_wire.specs.Area.{IsCode};
 use crate::client::asks_for;
 use crate::reply::put_optional;
 use crate::subnet::pool_options;
-use crate::values::Values;
+use crate::values::{Coded, Values};
 use kd_classes::{ClassDef, Classes};
 use kd_config::{Config, Prefix, Subnet};
 use kd_machine::Held;
@@ -31,35 +31,46 @@ pub(crate) fn put_given(
         ++ configured_options message.now (given config.now subnet.now names.now address)) }
 {
     let mask = mask_of(subnet.prefix);
-    let mut values = Values::new();
-    values.put_all(pool_options(subnet, address));
-    values.put_all(subnet.options.as_slice());
-    put_class_options(&mut values, config.classes(), names);
-    values.put_all(config.options());
-    values.put(1, &mask);
+    let mut values = Values::new(alloc);
+    values.put_all(pool_options(subnet, address))?;
+    values.put_all(subnet.options.as_slice())?;
+    put_class_options(&mut values, config.classes(), names)?;
+    values.put_all(config.options())?;
+    values.put(1, &mask)?;
     put_values(alloc, list, message, &values)
 }
 
 // Puts the options of the classes whose names are held after those of others.
-fn put_class_options<'a>(values: &mut Values<'a>, classes: &'a Classes, names: &Held)
-    ensures { (before : List OptionData) → HasValues values.old.by_code before
-        → HasValues values.new.by_code (before ++ class_options classes.now names.now) }
+fn put_class_options<'a>(
+    values: &mut Values<'a>,
+    classes: &'a Classes,
+    names: &Held,
+) -> Result<(), AllocError>
+    ensures { OnOk result ((before : List OptionData) → HasValues values.old.list.items before
+        → HasValues values.new.list.items (before ++ class_options classes.now names.now)) }
 {
     for i in 0..classes.len() {
         match classes.def_at(i) {
-            Some(class) => put_options_of(values, class, names),
+            Some(class) => put_options_of(values, class, names)?,
             None => unreachable!(),
         }
     }
+    Ok(())
 }
 
 // Puts the options of a class whose name is held after those of others.
-fn put_options_of<'a>(values: &mut Values<'a>, class: &'a ClassDef, names: &Held)
-    ensures { (before : List OptionData) → HasValues values.old.by_code before
-        → HasValues values.new.by_code (before ++ class_options (class.now ∷ []) names.now) }
+fn put_options_of<'a>(
+    values: &mut Values<'a>,
+    class: &'a ClassDef,
+    names: &Held,
+) -> Result<(), AllocError>
+    ensures { OnOk result ((before : List OptionData) → HasValues values.old.list.items before
+        → HasValues values.new.list.items (before ++ class_options (class.now ∷ []) names.now)) }
 {
     if names.contains(class.name.as_slice()) {
-        values.put_all(class.options.as_slice());
+        values.put_all(class.options.as_slice())
+    } else {
+        Ok(())
     }
 }
 
@@ -70,32 +81,32 @@ fn put_values(
     message: &Message<'_>,
     values: &Values<'_>,
 ) -> Result<(), AllocError>
-    ensures { (options : List OptionData) → HasValues values.now.by_code options
+    ensures { (options : List OptionData) → HasValues values.now.list.items options
         → OnOk result (map option_of_item list.new.items ≡ map option_of_item list.old.items
         ++ configured_options message.now options) }
 {
-    for code in 1..255u8 {
-        put_configured(alloc, list, message, code, values.value(code))?;
+    for entry in &values.list {
+        put_configured(alloc, list, message, *entry)?;
     }
     Ok(())
 }
 
-// Puts a configured option, where it has a value and the client asks for it.
+// Puts a configured option, where the client asks for it.
 fn put_configured(
     alloc: Global,
     list: &mut Vec<Item>,
     message: &Message<'_>,
-    code: u8,
-    value: Option<&[u8]>,
+    entry: Coded<'_>,
 ) -> Result<(), AllocError>
-    requires { IsCode code }
+    requires { IsCode entry.code }
     ensures { OnOk result (map option_of_item list.new.items
         ≡ map option_of_item list.old.items
-        ++ configured (wants_option code message.now) code (option_copied value.entry)) }
+        ++ configured (wants_option entry.code message.now) entry.code (Some entry.value.now)) }
 {
-    match value {
-        Some(value) if asks_for(message, code) => put_optional(alloc, list, code, value),
-        _ => Ok(()),
+    if asks_for(message, entry.code) {
+        put_optional(alloc, list, entry.code, entry.value)
+    } else {
+        Ok(())
     }
 }
 

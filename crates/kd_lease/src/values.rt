@@ -1,53 +1,86 @@
-ghost use Rattle.std.specs.Prelude.{◌≡◌, ◌++◌, ◌∷◌, [], List, option_copied};
+ghost use Rattle.std.specs.Prelude.{◌≡◌, ◌≤◌, ◌++◌, ◌∷◌, [], IsTrue, List, OnOk, Some, false, slice_get};
+ghost use Rattle.std.specs.Vec.{vec_len};
 ghost use Rattle.kd_classes.specs.declared.option_list.OptionData.{OptionData};
-ghost use Rattle.kd_lease.specs.Given.{value_in};
-ghost use Rattle.kd_lease.specs.Valuing.{HasValues};
+ghost use Rattle.kd_lease.specs.Valuing.{HasValues, IsNext, IsPlaceFor};
+ghost use Rattle.kd_lease.specs.declared.values.Coded.{Coded};
 
 use kd_classes::OptionData;
+use std::alloc::{AllocError, Global};
 
-// The values of options: for each code that of the first option put.
+// A code with the value of its option.
+#[derive(Clone, Copy)]
+pub(crate) struct Coded<'a> {
+    pub(crate) code: u8,
+    pub(crate) value: &'a [u8],
+}
+
+// The values of options, in rising code: for each code that of the first option put.
 #[derive(Drop)]
 pub(crate) struct Values<'a> {
-    by_code: [Option<&'a [u8]>; 256],
+    pub(crate) list: Vec<Coded<'a>>,
 }
 
 impl<'a> Values<'a> {
     // No values.
-    pub(crate) fn new() -> Values<'a>
-        ensures { HasValues result.by_code [] }
+    pub(crate) fn new(alloc: Global) -> Values<'a>
+        ensures { HasValues result.list.items [] }
     {
-        let by_code = [None; 256];
-        Values { by_code }
+        Values {
+            list: Vec::new(alloc),
+        }
     }
 
     // Puts a value after those of other options.
-    pub(crate) fn put(&mut self, code: u8, value: &'a [u8])
-        ensures { (options : List OptionData) → HasValues self.old.by_code options
-            → HasValues self.new.by_code (options ++ record { code = code; value = value.now }
-            ∷ []) }
+    pub(crate) fn put(&mut self, code: u8, value: &'a [u8]) -> Result<(), AllocError>
+        ensures { OnOk result ((options : List OptionData) → HasValues self.old.list.items options
+            → HasValues self.new.list.items (options ++ record { code = code; value = value.now }
+            ∷ [])) }
     {
-        let place = usize::from(code);
-        match self.by_code[place] {
-            Some(_) => {}
-            None => self.by_code[place] = Some(value),
+        // these two are no codes of options
+        if code == 0 || code == 255 {
+            return Ok(());
+        }
+        let place = self.place_of(code);
+        if self.has_at(place, code) {
+            return Ok(());
+        }
+        self.list.insert(place, Coded { code, value })?;
+        Ok(())
+    }
+
+    // The entry at a place has a code.
+    fn has_at(&self, place: usize, code: u8) -> bool
+        ensures there { IsTrue result → (entry : Coded)
+            × (slice_get self.now.list.items place ≡ Some entry) × (entry.code ≡ code) }
+        ensures next { result ≡ false → IsNext code self.now.list.items place }
+    {
+        match self.list.get(place) {
+            Some(entry) => entry.code == code,
+            None => false,
         }
     }
 
     // Puts the values of options after those of others.
-    pub(crate) fn put_all(&mut self, options: &'a [OptionData])
-        ensures { (before : List OptionData) → HasValues self.old.by_code before
-            → HasValues self.new.by_code (before ++ options.now) }
+    pub(crate) fn put_all(&mut self, options: &'a [OptionData]) -> Result<(), AllocError>
+        ensures { OnOk result ((before : List OptionData) → HasValues self.old.list.items before
+            → HasValues self.new.list.items (before ++ options.now)) }
     {
         for option in options {
-            self.put(option.code, option.value.as_slice());
+            self.put(option.code, option.value.as_slice())?;
         }
+        Ok(())
     }
 
-    // The value of a code.
-    pub(crate) fn value(&self, code: u8) -> Option<&'a [u8]>
-        ensures { (options : List OptionData) → HasValues self.now.by_code options
-            → option_copied result ≡ value_in code options }
+    // How many entries at the front have lesser codes.
+    fn place_of(&self, code: u8) -> usize
+        ensures place { IsPlaceFor code self.now.list.items result }
+        ensures within { result ≤ vec_len self.now.list }
     {
-        self.by_code[usize::from(code)]
+        for place in 0..self.list.len() {
+            if self.list[place].code >= code {
+                return place;
+            }
+        }
+        self.list.len()
     }
 }

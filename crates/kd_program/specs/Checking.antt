@@ -31,10 +31,11 @@ trouble_number troubles.Denied = 81
 trouble_number troubles.NoFolder = 81
 trouble_number troubles.Other = 81
 
--- what is found of a configuration, a socket
+-- what is found of a configuration
 abbrev pub config_finding : Result Configuration StartFault → Option ℕ
 config_finding result = option_map (λ fault. start_fault_number fault) (result_err result)
 
+-- what is found of a socket
 abbrev pub socket_finding : Result Bool SocketTrouble → Option ℕ
 socket_finding answer = option_map (λ trouble. 94) (result_err answer)
 

@@ -167,6 +167,10 @@ pub trait Host {
     fn try_database(&self, path: &str) -> Result<bool, StoreTrouble>
         ensures { tries self.now path.now result };
 
+    /// How many bytes of the log of the database at a path a start leaves out because a frame there
+    /// was damaged; nothing where it leaves none out, or where that can't be said.
+    fn left_out(&self, path: &str) -> Option<usize>;
+
     /// Whether a socket at an address, a number in host order, and a port could send to all hosts of
     /// its link. Nothing is sent.
     ///

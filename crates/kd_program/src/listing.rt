@@ -65,7 +65,8 @@ fn list<R: Source, O: Sink, E: Sink>(
     table: &Table<'_>,
     at: u64,
 ) -> u8
-    ensures { ShowsListing listing table.now.failed table.now.config.now table.now.rows.now.rows at result
+    ensures { ShowsListing listing table.now.failed table.now.config.now table.now.rows.now.rows at
+        result
         (streams R.Source O.Sink E.Sink ends.old) (streams R.Source O.Sink E.Sink ends.new) }
 {
     match text_of(alloc, listing, table, at) {

@@ -21,6 +21,7 @@ pub(crate) fn report_of<H: Host>(
     put_config(&mut text, host, files, found.config)?;
     if let Some(path) = &files.store {
         put_store(&mut text, path.as_str(), found.store)?;
+        put_log(&mut text, host, path.as_str(), found.store)?;
     }
     put_socket(&mut text, found.place, found.socket)?;
     Ok(text)
@@ -85,6 +86,25 @@ fn put_store(text: &mut String, path: &str, store: &StoreFinding) -> Result<(), 
         StoreFinding::Open(seen) => put_seen(text, *seen)?,
     }
     text.push_str("\n")
+}
+
+// What was found of the log of a store that was read, if it is damaged.
+fn put_log<H: Host>(
+    text: &mut String,
+    host: &H,
+    path: &str,
+    store: &StoreFinding,
+) -> Result<(), AllocError> {
+    let StoreFinding::Open(_) = store else {
+        return Ok(());
+    };
+    match host.left_out(path) {
+        Some(bytes) => writeln!(
+            text,
+            "{path}-wal: damaged, serve leaves out the {bytes} bytes behind its last good frame"
+        ),
+        None => Ok(()),
+    }
 }
 
 // What was seen of the rows of a store.

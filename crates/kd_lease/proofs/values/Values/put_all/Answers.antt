@@ -14,13 +14,13 @@ loop-option-preserved c = λ before h.
     let more : take (i + 1) options ≡ take i options ++ option ∷ [] =
     take_more options i option c.loop-option-test.true ∙ ap (λ o. take i options ++ o ∷ []) (sym c.option-item.is) in
     subst
-    (λ all. HasValues c.put.new.self.by_code all)
+    (λ all. HasValues c.put.new.self.list.items all)
     (ap (λ o. before ++ take i options ++ o ∷ []) same ∙ append_assoc before (take i options) (option ∷ []) ∙ ap (λ all. before ++ all) (sym more))
     (c.put.ensures (before ++ take i options) (c.loop-option.invariant before h))
 
 pub returns : goal.returns
 returns c = λ before h.
     subst
-    (λ all. HasValues c.loop-option.self.by_code (before ++ all))
+    (λ all. HasValues c.loop-option.self.list.items (before ++ all))
     (take_all c.loop-option.option-index c.args.options.now c.loop-option-test.false)
     (c.loop-option.invariant before h)

@@ -1,0 +1,27 @@
+-- Frames of a log that a start leaves out: SQLite's write-ahead log (its file format, section 4).
+use Rattle.std.specs.Prelude.{◌≡◌, ◌⊎◌, ℕ, ◌+◌, ◌-◌, ◌≤◌, List, length, Option, None, Some}
+use Rattle.sqlite_wal.specs.Format.{be32, part}
+use Rattle.sqlite_wal.specs.PageSize.{IsPageSize}
+use Rattle.sqlite_wal.specs.Recovery.{IsIgnored, IsLogFor, Replays, frame_at}
+
+-- at a place of a log begins a frame of this same log: it has the salts of the log's header
+pub record IsOwnFrame (log : List ℕ) (at : ℕ) : Type 0 where
+  pub within : at + 24 ≤ length log
+  pub salts : part log (at + 8) 8 ≡ part log 16 8
+
+-- the place behind the last frame that a start takes of a log with pages of this size
+abbrev pub IsEnd : List ℕ → ℕ → ℕ → Type 0
+IsEnd log size at = (k : ℕ) × Replays size log k × (at ≡ frame_at size k)
+
+-- a file is a log whose header names no size of a page
+abbrev pub NamesNoSize : List ℕ → Type 0
+NamesNoSize log = ¬ IsIgnored log → ¬ IsPageSize (be32 log 8)
+
+-- how many bytes of a log a start leaves out from a frame of this same log on, if there is one where
+-- the frames end that it takes
+abbrev pub AreLeftOut : List ℕ → Option ℕ → Type 0
+AreLeftOut log None =
+    NamesNoSize log ⊎ ((size at : ℕ) × IsEnd log size at × (¬ IsOwnFrame log at))
+AreLeftOut log (Some count) =
+    (size at : ℕ) × IsLogFor size log × IsEnd log size at × IsOwnFrame log at
+    × (count ≡ length log - at)
