@@ -1,5 +1,5 @@
 use crate::files::{Steps, expect, over_file, put, remove};
-use kd_database::rows_in;
+use kd_database::{left_out, rows_in};
 use kd_io::copy_at;
 use kd_keeps::{Keeps, Opened};
 use kd_rows::{Row, State};
@@ -116,6 +116,25 @@ fn look(rt: &HostRuntime) -> Result<Vec<Row>, Fail> {
     Ok(rows_in(rt.alloc(), copy.log.as_slice(), copy.db.as_slice())?)
 }
 
+// The log of the file is whole. Where a byte of its first frame is another, all of it is left out but
+// its header, which has 32 bytes.
+fn look_at_log(rt: &HostRuntime) -> Result<(), Fail> {
+    let alloc = rt.alloc();
+    let copy = copy_at(rt, "rows.db")?;
+    let mut log = Vec::from_slice(alloc, copy.log.as_slice())?;
+    expect(
+        left_out(alloc, &log)?.is_none(),
+        "a whole log is said to be damaged",
+    )?;
+    if let Some(byte) = log.get_mut(500) {
+        *byte ^= 1;
+    }
+    expect(
+        left_out(alloc, &log)? == Some(log.len() - 32),
+        "a damaged log is said to be whole",
+    )
+}
+
 // Fills a store that has no rows, and looks at it before and after.
 fn fill<S: Keeps>(rt: &HostRuntime, store: &mut S, rows: &[Row]) -> Result<(), Fail> {
     let alloc = rt.alloc();
@@ -125,7 +144,8 @@ fn fill<S: Keeps>(rt: &HostRuntime, store: &mut S, rows: &[Row]) -> Result<(), F
     expect(
         are_all(alloc, &look(rt)?)?,
         "a look does not find the rows that were put",
-    )
+    )?;
+    look_at_log(rt)
 }
 
 // Finds all rows in a store, whose file and its log are for their user alone.
