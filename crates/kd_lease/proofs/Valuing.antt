@@ -1,12 +1,14 @@
 -- The values that options give their codes, and the list that has them.
-use Rattle.std.proofs.Common.{◌≡◌, ◌≢◌, ℕ, zero, suc, ◌+◌, ◌<◌, ◌≤◌, ◌==◌, Bor, List, [], ◌∷◌, ◌++◌, true, false, nat_eq, nat_lt, Bool, if◌then◌else◌, Option, None, Some, refl, sym, subst, ap, ◌∙◌, length, slice_get, take, option_map, ◌⊎◌, inl, inr, arith}
+use Rattle.std.proofs.Common.{◌≡◌, ◌≢◌, ℕ, zero, suc, ◌+◌, ◌<◌, ◌≤◌, ◌==◌, Bor, List, [], ◌∷◌, ◌++◌, true, false, nat_eq, nat_lt, Bool, if◌then◌else◌, Option, None, Some, refl, sym, subst, ap, ◌∙◌, length, slice_get, slice_index_or, take, option_map, ◌⊎◌, inl, inr, arith}
 use Rattle.std.specs.List.{All, find, flat_map, insert, range_with_len}
 use Rattle.std.specs.Option.{option_or}
 use Rattle.std.proofs.lemmas.Bool.Decides.{eqb_tells, leb_tells}
 use Rattle.std.proofs.lemmas.List.Folds.{find-append}
 use Rattle.std.proofs.lemmas.Option.{same_Some, slice_get_within}
 use Rattle.kd_classes.specs.declared.option_list.OptionData.{OptionData}
-use Rattle.kd_lease.specs.Given.{value_in}
+use Rattle.kd_lease.specs.Client.{wants_option}
+use Rattle.kd_lease.specs.Given.{configured, configured_at, configured_options, value_in}
+use Rattle.kd_options.specs.Message.{Seen}
 use Rattle.kd_lease.specs.declared.values.Coded.{Coded}
 use Rattle.kd_lease.specs.Valuing.{HasValues, HaveCodes, IsNext, IsPlaceFor, RiseAbove, value_at}
 use Rattle.kd_wire.specs.Area.{IsCode}
@@ -126,10 +128,11 @@ pub put_known : (place : ℕ) (list : List Coded) (x : Coded) (options : List Op
 put_known place list x options o at eq is h = same_values list options o h (λ k isk. cases k (eqb_tells o.code k)) where
   found : (v : List ℕ) × (value_in o.code options ≡ Some v)
   found = let known = known_at place list x at in (known.0, sym (h.each o.code is) ∙ ap (λ c. value_at c list) (sym eq) ∙ known.1)
+
   cases : (k : ℕ) → ((nat_eq o.code k ≡ true) × (o.code ≡ k)) ⊎ ((nat_eq o.code k ≡ false) × (o.code ≢ k)) → option_or (value_in k options) (own_value o k) ≡ value_in k options
   cases k (inl t) =
-    let there : value_in k options ≡ Some found.0 = ap (λ c. value_in c options) (sym t.1) ∙ found.1 in
-    ap (λ x. option_or x (own_value o k)) there ∙ sym there
+      let there : value_in k options ≡ Some found.0 = ap (λ c. value_in c options) (sym t.1) ∙ found.1 in
+      ap (λ x. option_or x (own_value o k)) there ∙ sym there
   cases k (inr f) = rw (f.0) (or-none (value_in k options))
 
 -- an option whose code has no value yet
@@ -139,17 +142,17 @@ put_new place list e options o code value is at next h =
     record {
       rise = rise_insert place list e 0 is.0 h.rise at next;
       codes = codes_insert place list e is h.codes;
-      each = λ k isk. each k isk (eqb_tells e.code k)
+      each = λ k isk. each k isk (eqb_tells e.code k);
     } where
-  each : (k : ℕ) → IsCode k → ((nat_eq e.code k ≡ true) × (e.code ≡ k)) ⊎ ((nat_eq e.code k ≡ false) × (e.code ≢ k)) → value_at k (insert list place e) ≡ value_in k (options ++ o ∷ [])
-  each k isk (inl t) =
-    let empty : value_in k options ≡ None = sym (h.each k isk) ∙ ap (λ c. value_at c list) (sym t.1) ∙ none_yet place list e 0 h.rise at next in
-    let own : own_value o k ≡ Some o.value = ap (λ c. if nat_eq c k then Some o.value else None) (sym code) ∙ ap (λ b. if b then Some o.value else None) t.0 in
-    ap (λ c. value_at c (insert list place e)) (sym t.1) ∙ found_new place list e at ∙ ap Some value
-    ∙ sym (value_in-append k options o ∙ ap (λ x. option_or x (own_value o k)) empty ∙ own)
-  each k isk (inr f) =
-    let own : own_value o k ≡ None = ap (λ c. if nat_eq c k then Some o.value else None) (sym code) ∙ ap (λ b. if b then Some o.value else None) f.0 in
-    other_insert place list e k f.0 ∙ h.each k isk ∙ sym (value_in-append k options o ∙ ap (λ x. option_or (value_in k options) x) own ∙ or-none (value_in k options))
+      each : (k : ℕ) → IsCode k → ((nat_eq e.code k ≡ true) × (e.code ≡ k)) ⊎ ((nat_eq e.code k ≡ false) × (e.code ≢ k)) → value_at k (insert list place e) ≡ value_in k (options ++ o ∷ [])
+      each k isk (inl t) =
+          let empty : value_in k options ≡ None = sym (h.each k isk) ∙ ap (λ c. value_at c list) (sym t.1) ∙ none_yet place list e 0 h.rise at next in
+          let own : own_value o k ≡ Some o.value = ap (λ c. if nat_eq c k then Some o.value else None) (sym code) ∙ ap (λ b. if b then Some o.value else None) t.0 in
+          ap (λ c. value_at c (insert list place e)) (sym t.1) ∙ found_new place list e at ∙ ap Some value
+          ∙ sym (value_in-append k options o ∙ ap (λ x. option_or x (own_value o k)) empty ∙ own)
+      each k isk (inr f) =
+          let own : own_value o k ≡ None = ap (λ c. if nat_eq c k then Some o.value else None) (sym code) ∙ ap (λ b. if b then Some o.value else None) f.0 in
+          other_insert place list e k f.0 ∙ h.each k isk ∙ sym (value_in-append k options o ∙ ap (λ x. option_or (value_in k options) x) own ∙ or-none (value_in k options))
 
 -- a function of codes that gives nothing for a code without a value, over codes that follow one another, gives what it gives for the entries
 pub over_entries : {A : Type 0} (give : ℕ → Option (List ℕ) → List A) (f : ℕ → List A) → ((code : ℕ) → give code None ≡ []) → (n a : ℕ) (list : List Coded) → RiseAbove a list
@@ -163,27 +166,37 @@ over_entries give f none (suc n) a [] rise have all same =
 over_entries give f none (suc n) a (x ∷ more) rise have all same = cases (eqb_tells x.code (a + 1))
     (λ eq. over_entries give f none n (a + 1) more (subst (λ b. RiseAbove b more) eq rise.1) have.1 (omega (arith, all)) (later eq))
     (λ ne. over_entries give f none n (a + 1) (x ∷ more) (above ne, rise.1) have (omega (arith, all)) (λ code low high. same code (omega (arith, low)) high)) where
-  above : x.code ≢ a + 1 → a + 1 < x.code
-  above ne = above_place x.code (a + 1) (omega (arith, rise.0)) ne
-  later : x.code ≡ a + 1 → (code : ℕ) → a + 1 < code → code < 255 → f code ≡ give code (value_at code more)
-  later eq code low high =
-    let behind : value_at code (x ∷ more) ≡ value_at code more = rw (is_other x.code code (less_other x.code code (omega (arith, eq, low)))) refl in
-    same code (omega (arith, low)) high ∙ ap (give code) behind
-  cases : ((nat_eq x.code (a + 1) ≡ true) × (x.code ≡ a + 1)) ⊎ ((nat_eq x.code (a + 1) ≡ false) × (x.code ≢ a + 1))
-      → (x.code ≡ a + 1 → flat_map f (range_with_len (a + 1 + 1) n) ≡ flat_map (λ e. give e.code (Some e.value.now)) more)
-      → (x.code ≢ a + 1 → flat_map f (range_with_len (a + 1 + 1) n) ≡ flat_map (λ e. give e.code (Some e.value.now)) (x ∷ more))
-      → f (a + 1) ++ flat_map f (range_with_len (a + 1 + 1) n) ≡ flat_map (λ e. give e.code (Some e.value.now)) (x ∷ more)
-  cases (inl t) here beyond =
-    let found : value_at (a + 1) (x ∷ more) ≡ Some x.value.now = rw (t.0) refl in
-    let first : f (a + 1) ≡ give x.code (Some x.value.now) = same (a + 1) (omega arith) (omega (arith, all)) ∙ ap (give (a + 1)) found ∙ ap (λ code. give code (Some x.value.now)) (sym t.1) in
-    ap (λ front. front ++ flat_map f (range_with_len (a + 1 + 1) n)) first ∙ ap (λ back. give x.code (Some x.value.now) ++ back) (here t.1)
-  cases (inr o) here beyond =
-    let found : value_at (a + 1) (x ∷ more) ≡ None = none_above (x ∷ more) (a + 1) (a + 1) (omega arith) (above o.1, rise.1) in
-    let first : f (a + 1) ≡ [] = same (a + 1) (omega arith) (omega (arith, all)) ∙ ap (give (a + 1)) found ∙ none (a + 1) in
-    ap (λ front. front ++ flat_map f (range_with_len (a + 1 + 1) n)) first ∙ beyond o.1
+      above : x.code ≢ a + 1 → a + 1 < x.code
+      above ne = above_place x.code (a + 1) (omega (arith, rise.0)) ne
+
+      later : x.code ≡ a + 1 → (code : ℕ) → a + 1 < code → code < 255 → f code ≡ give code (value_at code more)
+      later eq code low high =
+          let behind : value_at code (x ∷ more) ≡ value_at code more = rw (is_other x.code code (less_other x.code code (omega (arith, eq, low)))) refl in
+          same code (omega (arith, low)) high ∙ ap (give code) behind
+
+      cases : ((nat_eq x.code (a + 1) ≡ true) × (x.code ≡ a + 1)) ⊎ ((nat_eq x.code (a + 1) ≡ false) × (x.code ≢ a + 1))
+          → (x.code ≡ a + 1 → flat_map f (range_with_len (a + 1 + 1) n) ≡ flat_map (λ e. give e.code (Some e.value.now)) more)
+          → (x.code ≢ a + 1 → flat_map f (range_with_len (a + 1 + 1) n) ≡ flat_map (λ e. give e.code (Some e.value.now)) (x ∷ more))
+          → f (a + 1) ++ flat_map f (range_with_len (a + 1 + 1) n) ≡ flat_map (λ e. give e.code (Some e.value.now)) (x ∷ more)
+      cases (inl t) here beyond =
+          let found : value_at (a + 1) (x ∷ more) ≡ Some x.value.now = rw (t.0) refl in
+          let first : f (a + 1) ≡ give x.code (Some x.value.now) = same (a + 1) (omega arith) (omega (arith, all)) ∙ ap (give (a + 1)) found ∙ ap (λ code. give code (Some x.value.now)) (sym t.1) in
+          ap (λ front. front ++ flat_map f (range_with_len (a + 1 + 1) n)) first ∙ ap (λ back. give x.code (Some x.value.now) ++ back) (here t.1)
+      cases (inr o) here beyond =
+          let found : value_at (a + 1) (x ∷ more) ≡ None = none_above (x ∷ more) (a + 1) (a + 1) (omega arith) (above o.1, rise.1) in
+          let first : f (a + 1) ≡ [] = same (a + 1) (omega arith) (omega (arith, all)) ∙ ap (give (a + 1)) found ∙ none (a + 1) in
+          ap (λ front. front ++ flat_map f (range_with_len (a + 1 + 1) n)) first ∙ beyond o.1
 
 -- the entry at an index has a code
-pub code_at : (list : List Coded) (i : ℕ) (x : Coded) → slice_get list i ≡ Some x → HaveCodes list → IsCode x.code
-code_at [] i x is have = absurd (omega (arith, slice_get_within [] i x is))
-code_at (y ∷ more) zero x is have = subst (λ e. IsCode e.code) (same_Some y x is) have.0
-code_at (y ∷ more) (suc i) x is have = code_at more i x is have.1
+pub code_at : (list : List Coded) (i : ℕ) (other : Coded) → i < length list → HaveCodes list → IsCode (slice_index_or list i other).code
+code_at [] i other less have = absurd (omega (arith, less))
+code_at (x ∷ more) zero other less have = have.0
+code_at (x ∷ more) (suc i) other less have = code_at more i other (omega (arith, less)) have.1
+
+-- a list's entries give what the codes of options give
+pub all_entries : (m : Seen) (list : List Coded) (options : List OptionData) → HasValues list options
+    → flat_map (λ e. configured (wants_option e.code m) e.code (Some e.value.now)) list ≡ configured_options m options
+unfolding configured_options
+all_entries m list options h =
+    sym (over_entries (λ code value. configured (wants_option code m) code value) (configured_at m options) (λ code. refl) 254 0 list h.rise h.codes refl
+    (λ code low high. ap (configured (wants_option code m) code) (sym (h.each code (low, high)))))

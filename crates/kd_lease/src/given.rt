@@ -3,7 +3,7 @@ ghost use Rattle.kd_classes.specs.declared.option_list.OptionData.{OptionData};
 ghost use Rattle.kd_lease.specs.Client.{wants_option};
 ghost use Rattle.kd_lease.specs.Given.{class_options, configured, configured_options, given, prefix_mask};
 ghost use Rattle.kd_lease.specs.Plan.{option_of_item};
-ghost use Rattle.kd_lease.specs.Valuing.{HasValues};
+ghost use Rattle.kd_lease.specs.Valuing.{HasValues, HaveCodes};
 ghost use Rattle.kd_wire.specs.Area.{IsCode};
 
 use crate::client::asks_for;
@@ -68,10 +68,9 @@ fn put_options_of<'a>(
         → HasValues values.new.list.items (before ++ class_options (class.now ∷ []) names.now)) }
 {
     if names.contains(class.name.as_slice()) {
-        values.put_all(class.options.as_slice())
-    } else {
-        Ok(())
+        values.put_all(class.options.as_slice())?;
     }
+    Ok(())
 }
 
 // Puts the options with these values that the client asks for, in rising code.
@@ -81,6 +80,7 @@ fn put_values(
     message: &Message<'_>,
     values: &Values<'_>,
 ) -> Result<(), AllocError>
+    requires codes { HaveCodes values.now.list.items }
     ensures { (options : List OptionData) → HasValues values.now.list.items options
         → OnOk result (map option_of_item list.new.items ≡ map option_of_item list.old.items
         ++ configured_options message.now options) }
@@ -96,15 +96,17 @@ fn put_configured(
     alloc: Global,
     list: &mut Vec<Item>,
     message: &Message<'_>,
-    entry: Coded<'_>,
+    coded: Coded<'_>,
 ) -> Result<(), AllocError>
-    requires { IsCode entry.code }
+    requires { IsCode coded.code }
     ensures { OnOk result (map option_of_item list.new.items
         ≡ map option_of_item list.old.items
-        ++ configured (wants_option entry.code message.now) entry.code (Some entry.value.now)) }
+        ++ configured (wants_option coded.entry.code message.now) coded.entry.code
+        (Some coded.entry.value.now)) }
 {
-    if asks_for(message, entry.code) {
-        put_optional(alloc, list, entry.code, entry.value)
+    let Coded { code, value } = coded;
+    if asks_for(message, code) {
+        put_optional(alloc, list, code, value)
     } else {
         Ok(())
     }

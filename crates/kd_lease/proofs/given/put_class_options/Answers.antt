@@ -13,12 +13,12 @@ loop-i-preserved c = λ before h.
     let one = class_options (c.in-Some.class.now ∷ []) names in
     let more = more_classes classes names c.loop-i.i c.in-Some.class.now (sym c.def_at.ensures ∙ ap option_copied c.in-Some.is) in
     subst
-    (λ options. HasValues c.put_options_of.new.values.by_code options)
+    (λ options. HasValues c.put_options_of.new.values.list.items options)
     (append_assoc before done one ∙ ap (λ options. before ++ options) (sym more))
-    (c.put_options_of.ensures (before ++ done) (c.loop-i.invariant before h))
+    (c.in_ok-put_options_of-in-Some.ensures (before ++ done) (c.loop-i.invariant before h))
 
 pub returns : goal.returns
 returns c = λ before h.
     let classes = c.args.classes.now in
     let all : take c.loop-i.i classes ≡ classes = take_all c.loop-i.i classes (omega (arith, c.len-i-end.ensures.count)) in
-    subst (λ options. HasValues c.loop-i.values.by_code options) (ap (λ cs. before ++ class_options cs c.args.names.now) all) (c.loop-i.invariant before h)
+    subst (λ options. HasValues c.loop-i.values.list.items options) (ap (λ cs. before ++ class_options cs c.args.names.now) all) (c.loop-i.invariant before h)

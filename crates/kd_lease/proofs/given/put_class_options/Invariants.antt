@@ -6,4 +6,4 @@ use Rattle.kd_lease.proofs.given.put_class_options.Given as goal
 
 abbrev pub invariant-loop-i : goal.invariant-loop-i
 invariant-loop-i l =
-    (before : List OptionData) → HasValues l.fn.values.by_code before → HasValues l.values.by_code (before ++ class_options (take l.i l.classes) l.names)
+    (before : List OptionData) → HasValues l.fn.values.list.items before → HasValues l.values.list.items (before ++ class_options (take l.i l.classes) l.names)

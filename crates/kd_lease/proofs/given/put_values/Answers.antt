@@ -1,24 +1,28 @@
-use Rattle.std.proofs.Common.{◌≡◌, ◌++◌, ◌-◌, ap, ◌∙◌, map, arith}
-use Rattle.std.specs.List.{flat_map, range_with_len}
+use Rattle.std.proofs.Common.{◌≡◌, ◌++◌, [], ◌<◌, ap, sym, ◌∙◌, map, take, length, Some, arith, subst, slice_index_or}
+use Rattle.std.specs.List.{flat_map}
+use Rattle.std.proofs.lemmas.List.{take_all}
 use Rattle.kd_lease.specs.Client.{wants_option}
-use Rattle.kd_lease.specs.Given.{configured, configured_at, configured_options}
+use Rattle.kd_lease.specs.Given.{configured}
 use Rattle.kd_lease.specs.Plan.{option_of_item}
-use Rattle.kd_lease.proofs.Giving.{more_codes}
+use Rattle.kd_lease.specs.declared.values.Coded.{Coded}
+use Rattle.kd_wire.specs.Area.{IsCode}
+use Rattle.kd_lease.proofs.Valuing.{all_entries, code_at}
 use Rattle.kd_lease.proofs.given.put_values.Goals as goal
 
-pub loop-code-preserved : goal.loop-code-preserved
-loop-code-preserved c = λ options h.
-    let m = c.args.message.now in
-    let code = c.loop-code.code in
-    let old = map option_of_item c.loop-code.list.items in
-    c.in_ok-put_configured.ensures
-    ∙ ap (λ x. old ++ configured (wants_option code m) code x) (c.value.ensures options h)
-    ∙ ap (λ xs. xs ++ configured_at m options code) (c.loop-code.invariant options h)
-    ∙ more_codes (configured_at m options) (map option_of_item c.args.list.now.items) code c.loop-code.auto.code
+pub put_configured-requires : goal.put_configured-requires
+put_configured-requires c =
+    let other : Coded = record { code = 0; value = record { ref_ptr = (0, 0); now = [] } } in
+    let less : c.loop-entry.entry-index < length c.args.values.now.list.items = omega (arith, c.loop-entry-test.true, c.deref-entry-items.ensures.value) in
+    subst
+    (λ items. IsCode (slice_index_or items c.loop-entry.entry-index other).code)
+    (sym c.deref-entry-items.ensures.value)
+    (code_at c.args.values.now.list.items c.loop-entry.entry-index other less c.requires.codes)
 
 pub returns : goal.returns
-unfolding configured_options
 returns c = λ options h.
-    let all : c.loop-code.code - 1 ≡ 254 = omega arith in
-    c.loop-code.invariant options h
-    ∙ ap (λ n. map option_of_item c.args.list.now.items ++ flat_map (configured_at c.args.message.now options) (range_with_len 1 n)) all
+    let m = c.args.message.now in
+    let list = c.args.values.now.list.items in
+    let all = take_all c.loop-entry.entry-index list (omega (arith, c.loop-entry-test.false, c.deref-entry-items.ensures.value)) in
+    c.loop-entry.invariant
+    ∙ ap (λ entries. map option_of_item c.args.list.now.items ++ entries)
+    (ap (flat_map (λ (e : Coded). configured (wants_option e.code m) e.code (Some e.value.now))) all ∙ all_entries m list options h)

@@ -14,9 +14,9 @@ no_code code k (inr high) is eq = omega (arith, high, is.1, eq)
 pub returns-then-code-eq0 : goal.returns-then-code-eq0
 returns-then-code-eq0 c = λ options h.
     put_none c.args.self.now.list.items options (record { code = c.args.code; value = c.args.value.now }) (λ k is. no_code c.args.code k (which c.then-code-eq0.either) is) h where
-  which : (c.args.code ≡ 0) ⊎ ((c.args.code ≢ 0) × (c.args.code ≡ 255)) → (c.args.code ≡ 0) ⊎ (255 ≤ c.args.code)
-  which (inl zero) = inl zero
-  which (inr last) = inr (omega (arith, last.1))
+      which : (c.args.code ≡ 0) ⊎ ((c.args.code ≢ 0) × (c.args.code ≡ 255)) → (c.args.code ≡ 0) ⊎ (255 ≤ c.args.code)
+      which (inl zero) = inl zero
+      which (inr last) = inr (omega (arith, last.1))
 
 pub returns-then-has_at : goal.returns-then-has_at
 returns-then-has_at c = λ options h.

@@ -16,7 +16,7 @@ loop-option-preserved c = λ before h.
     subst
     (λ all. HasValues c.put.new.self.list.items all)
     (ap (λ o. before ++ take i options ++ o ∷ []) same ∙ append_assoc before (take i options) (option ∷ []) ∙ ap (λ all. before ++ all) (sym more))
-    (c.put.ensures (before ++ take i options) (c.loop-option.invariant before h))
+    (c.in_ok-put.ensures (before ++ take i options) (c.loop-option.invariant before h))
 
 pub returns : goal.returns
 returns c = λ before h.
