@@ -4,6 +4,7 @@ pub mod Fulls
 pub mod Indexes
 pub mod Keys
 pub mod Maps
+pub mod Onward
 pub mod Owned
 pub mod Places
 pub mod Sets

@@ -164,9 +164,9 @@ addresses_are rows index client rise indexed =
     (owned_ascend (client_at rows) client 0 index indexed.rising (λ i within own. omega arith))
     (λ a. lists-addresses client 0 rows a rise ∙ sym (lists-filter (owns rows client) index a ∙ ap (λ (b : Bool). owns rows client a && b) (indexed.same a)))
 
--- a key that is not below a client's first, but below one of its, is the client's
-pub not_again : (c client : List ℕ) (x y : ℕ) → (IsKeyBelow (c, x) (client, 0) → ⊥) → IsKeyBelow (c, x) (client, y) → c ≡ client
-not_again c client x y first second = by (slice_cmp nat_cmp c client) refl where
+-- a key that is not below one of a client's keys, but below another, is the client's
+pub not_again : (c client : List ℕ) (x from y : ℕ) → (IsKeyBelow (c, x) (client, from) → ⊥) → IsKeyBelow (c, x) (client, y) → c ≡ client
+not_again c client x from y first second = by (slice_cmp nat_cmp c client) refl where
   by : (o : Ordering) → slice_cmp nat_cmp c client ≡ o → c ≡ client
   by Less e = absurd (first (rw e refl))
   by Equal e = exact_bytes c client e
@@ -182,7 +182,7 @@ none_behind rows index client start rising p i j from order within out = ⊎_eli
   same : owns rows client (get_or index j 0) ≡ true → client_at rows (get_or index i 0) ≡ client
   same own =
       let theirs = (bytes_decides (client_at rows (get_or index j 0)) client).0 own in
-      not_again (client_at rows (get_or index i 0)) client (get_or index i 0) (get_or index j 0) (p.above i from (omega arith))
+      not_again (client_at rows (get_or index i 0)) client (get_or index i 0) 0 (get_or index j 0) (p.above i from (omega arith))
       (subst (λ (c : List ℕ). IsKeyBelow (client_at rows (get_or index i 0), get_or index i 0) (c, get_or index j 0)) theirs (rising i j order within))
 
 -- the addresses of a client begin at the place of its first key

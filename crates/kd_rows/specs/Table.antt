@@ -1,5 +1,5 @@
 -- The table of leases: its rows, one an address, in rising address.
-use Rattle.std.specs.Prelude.{◌≡◌, ℕ, ◌+◌, ◌-◌, ◌^◌, ◌<◌, ◌≤◌, max, min, Bool, ◌||◌, List, [], ◌∷◌, map, Option, Some, None, is_some, IsSome, nat_eq, nat_lt, ◌==◌, if◌then◌else◌}
+use Rattle.std.specs.Prelude.{◌≡◌, ℕ, ◌+◌, ◌-◌, ◌^◌, ◌<◌, ◌≤◌, max, min, Bool, true, false, ◌||◌, List, [], ◌∷◌, map, Option, Some, None, is_some, IsSome, nat_eq, nat_lt, ◌==◌, if◌then◌else◌}
 use Rattle.std.specs.List.{filter}
 use Rattle.std.specs.Cmp.Lexicographic.{pointwise}
 use Rattle.kd_rows.specs.declared.row.Row.{Row}
@@ -72,6 +72,17 @@ IsNext rows a None = (b : ℕ) → a ≤ b → row_at rows b ≡ None
 IsNext rows a (Some row) =
     (row_at rows row.address ≡ Some row) × (a ≤ row.address)
     × ((b : ℕ) → a ≤ b → b < row.address → row_at rows b ≡ None)
+
+-- the row of a client of the least address from first to last, or that it has none there
+abbrev pub IsNextOf : List Row → List ℕ → ℕ → ℕ → Option Row → Type 0
+IsNextOf rows client first last None =
+    (a : ℕ) (row : Row) → first ≤ a → a ≤ last → row_at rows a ≡ Some row
+    → belongs_to client row ≡ false
+IsNextOf rows client first last (Some row) =
+    (row_at rows row.address ≡ Some row) × (first ≤ row.address) × (row.address ≤ last)
+    × (belongs_to client row ≡ true)
+    × ((a : ℕ) (other : Row) → first ≤ a → a < row.address → row_at rows a ≡ Some other
+    → belongs_to client other ≡ false)
 
 -- the row of the least address from first to last that has ended by a moment, or that there is none
 abbrev pub IsNextEnded : List Row → ℕ → ℕ → ℕ → Option Row → Type 0

@@ -1,8 +1,10 @@
 ghost use Rattle.std.specs.Prelude.{◌≡◌, slice_get};
+ghost use Rattle.std.specs.Option.{option_copied};
 ghost use Rattle.std.specs.Ordering.{is_lt};
 ghost use Rattle.kd_rows.specs.Index.{IsIndex, IsKeyPlace, Rises, key_at, key_order};
-ghost use Rattle.kd_rows.specs.Table.{Rise, addresses_of};
+ghost use Rattle.kd_rows.specs.Table.{IsNextOf, Rise, addresses_of};
 
+use crate::row::Row;
 use crate::sorted::Sorted;
 use std::cmp::Ordering;
 
@@ -49,6 +51,24 @@ pub(crate) fn nth_of(rows: &Sorted, client: &[u8], i: usize) -> Option<u32>
     let row = rows.indexed(start + i);
     if row.client.as_slice() == client {
         Some(row.address)
+    } else {
+        None
+    }
+}
+
+// The row of a client of the least address from `first` to `last`: it stands at the place of its
+// key, if it has one.
+pub(crate) fn next_of<'a>(rows: &'a Sorted, client: &[u8], first: u32, last: u64) -> Option<&'a Row>
+    requires { IsIndex rows.now.rows rows.now.index }
+    ensures { IsNextOf rows.now.rows client.now first last (option_copied result) }
+{
+    let place = key_place(rows, client, first);
+    if place == rows.index_len() {
+        return None;
+    }
+    let row = rows.indexed(place);
+    if row.client.as_slice() == client && u64::from(row.address) <= last {
+        Some(row)
     } else {
         None
     }

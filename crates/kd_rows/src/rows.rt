@@ -3,13 +3,13 @@ ghost use Rattle.std.specs.List.{All};
 ghost use Rattle.std.specs.Option.{option_copied};
 ghost use Rattle.kd_rows.specs.Row.{IsInRange};
 ghost use Rattle.kd_rows.specs.Index.{end_at};
-ghost use Rattle.kd_rows.specs.Table.{IsFirstGap, IsNext, IsNextEnded, Rise, addresses_of, latest_of, least_of, row_at, room_for_row, with_row};
+ghost use Rattle.kd_rows.specs.Table.{IsFirstGap, IsNext, IsNextEnded, IsNextOf, Rise, addresses_of, latest_of, least_of, row_at, room_for_row, with_row};
 
 use crate::blocks::{Blocks, Bound, block_of, bound_all, bound_now, kept_bound};
 use crate::ended::next_ended;
 use crate::find::{find, gap_in};
 use crate::full::{Full, full_of};
-use crate::index::nth_of;
+use crate::index::{next_of, nth_of};
 use crate::put::put_row;
 use crate::row::Row;
 use crate::sorted::Sorted;
@@ -168,6 +168,13 @@ impl Rows {
         ensures { IsNext self.now.rows address (option_copied result) }
     {
         self.at(self.rows.place_of(address))
+    }
+
+    /// The row of a client of the least address from `first` to `last`.
+    pub fn next_of_client(&self, client: &[u8], first: u32, last: u64) -> Option<&Row>
+        ensures { IsNextOf self.now.rows client.now first last (option_copied result) }
+    {
+        next_of(&self.rows, client, first, last)
     }
 
     /// The row of the least address from `first` to `last` that has ended by a moment.

@@ -144,6 +144,20 @@ const CLIENTS: [(&[u8], usize, Option<u32>); 8] = [
     (b"c", 0, None),
 ];
 
+// A client, the ends of a range, and the least address in it among the client's.
+const NEXT: [(&[u8], u32, u64, Option<u32>); 10] = [
+    (b"a", 0, 0xffff_ffff, Some(0)),
+    (b"a", 1, 10, None),
+    (b"a", 1, 11, Some(11)),
+    (b"a", 12, 0xffff_fffe, None),
+    (b"a", 12, 0x1_0000_0000, Some(0xffff_ffff)),
+    (b"a", 11, 10, None),
+    (b"", 0, 12, None),
+    (b"", 13, 13, Some(13)),
+    (b"b", 11, 0xffff_ffff, None),
+    (b"c", 0, 0xffff_ffff, None),
+];
+
 // The ends of a range, and the least address in it that has no row.
 const GAPS: [(u32, u32, Option<u32>); 8] = [
     (0, 0, None),
@@ -161,6 +175,9 @@ fn a_row_is_found_by_its_client_and_gaps_are_found(rt: HostRuntime) -> Result<()
     let rows = table(rt.alloc(), &LEASES)?;
     for (client, i, address) in CLIENTS {
         assert!(rt; rows.of_client(client, i) == address);
+    }
+    for (client, first, last, address) in NEXT {
+        assert!(rt; address_of(rows.next_of_client(client, first, last)) == address);
     }
     for (first, last, gap) in GAPS {
         assert!(rt; first > last || rows.first_gap(first, last) == gap);
@@ -287,6 +304,55 @@ fn a_row_that_has_ended_is_found_among_those_renewed(rt: HostRuntime) -> Result<
         let found = address_of(rows.next_ended(first, last, moment));
         assert!(rt; found == first_ended(&rows, first, last, moment));
     }
+    Ok(())
+}
+
+// Forty clients have the first bytes of these for a name, from none to all of them.
+const NAMES: &[u8] = b"0123456789abcdefghijklmnopqrstuvwxyzABC";
+
+// The name of a client with a number.
+fn name(number: u32) -> &'static [u8] {
+    NAMES.get(..(number % 40) as usize).unwrap_or(NAMES)
+}
+
+// A table of 5,000 addresses of forty clients, set in mixed order, a thousand of them once more for
+// another client.
+fn five_thousand(alloc: Global) -> Result<Rows, Fault> {
+    let mut rows = table(alloc, &[])?;
+    for i in 0..6000u32 {
+        let address = i * 3571 % 5000 * 3;
+        set(alloc, &mut rows, (address, name(i / 7), 5, 2000))?;
+    }
+    Ok(rows)
+}
+
+// The least address of a client in a range, where each row is looked at.
+fn first_of(rows: &Rows, client: &[u8], first: u32, last: u64) -> Option<u32> {
+    for i in 0..rows.len() {
+        if let Some(row) = rows.at(i) {
+            let within = first <= row.address && u64::from(row.address) <= last;
+            if within && row.client.as_slice() == client {
+                return Some(row.address);
+            }
+        }
+    }
+    None
+}
+
+#[test]
+fn a_clients_row_is_found_in_a_range_of_thousands(rt: HostRuntime) -> Result<(), Fail> {
+    let rows = five_thousand(rt.alloc())?;
+    let mut count = 0u32;
+    for i in 0..80u32 {
+        let first = i * 4129 % 15_000;
+        let last = u64::from(first + i * 29 % 300);
+        let found = address_of(rows.next_of_client(name(i), first, last));
+        assert!(rt; found == first_of(&rows, name(i), first, last));
+        if found.is_some() {
+            count = count.wrapping_add(1);
+        }
+    }
+    assert!(rt; rows.len() == 5000 && count > 20 && count < 60);
     Ok(())
 }
 
