@@ -18,4 +18,5 @@ pub mod FirstSubnets
 pub mod WhichFault
 pub mod PoolPlaces
 pub mod ReservationPlaces
+pub mod ReservedAddresses
 pub mod AcceptedTests

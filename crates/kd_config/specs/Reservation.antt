@@ -1,5 +1,6 @@
 -- A reservation: an address for the client with a hardware address or an identifier.
-use Rattle.std.specs.Prelude.{ℕ, Bool, List, [], ◌∷◌, codes, Option, Some, None}
+use Rattle.std.specs.Prelude.{◌≡◌, ℕ, ◌==◌, nat_eq, Bool, List, [], ◌∷◌, codes, Option, Some, None}
+use Rattle.std.specs.List.{list_any}
 use Rattle.serde_json.specs.Data.{Data}
 use Rattle.serde_json.specs.Find.{get}
 use Rattle.kd_wire.specs.Steps.{◌>>=◌}
@@ -35,3 +36,9 @@ reservation_of d = do
   identity ← identity_given d
   address ← get (codes "ip-address") d >>= address_given
   Some (record { identity = identity; address = address })
+
+-- addresses are those of reservations
+abbrev pub HasAddresses : List ℕ → List Reservation → Type 0
+HasAddresses addresses reservations =
+    (a : ℕ) → list_any (nat_eq a) addresses
+    ≡ list_any (λ reservation. reservation.address == a) reservations

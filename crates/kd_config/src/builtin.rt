@@ -6,6 +6,7 @@ use crate::entries::Entries;
 use crate::pool::Pool;
 use crate::prefix::Prefix;
 use crate::range::Range;
+use crate::reservations::Reservations;
 use crate::subnet::Subnet;
 use crate::times::Times;
 use kd_classes::{Classes, OptionList};
@@ -66,7 +67,7 @@ fn builtin_subnet(alloc: Global) -> Result<Subnet, AllocError>
         },
         class: None,
         pools: Entries::own(pools),
-        reservations: Entries::own(Vec::new(alloc)),
+        reservations: Reservations::none(alloc),
         options: OptionList::own(Vec::new(alloc)),
     })
 }

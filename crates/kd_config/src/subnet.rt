@@ -12,7 +12,7 @@ use crate::objects::options::options_of;
 use crate::objects::values::{check_keys, number_or, text_or_none};
 use crate::pool::Pool;
 use crate::prefix::{Prefix, prefix_of};
-use crate::reservation::Reservation;
+use crate::reservations::Reservations;
 use crate::rules::place::{Place, bad_value};
 use kd_classes::OptionList;
 use kd_wire::Bytes;
@@ -29,7 +29,7 @@ pub struct Subnet {
     /// Its pools, at most 64.
     pub pools: Entries<Pool>,
     /// Its reservations, at most 4,096.
-    pub reservations: Entries<Reservation>,
+    pub reservations: Reservations,
     /// The options of the replies to its clients.
     pub options: OptionList,
 }
@@ -62,6 +62,7 @@ fn subnet_of_lists(
 {
     let pools = entries_of(alloc, value, at, "pools", 64)?;
     let reservations = entries_of(alloc, value, at, "reservations", 4096)?;
+    let reservations = Reservations::own(alloc, reservations.into_vec())?;
     let options = options_of(alloc, value, at)?;
     Ok(Subnet {
         prefix,

@@ -77,9 +77,5 @@ fn keeps(address: u32, subnet: &Subnet) -> bool
 fn is_reserved_in(address: u32, subnet: &Subnet) -> bool
     ensures { result ≡ reserved_in address subnet.now }
 {
-    subnet
-        .reservations
-        .as_slice()
-        .iter()
-        .any(|reservation| reservation.address == address)
+    subnet.reservations.has(address)
 }
