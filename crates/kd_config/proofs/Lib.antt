@@ -2,6 +2,7 @@ pub mod Blocks
 pub mod Keys
 pub mod Left
 pub mod Documents
+pub mod ClientPlaces
 pub mod Clients
 pub mod Steps
 pub mod NoClasses

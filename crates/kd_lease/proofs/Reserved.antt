@@ -1,10 +1,12 @@
 -- A reserved address lies in the prefix of its subnet, so that only the subnets with the address are asked; and whose a reservation is.
-use Rattle.std.proofs.Common.{◌≡◌, ℕ, Bool, true, false, ◌&&◌, ◌||◌, ◌==◌, nat_eq, not, List, [], ◌∷◌, ◌++◌, refl, sym, ap, ◌∙◌, subst, Option, Some, if◌then◌else◌}
+use Rattle.std.proofs.Common.{◌≡◌, ℕ, Bool, true, false, ◌&&◌, ◌||◌, ◌==◌, nat_eq, not, List, [], ◌∷◌, ◌++◌, refl, sym, ap, ◌∙◌, subst, Option, None, Some, if◌then◌else◌}
 use Rattle.std.specs.List.{find, list_all, list_any}
+use Rattle.std.specs.Str.{bytes_eq}
 use Rattle.std.proofs.lemmas.Bool.{eqb-true, false≢true}
 use Rattle.kd_config.specs.Address.{has_address}
 use Rattle.kd_config.specs.Apart.{lie_apart}
 use Rattle.kd_config.specs.Configuration.{Configuration}
+use Rattle.kd_config.specs.Reservation.{identified_by, is_client_if}
 use Rattle.kd_config.specs.Rules.{all_obey, pool_ranges, is_new, lies_within, may_all_reserve, may_reserve, may_stand, obeys, reserved}
 use Rattle.kd_config.specs.Sound.{IsSound}
 use Rattle.kd_config.specs.declared.prefix.Prefix.{Prefix}
@@ -14,8 +16,8 @@ use Rattle.kd_config.specs.declared.reservation.Reservation.{Reservation}
 use Rattle.kd_config.specs.declared.subnet.Subnet.{Subnet}
 use Rattle.kd_options.specs.Joined.{value_of}
 use Rattle.kd_options.specs.Message.{Seen, mac_of}
-use Rattle.kd_lease.specs.Choice.{is_from, reserved_anywhere, reserved_in, client_reservation}
-use Rattle.kd_lease.specs.Seeking.{identified_by, reserves}
+use Rattle.kd_lease.specs.Choice.{is_from, reserved_anywhere, reserved_in, client_reservation, same_value}
+use Rattle.kd_lease.specs.Seeking.{reserves}
 
 left : (t u : Bool) → (t && u) ≡ true → t ≡ true
 left true u h = refl
@@ -69,9 +71,18 @@ stands subnets h = right (lie_apart (pool_ranges subnets)) (all_obey [] subnets)
 pub reserved_where : (config : Configuration) (a : ℕ) → IsSound config → reserved_anywhere config a ≡ list_any (reserves a) config.subnets
 reserved_where config a sound = each_keeps [] config.subnets a (stands config.subnets sound.subnets.together)
 
+only_hardware : (t : Bool) (own : List ℕ) (id : Option (List ℕ)) → t ≡ (t || is_client_if false id (Hardware own))
+only_hardware true own id = refl
+only_hardware false own None = refl
+only_hardware false own (Some bytes) = refl
+
+same_id : (own : List ℕ) (id : Option (List ℕ)) → same_value own id ≡ is_client_if false id (ClientId own)
+same_id own None = refl
+same_id own (Some bytes) = refl
+
 from_by : (m : Seen) (identity : Identity) → is_from m identity ≡ identified_by (mac_of m.header) (value_of 61 m.options) identity
-from_by m (Hardware bytes) = refl
-from_by m (ClientId bytes) = refl
+from_by m (Hardware own) = only_hardware (bytes_eq (mac_of m.header) own) own (value_of 61 m.options)
+from_by m (ClientId own) = same_id own (value_of 61 m.options)
 
 find_by : (m : Seen) (rs : List Reservation) → find (λ r. is_from m r.identity) rs ≡ find (λ r. identified_by (mac_of m.header) (value_of 61 m.options) r.identity) rs
 find_by m [] = refl

@@ -1,13 +1,10 @@
 -- Words of private contracts alone: what the rules are asked over as the code holds it, what is
 -- sought among a client's addresses and in pools.
-use Rattle.std.specs.Prelude.{◌≡◌, ℕ, ◌<◌, ◌≤◌, Bool, true, false, not, ◌&&◌, is_none, List, Option, Some, None, if◌then◌else◌}
-use Rattle.std.specs.Str.{bytes_eq}
+use Rattle.std.specs.Prelude.{◌≡◌, ℕ, ◌<◌, ◌≤◌, Bool, true, false, not, ◌&&◌, is_none, Option, Some, None, if◌then◌else◌}
 use Rattle.kd_config.specs.Address.{has_address}
-use Rattle.kd_config.specs.declared.reservation.Identity.{Identity}
-use Rattle.kd_config.specs.declared.reservation.Identity.TheVariants.{Hardware, ClientId}
 use Rattle.kd_config.specs.declared.subnet.Subnet.{Subnet}
 use Rattle.kd_rows.specs.Table.{row_at}
-use Rattle.kd_lease.specs.Choice.{Asking, Choice, NoChoice, Rank, fitting_for, has_rank, has_such, live_row, set_later, past_row, reserved_in, same_value}
+use Rattle.kd_lease.specs.Choice.{Asking, Choice, NoChoice, Rank, fitting_for, has_rank, has_such, live_row, set_later, past_row, reserved_in}
 use Rattle.kd_lease.specs.Choice.Rank.{own, past, fresh, expired}
 use Rattle.kd_lease.specs.Rules.{offered_to, is_record}
 use Rattle.kd_lease.specs.declared.seeking.Sought.{Sought}
@@ -40,11 +37,6 @@ IsChosen q s (Some a) = Choice q s a
 abbrev pub pool_rank : Bool → Rank
 pool_rank true = fresh
 pool_rank false = expired
-
--- a client is this one, by its hardware address or by its identifier
-abbrev pub identified_by : List ℕ → Option (List ℕ) → Identity → Bool
-identified_by mac id (Hardware bytes) = bytes_eq mac bytes
-identified_by mac id (ClientId bytes) = same_value bytes id
 
 -- a subnet has an address in its prefix and a reservation of it
 abbrev pub reserves : ℕ → Subnet → Bool

@@ -1,10 +1,10 @@
 ghost use Rattle.std.specs.Prelude.{◌≡◌};
 ghost use Rattle.std.specs.List.{list_any};
 ghost use Rattle.std.specs.Option.{option_copied};
-ghost use Rattle.kd_lease.specs.Choice.{reserved_anywhere, reserved_in, same_value, client_reservation, address_reserved};
-ghost use Rattle.kd_lease.specs.Seeking.{identified_by, reserves};
+ghost use Rattle.kd_lease.specs.Choice.{reserved_anywhere, reserved_in, client_reservation, address_reserved};
+ghost use Rattle.kd_lease.specs.Seeking.{reserves};
 
-use kd_config::{Config, Identity, Reservation, Subnet};
+use kd_config::{Config, Reservation, Subnet};
 use kd_options::Message;
 
 // The address that is reserved in a subnet for the client of a message.
@@ -23,33 +23,7 @@ pub(crate) fn reserved_address(message: &Message<'_>, subnet: &Subnet) -> Option
 pub fn reservation_of<'a>(message: &Message<'_>, subnet: &'a Subnet) -> Option<&'a Reservation>
     ensures { option_copied result ≡ client_reservation message.now subnet.now }
 {
-    let mac = message.mac();
-    let id = message.option(61);
-    subnet
-        .reservations
-        .as_slice()
-        .iter()
-        .find(|reservation| is_by(mac, id, &reservation.identity))
-}
-
-// A client is this one, by its hardware address or by its identifier.
-fn is_by(mac: &[u8], id: Option<&[u8]>, identity: &Identity) -> bool
-    ensures { result ≡ identified_by mac.now (option_copied id.entry) identity.now }
-{
-    match identity {
-        Identity::Hardware(bytes) => mac == bytes.as_slice(),
-        Identity::ClientId(bytes) => is_value(bytes.as_slice(), id),
-    }
-}
-
-// A value is there, and is these bytes.
-fn is_value(bytes: &[u8], value: Option<&[u8]>) -> bool
-    ensures { result ≡ same_value bytes.now (option_copied value.entry) }
-{
-    match value {
-        Some(value) => value == bytes,
-        None => false,
-    }
+    subnet.reservations.of_client(message.mac(), message.option(61))
 }
 
 /// A subnet of the configuration has a reservation of this address, in host order.
