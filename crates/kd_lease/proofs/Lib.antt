@@ -4,6 +4,7 @@ pub mod Guards
 pub mod Held
 pub mod Newest
 pub mod Pools
+pub mod Records
 pub mod Reserved
 pub mod Single
 pub mod Valuing

@@ -7,12 +7,11 @@ use Rattle.kd_rows.specs.Table.{addresses_of, belongs_to, row_at}
 use Rattle.kd_rows.specs.declared.row.Row.{Row}
 use Rattle.kd_lease.specs.Choice.{Asking, changed_in, fitting_for, has_rank, has_such, held_row, holding_state, live_row, set_later, past_row}
 use Rattle.kd_lease.specs.Choice.Rank.{own, past}
-use Rattle.kd_lease.specs.Rules.{IsNewest, client_has, held_at, offered_state}
+use Rattle.kd_lease.specs.Rules.{IsNewest, held_at, offered_state}
 use Rattle.kd_lease.specs.Ranks.{IsRanked}
 use Rattle.kd_lease.specs.Seeking.{newer_of, past_at, sought_at}
 use Rattle.kd_lease.specs.declared.seeking.Sought.{Sought}
 use Rattle.kd_lease.specs.declared.seeking.Sought.TheVariants as seeks
-use Rattle.kd_config.specs.Address.{has_address}
 use Rattle.kd_config.specs.declared.subnet.Subnet.{Subnet}
 
 -- what was found is the newest of the first n addresses that are such
@@ -102,7 +101,6 @@ pub sought_is_mine : (q : Asking) (sought : Sought) (a : ℕ) → sought_at q so
 sought_is_mine q (seeks.Own s) a h = own_is_mine q s.now a h
 sought_is_mine q (seeks.Past s) a h = past_is_its q s.now a h
 sought_is_mine q seeks.Offer a h = such_is_mine q (λ row. live_row q.now row && (belongs_to q.client row && offered_state row.state)) (λ row g. mine q row (live_row q.now row) (offered_state row.state) g) (row_at q.rows a) h
-sought_is_mine q (seeks.Record s) a h = both (client_has q a) (has_address s.now.prefix a) h
 
 -- a client has no more addresses than there are rows
 pub few_addresses : (client : List ℕ) (rows : List Row) → length (addresses_of client rows) ≤ length rows

@@ -6,7 +6,7 @@ use Rattle.kd_config.specs.declared.subnet.Subnet.{Subnet}
 use Rattle.kd_rows.specs.Table.{row_at}
 use Rattle.kd_lease.specs.Choice.{Asking, Choice, NoChoice, Rank, fitting_for, has_rank, has_such, live_row, set_later, past_row, reserved_in}
 use Rattle.kd_lease.specs.Choice.Rank.{own, past, fresh, expired}
-use Rattle.kd_lease.specs.Rules.{offered_to, is_record}
+use Rattle.kd_lease.specs.Rules.{offered_to}
 use Rattle.kd_lease.specs.declared.seeking.Sought.{Sought}
 use Rattle.kd_lease.specs.declared.seeking.Sought.TheVariants as seeks
 
@@ -19,7 +19,6 @@ abbrev pub sought_at : Asking → Sought → ℕ → Bool
 sought_at q (seeks.Own s) a = has_rank q s.now own a
 sought_at q (seeks.Past s) a = has_rank q s.now past a
 sought_at q seeks.Offer a = offered_to q a
-sought_at q (seeks.Record s) a = is_record q s.now a
 
 -- the newer of what was found and an address that is sought
 abbrev pub newer_of : Asking → Sought → Option ℕ → ℕ → Option ℕ

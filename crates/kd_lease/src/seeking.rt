@@ -1,4 +1,5 @@
-ghost use Rattle.std.specs.Prelude.{◌≡◌, ℕ, IsTrue, false, true};
+ghost use Rattle.std.specs.Prelude.{◌≡◌, ℕ, ◌+◌, ◌-◌, IsTrue, false, true};
+ghost use Rattle.kd_config.specs.Address.{prefix_size};
 ghost use Rattle.kd_lease.specs.Choice.{changed_in, set_later};
 ghost use Rattle.kd_lease.specs.Choice.Rank.{own, past};
 ghost use Rattle.kd_lease.specs.Rules.{IsNewest, asking, bound_state, client_has, held_at, leased_to, offered_to, offered_state, is_record};
@@ -8,7 +9,7 @@ ghost use Rattle.kd_rows.specs.Table.{row_at};
 
 use crate::fitting::{fits, is_held_by, is_live, is_of, is_past};
 use crate::question::Question;
-use kd_config::Subnet;
+use kd_config::{Prefix, Subnet};
 use kd_rows::{Rows, State};
 
 // What is sought among the addresses of a client.
@@ -20,8 +21,6 @@ pub(crate) enum Sought<'a> {
     Past(&'a Subnet),
     // Those that are offered to it.
     Offer,
-    // Those in the subnet's prefix.
-    Record(&'a Subnet),
 }
 
 // Of the addresses that a client knows, those that fit: the newest that it holds, and the newest
@@ -74,7 +73,19 @@ pub fn knows_client(question: &Question<'_>, subnet: &Subnet) -> bool
     ensures some { IsTrue result → (b : ℕ) × (is_record (asking question.now) subnet.now b ≡ true) }
     ensures none { result ≡ false → (b : ℕ) → is_record (asking question.now) subnet.now b ≡ false }
 {
-    newest(question, &Sought::Record(subnet)).is_some()
+    let first = subnet.prefix.address;
+    let last = last_address(subnet.prefix);
+    question
+        .rows
+        .next_of_client(question.client, first, last)
+        .is_some()
+}
+
+// The last address of a prefix, which need not end within 32 bits.
+fn last_address(prefix: Prefix) -> u64
+    ensures { result ≡ prefix.address + (prefix_size prefix.length - 1) }
+{
+    u64::from(prefix.address) + (prefix.size() - 1)
 }
 
 // The newer of what was found and an address that is sought.
@@ -109,9 +120,6 @@ fn is_sought(question: &Question<'_>, sought: &Sought<'_>, address: u32) -> bool
         Sought::Own(subnet) => is_held_at(question, address) && fits(question, subnet, address),
         Sought::Past(subnet) => is_past_at(question, address) && fits(question, subnet, address),
         Sought::Offer => is_offer(question, address),
-        Sought::Record(subnet) => {
-            is_client_at(question, address) && subnet.prefix.contains(address)
-        }
     }
 }
 
