@@ -12,7 +12,7 @@ use Rattle.kd_server.specs.Leases.{IsNoList}
 use Rattle.kd_server.specs.Trial.{Trying}
 use Rattle.kd_tools.specs.Status.{replay_status_of}
 use Rattle.kd_why.specs.Inquiring.{IsExplainedAt, IsNotExplained}
-use Rattle.kd_why.specs.Saying.{EndsInAnswer}
+use Rattle.kd_why.specs.Saying.{ExplainsEvent}
 
 -- what a server with the ports of the standard (RFC 2131 section 4.1) would do at rows
 abbrev pub standard_trial : Configuration → List Row → Trying
@@ -24,7 +24,7 @@ standard_trial config rows =
 abbrev pub ShowsWhy : List ℕ → Bool → Configuration → List Row → ℕ → ℕ → Streams → Streams → Type 0
 ShowsWhy bytes failed config rows at status old new =
     ((text : List ℕ)
-    × EndsInAnswer (standard_trial config rows) (record { moment = at; bytes = bytes }) text
+    × ExplainsEvent (standard_trial config rows) (record { moment = at; bytes = bytes }) text
     × ShowsOrBreaks text 0 status old.output new.output old.faults new.faults)
     ⊎ ((fault : ServeFault) × IsNoList failed at fault × Tells (serve_fault_number fault) status old
     new)

@@ -2,7 +2,7 @@ ghost use Rattle.std.specs.Prelude.{◌≡◌, IfErr, IfOk, false};
 ghost use Rattle.kd_program.specs.Explaining.{ExplainsLine, ExplainsWord, ShowsWhy, standard_trial};
 ghost use Rattle.kd_program.specs.Streams.{streams};
 ghost use Rattle.kd_server.specs.Leases.{IsNoList};
-ghost use Rattle.kd_why.specs.Saying.{EndsInAnswer};
+ghost use Rattle.kd_why.specs.Saying.{ExplainsEvent};
 
 use crate::ends::Ends;
 use crate::listing::Table;
@@ -56,7 +56,7 @@ fn explain_datagram<R: Source, O: Sink, E: Sink>(
 
 // What is said of a datagram over a table.
 fn text_over(alloc: Global, bytes: &[u8], table: &Table<'_>, at: u64) -> Result<Vec<u8>, ServeFault>
-    ensures text { IfOk result (λ text. EndsInAnswer
+    ensures text { IfOk result (λ text. ExplainsEvent
         (standard_trial table.now.config.now table.now.rows.now.rows)
         (record { moment = at; bytes = bytes.now }) text.items) }
     ensures fault { IfErr result (IsNoList table.now.failed at) }

@@ -1,3 +1,4 @@
 pub mod Giving
 pub mod Inquired
+pub mod Listing
 pub mod Testing

@@ -10,7 +10,7 @@ use Rattle.kd_replay.specs.declared.fault.ReplayFault.TheVariants as faults
 use Rattle.kd_replay.specs.declared.fault.ServeFault.{ServeFault}
 use Rattle.kd_replay.specs.declared.fault.ServeFault.TheVariants as serving
 use Rattle.kd_server.specs.Trial.{TriesStep, Trying}
-use Rattle.kd_why.specs.Saying.{EndsInAnswer, IsUnsaid}
+use Rattle.kd_why.specs.Saying.{ExplainsEvent, IsUnsaid}
 
 -- a line of an input with its number, and what the events of the lines before it leave
 pub record IsLineAt (t : Trying) (input : List ℕ) (number : ℕ) (line : List ℕ)
@@ -31,7 +31,7 @@ pub record IsExplainedAt (t : Trying) (input : List ℕ) (number : ℕ) (text : 
   pub at : IsLineAt t input number line mid
   pub event : Event
   pub spelled : IsEventLine line event
-  pub explains : EndsInAnswer mid event text
+  pub explains : ExplainsEvent mid event text
 
 -- a line with this number or a lesser one is no event, where those before it are
 pub record IsBadAt (t : Trying) (input : List ℕ) (number k : ℕ) : Type 0 where
@@ -82,7 +82,7 @@ pub record IsEarlier (old : Inquiring) (event : Event) (handled : Handled)
 pub record IsSaid (old : Inquiring) (event : Event) (new : Inquiring) : Type 0 where
   pub text : List ℕ
   pub now : new.text ≡ Some text
-  pub explains : EndsInAnswer old.trial event text
+  pub explains : ExplainsEvent old.trial event text
 
 -- nothing is said of an event, and nothing changes
 pub record IsLeftUnsaid (old : Inquiring) (event : Event) (fault : ServeFault)

@@ -1,6 +1,10 @@
+pub mod CheckLines
 pub mod Checks
 pub mod Explaining
+pub mod FoundLines
 pub mod Inquiring
 pub mod Origins
+pub mod OutcomeLines
 pub mod Saying
 pub mod Testing
+pub mod Words

@@ -1,11 +1,62 @@
--- The text of an explanation: what stands last in it.
-use Rattle.std.specs.Prelude.{◌≡◌, ◌++◌, ◌^◌, ◌<◌, ◌≤◌, ℕ, List}
+-- The text of an explanation: the lines about each part, and what stands last in it.
+use Rattle.std.specs.Prelude.{◌≡◌, ◌≢◌, ◌++◌, ◌^◌, ◌<◌, ◌≤◌, ◌⊎◌, ℕ, List, codes, decimal, option_copied}
+use Rattle.kd_config.specs.Configuration.{Configuration}
 use Rattle.kd_event.specs.declared.event.Event.{Event}
 use Rattle.kd_event.specs.declared.event.Handled.{Handled}
+use Rattle.kd_lease.specs.Change.{asked_for}
+use Rattle.kd_options.specs.Faults.{read_fault_number}
+use Rattle.kd_options.specs.Message.{IsFirstFault, Reads, Seen}
+use Rattle.kd_options.specs.declared.fault.ReadFault.{ReadFault}
+use Rattle.kd_options.specs.declared.fault.ReadFault.TheVariants as reading
 use Rattle.kd_replay.specs.Text.{line_of}
 use Rattle.kd_replay.specs.declared.fault.ServeFault.{ServeFault}
 use Rattle.kd_replay.specs.declared.fault.ServeFault.TheVariants as faults
+use Rattle.kd_rows.specs.declared.row.Row.{Row}
 use Rattle.kd_server.specs.Trial.{Trying, WouldAnswer}
+use Rattle.kd_why.specs.CheckLines.{checks_by, client_lines}
+use Rattle.kd_why.specs.Explaining.{Explains}
+use Rattle.kd_why.specs.FoundLines.{found_text}
+use Rattle.kd_why.specs.OutcomeLines.{IsEndText, set_line}
+use Rattle.kd_why.specs.declared.explaining.Explanation.{Explanation}
+
+-- the lines of the checks of a message at a moment over rows, by an explanation of it
+abbrev pub checked_text : Configuration → List Row → Seen → ℕ → Explanation → List ℕ
+checked_text config rows m now e =
+    checks_by e.decision.answer m
+    (client_lines (asked_for config rows e.names m now) (option_copied e.subnet) e.decision.row
+    e.checks e.client)
+
+-- a text is that of an explanation of a message at a moment: what the message is and what is found
+-- for it, what is checked, how it ends, and the row that it sets
+pub record IsTextOf (config : Configuration) (rows : List Row) (m : Seen) (now : ℕ)
+    (e : Explanation) (text : List ℕ) : Type 0 where
+  pub ends : List ℕ
+  pub outcome : IsEndText config m e e.decision.answer ends
+  pub is : text
+      ≡ found_text config m now e
+      ++ (checked_text config rows m now e ++ (ends ++ set_line e.decision.row))
+
+-- a text explains a message at a moment, over a configuration and rows
+pub record IsExplanation (config : Configuration) (rows : List Row) (m : Seen) (now : ℕ)
+    (text : List ℕ) : Type 0 where
+  pub explanation : Explanation
+  pub explains : Explains config rows m now explanation
+  pub text_is : IsTextOf config rows m now explanation text
+
+-- a text says that a datagram is no message, for its first fault
+pub record IsUnreadable (bytes text : List ℕ) : Type 0 where
+  pub fault : ReadFault
+  pub first : IsFirstFault fault bytes
+  pub ours : fault ≢ reading.Memory
+  pub name : List ℕ
+  pub is : text
+      ≡ codes "unreadable: fault " ++ decimal (read_fault_number fault) ++ codes " " ++ name
+      ++ codes "\n"
+
+-- what is said of a datagram at a moment: the explanation of its message, or that it is none
+abbrev pub IsAccount : Configuration → List Row → ℕ → List ℕ → List ℕ → Type 0
+IsAccount config rows now bytes text =
+    ((m : Seen) × Reads bytes m × IsExplanation config rows m now text) ⊎ IsUnreadable bytes text
 
 -- a text ends in the line of what a server would answer to an event
 pub record EndsInAnswer (t : Trying) (event : Event) (text : List ℕ) : Type 0 where
@@ -13,6 +64,12 @@ pub record EndsInAnswer (t : Trying) (event : Event) (text : List ℕ) : Type 0 
   pub answers : WouldAnswer t event handled
   pub front : List ℕ
   pub is : text ≡ front ++ line_of handled
+
+-- a text explains an event: it ends in the line of what a server would answer, and the lines before
+-- that are of the same moment, configuration and rows
+pub record ExplainsEvent (t : Trying) (event : Event) (text : List ℕ) : Type 0 where
+  pub ends : EndsInAnswer t event text
+  pub says : IsAccount t.config t.rows ends.handled.now event.bytes ends.front
 
 -- why nothing is said of an event at a moment: that is 2^40 or more, or memory ran out
 abbrev pub IsUnsaid : ℕ → ServeFault → Type 0

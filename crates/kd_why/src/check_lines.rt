@@ -1,5 +1,11 @@
-use crate::checks::subject_of;
-use crate::explaining::Explanation;
+ghost use Rattle.std.specs.Prelude.{◌≡◌, ◌++◌, OnOk, option_copied, string_bytes};
+ghost use Rattle.kd_lease.specs.Change.{asked_for};
+ghost use Rattle.kd_lease.specs.Rules.{asking, other_server};
+ghost use Rattle.kd_why.specs.CheckLines.{checks_by, client_lines, giving_up_lines, holding_at, holding_lines};
+ghost use Rattle.kd_why.specs.CheckLines.{inform_lines, rule_lines, served_at};
+ghost use Rattle.kd_why.specs.FoundLines.{reaches_rule};
+
+use crate::checks::{Checks, subject_of};
 use crate::finding_lines::{
     put_address_found, put_held, put_row_found, put_sender, put_server, put_subnet_found,
 };
@@ -11,32 +17,46 @@ use kd_lease::{Answer, Question, is_held_at, server_of};
 use kd_options::MessageType;
 use kd_rows::Row;
 use kd_wire::Bytes;
-use std::alloc::AllocError;
+use std::alloc::{AllocError, Global};
 
 // What the checks are made over: the question that the rules are asked, the subnet that serves the
-// message, and the row that it sets.
+// message, the row that it sets, and what is checked of its address.
 #[derive(Clone, Copy)]
 pub(crate) struct Matter<'a> {
+    pub(crate) alloc: Global,
     pub(crate) question: Question<'a>,
     pub(crate) subnet: Option<&'a Subnet>,
     pub(crate) set: &'a Option<Row>,
+    pub(crate) checks: Option<Checks>,
 }
 
 // A line for each check that the rules make, up to the one at which the message ends (RFC 2131
 // section 4.3). Those before its type have a line only where it ends there.
-pub(crate) fn put_checks(out: &mut String, scene: &Scene<'_>) -> Result<(), AllocError> {
+pub(crate) fn put_checks(out: &mut String, scene: &Scene<'_>) -> Result<(), AllocError>
+    ensures { OnOk result (string_bytes out.new ≡ string_bytes out.old
+        ++ checks_by scene.now.explanation.now.decision.answer scene.now.message.now
+        (client_lines (asked_for scene.now.config.now scene.now.rows.now.rows
+        scene.now.explanation.now.names scene.now.message.now scene.now.moment)
+        (option_copied scene.now.explanation.now.subnet) scene.now.explanation.now.decision.row
+        scene.now.explanation.now.checks scene.now.explanation.now.client)) }
+{
     match &scene.explanation.decision.answer {
         Answer::Quiet(Reason::NotRequest) => put_sender(out, scene.message),
         Answer::Quiet(Reason::NoIdentity) => out.push_str("check identity: none\n"),
         Answer::Quiet(Reason::DropClass) => out.push_str("check class: the client is in DROP\n"),
-        Answer::Quiet(Reason::ReplyTooLong) => put_too_long(out, scene),
+        Answer::Quiet(Reason::ReplyTooLong) => {
+            put_rule(out, scene)?;
+            out.push_str("check room: too small for the options that the reply must have\n")
+        }
         _ => put_rule(out, scene),
     }
 }
 
 // No check before its type ends the message.
-pub(crate) fn reaches_rule(explanation: &Explanation<'_>) -> bool {
-    match &explanation.decision.answer {
+pub(crate) fn is_ruled(answer: &Answer) -> bool
+    ensures { result ≡ reaches_rule answer.now }
+{
+    match answer {
         Answer::Quiet(Reason::NotRequest) => false,
         Answer::Quiet(Reason::NoIdentity) => false,
         Answer::Quiet(Reason::DropClass) => false,
@@ -44,21 +64,30 @@ pub(crate) fn reaches_rule(explanation: &Explanation<'_>) -> bool {
     }
 }
 
-fn put_too_long(out: &mut String, scene: &Scene<'_>) -> Result<(), AllocError> {
-    put_rule(out, scene)?;
-    out.push_str("check room: too small for the options that the reply must have\n")
-}
-
 // The checks of a client's rule.
-fn put_rule(out: &mut String, scene: &Scene<'_>) -> Result<(), AllocError> {
+fn put_rule(out: &mut String, scene: &Scene<'_>) -> Result<(), AllocError>
+    ensures { OnOk result (string_bytes out.new ≡ string_bytes out.old
+        ++ client_lines (asked_for scene.now.config.now scene.now.rows.now.rows
+        scene.now.explanation.now.names scene.now.message.now scene.now.moment)
+        (option_copied scene.now.explanation.now.subnet) scene.now.explanation.now.decision.row
+        scene.now.explanation.now.checks scene.now.explanation.now.client) }
+{
     match &scene.explanation.client {
         Some(client) => put_by_type(out, &matter_of(scene, client)),
         None => Ok(()),
     }
 }
 
-fn matter_of<'a>(scene: &Scene<'a>, client: &'a Bytes) -> Matter<'a> {
+fn matter_of<'a>(scene: &Scene<'a>, client: &'a Bytes) -> Matter<'a>
+    ensures question { asking result.question
+        ≡ asked_for scene.now.config.now scene.now.rows.now.rows scene.now.explanation.now.names
+        scene.now.message.now scene.now.moment client.now }
+    ensures subnet { option_copied result.subnet ≡ option_copied scene.now.explanation.now.subnet }
+    ensures set { result.set.now ≡ scene.now.explanation.now.decision.row }
+    ensures checks { result.checks ≡ scene.now.explanation.now.checks }
+{
     Matter {
+        alloc: scene.alloc,
         question: Question {
             config: scene.config,
             rows: scene.rows,
@@ -69,64 +98,107 @@ fn matter_of<'a>(scene: &Scene<'a>, client: &'a Bytes) -> Matter<'a> {
         },
         subnet: scene.explanation.subnet,
         set: &scene.explanation.decision.row,
+        checks: scene.explanation.checks,
     }
 }
 
-fn put_by_type(out: &mut String, matter: &Matter<'_>) -> Result<(), AllocError> {
+fn put_by_type(out: &mut String, matter: &Matter<'_>) -> Result<(), AllocError>
+    ensures { OnOk result (string_bytes out.new ≡ string_bytes out.old
+        ++ rule_lines (asking matter.now.question) (option_copied matter.now.subnet)
+        matter.now.set.now matter.now.checks) }
+{
     match matter.question.message.kind() {
         MessageType::Discover => put_subnet_found(out, matter.subnet),
         MessageType::Request => put_request(out, matter),
-        MessageType::Decline => put_giving_up(out, &matter.question),
-        MessageType::Release => put_giving_up(out, &matter.question),
-        MessageType::Inform => put_inform(out, matter),
+        MessageType::Decline => put_giving_up(matter.alloc, out, &matter.question),
+        MessageType::Release => put_giving_up(matter.alloc, out, &matter.question),
+        MessageType::Inform => put_inform(out, &matter.question, matter.subnet),
         _ => Ok(()),
     }
 }
 
 // The checks of a DECLINE or a RELEASE (RFC 2131 sections 4.3.3 and 4.3.4).
-fn put_giving_up(out: &mut String, question: &Question<'_>) -> Result<(), AllocError> {
+#[tactic(auto, unfolding(crate::specs::CheckLines::giving_up_lines))]
+fn put_giving_up(
+    alloc: Global,
+    out: &mut String,
+    question: &Question<'_>,
+) -> Result<(), AllocError>
+    ensures { OnOk result (string_bytes out.new
+        ≡ string_bytes out.old ++ giving_up_lines (asking question.now)) }
+{
     let named = server_of(question.message);
     put_server(out, question.config.server(), named)?;
     if is_other(question.config.server(), named) {
         Ok(())
     } else {
-        put_holding(out, question)
+        put_holding(alloc, out, question)
     }
 }
 
 // A message names another server.
-pub(crate) fn is_other(server: u32, named: Option<u32>) -> bool {
+pub(crate) fn is_other(server: u32, named: Option<u32>) -> bool
+    ensures { result ≡ other_server server named }
+{
     match named {
         Some(named) => named != server,
         None => false,
     }
 }
 
-fn put_holding(out: &mut String, question: &Question<'_>) -> Result<(), AllocError> {
+#[tactic(auto, unfolding(crate::specs::CheckLines::holding_lines))]
+fn put_holding(alloc: Global, out: &mut String, question: &Question<'_>) -> Result<(), AllocError>
+    ensures { OnOk result (string_bytes out.new
+        ≡ string_bytes out.old ++ holding_lines (asking question.now)) }
+{
     let subject = subject_of(question.message);
     put_address_found(out, question.message, subject)?;
+    put_holding_at(alloc, out, question, subject)
+}
+
+fn put_holding_at(
+    alloc: Global,
+    out: &mut String,
+    question: &Question<'_>,
+    subject: Option<u32>,
+) -> Result<(), AllocError>
+    ensures { OnOk result (string_bytes out.new
+        ≡ string_bytes out.old ++ holding_at (asking question.now) subject) }
+{
     match subject {
-        Some(address) => put_holding_at(out, question, address),
+        Some(address) => {
+            put_row_found(alloc, out, question, address)?;
+            put_held(out, is_held_at(question, address))
+        }
         None => Ok(()),
     }
 }
 
-fn put_holding_at(
+// The checks of an INFORM (RFC 2131 section 4.3.5).
+#[tactic(auto, unfolding(crate::specs::CheckLines::inform_lines))]
+fn put_inform(
     out: &mut String,
     question: &Question<'_>,
-    address: u32,
-) -> Result<(), AllocError> {
-    put_row_found(out, question, address)?;
-    put_held(out, is_held_at(question, address))
+    subnet: Option<&Subnet>,
+) -> Result<(), AllocError>
+    ensures { OnOk result (string_bytes out.new ≡ string_bytes out.old
+        ++ inform_lines (asking question.now) (option_copied subnet.entry)) }
+{
+    let subject = subject_of(question.message);
+    put_address_found(out, question.message, subject)?;
+    put_served_at(out, subnet, subject)
 }
 
-// The checks of an INFORM (RFC 2131 section 4.3.5).
-fn put_inform(out: &mut String, matter: &Matter<'_>) -> Result<(), AllocError> {
-    let message = matter.question.message;
-    let subject = subject_of(message);
-    put_address_found(out, message, subject)?;
+fn put_served_at(
+    out: &mut String,
+    subnet: Option<&Subnet>,
+    subject: Option<u32>,
+) -> Result<(), AllocError>
+    ensures { OnOk result (string_bytes out.new
+        ≡ string_bytes out.old ++ served_at (option_copied subnet.entry) subject) }
+{
     match subject {
-        Some(_) => put_subnet_found(out, matter.subnet),
+        Some(_) => put_subnet_found(out, subnet),
         None => Ok(()),
     }
 }

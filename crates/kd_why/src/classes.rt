@@ -1,4 +1,4 @@
-ghost use Rattle.std.specs.Prelude.{◌≡◌, IfOk};
+ghost use Rattle.std.specs.Prelude.{◌≡◌, ◌≤◌, IfOk, length};
 ghost use Rattle.kd_classes.specs.HeldSet.{HeldSet};
 ghost use Rattle.kd_machine.specs.Held.{base_names};
 ghost use Rattle.kd_options.specs.Joined.{value_of};
@@ -32,6 +32,7 @@ pub fn trace_classes(
     ensures tested { IfOk result (λ t. AreTested message.now classes.now
         (base_names (value_of 60 message.now.options)) t.outcomes.items t.names) }
     ensures held { IfOk result (λ t. HeldSet message.now classes.now t.names) }
+    ensures few { IfOk result (λ t. length t.names ≤ 258) }
 {
     let mut names = Held::base(alloc, message)?;
     let mut outcomes = Vec::new(alloc);

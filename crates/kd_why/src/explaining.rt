@@ -1,8 +1,9 @@
-ghost use Rattle.std.specs.Prelude.{◌≡◌, ◌<◌, ◌^◌, IfOk, None, option_copied};
+ghost use Rattle.std.specs.Prelude.{◌≡◌, ◌<◌, ◌≤◌, ◌^◌, IfOk, None, length, option_copied};
 ghost use Rattle.kd_lease.specs.Change.{asked_for};
 ghost use Rattle.kd_lease.specs.Rules.{asking};
-ghost use Rattle.kd_why.specs.Explaining.{AreFoundFor, AreFoundIn, Explains, IsReservedIn};
+ghost use Rattle.kd_why.specs.Explaining.{AreCheckedAt, AreCheckedFor, AreCheckedIn, AreFoundFor, AreFoundIn, Explains, IsReservedIn};
 
+use crate::checks::{Checks, checks_of, subject_of};
 use crate::classes::{Trace, trace_classes};
 use kd_config::{Config, Reservation, Subnet};
 use kd_lease::{Decision, Question, Ranks, decide, identity, ranks_of, reservation_of, subnet_of};
@@ -27,6 +28,9 @@ pub struct Explanation<'a> {
     pub reservation: Option<&'a Reservation>,
     /// The first address of each rank, where a subnet serves it and it has a client.
     pub ranks: Option<Ranks>,
+    /// What is checked of the address that it is about, where there is one, a subnet serves it and it
+    /// has a client.
+    pub checks: Option<Checks>,
     /// The row that it sets, and what it gets.
     pub decision: Decision,
 }
@@ -44,7 +48,8 @@ pub fn explain<'a>(
     moment: u64,
 ) -> Result<Explanation<'a>, AllocError>
     requires { moment < 2 ^ 40 }
-    ensures { IfOk result (Explains config.now rows.now.rows message.now moment) }
+    ensures explains { IfOk result (Explains config.now rows.now.rows message.now moment) }
+    ensures few { IfOk result (λ e. length e.names ≤ 258) }
 {
     let Trace { outcomes, names } = trace_classes(alloc, config.classes(), message)?;
     let client = identity(alloc, message)?;
@@ -57,6 +62,7 @@ pub fn explain<'a>(
         moment,
     };
     let ranks = found_for(asked, &names, &client, subnet);
+    let checks = checked_for(asked, &names, &client, subnet);
     let decision = decide(alloc, config, rows, message, &names, moment)?;
     Ok(Explanation {
         client,
@@ -65,6 +71,7 @@ pub fn explain<'a>(
         subnet,
         reservation,
         ranks,
+        checks,
         decision,
     })
 }
@@ -127,6 +134,60 @@ fn found_in(question: &Question<'_>, subnet: Option<&Subnet>) -> Option<Ranks>
 {
     match subnet {
         Some(subnet) => Some(ranks_of(question, subnet)),
+        None => None,
+    }
+}
+
+// What is checked of the address that a message is about, for a client in a subnet, if there are
+// both.
+fn checked_for(
+    asked: Asked<'_>,
+    names: &Held,
+    client: &Option<Bytes>,
+    subnet: Option<&Subnet>,
+) -> Option<Checks>
+    ensures { AreCheckedFor client.now (asked_for asked.entry.config.now asked.entry.rows.now.rows
+        names.now asked.entry.message.now asked.entry.moment)
+        (option_copied subnet.entry) result }
+{
+    let Asked {
+        config,
+        rows,
+        message,
+        moment,
+    } = asked;
+    match client {
+        Some(client) => checked_in(
+            &Question {
+                config,
+                rows,
+                names,
+                message,
+                client: client.as_slice(),
+                moment,
+            },
+            subnet,
+        ),
+        None => None,
+    }
+}
+
+// The same in a subnet, if there is one.
+fn checked_in(question: &Question<'_>, subnet: Option<&Subnet>) -> Option<Checks>
+    ensures { AreCheckedIn (asking question.now) (option_copied subnet.entry) result }
+{
+    match subnet {
+        Some(subnet) => checked_at(question, subnet, subject_of(question.message)),
+        None => None,
+    }
+}
+
+// The same of an address, if there is one.
+fn checked_at(question: &Question<'_>, subnet: &Subnet, subject: Option<u32>) -> Option<Checks>
+    ensures { AreCheckedAt (asking question.now) subnet.now subject result }
+{
+    match subject {
+        Some(address) => Some(checks_of(question, subnet, address)),
         None => None,
     }
 }

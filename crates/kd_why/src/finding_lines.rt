@@ -1,15 +1,25 @@
+ghost use Rattle.std.specs.Prelude.{◌≡◌, ◌++◌, OnOk, Some, codes, option_copied, string_bytes};
+ghost use Rattle.kd_replay.specs.Text.{address_text};
+ghost use Rattle.kd_rows.specs.Table.{row_at};
+ghost use Rattle.kd_server.specs.Leases.{word_of_live};
+ghost use Rattle.kd_why.specs.CheckLines.{address_line, fits_line, free_line, held_line, known_line, offer_line, owner_line};
+ghost use Rattle.kd_why.specs.CheckLines.{pool_word, prefix_line, request_source, reserved_word, row_line, row_words};
+ghost use Rattle.kd_why.specs.CheckLines.{sender_line, served_line, served_word, server_line, subject_source, which_word};
+
 use crate::checks::Checks;
-use crate::words::{put_prefix, put_row, type_name};
+use crate::words::{put_dotted, put_prefix, put_row, type_name, yes_or_no};
 use kd_config::Subnet;
 use kd_lease::{Question, server_of};
 use kd_options::{Message, MessageType};
 use kd_rows::Row;
-use std::alloc::AllocError;
+use std::alloc::{AllocError, Global};
 use std::fmt::Write;
-use std::net::Ipv4Addr;
 
 // Why a message is one that servers send.
-pub(crate) fn put_sender(out: &mut String, message: &Message<'_>) -> Result<(), AllocError> {
+#[tactic(auto, unfolding(crate::specs::CheckLines::sender_line))]
+pub(crate) fn put_sender(out: &mut String, message: &Message<'_>) -> Result<(), AllocError>
+    ensures { OnOk result (string_bytes out.new ≡ string_bytes out.old ++ sender_line message.now) }
+{
     if message.header().op == 2 {
         return out.push_str("check sender: a server, by op 2\n");
     }
@@ -22,30 +32,51 @@ pub(crate) fn put_server(
     out: &mut String,
     server: u32,
     named: Option<u32>,
-) -> Result<(), AllocError> {
+) -> Result<(), AllocError>
+    ensures { OnOk result (string_bytes out.new
+        ≡ string_bytes out.old ++ server_line server named) }
+{
     match named {
         Some(named) => put_named_server(out, named, server == named),
         None => out.push_str("check server: none is named\n"),
     }
 }
 
-fn put_named_server(out: &mut String, named: u32, is_this: bool) -> Result<(), AllocError> {
-    let server = Ipv4Addr::from(named);
-    let which = if is_this { "this one" } else { "another one" };
-    writeln!(out, "check server: {server} is {which}")
+fn put_named_server(out: &mut String, named: u32, is_this: bool) -> Result<(), AllocError>
+    ensures { OnOk result (string_bytes out.new ≡ string_bytes out.old
+        ++ (codes "check server: " ++ address_text named ++ codes " is " ++ which_word is_this
+        ++ codes "\n")) }
+{
+    out.push_str("check server: ")?;
+    put_dotted(out, named)?;
+    out.push_str(" is ")?;
+    out.push_str(which(is_this))?;
+    out.push_str("\n")
+}
+
+fn which(is_this: bool) -> &'static str
+    ensures { result.now ≡ which_word is_this }
+{
+    if is_this { "this one" } else { "another one" }
 }
 
 // The offer that a client gives back, since it asks another server.
-pub(crate) fn put_offer(out: &mut String, set: &Option<Row>) -> Result<(), AllocError> {
+pub(crate) fn put_offer(out: &mut String, set: &Option<Row>) -> Result<(), AllocError>
+    ensures { OnOk result (string_bytes out.new ≡ string_bytes out.old ++ offer_line set.now) }
+{
     match set {
         Some(row) => put_offer_at(out, row.address),
         None => out.push_str("check offer: none\n"),
     }
 }
 
-fn put_offer_at(out: &mut String, address: u32) -> Result<(), AllocError> {
-    let address = Ipv4Addr::from(address);
-    writeln!(out, "check offer: {address} is given back")
+fn put_offer_at(out: &mut String, address: u32) -> Result<(), AllocError>
+    ensures { OnOk result (string_bytes out.new ≡ string_bytes out.old
+        ++ (codes "check offer: " ++ address_text address ++ codes " is given back\n")) }
+{
+    out.push_str("check offer: ")?;
+    put_dotted(out, address)?;
+    out.push_str(" is given back\n")
 }
 
 // The address that a message is about, and what names it.
@@ -53,28 +84,42 @@ pub(crate) fn put_address_found(
     out: &mut String,
     message: &Message<'_>,
     address: Option<u32>,
-) -> Result<(), AllocError> {
+) -> Result<(), AllocError>
+    ensures { OnOk result (string_bytes out.new
+        ≡ string_bytes out.old ++ address_line address (subject_source message.now)) }
+{
     match address {
         Some(address) => put_address_from(out, address, address_source(message)),
         None => out.push_str("check address: none\n"),
     }
 }
 
-fn put_address_from(out: &mut String, address: u32, source: &str) -> Result<(), AllocError> {
-    let address = Ipv4Addr::from(address);
-    writeln!(out, "check address: {address} from {source}")
+fn put_address_from(out: &mut String, address: u32, source: &str) -> Result<(), AllocError>
+    ensures { OnOk result (string_bytes out.new
+        ≡ string_bytes out.old ++ (codes "check address: " ++ address_text address
+        ++ codes " from " ++ source.now ++ codes "\n")) }
+{
+    out.push_str("check address: ")?;
+    put_dotted(out, address)?;
+    out.push_str(" from ")?;
+    out.push_str(source)?;
+    out.push_str("\n")
 }
 
-fn address_source(message: &Message<'_>) -> &'static str {
+fn address_source(message: &Message<'_>) -> &'static str
+    ensures { result.now ≡ subject_source message.now }
+{
     match message.kind() {
-        MessageType::Request => request_source(message),
+        MessageType::Request => source_of_request(message),
         MessageType::Release => "ciaddr",
         MessageType::Inform => "ciaddr",
         _ => "option 50",
     }
 }
 
-fn request_source(message: &Message<'_>) -> &'static str {
+fn source_of_request(message: &Message<'_>) -> &'static str
+    ensures { result.now ≡ request_source message.now }
+{
     if server_of(message).is_none() && message.header().ciaddr != 0 {
         "ciaddr"
     } else {
@@ -82,20 +127,33 @@ fn request_source(message: &Message<'_>) -> &'static str {
     }
 }
 
+// The subnet that serves the message.
 pub(crate) fn put_subnet_found(
     out: &mut String,
     subnet: Option<&Subnet>,
-) -> Result<(), AllocError> {
+) -> Result<(), AllocError>
+    ensures { OnOk result (string_bytes out.new
+        ≡ string_bytes out.old ++ served_line (option_copied subnet.entry)) }
+{
     out.push_str("check subnet: ")?;
-    match subnet {
-        Some(subnet) => put_prefix(out, subnet.prefix)?,
-        None => out.push_str("none")?,
-    }
+    put_served(out, subnet)?;
     out.push_str("\n")
 }
 
+fn put_served(out: &mut String, subnet: Option<&Subnet>) -> Result<(), AllocError>
+    ensures { OnOk result (string_bytes out.new
+        ≡ string_bytes out.old ++ served_word (option_copied subnet.entry)) }
+{
+    match subnet {
+        Some(subnet) => put_prefix(out, subnet.prefix),
+        None => out.push_str("none"),
+    }
+}
+
 // Whether the subnet's prefix has the address.
-pub(crate) fn put_prefix_found(out: &mut String, has_it: bool) -> Result<(), AllocError> {
+pub(crate) fn put_prefix_found(out: &mut String, has_it: bool) -> Result<(), AllocError>
+    ensures { OnOk result (string_bytes out.new ≡ string_bytes out.old ++ prefix_line has_it) }
+{
     if has_it {
         out.push_str("check prefix: has the address\n")
     } else {
@@ -104,7 +162,9 @@ pub(crate) fn put_prefix_found(out: &mut String, has_it: bool) -> Result<(), All
 }
 
 // Whether the client has a row in the subnet's prefix.
-pub(crate) fn put_client_found(out: &mut String, is_known: bool) -> Result<(), AllocError> {
+pub(crate) fn put_client_found(out: &mut String, is_known: bool) -> Result<(), AllocError>
+    ensures { OnOk result (string_bytes out.new ≡ string_bytes out.old ++ known_line is_known) }
+{
     if is_known {
         out.push_str("check client: known in the subnet\n")
     } else {
@@ -114,20 +174,51 @@ pub(crate) fn put_client_found(out: &mut String, is_known: bool) -> Result<(), A
 
 // The row of an address, as `kdhcp leases` prints it.
 pub(crate) fn put_row_found(
+    alloc: Global,
     out: &mut String,
     question: &Question<'_>,
     address: u32,
-) -> Result<(), AllocError> {
+) -> Result<(), AllocError>
+    ensures { OnOk result (string_bytes out.new ≡ string_bytes out.old
+        ++ row_line question.now.moment (row_at question.now.rows.now.rows address)) }
+{
     out.push_str("check row: ")?;
-    match question.rows.get(address) {
-        Some(row) => put_row_at(out, row, question.moment),
+    put_row_of(alloc, out, question.rows.get(address), question.moment)
+}
+
+fn put_row_of(
+    alloc: Global,
+    out: &mut String,
+    row: Option<&Row>,
+    moment: u64,
+) -> Result<(), AllocError>
+    ensures { OnOk result (string_bytes out.new
+        ≡ string_bytes out.old ++ row_words moment (option_copied row.entry)) }
+{
+    match row {
+        Some(row) => put_row_at(alloc, out, row, moment),
         None => out.push_str("none\n"),
     }
 }
 
-fn put_row_at(out: &mut String, row: &Row, moment: u64) -> Result<(), AllocError> {
-    put_row(out, row)?;
-    if moment < row.ends {
+fn put_row_at(
+    alloc: Global,
+    out: &mut String,
+    row: &Row,
+    moment: u64,
+) -> Result<(), AllocError>
+    ensures { OnOk result (string_bytes out.new
+        ≡ string_bytes out.old ++ row_words moment (Some row.now)) }
+{
+    put_row(alloc, out, row)?;
+    put_live(out, moment < row.ends)
+}
+
+fn put_live(out: &mut String, is_live: bool) -> Result<(), AllocError>
+    ensures { OnOk result (string_bytes out.new
+        ≡ string_bytes out.old ++ (codes " " ++ word_of_live is_live ++ codes "\n")) }
+{
+    if is_live {
         out.push_str(" live\n")
     } else {
         out.push_str(" past\n")
@@ -135,7 +226,9 @@ fn put_row_at(out: &mut String, row: &Row, moment: u64) -> Result<(), AllocError
 }
 
 // Whether the row is the client's.
-pub(crate) fn put_owner(out: &mut String, is_own: bool) -> Result<(), AllocError> {
+pub(crate) fn put_owner(out: &mut String, is_own: bool) -> Result<(), AllocError>
+    ensures { OnOk result (string_bytes out.new ≡ string_bytes out.old ++ owner_line is_own) }
+{
     if is_own {
         out.push_str("check owner: the client\n")
     } else {
@@ -144,18 +237,29 @@ pub(crate) fn put_owner(out: &mut String, is_own: bool) -> Result<(), AllocError
 }
 
 // Whether an address fits: where it is, and whom it is reserved for.
-pub(crate) fn put_fits(out: &mut String, checks: &Checks) -> Result<(), AllocError> {
+#[tactic(auto, unfolding(crate::specs::CheckLines::fits_line))]
+pub(crate) fn put_fits(out: &mut String, checks: &Checks) -> Result<(), AllocError>
+    ensures { OnOk result (string_bytes out.new ≡ string_bytes out.old ++ fits_line checks.now) }
+{
     let fits = yes_or_no(checks.fits);
-    let pool = if checks.in_pools {
-        "in a pool"
-    } else {
-        "in no pool"
-    };
-    let reserved = reservation_word(checks);
+    let pool = pool_phrase(checks);
+    let reserved = reserved_phrase(checks);
     writeln!(out, "check fits: {fits}, {pool}, {reserved}")
 }
 
-fn reservation_word(checks: &Checks) -> &'static str {
+fn pool_phrase(checks: &Checks) -> &'static str
+    ensures { result.now ≡ pool_word checks.now }
+{
+    if checks.in_pools {
+        "in a pool"
+    } else {
+        "in no pool"
+    }
+}
+
+fn reserved_phrase(checks: &Checks) -> &'static str
+    ensures { result.now ≡ reserved_word checks.now }
+{
     if checks.reserved_for_client {
         "reserved for the client"
     } else if checks.reserved {
@@ -166,17 +270,17 @@ fn reservation_word(checks: &Checks) -> &'static str {
 }
 
 // Whether an address is free for the client.
-pub(crate) fn put_free(out: &mut String, is_free: bool) -> Result<(), AllocError> {
+pub(crate) fn put_free(out: &mut String, is_free: bool) -> Result<(), AllocError>
+    ensures { OnOk result (string_bytes out.new ≡ string_bytes out.old ++ free_line is_free) }
+{
     let word = yes_or_no(is_free);
     writeln!(out, "check free: {word}")
 }
 
 // Whether the client holds an address.
-pub(crate) fn put_held(out: &mut String, is_held: bool) -> Result<(), AllocError> {
+pub(crate) fn put_held(out: &mut String, is_held: bool) -> Result<(), AllocError>
+    ensures { OnOk result (string_bytes out.new ≡ string_bytes out.old ++ held_line is_held) }
+{
     let word = yes_or_no(is_held);
     writeln!(out, "check held: {word}")
-}
-
-fn yes_or_no(yes: bool) -> &'static str {
-    if yes { "yes" } else { "no" }
 }

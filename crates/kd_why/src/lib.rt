@@ -4,7 +4,8 @@
 //! (`specs/Explaining.antt`): the value of each class test and its steps, the subnet, the
 //! reservation, the first address of each rank, and the decision; `specs/Checks.antt` says what is
 //! checked of the address that the message is about, and `specs/Origins.antt` where each option
-//! comes from. The last line of the text is the line that a replay would write.
+//! comes from. The text of an explanation is these parts, line by line, and the line that a replay
+//! would write (`specs/Saying.antt`).
 #![tactic(auto)]
 
 mod check_lines;

@@ -1,6 +1,13 @@
+ghost use Rattle.std.specs.Prelude.{◌≡◌, ◌++◌, ℕ, IfOk, List, OnOk, Some, codes, decimal, option_copied, string_bytes};
+ghost use Rattle.kd_replay.specs.Text.{bytes_text};
+ghost use Rattle.kd_why.specs.OutcomeLines.{AreOptionLines, AreOptionsOf, IsConfiguredWord, IsOptionLine, IsSourceWord};
+ghost use Rattle.kd_why.specs.OutcomeLines.{class_name, options_address, origin_word, required_word, room_word, written};
+
 use crate::origins::{Origin, origin_of};
 use crate::text::Scene;
 use crate::words::{put_bytes, put_name};
+use kd_classes::{ClassDef, Classes};
+use kd_config::Subnet;
 use kd_lease::{Plan, PlanKind};
 use kd_options::{Item, Message};
 use std::alloc::{AllocError, Global};
@@ -15,8 +22,8 @@ const LEAST_ROOM: u16 = 548;
 
 // Where the options of a reply come from, and what it is as it is written.
 #[derive(Clone, Copy)]
-struct Sources<'a> {
-    scene: Scene<'a>,
+pub(crate) struct Sources<'a> {
+    scene: &'a Scene<'a>,
     // The address that the configured options are given at.
     address: u32,
     reply: &'a Message<'a>,
@@ -25,16 +32,20 @@ struct Sources<'a> {
 // A line for each option of a planned reply: its code, its value, where it comes from, and whether
 // the reply as it is written has no room for it.
 pub(crate) fn put_options(
-    alloc: Global,
     out: &mut String,
     scene: &Scene<'_>,
     plan: &Plan,
-) -> Result<(), AllocError> {
-    let bytes = bytes_of(alloc, plan)?;
-    match Message::read(alloc, bytes.as_slice()) {
+) -> Result<(), AllocError>
+    ensures { OnOk result ((text : List ℕ)
+        × AreOptionsOf scene.now.config.now scene.now.message.now scene.now.explanation.now plan.now
+        text
+        × (string_bytes out.new ≡ string_bytes out.old ++ text)) }
+{
+    let bytes = bytes_of(scene.alloc, plan)?;
+    match Message::read(scene.alloc, bytes.as_slice()) {
         Ok(reply) => {
             let sources = Sources {
-                scene: *scene,
+                scene,
                 address: address_in(plan, scene.message),
                 reply: &reply,
             };
@@ -46,7 +57,9 @@ pub(crate) fn put_options(
 }
 
 // The bytes of a planned reply.
-fn bytes_of(alloc: Global, plan: &Plan) -> Result<Vec<u8>, AllocError> {
+fn bytes_of(alloc: Global, plan: &Plan) -> Result<Vec<u8>, AllocError>
+    ensures { IfOk result (λ bytes. bytes.items ≡ written plan.now) }
+{
     match plan.reply.write(alloc, plan.room.max(LEAST_ROOM)) {
         Ok(bytes) => Ok(bytes),
         // what is planned fits its room
@@ -56,77 +69,150 @@ fn bytes_of(alloc: Global, plan: &Plan) -> Result<Vec<u8>, AllocError> {
 
 // The address that the options of a reply are given at: the one that it gives, or that its client
 // has.
-fn address_in(plan: &Plan, message: &Message<'_>) -> u32 {
+fn address_in(plan: &Plan, message: &Message<'_>) -> u32
+    ensures { result
+        ≡ options_address plan.now.kind plan.now.yiaddr message.now.header.ciaddr }
+{
     match plan.kind {
         PlanKind::InformAck => message.header().ciaddr,
         _ => plan.yiaddr,
     }
 }
 
-fn put_items(out: &mut String, sources: &Sources<'_>, items: &[Item]) -> Result<(), AllocError> {
+fn put_items(out: &mut String, sources: &Sources<'_>, items: &[Item]) -> Result<(), AllocError>
+    ensures { OnOk result ((text : List ℕ)
+        × AreOptionLines (IsOptionLine sources.now.scene.now.config.now
+        sources.now.scene.now.explanation.now sources.now.address sources.now.reply.now) items.now
+        text
+        × (string_bytes out.new ≡ string_bytes out.old ++ text)) }
+{
     for item in items {
         put_item(out, sources, item)?;
     }
     Ok(())
 }
 
-fn put_item(out: &mut String, sources: &Sources<'_>, item: &Item) -> Result<(), AllocError> {
-    put_value(out, item)?;
+fn put_item(out: &mut String, sources: &Sources<'_>, item: &Item) -> Result<(), AllocError>
+    ensures { OnOk result ((line : List ℕ)
+        × IsOptionLine sources.now.scene.now.config.now sources.now.scene.now.explanation.now
+        sources.now.address sources.now.reply.now item.now line
+        × (string_bytes out.new ≡ string_bytes out.old ++ line)) }
+{
+    put_value(sources.scene.alloc, out, item)?;
     put_source(out, sources, item)?;
-    if sources.reply.option(item.code).is_some() {
-        out.push_str("\n")
-    } else {
-        out.push_str(": no room\n")
-    }
+    put_room(out, sources.reply.option(item.code))
 }
 
-fn put_value(out: &mut String, item: &Item) -> Result<(), AllocError> {
+fn put_value(alloc: Global, out: &mut String, item: &Item) -> Result<(), AllocError>
+    ensures { OnOk result (string_bytes out.new ≡ string_bytes out.old
+        ++ (codes "option " ++ decimal item.now.code ++ codes " " ++ bytes_text item.now.value
+        ++ codes " ")) }
+{
     let code = item.code;
     write!(out, "option {code} ")?;
-    put_bytes(out, item.value.as_slice())?;
+    put_bytes(alloc, out, item.value.as_slice())?;
     out.push_str(" ")
 }
 
-// Where an option comes from: the rules of replies, the message, or the configuration.
-fn put_source(out: &mut String, sources: &Sources<'_>, item: &Item) -> Result<(), AllocError> {
-    if !item.obligatory {
-        return put_configured(out, sources, item.code);
-    }
-    match item.code {
-        OPTION_CLIENT_IDENTIFIER => out.push_str("message"),
-        OPTION_RELAY_INFORMATION => out.push_str("message"),
-        _ => out.push_str("reply"),
+// Whether the reply has an option as it is written.
+fn put_room(out: &mut String, value: Option<&[u8]>) -> Result<(), AllocError>
+    ensures { OnOk result (string_bytes out.new
+        ≡ string_bytes out.old ++ room_word (option_copied value.entry)) }
+{
+    match value {
+        Some(_) => out.push_str("\n"),
+        None => out.push_str(": no room\n"),
     }
 }
 
-fn put_configured(out: &mut String, sources: &Sources<'_>, code: u8) -> Result<(), AllocError> {
-    match configured_origin(sources, code) {
-        Some(origin) => put_origin(out, &sources.scene, origin),
+// Where an option comes from: the rules of replies, the message, or the configuration.
+fn put_source(out: &mut String, sources: &Sources<'_>, item: &Item) -> Result<(), AllocError>
+    ensures { OnOk result ((word : List ℕ)
+        × IsSourceWord sources.now.scene.now.config.now sources.now.scene.now.explanation.now.names
+        (option_copied sources.now.scene.now.explanation.now.subnet) sources.now.address
+        item.now.obligatory item.now.code word
+        × (string_bytes out.new ≡ string_bytes out.old ++ word)) }
+{
+    if item.obligatory {
+        out.push_str(required_by(item.code))
+    } else {
+        put_configured(out, sources, item.code)
+    }
+}
+
+fn required_by(code: u8) -> &'static str
+    ensures { result.now ≡ required_word code }
+{
+    if code == OPTION_CLIENT_IDENTIFIER || code == OPTION_RELAY_INFORMATION {
+        "message"
+    } else {
+        "reply"
+    }
+}
+
+fn put_configured(out: &mut String, sources: &Sources<'_>, code: u8) -> Result<(), AllocError>
+    ensures { OnOk result ((word : List ℕ)
+        × IsConfiguredWord sources.now.scene.now.config.now
+        sources.now.scene.now.explanation.now.names
+        (option_copied sources.now.scene.now.explanation.now.subnet) sources.now.address code word
+        × (string_bytes out.new ≡ string_bytes out.old ++ word)) }
+{
+    match sources.scene.explanation.subnet {
+        Some(subnet) => put_given(out, sources, subnet, code),
         None => out.push_str("-"),
     }
 }
 
-fn configured_origin(sources: &Sources<'_>, code: u8) -> Option<Origin> {
-    let scene = &sources.scene;
-    let subnet = scene.explanation.subnet?;
+// Where a configured option comes from in a subnet.
+fn put_given(
+    out: &mut String,
+    sources: &Sources<'_>,
+    subnet: &Subnet,
+    code: u8,
+) -> Result<(), AllocError>
+    ensures { OnOk result ((word : List ℕ)
+        × IsConfiguredWord sources.now.scene.now.config.now
+        sources.now.scene.now.explanation.now.names (Some subnet.now) sources.now.address code word
+        × (string_bytes out.new ≡ string_bytes out.old ++ word)) }
+{
+    let scene = sources.scene;
     let names = &scene.explanation.names;
-    origin_of(scene.config, subnet, names, sources.address, code)
+    let origin = origin_of(scene.config, subnet, names, sources.address, code);
+    put_origin(scene.alloc, out, scene.config.classes(), origin)
 }
 
-fn put_origin(out: &mut String, scene: &Scene<'_>, origin: Origin) -> Result<(), AllocError> {
+fn put_origin(
+    alloc: Global,
+    out: &mut String,
+    classes: &Classes,
+    origin: Option<Origin>,
+) -> Result<(), AllocError>
+    ensures { OnOk result (string_bytes out.new
+        ≡ string_bytes out.old ++ origin_word classes.now origin) }
+{
     match origin {
-        Origin::Pool => out.push_str("pool"),
-        Origin::Subnet => out.push_str("subnet"),
-        Origin::Class(index) => put_class(out, scene, index),
-        Origin::Global => out.push_str("all"),
-        Origin::Mask => out.push_str("mask"),
+        Some(Origin::Pool) => out.push_str("pool"),
+        Some(Origin::Subnet) => out.push_str("subnet"),
+        Some(Origin::Class(index)) => {
+            out.push_str("class ")?;
+            put_class(alloc, out, classes.def_at(index))
+        }
+        Some(Origin::Global) => out.push_str("all"),
+        Some(Origin::Mask) => out.push_str("mask"),
+        None => out.push_str("-"),
     }
 }
 
-fn put_class(out: &mut String, scene: &Scene<'_>, index: usize) -> Result<(), AllocError> {
-    out.push_str("class ")?;
-    match scene.config.classes().def_at(index) {
-        Some(class) => put_name(out, class.name.as_slice()),
+fn put_class(
+    alloc: Global,
+    out: &mut String,
+    class: Option<&ClassDef>,
+) -> Result<(), AllocError>
+    ensures { OnOk result (string_bytes out.new
+        ≡ string_bytes out.old ++ class_name (option_copied class.entry)) }
+{
+    match class {
+        Some(class) => put_name(alloc, out, class.name.as_slice()),
         None => out.push_str("-"),
     }
 }

@@ -1,63 +1,87 @@
+ghost use Rattle.std.specs.Prelude.{◌≡◌, ◌++◌, ℕ, List, OnOk, codes, string_bytes};
+ghost use Rattle.kd_replay.specs.Text.{address_text};
+ghost use Rattle.kd_why.specs.OutcomeLines.{AreOptionsOf, IsEndText, quiet_line, reply_line, row_word, set_line};
+
 use crate::option_lines::put_options;
 use crate::text::Scene;
-use crate::words::{put_address, put_row};
+use crate::words::{put_dotted, put_row};
 use kd_event::Reason;
 use kd_lease::{Answer, Plan, PlanKind};
 use kd_rows::Row;
 use std::alloc::{AllocError, Global};
 use std::fmt::Write;
 
-// The lines of what the message gets: how it ends, the options of its reply, and the row that it
-// sets.
-pub(crate) fn put_outcome(
-    alloc: Global,
-    out: &mut String,
-    scene: &Scene<'_>,
-) -> Result<(), AllocError> {
-    let decision = &scene.explanation.decision;
-    match &decision.answer {
-        Answer::Plan(plan) => put_plan(alloc, out, scene, plan)?,
-        Answer::Quiet(reason) => put_reason(out, *reason)?,
+// The lines of how a message ends: its reply and the options of that, or why there is none.
+pub(crate) fn put_end(out: &mut String, scene: &Scene<'_>) -> Result<(), AllocError>
+    ensures { OnOk result ((text : List ℕ)
+        × IsEndText scene.now.config.now scene.now.message.now scene.now.explanation.now
+        scene.now.explanation.now.decision.answer text
+        × (string_bytes out.new ≡ string_bytes out.old ++ text)) }
+{
+    match &scene.explanation.decision.answer {
+        Answer::Plan(plan) => put_plan(out, scene, plan),
+        Answer::Quiet(reason) => put_reason(out, *reason),
     }
-    put_row_set(out, &decision.row)
 }
 
-fn put_reason(out: &mut String, reason: Reason) -> Result<(), AllocError> {
+fn put_reason(out: &mut String, reason: Reason) -> Result<(), AllocError>
+    ensures { OnOk result (string_bytes out.new ≡ string_bytes out.old ++ quiet_line reason) }
+{
     let number = reason.number();
     writeln!(out, "ends quiet {number} {reason}")
 }
 
-fn put_plan(
-    alloc: Global,
-    out: &mut String,
-    scene: &Scene<'_>,
-    plan: &Plan,
-) -> Result<(), AllocError> {
+fn put_plan(out: &mut String, scene: &Scene<'_>, plan: &Plan) -> Result<(), AllocError>
+    ensures { OnOk result ((options : List ℕ)
+        × AreOptionsOf scene.now.config.now scene.now.message.now scene.now.explanation.now plan.now
+        options
+        × (string_bytes out.new ≡ string_bytes out.old
+        ++ (reply_line plan.now.kind plan.now.yiaddr ++ options))) }
+{
     put_reply(out, plan)?;
-    put_options(alloc, out, scene, plan)
+    put_options(out, scene, plan)
 }
 
 // What the reply is, and the address that it gives.
-fn put_reply(out: &mut String, plan: &Plan) -> Result<(), AllocError> {
+fn put_reply(out: &mut String, plan: &Plan) -> Result<(), AllocError>
+    ensures { OnOk result (string_bytes out.new
+        ≡ string_bytes out.old ++ reply_line plan.now.kind plan.now.yiaddr) }
+{
     match plan.kind {
-        PlanKind::Offer => put_given(out, "OFFER", plan.yiaddr),
-        PlanKind::Ack => put_given(out, "ACK", plan.yiaddr),
+        PlanKind::Offer => put_given(out, "ends OFFER ", plan.yiaddr),
+        PlanKind::Ack => put_given(out, "ends ACK ", plan.yiaddr),
         PlanKind::InformAck => out.push_str("ends ACK\n"),
         PlanKind::Nak => out.push_str("ends NAK\n"),
     }
 }
 
-fn put_given(out: &mut String, kind: &str, address: u32) -> Result<(), AllocError> {
-    write!(out, "ends {kind} ")?;
-    put_address(out, Some(address))?;
+fn put_given(out: &mut String, words: &str, address: u32) -> Result<(), AllocError>
+    ensures { OnOk result (string_bytes out.new
+        ≡ string_bytes out.old ++ (words.now ++ address_text address ++ codes "\n")) }
+{
+    out.push_str(words)?;
+    put_dotted(out, address)?;
     out.push_str("\n")
 }
 
-fn put_row_set(out: &mut String, row: &Option<Row>) -> Result<(), AllocError> {
+// The row that a message sets.
+pub(crate) fn put_row_set(
+    alloc: Global,
+    out: &mut String,
+    row: &Option<Row>,
+) -> Result<(), AllocError>
+    ensures { OnOk result (string_bytes out.new ≡ string_bytes out.old ++ set_line row.now) }
+{
     out.push_str("row ")?;
-    match row {
-        Some(row) => put_row(out, row)?,
-        None => out.push_str("-")?,
-    }
+    put_row_found(alloc, out, row)?;
     out.push_str("\n")
+}
+
+fn put_row_found(alloc: Global, out: &mut String, row: &Option<Row>) -> Result<(), AllocError>
+    ensures { OnOk result (string_bytes out.new ≡ string_bytes out.old ++ row_word row.now) }
+{
+    match row {
+        Some(row) => put_row(alloc, out, row),
+        None => out.push_str("-"),
+    }
 }

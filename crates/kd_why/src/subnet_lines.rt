@@ -1,36 +1,39 @@
-use crate::explaining::Explanation;
+ghost use Rattle.std.specs.Prelude.{◌≡◌, ◌++◌, OnOk, codes, option_copied, string_bytes};
+ghost use Rattle.std.specs.List.{flat_map};
+ghost use Rattle.kd_lease.specs.SubnetOf.{class_admits, message_place, served_by};
+ghost use Rattle.kd_why.specs.FoundLines.{class_word, key_word, passed_words, place_line, place_word, reservation_line, reserved_line, subnet_line, subnet_lines, unasked_line};
+
 use crate::text::Scene;
-use crate::words::{put_address, put_name, put_prefix};
+use crate::words::{put_dotted, put_name, put_prefix};
 use kd_config::{Identity, Reservation, Subnet};
 use kd_lease::place_of;
-use kd_wire::Header;
-use std::alloc::AllocError;
-use std::fmt::Write;
-use std::net::Ipv4Addr;
-
-// What becomes of a subnet when the first that serves the message is looked for.
-#[derive(Clone, Copy)]
-enum Verdict<'a> {
-    // Its prefix does not have the place of the message.
-    Outside,
-    // It is for the members of this class, and the client is none.
-    Closed(&'a [u8]),
-    // It serves the message.
-    Serves,
-}
+use kd_machine::Held;
+use kd_wire::{Bytes, Header};
+use std::alloc::{AllocError, Global};
 
 // The line of the place that the message comes from, and what says so.
-pub(crate) fn put_place(out: &mut String, scene: &Scene<'_>) -> Result<(), AllocError> {
-    let place = Ipv4Addr::from(place_in(scene));
-    let source = place_source(&scene.message.header());
-    writeln!(out, "place {place} {source}")
+pub(crate) fn put_place(out: &mut String, scene: &Scene<'_>) -> Result<(), AllocError>
+    ensures { OnOk result (string_bytes out.new ≡ string_bytes out.old
+        ++ place_line scene.now.config.now.server scene.now.message.now.header) }
+{
+    put_place_of(out, scene.config.server(), &scene.message.header())
 }
 
-fn place_in(scene: &Scene<'_>) -> u32 {
-    place_of(scene.config.server(), &scene.message.header())
+#[tactic(auto, unfolding(crate::specs::FoundLines::place_line))]
+fn put_place_of(out: &mut String, server: u32, header: &Header) -> Result<(), AllocError>
+    ensures { OnOk result (string_bytes out.new
+        ≡ string_bytes out.old ++ place_line server header.now) }
+{
+    out.push_str("place ")?;
+    put_dotted(out, place_of(server, header))?;
+    out.push_str(" ")?;
+    out.push_str(place_source(header))?;
+    out.push_str("\n")
 }
 
-fn place_source(header: &Header) -> &'static str {
+fn place_source(header: &Header) -> &'static str
+    ensures { result.now ≡ place_word header.now }
+{
     if header.giaddr != 0 {
         "relay"
     } else if header.ciaddr != 0 {
@@ -40,101 +43,179 @@ fn place_source(header: &Header) -> &'static str {
     }
 }
 
+// Where a message comes from, and the names of the classes that it is in: what subnets are asked for.
+#[derive(Clone, Copy)]
+struct Sought<'a> {
+    place: u32,
+    names: &'a Held,
+}
+
 // A line for each subnet: those that are passed over, and why; the first that serves the message;
 // and those behind it.
-pub(crate) fn put_subnets(out: &mut String, scene: &Scene<'_>) -> Result<(), AllocError> {
-    let mut is_served = false;
-    for subnet in scene.config.subnets() {
-        out.push_str("subnet ")?;
-        put_prefix(out, subnet.prefix)?;
-        is_served = put_subnet(out, scene, subnet, is_served)?;
+pub(crate) fn put_subnets(out: &mut String, scene: &Scene<'_>) -> Result<(), AllocError>
+    ensures { OnOk result (string_bytes out.new ≡ string_bytes out.old
+        ++ subnet_lines (message_place scene.now.config.now.server scene.now.message.now.header)
+        scene.now.explanation.now.names scene.now.config.now.subnets) }
+{
+    let sought = Sought {
+        place: place_of(scene.config.server(), &scene.message.header()),
+        names: &scene.explanation.names,
+    };
+    put_sought(scene.alloc, out, sought, scene.config.subnets())
+}
+
+#[tactic(auto, unfolding(crate::specs::FoundLines::subnet_lines))]
+fn put_sought(
+    alloc: Global,
+    out: &mut String,
+    sought: Sought<'_>,
+    subnets: &[Subnet],
+) -> Result<(), AllocError>
+    ensures { OnOk result (string_bytes out.new ≡ string_bytes out.old
+        ++ subnet_lines sought.entry.place sought.entry.names.now subnets.now) }
+{
+    let mut left = subnets;
+    while let [subnet, rest @ ..] = left {
+        if serves(sought, subnet) {
+            put_serving(out, subnet)?;
+            return put_unasked(out, rest);
+        }
+        put_passed(alloc, out, sought.place, subnet)?;
+        left = rest;
     }
-    if is_served {
-        Ok(())
-    } else {
-        out.push_str("subnet - none serves\n")
+    out.push_str("subnet - none serves\n")
+}
+
+// The subnet serves the place and the holder of the names.
+fn serves(sought: Sought<'_>, subnet: &Subnet) -> bool
+    ensures { result ≡ served_by sought.entry.place sought.entry.names.now subnet.now }
+{
+    subnet.prefix.contains(sought.place) && admits(&subnet.class, sought.names)
+}
+
+fn admits(class: &Option<Bytes>, names: &Held) -> bool
+    ensures { result ≡ class_admits class.now names.now }
+{
+    match class {
+        Some(class) => names.contains(class.as_slice()),
+        None => true,
     }
 }
 
-// What follows the prefix of a subnet; whether it or one before it serves the message.
-fn put_subnet(
-    out: &mut String,
-    scene: &Scene<'_>,
-    subnet: &Subnet,
-    is_served: bool,
-) -> Result<bool, AllocError> {
-    if is_served {
-        out.push_str(" not asked\n")?;
-        return Ok(true);
+#[tactic(auto, unfolding(crate::specs::FoundLines::subnet_line))]
+fn put_serving(out: &mut String, subnet: &Subnet) -> Result<(), AllocError>
+    ensures { OnOk result (string_bytes out.new
+        ≡ string_bytes out.old ++ subnet_line subnet.now (codes " serves")) }
+{
+    out.push_str("subnet ")?;
+    put_prefix(out, subnet.prefix)?;
+    out.push_str(" serves")?;
+    out.push_str("\n")
+}
+
+// The lines of the subnets behind the one that serves.
+fn put_unasked(out: &mut String, subnets: &[Subnet]) -> Result<(), AllocError>
+    ensures { OnOk result (string_bytes out.new
+        ≡ string_bytes out.old ++ flat_map unasked_line subnets.now) }
+{
+    for subnet in subnets {
+        put_one_unasked(out, subnet)?;
     }
-    let verdict = verdict_on(scene, subnet);
-    put_verdict(out, scene, verdict)?;
-    Ok(matches!(verdict, Verdict::Serves))
+    Ok(())
+}
+
+#[tactic(auto, unfolding(crate::specs::FoundLines::subnet_line))]
+fn put_one_unasked(out: &mut String, subnet: &Subnet) -> Result<(), AllocError>
+    ensures { OnOk result (string_bytes out.new ≡ string_bytes out.old ++ unasked_line subnet.now) }
+{
+    out.push_str("subnet ")?;
+    put_prefix(out, subnet.prefix)?;
+    out.push_str(" not asked")?;
+    out.push_str("\n")
+}
+
+#[tactic(auto, unfolding(crate::specs::FoundLines::subnet_line))]
+fn put_passed(
+    alloc: Global,
+    out: &mut String,
+    place: u32,
+    subnet: &Subnet,
+) -> Result<(), AllocError>
+    ensures { OnOk result (string_bytes out.new
+        ≡ string_bytes out.old ++ subnet_line subnet.now (passed_words place subnet.now)) }
+{
+    out.push_str("subnet ")?;
+    put_prefix(out, subnet.prefix)?;
+    put_why_passed(alloc, out, place, subnet)?;
+    out.push_str("\n")
 }
 
 // Of two reasons against a subnet the place comes first.
-fn verdict_on<'a>(scene: &Scene<'_>, subnet: &'a Subnet) -> Verdict<'a> {
-    if !subnet.prefix.contains(place_in(scene)) {
-        return Verdict::Outside;
-    }
-    match &subnet.class {
-        Some(class) => {
-            if scene.explanation.names.contains(class.as_slice()) {
-                Verdict::Serves
-            } else {
-                Verdict::Closed(class.as_slice())
-            }
-        }
-        None => Verdict::Serves,
-    }
-}
-
-fn put_verdict(
+#[tactic(auto, unfolding(crate::specs::FoundLines::passed_words))]
+fn put_why_passed(
+    alloc: Global,
     out: &mut String,
-    scene: &Scene<'_>,
-    verdict: Verdict<'_>,
-) -> Result<(), AllocError> {
-    match verdict {
-        Verdict::Outside => put_outside(out, place_in(scene)),
-        Verdict::Closed(class) => put_closed(out, class),
-        Verdict::Serves => out.push_str(" serves\n"),
+    place: u32,
+    subnet: &Subnet,
+) -> Result<(), AllocError>
+    ensures { OnOk result (string_bytes out.new
+        ≡ string_bytes out.old ++ passed_words place subnet.now) }
+{
+    if subnet.prefix.contains(place) {
+        out.push_str(" passed over: the client is not in class ")?;
+        put_class_name(alloc, out, &subnet.class)
+    } else {
+        out.push_str(" passed over: ")?;
+        put_dotted(out, place)?;
+        out.push_str(" is outside")
     }
 }
 
-fn put_outside(out: &mut String, place: u32) -> Result<(), AllocError> {
-    let place = Ipv4Addr::from(place);
-    writeln!(out, " passed over: {place} is outside")
-}
-
-fn put_closed(out: &mut String, class: &[u8]) -> Result<(), AllocError> {
-    out.push_str(" passed over: the client is not in class ")?;
-    put_name(out, class)?;
-    out.push_str("\n")
+fn put_class_name(
+    alloc: Global,
+    out: &mut String,
+    class: &Option<Bytes>,
+) -> Result<(), AllocError>
+    ensures { OnOk result (string_bytes out.new ≡ string_bytes out.old ++ class_word class.now) }
+{
+    match class {
+        Some(class) => put_name(alloc, out, class.as_slice()),
+        None => out.push_str("-"),
+    }
 }
 
 // The line of the reservation for the client, where a subnet serves the message.
 pub(crate) fn put_reservation(
     out: &mut String,
-    explanation: &Explanation<'_>,
-) -> Result<(), AllocError> {
-    if explanation.subnet.is_none() {
-        return Ok(());
-    }
-    match explanation.reservation {
-        Some(reservation) => put_reserved(out, reservation),
-        None => out.push_str("reservation -\n"),
+    subnet: Option<&Subnet>,
+    reservation: Option<&Reservation>,
+) -> Result<(), AllocError>
+    ensures { OnOk result (string_bytes out.new ≡ string_bytes out.old
+        ++ reservation_line (option_copied subnet.entry) (option_copied reservation.entry)) }
+{
+    match (subnet, reservation) {
+        (None, _) => Ok(()),
+        (Some(_), None) => out.push_str("reservation -\n"),
+        (Some(_), Some(reservation)) => put_reserved(out, reservation),
     }
 }
 
-fn put_reserved(out: &mut String, reservation: &Reservation) -> Result<(), AllocError> {
-    let key = identity_key(&reservation.identity);
+#[tactic(auto, unfolding(crate::specs::FoundLines::reserved_line))]
+fn put_reserved(out: &mut String, reservation: &Reservation) -> Result<(), AllocError>
+    ensures { OnOk result (string_bytes out.new
+        ≡ string_bytes out.old ++ reserved_line reservation.now) }
+{
     out.push_str("reservation ")?;
-    put_address(out, Some(reservation.address))?;
-    writeln!(out, " by {key}")
+    put_dotted(out, reservation.address)?;
+    out.push_str(" by ")?;
+    out.push_str(identity_key(&reservation.identity))?;
+    out.push_str("\n")
 }
 
 // The key of the configuration that names the client.
-fn identity_key(identity: &Identity) -> &'static str {
+fn identity_key(identity: &Identity) -> &'static str
+    ensures { result.now ≡ key_word identity.now }
+{
     match identity {
         Identity::Hardware(_) => "hw-address",
         Identity::ClientId(_) => "client-id",

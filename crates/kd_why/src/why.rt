@@ -1,6 +1,6 @@
-ghost use Rattle.std.specs.Prelude.{◌≡◌, ◌<◌, ◌^◌, IfErr, IfOk};
+ghost use Rattle.std.specs.Prelude.{◌≡◌, ◌++◌, ◌<◌, ◌^◌, IfErr, IfOk, ℕ, List, OnOk, string_bytes};
 ghost use Rattle.kd_server.specs.Trial.{trying};
-ghost use Rattle.kd_why.specs.Saying.{EndsInAnswer, IsUnsaid};
+ghost use Rattle.kd_why.specs.Saying.{ExplainsEvent, IsAccount, IsExplanation, IsUnsaid};
 
 use crate::explaining::explain;
 use crate::text::{Scene, put_explanation, put_unreadable};
@@ -23,22 +23,38 @@ pub fn why_text(
     moment: u64,
     bytes: &[u8],
 ) -> Result<Vec<u8>, ServeFault>
-    ensures text { IfOk result (λ text. EndsInAnswer (trying rules.entry rows.now.rows)
+    ensures text { IfOk result (λ text. ExplainsEvent (trying rules.entry rows.now.rows)
         (record { moment = moment; bytes = bytes.now }) text.items) }
     ensures failed { IfErr result (IsUnsaid moment) }
 {
     let alloc = rules.alloc;
     let handled = rules.foresee(rows, moment, bytes)?;
     let mut out = String::new(alloc);
-    match Message::read(alloc, bytes) {
-        Ok(message) => put_message(&mut out, rules, rows, &message, handled.now)?,
-        Err(ReadFault::Memory) => return Err(ServeFault::Memory),
-        Err(fault) => put_unreadable(&mut out, &fault)?,
-    }
+    put_account(&mut out, rules, rows, bytes, handled.now)?;
     let mut text = out.into_bytes();
     let line = event_line(alloc, &handled)?;
     text.extend_from_slice(&line)?;
     Ok(text)
+}
+
+// What is said of a datagram at a moment: the lines about its message, or that it is none.
+fn put_account(
+    out: &mut String,
+    rules: Rules<'_>,
+    rows: &Rows,
+    bytes: &[u8],
+    moment: u64,
+) -> Result<(), AllocError>
+    requires { moment < 2 ^ 40 }
+    ensures { OnOk result ((text : List ℕ)
+        × IsAccount rules.entry.config.now rows.now.rows moment bytes.now text
+        × (string_bytes out.new ≡ string_bytes out.old ++ text)) }
+{
+    match Message::read(rules.alloc, bytes) {
+        Ok(message) => put_message(out, rules, rows, &message, moment),
+        Err(ReadFault::Memory) => Err(AllocError),
+        Err(fault) => put_unreadable(rules.alloc, out, &fault),
+    }
 }
 
 // The lines about a message at a moment.
@@ -50,15 +66,19 @@ fn put_message(
     moment: u64,
 ) -> Result<(), AllocError>
     requires { moment < 2 ^ 40 }
+    ensures { OnOk result ((text : List ℕ)
+        × IsExplanation rules.entry.config.now rows.now.rows message.now moment text
+        × (string_bytes out.new ≡ string_bytes out.old ++ text)) }
 {
     let Rules { alloc, config, .. } = rules;
     let explanation = explain(alloc, config, rows, message, moment)?;
     let scene = Scene {
+        alloc,
         config,
         rows,
         message,
         moment,
         explanation: &explanation,
     };
-    put_explanation(alloc, out, &scene)
+    put_explanation(out, &scene)
 }

@@ -1,80 +1,116 @@
+ghost use Rattle.std.specs.Prelude.{◌≡◌, ◌++◌, OnOk, codes, decimal, string_bytes};
+ghost use Rattle.kd_replay.specs.Text.{address_text, bytes_text};
+ghost use Rattle.kd_server.specs.Leases.{word_of_state};
+ghost use Rattle.kd_options.specs.Kind.{type_number};
+ghost use Rattle.kd_why.specs.Words.{address_word, name_byte, name_text, prefix_text, row_text, truth_word, type_word, unless_zero, yes_word};
+
 use kd_config::Prefix;
 use kd_options::MessageType;
 use kd_rows::{Row, State};
-use std::alloc::AllocError;
+use std::alloc::{AllocError, Global};
 use std::fmt::Write;
-use std::net::Ipv4Addr;
 
 // An address, in host order, or a dash where there is none.
-pub(crate) fn put_address(out: &mut String, address: Option<u32>) -> Result<(), AllocError> {
+pub(crate) fn put_address(out: &mut String, address: Option<u32>) -> Result<(), AllocError>
+    ensures { OnOk result (string_bytes out.new ≡ string_bytes out.old ++ address_word address) }
+{
     match address {
         Some(address) => put_dotted(out, address),
         None => out.push_str("-"),
     }
 }
 
-fn put_dotted(out: &mut String, address: u32) -> Result<(), AllocError> {
-    let address = Ipv4Addr::from(address);
-    write!(out, "{address}")
+// An address, in host order.
+pub(crate) fn put_dotted(out: &mut String, address: u32) -> Result<(), AllocError>
+    ensures { OnOk result (string_bytes out.new ≡ string_bytes out.old ++ address_text address) }
+{
+    let a = address / 0x100_0000;
+    let b = address / 0x1_0000 % 256;
+    let c = address / 0x100 % 256;
+    let d = address % 256;
+    write!(out, "{a}.{b}.{c}.{d}")
 }
 
-// The address of a field of the header: 0.0.0.0 is none.
-pub(crate) fn filled(address: u32) -> Option<u32> {
+// The address in a field of the header: 0.0.0.0 is none.
+pub(crate) fn filled(address: u32) -> Option<u32>
+    ensures { result ≡ unless_zero address }
+{
     if address == 0 { None } else { Some(address) }
 }
 
-pub(crate) fn put_prefix(out: &mut String, prefix: Prefix) -> Result<(), AllocError> {
-    let address = Ipv4Addr::from(prefix.address);
+// A prefix: its address, a slash, its length.
+#[tactic(auto, unfolding(crate::specs::Words::prefix_text))]
+pub(crate) fn put_prefix(out: &mut String, prefix: Prefix) -> Result<(), AllocError>
+    ensures { OnOk result (string_bytes out.new ≡ string_bytes out.old ++ prefix_text prefix) }
+{
+    put_dotted(out, prefix.address)?;
     let length = prefix.length;
-    write!(out, "{address}/{length}")
+    write!(out, "/{length}")
 }
 
 // Bytes in hexadecimal, or a dash where there are none.
-pub(crate) fn put_bytes(out: &mut String, bytes: &[u8]) -> Result<(), AllocError> {
+pub(crate) fn put_bytes(alloc: Global, out: &mut String, bytes: &[u8]) -> Result<(), AllocError>
+    ensures { OnOk result (string_bytes out.new ≡ string_bytes out.old ++ bytes_text bytes.now) }
+{
     if bytes.is_empty() {
         return out.push_str("-");
     }
-    for byte in bytes {
-        put_byte(out, *byte)?;
-    }
-    Ok(())
+    let text = hex::encode(alloc, bytes)?;
+    out.push_str(text.as_str())
 }
 
-fn put_byte(out: &mut String, byte: u8) -> Result<(), AllocError> {
-    write!(out, "{byte:02x}")
-}
-
-// The name of a class, without spaces and line feeds: what is printable ASCII as it is, but for the
-// space and the backslash, and each other byte as \xNN.
-pub(crate) fn put_name(out: &mut String, name: &[u8]) -> Result<(), AllocError> {
+// The name of a class, without spaces and line feeds.
+pub(crate) fn put_name(alloc: Global, out: &mut String, name: &[u8]) -> Result<(), AllocError>
+    ensures { OnOk result (string_bytes out.new ≡ string_bytes out.old ++ name_text name.now) }
+{
     for byte in name {
-        put_name_byte(out, *byte)?;
+        put_name_byte(alloc, out, *byte)?;
     }
     Ok(())
 }
 
-fn put_name_byte(out: &mut String, byte: u8) -> Result<(), AllocError> {
-    if byte.is_ascii_graphic() && byte != b'\\' {
-        out.push(char::from(byte))
-    } else {
-        write!(out, "\\x{byte:02x}")
+// What is printable ASCII as it is, but for the space and the backslash, and each other byte as
+// \xNN.
+#[tactic(auto, unfolding(crate::specs::Words::name_byte))]
+fn put_name_byte(alloc: Global, out: &mut String, byte: u8) -> Result<(), AllocError>
+    ensures { OnOk result (string_bytes out.new ≡ string_bytes out.old ++ name_byte byte) }
+{
+    if b'!' <= byte && byte <= b'~' && byte != b'\\' {
+        return out.push(char::from(byte));
     }
+    out.push_str("\\x")?;
+    put_bytes(alloc, out, &[byte])
 }
 
 // A row, as `kdhcp leases` prints it: address, state, client, and when it was set and ends.
-pub(crate) fn put_row(out: &mut String, row: &Row) -> Result<(), AllocError> {
-    let address = Ipv4Addr::from(row.address);
-    let state = state_word(row.state);
-    write!(out, "{address} {state} ")?;
-    put_bytes(out, row.client.as_slice())?;
+#[tactic(auto, unfolding(crate::specs::Words::row_text))]
+pub(crate) fn put_row(alloc: Global, out: &mut String, row: &Row) -> Result<(), AllocError>
+    ensures { OnOk result (string_bytes out.new ≡ string_bytes out.old ++ row_text row.now) }
+{
+    put_dotted(out, row.address)?;
+    put_state(out, row.state)?;
+    put_bytes(alloc, out, row.client.as_slice())?;
     put_times(out, row.changed, row.ends)
 }
 
-fn put_times(out: &mut String, changed: u64, ends: u64) -> Result<(), AllocError> {
+fn put_state(out: &mut String, state: State) -> Result<(), AllocError>
+    ensures { OnOk result (string_bytes out.new
+        ≡ string_bytes out.old ++ (codes " " ++ word_of_state state ++ codes " ")) }
+{
+    let word = state_word(state);
+    write!(out, " {word} ")
+}
+
+fn put_times(out: &mut String, changed: u64, ends: u64) -> Result<(), AllocError>
+    ensures { OnOk result (string_bytes out.new ≡ string_bytes out.old
+        ++ (codes " changed " ++ decimal changed ++ codes " ends " ++ decimal ends)) }
+{
     write!(out, " changed {changed} ends {ends}")
 }
 
-fn state_word(state: State) -> &'static str {
+fn state_word(state: State) -> &'static str
+    ensures { result.now ≡ word_of_state state }
+{
     match state {
         State::Offered => "Offered",
         State::Bound => "Bound",
@@ -84,7 +120,10 @@ fn state_word(state: State) -> &'static str {
 }
 
 // The name of a message's type (RFC 2131 section 3.1).
-pub(crate) fn type_name(kind: MessageType) -> &'static str {
+#[tactic(auto, unfolding(crate::specs::Words::type_word))]
+pub(crate) fn type_name(kind: MessageType) -> &'static str
+    ensures { result.now ≡ type_word (type_number kind) }
+{
     match kind {
         MessageType::Discover => "DISCOVER",
         MessageType::Offer => "OFFER",
@@ -95,4 +134,18 @@ pub(crate) fn type_name(kind: MessageType) -> &'static str {
         MessageType::Release => "RELEASE",
         MessageType::Inform => "INFORM",
     }
+}
+
+// A truth value.
+pub(crate) fn true_or_false(value: bool) -> &'static str
+    ensures { result.now ≡ truth_word value }
+{
+    if value { "true" } else { "false" }
+}
+
+// An answer to a question.
+pub(crate) fn yes_or_no(holds: bool) -> &'static str
+    ensures { result.now ≡ yes_word holds }
+{
+    if holds { "yes" } else { "no" }
 }

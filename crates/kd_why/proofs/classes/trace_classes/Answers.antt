@@ -1,7 +1,7 @@
 use Rattle.std.proofs.Common.{arith, drop}
 use Rattle.kd_machine.specs.Held.{base_names}
 use Rattle.kd_options.specs.Joined.{value_of}
-use Rattle.kd_why.proofs.Testing.{joined, leads_end, leads_from, leads_on}
+use Rattle.kd_why.proofs.Testing.{few_names, joined, leads_end, leads_from, leads_on}
 use Rattle.kd_why.proofs.classes.trace_classes.Goals as goal
 
 pub loop-i-init : goal.loop-i-init
@@ -23,3 +23,10 @@ returns-clause-held c =
     joined c.args.message.now c.args.classes.now (base_names (value_of 60 c.args.message.now.options)) c.loop-i.outcomes.items c.loop-i.names
     (leads_end c.args.message.now c.args.classes.now (base_names (value_of 60 c.args.message.now.options)) c.loop-i.outcomes.items c.loop-i.names c.loop-i.i
     (omega (arith, c.len-i-end.ensures.count, c.loop-i-test.false)) c.loop-i.invariant)
+
+pub returns-clause-few : goal.returns-clause-few
+returns-clause-few c =
+    few_names c.args.message.now c.args.classes.now (value_of 60 c.args.message.now.options) c.loop-i.outcomes.items c.loop-i.names
+    (leads_end c.args.message.now c.args.classes.now (base_names (value_of 60 c.args.message.now.options)) c.loop-i.outcomes.items c.loop-i.names c.loop-i.i
+    (omega (arith, c.len-i-end.ensures.count, c.loop-i-test.false)) c.loop-i.invariant)
+    c.len-i-end.ensures.ordered.few

@@ -1,0 +1,5 @@
+use Rattle.std.proofs.Common.{append_assoc, rules}
+use Rattle.kd_why.proofs.finding_lines.put_fits.Goals as goal
+
+pub returns : goal.returns
+returns c = ?
