@@ -110,7 +110,7 @@ first_of_both f g i (x ∷ xs) = by (f x) (g x) (first_of_both f g (i + 1) xs) w
   by true false more = sym (ap (at_place (x ∷ xs) i) (first_here i q (from_before g i xs)).0 ∙ at_here x xs i)
   by false true more = sym (ap (at_place (x ∷ xs) i) (first_here i p (from_before f i xs)).1 ∙ at_here x xs i)
   by false false more =
-    more ∙ sym (at_later x xs i (earlier p q) (earlier_from (i + 1) p q (from_start f (i + 1) xs) (from_start g (i + 1) xs)))
+      more ∙ sym (at_later x xs i (earlier p q) (earlier_from (i + 1) p q (from_start f (i + 1) xs) (from_start g (i + 1) xs)))
 
 none_passes : {X : Type 0} (i : ℕ) (xs : List X) → position_from (λ x. false) i xs ≡ None
 none_passes i [] = refl

@@ -23,7 +23,9 @@ pub(crate) fn reserved_address(message: &Message<'_>, subnet: &Subnet) -> Option
 pub fn reservation_of<'a>(message: &Message<'_>, subnet: &'a Subnet) -> Option<&'a Reservation>
     ensures { option_copied result ≡ client_reservation message.now subnet.now }
 {
-    subnet.reservations.of_client(message.mac(), message.option(61))
+    subnet
+        .reservations
+        .of_client(message.mac(), message.option(61))
 }
 
 /// A subnet of the configuration has a reservation of this address, in host order.
