@@ -62,8 +62,8 @@ fn subnet_of_lists(
 {
     let pools = entries_of(alloc, value, at, "pools", 64)?;
     let reservations = entries_of(alloc, value, at, "reservations", 4096)?;
-    let reservations = Reservations::own(alloc, reservations.into_vec())?;
     let options = options_of(alloc, value, at)?;
+    let reservations = Reservations::own(alloc, reservations.into_vec())?;
     Ok(Subnet {
         prefix,
         class,
