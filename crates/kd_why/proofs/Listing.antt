@@ -12,6 +12,14 @@ use Rattle.kd_why.proofs.Testing.{left_at}
 use Rattle.kd_why.specs.FoundLines.{class_line, class_lines, first_outcome, passed_words, subnet_line, subnet_lines, unasked_line}
 use Rattle.kd_why.specs.OutcomeLines.{AreOptionLines}
 
+-- two texts put one after another
+pub two_put : (old a b o1 o2 : List ℕ) → o1 ≡ old ++ a → o2 ≡ o1 ++ b → o2 ≡ old ++ (a ++ b)
+two_put old a b o1 o2 e1 e2 = e2 ∙ ap (λ t. t ++ b) e1 ∙ append_assoc old a b
+
+-- three texts put one after another
+pub three_put : (old a b c o1 o2 o3 : List ℕ) → o1 ≡ old ++ a → o2 ≡ o1 ++ b → o3 ≡ o2 ++ c → o3 ≡ old ++ (a ++ (b ++ c))
+three_put old a b c o1 o2 o3 e1 e2 e3 = two_put old a (b ++ c) o1 o3 e1 (two_put o1 b c o2 o3 e2 e3)
+
 drop_one : {X : Type 0} (xs : List X) (i : ℕ) → drop 1 (drop i xs) ≡ drop (i + 1) xs
 drop_one [] zero = refl
 drop_one [] (suc i) =
@@ -81,6 +89,12 @@ module _ (Line : Item → List ℕ → Type 0) (items : List Item) where
   leads_end text i past lead =
       subst (AreOptionLines Line items) (append-nil text)
       (lead [] (subst (λ (left : List Item). AreOptionLines Line left []) (sym (at_drop_all (λ xs. xs) items i past)) refl))
+
+-- no subnets are left to serve
+pub none_left : (place : ℕ) (names : List (List ℕ)) (left : List Subnet) → length left < 1 → codes "subnet - none serves\n" ≡ subnet_lines place names left
+unfolding subnet_lines
+none_left place names [] h = refl
+none_left place names (s ∷ left) h = absurd (omega (arith, h))
 
 module _ (place : ℕ) (names : List (List ℕ)) (s : Subnet) (subnets : List Subnet) where
   -- the lines of subnets of which the first serves

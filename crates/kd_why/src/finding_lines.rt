@@ -76,7 +76,8 @@ fn put_offer_at(out: &mut String, address: u32) -> Result<(), AllocError>
 {
     out.push_str("check offer: ")?;
     put_dotted(out, address)?;
-    out.push_str(" is given back\n")
+    out.push_str(" is given back\n")?;
+    Ok(())
 }
 
 // The address that a message is about, and what names it.
@@ -233,10 +234,14 @@ pub(crate) fn put_owner(out: &mut String, is_own: bool) -> Result<(), AllocError
 pub(crate) fn put_fits(out: &mut String, checks: &Checks) -> Result<(), AllocError>
     ensures { OnOk result (string_bytes out.new ≡ string_bytes out.old ++ fits_line checks.now) }
 {
-    let fits = yes_or_no(checks.fits);
-    let pool = pool_phrase(checks);
-    let reserved = reserved_phrase(checks);
-    writeln!(out, "check fits: {fits}, {pool}, {reserved}")
+    out.push_str("check fits: ")?;
+    out.push_str(yes_or_no(checks.fits))?;
+    out.push_str(", ")?;
+    out.push_str(pool_phrase(checks))?;
+    out.push_str(", ")?;
+    out.push_str(reserved_phrase(checks))?;
+    out.push_str("\n")?;
+    Ok(())
 }
 
 fn pool_phrase(checks: &Checks) -> &'static str
@@ -265,14 +270,18 @@ fn reserved_phrase(checks: &Checks) -> &'static str
 pub(crate) fn put_free(out: &mut String, is_free: bool) -> Result<(), AllocError>
     ensures { OnOk result (string_bytes out.new ≡ string_bytes out.old ++ free_line is_free) }
 {
-    let word = yes_or_no(is_free);
-    writeln!(out, "check free: {word}")
+    out.push_str("check free: ")?;
+    out.push_str(yes_or_no(is_free))?;
+    out.push_str("\n")?;
+    Ok(())
 }
 
 // Whether the client holds an address.
 pub(crate) fn put_held(out: &mut String, is_held: bool) -> Result<(), AllocError>
     ensures { OnOk result (string_bytes out.new ≡ string_bytes out.old ++ held_line is_held) }
 {
-    let word = yes_or_no(is_held);
-    writeln!(out, "check held: {word}")
+    out.push_str("check held: ")?;
+    out.push_str(yes_or_no(is_held))?;
+    out.push_str("\n")?;
+    Ok(())
 }

@@ -1,8 +1,8 @@
 ghost use Rattle.std.specs.Prelude.{◌≡◌, ◌++◌, OnOk, Some, option_copied, string_bytes};
 ghost use Rattle.kd_lease.specs.Rules.{asking};
 ghost use Rattle.kd_rows.specs.Table.{row_at};
-ghost use Rattle.kd_why.specs.CheckLines.{asked_at, asked_lines, checks_text, known_lines, own_lines, renewing_lines};
-ghost use Rattle.kd_why.specs.CheckLines.{request_lines, row_line, selecting_lines};
+ghost use Rattle.kd_why.specs.CheckLines.{asked_at, asked_lines, checks_text, free_line, known_lines, own_lines, renewing_lines};
+ghost use Rattle.kd_why.specs.CheckLines.{request_lines, row_line, selecting_lines, served_line};
 
 use crate::check_lines::{Matter, is_other};
 use crate::checks::{Checks, subject_of};
@@ -61,12 +61,24 @@ fn put_asked_at(
         matter.now.checks subject) }
 {
     match subject {
-        Some(address) => {
-            put_subnet_found(out, matter.subnet)?;
-            put_checks_of(out, matter, address)
-        }
+        Some(address) => put_served_checks(out, matter, address),
         None => Ok(()),
     }
+}
+
+// The subnet that serves the message, and the checks of an address there.
+fn put_served_checks(
+    out: &mut String,
+    matter: &Matter<'_>,
+    address: u32,
+) -> Result<(), AllocError>
+    ensures { OnOk result (string_bytes out.new ≡ string_bytes out.old
+        ++ (served_line (option_copied matter.now.subnet)
+        ++ checks_text (asking matter.now.question) address matter.now.checks)) }
+{
+    put_subnet_found(out, matter.subnet)?;
+    put_checks_of(out, matter, address)?;
+    Ok(())
 }
 
 fn put_checks_of(out: &mut String, matter: &Matter<'_>, address: u32) -> Result<(), AllocError>
@@ -107,11 +119,21 @@ fn put_selecting(out: &mut String, subject: &Subject<'_>) -> Result<(), AllocErr
 {
     put_fits(out, &subject.checks)?;
     if subject.checks.fits {
-        put_subject_row(out, subject)?;
-        put_free(out, subject.checks.free)
+        put_free_at(out, subject)
     } else {
         Ok(())
     }
+}
+
+fn put_free_at(out: &mut String, subject: &Subject<'_>) -> Result<(), AllocError>
+    ensures { OnOk result (string_bytes out.new ≡ string_bytes out.old
+        ++ (row_line subject.now.question.moment
+        (row_at subject.now.question.rows.now.rows subject.now.address)
+        ++ free_line subject.now.checks.free)) }
+{
+    put_subject_row(out, subject)?;
+    put_free(out, subject.checks.free)?;
+    Ok(())
 }
 
 #[tactic(auto, unfolding(crate::specs::CheckLines::renewing_lines))]

@@ -83,7 +83,8 @@ fn put_sought(
         put_passed(alloc, out, sought.place, subnet)?;
         left = rest;
     }
-    out.push_str("subnet - none serves\n")
+    out.push_str("subnet - none serves\n")?;
+    Ok(())
 }
 
 // The subnet serves the place and the holder of the names.
@@ -205,7 +206,8 @@ fn put_reserved(out: &mut String, reservation: &Reservation) -> Result<(), Alloc
     put_dotted(out, reservation.address)?;
     out.push_str(" by ")?;
     out.push_str(identity_key(&reservation.identity))?;
-    out.push_str("\n")
+    out.push_str("\n")?;
+    Ok(())
 }
 
 // The key of the configuration that names the client.

@@ -77,5 +77,8 @@ fn put_fault(out: &mut String, number: u8, name: &str) -> Result<(), AllocError>
     ensures { OnOk result (string_bytes out.new ≡ string_bytes out.old
         ++ (codes "unreadable: fault " ++ decimal number ++ codes " " ++ name.now ++ codes "\n")) }
 {
-    writeln!(out, "unreadable: fault {number} {name}")
+    write!(out, "unreadable: fault {number} ")?;
+    out.push_str(name)?;
+    out.push_str("\n")?;
+    Ok(())
 }

@@ -80,5 +80,6 @@ fn put_message(
         moment,
         explanation: &explanation,
     };
-    put_explanation(out, &scene)
+    put_explanation(out, &scene)?;
+    Ok(())
 }

@@ -1,5 +1,5 @@
-use Rattle.std.proofs.Common.{append_assoc, rules}
+use Rattle.kd_why.proofs.Listing.{three_put}
 use Rattle.kd_why.proofs.finding_lines.put_offer_at.Goals as goal
 
 pub returns : goal.returns
-returns c = ?
+returns c = three_put _ _ _ _ _ _ _ c.in_ok-push_str.ensures.bytes c.in_ok-put_dotted.ensures c.in_ok-push_str-2.ensures.bytes

@@ -1,5 +1,10 @@
-use Rattle.std.proofs.Common.{append_assoc, rules}
+use Rattle.std.proofs.Common.{append_assoc}
+use Rattle.kd_why.specs.FoundLines.{reserved_line}
 use Rattle.kd_why.proofs.subnet_lines.put_reserved.Goals as goal
 
 pub returns : goal.returns
-returns c = ?
+unfolding reserved_line
+returns c =
+    rw
+    (c.in_ok-push_str-4.ensures.bytes, c.in_ok-push_str-3.ensures.bytes, c.identity_key.ensures, c.in_ok-push_str-2.ensures.bytes, c.in_ok-put_dotted.ensures, c.in_ok-push_str.ensures.bytes)
+    (simp append_assoc)

@@ -1,0 +1,4 @@
+use Rattle.kd_why.proofs.why.why_text.Goals as goal
+
+pub returns-clause-text : goal.returns-clause-text
+returns-clause-text c = ?
