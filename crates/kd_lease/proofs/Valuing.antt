@@ -1,8 +1,8 @@
 -- The values that options give their codes, and the list that has them.
-use Rattle.std.proofs.Common.{◌≡◌, ◌≢◌, ℕ, zero, suc, ◌+◌, ◌<◌, ◌≤◌, ◌==◌, Bor, List, [], ◌∷◌, ◌++◌, true, false, nat_eq, nat_lt, Bool, if◌then◌else◌, Option, None, Some, refl, sym, subst, ap, ◌∙◌, length, slice_get, slice_index_or, take, option_map, ◌⊎◌, inl, inr, arith}
-use Rattle.std.specs.List.{All, find, flat_map, insert, range_with_len}
+use Rattle.std.proofs.Common.{◌≡◌, ◌≢◌, ℕ, zero, suc, ◌+◌, ◌<◌, ◌≤◌, ◌==◌, List, [], ◌∷◌, ◌++◌, true, false, nat_eq, if◌then◌else◌, Option, None, Some, refl, sym, subst, ap, ◌∙◌, length, slice_get, slice_index_or, option_map, ◌⊎◌, inl, inr, arith}
+use Rattle.std.specs.List.{find, flat_map, insert, range_with_len}
 use Rattle.std.specs.Option.{option_or}
-use Rattle.std.proofs.lemmas.Bool.Decides.{eqb_tells, leb_tells}
+use Rattle.std.proofs.lemmas.Bool.Decides.{eqb_tells}
 use Rattle.std.proofs.lemmas.List.Folds.{find-append}
 use Rattle.std.proofs.lemmas.Option.{same_Some, slice_get_within}
 use Rattle.kd_classes.specs.declared.option_list.OptionData.{OptionData}

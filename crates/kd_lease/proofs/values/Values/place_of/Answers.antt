@@ -1,4 +1,4 @@
-use Rattle.std.proofs.Common.{◌≡◌, ◌+◌, suc, zero, refl, sym, ap, ◌∙◌, subst, drop, ◌∷◌, [], length, arith}
+use Rattle.std.proofs.Common.{◌≡◌, ◌+◌, suc, refl, sym, ap, ◌∙◌, subst, drop, ◌∷◌, arith}
 use Rattle.std.proofs.lemmas.List.{drop_more, drop_all}
 use Rattle.kd_lease.specs.Valuing.{IsPlaceFor}
 use Rattle.kd_lease.proofs.values.Values.place_of.Goals as goal

@@ -1,6 +1,4 @@
-use Rattle.std.proofs.Common.{◌≡◌, ◌≢◌, ℕ, ◌<◌, ◌⊎◌, ◌≤◌, ◌++◌, ◌∷◌, [], inl, inr, refl, sym, ap, ◌∙◌, subst, arith, true, List}
-use Rattle.std.specs.List.{insert}
-use Rattle.kd_classes.specs.declared.option_list.OptionData.{OptionData}
+use Rattle.std.proofs.Common.{◌≡◌, ◌≢◌, ℕ, ◌⊎◌, ◌≤◌, ◌++◌, ◌∷◌, [], inl, inr, refl, sym, subst, arith}
 use Rattle.kd_lease.specs.Valuing.{HasValues}
 use Rattle.kd_wire.specs.Area.{IsCode}
 use Rattle.kd_lease.specs.declared.values.Coded.{Coded}
