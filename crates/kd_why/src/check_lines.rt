@@ -119,11 +119,7 @@ fn put_by_type(out: &mut String, matter: &Matter<'_>) -> Result<(), AllocError>
 
 // The checks of a DECLINE or a RELEASE (RFC 2131 sections 4.3.3 and 4.3.4).
 #[tactic(auto, unfolding(crate::specs::CheckLines::giving_up_lines))]
-fn put_giving_up(
-    alloc: Global,
-    out: &mut String,
-    question: &Question<'_>,
-) -> Result<(), AllocError>
+fn put_giving_up(alloc: Global, out: &mut String, question: &Question<'_>) -> Result<(), AllocError>
     ensures { OnOk result (string_bytes out.new
         ≡ string_bytes out.old ++ giving_up_lines (asking question.now)) }
 {

@@ -129,10 +129,7 @@ fn source_of_request(message: &Message<'_>) -> &'static str
 }
 
 // The subnet that serves the message.
-pub(crate) fn put_subnet_found(
-    out: &mut String,
-    subnet: Option<&Subnet>,
-) -> Result<(), AllocError>
+pub(crate) fn put_subnet_found(out: &mut String, subnet: Option<&Subnet>) -> Result<(), AllocError>
     ensures { OnOk result (string_bytes out.new
         ≡ string_bytes out.old ++ served_line (option_copied subnet.entry)) }
 {
@@ -202,12 +199,7 @@ fn put_row_of(
     }
 }
 
-fn put_row_at(
-    alloc: Global,
-    out: &mut String,
-    row: &Row,
-    moment: u64,
-) -> Result<(), AllocError>
+fn put_row_at(alloc: Global, out: &mut String, row: &Row, moment: u64) -> Result<(), AllocError>
     ensures { OnOk result (string_bytes out.new
         ≡ string_bytes out.old ++ row_words moment (Some row.now)) }
 {

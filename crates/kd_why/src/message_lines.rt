@@ -53,11 +53,7 @@ fn put_type(out: &mut String, message: &Message<'_>) -> Result<(), AllocError>
     write!(out, "message {name} mac ")
 }
 
-fn put_identity(
-    alloc: Global,
-    out: &mut String,
-    client: &Option<Bytes>,
-) -> Result<(), AllocError>
+fn put_identity(alloc: Global, out: &mut String, client: &Option<Bytes>) -> Result<(), AllocError>
     ensures { OnOk result (string_bytes out.new ≡ string_bytes out.old ++ bytes_word client.now) }
 {
     match client {

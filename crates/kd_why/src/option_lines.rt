@@ -203,11 +203,7 @@ fn put_origin(
     }
 }
 
-fn put_class(
-    alloc: Global,
-    out: &mut String,
-    class: Option<&ClassDef>,
-) -> Result<(), AllocError>
+fn put_class(alloc: Global, out: &mut String, class: Option<&ClassDef>) -> Result<(), AllocError>
     ensures { OnOk result (string_bytes out.new
         ≡ string_bytes out.old ++ class_name (option_copied class.entry)) }
 {

@@ -172,11 +172,7 @@ fn put_why_passed(
     }
 }
 
-fn put_class_name(
-    alloc: Global,
-    out: &mut String,
-    class: &Option<Bytes>,
-) -> Result<(), AllocError>
+fn put_class_name(alloc: Global, out: &mut String, class: &Option<Bytes>) -> Result<(), AllocError>
     ensures { OnOk result (string_bytes out.new ≡ string_bytes out.old ++ class_word class.now) }
 {
     match class {

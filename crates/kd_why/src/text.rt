@@ -54,11 +54,7 @@ fn put_found(out: &mut String, scene: &Scene<'_>) -> Result<(), AllocError>
     put_classes(out, scene)?;
     put_place(out, scene)?;
     put_subnets(out, scene)?;
-    put_reservation(
-        out,
-        scene.explanation.subnet,
-        scene.explanation.reservation,
-    )?;
+    put_reservation(out, scene.explanation.subnet, scene.explanation.reservation)?;
     put_chosen(out, scene)
 }
 
