@@ -1,11 +1,11 @@
 -- Which class gives an option, and which origin is the first that has it.
-use Rattle.std.proofs.Common.{◌≡◌, ℕ, zero, suc, ◌+◌, ◌<◌, ◌≤◌, arith, Bool, true, false, List, [], ◌∷◌, ◌⊎◌, inl, inr, length, drop, take, Option, Some, None, refl, sym, ap, ◌∙◌, subst, ⊎_elim}
+use Rattle.std.proofs.Common.{◌≡◌, ℕ, zero, suc, ◌+◌, ◌<◌, ◌≤◌, arith, Bool, true, false, List, [], ◌∷◌, ◌⊎◌, inl, inr, length, take, Some, None, refl, sym, ap, ◌∙◌, subst, ⊎_elim}
 use Rattle.std.specs.Prelude.{slice_get}
 use Rattle.std.proofs.lemmas.List.{at_drop_all}
 use Rattle.kd_classes.specs.declared.definition.ClassDef.{ClassDef}
 use Rattle.kd_config.specs.Configuration.{Configuration}
 use Rattle.kd_config.specs.declared.subnet.Subnet.{Subnet}
-use Rattle.kd_lease.specs.Given.{class_options, options_of_pool}
+use Rattle.kd_lease.specs.Given.{class_options}
 use Rattle.kd_why.proofs.Testing.{left_at}
 use Rattle.kd_why.specs.Origins.{IsOrigin, class_has, has_code, options_from, origin_place}
 use Rattle.kd_why.specs.declared.origins.Origin.{Origin}

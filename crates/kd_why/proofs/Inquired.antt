@@ -1,12 +1,12 @@
 -- A replay up to a line, over a server that explains the event of that line.
 use Rattle.std.specs.Prelude.{◌⊎◌}
-use Rattle.std.proofs.Common.{◌≡◌, ℕ, zero, suc, ◌+◌, ◌<◌, ◌≤◌, arith, List, [], ◌∷◌, ◌++◌, length, Option, Some, None, Ok, Err, Result, refl, sym, ap, ◌∙◌, subst, inl, inr, true≢false, is_some}
+use Rattle.std.proofs.Common.{◌≡◌, ℕ, suc, ◌+◌, ◌<◌, arith, List, [], ◌∷◌, ◌++◌, length, Option, Some, None, Ok, Err, Result, refl, sym, ap, ◌∙◌, subst, inl, inr, true≢false, is_some}
 use Rattle.std.proofs.lemmas.List.{length-append}
 use Rattle.kd_event.specs.declared.event.Event.{Event}
 use Rattle.kd_event.specs.declared.event.Handled.{Handled}
 use Rattle.kd_replay.specs.History.{History}
 use Rattle.kd_replay.specs.Lines.{lines_of}
-use Rattle.kd_replay.specs.Replay.{AreEvents, Did, Ends, FirstLineIs, IsNoEvent, LineFails, Replays, Stops, most_lines}
+use Rattle.kd_replay.specs.Replay.{AreEvents, Did, Ends, FirstLineIs, IsNoEvent, LineFails, Replays, most_lines}
 use Rattle.kd_replay.specs.declared.fault.ReplayFault.{ReplayFault}
 use Rattle.kd_replay.specs.declared.fault.ReplayFault.TheVariants as faults
 use Rattle.kd_replay.specs.declared.fault.ServeFault.{ServeFault}

@@ -67,11 +67,7 @@ fn put_asked_at(
 }
 
 // The subnet that serves the message, and the checks of an address there.
-fn put_served_checks(
-    out: &mut String,
-    matter: &Matter<'_>,
-    address: u32,
-) -> Result<(), AllocError>
+fn put_served_checks(out: &mut String, matter: &Matter<'_>, address: u32) -> Result<(), AllocError>
     ensures { OnOk result (string_bytes out.new ≡ string_bytes out.old
         ++ (served_line (option_copied matter.now.subnet)
         ++ checks_text (asking matter.now.question) address matter.now.checks)) }

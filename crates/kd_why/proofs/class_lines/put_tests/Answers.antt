@@ -1,6 +1,5 @@
-use Rattle.std.proofs.Common.{◌++◌, ap, arith, sym, ◌∙◌}
+use Rattle.std.proofs.Common.{arith, ◌∙◌}
 use Rattle.std.specs.Prelude.{string_bytes}
-use Rattle.kd_why.specs.FoundLines.{class_line}
 use Rattle.kd_why.proofs.Listing.{class_on, classes_end}
 use Rattle.kd_why.proofs.class_lines.put_tests.Goals as goal
 

@@ -1,4 +1,4 @@
-use Rattle.std.proofs.Common.{arith, drop}
+use Rattle.std.proofs.Common.{arith}
 use Rattle.kd_machine.specs.Held.{base_names}
 use Rattle.kd_options.specs.Joined.{value_of}
 use Rattle.kd_why.proofs.Testing.{few_names, joined, leads_end, leads_from, leads_on}
