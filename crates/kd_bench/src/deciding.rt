@@ -9,10 +9,10 @@ use kd_config::{Config, ConfigFault};
 use kd_lease::{Answer, PlanKind, decide};
 use kd_options::Message;
 use kd_rows::Rows;
-use message::{discover, request};
+use message::{discover, renewal, request};
 use settings::{Place, config_of};
 use std::alloc::{AllocError, Global};
-use table::{MOMENT, address_of, full_table, gap_table, past_table};
+use table::{MOMENT, address_of, full_table, gap_table, past_table, single_table};
 
 // How often the work gave what it wants, of so many rounds, under a configuration with so many
 // reservations.
@@ -30,12 +30,15 @@ pub(crate) fn worked(
     let rows = match work {
         "full" => full_table(alloc)?,
         "past" => past_table(alloc)?,
+        "leases" => single_table(alloc)?,
         _ => gap_table(alloc)?,
     };
     let done = match work {
         "read" => read_again(alloc, rounds),
         "known" => again(alloc, &config, &rows, rounds, Asks::Known)?,
         "request" => again(alloc, &config, &rows, rounds, Asks::Lease)?,
+        "renewal" => again(alloc, &config, &rows, rounds, Asks::Renewal)?,
+        "leases" => again(alloc, &config, &rows, rounds, Asks::OfMany)?,
         _ => again(alloc, &config, &rows, rounds, Asks::New)?,
     };
     Ok(done)
@@ -50,6 +53,10 @@ enum Asks {
     Known,
     // The REQUEST for a lease.
     Lease,
+    // The renewal of the one lease of a client.
+    Renewal,
+    // The renewal of a lease by the client 0, which has them all.
+    OfMany,
 }
 
 // The message of a round.
@@ -59,6 +66,8 @@ fn asked(asks: Asks, round: u32) -> [u8; 300] {
         Asks::New => discover(number + 100_000),
         Asks::Known => discover(number),
         Asks::Lease => request(number, address_of(number)),
+        Asks::Renewal => renewal(number, address_of(number)),
+        Asks::OfMany => renewal(0, address_of(number)),
     }
 }
 

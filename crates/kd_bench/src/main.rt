@@ -14,7 +14,8 @@
 //! `kd_bench new 5000 1000000` answers a million DISCOVERs of clients without a row, under a
 //! configuration of 5,000 reservations, over a table of 60,000 rows in a pool of 65,536 addresses
 //! with gaps. So do `read`, which reads the message alone; `known`, a DISCOVER of a client with a
-//! lease; `request`, the REQUEST for its lease; `kept`, a DISCOVER of a client without a row where
+//! lease; `request`, the REQUEST for its lease; `renewal`, the renewal of its lease; `leases`, that
+//! of a client that has all 60,000; `kept`, a DISCOVER of a client without a row where
 //! the first gaps of the pool are the reserved addresses; `full`, the same in a pool that has a row
 //! at each address; and `past`, in a full pool whose rows have not ended, though an earlier one
 //! had. It prints how often there was a reply: never in the last two.
@@ -34,10 +35,10 @@ use std::alloc::{AllocError, Global};
 use std::io;
 
 // The works over datagrams, token files, programs and class tests, over a table, and of deciding.
-const WORKS: [&str; 23] = [
+const WORKS: [&str; 25] = [
     "discover", "pieces", "file", "verify", "short", "long", "digits", "strings", "members",
     "choices", "open", "client", "gap", "renew", "add", "get", "read", "new", "known", "request",
-    "kept", "full", "past",
+    "renewal", "leases", "kept", "full", "past",
 ];
 
 fn main(rt: HostRuntime) -> io::Result<()> {
@@ -78,7 +79,7 @@ fn worked(
         "open" | "client" | "gap" | "renew" | "add" | "get" => {
             Ok(rows::worked(alloc, work, size, rounds)?)
         }
-        "read" | "new" | "known" | "request" | "kept" | "full" | "past" => {
+        "read" | "new" | "known" | "request" | "renewal" | "leases" | "kept" | "full" | "past" => {
             deciding::worked(alloc, work, size, rounds)
         }
         _ => Ok(again(alloc, work, first.unwrap_or(10))?),

@@ -30,6 +30,19 @@ pub(crate) fn request(number: u32, address: u32) -> [u8; 300] {
     bytes
 }
 
+// A REQUEST of the client with a number to renew its lease of an address, its ciaddr.
+pub(crate) fn renewal(number: u32, address: u32) -> [u8; 300] {
+    let mut bytes = head(number);
+    let [a, b, c, d] = address.to_be_bytes();
+    bytes[12] = a;
+    bytes[13] = b;
+    bytes[14] = c;
+    bytes[15] = d;
+    bytes[242] = 3;
+    put_wishes(&mut bytes, 252);
+    bytes
+}
+
 // The header of a client's datagram, the cookie, the place of its type, and its identifier.
 fn head(number: u32) -> [u8; 300] {
     let mut bytes = [0; 300];

@@ -48,11 +48,23 @@ fn table(alloc: Global, list: Vec<Row>) -> Result<Rows, AllocError> {
     }
 }
 
-// 60,000 rows in the pool, each twelfth address of which has none.
+// 60,000 rows in the pool, each twelfth address of which has none, each of a client of its own.
 pub(crate) fn gap_table(alloc: Global) -> Result<Rows, AllocError> {
+    leased_table(alloc, 60_000)
+}
+
+// The same addresses, all leased to the client 0.
+pub(crate) fn single_table(alloc: Global) -> Result<Rows, AllocError> {
+    leased_table(alloc, 1)
+}
+
+// The same addresses, leased to so many clients in turn.
+fn leased_table(alloc: Global, clients: u32) -> Result<Rows, AllocError>
+    requires { 0 < clients }
+{
     let mut list = Vec::new(alloc);
-    for number in 0..60_000 {
-        list.push(row(alloc, address_of(number), number, 5000)?)?;
+    for number in 0..60_000u32 {
+        list.push(row(alloc, address_of(number), number % clients, 5000)?)?;
     }
     table(alloc, list)
 }
