@@ -1,11 +1,12 @@
 /* flood: DHCP messages at a steady rate from one Ethernet port, as a host sends them that means harm.
  *
- *     flood DEVICE KIND RATE SECONDS SERVER
+ *     flood DEVICE KIND RATE SECONDS SERVER FIRST
  *
  * Each message has a random hardware address, in the frame too. KIND is what is sent:
  *   discover  DISCOVERs, broadcast from 0.0.0.0
  *   spoofed   DISCOVERs, to the server's address, from random addresses of its /8
- *   request   REQUESTs for random addresses of its /8, to the server's address, from these addresses
+ *   renew     REQUESTs that renew random addresses of its /8, to the server's address, from these addresses
+ *   lease     REQUESTs that accept an offer of one of the 1,024 addresses from FIRST on, broadcast from 0.0.0.0
  *   relay     DISCOVERs, to the server's address, from DEVICE's address, which is that of their relay (giaddr)
  * It prints how many it sent. DEVICE has to be in a network namespace that was made for it: tools/floods starts it so.
  */
@@ -25,15 +26,15 @@
 #include <time.h>
 #include <unistd.h>
 
-enum kind { DISCOVER, SPOOFED, REQUEST, RELAY, KINDS };
-static const char *names[KINDS] = {"discover", "spoofed", "request", "relay"};
+enum kind { DISCOVER, SPOOFED, RENEW, LEASE, RELAY, KINDS };
+static const char *names[KINDS] = {"discover", "spoofed", "renew", "lease", "relay"};
 
 enum { ETHERNET = 14, IP = 20, UDP = 8, DHCP = 300, FRAME = ETHERNET + IP + UDP + DHCP };
 
 static uint64_t state;
 static enum kind kind;
 static uint8_t to_hardware[6] = {255, 255, 255, 255, 255, 255};
-static uint32_t from = 0, to = 0xffffffffu, server;
+static uint32_t from = 0, to = 0xffffffffu, server, first;
 
 static void die(const char *what)
 {
@@ -76,11 +77,26 @@ static void put_header(uint8_t *ip, uint32_t sender)
     put16(ip + 10, ~sum & 0xffff);
 }
 
+/* The message type; for LEASE the server identifier and the requested address, too. */
+static void put_options(uint8_t *at)
+{
+    memcpy(at, kind == RENEW || kind == LEASE ? "\x35\x01\x03" : "\x35\x01\x01", 3);
+    at += 3;
+    if (kind == LEASE) {
+        memcpy(at, "\x36\x04", 2);
+        put32(at + 2, server);
+        memcpy(at + 6, "\x32\x04", 2);
+        put32(at + 8, first + (uint32_t)(any() & 1023));
+        at += 12;
+    }
+    *at = 255;
+}
+
 static void put_message(uint8_t *frame)
 {
     uint8_t *ip = frame + ETHERNET, *udp = ip + IP, *dhcp = udp + UDP;
     uint64_t chance = any();
-    uint32_t sender = kind == SPOOFED || kind == REQUEST ? (server & 0xff000000u) | (uint32_t)(any() & 0xffffffu) : from;
+    uint32_t sender = kind == SPOOFED || kind == RENEW ? (server & 0xff000000u) | (uint32_t)(any() & 0xffffffu) : from;
     memset(frame, 0, FRAME);
     memcpy(frame, to_hardware, 6);
     frame[6] = 2;
@@ -94,11 +110,11 @@ static void put_message(uint8_t *frame)
     dhcp[1] = 1;
     dhcp[2] = 6;
     put32(dhcp + 4, (uint32_t)any());
-    if (kind == REQUEST) put32(dhcp + 12, sender);
+    if (kind == RENEW) put32(dhcp + 12, sender);
     if (kind == RELAY) put32(dhcp + 24, from);
     memcpy(dhcp + 28, frame + 6, 6);
     put32(dhcp + 236, 0x63825363);
-    memcpy(dhcp + 240, kind == REQUEST ? "\x35\x01\x03\xff" : "\x35\x01\x01\xff", 4);
+    put_options(dhcp + 240);
 }
 
 /* The hardware address of the server, of which the ARP table knows after one datagram to it. */
@@ -131,14 +147,15 @@ static uint32_t own_address(int fd, const char *device)
 
 static void read_arguments(int count, char **words)
 {
-    struct in_addr address;
-    for (kind = 0; count == 6 && kind < KINDS && strcmp(words[2], names[kind]); kind++) {
+    struct in_addr address, pool;
+    for (kind = 0; count == 7 && kind < KINDS && strcmp(words[2], names[kind]); kind++) {
     }
-    if (count != 6 || kind == KINDS || inet_pton(AF_INET, words[5], &address) != 1) {
-        fprintf(stderr, "usage: flood DEVICE discover|spoofed|request|relay RATE SECONDS SERVER\n");
+    if (count != 7 || kind == KINDS || !inet_aton(words[5], &address) || !inet_aton(words[6], &pool)) {
+        fprintf(stderr, "usage: flood DEVICE discover|spoofed|renew|lease|relay RATE SECONDS SERVER FIRST\n");
         exit(2);
     }
     server = ntohl(address.s_addr);
+    first = ntohl(pool.s_addr);
 }
 
 /* Sends what is due each millisecond, and what was late with it. */
@@ -172,7 +189,7 @@ int main(int count, char **words)
     struct timespec now;
     clock_gettime(CLOCK_REALTIME, &now);
     state = (uint64_t)now.tv_nsec << 32 ^ (uint64_t)now.tv_sec;
-    if (kind != DISCOVER) {
+    if (kind != DISCOVER && kind != LEASE) {
         find_server(words[1]);
         to = server;
     }
