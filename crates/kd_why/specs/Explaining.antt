@@ -48,7 +48,8 @@ AreCheckedIn q None found = found ≡ None
 AreCheckedIn q (Some s) found = AreCheckedAt q s (subject_in q.message) found
 
 -- the same for a client, where the message has one
-abbrev pub AreCheckedFor : Option (List ℕ) → (List ℕ → Asking) → Option Subnet → Option Checks → Type 0
+abbrev pub AreCheckedFor : Option (List ℕ) → (List ℕ → Asking) → Option Subnet → Option Checks
+    → Type 0
 AreCheckedFor None asks s found = found ≡ None
 AreCheckedFor (Some client) asks s found = AreCheckedIn (asks client) s found
 

@@ -87,8 +87,8 @@ room_word None = codes ": no room\n"
 room_word (Some value) = codes "\n"
 
 -- the line of an option of a reply that reads like this as it is written, at an address
-pub record IsOptionLine (config : Configuration) (e : Explanation) (a : ℕ) (reply : Seen) (item : Item)
-    (line : List ℕ) : Type 0 where
+pub record IsOptionLine (config : Configuration) (e : Explanation) (a : ℕ) (reply : Seen)
+    (item : Item) (line : List ℕ) : Type 0 where
   pub source : List ℕ
   pub from : IsSourceWord config e.names (option_copied e.subnet) a item.obligatory item.code source
   pub is : line
