@@ -10,8 +10,8 @@ pub record IsOwnFrame (log : List ℕ) (at : ℕ) : Type 0 where
   pub salts : part log (at + 8) 8 ≡ part log 16 8
 
 -- the place behind the last frame that a start takes of a log with pages of this size
-abbrev pub IsEnd : List ℕ → ℕ → ℕ → Type 0
-IsEnd log size at = (k : ℕ) × Replays size log k × (at ≡ frame_at size k)
+abbrev pub IsEndOfFrames : List ℕ → ℕ → ℕ → Type 0
+IsEndOfFrames log size at = (k : ℕ) × Replays size log k × (at ≡ frame_at size k)
 
 -- a file is a log whose header names no size of a page
 abbrev pub NamesNoSize : List ℕ → Type 0
@@ -21,7 +21,7 @@ NamesNoSize log = ¬ IsIgnored log → ¬ IsPageSize (be32 log 8)
 -- the frames end that it takes
 abbrev pub AreLeftOut : List ℕ → Option ℕ → Type 0
 AreLeftOut log None =
-    NamesNoSize log ⊎ ((size at : ℕ) × IsEnd log size at × (¬ IsOwnFrame log at))
+    NamesNoSize log ⊎ ((size at : ℕ) × IsEndOfFrames log size at × (¬ IsOwnFrame log at))
 AreLeftOut log (Some count) =
-    (size at : ℕ) × IsLogFor size log × IsEnd log size at × IsOwnFrame log at
+    (size at : ℕ) × IsLogFor size log × IsEndOfFrames log size at × IsOwnFrame log at
     × (count ≡ length log - at)

@@ -10,7 +10,7 @@ use Rattle.kd_lease.specs.Client.{wants_option}
 use Rattle.kd_lease.specs.Given.{configured, configured_at, configured_options, value_in}
 use Rattle.kd_options.specs.Message.{Seen}
 use Rattle.kd_lease.specs.declared.values.Coded.{Coded}
-use Rattle.kd_lease.specs.Valuing.{HasValues, HaveCodes, IsNext, IsPlaceFor, RiseAbove, value_at}
+use Rattle.kd_lease.specs.Valuing.{HasValues, HaveCodes, HasOtherCode, IsCodePlace, RiseAbove, value_at}
 use Rattle.kd_wire.specs.Area.{IsCode}
 
 is_other : (a b : ℕ) → a ≢ b → nat_eq a b ≡ false
@@ -60,7 +60,7 @@ none_above (x ∷ more) b c low rise =
     let last : c ≤ x.code = omega (arith, low, rise.0) in
     rw other (none_above more x.code c last rise.1)
 
-pub rise_insert : (place : ℕ) (list : List Coded) (e : Coded) (b : ℕ) → b < e.code → RiseAbove b list → IsPlaceFor e.code list place → IsNext e.code list place
+pub rise_insert : (place : ℕ) (list : List Coded) (e : Coded) (b : ℕ) → b < e.code → RiseAbove b list → IsCodePlace e.code list place → HasOtherCode e.code list place
     → RiseAbove b (insert list place e)
 rise_insert zero [] e b less rise at next = (less, tt)
 rise_insert zero (x ∷ more) e b less rise at next = (less, (above_place x.code e.code at (next x refl), rise.1))
@@ -72,12 +72,12 @@ codes_insert zero list e is have = (is, have)
 codes_insert (suc place) [] e is have = (is, tt)
 codes_insert (suc place) (x ∷ more) e is have = (have.0, codes_insert place more e is have.1)
 
-found_new : (place : ℕ) (list : List Coded) (e : Coded) → IsPlaceFor e.code list place → value_at e.code (insert list place e) ≡ Some e.value.now
+found_new : (place : ℕ) (list : List Coded) (e : Coded) → IsCodePlace e.code list place → value_at e.code (insert list place e) ≡ Some e.value.now
 found_new zero list e at = rw (is_same e.code) refl
 found_new (suc place) [] e at = rw (is_same e.code) refl
 found_new (suc place) (x ∷ more) e at = rw (is_other x.code e.code (less_other x.code e.code at.0)) (found_new place more e at.1)
 
-none_yet : (place : ℕ) (list : List Coded) (e : Coded) (b : ℕ) → RiseAbove b list → IsPlaceFor e.code list place → IsNext e.code list place → value_at e.code list ≡ None
+none_yet : (place : ℕ) (list : List Coded) (e : Coded) (b : ℕ) → RiseAbove b list → IsCodePlace e.code list place → HasOtherCode e.code list place → value_at e.code list ≡ None
 none_yet place [] e b rise at next = refl
 none_yet zero (x ∷ more) e b rise at next = rw (is_other x.code e.code (next x refl)) (none_above more x.code e.code at rise.1)
 none_yet (suc place) (x ∷ more) e b rise at next =
@@ -137,7 +137,7 @@ put_known place list x options o at eq is h = same_values list options o h (λ k
 
 -- an option whose code has no value yet
 pub put_new : (place : ℕ) (list : List Coded) (e : Coded) (options : List OptionData) (o : OptionData) → e.code ≡ o.code → e.value.now ≡ o.value → IsCode e.code
-    → IsPlaceFor e.code list place → IsNext e.code list place → HasValues list options → HasValues (insert list place e) (options ++ o ∷ [])
+    → IsCodePlace e.code list place → HasOtherCode e.code list place → HasValues list options → HasValues (insert list place e) (options ++ o ∷ [])
 put_new place list e options o code value is at next h =
     record {
       rise = rise_insert place list e 0 is.0 h.rise at next;

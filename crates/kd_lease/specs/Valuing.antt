@@ -17,14 +17,14 @@ RiseAbove code [] = Unit {0}
 RiseAbove code (entry ∷ more) = (code < entry.code) × RiseAbove entry.code more
 
 -- so many entries at the front of a list have codes below this one, and no others
-abbrev pub IsPlaceFor : ℕ → List Coded → ℕ → Type 0
-IsPlaceFor code [] place = place ≡ 0
-IsPlaceFor code (entry ∷ more) zero = code ≤ entry.code
-IsPlaceFor code (entry ∷ more) (suc place) = (entry.code < code) × IsPlaceFor code more place
+abbrev pub IsCodePlace : ℕ → List Coded → ℕ → Type 0
+IsCodePlace code [] place = place ≡ 0
+IsCodePlace code (entry ∷ more) zero = code ≤ entry.code
+IsCodePlace code (entry ∷ more) (suc place) = (entry.code < code) × IsCodePlace code more place
 
 -- the entry at a place of a list, if there is one, has another code than this one
-abbrev pub IsNext : ℕ → List Coded → ℕ → Type 0
-IsNext code list place = (entry : Coded) → slice_get list place ≡ Some entry → entry.code ≢ code
+abbrev pub HasOtherCode : ℕ → List Coded → ℕ → Type 0
+HasOtherCode code list place = (entry : Coded) → slice_get list place ≡ Some entry → entry.code ≢ code
 
 -- entries have codes of options
 abbrev pub HaveCodes : List Coded → Type 0

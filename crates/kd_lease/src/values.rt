@@ -1,7 +1,7 @@
 ghost use Rattle.std.specs.Prelude.{◌≡◌, ◌≤◌, ◌++◌, ◌∷◌, [], IsTrue, List, OnOk, Some, false, slice_get};
 ghost use Rattle.std.specs.Vec.{vec_len};
 ghost use Rattle.kd_classes.specs.declared.option_list.OptionData.{OptionData};
-ghost use Rattle.kd_lease.specs.Valuing.{HasValues, IsNext, IsPlaceFor};
+ghost use Rattle.kd_lease.specs.Valuing.{HasValues, HasOtherCode, IsCodePlace};
 ghost use Rattle.kd_lease.specs.declared.values.Coded.{Coded};
 
 use kd_classes::OptionData;
@@ -52,7 +52,7 @@ impl<'a> Values<'a> {
     fn has_at(&self, place: usize, code: u8) -> bool
         ensures there { IsTrue result → (entry : Coded)
             × (slice_get self.now.list.items place ≡ Some entry) × (entry.code ≡ code) }
-        ensures next { result ≡ false → IsNext code self.now.list.items place }
+        ensures next { result ≡ false → HasOtherCode code self.now.list.items place }
     {
         match self.list.get(place) {
             Some(entry) => entry.code == code,
@@ -73,7 +73,7 @@ impl<'a> Values<'a> {
 
     // How many entries at the front have lesser codes.
     fn place_of(&self, code: u8) -> usize
-        ensures place { IsPlaceFor code self.now.list.items result }
+        ensures place { IsCodePlace code self.now.list.items result }
         ensures within { result ≤ vec_len self.now.list }
     {
         for place in 0..self.list.len() {

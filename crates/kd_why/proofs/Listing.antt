@@ -9,7 +9,7 @@ use Rattle.kd_lease.specs.SubnetOf.{served_by}
 use Rattle.kd_machine.specs.declared.run.Outcome.{Outcome}
 use Rattle.kd_options.specs.declared.item.Item.{Item}
 use Rattle.kd_why.proofs.Testing.{left_at}
-use Rattle.kd_why.specs.FoundLines.{class_line, class_lines, first_outcome, passed_words, subnet_line, subnet_lines, unasked_line}
+use Rattle.kd_why.specs.FoundLines.{tested_line, class_lines, first_outcome, passed_words, sought_line, sought_lines, unasked_line}
 use Rattle.kd_why.specs.OutcomeLines.{AreOptionLines}
 
 -- two texts put one after another
@@ -33,19 +33,19 @@ drop_one (x ∷ xs) (suc i) =
 -- the lines of classes from an index on: that of the class there, and those from the next
 class_at : (classes : List ClassDef) (outcomes : List (Option Outcome)) (i : ℕ) (class : ClassDef) (outcome : Option Outcome) → Some class ≡ slice_get classes i
     → outcome ≡ first_outcome (drop i outcomes)
-    → class_lines (drop i classes) (drop i outcomes) ≡ class_line class outcome ++ class_lines (drop (i + 1) classes) (drop (i + 1) outcomes)
+    → class_lines (drop i classes) (drop i outcomes) ≡ tested_line class outcome ++ class_lines (drop (i + 1) classes) (drop (i + 1) outcomes)
 unfolding class_lines
 class_at classes outcomes i class outcome at is =
     ap (λ cs. class_lines cs (drop i outcomes)) (left_at classes i class (sym at))
-    ∙ ap₂ (λ o os. class_line class o ++ class_lines (drop (i + 1) classes) os) (sym is) (drop_one outcomes i)
+    ∙ ap₂ (λ o os. tested_line class o ++ class_lines (drop (i + 1) classes) os) (sym is) (drop_one outcomes i)
 
 -- so a text with the line of the class there
 pub class_on : (old new : List ℕ) (classes : List ClassDef) (outcomes : List (Option Outcome)) (i : ℕ) (class : ClassDef) (outcome : Option Outcome) → Some class ≡ slice_get classes i
-    → outcome ≡ first_outcome (drop i outcomes) → new ≡ old ++ class_line class outcome
+    → outcome ≡ first_outcome (drop i outcomes) → new ≡ old ++ tested_line class outcome
     → new ++ class_lines (drop (i + 1) classes) (drop (i + 1) outcomes) ≡ old ++ class_lines (drop i classes) (drop i outcomes)
 class_on old new classes outcomes i class outcome at is put =
     ap (λ t. t ++ class_lines (drop (i + 1) classes) (drop (i + 1) outcomes)) put
-    ∙ append_assoc old (class_line class outcome) (class_lines (drop (i + 1) classes) (drop (i + 1) outcomes))
+    ∙ append_assoc old (tested_line class outcome) (class_lines (drop (i + 1) classes) (drop (i + 1) outcomes))
     ∙ ap (λ t. old ++ t) (sym (class_at classes outcomes i class outcome at is))
 
 -- behind the last class there is nothing to add
@@ -91,18 +91,18 @@ module _ (Line : Item → List ℕ → Type 0) (items : List Item) where
       (lead [] (subst (λ (left : List Item). AreOptionLines Line left []) (sym (at_drop_all (λ xs. xs) items i past)) refl))
 
 -- no subnets are left to serve
-pub none_left : (place : ℕ) (names : List (List ℕ)) (left : List Subnet) → length left < 1 → codes "subnet - none serves\n" ≡ subnet_lines place names left
-unfolding subnet_lines
+pub none_left : (place : ℕ) (names : List (List ℕ)) (left : List Subnet) → length left < 1 → codes "subnet - none serves\n" ≡ sought_lines place names left
+unfolding sought_lines
 none_left place names [] h = refl
 none_left place names (s ∷ left) h = absurd (omega (arith, h))
 
 module _ (place : ℕ) (names : List (List ℕ)) (s : Subnet) (subnets : List Subnet) where
   -- the lines of subnets of which the first serves
-  pub served_first : served_by place names s ≡ true → subnet_lines place names (s ∷ subnets) ≡ subnet_line s (codes " serves") ++ flat_map unasked_line subnets
-  unfolding subnet_lines
-  served_first is = ap (λ b. if b then subnet_line s (codes " serves") ++ flat_map unasked_line subnets else subnet_line s (passed_words place s) ++ subnet_lines place names subnets) is
+  pub served_first : served_by place names s ≡ true → sought_lines place names (s ∷ subnets) ≡ sought_line s (codes " serves") ++ flat_map unasked_line subnets
+  unfolding sought_lines
+  served_first is = ap (λ b. if b then sought_line s (codes " serves") ++ flat_map unasked_line subnets else sought_line s (passed_words place s) ++ sought_lines place names subnets) is
 
   -- and of which it does not
-  pub passed_first : served_by place names s ≡ false → subnet_lines place names (s ∷ subnets) ≡ subnet_line s (passed_words place s) ++ subnet_lines place names subnets
-  unfolding subnet_lines
-  passed_first is = ap (λ b. if b then subnet_line s (codes " serves") ++ flat_map unasked_line subnets else subnet_line s (passed_words place s) ++ subnet_lines place names subnets) is
+  pub passed_first : served_by place names s ≡ false → sought_lines place names (s ∷ subnets) ≡ sought_line s (passed_words place s) ++ sought_lines place names subnets
+  unfolding sought_lines
+  passed_first is = ap (λ b. if b then sought_line s (codes " serves") ++ flat_map unasked_line subnets else sought_line s (passed_words place s) ++ sought_lines place names subnets) is

@@ -15,7 +15,7 @@ use Rattle.kd_rows.specs.Table.{row_at}
 use Rattle.kd_rows.specs.declared.row.Row.{Row}
 use Rattle.kd_server.specs.Leases.{word_of_live}
 use Rattle.kd_why.specs.Checks.{subject_in}
-use Rattle.kd_why.specs.Words.{prefix_text, row_text, type_word, yes_word}
+use Rattle.kd_why.specs.Words.{prefix_word, row_text, kind_word, yes_word}
 use Rattle.kd_why.specs.declared.checks.Checks.{Checks}
 
 -- ---- a line each
@@ -24,7 +24,7 @@ use Rattle.kd_why.specs.declared.checks.Checks.{Checks}
 unfoldable pub sender_line : Seen → List ℕ
 sender_line m =
     if m.header.op == 2 then codes "check sender: a server, by op 2\n"
-    else codes "check sender: a server, by type " ++ type_word (kind_of m) ++ codes "\n"
+    else codes "check sender: a server, by type " ++ kind_word (kind_of m) ++ codes "\n"
 
 -- which server a message names, beside this one
 abbrev pub which_word : Bool → List ℕ
@@ -65,7 +65,7 @@ address_line (Some a) source =
 -- the prefix of a subnet, if there is one
 abbrev pub served_word : Option Subnet → List ℕ
 served_word None = codes "none"
-served_word (Some s) = prefix_text s.prefix
+served_word (Some s) = prefix_word s.prefix
 
 -- the subnet that serves the message
 abbrev pub served_line : Option Subnet → List ℕ
@@ -145,15 +145,15 @@ renewing_lines row checks =
     prefix_line checks.in_prefix ++ (if checks.in_prefix then known_lines row checks else [])
 
 -- one of the two, with the line of the address's row
-abbrev pub lease_checks : Option ℕ → List ℕ → Checks → List ℕ
-lease_checks None row checks = renewing_lines row checks
-lease_checks (Some server) row checks = selecting_lines row checks
+abbrev pub lease_check_lines : Option ℕ → List ℕ → Checks → List ℕ
+lease_check_lines None row checks = renewing_lines row checks
+lease_check_lines (Some server) row checks = selecting_lines row checks
 
 -- the checks of an address in its subnet, where one serves the message
 abbrev pub checks_text : Asking → ℕ → Option Checks → List ℕ
 checks_text q a None = []
 checks_text q a (Some checks) =
-    lease_checks (named_server q.message) (row_line q.now (row_at q.rows a)) checks
+    lease_check_lines (named_server q.message) (row_line q.now (row_at q.rows a)) checks
 
 -- the checks of the address that the REQUEST is about, if there is one
 abbrev pub asked_at : Asking → Option Subnet → Option Checks → Option ℕ → List ℕ

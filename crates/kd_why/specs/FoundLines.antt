@@ -24,7 +24,7 @@ use Rattle.kd_options.specs.declared.kind.MessageType.TheVariants as types
 use Rattle.kd_replay.specs.Text.{address_text, bytes_text}
 use Rattle.kd_wire.specs.declared.header.Header.{Header}
 use Rattle.kd_why.specs.declared.explaining.Explanation.{Explanation}
-use Rattle.kd_why.specs.Words.{address_word, bytes_word, name_text, prefix_text, truth_word, type_word, unless_zero}
+use Rattle.kd_why.specs.Words.{address_word, bytes_word, name_text, prefix_word, truth_word, kind_word, unless_zero}
 
 -- ---- the message
 
@@ -35,7 +35,7 @@ moment_line moment = codes "moment " ++ decimal moment ++ codes "\n"
 -- the type of a message, its hardware address and its client
 unfoldable pub client_words : Seen → Option (List ℕ) → List ℕ
 client_words m client =
-    codes "message " ++ type_word (kind_of m) ++ codes " mac " ++ bytes_text (mac_of m.header)
+    codes "message " ++ kind_word (kind_of m) ++ codes " mac " ++ bytes_text (mac_of m.header)
     ++ codes " client " ++ bytes_word client
 
 -- the addresses in its header
@@ -64,8 +64,8 @@ outcome_words (Some outcome) =
     codes " " ++ truth_word outcome.value ++ codes " steps " ++ decimal outcome.steps ++ codes "\n"
 
 -- the line of a class
-unfoldable pub class_line : ClassDef → Option Outcome → List ℕ
-class_line class outcome = codes "class " ++ name_text class.name ++ outcome_words outcome
+unfoldable pub tested_line : ClassDef → Option Outcome → List ℕ
+tested_line class outcome = codes "class " ++ name_text class.name ++ outcome_words outcome
 
 -- the first of outcomes
 abbrev pub first_outcome : List (Option Outcome) → Option Outcome
@@ -76,7 +76,7 @@ first_outcome (outcome ∷ outcomes) = outcome
 unfoldable pub class_lines : List ClassDef → List (Option Outcome) → List ℕ
 class_lines [] outcomes = []
 class_lines (class ∷ classes) outcomes =
-    class_line class (first_outcome outcomes) ++ class_lines classes (drop 1 outcomes)
+    tested_line class (first_outcome outcomes) ++ class_lines classes (drop 1 outcomes)
 
 -- a name, after a space
 abbrev pub name_behind : List ℕ → List ℕ
@@ -101,8 +101,8 @@ place_line server h =
     ++ codes "\n"
 
 -- the line of a subnet: its prefix, and what becomes of it
-unfoldable pub subnet_line : Subnet → List ℕ → List ℕ
-subnet_line s words = codes "subnet " ++ prefix_text s.prefix ++ words ++ codes "\n"
+unfoldable pub sought_line : Subnet → List ℕ → List ℕ
+sought_line s words = codes "subnet " ++ prefix_word s.prefix ++ words ++ codes "\n"
 
 -- the class that a subnet is for
 abbrev pub class_word : Option (List ℕ) → List ℕ
@@ -118,16 +118,16 @@ passed_words place s =
 
 -- the line of a subnet behind the one that serves
 abbrev pub unasked_line : Subnet → List ℕ
-unasked_line s = subnet_line s (codes " not asked")
+unasked_line s = sought_line s (codes " not asked")
 
 -- the lines of subnets for a place and the holder of these names: those that are passed over, the
 -- first that serves, and those behind it
-unfoldable pub subnet_lines : ℕ → List (List ℕ) → List Subnet → List ℕ
-subnet_lines place names [] = codes "subnet - none serves\n"
-subnet_lines place names (s ∷ subnets) =
+unfoldable pub sought_lines : ℕ → List (List ℕ) → List Subnet → List ℕ
+sought_lines place names [] = codes "subnet - none serves\n"
+sought_lines place names (s ∷ subnets) =
     if served_by place names s
-    then subnet_line s (codes " serves") ++ flat_map unasked_line subnets
-    else subnet_line s (passed_words place s) ++ subnet_lines place names subnets
+    then sought_line s (codes " serves") ++ flat_map unasked_line subnets
+    else sought_line s (passed_words place s) ++ sought_lines place names subnets
 
 -- ---- its reservation
 
@@ -202,6 +202,6 @@ found_text config m now e =
     message_lines now m e.client
     ++ (class_lines config.classes e.outcomes.items ++ names_line e.names)
     ++ place_line config.server m.header
-    ++ subnet_lines (message_place config.server m.header) e.names config.subnets
+    ++ sought_lines (message_place config.server m.header) e.names config.subnets
     ++ reservation_line (option_copied e.subnet) (option_copied e.reservation)
     ++ chosen_text m e.decision.answer e.ranks

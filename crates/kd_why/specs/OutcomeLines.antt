@@ -25,15 +25,15 @@ use Rattle.kd_why.specs.declared.origins.Origin.TheVariants as origins
 -- ---- how it ends, and the row
 
 -- a reply, and the address that it gives
-abbrev pub reply_line : PlanKind → ℕ → List ℕ
-reply_line kinds.Offer a = codes "ends OFFER " ++ address_text a ++ codes "\n"
-reply_line kinds.Ack a = codes "ends ACK " ++ address_text a ++ codes "\n"
-reply_line kinds.InformAck a = codes "ends ACK\n"
-reply_line kinds.Nak a = codes "ends NAK\n"
+abbrev pub ends_line : PlanKind → ℕ → List ℕ
+ends_line kinds.Offer a = codes "ends OFFER " ++ address_text a ++ codes "\n"
+ends_line kinds.Ack a = codes "ends ACK " ++ address_text a ++ codes "\n"
+ends_line kinds.InformAck a = codes "ends ACK\n"
+ends_line kinds.Nak a = codes "ends NAK\n"
 
 -- no reply, and why
-abbrev pub quiet_line : Reason → List ℕ
-quiet_line reason =
+abbrev pub silence_line : Reason → List ℕ
+silence_line reason =
     codes "ends quiet " ++ decimal (reason_number reason) ++ codes " " ++ reason_name reason
     ++ codes "\n"
 
@@ -49,16 +49,16 @@ set_line set = codes "row " ++ row_word set ++ codes "\n"
 -- ---- the options of a reply
 
 -- the name of a class, if there is one
-abbrev pub class_name : Option ClassDef → List ℕ
-class_name None = codes "-"
-class_name (Some class) = name_text class.name
+abbrev pub origin_class : Option ClassDef → List ℕ
+origin_class None = codes "-"
+origin_class (Some class) = name_text class.name
 
 -- where a configured option comes from
 abbrev pub origin_word : List ClassDef → Option Origin → List ℕ
 origin_word classes None = codes "-"
 origin_word classes (Some origins.Pool) = codes "pool"
 origin_word classes (Some origins.Subnet) = codes "subnet"
-origin_word classes (Some (origins.Class i)) = codes "class " ++ class_name (slice_get classes i)
+origin_word classes (Some (origins.Class i)) = codes "class " ++ origin_class (slice_get classes i)
 origin_word classes (Some origins.Global) = codes "all"
 origin_word classes (Some origins.Mask) = codes "mask"
 
@@ -87,7 +87,7 @@ room_word None = codes ": no room\n"
 room_word (Some value) = codes "\n"
 
 -- the line of an option of a reply that reads like this as it is written, at an address
-pub record IsOptionLine (config : Configuration) (e : Explanation) (a : ℕ) (reply : Seen)
+pub record IsSentLine (config : Configuration) (e : Explanation) (a : ℕ) (reply : Seen)
     (item : Item) (line : List ℕ) : Type 0 where
   pub source : List ℕ
   pub from : IsSourceWord config e.names (option_copied e.subnet) a item.obligatory item.code source
@@ -117,12 +117,12 @@ pub record AreOptionsOf (config : Configuration) (m : Seen) (e : Explanation) (p
   pub reply : Seen
   pub reads : Reads (written plan) reply
   pub lines : AreOptionLines
-      (IsOptionLine config e (options_address plan.kind plan.yiaddr m.header.ciaddr) reply)
+      (IsSentLine config e (options_address plan.kind plan.yiaddr m.header.ciaddr) reply)
       plan.reply.items text
 
 -- the lines of how a message ends: its reply and the options of that, or why there is none
 abbrev pub IsEndText : Configuration → Seen → Explanation → Answer → List ℕ → Type 0
 IsEndText config m e (answers.Plan plan) text =
     (options : List ℕ) × AreOptionsOf config m e plan options
-    × (text ≡ reply_line plan.kind plan.yiaddr ++ options)
-IsEndText config m e (answers.Quiet reason) text = text ≡ quiet_line reason
+    × (text ≡ ends_line plan.kind plan.yiaddr ++ options)
+IsEndText config m e (answers.Quiet reason) text = text ≡ silence_line reason

@@ -44,7 +44,7 @@ pub record IsExplanation (config : Configuration) (rows : List Row) (m : Seen) (
   pub text_is : IsTextOf config rows m now explanation text
 
 -- a text says that a datagram is no message, for its first fault
-pub record IsUnreadable (bytes text : List ℕ) : Type 0 where
+pub record IsNoMessage (bytes text : List ℕ) : Type 0 where
   pub fault : ReadFault
   pub first : IsFirstFault fault bytes
   pub ours : fault ≢ reading.Memory
@@ -56,7 +56,7 @@ pub record IsUnreadable (bytes text : List ℕ) : Type 0 where
 -- what is said of a datagram at a moment: the explanation of its message, or that it is none
 abbrev pub IsAccount : Configuration → List Row → ℕ → List ℕ → List ℕ → Type 0
 IsAccount config rows now bytes text =
-    ((m : Seen) × Reads bytes m × IsExplanation config rows m now text) ⊎ IsUnreadable bytes text
+    ((m : Seen) × Reads bytes m × IsExplanation config rows m now text) ⊎ IsNoMessage bytes text
 
 -- a text ends in the line of what a server would answer to an event
 pub record EndsInAnswer (t : Trying) (event : Event) (text : List ℕ) : Type 0 where

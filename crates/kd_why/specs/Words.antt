@@ -22,8 +22,8 @@ bytes_word None = codes "-"
 bytes_word (Some bytes) = bytes_text bytes
 
 -- a prefix: its address, a slash, its length
-unfoldable pub prefix_text : Prefix → List ℕ
-prefix_text prefix = address_text prefix.address ++ codes "/" ++ decimal prefix.length
+unfoldable pub prefix_word : Prefix → List ℕ
+prefix_word prefix = address_text prefix.address ++ codes "/" ++ decimal prefix.length
 
 -- a byte of a name: printable ASCII as it is, but for the space and the backslash; any other as `\x`
 -- and two hexadecimal digits
@@ -44,8 +44,8 @@ row_text row =
     ++ decimal row.ends
 
 -- the name of a type of message (RFC 2131 section 3.1), by its number (RFC 2132 section 9.6)
-unfoldable pub type_word : ℕ → List ℕ
-type_word number =
+unfoldable pub kind_word : ℕ → List ℕ
+kind_word number =
     if number == 1 then codes "DISCOVER"
     else (if number == 2 then codes "OFFER"
     else (if number == 3 then codes "REQUEST"

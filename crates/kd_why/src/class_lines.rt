@@ -1,6 +1,6 @@
 ghost use Rattle.std.specs.Prelude.{◌≡◌, ◌++◌, ◌≤◌, OnOk, codes, decimal, drop, length, string_bytes};
 ghost use Rattle.std.specs.List.{flat_map};
-ghost use Rattle.kd_why.specs.FoundLines.{class_line, class_lines, first_outcome, name_behind, names_line, outcome_words};
+ghost use Rattle.kd_why.specs.FoundLines.{tested_line, class_lines, first_outcome, name_behind, names_line, outcome_words};
 ghost use Rattle.kd_why.specs.Words.{truth_word};
 
 use crate::text::Scene;
@@ -61,7 +61,7 @@ fn outcome_at(outcomes: &[Option<Outcome>], index: usize) -> Option<Outcome>
 }
 
 // The line of a class.
-#[tactic(auto, unfolding(crate::specs::FoundLines::class_line))]
+#[tactic(auto, unfolding(crate::specs::FoundLines::tested_line))]
 fn put_class(
     alloc: Global,
     out: &mut String,
@@ -69,7 +69,7 @@ fn put_class(
     outcome: Option<Outcome>,
 ) -> Result<(), AllocError>
     ensures { OnOk result (string_bytes out.new
-        ≡ string_bytes out.old ++ class_line class.now outcome) }
+        ≡ string_bytes out.old ++ tested_line class.now outcome) }
 {
     out.push_str("class ")?;
     put_name(alloc, out, class.name.as_slice())?;

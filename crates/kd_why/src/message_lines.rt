@@ -1,7 +1,7 @@
 ghost use Rattle.std.specs.Prelude.{◌≡◌, ◌++◌, OnOk, codes, string_bytes};
 ghost use Rattle.kd_lease.specs.Client.{kind_of};
 ghost use Rattle.kd_why.specs.FoundLines.{client_words, header_words, message_lines, moment_line, option_words};
-ghost use Rattle.kd_why.specs.Words.{address_word, bytes_word, type_word};
+ghost use Rattle.kd_why.specs.Words.{address_word, bytes_word, kind_word};
 
 use crate::text::Scene;
 use crate::words::{filled, put_address, put_bytes, type_name};
@@ -47,7 +47,7 @@ fn put_client(
 
 fn put_type(out: &mut String, message: &Message<'_>) -> Result<(), AllocError>
     ensures { OnOk result (string_bytes out.new ≡ string_bytes out.old
-        ++ (codes "message " ++ type_word (kind_of message.now) ++ codes " mac ")) }
+        ++ (codes "message " ++ kind_word (kind_of message.now) ++ codes " mac ")) }
 {
     let name = type_name(message.kind());
     write!(out, "message {name} mac ")

@@ -1,7 +1,7 @@
 ghost use Rattle.std.specs.Prelude.{◌≡◌, ◌++◌, ℕ, IfOk, List, OnOk, Some, codes, decimal, option_copied, string_bytes};
 ghost use Rattle.kd_replay.specs.Text.{bytes_text};
-ghost use Rattle.kd_why.specs.OutcomeLines.{AreOptionLines, AreOptionsOf, IsConfiguredWord, IsOptionLine, IsSourceWord};
-ghost use Rattle.kd_why.specs.OutcomeLines.{class_name, options_address, origin_word, required_word, room_word, written};
+ghost use Rattle.kd_why.specs.OutcomeLines.{AreOptionLines, AreOptionsOf, IsConfiguredWord, IsSentLine, IsSourceWord};
+ghost use Rattle.kd_why.specs.OutcomeLines.{origin_class, options_address, origin_word, required_word, room_word, written};
 
 use crate::origins::{Origin, origin_of};
 use crate::text::Scene;
@@ -81,7 +81,7 @@ fn address_in(plan: &Plan, message: &Message<'_>) -> u32
 
 fn put_items(out: &mut String, sources: &Sources<'_>, items: &[Item]) -> Result<(), AllocError>
     ensures { OnOk result ((text : List ℕ)
-        × AreOptionLines (IsOptionLine sources.now.scene.now.config.now
+        × AreOptionLines (IsSentLine sources.now.scene.now.config.now
         sources.now.scene.now.explanation.now sources.now.address sources.now.reply.now) items.now
         text
         × (string_bytes out.new ≡ string_bytes out.old ++ text)) }
@@ -94,7 +94,7 @@ fn put_items(out: &mut String, sources: &Sources<'_>, items: &[Item]) -> Result<
 
 fn put_item(out: &mut String, sources: &Sources<'_>, item: &Item) -> Result<(), AllocError>
     ensures { OnOk result ((line : List ℕ)
-        × IsOptionLine sources.now.scene.now.config.now sources.now.scene.now.explanation.now
+        × IsSentLine sources.now.scene.now.config.now sources.now.scene.now.explanation.now
         sources.now.address sources.now.reply.now item.now line
         × (string_bytes out.new ≡ string_bytes out.old ++ line)) }
 {
@@ -205,7 +205,7 @@ fn put_origin(
 
 fn put_class(alloc: Global, out: &mut String, class: Option<&ClassDef>) -> Result<(), AllocError>
     ensures { OnOk result (string_bytes out.new
-        ≡ string_bytes out.old ++ class_name (option_copied class.entry)) }
+        ≡ string_bytes out.old ++ origin_class (option_copied class.entry)) }
 {
     match class {
         Some(class) => put_name(alloc, out, class.name.as_slice()),

@@ -1,6 +1,6 @@
 ghost use Rattle.std.specs.Prelude.{◌≡◌, ◌++◌, ℕ, List, OnOk, codes, string_bytes};
 ghost use Rattle.kd_replay.specs.Text.{address_text};
-ghost use Rattle.kd_why.specs.OutcomeLines.{AreOptionsOf, IsEndText, quiet_line, reply_line, row_word, set_line};
+ghost use Rattle.kd_why.specs.OutcomeLines.{AreOptionsOf, IsEndText, silence_line, ends_line, row_word, set_line};
 
 use crate::option_lines::put_options;
 use crate::text::Scene;
@@ -25,7 +25,7 @@ pub(crate) fn put_end(out: &mut String, scene: &Scene<'_>) -> Result<(), AllocEr
 }
 
 fn put_reason(out: &mut String, reason: Reason) -> Result<(), AllocError>
-    ensures { OnOk result (string_bytes out.new ≡ string_bytes out.old ++ quiet_line reason) }
+    ensures { OnOk result (string_bytes out.new ≡ string_bytes out.old ++ silence_line reason) }
 {
     let number = reason.number();
     writeln!(out, "ends quiet {number} {reason}")
@@ -36,7 +36,7 @@ fn put_plan(out: &mut String, scene: &Scene<'_>, plan: &Plan) -> Result<(), Allo
         × AreOptionsOf scene.now.config.now scene.now.message.now scene.now.explanation.now plan.now
         options
         × (string_bytes out.new ≡ string_bytes out.old
-        ++ (reply_line plan.now.kind plan.now.yiaddr ++ options))) }
+        ++ (ends_line plan.now.kind plan.now.yiaddr ++ options))) }
 {
     put_reply(out, plan)?;
     put_options(out, scene, plan)
@@ -45,7 +45,7 @@ fn put_plan(out: &mut String, scene: &Scene<'_>, plan: &Plan) -> Result<(), Allo
 // What the reply is, and the address that it gives.
 fn put_reply(out: &mut String, plan: &Plan) -> Result<(), AllocError>
     ensures { OnOk result (string_bytes out.new
-        ≡ string_bytes out.old ++ reply_line plan.now.kind plan.now.yiaddr) }
+        ≡ string_bytes out.old ++ ends_line plan.now.kind plan.now.yiaddr) }
 {
     match plan.kind {
         PlanKind::Offer => put_given(out, "ends OFFER ", plan.yiaddr),

@@ -1,7 +1,7 @@
 ghost use Rattle.std.specs.Prelude.{◌≡◌, ◌++◌, OnOk, codes, option_copied, string_bytes};
 ghost use Rattle.std.specs.List.{flat_map};
 ghost use Rattle.kd_lease.specs.SubnetOf.{class_admits, message_place, served_by};
-ghost use Rattle.kd_why.specs.FoundLines.{class_word, key_word, passed_words, place_line, place_word, reservation_line, reserved_line, subnet_line, subnet_lines, unasked_line};
+ghost use Rattle.kd_why.specs.FoundLines.{class_word, key_word, passed_words, place_line, place_word, reservation_line, reserved_line, sought_line, sought_lines, unasked_line};
 
 use crate::text::Scene;
 use crate::words::{put_dotted, put_name, put_prefix};
@@ -54,7 +54,7 @@ struct Sought<'a> {
 // and those behind it.
 pub(crate) fn put_subnets(out: &mut String, scene: &Scene<'_>) -> Result<(), AllocError>
     ensures { OnOk result (string_bytes out.new ≡ string_bytes out.old
-        ++ subnet_lines (message_place scene.now.config.now.server scene.now.message.now.header)
+        ++ sought_lines (message_place scene.now.config.now.server scene.now.message.now.header)
         scene.now.explanation.now.names scene.now.config.now.subnets) }
 {
     let sought = Sought {
@@ -64,7 +64,7 @@ pub(crate) fn put_subnets(out: &mut String, scene: &Scene<'_>) -> Result<(), All
     put_sought(scene.alloc, out, sought, scene.config.subnets())
 }
 
-#[tactic(auto, unfolding(crate::specs::FoundLines::subnet_lines))]
+#[tactic(auto, unfolding(crate::specs::FoundLines::sought_lines))]
 fn put_sought(
     alloc: Global,
     out: &mut String,
@@ -72,7 +72,7 @@ fn put_sought(
     subnets: &[Subnet],
 ) -> Result<(), AllocError>
     ensures { OnOk result (string_bytes out.new ≡ string_bytes out.old
-        ++ subnet_lines sought.entry.place sought.entry.names.now subnets.now) }
+        ++ sought_lines sought.entry.place sought.entry.names.now subnets.now) }
 {
     let mut left = subnets;
     while let [subnet, rest @ ..] = left {
@@ -103,10 +103,10 @@ fn admits(class: &Option<Bytes>, names: &Held) -> bool
     }
 }
 
-#[tactic(auto, unfolding(crate::specs::FoundLines::subnet_line))]
+#[tactic(auto, unfolding(crate::specs::FoundLines::sought_line))]
 fn put_serving(out: &mut String, subnet: &Subnet) -> Result<(), AllocError>
     ensures { OnOk result (string_bytes out.new
-        ≡ string_bytes out.old ++ subnet_line subnet.now (codes " serves")) }
+        ≡ string_bytes out.old ++ sought_line subnet.now (codes " serves")) }
 {
     out.push_str("subnet ")?;
     put_prefix(out, subnet.prefix)?;
@@ -125,7 +125,7 @@ fn put_unasked(out: &mut String, subnets: &[Subnet]) -> Result<(), AllocError>
     Ok(())
 }
 
-#[tactic(auto, unfolding(crate::specs::FoundLines::subnet_line))]
+#[tactic(auto, unfolding(crate::specs::FoundLines::sought_line))]
 fn put_one_unasked(out: &mut String, subnet: &Subnet) -> Result<(), AllocError>
     ensures { OnOk result (string_bytes out.new ≡ string_bytes out.old ++ unasked_line subnet.now) }
 {
@@ -135,7 +135,7 @@ fn put_one_unasked(out: &mut String, subnet: &Subnet) -> Result<(), AllocError>
     out.push_str("\n")
 }
 
-#[tactic(auto, unfolding(crate::specs::FoundLines::subnet_line))]
+#[tactic(auto, unfolding(crate::specs::FoundLines::sought_line))]
 fn put_passed(
     alloc: Global,
     out: &mut String,
@@ -143,7 +143,7 @@ fn put_passed(
     subnet: &Subnet,
 ) -> Result<(), AllocError>
     ensures { OnOk result (string_bytes out.new
-        ≡ string_bytes out.old ++ subnet_line subnet.now (passed_words place subnet.now)) }
+        ≡ string_bytes out.old ++ sought_line subnet.now (passed_words place subnet.now)) }
 {
     out.push_str("subnet ")?;
     put_prefix(out, subnet.prefix)?;

@@ -2,7 +2,7 @@ ghost use Rattle.std.specs.Prelude.{◌≡◌, ◌++◌, OnOk, codes, decimal, s
 ghost use Rattle.kd_replay.specs.Text.{address_text, bytes_text};
 ghost use Rattle.kd_server.specs.Leases.{word_of_state};
 ghost use Rattle.kd_options.specs.Kind.{type_number};
-ghost use Rattle.kd_why.specs.Words.{address_word, name_byte, name_text, prefix_text, row_text, truth_word, type_word, unless_zero, yes_word};
+ghost use Rattle.kd_why.specs.Words.{address_word, name_byte, name_text, prefix_word, row_text, truth_word, kind_word, unless_zero, yes_word};
 
 use kd_config::Prefix;
 use kd_options::MessageType;
@@ -39,9 +39,9 @@ pub(crate) fn filled(address: u32) -> Option<u32>
 }
 
 // A prefix: its address, a slash, its length.
-#[tactic(auto, unfolding(crate::specs::Words::prefix_text))]
+#[tactic(auto, unfolding(crate::specs::Words::prefix_word))]
 pub(crate) fn put_prefix(out: &mut String, prefix: Prefix) -> Result<(), AllocError>
-    ensures { OnOk result (string_bytes out.new ≡ string_bytes out.old ++ prefix_text prefix) }
+    ensures { OnOk result (string_bytes out.new ≡ string_bytes out.old ++ prefix_word prefix) }
 {
     put_dotted(out, prefix.address)?;
     let length = prefix.length;
@@ -120,9 +120,9 @@ fn state_word(state: State) -> &'static str
 }
 
 // The name of a message's type (RFC 2131 section 3.1).
-#[tactic(auto, unfolding(crate::specs::Words::type_word))]
+#[tactic(auto, unfolding(crate::specs::Words::kind_word))]
 pub(crate) fn type_name(kind: MessageType) -> &'static str
-    ensures { result.now ≡ type_word (type_number kind) }
+    ensures { result.now ≡ kind_word (type_number kind) }
 {
     match kind {
         MessageType::Discover => "DISCOVER",
