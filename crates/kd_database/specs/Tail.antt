@@ -13,15 +13,15 @@ pub record IsOwnFrame (log : List ℕ) (at : ℕ) : Type 0 where
 abbrev pub IsEndOfFrames : List ℕ → ℕ → ℕ → Type 0
 IsEndOfFrames log size at = (k : ℕ) × Replays size log k × (at ≡ frame_at size k)
 
--- a file is a log whose header names no size of a page
-abbrev pub NamesNoSize : List ℕ → Type 0
-NamesNoSize log = ¬ IsIgnored log → ¬ IsPageSize (be32 log 8)
+-- a file is no log, or its header names no size of a page
+abbrev pub IsNoSizedLog : List ℕ → Type 0
+IsNoSizedLog log = ¬ IsIgnored log → ¬ IsPageSize (be32 log 8)
 
 -- how many bytes of a log a start leaves out from a frame of this same log on, if there is one where
 -- the frames end that it takes
 abbrev pub AreLeftOut : List ℕ → Option ℕ → Type 0
 AreLeftOut log None =
-    NamesNoSize log ⊎ ((size at : ℕ) × IsEndOfFrames log size at × (¬ IsOwnFrame log at))
+    IsNoSizedLog log ⊎ ((size at : ℕ) × IsEndOfFrames log size at × (¬ IsOwnFrame log at))
 AreLeftOut log (Some count) =
     (size at : ℕ) × IsLogFor size log × IsEndOfFrames log size at × IsOwnFrame log at
     × (count ≡ length log - at)

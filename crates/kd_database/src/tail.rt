@@ -26,8 +26,9 @@ const SALTS_OF_FRAME: usize = 8;
 const SALTS: usize = 8;
 
 /// How many bytes of a log a start leaves out, where a frame of this same log begins behind the last
-/// one that it takes: that frame was damaged. What a stop in the midst of a commit leaves, and the
-/// frames of a log before this one, are none of these (SQLite's file format, section 4).
+/// one that it takes: that frame, or one behind it, was damaged. What a stop in the midst of a
+/// commit leaves, and the frames of a log before this one, are none of these, and of a log whose
+/// header is damaged nothing is said (SQLite's file format, section 4).
 ///
 /// # Errors
 ///

@@ -101,7 +101,7 @@ fn put_log<H: Host>(
     match host.left_out(path) {
         Some(bytes) => writeln!(
             text,
-            "{path}-wal: damaged, serve leaves out the {bytes} bytes behind its last good frame"
+            "{path}-wal: damaged, serve leaves out the {bytes} bytes behind its last good commit"
         ),
         None => Ok(()),
     }

@@ -7,7 +7,7 @@ use Rattle.kd_config.specs.declared.subnet.Subnet.{Subnet}
 use Rattle.kd_lease.specs.Change.{Decides, asked_for}
 use Rattle.kd_lease.specs.Choice.{Asking, client_reservation}
 use Rattle.kd_lease.specs.Client.{client_identity}
-use Rattle.kd_lease.specs.Decided.{outcome_in}
+use Rattle.kd_lease.specs.Decided.{IsAnswerTo, outcome_in}
 use Rattle.kd_lease.specs.Ranks.{AreRanks}
 use Rattle.kd_lease.specs.SubnetOf.{subnet_serving}
 use Rattle.kd_lease.specs.declared.ranks.Ranks.{Ranks}
@@ -68,3 +68,4 @@ pub record Explains (config : Configuration) (rows : List Row) (m : Seen) (now :
   pub checks : AreCheckedFor (client_identity m) (asked_for config rows e.names m now)
       (option_copied e.subnet) e.checks
   pub decides : Decides config rows e.names m now e.decision.row (outcome_in e.decision.answer)
+  pub answer : IsAnswerTo m e.decision.answer

@@ -1,5 +1,5 @@
--- The lines of what a message is and of what is found for it: its classes, its place, its subnet, its
--- reservation and the ranks of addresses.
+-- The lines of what a message is and of what is found for it: its classes, its place, its subnet,
+-- its reservation and the ranks of addresses.
 use Rattle.std.specs.Prelude.{ℕ, ◌==◌, ◌&&◌, not, Bool, true, false, is_some, if◌then◌else◌, List, [], ◌∷◌, ◌++◌, drop, Option, Some, None, codes, decimal, option_copied}
 use Rattle.std.specs.List.{flat_map}
 use Rattle.kd_classes.specs.declared.definition.ClassDef.{ClassDef}
@@ -161,7 +161,7 @@ winning_rank ranks =
     else (if is_some ranks.expired then 6
     else 0)))))
 
--- the line of a rank with its number, and whether it wins
+-- the line of a rank: its number and name, its address if it has one, and whether it wins
 unfoldable pub rank_line : Bool → List ℕ → Option ℕ → List ℕ
 rank_line wins rank address =
     codes "rank " ++ rank ++ codes " " ++ address_word address

@@ -47,7 +47,7 @@ pub record IsExplanation (config : Configuration) (rows : List Row) (m : Seen) (
 pub record IsNoMessage (bytes text : List ℕ) : Type 0 where
   pub fault : ReadFault
   pub first : IsFirstFault fault bytes
-  pub ours : fault ≢ reading.Memory
+  pub not_memory : fault ≢ reading.Memory
   pub name : List ℕ
   pub is : text
       ≡ codes "unreadable: fault " ++ decimal (read_fault_number fault) ++ codes " " ++ name

@@ -43,7 +43,8 @@ row_text row =
     ++ bytes_text row.client ++ codes " changed " ++ decimal row.changed ++ codes " ends "
     ++ decimal row.ends
 
--- the name of a type of message (RFC 2131 section 3.1), by its number (RFC 2132 section 9.6)
+-- the name of a type of message (RFC 2131 section 3.1), by its number from 1 to 8 (RFC 2132
+-- section 9.6)
 unfoldable pub kind_word : ℕ → List ℕ
 kind_word number =
     if number == 1 then codes "DISCOVER"
