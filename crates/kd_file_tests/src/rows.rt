@@ -126,11 +126,13 @@ fn look_at_log(rt: &HostRuntime) -> Result<(), Fail> {
         left_out(alloc, &log)?.is_none(),
         "a whole log is said to be damaged",
     )?;
-    if let Some(byte) = log.get_mut(500) {
-        *byte ^= 1;
+    let behind_header = log.len().checked_sub(32);
+    match log.get_mut(500) {
+        Some(byte) => *byte ^= 1,
+        None => return Err("the log has no frame".into()),
     }
     expect(
-        left_out(alloc, &log)? == Some(log.len() - 32),
+        left_out(alloc, &log)? == behind_header,
         "a damaged log is said to be whole",
     )
 }
