@@ -6,7 +6,7 @@ use Rattle.std.proofs.lemmas.Bool.Decides.{nat_tests}
 use Rattle.std.proofs.lemmas.List.{drop_more, get_or-map, length-map, take-append-drop}
 use Rattle.std.proofs.lemmas.List.Edits.{get_or-insert_above, get_or-insert_at, get_or-insert_below, get_or-remove_above, get_or-remove_below, length-insert, length-remove}
 use Rattle.kd_rows.specs.declared.row.Row.{Row}
-use Rattle.kd_rows.specs.Index.{PutsAt, IsKeyBelow, IsByClient, IsIndex, IsKeyPlace, Moves, Rises, Takes, addresses_in, client_at, client_in, lists, key_at, key_in, row_in}
+use Rattle.kd_rows.specs.Index.{PutsAt, IsKeyBelow, IsByKey, IsIndex, IsKeyPlace, Moves, Rises, Takes, addresses_in, client_at, client_in, client_of, lists, key_at, key_by, key_in, order_in, row_in}
 use Rattle.kd_rows.specs.Table.{Rise, row_at, with_row}
 use Rattle.kd_rows.proofs.Keys.{Stands, below_from, listed_at, not_below_itself}
 use Rattle.kd_rows.proofs.Places.{is_at, same_at}
@@ -109,9 +109,9 @@ at_lists (x ∷ xs) (suc i) within = by (x == get_or xs i 0) (at_lists xs i (ome
 not_there : (xs : List ℕ) (a : ℕ) → lists xs a ≡ false → (i : ℕ) → i < length xs → a ≡ get_or xs i 0 → ⊥
 not_there xs a out i within e = false≢true (sym out ∙ (ap (lists xs) e ∙ at_lists xs i within))
 
-client_after : (row : Row) (rows : List Row) (a : ℕ) → client_at (with_row row rows) a ≡ (if row.address == a then row.client else client_at rows a)
-client_after row rows a = ap client_in (row_at-with_row row rows a) ∙ by (row.address == a) where
-  by : (b : Bool) → client_in (if b then Some row else row_at rows a) ≡ (if b then row.client else client_in (row_at rows a))
+order_after : (of : Row → List ℕ) (row : Row) (rows : List Row) (a : ℕ) → order_in of (row_at (with_row row rows) a) ≡ (if row.address == a then of row else order_in of (row_at rows a))
+order_after of row rows a = ap (order_in of) (row_at-with_row row rows a) ∙ by (row.address == a) where
+  by : (b : Bool) → order_in of (if b then Some row else row_at rows a) ≡ (if b then of row else order_in of (row_at rows a))
   by true = refl
   by false = refl
 
@@ -122,8 +122,8 @@ is_there row rows a = ap is_some (row_at-with_row row rows a) ∙ by (row.addres
   by false = refl
 
 -- an address is given to an index of the others
-given : (rows : List Row) (row : Row) (old new : List ℕ) → Rises (key_at rows) old → PutsAt (key_at rows) old (row.client, row.address) new → ((a : ℕ) → lists old a ≡ (if row.address == a then false else is_some (row_at rows a))) → IsIndex (with_row row rows) new
-given rows row old new rising gives others = subst (IsIndex (with_row row rows)) (sym gives.2) (record { same = same; rising = rises }) where
+given : (of : Row → List ℕ) (rows : List Row) (row : Row) (old new : List ℕ) → Rises (key_by of rows) old → PutsAt (key_by of rows) old (of row, row.address) new → ((a : ℕ) → lists old a ≡ (if row.address == a then false else is_some (row_at rows a))) → IsIndex of (with_row row rows) new
+given of rows row old new rising gives others = subst (IsIndex of (with_row row rows)) (sym gives.2) (record { same = same; rising = rises }) where
   out : lists old row.address ≡ false
   out = others row.address ∙ rw (eq-eqb row.address row.address refl) refl
 
@@ -133,18 +133,18 @@ given rows row old new rising gives others = subst (IsIndex (with_row row rows))
     by true h = refl
     by false h = h
 
-  agree : (i : ℕ) → i < length old → key_at (with_row row rows) (get_or old i 0) ≡ key_at rows (get_or old i 0)
-  agree i within = ap (λ (c : List ℕ). (c, get_or old i 0)) (client_after row rows (get_or old i 0) ∙ rw (ne_eqb row.address (get_or old i 0) (not_there old row.address out i within)) refl)
+  agree : (i : ℕ) → i < length old → key_by of (with_row row rows) (get_or old i 0) ≡ key_by of rows (get_or old i 0)
+  agree i within = ap (λ (c : List ℕ). (c, get_or old i 0)) (order_after of row rows (get_or old i 0) ∙ rw (ne_eqb row.address (get_or old i 0) (not_there old row.address out i within)) refl)
 
-  mine : key_at (with_row row rows) row.address ≡ (row.client, row.address)
-  mine = ap (λ (c : List ℕ). (c, row.address)) (client_after row rows row.address ∙ rw (eq-eqb row.address row.address refl) refl)
+  mine : key_by of (with_row row rows) row.address ≡ (of row, row.address)
+  mine = ap (λ (c : List ℕ). (c, row.address)) (order_after of row rows row.address ∙ rw (eq-eqb row.address row.address refl) refl)
 
-  rises : Rises (key_at (with_row row rows)) (insert old gives.0 row.address)
-  rises = rises_insert (key_at rows) (key_at (with_row row rows)) old (row.client, row.address) gives.0 rising gives.1 agree mine (λ i within e. not_there old row.address out i within (ap (λ (k : List ℕ × ℕ). k.1) e))
+  rises : Rises (key_by of (with_row row rows)) (insert old gives.0 row.address)
+  rises = rises_insert (key_by of rows) (key_by of (with_row row rows)) old (of row, row.address) gives.0 rising gives.1 agree mine (λ i within e. not_there old row.address out i within (ap (λ (k : List ℕ × ℕ). k.1) e))
 
 -- the index after a new address is set
-pub new_index : (rows : List Row) (row : Row) (old new : List ℕ) → IsIndex rows old → row_at rows row.address ≡ None → PutsAt (key_at rows) old (row.client, row.address) new → IsIndex (with_row row rows) new
-new_index rows row old new indexed none gives = given rows row old new indexed.rising gives others where
+pub new_index : (of : Row → List ℕ) (rows : List Row) (row : Row) (old new : List ℕ) → IsIndex of rows old → row_at rows row.address ≡ None → PutsAt (key_by of rows) old (of row, row.address) new → IsIndex of (with_row row rows) new
+new_index of rows row old new indexed none gives = given of rows row old new indexed.rising gives others where
   others : (a : ℕ) → lists old a ≡ (if row.address == a then false else is_some (row_at rows a))
   others a = indexed.same a ∙ by (row.address == a) refl where
     by : (b : Bool) → (row.address == a) ≡ b → is_some (row_at rows a) ≡ (if b then false else is_some (row_at rows a))
@@ -154,23 +154,23 @@ new_index rows row old new indexed none gives = given rows row old new indexed.r
 pub rises_taken : (f : ℕ → List ℕ × ℕ) (old : List ℕ) (a : ℕ) (between : List ℕ) → Rises f old → Takes old a between → Rises f between
 rises_taken f old a between rising takes = subst (Rises f) (sym takes.3) (rises_remove f old takes.0 rising takes.1)
 
--- the index after an address goes to another client
-pub moved_index : (rows : List Row) (row : Row) (old new : List ℕ) → IsIndex rows old → Moves (key_at rows) old (row.client, row.address) new → IsIndex (with_row row rows) new
-moved_index rows row old new indexed moves = given rows row moves.0 new (rises_taken (key_at rows) old row.address moves.0 indexed.rising moves.1) moves.2 others where
+-- the index after an address goes to another place
+pub moved_index : (of : Row → List ℕ) (rows : List Row) (row : Row) (old new : List ℕ) → IsIndex of rows old → Moves (key_by of rows) old (of row, row.address) new → IsIndex of (with_row row rows) new
+moved_index of rows row old new indexed moves = given of rows row moves.0 new (rises_taken (key_by of rows) old row.address moves.0 indexed.rising moves.1) moves.2 others where
   others : (a : ℕ) → lists moves.0 a ≡ (if row.address == a then false else is_some (row_at rows a))
   others a = ap (λ (xs : List ℕ). lists xs a) moves.1.3 ∙ by (row.address == a) refl where
     by : (b : Bool) → (row.address == a) ≡ b → lists (remove old moves.1.0) a ≡ (if b then false else is_some (row_at rows a))
-    by true e = subst (λ (x : ℕ). lists (remove old moves.1.0) x ≡ false) (moves.1.2 ∙ eqb-true row.address a e) (lists-remove_this (key_at rows) old moves.1.0 indexed.rising moves.1.1)
+    by true e = subst (λ (x : ℕ). lists (remove old moves.1.0) x ≡ false) (moves.1.2 ∙ eqb-true row.address a e) (lists-remove_this (key_by of rows) old moves.1.0 indexed.rising moves.1.1)
     by false e = lists-remove_other old moves.1.0 a moves.1.1 (subst (λ (x : ℕ). (x == a) ≡ false) (sym moves.1.2) e) ∙ indexed.same a
 
 rises_along : (f g : ℕ → List ℕ × ℕ) (index : List ℕ) → ((a : ℕ) → g a ≡ f a) → Rises f index → Rises g index
 rises_along f g index agree rising i j order within = subst (λ (l : List ℕ × ℕ). IsKeyBelow (g (get_or index i 0)) l) (sym (agree (get_or index j 0))) (subst (λ (l : List ℕ × ℕ). IsKeyBelow l (f (get_or index j 0))) (sym (agree (get_or index i 0))) (rising i j order within))
 
 -- the index after an address is set for the client that it has
-pub same_index : (rows : List Row) (row r : Row) (old : List ℕ) → IsIndex rows old → row_at rows row.address ≡ Some r → r.client ≡ row.client → IsIndex (with_row row rows) old
+pub same_index : (rows : List Row) (row r : Row) (old : List ℕ) → IsIndex client_of rows old → row_at rows row.address ≡ Some r → r.client ≡ row.client → IsIndex client_of (with_row row rows) old
 same_index rows row r old indexed found client = record {
   same = λ a. indexed.same a ∙ sym (is_there row rows a ∙ there (row.address == a) a refl);
-  rising = rises_along (key_at rows) (key_at (with_row row rows)) old (λ a. ap (λ (c : List ℕ). (c, a)) (client_after row rows a ∙ theirs (row.address == a) a refl)) indexed.rising;
+  rising = rises_along (key_at rows) (key_at (with_row row rows)) old (λ a. ap (λ (c : List ℕ). (c, a)) (order_after client_of row rows a ∙ theirs (row.address == a) a refl)) indexed.rising;
 } where
   there : (b : Bool) (a : ℕ) → (row.address == a) ≡ b → (b || is_some (row_at rows a)) ≡ is_some (row_at rows a)
   there true a e = sym (ap is_some (subst (λ (x : ℕ). row_at rows x ≡ Some r) (eqb-true row.address a e) found))
@@ -180,14 +180,18 @@ same_index rows row r old indexed found client = record {
   theirs true a e = sym (ap client_in (subst (λ (x : ℕ). row_at rows x ≡ Some r) (eqb-true row.address a e) found) ∙ client)
   theirs false a e = refl
 
+-- an index of the same rows and the same addresses
+pub same_of : (of : Row → List ℕ) (rows new_rows : List Row) (index new : List ℕ) → new_rows ≡ rows → new ≡ index → IsIndex of rows index → IsIndex of new_rows new
+same_of of rows new_rows index new same stays indexed = subst (λ (rs : List Row). IsIndex of rs new) (sym same) (subst (IsIndex of rows) (sym stays) indexed)
+
 -- rows that are numbered by slots: each slot's row is the one of its address, and there is no other
 pub record Known (rows slots : List Row) : Type 0 where
   pub known : (n : ℕ) → n < length slots → row_at rows (row_in slots n).address ≡ Some (row_in slots n)
   pub only : (a : ℕ) → is_some (row_at rows a) ≡ true → (n : ℕ) × (n < length slots) × ((row_in slots n).address ≡ a)
 
 -- the numbers of slots in the order of their keys give the addresses of the rows in that order
-pub index_from : (rows slots : List Row) (numbers : List ℕ) → Known rows slots → IsByClient slots numbers → IsIndex rows (addresses_in slots numbers)
-index_from rows slots numbers all numbered = record { same = same; rising = rising } where
+pub index_from : (of : Row → List ℕ) (rows slots : List Row) (numbers : List ℕ) → Known rows slots → IsByKey of slots numbers → IsIndex of rows (addresses_in slots numbers)
+index_from of rows slots numbers all numbered = record { same = same; rising = rising } where
   address : ℕ → ℕ
   address n = (row_in slots n).address
 
@@ -196,16 +200,16 @@ index_from rows slots numbers all numbered = record { same = same; rising = risi
     below : (a b : ℕ) → nat_lt a b ≡ true → a < b
     below a b h = grind (arith, nat_tests)
 
-  key_is : (n : ℕ) → n < length slots → key_at rows (address n) ≡ key_in slots n
-  key_is n within = ap (λ (o : Option Row). (client_in o, address n)) (all.known n within)
+  key_is : (n : ℕ) → n < length slots → key_by of rows (address n) ≡ key_in of slots n
+  key_is n within = ap (λ (o : Option Row). (order_in of o, address n)) (all.known n within)
 
-  at : (i : ℕ) → i < length numbers → key_at rows (get_or (addresses_in slots numbers) i 0) ≡ key_in slots (get_or numbers i 0)
-  at i within = ap (key_at rows) (get_or-map address numbers i 0 0 within) ∙ key_is (get_or numbers i 0) (there (get_or numbers i 0) (at_lists numbers i within))
+  at : (i : ℕ) → i < length numbers → key_by of rows (get_or (addresses_in slots numbers) i 0) ≡ key_in of slots (get_or numbers i 0)
+  at i within = ap (key_by of rows) (get_or-map address numbers i 0 0 within) ∙ key_is (get_or numbers i 0) (there (get_or numbers i 0) (at_lists numbers i within))
 
-  rising : Rises (key_at rows) (addresses_in slots numbers)
+  rising : Rises (key_by of rows) (addresses_in slots numbers)
   rising i j order within =
       let n : j < length numbers = omega (arith, length-map numbers address) in
-      subst (λ (l : List ℕ × ℕ). IsKeyBelow (key_at rows (get_or (addresses_in slots numbers) i 0)) l) (sym (at j n)) (subst (λ (l : List ℕ × ℕ). IsKeyBelow l (key_in slots (get_or numbers j 0))) (sym (at i (omega arith))) (numbered.rising i j order n))
+      subst (λ (l : List ℕ × ℕ). IsKeyBelow (key_by of rows (get_or (addresses_in slots numbers) i 0)) l) (sym (at j n)) (subst (λ (l : List ℕ × ℕ). IsKeyBelow l (key_in of slots (get_or numbers j 0))) (sym (at i (omega arith))) (numbered.rising i j order n))
 
   found : (xs : List ℕ) (n : ℕ) → lists xs n ≡ true → lists (map address xs) (address n) ≡ true
   found xs n h = let s = listed_at xs n h in
@@ -231,8 +235,8 @@ index_from rows slots numbers all numbered = record { same = same; rising = risi
     alike false true f g = g refl
     alike false false f g = refl
 
-pub numbered_within : (slots : List Row) (numbers : List ℕ) → IsByClient slots numbers → (i : ℕ) → i < length numbers → get_or numbers i 0 < length slots
-numbered_within slots numbers numbered i within = below _ _ (sym (numbered.same (get_or numbers i 0)) ∙ at_lists numbers i within) where
+pub numbered_within : (of : Row → List ℕ) (slots : List Row) (numbers : List ℕ) → IsByKey of slots numbers → (i : ℕ) → i < length numbers → get_or numbers i 0 < length slots
+numbered_within of slots numbers numbered i within = below _ _ (sym (numbered.same (get_or numbers i 0)) ∙ at_lists numbers i within) where
   below : (a b : ℕ) → nat_lt a b ≡ true → a < b
   below a b h = grind (arith, nat_tests)
 

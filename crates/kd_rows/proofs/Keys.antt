@@ -1,5 +1,5 @@
 -- The order of keys, and places in the index.
-use Rattle.std.proofs.Common.{◌≡◌, ℕ, ◌+◌, ◌<◌, ◌≤◌, Bool, true, false, ◌||◌, ◌==◌, List, [], ◌∷◌, suc, length, get_or, refl, sym, ap, ◌∙◌, subst, ◌⊎◌, inl, inr, ⊎_elim, if◌then◌else◌, nat_lt, ◌-◌, Some, is_some, arith}
+use Rattle.std.proofs.Common.{◌≡◌, ℕ, ◌+◌, ◌<◌, ◌≤◌, Bool, true, false, ◌||◌, ◌==◌, not, List, [], ◌∷◌, zero, suc, length, get_or, refl, sym, ap, ◌∙◌, subst, ◌⊎◌, inl, inr, ⊎_elim, if◌then◌else◌, nat_lt, ◌-◌, Some, is_some, arith}
 use Rattle.std.specs.Cmp.{IsTotalOrder, nat_cmp_total}
 use Rattle.std.specs.Cmp.Lexicographic.{nat_list_cmp_total}
 use Rattle.std.specs.List.{insert, remove}
@@ -12,7 +12,8 @@ use Rattle.std.proofs.lemmas.List.Edits.{get_or-remove_above, get_or-remove_belo
 use Rattle.std.proofs.lemmas.Cmp.{on_total, then_total, tied_itself}
 use Rattle.std.proofs.lemmas.Map.Lookups.{exact_bytes, exact_pairs, exact_unsigned}
 use Rattle.kd_rows.specs.declared.row.Row.{Row}
-use Rattle.kd_rows.specs.Index.{IsRowPlace, IsKeyBelow, IsIndex, IsKeyPlace, Moves, Rises, client_at, client_in, lists, key_at, key_order}
+use Rattle.kd_rows.specs.Ages.{AreBelow, AreNotBelow}
+use Rattle.kd_rows.specs.Index.{IsRowPlace, IsKeyBelow, IsIndex, IsKeyPlace, Moves, Rises, age_at, age_of, lists, key_by, key_order, order_in}
 use Rattle.kd_rows.specs.Table.{row_at}
 
 pub keys_total : IsTotalOrder key_order
@@ -46,6 +47,10 @@ below_if k l = by (key_order k l) where
 pub not_below_if : (k l : List ℕ × ℕ) → is_lt (key_order k l) ≡ false → IsKeyBelow k l → ⊥
 not_below_if k l e h = let g = ap is_lt h in cc
 
+pub not_so : (b : Bool) → not b ≡ true → b ≡ false
+not_so true h = absurd (false≢true h)
+not_so false h = refl
+
 -- a half of the index is passed
 pub low_more : (key : ℕ → List ℕ × ℕ) (index : List ℕ) (k : List ℕ × ℕ) (middle : ℕ) → Rises key index → middle < length index → IsKeyBelow (key (get_or index middle 0)) k → (i : ℕ) → i < middle + 1 → IsKeyBelow (key (get_or index i 0)) k
 low_more key index k middle rising within here i before = by (cases_eq i middle) where
@@ -60,8 +65,8 @@ high_less key index k middle rising here i after within h = by (cases_eq i middl
   by (inr n) = here (below_trans (key (get_or index middle 0)) (key (get_or index i 0)) k (rising middle i (omega arith) within) h)
 
 -- the key that a step of the search compares
-pub read_key : (rows : List Row) (index : List ℕ) (k : List ℕ × ℕ) (middle at : ℕ) (client : List ℕ) (test : Bool) → at ≡ get_or index middle 0 → client ≡ client_at rows at → test ≡ is_lt (key_order (client, at) k) → test ≡ is_lt (key_order (key_at rows (get_or index middle 0)) k)
-read_key rows index k middle at client test is of result = result ∙ ap (λ (x : List ℕ). is_lt (key_order (x, at) k)) of ∙ ap (λ (b : ℕ). is_lt (key_order (key_at rows b) k)) is
+pub read_key : (of : Row → List ℕ) (rows : List Row) (index : List ℕ) (k : List ℕ × ℕ) (middle at : ℕ) (order : List ℕ) (test : Bool) → at ≡ get_or index middle 0 → order ≡ order_in of (row_at rows at) → test ≡ is_lt (key_order (order, at) k) → test ≡ is_lt (key_order (key_by of rows (get_or index middle 0)) k)
+read_key of rows index k middle at order test is from result = result ∙ ap (λ (x : List ℕ). is_lt (key_order (x, at) k)) from ∙ ap (λ (b : ℕ). is_lt (key_order (key_by of rows b) k)) is
 
 -- an address that a list has stands in it
 pub record Stands (xs : List ℕ) (a : ℕ) : Type 0 where
@@ -125,8 +130,8 @@ left_within n from place inside le = by (nat_lt from place) refl where
   by false e = let l : place ≤ from = grind (arith, nat_tests) in omega arith
 
 -- the address of a row stands at the place of its key
-pub row_here : (rows : List Row) (index client : List ℕ) (a place from : ℕ) (row : Row) → IsIndex rows index → IsRowPlace rows a place → row ≡ get_or rows place row → client ≡ row.client → IsKeyPlace (key_at rows) index (client, a) from → (from < length index) × (get_or index from 0 ≡ a)
-row_here rows index client a place from row indexed at is of p = key_here (key_at rows) index a from indexed.rising (subst (λ (c : List ℕ). IsKeyPlace (key_at rows) index (c, a) from) (of ∙ sym (ap client_in there)) p) (indexed.same a ∙ ap is_some there) where
+pub row_here : (of : Row → List ℕ) (rows : List Row) (index order : List ℕ) (a place from : ℕ) (row : Row) → IsIndex of rows index → IsRowPlace rows a place → row ≡ get_or rows place row → order ≡ of row → IsKeyPlace (key_by of rows) index (order, a) from → (from < length index) × (get_or index from 0 ≡ a)
+row_here of rows index order a place from row indexed at is theirs p = key_here (key_by of rows) index a from indexed.rising (subst (λ (c : List ℕ). IsKeyPlace (key_by of rows) index (c, a) from) (theirs ∙ sym (ap (order_in of) there)) p) (indexed.same a ∙ ap is_some there) where
   there : row_at rows a ≡ Some row
   there = at.found row ∙ ap Some (sym is)
 
@@ -134,3 +139,26 @@ row_here rows index client a place from row indexed at is of p = key_here (key_a
 pub moved_to : (key : ℕ → List ℕ × ℕ) (index new client : List ℕ) (a from place to : ℕ) → (from < length index) × (get_or index from 0 ≡ a) → IsKeyPlace key index (client, a) place → to ≡ (if nat_lt from place then place - 1 else place) → new ≡ insert (remove index from) to (get_or index from 0) → Moves key index (client, a) new
 moved_to key index new client a from place to here p is put =
     (remove index from, (from, here.0, here.1, refl), (to, subst (IsKeyPlace key (remove index from) (client, a)) (sym is) (place_left key index (client, a) from place here.0 p), put ∙ ap (insert (remove index from) to) here.1))
+
+-- the address of a row stands at the place of its age
+pub age_here : (cuts : List ℕ) (rows : List Row) (ages : List ℕ) (k : List ℕ × ℕ) (a place from : ℕ) (row : Row) → IsIndex (age_of cuts) rows ages → IsRowPlace rows a place → row ≡ get_or rows place row → k ≡ (age_of cuts row, row.address) → IsKeyPlace (age_at cuts rows) ages k from → (from < length ages) × (get_or ages from 0 ≡ a)
+age_here cuts rows ages k a place from row indexed at is key p =
+    row_here (age_of cuts) rows ages (age_of cuts row) a place from row indexed at is refl
+    (subst (λ (l : List ℕ × ℕ). IsKeyPlace (age_at cuts rows) ages l from) (key ∙ ap (λ (b : ℕ). (age_of cuts row, b)) (ap (λ (r : Row). r.address) is ∙ at.here row)) p)
+
+-- what is taken and put back
+put_back : (xs : List ℕ) (place : ℕ) → place < length xs → insert (remove xs place) place (get_or xs place 0) ≡ xs
+put_back [] place within = absurd (omega arith)
+put_back (x ∷ xs) zero within = refl
+put_back (x ∷ xs) (suc place) within = ap (λ (ys : List ℕ). x ∷ ys) (put_back xs place (omega arith))
+
+-- an address moves to the place that it has, where those beside it stay on both sides
+pub stays : (key : ℕ → List ℕ × ℕ) (index order : List ℕ) (a place : ℕ) → (place < length index) × (get_or index place 0 ≡ a) → AreBelow key index place (order, a) → AreNotBelow key index (place + 1) (order, a) → Moves key index (order, a) index
+stays key index order a place here below above =
+    (remove index place, (place, here.0, here.1, refl), (place, at, sym (ap (insert (remove index place) place) (sym here.1) ∙ put_back index place here.0))) where
+      at : IsKeyPlace key (remove index place) (order, a) place
+      at = record {
+        in_range = omega (arith, length-remove index place here.0, here.0);
+        below = λ i low. subst (λ (x : ℕ). IsKeyBelow (key x) (order, a)) (sym (get_or-remove_below index place 0 i low here.0)) (below i low);
+        above = λ i high within h. above (i + 1) (omega arith) (omega (arith, length-remove index place here.0)) (subst (λ (x : ℕ). IsKeyBelow (key x) (order, a)) (get_or-remove_above index place 0 i high here.0) h);
+      }

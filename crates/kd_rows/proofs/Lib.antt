@@ -1,10 +1,13 @@
+pub mod Ages
 pub mod Bounds
 pub mod Ends
 pub mod Fulls
+pub mod Held
 pub mod Indexes
 pub mod Keys
 pub mod Maps
 pub mod Onward
+pub mod Newest
 pub mod Owned
 pub mod Places
 pub mod Sets
@@ -13,3 +16,6 @@ pub mod Slots
 pub mod Sorting
 pub mod Tiers
 pub mod Walks
+pub mod Zoning
+pub mod Zoned
+pub mod NextZones

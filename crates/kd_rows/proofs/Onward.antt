@@ -8,7 +8,7 @@ use Rattle.std.proofs.lemmas.Bool.{cases_Bool, cases_eq, cases_lt}
 use Rattle.std.proofs.lemmas.Bool.Decides.{nat_tests}
 use Rattle.std.proofs.lemmas.Cmp.{tied_itself}
 use Rattle.kd_rows.specs.declared.row.Row.{Row}
-use Rattle.kd_rows.specs.Index.{IsKeyBelow, IsIndex, IsKeyPlace, client_at, client_in, key_at}
+use Rattle.kd_rows.specs.Index.{IsKeyBelow, IsIndex, IsKeyPlace, client_at, client_in, client_of, key_at}
 use Rattle.kd_rows.specs.Table.{IsNextOf, belongs_to, row_at}
 use Rattle.kd_rows.proofs.Keys.{Stands, listed_at}
 use Rattle.kd_rows.proofs.Owned.{not_again, same_client}
@@ -20,7 +20,7 @@ pub record Begins (rows : List Row) (index client : List ℕ) (place a : ℕ) : 
   pub owner : client_at rows (get_or index place 0) ≡ client
   pub least : get_or index place 0 ≤ a
 
-pub begins : (rows : List Row) (index client : List ℕ) (first place a : ℕ) (row : Row) → IsIndex rows index → IsKeyPlace (key_at rows) index (client, first) place → first ≤ a → row_at rows a ≡ Some row → belongs_to client row ≡ true → Begins rows index client place a
+pub begins : (rows : List Row) (index client : List ℕ) (first place a : ℕ) (row : Row) → IsIndex client_of rows index → IsKeyPlace (key_at rows) index (client, first) place → first ≤ a → row_at rows a ≡ Some row → belongs_to client row ≡ true → Begins rows index client place a
 begins rows index client first place a row indexed p from there own = by (listed_at index a (indexed.same a ∙ ap is_some there)) where
   theirs : client_at rows a ≡ client
   theirs = ap client_in there ∙ (bytes_decides row.client client).0 own
@@ -54,7 +54,7 @@ begins rows index client first place a row indexed p from there own = by (listed
             }
 
 -- where that is not so, a row from first on is not the client's
-pub none_unless : (rows : List Row) (index client : List ℕ) (first place a : ℕ) (row : Row) → IsIndex rows index → IsKeyPlace (key_at rows) index (client, first) place → first ≤ a → row_at rows a ≡ Some row → (Begins rows index client place a → ⊥) → belongs_to client row ≡ false
+pub none_unless : (rows : List Row) (index client : List ℕ) (first place a : ℕ) (row : Row) → IsIndex client_of rows index → IsKeyPlace (key_at rows) index (client, first) place → first ≤ a → row_at rows a ≡ Some row → (Begins rows index client place a → ⊥) → belongs_to client row ≡ false
 none_unless rows index client first place a row indexed p from there not =
     ⊎_elim (λ own. absurd (not (begins rows index client first place a row indexed p from there own))) (λ e. e) (cases_Bool (belongs_to client row))
 
@@ -66,7 +66,7 @@ below_same c client a b e order =
     ap (λ (o : Ordering). ordering_then o (nat_cmp a b)) tied ∙ less
 
 -- a row of the client that stands at the place of first is the one of the least address from there on
-pub next_there : (rows : List Row) (index client : List ℕ) (first last place : ℕ) (row : Row) → IsIndex rows index → IsKeyPlace (key_at rows) index (client, first) place → place < length index → row.address ≡ get_or index place 0 → row_at rows row.address ≡ Some row → belongs_to client row ≡ true → row.address ≤ last → IsNextOf rows client first last (Some row)
+pub next_there : (rows : List Row) (index client : List ℕ) (first last place : ℕ) (row : Row) → IsIndex client_of rows index → IsKeyPlace (key_at rows) index (client, first) place → place < length index → row.address ≡ get_or index place 0 → row_at rows row.address ≡ Some row → belongs_to client row ≡ true → row.address ≤ last → IsNextOf rows client first last (Some row)
 next_there rows index client first last place row indexed p within here found own to = (found, from, to, own, λ a other after before there. none_unless rows index client first place a other indexed p after there (λ b. let h = b.least in omega arith)) where
   theirs : client_at rows (get_or index place 0) ≡ client
   theirs = ap (client_at rows) (sym here) ∙ ap client_in found ∙ (bytes_decides row.client client).0 own

@@ -11,7 +11,7 @@ use Rattle.std.proofs.lemmas.Cmp.{tied_itself}
 use Rattle.std.proofs.lemmas.List.{get_or-drop, length-drop}
 use Rattle.std.proofs.lemmas.Map.Lookups.{exact_bytes}
 use Rattle.kd_rows.specs.declared.row.Row.{Row}
-use Rattle.kd_rows.specs.Index.{IsKeyBelow, IsIndex, IsKeyPlace, Rises, client_at, client_in, lists, key_at}
+use Rattle.kd_rows.specs.Index.{IsKeyBelow, IsIndex, IsKeyPlace, Rises, client_at, client_in, client_of, lists, key_at}
 use Rattle.kd_rows.specs.Table.{Rise, RiseFrom, addresses_of, belongs_to, row_at}
 use Rattle.kd_rows.proofs.Places.{none_below}
 
@@ -158,7 +158,7 @@ skipped p (x ∷ xs) (suc start) within out =
     rw head (skipped p xs start (omega arith) (λ i before. out (suc i) (omega arith)))
 
 -- a client's addresses are those of the index that it owns
-pub addresses_are : (rows : List Row) (index : List ℕ) (client : List ℕ) → Rise rows → IsIndex rows index → addresses_of client rows ≡ filter (owns rows client) index
+pub addresses_are : (rows : List Row) (index : List ℕ) (client : List ℕ) → Rise rows → IsIndex client_of rows index → addresses_of client rows ≡ filter (owns rows client) index
 addresses_are rows index client rise indexed =
     same_ascending 0 0 (addresses_of client rows) (filter (owns rows client) index) (addresses_ascend client 0 rows rise)
     (owned_ascend (client_at rows) client 0 index indexed.rising (λ i within own. omega arith))
@@ -186,7 +186,7 @@ none_behind rows index client start rising p i j from order within out = ⊎_eli
       (subst (λ (c : List ℕ). IsKeyBelow (client_at rows (get_or index i 0), get_or index i 0) (c, get_or index j 0)) theirs (rising i j order within))
 
 -- the addresses of a client begin at the place of its first key
-pub from_start : (rows : List Row) (index : List ℕ) (client : List ℕ) (start : ℕ) → Rise rows → IsIndex rows index → IsKeyPlace (key_at rows) index (client, 0) start → addresses_of client rows ≡ filter (owns rows client) (drop start index)
+pub from_start : (rows : List Row) (index : List ℕ) (client : List ℕ) (start : ℕ) → Rise rows → IsIndex client_of rows index → IsKeyPlace (key_at rows) index (client, 0) start → addresses_of client rows ≡ filter (owns rows client) (drop start index)
 from_start rows index client start rise indexed p =
     addresses_are rows index client rise indexed ∙ skipped (owns rows client) index start p.in_range (none_before rows index client start p)
 
@@ -194,13 +194,13 @@ pub front_of : (rows : List Row) (index : List ℕ) (client : List ℕ) (start :
 front_of rows index client start rising p i j order within out =
     rw (get_or-drop start index j 0) (none_behind rows index client start rising p (start + i) (start + j) (omega arith) (omega arith) (omega (arith, length-drop start index)) (rw (get_or-drop start index i 0) at out))
 
-pub nth_some : (rows : List Row) (index : List ℕ) (client : List ℕ) (start i : ℕ) → Rise rows → IsIndex rows index → IsKeyPlace (key_at rows) index (client, 0) start → i < length index - start → owns rows client (get_or index (start + i) 0) ≡ true → slice_get (addresses_of client rows) i ≡ Some (get_or index (start + i) 0)
+pub nth_some : (rows : List Row) (index : List ℕ) (client : List ℕ) (start i : ℕ) → Rise rows → IsIndex client_of rows index → IsKeyPlace (key_at rows) index (client, 0) start → i < length index - start → owns rows client (get_or index (start + i) 0) ≡ true → slice_get (addresses_of client rows) i ≡ Some (get_or index (start + i) 0)
 nth_some rows index client start i rise indexed p within own =
     ap (λ (xs : List ℕ). slice_get xs i) (from_start rows index client start rise indexed p)
     ∙ kept_some (owns rows client) (drop start index) i (front_of rows index client start indexed.rising p) (omega (arith, length-drop start index)) (rw (get_or-drop start index i 0) own)
     ∙ ap Some (get_or-drop start index i 0)
 
-pub nth_none : (rows : List Row) (index : List ℕ) (client : List ℕ) (start i : ℕ) → Rise rows → IsIndex rows index → IsKeyPlace (key_at rows) index (client, 0) start → (i < length index - start → owns rows client (get_or index (start + i) 0) ≡ false) → slice_get (addresses_of client rows) i ≡ None
+pub nth_none : (rows : List Row) (index : List ℕ) (client : List ℕ) (start i : ℕ) → Rise rows → IsIndex client_of rows index → IsKeyPlace (key_at rows) index (client, 0) start → (i < length index - start → owns rows client (get_or index (start + i) 0) ≡ false) → slice_get (addresses_of client rows) i ≡ None
 nth_none rows index client start i rise indexed p out =
     ap (λ (xs : List ℕ). slice_get xs i) (from_start rows index client start rise indexed p)
     ∙ past_none (owns rows client) (drop start index) i (front_of rows index client start indexed.rising p) (λ within. rw (get_or-drop start index i 0) (out (omega (arith, length-drop start index))))

@@ -7,7 +7,7 @@ use Rattle.std.proofs.lemmas.List.{drop-map, get_or-map, get_or-set_other, get_o
 use Rattle.std.proofs.lemmas.List.Edits.{length-insert}
 use Rattle.std.proofs.lemmas.List.Elements.{All-push}
 use Rattle.kd_rows.specs.declared.row.Row.{Row}
-use Rattle.kd_rows.specs.Index.{IsRowPlace, IsByAddress, IsByClient, IsPlace, IsStored, addresses_in, lists, row_in, rows_in}
+use Rattle.kd_rows.specs.Index.{IsRowPlace, IsByAddress, IsByKey, IsPlace, IsStored, addresses_in, lists, row_in, rows_in}
 use Rattle.kd_rows.specs.Table.{Rise, row_at, with_row}
 use Rattle.kd_rows.proofs.Indexes.{lists-append, lists-insert, numbered_within}
 use Rattle.kd_rows.proofs.Keys.{Stands, listed_at}
@@ -236,17 +236,17 @@ known slots numbers sorted n inside = (is_at (rows_in slots numbers) (row_in slo
   here : (d : Row) → (get_or (rows_in slots numbers) there.place d).address ≡ (row_in slots n).address
   here d = ap (λ (r : Row). r.address) (at d)
 
--- what is read at a place of the index
-pub read_indexed : (slots : List Row) (by_address by_client : List ℕ) (i number : ℕ) (row : Row) → IsStored slots by_address by_client → i < length by_client → number ≡ get_or by_client i number → row ≡ get_or slots number row → (row.address ≡ get_or (addresses_in slots by_client) i 0) × (row_at (rows_in slots by_address) row.address ≡ Some row)
-read_indexed slots by_address by_client i number row stored inside is read = (
-  ap (λ (r : Row). r.address) here ∙ sym (get_or-map (λ n. (row_in slots n).address) by_client i 0 0 inside),
-  subst (λ (r : Row). row_at (rows_in slots by_address) r.address ≡ Some r) (sym here) (known slots by_address stored.sorted (get_or by_client i 0) (stored.within i 0 inside)),
+-- what is read at a place of an index
+pub read_indexed : (slots : List Row) (by_address numbers : List ℕ) (i number : ℕ) (row : Row) → IsByAddress slots by_address → All (λ n. n < length slots) numbers → i < length numbers → number ≡ get_or numbers i number → row ≡ get_or slots number row → (row.address ≡ get_or (addresses_in slots numbers) i 0) × (row_at (rows_in slots by_address) row.address ≡ Some row)
+read_indexed slots by_address numbers i number row sorted within inside is read = (
+  ap (λ (r : Row). r.address) here ∙ sym (get_or-map (λ n. (row_in slots n).address) numbers i 0 0 inside),
+  subst (λ (r : Row). row_at (rows_in slots by_address) r.address ≡ Some r) (sym here) (known slots by_address sorted (get_or numbers i 0) (within i 0 inside)),
 ) where
-  at : number ≡ get_or by_client i 0
-  at = is ∙ get_or_default by_client i number 0 inside
+  at : number ≡ get_or numbers i 0
+  at = is ∙ get_or_default numbers i number 0 inside
 
-  here : row ≡ row_in slots (get_or by_client i 0)
-  here = read ∙ sym (slot_at slots number row (subst (λ (n : ℕ). n < length slots) (sym at) (stored.within i 0 inside))) ∙ ap (row_in slots) at
+  here : row ≡ row_in slots (get_or numbers i 0)
+  here = read ∙ sym (slot_at slots number row (subst (λ (n : ℕ). n < length slots) (sym at) (within i 0 inside))) ∙ ap (row_in slots) at
 
 -- a row that is overwritten by one of its address leaves the addresses
 pub same_addresses : (slots : List Row) (numbers : List ℕ) (n : ℕ) (row : Row) → n < length slots → row.address ≡ (row_in slots n).address → addresses_in (set slots n row) numbers ≡ addresses_in slots numbers
@@ -298,18 +298,22 @@ within_moved slots numbers between new from to number within inside is taken put
     (all_insert (λ m. m < length slots) (remove numbers from) to number (subst (λ (m : ℕ). m < length slots) (sym (is ∙ get_or_default numbers from number 0 inside)) (within from 0 inside)) (all_remove (λ m. m < length slots) numbers from within))
 
 -- the numbers in the order of keys name slots
-pub within_by_client : (slots : List Row) (numbers : List ℕ) → IsByClient slots numbers → All (λ n. n < length slots) numbers
-within_by_client slots numbers numbered k d inside = subst (λ (n : ℕ). n < length slots) (get_or_default numbers k 0 d inside) (numbered_within slots numbers numbered k inside)
+pub within_by_key : (of : Row → List ℕ) (slots : List Row) (numbers : List ℕ) → IsByKey of slots numbers → All (λ n. n < length slots) numbers
+within_by_key of slots numbers numbered k d inside = subst (λ (n : ℕ). n < length slots) (get_or_default numbers k 0 d inside) (numbered_within of slots numbers numbered k inside)
 
 -- the invariant after a row is overwritten
-pub replaced_stored : (slots rows : List Row) (by_address by_client : List ℕ) (place number : ℕ) (row : Row) → IsStored slots by_address by_client → rows_in slots by_address ≡ rows → number ≡ get_or by_address place number → IsRowPlace rows row.address place → IsStored (set slots number row) by_address by_client
-replaced_stored slots rows by_address by_client place number row stored are is at =
+pub replaced_stored : (slots rows : List Row) (by_address by_client by_age : List ℕ) (place number : ℕ) (row : Row) → IsStored slots by_address by_client by_age → rows_in slots by_address ≡ rows → number ≡ get_or by_address place number → IsRowPlace rows row.address place → IsStored (set slots number row) by_address by_client by_age
+replaced_stored slots rows by_address by_client by_age place number row stored are is at =
     let n = length-set slots number row in
-    record { sorted = (replaced_now slots rows by_address place number row stored.sorted are is at).0; within = λ k d inside. let h = stored.within k d inside in omega (arith, h, n) }
+    record {
+      sorted = (replaced_now slots rows by_address place number row stored.sorted are is at).0;
+      within = λ k d inside. let h = stored.within k d inside in omega (arith, h, n);
+      aged = λ k d inside. let h = stored.aged k d inside in omega (arith, h, n);
+    }
 
--- and its index
-pub replaced_index : (slots rows : List Row) (by_address by_client : List ℕ) (place number : ℕ) (row : Row) → IsStored slots by_address by_client → rows_in slots by_address ≡ rows → number ≡ get_or by_address place number → IsRowPlace rows row.address place → addresses_in (set slots number row) by_client ≡ addresses_in slots by_client
-replaced_index slots rows by_address by_client place number row stored are is at = same_addresses slots by_client number row (subst (λ (n : ℕ). n < length slots) (sym this) (stored.sorted.within place 0 inside))
+-- and its indexes
+pub replaced_index : (slots rows : List Row) (by_address numbers : List ℕ) (place number : ℕ) (row : Row) → IsByAddress slots by_address → rows_in slots by_address ≡ rows → number ≡ get_or by_address place number → IsRowPlace rows row.address place → addresses_in (set slots number row) numbers ≡ addresses_in slots numbers
+replaced_index slots rows by_address numbers place number row sorted are is at = same_addresses slots numbers number row (subst (λ (n : ℕ). n < length slots) (sym this) (sorted.within place 0 inside))
     (sym (at.here row) ∙ ap (λ (rs : List Row). (get_or rs place row).address) (sym are) ∙ ap (λ (r : Row). r.address) (row_of_place slots by_address place row inside ∙ ap (row_in slots) (sym this))) where
       inside : place < length by_address
       inside = omega (arith, at.in_range, ap length are, length-map by_address (row_in slots))

@@ -1,6 +1,7 @@
--- The numbers of rows that rise in address, sorted by client and then by number.
-use Rattle.std.proofs.Common.{◌≡◌, ℕ, ◌+◌, ◌<◌, Bool, true, false, ◌&&◌, ◌||◌, not, List, [], ◌∷◌, ◌++◌, length, get_or, map, zero, suc, refl, sym, ap, ◌∙◌, subst, ⊎_elim, arith, ◌==◌, nat_lt}
+-- The numbers of rows that rise in address, sorted by key and then by number.
+use Rattle.std.proofs.Common.{◌≡◌, ℕ, ◌+◌, ◌-◌, ◌<◌, ◌^◌, Bor, Bool, true, false, ◌&&◌, ◌||◌, not, List, [], ◌∷◌, ◌++◌, length, get_or, map, zero, suc, refl, sym, ap, ◌∙◌, subst, ⊎_elim, arith, ◌==◌, nat_lt}
 use Rattle.std.specs.List.{All, IsDistinct, list_any, range_with_len}
+use Rattle.std.specs.Cmp.Lexicographic.{slice_cmp}
 use Rattle.std.specs.List.Sorted.{IsPermutation, IsSortedBy}
 use Rattle.std.specs.Ordering.{is_lt, nat_cmp, ordering_then}
 use Rattle.std.specs.declared.cmp.Ordering.{Ordering}
@@ -12,8 +13,10 @@ use Rattle.std.proofs.lemmas.List.FromFn.{get_or-range_with_len, length-range_wi
 use Rattle.std.proofs.lemmas.List.Sorted.{All-permutation, list_any-IsPermutation}
 use Rattle.std.proofs.lemmas.Map.Keys.{IsDistinct-IsPermutation, IsDistinct-from_apart, apart_from_distinct}
 use Rattle.kd_rows.specs.declared.row.Row.{Row}
-use Rattle.kd_rows.specs.Index.{AreKeys, IsKeyBelow, IsByClient, Rises, key_in, key_order, lists, row_in}
+use Rattle.kd_rows.specs.Index.{AreKeys, IsKeyBelow, IsByKey, Rises, age_key, age_of, key_in, key_order, lists, row_in}
+use Rattle.kd_rows.specs.Zones.{group_in}
 use Rattle.kd_rows.specs.Table.{Rise}
+use Rattle.kd_rows.proofs.Ages.{age_order, sorted_alike}
 use Rattle.kd_rows.proofs.Indexes.{at_lists}
 use Rattle.kd_rows.proofs.Keys.{below_from, below_trans}
 use Rattle.kd_rows.proofs.Places.{apart}
@@ -54,10 +57,10 @@ one slots rise n m left right same = ⊎_elim
     (cases_lt n m)
 
 -- one key more
-pub keys_more : {X : Type 0} (key : X → List ℕ × ℕ) (number : X → ℕ) (slots : List Row) (i : ℕ) (keys : List X) (x : X) → AreKeys key number slots i keys → number x ≡ i → key x ≡ key_in slots i → AreKeys key number slots (i + 1) (keys ++ x ∷ [])
-keys_more key number slots i keys x are is of = record {
+pub keys_more : {X : Type 0} (key : X → List ℕ × ℕ) (number : X → ℕ) (of : Row → List ℕ) (slots : List Row) (i : ℕ) (keys : List X) (x : X) → AreKeys key number of slots i keys → number x ≡ i → key x ≡ key_in of slots i → AreKeys key number of slots (i + 1) (keys ++ x ∷ [])
+keys_more key number of slots i keys x are is same_key = record {
   numbers = map-append number keys (x ∷ []) ∙ ap (λ (xs : List ℕ). xs ++ number x ∷ []) are.numbers ∙ ap (λ (n : ℕ). range_with_len 0 i ++ n ∷ []) is ∙ sym (range_more i);
-  keyed = All-push (λ y. key y ≡ key_in slots (number y)) keys x are.keyed (of ∙ ap (key_in slots) (sym is));
+  keyed = All-push (λ y. key y ≡ key_in of slots (number y)) keys x are.keyed (same_key ∙ ap (key_in of slots) (sym is));
 } where
   same : (xs : List ℕ) → map (λ n. n) xs ≡ xs
   same [] = refl
@@ -67,14 +70,14 @@ keys_more key number slots i keys x are is of = record {
   range_more i = sym (same (range_with_len 0 (i + 1))) ∙ map-range_with_len_more (λ n. n) 0 i i (omega arith) ∙ ap (λ (xs : List ℕ). xs ++ i ∷ []) (same (range_with_len 0 i))
 
 -- what is read of a row is the key of its number
-pub one_key : (slots : List Row) (i : ℕ) (row : Row) (client : List ℕ) (address : ℕ) → i < length slots → row ≡ get_or slots i row → client ≡ row.client → address ≡ row.address → ◌≡◌ {A = List ℕ × ℕ} (client, address) (key_in slots i)
-one_key slots i row client address within is theirs at =
+pub one_key : (of : Row → List ℕ) (slots : List Row) (i : ℕ) (row : Row) (order : List ℕ) (address : ℕ) → i < length slots → row ≡ get_or slots i row → order ≡ of row → address ≡ row.address → ◌≡◌ {A = List ℕ × ℕ} (order, address) (key_in of slots i)
+one_key of slots i row order address within is theirs at =
     let here : row ≡ row_in slots i = is ∙ get_or_default slots i row (row_in [] 0) within in
-    ap (λ (c : List ℕ). (c, address)) (theirs ∙ ap (λ (r : Row). r.client) here) ∙ ap (λ (a : ℕ). ((row_in slots i).client, a)) (at ∙ ap (λ (r : Row). r.address) here)
+    ap (λ (c : List ℕ). (c, address)) (theirs ∙ ap of here) ∙ ap (λ (a : ℕ). (of (row_in slots i), a)) (at ∙ ap (λ (r : Row). r.address) here)
 
 -- no two keys have one number
-keys_apart : {X : Type 0} (key : X → List ℕ × ℕ) (number : X → ℕ) (slots : List Row) (count : ℕ) (keys : List X) → AreKeys key number slots count keys → IsDistinct (λ x y. number x == number y) keys
-keys_apart {X} key number slots count keys are = IsDistinct-from_apart (λ x y. number x == number y) keys
+keys_apart : {X : Type 0} (key : X → List ℕ × ℕ) (number : X → ℕ) (of : Row → List ℕ) (slots : List Row) (count : ℕ) (keys : List X) → AreKeys key number of slots count keys → IsDistinct (λ x y. number x == number y) keys
+keys_apart {X} key number of slots count keys are = IsDistinct-from_apart (λ x y. number x == number y) keys
     (λ i j d order within. rw (here i d (omega arith), here j d within) (ne_eqb i j (λ e. omega arith))) where
       count_is : length keys ≡ count
       count_is = sym (length-map keys number) ∙ ap length are.numbers ∙ length-range_with_len 0 count
@@ -90,19 +93,19 @@ below_whole : (k l : List ℕ × ℕ) (n m : ℕ) → IsKeyBelow k l → is_lt (
 below_whole k l n m below = rw below refl
 
 -- the numbers of sorted keys
-pub sorted_numbers : {X : Type 0} (key : X → List ℕ × ℕ) (number : X → ℕ) (slots : List Row) (keys sorted : List X) → Rise slots → AreKeys key number slots (length slots) keys → IsPermutation keys sorted
-    → IsSortedBy (λ x y. is_lt (whole_order (key x) (number x) (key y) (number y))) sorted → IsByClient slots (map number sorted)
-sorted_numbers {X} key number slots keys sorted rise are moved order = record { same = same; rising = rises_by_steps (key_in slots) (map number sorted) steps } where
+pub sorted_numbers : {X : Type 0} (key : X → List ℕ × ℕ) (number : X → ℕ) (of : Row → List ℕ) (slots : List Row) (keys sorted : List X) → Rise slots → AreKeys key number of slots (length slots) keys → IsPermutation keys sorted
+    → IsSortedBy (λ x y. is_lt (whole_order (key x) (number x) (key y) (number y))) sorted → IsByKey of slots (map number sorted)
+sorted_numbers {X} key number of slots keys sorted rise are moved order = record { same = same; rising = rises_by_steps (key_in of slots) (map number sorted) steps } where
   same : (n : ℕ) → lists (map number sorted) n ≡ nat_lt n (length slots)
   same n =
       sym (any_of number sorted n) ∙ sym (list_any-IsPermutation (λ x. number x == n) keys sorted moved) ∙ any_of number keys n ∙ ap (λ (xs : List ℕ). lists xs n) are.numbers
       ∙ lists_first (length slots) n
 
-  keyed : All (λ x. key x ≡ key_in slots (number x)) sorted
-  keyed = All-permutation (λ x. key x ≡ key_in slots (number x)) keys sorted moved are.keyed
+  keyed : All (λ x. key x ≡ key_in of slots (number x)) sorted
+  keyed = All-permutation (λ x. key x ≡ key_in of slots (number x)) keys sorted moved are.keyed
 
   apart_sorted : IsDistinct (λ x y. number x == number y) sorted
-  apart_sorted = IsDistinct-IsPermutation (λ x y. number x == number y) (λ x y. flip (number x) (number y)) keys sorted moved (keys_apart key number slots (length slots) keys are) where
+  apart_sorted = IsDistinct-IsPermutation (λ x y. number x == number y) (λ x y. flip (number x) (number y)) keys sorted moved (keys_apart key number of slots (length slots) keys are) where
     flip : (a b : ℕ) → (a == b) ≡ (b == a)
     flip a b = grind (arith, nat_tests)
 
@@ -127,12 +130,22 @@ sorted_numbers {X} key number slots keys sorted rise are moved order = record { 
         let same_address : (row_in slots (number x)).address ≡ (row_in slots (number y)).address = ap (λ (l : List ℕ × ℕ). l.1) (sym (keyed k d (omega arith)) ∙ e ∙ keyed (k + 1) d inside) in
         false≢true (sym (apart_from_distinct (λ x y. number x == number y) sorted k (k + 1) d apart_sorted (omega arith) inside) ∙ eq-eqb (number x) (number y) (one slots rise (number x) (number y) (within k d (omega arith)) (within (k + 1) d inside) same_address))
 
-  steps : (k : ℕ) → k + 1 < length (map number sorted) → IsKeyBelow (key_in slots (get_or (map number sorted) k 0)) (key_in slots (get_or (map number sorted) (k + 1) 0))
+  steps : (k : ℕ) → k + 1 < length (map number sorted) → IsKeyBelow (key_in of slots (get_or (map number sorted) k 0)) (key_in of slots (get_or (map number sorted) (k + 1) 0))
   steps k inside = by sorted refl where
-    by : (xs : List X) → sorted ≡ xs → IsKeyBelow (key_in slots (get_or (map number sorted) k 0)) (key_in slots (get_or (map number sorted) (k + 1) 0))
+    by : (xs : List X) → sorted ≡ xs → IsKeyBelow (key_in of slots (get_or (map number sorted) k 0)) (key_in of slots (get_or (map number sorted) (k + 1) 0))
     by [] e = absurd (omega (arith, length-map sorted number, ap length e))
     by (d ∷ xs) e =
         let n : k + 1 < length sorted = omega (arith, length-map sorted number) in
-        let this : key (get_or sorted k d) ≡ key_in slots (get_or (map number sorted) k 0) = keyed k d (omega arith) ∙ ap (key_in slots) (sym (get_or-map number sorted k d 0 (omega arith))) in
-        let next : key (get_or sorted (k + 1) d) ≡ key_in slots (get_or (map number sorted) (k + 1) 0) = keyed (k + 1) d n ∙ ap (key_in slots) (sym (get_or-map number sorted (k + 1) d 0 n)) in
-        subst (λ (l : List ℕ × ℕ). IsKeyBelow l (key_in slots (get_or (map number sorted) (k + 1) 0))) this (subst (λ (l : List ℕ × ℕ). IsKeyBelow (key (get_or sorted k d)) l) next (step k d n))
+        let this : key (get_or sorted k d) ≡ key_in of slots (get_or (map number sorted) k 0) = keyed k d (omega arith) ∙ ap (key_in of slots) (sym (get_or-map number sorted k d 0 (omega arith))) in
+        let next : key (get_or sorted (k + 1) d) ≡ key_in of slots (get_or (map number sorted) (k + 1) 0) = keyed (k + 1) d n ∙ ap (key_in of slots) (sym (get_or-map number sorted (k + 1) d 0 n)) in
+        subst (λ (l : List ℕ × ℕ). IsKeyBelow l (key_in of slots (get_or (map number sorted) (k + 1) 0))) this (subst (λ (l : List ℕ × ℕ). IsKeyBelow (key (get_or sorted k d)) l) next (step k d n))
+
+-- what is read of a row is what it is ordered by in the order of age
+pub age_is : (cuts : List ℕ) (client : List ℕ) (group left : ℕ) (row : Row) → client ≡ row.client → group ≡ group_in cuts row → left ≡ 2 ^ 64 - 1 - row.changed → age_key client group left ≡ age_of cuts row
+age_is cuts client group left row theirs kind when =
+    ap (λ (c : List ℕ). age_key c group left) theirs ∙ ap (λ (s : ℕ). age_key row.client s left) kind ∙ ap (age_key row.client (group_in cuts row)) when
+
+-- keys that are sorted by client, by group and age, by address and by number are so by their keys
+pub sorted_ages : (keys : List (Bor (List ℕ) × (ℕ × ℕ) × ℕ × ℕ)) → IsSortedBy (λ x y. is_lt (ordering_then (ordering_then (ordering_then (slice_cmp nat_cmp x.0.now y.0.now) (ordering_then (nat_cmp x.1.0 y.1.0) (nat_cmp x.1.1 y.1.1))) (nat_cmp x.2 y.2)) (nat_cmp x.3 y.3))) keys
+    → IsSortedBy (λ x y. is_lt (whole_order (age_key x.0.now x.1.0 x.1.1, x.2) x.3 (age_key y.0.now y.1.0 y.1.1, y.2) y.3)) keys
+sorted_ages keys sorted = sorted_alike _ _ (λ x y. ap (λ (o : Ordering). is_lt (ordering_then (ordering_then o (nat_cmp x.2 y.2)) (nat_cmp x.3 y.3))) (age_order x.0.now y.0.now x.1.0 y.1.0 x.1.1 y.1.1)) keys sorted

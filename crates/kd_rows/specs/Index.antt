@@ -1,6 +1,6 @@
 -- The index of the table, places in it and among the rows, and slots: words of private contracts
 -- and invariants alone.
-use Rattle.std.specs.Prelude.{◌≡◌, ℕ, ◌<◌, ◌≤◌, ◌^◌, Bool, false, ◌||◌, List, [], ◌∷◌, length, Option, Some, None, is_some, slice_index, slice_index_or, ◌==◌, map, nat_lt, ◌/◌, IsSome, option_map}
+use Rattle.std.specs.Prelude.{◌≡◌, ℕ, ◌-◌, ◌<◌, ◌≤◌, ◌^◌, suc, Bool, false, ◌||◌, List, [], ◌∷◌, length, Option, Some, None, is_some, slice_index, slice_index_or, ◌==◌, map, nat_lt, ◌/◌, IsSome, option_map}
 use Rattle.std.specs.List.{All, insert, range_with_len, remove}
 use Rattle.std.specs.Cmp.Lexicographic.{slice_cmp}
 use Rattle.std.specs.Ordering.{nat_cmp, ordering_then}
@@ -8,16 +8,27 @@ use Rattle.std.specs.declared.cmp.Ordering.{Ordering}
 use Rattle.std.specs.declared.cmp.Ordering.TheVariants.{Less}
 use Rattle.kd_rows.specs.declared.blocks.Bound.{Bound}
 use Rattle.kd_rows.specs.declared.full.Run.{Run}
+use Rattle.kd_rows.specs.declared.holds.Holds.{Holds}
 use Rattle.kd_rows.specs.declared.row.Row.{Row}
 use Rattle.kd_rows.specs.declared.row.State.TheVariants.{Offered}
 use Rattle.kd_rows.specs.Full.{AreFull}
+use Rattle.kd_rows.specs.Holds.{AreHolds}
 use Rattle.kd_rows.specs.Row.{IsInRange}
 use Rattle.kd_rows.specs.Table.{Rise, row_at, latest_of}
+use Rattle.kd_rows.specs.Zones.{group_in}
+
+-- what a row is ordered by before its address, nothing where there is no row
+abbrev pub order_in : (Row → List ℕ) → Option Row → List ℕ
+order_in of None = []
+order_in of (Some row) = of row
 
 -- the client of a row
+abbrev pub client_of : Row → List ℕ
+client_of row = row.client
+
+-- the client of a row, no bytes where there is none
 abbrev pub client_in : Option Row → List ℕ
-client_in None = []
-client_in (Some row) = row.client
+client_in row = order_in client_of row
 
 -- the client that has an address, no bytes where it has no row
 abbrev pub client_at : List Row → ℕ → List ℕ
@@ -27,13 +38,31 @@ client_at rows a = client_in (row_at rows a)
 abbrev pub key_order : List ℕ × ℕ → List ℕ × ℕ → Ordering
 key_order k l = ordering_then (slice_cmp nat_cmp k.0 l.0) (nat_cmp k.1 l.1)
 
+-- the numbers of a client, a group and an age as one list, in which an end comes before each byte
+abbrev pub age_key : List ℕ → ℕ → ℕ → List ℕ
+age_key [] group age = 0 ∷ group ∷ age ∷ []
+age_key (byte ∷ client) group age = suc byte ∷ age_key client group age
+
+-- what a row is ordered by in the order of age: its client, its group (its state and the zone of its
+-- address) and how early it was set
+abbrev pub age_of : List ℕ → Row → List ℕ
+age_of cuts row = age_key row.client (group_in cuts row) (2 ^ 64 - 1 - row.changed)
+
 -- a key comes before another
 abbrev pub IsKeyBelow : List ℕ × ℕ → List ℕ × ℕ → Type 0
 IsKeyBelow k l = key_order k l ≡ Less
 
--- what an address of the index is ordered by
+-- what an address of an index is ordered by
+abbrev pub key_by : (Row → List ℕ) → List Row → ℕ → List ℕ × ℕ
+key_by of rows a = (order_in of (row_at rows a), a)
+
+-- the same, of the index by client
 abbrev pub key_at : List Row → ℕ → List ℕ × ℕ
-key_at rows a = (client_at rows a, a)
+key_at rows = key_by client_of rows
+
+-- the same, of the index by age
+abbrev pub age_at : List ℕ → List Row → ℕ → List ℕ × ℕ
+age_at cuts rows = key_by (age_of cuts) rows
 
 -- the addresses stand in the order of their keys
 abbrev pub Rises : (ℕ → List ℕ × ℕ) → List ℕ → Type 0
@@ -46,10 +75,10 @@ abbrev pub lists : List ℕ → ℕ → Bool
 lists [] a = false
 lists (x ∷ xs) a = (x == a) || lists xs a
 
--- the index has the addresses of the rows, in the order of their keys
-pub record IsIndex (rows : List Row) (index : List ℕ) : Type 0 where
+-- an index has the addresses of the rows, in the order of their keys
+pub record IsIndex (of : Row → List ℕ) (rows : List Row) (index : List ℕ) : Type 0 where
   pub same : (a : ℕ) → lists index a ≡ is_some (row_at rows a)
-  pub rising : Rises (key_at rows) index
+  pub rising : Rises (key_by of rows) index
 
 -- the row of a number, and one that is none past the last
 abbrev pub row_in : List Row → ℕ → Row
@@ -73,32 +102,35 @@ pub record IsByAddress (slots : List Row) (numbers : List ℕ) : Type 0 where
   pub rise : Rise (rows_in slots numbers)
   pub bounded : All (λ row. row.address < 2 ^ 32) (rows_in slots numbers)
 
--- what is true of slots and the lists of their numbers in both orders
-pub record IsStored (slots : List Row) (by_address by_client : List ℕ) : Type 0 where
+-- what is true of slots and the lists of their numbers in the three orders
+pub record IsStored (slots : List Row) (by_address by_client by_age : List ℕ) : Type 0 where
   pub sorted : IsByAddress slots by_address
   pub within : All (λ n. n < length slots) by_client
+  pub aged : All (λ n. n < length slots) by_age
 
--- rows in rising address, their addresses in the order of client and address, and for how many more
--- there is room
+-- rows in rising address, their addresses in the order of client and address and in that of age,
+-- the cuts between zones, and for how many more rows there is room
 pub record Ordered : Type 0 where
   pub rows : List Row
   pub index : List ℕ
+  pub ages : List ℕ
+  pub cuts : List ℕ
   pub room : ℕ
 
 -- what a number is ordered by
-abbrev pub key_in : List Row → ℕ → List ℕ × ℕ
-key_in slots n = ((row_in slots n).client, (row_in slots n).address)
+abbrev pub key_in : (Row → List ℕ) → List Row → ℕ → List ℕ × ℕ
+key_in of slots n = (of (row_in slots n), (row_in slots n).address)
 
 -- the numbers of the slots, in the order of their keys
-pub record IsByClient (slots : List Row) (numbers : List ℕ) : Type 0 where
+pub record IsByKey (of : Row → List ℕ) (slots : List Row) (numbers : List ℕ) : Type 0 where
   pub same : (n : ℕ) → lists numbers n ≡ nat_lt n (length slots)
-  pub rising : Rises (key_in slots) numbers
+  pub rising : Rises (key_in of slots) numbers
 
 -- keys with their numbers: the first so many numbers, each with the key of its slot
-pub record AreKeys {X : Type 0} (key : X → List ℕ × ℕ) (number : X → ℕ) (slots : List Row)
-    (count : ℕ) (keys : List X) : Type 0 where
+pub record AreKeys {X : Type 0} (key : X → List ℕ × ℕ) (number : X → ℕ) (of : Row → List ℕ)
+    (slots : List Row) (count : ℕ) (keys : List X) : Type 0 where
   pub numbers : map number keys ≡ range_with_len 0 count
-  pub keyed : All (λ x. key x ≡ key_in slots (number x)) keys
+  pub keyed : All (λ x. key x ≡ key_in of slots (number x)) keys
 
 -- the block of an address, of 64 addresses
 abbrev pub block_number : ℕ → ℕ
@@ -141,15 +173,17 @@ IsNow rows block None least = IsBound rows block least
 IsNow rows block (Some kept) least = least ≡ kept
 
 -- what is true of the fields of a table
-pub record IsKept (rows : List Row) (latest least : ℕ) (index : List ℕ) (bounds : List Row)
+pub record IsKept (table : Ordered) (latest least : ℕ) (holds : Holds) (bounds : List Row)
     (runs : List Run) (room most : ℕ) : Type 0 where
-  pub rise : Rise rows
-  pub ranged : All IsInRange rows
-  pub newest : latest ≡ latest_of rows
-  pub ends : All (λ row. least ≤ row.ends) rows
-  pub indexed : IsIndex rows index
-  pub bounded : IsBounded rows bounds
-  pub full : AreFull rows runs
+  pub rise : Rise table.rows
+  pub ranged : All IsInRange table.rows
+  pub newest : latest ≡ latest_of table.rows
+  pub ends : All (λ row. least ≤ row.ends) table.rows
+  pub held : AreHolds holds table.rows
+  pub indexed : IsIndex client_of table.rows table.index
+  pub aged : IsIndex (age_of table.cuts) table.rows table.ages
+  pub bounded : IsBounded table.rows bounds
+  pub full : AreFull table.rows runs
   pub enough : room ≤ most
 
 -- the rows before a place have lesser addresses, and those from it on do not

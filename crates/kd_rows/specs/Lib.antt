@@ -3,4 +3,7 @@ pub mod Table
 pub mod Index
 pub mod Laws
 pub mod Tiers
+pub mod Zones
 pub mod Full
+pub mod Ages
+pub mod Holds

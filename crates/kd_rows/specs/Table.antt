@@ -1,8 +1,10 @@
 -- The table of leases: its rows, one an address, in rising address.
-use Rattle.std.specs.Prelude.{◌≡◌, ℕ, ◌+◌, ◌-◌, ◌^◌, ◌<◌, ◌≤◌, max, min, Bool, true, false, ◌||◌, List, [], ◌∷◌, map, Option, Some, None, is_some, IsSome, nat_eq, nat_lt, ◌==◌, if◌then◌else◌}
+use Rattle.std.specs.Prelude.{◌≡◌, ℕ, ◌+◌, ◌-◌, ◌^◌, ◌<◌, ◌≤◌, max, min, Bool, true, false, ◌||◌, ◌&&◌, not, List, [], ◌∷◌, map, Option, Some, None, is_some, IsSome, nat_eq, nat_lt, ◌==◌, if◌then◌else◌}
 use Rattle.std.specs.List.{filter}
 use Rattle.std.specs.Cmp.Lexicographic.{pointwise}
 use Rattle.kd_rows.specs.declared.row.Row.{Row}
+use Rattle.kd_rows.specs.declared.row.State.{State}
+use Rattle.kd_rows.specs.Row.{state_number}
 
 -- the rows, a moment before which none of them ends, and for how many new addresses, at least,
 -- there is memory
@@ -83,6 +85,32 @@ IsNextOf rows client first last (Some row) =
     × (belongs_to client row ≡ true)
     × ((a : ℕ) (other : Row) → first ≤ a → a < row.address → row_at rows a ≡ Some other
     → belongs_to client other ≡ false)
+
+-- of two rows the first is newer: it was set later, or at one moment and it has the lesser address
+abbrev pub is_newer_row : Row → Row → Bool
+is_newer_row row other =
+    nat_lt other.changed row.changed
+    || ((row.changed == other.changed) && nat_lt row.address other.address)
+
+-- a row comes after another in the order of age; all do where there is none
+abbrev pub is_after : Option Row → Row → Bool
+is_after None row = true
+is_after (Some before) row = is_newer_row before row
+
+-- a row of a client, in a state, from first to last, after another in the order of age
+abbrev pub is_aged : List ℕ → State → ℕ → ℕ → Option Row → Row → Bool
+is_aged client state first last before row =
+    belongs_to client row
+    && ((state_number row.state == state_number state)
+    && (not (nat_lt row.address first) && (not (nat_lt last row.address) && is_after before row)))
+
+-- the newest of the rows that are such, or that none is
+abbrev pub IsNewestRow : List Row → (Row → Bool) → Option Row → Type 0
+IsNewestRow rows such None = (a : ℕ) (row : Row) → row_at rows a ≡ Some row → such row ≡ false
+IsNewestRow rows such (Some row) =
+    (row_at rows row.address ≡ Some row) × (such row ≡ true)
+    × ((a : ℕ) (other : Row) → row_at rows a ≡ Some other → such other ≡ true
+    → is_newer_row other row ≡ false)
 
 -- the row of the least address from first to last that has ended by a moment, or that there is none
 abbrev pub IsNextEnded : List Row → ℕ → ℕ → ℕ → Option Row → Type 0

@@ -1,7 +1,7 @@
 ghost use Rattle.std.specs.Prelude.{◌≡◌, slice_get};
 ghost use Rattle.std.specs.Option.{option_copied};
 ghost use Rattle.std.specs.Ordering.{is_lt};
-ghost use Rattle.kd_rows.specs.Index.{IsIndex, IsKeyPlace, Rises, key_at, key_order};
+ghost use Rattle.kd_rows.specs.Index.{IsIndex, IsKeyPlace, Rises, client_of, key_at, key_order};
 ghost use Rattle.kd_rows.specs.Table.{IsNextOf, Rise, addresses_of};
 
 use crate::row::Row;
@@ -41,7 +41,7 @@ pub(crate) fn key_place(rows: &Sorted, client: &[u8], address: u32) -> usize
 // The address at a place among those of a client, where there are so many.
 pub(crate) fn nth_of(rows: &Sorted, client: &[u8], i: usize) -> Option<u32>
     requires rise { Rise rows.now.rows }
-    requires indexed { IsIndex rows.now.rows rows.now.index }
+    requires indexed { IsIndex client_of rows.now.rows rows.now.index }
     ensures { result ≡ slice_get (addresses_of client.now rows.now.rows) i }
 {
     let start = key_place(rows, client, 0);
@@ -59,7 +59,7 @@ pub(crate) fn nth_of(rows: &Sorted, client: &[u8], i: usize) -> Option<u32>
 // The row of a client of the least address from `first` to `last`: it stands at the place of its
 // key, if it has one.
 pub(crate) fn next_of<'a>(rows: &'a Sorted, client: &[u8], first: u32, last: u64) -> Option<&'a Row>
-    requires { IsIndex rows.now.rows rows.now.index }
+    requires { IsIndex client_of rows.now.rows rows.now.index }
     ensures { IsNextOf rows.now.rows client.now first last (option_copied result) }
 {
     let place = key_place(rows, client, first);

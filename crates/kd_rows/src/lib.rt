@@ -5,10 +5,13 @@
 //! memory, which is asked for before. Times are in seconds, in the ranges of `specs/Row.antt`.
 #![tactic(auto)]
 
+mod across;
+mod age;
 mod blocks;
 mod ended;
 mod find;
 mod full;
+mod holds;
 mod index;
 pub mod laws;
 mod numbers;
@@ -17,6 +20,7 @@ mod row;
 mod rows;
 mod sorted;
 mod tiered;
+mod zones;
 
 pub use row::{Row, State};
 pub use rows::Rows;

@@ -1,8 +1,11 @@
-ghost use Rattle.std.specs.Prelude.{◌≡◌, ◌<◌, ◌≤◌, ◌^◌, IfOk, length};
-ghost use Rattle.kd_rows.specs.Index.{AreKeys, IsByAddress, IsByClient, rows_in};
+ghost use Rattle.std.specs.Prelude.{◌≡◌, ◌-◌, ◌<◌, ◌≤◌, ◌^◌, IfOk, length};
+ghost use Rattle.kd_rows.specs.Index.{AreKeys, IsByAddress, IsByKey, age_key, age_of, client_of, rows_in};
+ghost use Rattle.kd_rows.specs.Zones.{group_in};
 ghost use Rattle.kd_rows.specs.Table.{Rise};
 
+use crate::age::left_after;
 use crate::row::Row;
+use crate::zones::Zones;
 use std::alloc::AllocError;
 
 // The number of a row at an address. There is a row for each address at most, so it has 32 bits as
@@ -47,7 +50,7 @@ fn key_of(row: &Row, number: usize) -> (&[u8], u32, u32)
 fn keys_of(rows: &Vec<Row>) -> Result<Vec<(&[u8], u32, u32)>, AllocError>
     requires { Rise rows.now.items }
     ensures { IfOk result
-        (λ keys. AreKeys (λ x. (x.0.now, x.1)) (λ x. x.2) rows.now.items
+        (λ keys. AreKeys (λ x. (x.0.now, x.1)) (λ x. x.2) client_of rows.now.items
         (length rows.now.items) keys.items) }
 {
     let mut keys = Vec::new(*rows.allocator());
@@ -58,10 +61,10 @@ fn keys_of(rows: &Vec<Row>) -> Result<Vec<(&[u8], u32, u32)>, AllocError>
     Ok(keys)
 }
 
-// The numbers of rows in the order of their keys.
+// The numbers of rows in the order of client and address.
 pub(crate) fn numbers_by_client(rows: &Vec<Row>) -> Result<Vec<u32>, AllocError>
     requires { Rise rows.now.items }
-    ensures { IfOk result (λ numbers. IsByClient rows.now.items numbers.items) }
+    ensures { IfOk result (λ numbers. IsByKey client_of rows.now.items numbers.items) }
 {
     let mut keys = keys_of(rows)?;
     keys.sort_unstable();
@@ -69,6 +72,56 @@ pub(crate) fn numbers_by_client(rows: &Vec<Row>) -> Result<Vec<u32>, AllocError>
     numbers.reserve_exact(keys.len())?;
     for key in &keys {
         numbers.push(key.2)?;
+    }
+    Ok(numbers)
+}
+
+// The key of a row in the order of age, with its number.
+fn age_with<'a>(zones: &Zones, row: &'a Row, number: usize) -> (&'a [u8], (u64, u64), u32, u32)
+    requires { number ≤ row.now.address }
+    ensures client { result.0.now ≡ row.now.client }
+    ensures group { result.1.0 ≡ group_in zones.now row.now }
+    ensures left { result.1.1 ≡ 2 ^ 64 - 1 - row.now.changed }
+    ensures address { result.2 ≡ row.now.address }
+    ensures number { result.3 ≡ number }
+{
+    (
+        row.client.as_slice(),
+        (zones.group(row), left_after(row.changed)),
+        row.address,
+        number_of(number, row.address),
+    )
+}
+
+// The keys of rows in the order of age, each with the number of its row.
+fn ages_of<'a>(
+    zones: &Zones,
+    rows: &'a Vec<Row>,
+) -> Result<Vec<(&'a [u8], (u64, u64), u32, u32)>, AllocError>
+    requires { Rise rows.now.items }
+    ensures { IfOk result
+        (λ keys. AreKeys (λ x. (age_key x.0.now x.1.0 x.1.1, x.2)) (λ x. x.3)
+        (age_of zones.now) rows.now.items (length rows.now.items) keys.items) }
+{
+    let mut keys = Vec::new(*rows.allocator());
+    keys.reserve_exact(rows.len())?;
+    for i in 0..rows.len() {
+        keys.push(age_with(zones, &rows[i], i))?;
+    }
+    Ok(keys)
+}
+
+// The numbers of rows in the order of age.
+pub(crate) fn numbers_by_age(zones: &Zones, rows: &Vec<Row>) -> Result<Vec<u32>, AllocError>
+    requires { Rise rows.now.items }
+    ensures { IfOk result (λ numbers. IsByKey (age_of zones.now) rows.now.items numbers.items) }
+{
+    let mut ages = ages_of(zones, rows)?;
+    ages.sort_unstable();
+    let mut numbers = Vec::new(*rows.allocator());
+    numbers.reserve_exact(ages.len())?;
+    for age in &ages {
+        numbers.push(age.3)?;
     }
     Ok(numbers)
 }

@@ -3,15 +3,17 @@ ghost use Rattle.std.specs.List.{All};
 ghost use Rattle.std.specs.Option.{option_copied};
 ghost use Rattle.kd_rows.specs.Row.{IsInRange};
 ghost use Rattle.kd_rows.specs.Index.{end_at};
-ghost use Rattle.kd_rows.specs.Table.{IsFirstGap, IsNext, IsNextEnded, IsNextOf, Rise, addresses_of, latest_of, least_of, row_at, room_for_row, with_row};
+ghost use Rattle.kd_rows.specs.Table.{IsFirstGap, IsNewestRow, IsNext, IsNextEnded, IsNextOf, Rise, addresses_of, is_aged, latest_of, least_of, row_at, room_for_row, with_row};
 
+use crate::across::newest_in;
 use crate::blocks::{Blocks, Bound, block_of, bound_all, bound_now, kept_bound};
 use crate::ended::next_ended;
 use crate::find::{find, gap_in};
 use crate::full::{Full, full_of};
+use crate::holds::{Holds, holds_in};
 use crate::index::{next_of, nth_of};
 use crate::put::put_row;
-use crate::row::Row;
+use crate::row::{Row, State};
 use crate::sorted::Sorted;
 use std::alloc::AllocError;
 use std::marker::Model;
@@ -26,6 +28,7 @@ pub struct Rows {
     full: Full,
     latest: u64,
     least: u64,
+    holds: Holds,
     // For how many new addresses both have room.
     room: usize,
 }
@@ -39,7 +42,7 @@ impl Model for Rows {
 
     ghost view = { λ t. record { rows = t.rows.rows; least = t.least; room = t.room } };
 
-    ghost invariant = { λ t. IsKept t.rows.rows t.latest t.least t.rows.index t.blocks.rows t.full
+    ghost invariant = { λ t. IsKept t.rows t.latest t.least t.holds t.blocks.rows t.full
         t.room (min t.rows.room t.blocks.room) };
 }
 
@@ -70,11 +73,28 @@ impl Rows {
         ensures rows { IfOk result (λ t. t.rows ≡ rows.items) }
         ensures least { IfOk result (λ t. t.least ≡ least_of rows.items) }
     {
+        let cuts = Vec::new(*rows.allocator());
+        Rows::new_cut(rows, cuts)
+    }
+
+    /// The same table. Where addresses from `first` to `last` are cut from those beside them, at
+    /// `first` and behind `last`, `newest_of` looks at no row but there.
+    ///
+    /// # Errors
+    ///
+    /// As of `new`.
+    pub fn new_cut(rows: Vec<Row>, cuts: Vec<u32>) -> Result<Rows, AllocError>
+        requires rise { Rise rows.items }
+        requires ranges { All IsInRange rows.items }
+        ensures rows { IfOk result (λ t. t.rows ≡ rows.items) }
+        ensures least { IfOk result (λ t. t.least ≡ least_of rows.items) }
+    {
         let latest = latest_in(&rows);
         let least = least_in(&rows);
+        let holds = holds_in(&rows);
         let alloc = *rows.allocator();
         let mut blocks = Blocks::new(alloc);
-        let sorted = Sorted::new(rows)?;
+        let sorted = Sorted::new(rows, cuts)?;
         bound_all(&mut blocks, &sorted)?;
         let full = full_of(alloc, &sorted)?;
         Ok(Rows {
@@ -84,6 +104,7 @@ impl Rows {
             full,
             latest,
             least,
+            holds,
         })
     }
 
@@ -92,7 +113,9 @@ impl Rows {
         ensures len { result ≡ length self.now.rows }
         ensures rise { Rise self.now.rows }
         ensures ranges { All IsInRange self.now.rows }
+        ensures bounded { All (λ row. row.address < 2 ^ 32) self.now.rows }
     {
+        self.rows.have_bounds();
         self.rows.len()
     }
 
@@ -140,6 +163,14 @@ impl Rows {
         self.least
     }
 
+    /// For how many seconds, at most, a row of a state holds from the moment at which it was set: of
+    /// all that were set, also of those that were replaced.
+    pub fn longest(&self, state: State) -> u64
+        ensures { All (λ row. row.state ≡ state → row.ends ≤ row.changed + result) self.now.rows }
+    {
+        self.holds.of(state)
+    }
+
     /// The address at an index among those of a client, which rise.
     pub fn of_client(&self, client: &[u8], i: usize) -> Option<u32>
         ensures { result ≡ slice_get (addresses_of client.now self.now.rows) i }
@@ -175,6 +206,23 @@ impl Rows {
         ensures { IsNextOf self.now.rows client.now first last (option_copied result) }
     {
         next_of(&self.rows, client, first, last)
+    }
+
+    /// The newest of a client's rows in a state from `first` to `last`: set last, and of those of one
+    /// moment that of the least address. With `before`, of those that come after it in this order.
+    pub fn newest_of(
+        &self,
+        client: &[u8],
+        state: State,
+        first: u32,
+        last: u32,
+        before: Option<&Row>,
+    ) -> Option<&Row>
+        ensures { IsNewestRow self.now.rows
+            (is_aged client.now state first last (option_copied before.entry))
+            (option_copied result) }
+    {
+        newest_in(&self.rows, client, state, first, last, before)
     }
 
     /// The row of the least address from `first` to `last` that has ended by a moment.
@@ -231,6 +279,7 @@ impl Rows {
         self.room = room_after(self.room, replaced);
         self.latest = row.changed;
         self.least = self.least.min(row.ends);
+        self.holds = self.holds.with(&row);
         put_row(&mut self.rows, row);
         let least = bound_now(&self.rows, address, kept);
         self.blocks.set(Bound { block, least });

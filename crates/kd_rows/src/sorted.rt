@@ -1,24 +1,28 @@
-ghost use Rattle.std.specs.Prelude.{◌≡◌, ◌+◌, ◌<◌, ◌≤◌, length, IfOk, None, OnOk, Some, slice_get, slice_index, slice_index_or, vec_capacity, vec_len};
-ghost use Rattle.std.specs.List.{insert, remove};
+ghost use Rattle.std.specs.Prelude.{◌≡◌, ◌+◌, ◌<◌, ◌≤◌, ◌^◌, length, IfOk, None, OnOk, Some, slice_get, slice_index, slice_index_or, vec_capacity, vec_len};
+ghost use Rattle.std.specs.List.{All, insert, remove};
 ghost use Rattle.std.specs.Option.{option_copied};
-ghost use Rattle.kd_rows.specs.Index.{IsRowPlace, IsIndex, IsPlace};
+ghost use Rattle.kd_rows.specs.Index.{IsRowPlace, IsIndex, IsPlace, age_of, client_of};
 ghost use Rattle.kd_rows.specs.Table.{Rise, row_at, with_row};
 
-use crate::numbers::{number_of, numbers_by_address, numbers_by_client};
+use crate::numbers::{number_of, numbers_by_address, numbers_by_age, numbers_by_client};
 use crate::row::Row;
 use crate::tiered::Tiered;
+use crate::zones::Zones;
 use std::alloc::AllocError;
 use std::marker::Model;
 
-// Rows in rising address, with an index of their addresses. A row stays in the slot in which it
+// Rows in rising address, with two indexes of their addresses. A row stays in the slot in which it
 // came: where one is put among the others, only the numbers of slots move.
 #[derive(Drop)]
 pub(crate) struct Sorted {
     slots: Vec<Row>,
     // The numbers of the slots, in rising address of their rows.
     by_address: Tiered,
-    // The numbers of the slots, in the order of the index.
+    // The numbers of the slots, in the order of client and address.
     by_client: Tiered,
+    // The numbers of the slots, in the order of client, state, zone, falling moment and address.
+    by_age: Tiered,
+    zones: Zones,
 }
 
 impl Model for Sorted {
@@ -29,29 +33,36 @@ impl Model for Sorted {
 
     ghost view = { λ s. record {
       rows = rows_in s.slots.items s.by_address.numbers;
-      index = addresses_in
-          s.slots.items s.by_client.numbers;
+      index = addresses_in s.slots.items s.by_client.numbers;
+      ages = addresses_in s.slots.items s.by_age.numbers;
+      cuts = s.zones;
       room = min (vec_capacity s.slots - vec_len s.slots)
-          (min s.by_address.room s.by_client.room);
+          (min s.by_address.room (min s.by_client.room s.by_age.room));
     } };
 
-    ghost invariant = { λ s. IsStored s.slots.items s.by_address.numbers s.by_client.numbers };
+    ghost invariant = { λ s. IsStored s.slots.items s.by_address.numbers s.by_client.numbers
+        s.by_age.numbers };
 }
 
 impl Sorted {
-    // Rows that rise in address, each in the slot of its place.
-    pub(crate) fn new(rows: Vec<Row>) -> Result<Sorted, AllocError>
+    // Rows that rise in address, each in the slot of its place, and zones between cuts.
+    pub(crate) fn new(rows: Vec<Row>, cuts: Vec<u32>) -> Result<Sorted, AllocError>
         requires { Rise rows.items }
         ensures rows { IfOk result (λ s. s.rows ≡ rows.items) }
-        ensures indexed { IfOk result (λ s. IsIndex s.rows s.index) }
+        ensures indexed { IfOk result (λ s. IsIndex client_of s.rows s.index) }
+        ensures aged { IfOk result (λ s. IsIndex (age_of s.cuts) s.rows s.ages) }
     {
         let alloc = *rows.allocator();
         let by_address = numbers_by_address(&rows)?;
         let by_client = numbers_by_client(&rows)?;
+        let zones = Zones::between(cuts);
+        let by_age = numbers_by_age(&zones, &rows)?;
         Ok(Sorted {
             slots: rows,
             by_address: Tiered::of(alloc, by_address.as_slice())?,
             by_client: Tiered::of(alloc, by_client.as_slice())?,
+            by_age: Tiered::of(alloc, by_age.as_slice())?,
+            zones,
         })
     }
 
@@ -62,11 +73,32 @@ impl Sorted {
         self.by_address.len()
     }
 
-    // How many addresses the index has.
+    // The addresses have 32 bits, which is all that this says.
+    pub(crate) fn have_bounds(&self)
+        ensures { All (λ row. row.address < 2 ^ 32) self.now.rows }
+    {
+        let _ = &self.slots;
+    }
+
+    // How many addresses the index by client has.
     pub(crate) fn index_len(&self) -> usize
         ensures { result ≡ length self.now.index }
     {
         self.by_client.len()
+    }
+
+    // How many addresses the index by age has.
+    pub(crate) fn ages_len(&self) -> usize
+        ensures { result ≡ length self.now.ages }
+    {
+        self.by_age.len()
+    }
+
+    // The zones of addresses.
+    pub(crate) fn zones(&self) -> &Zones
+        ensures { result.now ≡ self.now.cuts }
+    {
+        &self.zones
     }
 
     // The row at a place.
@@ -77,13 +109,22 @@ impl Sorted {
         &self.slots[self.by_address.at(place) as usize]
     }
 
-    // The row of the address at a place of the index.
+    // The row of the address at a place of the index by client.
     pub(crate) fn indexed(&self, i: usize) -> &Row
         requires { i < length self.now.index }
         ensures at { result.now.address ≡ slice_index self.now.index i }
         ensures found { row_at self.now.rows result.now.address ≡ Some result.now }
     {
         &self.slots[self.by_client.at(i) as usize]
+    }
+
+    // The row of the address at a place of the index by age.
+    pub(crate) fn aged(&self, i: usize) -> &Row
+        requires { i < length self.now.ages }
+        ensures at { result.now.address ≡ slice_index self.now.ages i }
+        ensures found { row_at self.now.rows result.now.address ≡ Some result.now }
+    {
+        &self.slots[self.by_age.at(i) as usize]
     }
 
     // The row at a place, or that there are no more.
@@ -119,18 +160,22 @@ impl Sorted {
         ensures { result ≡ self.now.room }
     {
         let slots = self.slots.capacity() - self.slots.len();
-        slots.min(self.by_address.room().min(self.by_client.room()))
+        let indexes = self.by_client.room().min(self.by_age.room());
+        slots.min(self.by_address.room().min(indexes))
     }
 
     // Makes room for a row more.
     pub(crate) fn reserve(&mut self) -> Result<(), AllocError>
         ensures rows { self.new.rows ≡ self.old.rows }
         ensures index { self.new.index ≡ self.old.index }
+        ensures ages { self.new.ages ≡ self.old.ages }
+        ensures cuts { self.new.cuts ≡ self.old.cuts }
         ensures room { OnOk result (0 < self.new.room) }
     {
         self.slots.reserve(1)?;
         self.by_address.reserve()?;
-        self.by_client.reserve()
+        self.by_client.reserve()?;
+        self.by_age.reserve()
     }
 
     // Sets a row in place of the one at its address.
@@ -138,38 +183,61 @@ impl Sorted {
         requires { IsRowPlace self.old.rows row.address place }
         ensures rows { self.new.rows ≡ with_row row self.old.rows }
         ensures index { self.new.index ≡ self.old.index }
+        ensures ages { self.new.ages ≡ self.old.ages }
+        ensures cuts { self.new.cuts ≡ self.old.cuts }
         ensures room { self.new.room ≡ self.old.room }
     {
         let number = self.by_address.at(place) as usize;
         self.slots[number] = row;
     }
 
-    // Moves the address at a place of the index to another, counted without it.
+    // Moves the address at a place of the index by client to another, counted without it.
     pub(crate) fn move_key(&mut self, from: usize, to: usize)
         requires from { from < length self.old.index }
         requires to { to < length self.old.index }
         ensures rows { self.new.rows ≡ self.old.rows }
         ensures index { self.new.index
             ≡ insert (remove self.old.index from) to (slice_index self.old.index from) }
+        ensures ages { self.new.ages ≡ self.old.ages }
+        ensures cuts { self.new.cuts ≡ self.old.cuts }
         ensures room { self.new.room ≡ self.old.room }
     {
         let number = self.by_client.take_at(from);
         self.by_client.put_at(to, number);
     }
 
-    // Puts a row where its address belongs, and its address at a place of the index.
-    pub(crate) fn insert_row(&mut self, key: usize, row: Row)
+    // Moves the address at a place of the index by age to another, counted without it.
+    pub(crate) fn move_age(&mut self, from: usize, to: usize)
+        requires from { from < length self.old.ages }
+        requires to { to < length self.old.ages }
+        ensures rows { self.new.rows ≡ self.old.rows }
+        ensures index { self.new.index ≡ self.old.index }
+        ensures ages { self.new.ages
+            ≡ insert (remove self.old.ages from) to (slice_index self.old.ages from) }
+        ensures cuts { self.new.cuts ≡ self.old.cuts }
+        ensures room { self.new.room ≡ self.old.room }
+    {
+        let number = self.by_age.take_at(from);
+        self.by_age.put_at(to, number);
+    }
+
+    // Puts a row where its address belongs, and its address at a place of each index.
+    pub(crate) fn insert_row(&mut self, key: usize, age: usize, row: Row)
         requires none { row_at self.old.rows row.address ≡ None }
         requires key { key ≤ length self.old.index }
+        requires age { age ≤ length self.old.ages }
         requires room { 0 < self.old.room }
         ensures rows { self.new.rows ≡ with_row row self.old.rows }
         ensures index { self.new.index ≡ insert self.old.index key row.address }
+        ensures ages { self.new.ages ≡ insert self.old.ages age row.address }
+        ensures cuts { self.new.cuts ≡ self.old.cuts }
         ensures room { self.new.room + 1 ≡ self.old.room }
     {
         let place = self.place_of(row.address);
         let number = number_of(self.slots.len(), row.address);
         self.by_address.put_at(place, number);
         self.by_client.put_at(key, number);
+        self.by_age.put_at(age, number);
         self.slots.push_reserved(row);
     }
 }

@@ -1,5 +1,5 @@
 use Rattle.std.proofs.Common.{ℕ, ◌+◌, ◌-◌, ◌/◌, List, ap, arith, sym, ◌∙◌}
-use Rattle.kd_rows.specs.Index.{client_in, key_at}
+use Rattle.kd_rows.specs.Index.{client_in, client_of, key_at}
 use Rattle.kd_rows.proofs.Keys.{below_if, high_less, low_more, not_below_if, read_key}
 use Rattle.kd_rows.proofs.index.key_place.Goals as goal
 
@@ -8,7 +8,7 @@ halves-preserved-then-is_below c =
     let k : List ℕ × ℕ = (c.args.client.now, c.args.address) in
     let key : ℕ → List ℕ × ℕ = key_at c.args.rows.now.rows in
     let middle : ℕ = c.halves.low + (c.halves.high - c.halves.low) / 2 in
-    let read = read_key c.args.rows.now.rows c.args.rows.now.index k middle _ c.as_slice.result.now c.is_below.result c.indexed-row.ensures.at (c.as_slice.ensures ∙ sym (ap client_in c.indexed-row.ensures.found)) c.is_below.ensures in
+    let read = read_key client_of c.args.rows.now.rows c.args.rows.now.index k middle _ c.as_slice.result.now c.is_below.result c.indexed-row.ensures.at (c.as_slice.ensures ∙ sym (ap client_in c.indexed-row.ensures.found)) c.is_below.ensures in
     record {
       order = omega arith;
       in_range = omega arith;
@@ -21,7 +21,7 @@ halves-preserved c =
     let k : List ℕ × ℕ = (c.args.client.now, c.args.address) in
     let key : ℕ → List ℕ × ℕ = key_at c.args.rows.now.rows in
     let middle : ℕ = c.halves.low + (c.halves.high - c.halves.low) / 2 in
-    let read = read_key c.args.rows.now.rows c.args.rows.now.index k middle _ c.as_slice.result.now c.is_below.result c.indexed-row.ensures.at (c.as_slice.ensures ∙ sym (ap client_in c.indexed-row.ensures.found)) c.is_below.ensures in
+    let read = read_key client_of c.args.rows.now.rows c.args.rows.now.index k middle _ c.as_slice.result.now c.is_below.result c.indexed-row.ensures.at (c.as_slice.ensures ∙ sym (ap client_in c.indexed-row.ensures.found)) c.is_below.ensures in
     record {
       order = omega arith;
       in_range = omega arith;

@@ -3,10 +3,12 @@ use Rattle.std.specs.List.{All}
 use Rattle.kd_rows.specs.declared.row.Row.{Row}
 use Rattle.kd_rows.specs.Index.{IsBound, IsBounded, IsNow, block_number, bound_row, end_at}
 use Rattle.kd_rows.specs.Full.{AreFull}
+use Rattle.kd_rows.specs.Holds.{AreHolds}
 use Rattle.kd_rows.specs.Row.{IsInRange}
 use Rattle.kd_rows.specs.Table.{Rise, Table, latest_of, row_at, room_for_row, with_row}
 use Rattle.kd_rows.proofs.Bounds.{bounded_set, enough_after, kept_is, room_for, some_end}
 use Rattle.kd_rows.proofs.Fulls.{full_after, has_set}
+use Rattle.kd_rows.proofs.Held.{held_after}
 use Rattle.kd_rows.proofs.Sets.{all-with_row, latest_of-with_row, rise-with_row}
 use Rattle.kd_rows.proofs.rows.Rows.set.Goals as goal
 
@@ -35,7 +37,9 @@ invariant_of-self c =
       ranged = subst (All IsInRange) e (all-with_row IsInRange c.args.row old c.requires.range c.self.invariant.ranged);
       newest = sym (latest_of-with_row c.args.row old late) ∙ ap latest_of e;
       ends = subst (All (λ (row : Row). c.min-self-inside.result ≤ row.ends)) e (all-with_row (λ (row : Row). c.min-self-inside.result ≤ row.ends) c.args.row old (omega (arith, c.min-self-inside.ensures)) (λ k d within. let h = c.self.invariant.ends k d within in omega (arith, c.min-self-inside.ensures)));
+      held = subst (AreHolds c.with-self-inside.result) e (held_after c.args.row old c.self.inside.holds c.with-self-inside.result c.self.invariant.held c.with-self-inside.ensures);
       indexed = c.put_row.ensures.indexed;
+      aged = c.put_row.ensures.aged;
       bounded = subst (λ (rows : List Row). IsBounded rows c.set.new.self.rows) e (subst (IsBounded (with_row c.args.row old)) (sym c.set.ensures.rows) (bounded_set old bounds c.args.row bound c.self.invariant.bounded block is));
       full = subst (λ (rows : List Row). AreFull rows c.add.new.self) e (c.add.ensures (with_row c.args.row old) (full_after c.args.row old c.self.inside.full c.self.invariant.full) (has_set c.args.row old));
       enough = enough_after old bounds c.args.row c.self.inside.room c.self.inside.rows.room c.self.inside.blocks.room c.room_after-self-inside.result c.put_row.new.rows.room c.set.new.self.room c.self.invariant.bounded c.self.invariant.enough

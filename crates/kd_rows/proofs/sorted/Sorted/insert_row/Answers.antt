@@ -15,6 +15,7 @@ invariant_of-self c =
     record {
       sorted = (inserted_now c.self.inside.slots.items c.args.self.now.rows c.push_reserved.new.self.items c.self.inside.by_address.numbers c.put_at.new.self.numbers c.place_of-place.result c.number_of-number.result c.args.row c.number_of-number.ensures.bound c.self.invariant.sorted (ap (λ (t : Ordered). t.rows) c.self.view_is) c.place_of-place.ensures c.requires.none is c.push_reserved.ensures.items c.put_at.ensures.numbers).0;
       within = within_more c.self.inside.slots.items c.push_reserved.new.self.items c.self.inside.by_client.numbers c.put_at-2.new.self.numbers c.args.key c.number_of-number.result c.args.row c.self.invariant.within is c.push_reserved.ensures.items c.put_at-2.ensures.numbers;
+      aged = within_more c.self.inside.slots.items c.push_reserved.new.self.items c.self.inside.by_age.numbers c.put_at-3.new.self.numbers c.args.age c.number_of-number.result c.args.row c.self.invariant.aged is c.push_reserved.ensures.items c.put_at-3.ensures.numbers;
     }
 
 pub returns-clause-rows : goal.returns-clause-rows
@@ -27,3 +28,9 @@ returns-clause-index c =
     let is : c.number_of-number.result ≡ length c.self.inside.slots.items = omega (arith, c.number_of-number.ensures.number, c.len.ensures, c.self.inside.slots.ok.0) in
     index_more c.self.inside.slots.items c.push_reserved.new.self.items c.self.inside.by_client.numbers c.put_at-2.new.self.numbers c.args.key c.number_of-number.result c.args.row c.self.invariant.within is c.push_reserved.ensures.items c.put_at-2.ensures.numbers
     ∙ ap (λ (t : Ordered). insert t.index c.args.key c.args.row.address) c.self.view_is
+
+pub returns-clause-ages : goal.returns-clause-ages
+returns-clause-ages c =
+    let is : c.number_of-number.result ≡ length c.self.inside.slots.items = omega (arith, c.number_of-number.ensures.number, c.len.ensures, c.self.inside.slots.ok.0) in
+    index_more c.self.inside.slots.items c.push_reserved.new.self.items c.self.inside.by_age.numbers c.put_at-3.new.self.numbers c.args.age c.number_of-number.result c.args.row c.self.invariant.aged is c.push_reserved.ensures.items c.put_at-3.ensures.numbers
+    ∙ ap (λ (t : Ordered). insert t.ages c.args.age c.args.row.address) c.self.view_is

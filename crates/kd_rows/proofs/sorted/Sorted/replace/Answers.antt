@@ -5,7 +5,7 @@ use Rattle.kd_rows.proofs.sorted.Sorted.replace.Goals as goal
 
 pub invariant_of-self : goal.invariant_of-self
 invariant_of-self c =
-    replaced_stored c.self.inside.slots.items c.args.self.now.rows c.self.inside.by_address.numbers c.self.inside.by_client.numbers c.args.place c.at-number.result c.args.row c.self.invariant (ap (λ (t : Ordered). t.rows) c.self.view_is) c.at-number.ensures c.requires
+    replaced_stored c.self.inside.slots.items c.args.self.now.rows c.self.inside.by_address.numbers c.self.inside.by_client.numbers c.self.inside.by_age.numbers c.args.place c.at-number.result c.args.row c.self.invariant (ap (λ (t : Ordered). t.rows) c.self.view_is) c.at-number.ensures c.requires
 
 pub returns-clause-rows : goal.returns-clause-rows
 returns-clause-rows c =
@@ -13,5 +13,10 @@ returns-clause-rows c =
 
 pub returns-clause-index : goal.returns-clause-index
 returns-clause-index c =
-    replaced_index c.self.inside.slots.items c.args.self.now.rows c.self.inside.by_address.numbers c.self.inside.by_client.numbers c.args.place c.at-number.result c.args.row c.self.invariant (ap (λ (t : Ordered). t.rows) c.self.view_is) c.at-number.ensures c.requires
+    replaced_index c.self.inside.slots.items c.args.self.now.rows c.self.inside.by_address.numbers c.self.inside.by_client.numbers c.args.place c.at-number.result c.args.row c.self.invariant.sorted (ap (λ (t : Ordered). t.rows) c.self.view_is) c.at-number.ensures c.requires
     ∙ ap (λ (t : Ordered). t.index) c.self.view_is
+
+pub returns-clause-ages : goal.returns-clause-ages
+returns-clause-ages c =
+    replaced_index c.self.inside.slots.items c.args.self.now.rows c.self.inside.by_address.numbers c.self.inside.by_age.numbers c.args.place c.at-number.result c.args.row c.self.invariant.sorted (ap (λ (t : Ordered). t.rows) c.self.view_is) c.at-number.ensures c.requires
+    ∙ ap (λ (t : Ordered). t.ages) c.self.view_is

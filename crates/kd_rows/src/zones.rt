@@ -1,0 +1,64 @@
+ghost use Rattle.std.specs.Prelude.{◌≡◌, ◌<◌, ◌^◌};
+ghost use Rattle.kd_rows.specs.Row.{state_number};
+ghost use Rattle.kd_rows.specs.Zones.{group_in, group_number, zone_in};
+
+use crate::row::{Row, State};
+use std::marker::Model;
+
+// Zones of addresses, each from one cut to the next.
+#[derive(Drop)]
+pub(crate) struct Zones {
+    // They rise.
+    cuts: Vec<u32>,
+}
+
+impl Model for Zones {
+    ghost use Rattle.std.specs.Prelude.{ℕ, List};
+    ghost use Rattle.std.specs.List.Sorted.{IsNonDecreasing};
+
+    ghost Value = { List ℕ };
+
+    ghost view = { λ s. s.cuts.items };
+
+    ghost invariant = { λ s. IsNonDecreasing s.cuts.items };
+}
+
+impl Zones {
+    // The zones between cuts, which may come in any order.
+    pub(crate) fn between(cuts: Vec<u32>) -> Zones {
+        let mut cuts = cuts;
+        cuts.sort_unstable();
+        Zones { cuts }
+    }
+
+    // The zone of an address.
+    pub(crate) fn of(&self, address: u32) -> u32
+        ensures { result ≡ zone_in self.now address }
+    {
+        let mut low = 0;
+        let mut high = self.cuts.len();
+        'halves: while low < high {
+            let middle = low + (high - low) / 2;
+            if self.cuts[middle] <= address {
+                low = middle + 1;
+            } else {
+                high = middle;
+            }
+        }
+        low.min(0xffff_ffff) as u32
+    }
+
+    // The group of a row.
+    pub(crate) fn group(&self, row: &Row) -> u64
+        ensures { result ≡ group_in self.now row.now }
+    {
+        group(row.state, self.of(row.address))
+    }
+}
+
+// A state and a zone as one number.
+pub(crate) fn group(state: State, zone: u32) -> u64
+    ensures { result ≡ group_number state zone }
+{
+    (u64::from(state.number()) << 32) + u64::from(zone)
+}
