@@ -1,3 +1,4 @@
+pub mod Aged
 pub mod Ended
 pub mod Giving
 pub mod Guards

@@ -24,13 +24,13 @@ abbrev pub better_of : List Row → (ℕ → Bool) → Option ℕ → ℕ → Op
 better_of rows such None a = if such a then Some a else None
 better_of rows such (Some b) a = if such a && set_later rows a b then Some a else Some b
 
-not_newer_itself : (rows : List Row) (a : ℕ) → set_later rows a a ≡ false
+pub not_newer_itself : (rows : List Row) (a : ℕ) → set_later rows a a ≡ false
 not_newer_itself rows a = by (changed_in (row_at rows a)) where
   by : (m : ℕ) → (nat_lt m m || (m == m && nat_lt a a)) ≡ false
   by m = grind (arith, nat_tests)
 
 -- what is newer than a newer address is newer
-not_newer : (rows : List Row) (x a b : ℕ) → set_later rows a b ≡ true → set_later rows x b ≡ false → set_later rows x a ≡ false
+pub not_newer : (rows : List Row) (x a b : ℕ) → set_later rows a b ≡ true → set_later rows x b ≡ false → set_later rows x a ≡ false
 not_newer rows x a b = by (changed_in (row_at rows x)) (changed_in (row_at rows a)) (changed_in (row_at rows b)) where
   by : (l m n : ℕ) → (nat_lt n m || (m == n && nat_lt a b)) ≡ true → (nat_lt n l || (l == n && nat_lt x b)) ≡ false → (nat_lt m l || (l == m && nat_lt x a)) ≡ false
   by l m n h g = grind (arith, nat_tests)
@@ -101,14 +101,6 @@ pub sought_is_mine : (q : Asking) (sought : Sought) (a : ℕ) → sought_at q so
 sought_is_mine q (seeks.Own s) a h = own_is_mine q s.now a h
 sought_is_mine q (seeks.Past s) a h = past_is_its q s.now a h
 sought_is_mine q seeks.Offer a h = such_is_mine q (λ row. live_row q.now row && (belongs_to q.client row && offered_state row.state)) (λ row g. mine q row (live_row q.now row) (offered_state row.state) g) (row_at q.rows a) h
-
--- a client has no more addresses than there are rows
-pub few_addresses : (client : List ℕ) (rows : List Row) → length (addresses_of client rows) ≤ length rows
-few_addresses client [] = omega arith
-few_addresses client (r ∷ rows) = by (belongs_to client r) (few_addresses client rows) where
-  by : (u : Bool) → length (addresses_of client rows) ≤ length rows → length (map (λ row. row.address) (if u then r ∷ filter (belongs_to client) rows else filter (belongs_to client) rows)) ≤ length (r ∷ rows)
-  by true h = omega arith
-  by false h = omega arith
 
 pub at_start : (rows : List Row) (such : ℕ → Bool) (xs : List ℕ) → IsNewestOf rows such xs 0 None
 at_start rows such xs k less = absurd (omega arith)

@@ -1,3 +1,4 @@
+pub mod Aging
 pub mod Change
 pub mod Choice
 pub mod Client

@@ -5,11 +5,12 @@ ghost use Rattle.kd_lease.specs.Rules.{Does, InSubnet, IsSetAt, OnDecline, OnDis
 ghost use Rattle.kd_lease.specs.Choice.{requested_address};
 ghost use Rattle.kd_lease.specs.declared.planned.Planned.TheVariants as plans;
 
+use crate::aging::newest;
 use crate::choice::choose;
 use crate::fitting::{address_in, fits, is_usable, requested_of};
 use crate::planned::{Effect, Planned};
 use crate::question::Question;
-use crate::seeking::{Sought, is_client_at, is_held_at, knows_client, newest};
+use crate::seeking::{Sought, is_client_at, is_held_at, knows_client};
 use crate::setting::{declined, leased, offer_row, released};
 use crate::subnet::subnet_of;
 use kd_config::{Config, Subnet};

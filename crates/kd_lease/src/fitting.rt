@@ -101,7 +101,7 @@ pub(crate) fn is_live(now: u64, row: &Row) -> bool
 }
 
 // A state in which a client holds an address.
-fn is_holding(state: State) -> bool
+pub(crate) fn is_holding(state: State) -> bool
     ensures { result ≡ holding_state state }
 {
     match state {

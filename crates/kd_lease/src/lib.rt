@@ -9,6 +9,7 @@
 //! of `specs/ReplyOf.antt` and `specs/Destination.antt`.
 #![tactic(auto)]
 
+mod aging;
 mod choice;
 mod client;
 mod deciding;

@@ -2,11 +2,12 @@ ghost use Rattle.std.specs.Prelude.{◌≡◌, ℕ, ◌+◌, ◌-◌, IsTrue, fa
 ghost use Rattle.kd_config.specs.Address.{prefix_size};
 ghost use Rattle.kd_lease.specs.Choice.{changed_in, set_later};
 ghost use Rattle.kd_lease.specs.Choice.Rank.{own, past};
-ghost use Rattle.kd_lease.specs.Rules.{IsNewest, asking, bound_state, client_has, held_at, leased_to, offered_to, offered_state, is_record};
+ghost use Rattle.kd_lease.specs.Rules.{asking, bound_state, client_has, held_at, leased_to, offered_to, offered_state, is_record};
 ghost use Rattle.kd_lease.specs.Ranks.{IsRanked};
 ghost use Rattle.kd_lease.specs.Seeking.{newer_of, past_at, sought_at};
 ghost use Rattle.kd_rows.specs.Table.{row_at};
 
+use crate::aging::newest;
 use crate::fitting::{fits, is_held_by, is_live, is_of, is_past};
 use crate::question::Question;
 use kd_config::{Prefix, Subnet};
@@ -31,8 +32,11 @@ pub(crate) struct Known {
     pub(crate) past: Option<u32>,
 }
 
-// What the client knows, found in one walk over its addresses: for a client without rows the index
-// of the table is searched once.
+// How many of a client's rows are looked at one after another before they are asked for by age.
+const FEW: usize = 2;
+
+// What the client knows. Most clients have a row or two: they are looked at one after another, and
+// for a client without rows the index of the table is searched once.
 pub(crate) fn newest_known(question: &Question<'_>, subnet: &Subnet) -> Known
     ensures own { IsRanked (asking question.now) subnet.now own result.own }
     ensures past { IsRanked (asking question.now) subnet.now past result.past }
@@ -41,7 +45,7 @@ pub(crate) fn newest_known(question: &Question<'_>, subnet: &Subnet) -> Known
         own: None,
         past: None,
     };
-    for i in 0..question.rows.len() {
+    for i in 0..FEW {
         match question.rows.of_client(question.client, i) {
             Some(address) => {
                 known.own = better(question, &Sought::Own(subnet), known.own, address);
@@ -50,22 +54,10 @@ pub(crate) fn newest_known(question: &Question<'_>, subnet: &Subnet) -> Known
             None => return known,
         }
     }
-    known
-}
-
-// The newest of the client's addresses that are sought.
-pub(crate) fn newest(question: &Question<'_>, sought: &Sought<'_>) -> Option<u32>
-    ensures { IsNewest (asking question.now).rows
-        (sought_at (asking question.now) sought.now) result }
-{
-    let mut best = None;
-    for i in 0..question.rows.len() {
-        match question.rows.of_client(question.client, i) {
-            Some(address) => best = better(question, sought, best, address),
-            None => return best,
-        }
+    Known {
+        own: newest(question, &Sought::Own(subnet)),
+        past: newest(question, &Sought::Past(subnet)),
     }
-    best
 }
 
 /// The server knows the client in a subnet: the client has a row at an address in its prefix.
@@ -113,7 +105,7 @@ fn better(
 }
 
 // An address is sought.
-fn is_sought(question: &Question<'_>, sought: &Sought<'_>, address: u32) -> bool
+pub(crate) fn is_sought(question: &Question<'_>, sought: &Sought<'_>, address: u32) -> bool
     ensures { result ≡ sought_at (asking question.now) sought.now address }
 {
     match sought {
@@ -125,7 +117,7 @@ fn is_sought(question: &Question<'_>, sought: &Sought<'_>, address: u32) -> bool
 
 // Of two addresses the first is newer: its row was set later, or at one moment and it is the lesser
 // address.
-fn is_newer(rows: &Rows, a: u32, b: u32) -> bool
+pub(crate) fn is_newer(rows: &Rows, a: u32, b: u32) -> bool
     ensures { result ≡ set_later rows.now.rows a b }
 {
     let m = changed_at(rows, a);
@@ -209,7 +201,7 @@ fn is_bound(state: State) -> bool
 }
 
 // A state of offers.
-fn is_offered(state: State) -> bool
+pub(crate) fn is_offered(state: State) -> bool
     ensures { result ≡ offered_state state }
 {
     match state {

@@ -74,7 +74,7 @@ impl Rows {
         ensures least { IfOk result (λ t. t.least ≡ least_of rows.items) }
     {
         let cuts = Vec::new(*rows.allocator());
-        Rows::new_cut(rows, cuts)
+        Rows::with_cuts(rows, cuts)
     }
 
     /// The same table. Where addresses from `first` to `last` are cut from those beside them, at
@@ -83,7 +83,7 @@ impl Rows {
     /// # Errors
     ///
     /// As of `new`.
-    pub fn new_cut(rows: Vec<Row>, cuts: Vec<u32>) -> Result<Rows, AllocError>
+    pub fn with_cuts(rows: Vec<Row>, cuts: Vec<u32>) -> Result<Rows, AllocError>
         requires rise { Rise rows.items }
         requires ranges { All IsInRange rows.items }
         ensures rows { IfOk result (λ t. t.rows ≡ rows.items) }

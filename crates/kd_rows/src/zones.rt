@@ -1,5 +1,5 @@
 ghost use Rattle.std.specs.Prelude.{◌≡◌, ◌<◌, ◌^◌};
-ghost use Rattle.kd_rows.specs.Row.{state_number};
+ghost use Rattle.std.specs.List.Sorted.{IsPermutation};
 ghost use Rattle.kd_rows.specs.Zones.{group_in, group_number, zone_in};
 
 use crate::row::{Row, State};
@@ -25,7 +25,9 @@ impl Model for Zones {
 
 impl Zones {
     // The zones between cuts, which may come in any order.
-    pub(crate) fn between(cuts: Vec<u32>) -> Zones {
+    pub(crate) fn between(cuts: Vec<u32>) -> Zones
+        ensures { IsPermutation cuts.items result }
+    {
         let mut cuts = cuts;
         cuts.sort_unstable();
         Zones { cuts }

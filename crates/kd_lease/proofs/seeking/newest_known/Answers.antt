@@ -1,11 +1,12 @@
-use Rattle.std.proofs.Common.{◌≡◌, ◌∙◌, ◌≤◌, arith, sym, length, get_or}
+use Rattle.std.proofs.Common.{◌≡◌, ◌∙◌, sym, get_or}
 use Rattle.std.proofs.lemmas.Option.{get_or_from_slice_get}
 use Rattle.kd_rows.specs.Table.{addresses_of}
 use Rattle.kd_lease.specs.Choice.{has_rank}
 use Rattle.kd_lease.specs.Choice.Rank.{own, past}
 use Rattle.kd_lease.specs.Rules.{asking}
 use Rattle.kd_lease.specs.declared.seeking.Sought.TheVariants as seeks
-use Rattle.kd_lease.proofs.Newest.{all_own, all_past, better_is, better_of, few_addresses, get_past, known_more}
+use Rattle.kd_lease.proofs.Aged.{own_ranked, past_ranked}
+use Rattle.kd_lease.proofs.Newest.{all_own, all_past, better_is, better_of, get_past, known_more}
 use Rattle.kd_lease.proofs.seeking.newest_known.Goals as goal
 
 pub loop-i-preserved : goal.loop-i-preserved
@@ -29,13 +30,7 @@ returns-in-None-clause-past c =
     all_past q c.args.subnet.now c.loop-i.i c.loop-i.known.own c.loop-i.known.past c.loop-i.invariant (get_past (addresses_of q.client q.rows) c.loop-i.i (sym c.in-None.ensures))
 
 pub returns-clause-own : goal.returns-clause-own
-returns-clause-own c =
-    let q = asking c.args.question.now in
-    let few : length (addresses_of q.client q.rows) ≤ length q.rows = few_addresses q.client q.rows in
-    all_own q c.args.subnet.now c.loop-i.i c.loop-i.known.own c.loop-i.known.past c.loop-i.invariant (omega (arith, c.len-i-end.ensures.len))
+returns-clause-own c = own_ranked (asking c.args.question.now) c.args.subnet c.newest.result c.newest.ensures
 
 pub returns-clause-past : goal.returns-clause-past
-returns-clause-past c =
-    let q = asking c.args.question.now in
-    let few : length (addresses_of q.client q.rows) ≤ length q.rows = few_addresses q.client q.rows in
-    all_past q c.args.subnet.now c.loop-i.i c.loop-i.known.own c.loop-i.known.past c.loop-i.invariant (omega (arith, c.len-i-end.ensures.len))
+returns-clause-past c = past_ranked (asking c.args.question.now) c.args.subnet c.newest-2.result c.newest-2.ensures
