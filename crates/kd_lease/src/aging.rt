@@ -60,12 +60,7 @@ fn newest_reserved(question: &Question<'_>, sought: &Sought<'_>, subnet: &Subnet
 }
 
 // The newest of those from `first` to `last`.
-fn newest_within(
-    question: &Question<'_>,
-    sought: &Sought<'_>,
-    first: u32,
-    last: u32,
-) -> Option<u32>
+fn newest_within(question: &Question<'_>, sought: &Sought<'_>, first: u32, last: u32) -> Option<u32>
     ensures { IsNewest (asking question.now).rows
         (sought_within (asking question.now) sought.now first last) result }
 {

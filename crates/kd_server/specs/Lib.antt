@@ -1,4 +1,5 @@
 pub mod Batch
+pub mod Cuts
 pub mod Keeping
 pub mod Leases
 pub mod Lives

@@ -8,6 +8,7 @@
 #![tactic(auto)]
 
 mod batching;
+mod cutting;
 pub mod laws;
 mod leases;
 mod replaying;

@@ -14,6 +14,7 @@ ghost use Rattle.kd_server.specs.Leases.{IsNoList, leases_of_rows};
 ghost use Rattle.kd_server.specs.Unkept.{IsSettable, IsUnkept};
 
 use crate::batching::{Rules, handle_each, keep_all};
+use crate::cutting::table_of;
 use crate::leases::{Lease, leases_at};
 use crate::turning::{Turn, turn_at};
 use kd_config::Config;
@@ -272,7 +273,7 @@ fn seat<S: Keeps>(
     ensures memory { IfErr result (λ back.
         (back.0 ≡ faults.Memory) × (back.1 ≡ config) × (back.2 ≡ store)) }
 {
-    match Rows::new(rows) {
+    match table_of(alloc, &config, rows) {
         Ok(rows) => Ok(Server {
             ports,
             config,
