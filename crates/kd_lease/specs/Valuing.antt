@@ -24,7 +24,8 @@ IsCodePlace code (entry ∷ more) (suc place) = (entry.code < code) × IsCodePla
 
 -- the entry at a place of a list, if there is one, has another code than this one
 abbrev pub HasOtherCode : ℕ → List Coded → ℕ → Type 0
-HasOtherCode code list place = (entry : Coded) → slice_get list place ≡ Some entry → entry.code ≢ code
+HasOtherCode code list place =
+    (entry : Coded) → slice_get list place ≡ Some entry → entry.code ≢ code
 
 -- entries have codes of options
 abbrev pub HaveCodes : List Coded → Type 0

@@ -104,8 +104,8 @@ fn newest_of(
     None
 }
 
-// What is sought are rows that have not ended, and none in this state that was set no later than this
-// one is such.
+// What is sought are rows that have not ended, and no row in this state that was set no later than
+// this one is such.
 fn is_over(question: &Question<'_>, sought: &Sought<'_>, state: State, row: &Row) -> bool
     ensures live { IsTrue result → live_sought sought.now ≡ true }
     ensures ended { IsTrue result → (a : ℕ) (other : RowOf)

@@ -16,7 +16,8 @@ IsAgeFrom None left address = (left ≡ 0) × (address ≡ 0)
 IsAgeFrom (Some row) left address = (left + row.changed ≡ 2 ^ 64 - 1) × (address ≡ row.address + 1)
 
 -- a place is where the rows of a client and a group begin, after another row
-pub record IsAgeStart (client : List ℕ) (group : ℕ) (before : Option Row) (place : Age) : Type 0 where
+pub record IsAgeStart (client : List ℕ) (group : ℕ) (before : Option Row) (place : Age)
+    : Type 0 where
   pub owner : place.client.now ≡ client
   pub kind : place.group ≡ group
   pub from : IsAgeFrom before place.left place.address

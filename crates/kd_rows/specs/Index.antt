@@ -43,8 +43,8 @@ abbrev pub age_key : List ℕ → ℕ → ℕ → List ℕ
 age_key [] group age = 0 ∷ group ∷ age ∷ []
 age_key (byte ∷ client) group age = suc byte ∷ age_key client group age
 
--- what a row is ordered by in the order of age: its client, its group (its state and the zone of its
--- address) and how early it was set
+-- what a row is ordered by in the order of age: its client, its group (its state and the zone of
+-- its address) and how early it was set
 abbrev pub age_of : List ℕ → Row → List ℕ
 age_of cuts row = age_key row.client (group_in cuts row) (2 ^ 64 - 1 - row.changed)
 

@@ -11,8 +11,8 @@ use crate::row::{Row, State};
 use crate::sorted::Sorted;
 use crate::zones::group;
 
-// The newest row of a client in a state from `first` to `last`, zone by zone; those zones are passed
-// over in which it has no row in that state.
+// The newest row of a client in a state from `first` to `last`, zone by zone; zones in which it has
+// no row in that state are passed over.
 pub(crate) fn newest_in<'a>(
     rows: &'a Sorted,
     client: &[u8],

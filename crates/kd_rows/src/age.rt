@@ -80,7 +80,8 @@ fn comes_before(zones: &Zones, row: &Row, place: &Age) -> bool
 // The number of a place in the index by age: before it stand the addresses whose rows come before.
 pub(crate) fn age_place(rows: &Sorted, place: &Age) -> usize
     requires { Rises (age_at rows.now.cuts rows.now.rows) rows.now.ages }
-    ensures { IsKeyPlace (age_at rows.now.cuts rows.now.rows) rows.now.ages (key_of_age place.now) result }
+    ensures { IsKeyPlace (age_at rows.now.cuts rows.now.rows) rows.now.ages
+        (key_of_age place.now) result }
 {
     let mut low = 0;
     let mut high = rows.ages_len();
@@ -112,8 +113,8 @@ pub(crate) fn is_past_those_before(rows: &Sorted, place: usize, age: &Age) -> bo
 pub(crate) fn is_before_those_after(rows: &Sorted, place: usize, age: &Age) -> bool
     requires rises { Rises (age_at rows.now.cuts rows.now.rows) rows.now.ages }
     requires place { place < length rows.now.ages }
-    ensures { IsTrue result → AreNotBelow (age_at rows.now.cuts rows.now.rows) rows.now.ages (place + 1)
-        (key_of_age age.now) }
+    ensures { IsTrue result → AreNotBelow (age_at rows.now.cuts rows.now.rows) rows.now.ages
+        (place + 1) (key_of_age age.now) }
 {
     if place == rows.ages_len() - 1 {
         return true;

@@ -163,8 +163,8 @@ impl Rows {
         self.least
     }
 
-    /// For how many seconds, at most, a row of a state holds from the moment at which it was set: of
-    /// all that were set, also of those that were replaced.
+    /// For how many seconds, at most, a row of a state holds from the moment at which it was set:
+    /// of all that were set, also of those that were replaced.
     pub fn longest(&self, state: State) -> u64
         ensures { All (λ row. row.state ≡ state → row.ends ≤ row.changed + result) self.now.rows }
     {
@@ -208,8 +208,9 @@ impl Rows {
         next_of(&self.rows, client, first, last)
     }
 
-    /// The newest of a client's rows in a state from `first` to `last`: set last, and of those of one
-    /// moment that of the least address. With `before`, of those that come after it in this order.
+    /// The newest of a client's rows in a state from `first` to `last`: set last, and of those of
+    /// one moment that of the least address. With `before`, of those that come after it in this
+    /// order.
     pub fn newest_of(
         &self,
         client: &[u8],
