@@ -4,7 +4,7 @@ ghost use Rattle.kd_lease.specs.Rules.{asking};
 use crate::choice::{asked_for, kept};
 use crate::pooling::pooled;
 use crate::question::Question;
-use crate::seeking::newest_known;
+use crate::seeking::{newest_own, newest_past};
 use kd_config::Subnet;
 
 /// What speaks for an address, the strongest first, and the first address of each for a client in a
@@ -29,11 +29,10 @@ pub struct Ranks {
 pub fn ranks_of(question: &Question<'_>, subnet: &Subnet) -> Ranks
     ensures { AreRanks (asking question.now) subnet.now result }
 {
-    let known = newest_known(question, subnet);
     Ranks {
         reserved: kept(question, subnet),
-        own: known.own,
-        past: known.past,
+        own: newest_own(question, subnet),
+        past: newest_past(question, subnet),
         asked: asked_for(question, subnet),
         fresh: pooled(question, subnet, true),
         expired: pooled(question, subnet, false),

@@ -1,4 +1,4 @@
-ghost use Rattle.std.specs.Prelude.{◌≡◌, ℕ, ◌+◌, ◌-◌, IsTrue, false, true};
+ghost use Rattle.std.specs.Prelude.{◌≡◌, ℕ, ◌+◌, ◌-◌, IsTrue, None, false, true};
 ghost use Rattle.kd_config.specs.Address.{prefix_size};
 ghost use Rattle.kd_lease.specs.Choice.{changed_in, set_later};
 ghost use Rattle.kd_lease.specs.Choice.Rank.{own, past};
@@ -24,8 +24,8 @@ pub(crate) enum Sought<'a> {
     Offer,
 }
 
-// Of the addresses that a client knows, those that fit: the newest that it holds, and the newest
-// whose row has ended.
+// Of the addresses that a client knows, those that fit: the newest that it holds, and where it holds
+// none, the newest whose row has ended.
 #[derive(Clone, Copy)]
 pub(crate) struct Known {
     pub(crate) own: Option<u32>,
@@ -39,7 +39,7 @@ const FEW: usize = 2;
 // for a client without rows the index of the table is searched once.
 pub(crate) fn newest_known(question: &Question<'_>, subnet: &Subnet) -> Known
     ensures own { IsRanked (asking question.now) subnet.now own result.own }
-    ensures past { IsRanked (asking question.now) subnet.now past result.past }
+    ensures past { result.own ≡ None → IsRanked (asking question.now) subnet.now past result.past }
 {
     let mut known = Known {
         own: None,
@@ -54,10 +54,39 @@ pub(crate) fn newest_known(question: &Question<'_>, subnet: &Subnet) -> Known
             None => return known,
         }
     }
-    Known {
-        own: newest(question, &Sought::Own(subnet)),
-        past: newest(question, &Sought::Past(subnet)),
+    known_by_age(question, subnet)
+}
+
+// The same for a client of any number of rows. Where it holds an address, those that it had are not
+// looked for, since all that it holds would be in the way.
+fn known_by_age(question: &Question<'_>, subnet: &Subnet) -> Known
+    ensures own { IsRanked (asking question.now) subnet.now own result.own }
+    ensures past { result.own ≡ None → IsRanked (asking question.now) subnet.now past result.past }
+{
+    match newest_own(question, subnet) {
+        Some(address) => Known {
+            own: Some(address),
+            past: None,
+        },
+        None => Known {
+            own: None,
+            past: newest_past(question, subnet),
+        },
     }
+}
+
+// The newest of the addresses that the client holds and that fit.
+pub(crate) fn newest_own(question: &Question<'_>, subnet: &Subnet) -> Option<u32>
+    ensures { IsRanked (asking question.now) subnet.now own result }
+{
+    newest(question, &Sought::Own(subnet))
+}
+
+// The newest of the client's addresses whose rows have ended and that fit.
+pub(crate) fn newest_past(question: &Question<'_>, subnet: &Subnet) -> Option<u32>
+    ensures { IsRanked (asking question.now) subnet.now past result }
+{
+    newest(question, &Sought::Past(subnet))
 }
 
 /// The server knows the client in a subnet: the client has a row at an address in its prefix.

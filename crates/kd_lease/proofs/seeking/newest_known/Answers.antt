@@ -5,7 +5,6 @@ use Rattle.kd_lease.specs.Choice.{has_rank}
 use Rattle.kd_lease.specs.Choice.Rank.{own, past}
 use Rattle.kd_lease.specs.Rules.{asking}
 use Rattle.kd_lease.specs.declared.seeking.Sought.TheVariants as seeks
-use Rattle.kd_lease.proofs.Aged.{own_ranked, past_ranked}
 use Rattle.kd_lease.proofs.Newest.{all_own, all_past, better_is, better_of, get_past, known_more}
 use Rattle.kd_lease.proofs.seeking.newest_known.Goals as goal
 
@@ -25,12 +24,6 @@ returns-in-None-clause-own c =
     all_own q c.args.subnet.now c.loop-i.i c.loop-i.known.own c.loop-i.known.past c.loop-i.invariant (get_past (addresses_of q.client q.rows) c.loop-i.i (sym c.in-None.ensures))
 
 pub returns-in-None-clause-past : goal.returns-in-None-clause-past
-returns-in-None-clause-past c =
+returns-in-None-clause-past c = λ none.
     let q = asking c.args.question.now in
     all_past q c.args.subnet.now c.loop-i.i c.loop-i.known.own c.loop-i.known.past c.loop-i.invariant (get_past (addresses_of q.client q.rows) c.loop-i.i (sym c.in-None.ensures))
-
-pub returns-clause-own : goal.returns-clause-own
-returns-clause-own c = own_ranked (asking c.args.question.now) c.args.subnet c.newest.result c.newest.ensures
-
-pub returns-clause-past : goal.returns-clause-past
-returns-clause-past c = past_ranked (asking c.args.question.now) c.args.subnet c.newest-2.result c.newest-2.ensures
