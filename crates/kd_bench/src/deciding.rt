@@ -6,114 +6,201 @@ mod table;
 
 use crate::mixed;
 use kd_config::{Config, ConfigFault};
-use kd_lease::{Answer, PlanKind, decide};
+use kd_lease::{Answer, Decision, PlanKind, decide};
 use kd_options::Message;
 use kd_rows::Rows;
-use message::{discover, renewal, request};
-use settings::{Place, config_of};
+use message::{OTHER_SERVER, SERVER, bad_cookie, discover, noise, renewal, request};
+use settings::{Place, Setting, config_of};
 use std::alloc::{AllocError, Global};
-use table::{MOMENT, address_of, full_table, gap_table, past_table, single_table};
+use table::{Leases, MOMENT, POOL, address_of, set, table_of};
 
-// How often the work gave what it wants, of so many rounds, under a configuration with so many
-// reservations.
-pub(crate) fn worked(
-    alloc: Global,
-    work: &str,
-    count: u32,
-    rounds: u32,
-) -> Result<u32, ConfigFault> {
-    let place = match work {
-        "kept" => Place::Gaps,
-        _ => Place::Outside,
-    };
-    let config = config_of(alloc, count, place)?;
-    let rows = match work {
-        "full" => full_table(alloc)?,
-        "past" => past_table(alloc)?,
-        "leases" => single_table(alloc)?,
-        _ => gap_table(alloc)?,
-    };
-    let done = match work {
-        "read" => read_again(alloc, rounds),
-        "known" => again(alloc, &config, &rows, rounds, Asks::Known)?,
-        "request" => again(alloc, &config, &rows, rounds, Asks::Lease)?,
-        "renewal" => again(alloc, &config, &rows, rounds, Asks::Renewal)?,
-        "leases" => again(alloc, &config, &rows, rounds, Asks::OfMany)?,
-        _ => again(alloc, &config, &rows, rounds, Asks::New)?,
-    };
-    Ok(done)
-}
+// A work: its name, the rows, where the reserved addresses lie, and what is asked.
+pub(crate) type Scene = (&'static str, Leases, Place, Asks);
+
+// The works.
+pub(crate) const SCENES: [Scene; 26] = [
+    ("read", Leases::Own, Place::Apart, Asks::Read),
+    ("new", Leases::Own, Place::Apart, Asks::New),
+    ("offer", Leases::Dense, Place::Apart, Asks::Offer),
+    ("dora", Leases::Dense, Place::Apart, Asks::Dora),
+    ("known", Leases::Own, Place::Apart, Asks::Known),
+    ("known-all", Leases::All, Place::Apart, Asks::Known),
+    ("known-beside", Leases::Beside, Place::Apart, Asks::Known),
+    ("known-away", Leases::Away, Place::Apart, Asks::Known),
+    ("known-ended", Leases::Ended, Place::Apart, Asks::Known),
+    ("request", Leases::Own, Place::Apart, Asks::Lease),
+    ("renewal", Leases::Own, Place::Apart, Asks::Renew),
+    ("renewal-all", Leases::All, Place::Apart, Asks::Renew),
+    ("renewal-beside", Leases::Beside, Place::Apart, Asks::Renew),
+    ("renewal-away", Leases::Away, Place::Apart, Asks::Renew),
+    ("other", Leases::Own, Place::Apart, Asks::Other),
+    ("other-all", Leases::All, Place::Apart, Asks::Other),
+    ("other-beside", Leases::Beside, Place::Apart, Asks::Other),
+    ("other-away", Leases::Away, Place::Apart, Asks::Other),
+    ("other-ended", Leases::Ended, Place::Apart, Asks::Other),
+    ("other-offers", Leases::Offers, Place::Apart, Asks::Other),
+    ("kept", Leases::Own, Place::Gaps, Asks::New),
+    ("full", Leases::Full, Place::Apart, Asks::New),
+    ("past", Leases::Renewed, Place::Apart, Asks::New),
+    ("ended", Leases::Over, Place::First, Asks::New),
+    ("cookie", Leases::Own, Place::Apart, Asks::Cookie),
+    ("noise", Leases::Own, Place::Apart, Asks::Noise),
+];
 
 // Which client's message it is, and which.
-#[derive(Clone, Copy)]
-enum Asks {
+#[derive(Clone, Copy, PartialEq, Eq)]
+pub(crate) enum Asks {
+    // A DISCOVER that is only read.
+    Read,
     // A DISCOVER of a client without a row.
     New,
+    // The same, and its row is set.
+    Offer,
+    // The same, and then the REQUEST for what it is offered, whose row is set too.
+    Dora,
     // A DISCOVER of a client with a lease.
     Known,
-    // The REQUEST for a lease.
+    // Its REQUEST for that lease, and its row is set.
     Lease,
-    // The renewal of the one lease of a client.
-    Renewal,
-    // The renewal of a lease by the client 0, which has them all.
-    OfMany,
+    // The renewal of that lease, and its row is set.
+    Renew,
+    // Its REQUEST to another server.
+    Other,
+    // A DISCOVER with another cookie.
+    Cookie,
+    // Bytes that are no message.
+    Noise,
 }
 
-// The message of a round.
-fn asked(asks: Asks, round: u32) -> [u8; 300] {
-    let number = mixed(round) % 60_000;
-    match asks {
-        Asks::New => discover(number + 100_000),
-        Asks::Known => discover(number),
-        Asks::Lease => request(number, address_of(number)),
-        Asks::Renewal => renewal(number, address_of(number)),
-        Asks::OfMany => renewal(0, address_of(number)),
+// How much of each there is.
+#[derive(Clone, Copy)]
+pub(crate) struct Amounts {
+    pub(crate) rows: u32,
+    pub(crate) reservations: u32,
+    pub(crate) rounds: u32,
+}
+
+// A server: its configuration and its table, at first of so many rows; and what it is asked.
+#[derive(Drop)]
+struct Desk {
+    config: Config,
+    rows: Rows,
+    size: u32,
+    leases: Leases,
+    asks: Asks,
+}
+
+// How often a work gave what it should.
+pub(crate) fn worked(alloc: Global, scene: &Scene, amounts: Amounts) -> Result<u32, ConfigFault> {
+    let (_, leases, place, asks) = *scene;
+    let size = amounts.rows;
+    let setting = Setting {
+        pooled: pooled(leases, size),
+        size,
+        reservations: amounts.reservations,
+        place,
+    };
+    let mut desk = Desk {
+        config: config_of(alloc, &setting)?,
+        rows: table_of(alloc, leases, size)?,
+        size,
+        leases,
+        asks,
+    };
+    Ok(again(alloc, &mut desk, amounts.rounds)?)
+}
+
+// How many addresses the pools have: as many as rows, or enough for them and 131,072 more.
+fn pooled(leases: Leases, size: u32) -> u32 {
+    match leases {
+        Leases::Full | Leases::Renewed | Leases::Over => size,
+        _ => size.wrapping_add(size / 11).wrapping_add(131_072),
     }
 }
 
-// How often the message was read with a type, of so many rounds.
-fn read_again(alloc: Global, rounds: u32) -> u32 {
+fn again(alloc: Global, desk: &mut Desk, rounds: u32) -> Result<u32, AllocError> {
     let mut done = 0u32;
     for round in 0..rounds {
-        let bytes = asked(Asks::New, round);
-        if Message::read(alloc, &bytes).is_ok() {
+        if is_done(alloc, desk, round)? {
             done = done.wrapping_add(1);
         }
     }
-    done
-}
-
-// How often the message was read and answered, of so many rounds.
-fn again(
-    alloc: Global,
-    config: &Config,
-    rows: &Rows,
-    rounds: u32,
-    asks: Asks,
-) -> Result<u32, AllocError> {
-    let mut done = 0u32;
-    for round in 0..rounds {
-        let bytes = asked(asks, round);
-        if let Ok(message) = Message::read(alloc, &bytes) {
-            if is_answered(alloc, config, rows, &message)? {
-                done = done.wrapping_add(1);
-            }
-        }
-    }
     Ok(done)
 }
 
-// Whether a message gets a reply.
-fn is_answered(
-    alloc: Global,
-    config: &Config,
-    rows: &Rows,
-    message: &Message<'_>,
-) -> Result<bool, AllocError> {
-    let names = config.classes().held(alloc, message)?;
-    let decision = decide(alloc, config, rows, message, &names, MOMENT)?;
-    match &decision.answer {
-        Answer::Plan(plan) => Ok(plan.kind != PlanKind::Nak),
-        Answer::Quiet(_) => Ok(false),
+// Whether the work of a round was done.
+fn is_done(alloc: Global, desk: &mut Desk, round: u32) -> Result<bool, AllocError> {
+    let bytes = asked(desk, round);
+    if desk.asks == Asks::Read {
+        return Ok(Message::read(alloc, &bytes).is_ok());
     }
+    let Some(address) = given(alloc, desk, &bytes, round)? else {
+        return Ok(false);
+    };
+    if desk.asks != Asks::Dora {
+        return Ok(true);
+    }
+    let bytes = request(newcomer(round), address, SERVER);
+    Ok(given(alloc, desk, &bytes, round)?.is_some())
+}
+
+// The datagram of a round.
+fn asked(desk: &Desk, round: u32) -> [u8; 300] {
+    let number = mixed(round) % desk.size.max(1);
+    let (client, address) = match desk.leases {
+        Leases::All | Leases::Offers => (0, address_of(number)),
+        Leases::Ended | Leases::Beside | Leases::Away => (0, POOL),
+        _ => (number, address_of(number)),
+    };
+    match desk.asks {
+        Asks::Read | Asks::New | Asks::Offer | Asks::Dora => discover(newcomer(round)),
+        Asks::Known => discover(client),
+        Asks::Lease => request(client, address, SERVER),
+        Asks::Renew => renewal(client, address),
+        Asks::Other => request(client, address, OTHER_SERVER),
+        Asks::Cookie => bad_cookie(client),
+        Asks::Noise => noise(round),
+    }
+}
+
+// The number of a client without a row, another in each round.
+fn newcomer(round: u32) -> u32 {
+    round.wrapping_add(0x1000_0000)
+}
+
+// The address that a datagram is given by the reply, where there is one and it is no NAK.
+fn given(
+    alloc: Global,
+    desk: &mut Desk,
+    bytes: &[u8; 300],
+    round: u32,
+) -> Result<Option<u32>, AllocError> {
+    let Ok(message) = Message::read(alloc, bytes) else {
+        return Ok(None);
+    };
+    let names = desk.config.classes().held(alloc, &message)?;
+    let moment = MOMENT + u64::from(round);
+    let Decision { row, answer } = decide(
+        alloc,
+        &desk.config,
+        &desk.rows,
+        &message,
+        &names,
+        moment,
+    )?;
+    if let Some(row) = row {
+        if sets_rows(desk.asks) {
+            set(&mut desk.rows, row)?;
+        }
+    }
+    match answer {
+        Answer::Plan(plan) if plan.kind != PlanKind::Nak => Ok(Some(plan.yiaddr)),
+        _ => Ok(None),
+    }
+}
+
+// Whether the rows of replies are set; they are where each round then finds the table as good as
+// the one before.
+fn sets_rows(asks: Asks) -> bool {
+    matches!(asks, Asks::Offer | Asks::Dora | Asks::Lease | Asks::Renew)
 }

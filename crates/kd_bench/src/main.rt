@@ -8,19 +8,32 @@
 //!
 //! `kd_bench get 60000 1000000` makes a table of 60,000 rows of leases and reads a row of it a
 //! million times. So do `open`, which makes the table alone, `client`, which finds a client's
-//! address, `gap`, which finds the first free address, `renew`, which sets a row anew, and `add`,
-//! which sets one at a new address.
+//! address, `gap`, which finds the first free address, `renew`, which sets a row anew, `add`, which
+//! sets one at an address between the others, each time another, and `rise`, at the next address
+//! behind the others.
 //!
-//! `kd_bench new 5000 1000000` answers a million DISCOVERs of clients without a row, under a
-//! configuration of 5,000 reservations, over a table of 60,000 rows in a pool of 65,536 addresses
-//! with gaps. So do `read`, which reads the message alone; `known`, a DISCOVER of a client with a
-//! lease; `request`, the REQUEST for its lease; `renewal`, the renewal of its lease; `leases`, that
-//! of a client that has all 60,000; `kept`, a DISCOVER of a client without a row where
-//! the first gaps of the pool are the reserved addresses; `full`, the same in a pool that has a row
-//! at each address; and `past`, in a full pool whose rows have not ended, though an earlier one
-//! had. It prints how often there was a reply: never in the last two.
+//! `kd_bench new 60000 4096 1000000` answers a million DISCOVERs of clients without a row, over a
+//! table of 60,000 rows with gaps, under a configuration of 4,096 reservations outside of the pools;
+//! those beyond 4,096 are in other subnets. So do
 //!
-//! `kd_bench each` does each work ten times, over sizes of 100.
+//! - `read`, which reads the message alone; `offer`, which sets the row of the offer, and `dora`,
+//!   which asks for the offer and sets that row too, both in pools that have no gaps;
+//! - `known`, a DISCOVER of a client with a lease; `request`, the REQUEST for its lease; `renewal`,
+//!   the renewal of its lease, both of which set the row; `other`, its REQUEST to another server;
+//! - `known-all`, `renewal-all` and `other-all`, where that client has all rows; `-beside`, where it
+//!   has an old one in a pool and the others in the same subnet in no pool; `-away`, where it has
+//!   the others in another subnet; `-ended`, where the others are offers that have ended; and
+//!   `other-offers`, where all are offers that have not;
+//! - `kept`, as `new`, where the first addresses without a row are the reserved ones; `full`, in
+//!   pools that have a row at each address; `past`, in full pools whose rows have not ended, though
+//!   an earlier one had; and `ended`, in full pools whose rows have ended, where the first addresses
+//!   are the reserved ones;
+//! - `cookie`, a DISCOVER with another cookie, and `noise`, 300 bytes that are no message.
+//!
+//! It prints how often there was a reply that is no NAK: never in `other`, `full`, `past`, `cookie`
+//! and `noise`.
+//!
+//! `kd_bench each` does each work ten times, over sizes of 100 and 1,000 rows.
 #![tactic(auto)]
 
 mod compiling;
@@ -29,31 +42,30 @@ mod machine;
 mod reading;
 mod rows;
 
+use crate::deciding::{Amounts, SCENES};
 use crate::reading::{branches, discover, file_again, pieces, read_again, verify_again};
 use kd_config::ConfigFault;
 use std::alloc::{AllocError, Global};
 use std::io;
 
-// The works over datagrams, token files, programs and class tests, over a table, and of deciding.
-const WORKS: [&str; 25] = [
+// The works over datagrams, token files, programs, class tests and a table.
+const WORKS: [&str; 17] = [
     "discover", "pieces", "file", "verify", "short", "long", "digits", "strings", "members",
-    "choices", "open", "client", "gap", "renew", "add", "get", "read", "new", "known", "request",
-    "renewal", "leases", "kept", "full", "past",
+    "choices", "open", "client", "gap", "renew", "add", "rise", "get",
 ];
 
 fn main(rt: HostRuntime) -> io::Result<()> {
     let words: Vec<String> = std::env::args(&rt)?.collect(rt.alloc())?;
     let work = words.get(1).map_or("each", |word| word.as_str());
-    let first = number_at(&words, 2);
-    let second = number_at(&words, 3);
     if work != "each" {
-        return match worked(rt.alloc(), work, first, second) {
+        let numbers = [2, 3, 4].map(|place| number_at(&words, place));
+        return match worked(rt.alloc(), work, numbers) {
             Ok(done) => println!(rt; "{done}"),
             Err(fault) => println!(rt; "{fault}"),
         };
     }
-    for work in WORKS {
-        match worked(rt.alloc(), work, None, None) {
+    for work in WORKS.into_iter().chain(SCENES.map(|scene| scene.0)) {
+        match worked(rt.alloc(), work, [None, None, None]) {
             Ok(done) => println!(rt; "{work} {done}")?,
             Err(fault) => println!(rt; "{work} {fault}")?,
         }
@@ -66,21 +78,23 @@ fn number_at(words: &[String], place: usize) -> Option<u32> {
     words.get(place).and_then(|word| word.parse().ok())
 }
 
-// How often a work was done: of so many rounds, or over so much of so many.
-fn worked(
-    alloc: Global,
-    work: &str,
-    first: Option<u32>,
-    second: Option<u32>,
-) -> Result<u32, ConfigFault> {
-    let size = first.unwrap_or(100);
-    let rounds = second.unwrap_or(10);
+// How often a work was done, with these numbers: of so many rounds, before which stand the rows and
+// the reservations.
+fn worked(alloc: Global, work: &str, numbers: [Option<u32>; 3]) -> Result<u32, ConfigFault> {
+    let [first, second, third] = numbers;
+    let scene = SCENES.iter().find(|scene| scene.0 == work);
+    if let Some(scene) = scene {
+        let amounts = Amounts {
+            rows: first.unwrap_or(1000),
+            reservations: second.unwrap_or(100),
+            rounds: third.unwrap_or(10),
+        };
+        return deciding::worked(alloc, scene, amounts);
+    }
     match work {
-        "open" | "client" | "gap" | "renew" | "add" | "get" => {
-            Ok(rows::worked(alloc, work, size, rounds)?)
-        }
-        "read" | "new" | "known" | "request" | "renewal" | "leases" | "kept" | "full" | "past" => {
-            deciding::worked(alloc, work, size, rounds)
+        "open" | "client" | "gap" | "renew" | "add" | "rise" | "get" => {
+            let size = first.unwrap_or(100);
+            Ok(rows::worked(alloc, work, size, second.unwrap_or(10))?)
         }
         _ => Ok(again(alloc, work, first.unwrap_or(10))?),
     }

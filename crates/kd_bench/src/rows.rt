@@ -15,14 +15,10 @@ pub(crate) fn worked(alloc: Global, work: &str, size: u32, rounds: u32) -> Resul
             "get" => rows.get(number.wrapping_mul(2)).is_some(),
             "client" => rows.of_client(&client(number), 0).is_some(),
             "gap" => rows.first_gap(number, u32::MAX).is_some(),
-            "renew" => set(alloc, &mut rows, number.wrapping_mul(2), number, round)?,
-            "add" => set(
-                alloc,
-                &mut rows,
-                number.wrapping_mul(2).wrapping_add(1),
-                mixed(number),
-                round,
-            )?,
+            "renew" | "add" | "rise" => {
+                let (address, client) = lease(work, size, round);
+                set(alloc, &mut rows, address, client, round)?
+            }
             _ => rows.at(number as usize).is_some(),
         };
         if did {
@@ -30,6 +26,29 @@ pub(crate) fn worked(alloc: Global, work: &str, size: u32, rounds: u32) -> Resul
         }
     }
     Ok(done)
+}
+
+// The address and the client of the row that a work sets in a round: of a row, or of a new client
+// between the rows or behind them.
+fn lease(work: &str, size: u32, round: u32) -> (u32, u32) {
+    let newcomer = round.wrapping_add(0x1000_0000);
+    match work {
+        "add" => {
+            let place = scattered(round, size).wrapping_mul(2);
+            (place.wrapping_add(1), newcomer)
+        }
+        "rise" => (size.wrapping_add(round).wrapping_mul(2), newcomer),
+        _ => {
+            let number = mixed(round) % size.max(1);
+            (number.wrapping_mul(2), number)
+        }
+    }
+}
+
+// Numbers below a size in no order, each once where the prime does not divide the size.
+fn scattered(round: u32, size: u32) -> u32 {
+    let product = u64::from(round) * 611_953;
+    (product % u64::from(size.max(1))) as u32
 }
 
 // The client with a number: nine bytes, in another order than the numbers.

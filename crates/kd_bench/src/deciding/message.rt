@@ -2,6 +2,11 @@ ghost use Rattle.std.specs.Prelude.{◌<◌};
 
 // The datagrams of clients, of 300 bytes.
 
+// The address of this server, and that of another.
+pub(crate) const SERVER: u32 = 0x0a00_0001;
+
+pub(crate) const OTHER_SERVER: u32 = 0x0a00_0002;
+
 // A DISCOVER of the client with a number: its type, its identifier, the greatest message and what
 // it asks for.
 pub(crate) fn discover(number: u32) -> [u8; 300] {
@@ -11,21 +16,16 @@ pub(crate) fn discover(number: u32) -> [u8; 300] {
     bytes
 }
 
-// A REQUEST of the client with a number to this server for an address.
-pub(crate) fn request(number: u32, address: u32) -> [u8; 300] {
+// A REQUEST of the client with a number to a server for an address.
+pub(crate) fn request(number: u32, address: u32, server: u32) -> [u8; 300] {
     let mut bytes = head(number);
     bytes[242] = 3;
     bytes[252] = 50;
     bytes[253] = 4;
-    let [a, b, c, d] = address.to_be_bytes();
-    bytes[254] = a;
-    bytes[255] = b;
-    bytes[256] = c;
-    bytes[257] = d;
+    put_address(&mut bytes, 254, address);
     bytes[258] = 54;
     bytes[259] = 4;
-    bytes[260] = 10;
-    bytes[263] = 1;
+    put_address(&mut bytes, 260, server);
     put_wishes(&mut bytes, 264);
     bytes
 }
@@ -33,13 +33,28 @@ pub(crate) fn request(number: u32, address: u32) -> [u8; 300] {
 // A REQUEST of the client with a number to renew its lease of an address, its ciaddr.
 pub(crate) fn renewal(number: u32, address: u32) -> [u8; 300] {
     let mut bytes = head(number);
-    let [a, b, c, d] = address.to_be_bytes();
-    bytes[12] = a;
-    bytes[13] = b;
-    bytes[14] = c;
-    bytes[15] = d;
+    put_address(&mut bytes, 12, address);
     bytes[242] = 3;
     put_wishes(&mut bytes, 252);
+    bytes
+}
+
+// A DISCOVER whose cookie is another.
+pub(crate) fn bad_cookie(number: u32) -> [u8; 300] {
+    let mut bytes = discover(number);
+    bytes[239] = 0;
+    bytes
+}
+
+// Bytes that look like any.
+pub(crate) fn noise(number: u32) -> [u8; 300] {
+    let mut bytes = [0; 300];
+    let mut state = number;
+    for place in 0..300usize {
+        state = state.wrapping_mul(1_664_525).wrapping_add(1_013_904_223);
+        let [byte, _, _, _] = state.to_be_bytes();
+        bytes[place] = byte;
+    }
     bytes
 }
 
@@ -67,12 +82,19 @@ fn head(number: u32) -> [u8; 300] {
 fn put_mac(bytes: &mut [u8; 300], place: usize, number: u32)
     requires { place < 290 }
 {
-    let [a, b, c, d] = number.to_be_bytes();
     bytes[place] = 10;
-    bytes[place + 2] = a;
-    bytes[place + 3] = b;
-    bytes[place + 4] = c;
-    bytes[place + 5] = d;
+    put_address(bytes, place + 2, number);
+}
+
+// Puts four bytes.
+fn put_address(bytes: &mut [u8; 300], place: usize, address: u32)
+    requires { place < 296 }
+{
+    let [a, b, c, d] = address.to_be_bytes();
+    bytes[place] = a;
+    bytes[place + 1] = b;
+    bytes[place + 2] = c;
+    bytes[place + 3] = d;
 }
 
 // Puts the greatest message and the list of what is asked for, and the end.
