@@ -11,5 +11,7 @@ mod fused;
 mod rows;
 #[cfg(test)]
 mod stores;
+#[cfg(test)]
+mod tiers;
 
 pub use fused::Fused;

@@ -5,7 +5,7 @@ use std::test::Fail;
 
 // Why a call gives nothing.
 #[derive(Clone, Copy, Debug, PartialEq, Eq)]
-enum Fault {
+pub(crate) enum Fault {
     // There is no memory.
     Memory,
     // The rows may not stand in a table.
@@ -19,7 +19,7 @@ impl From<AllocError> for Fault {
 }
 
 // A lease: its address, its client, when it was set, when it ends.
-type Lease = (u32, &'static [u8], u64, u64);
+pub(crate) type Lease = (u32, &'static [u8], u64, u64);
 
 // The row of a bound lease.
 fn row(alloc: Global, lease: Lease) -> Result<Row, AllocError> {
@@ -43,7 +43,7 @@ fn list(alloc: Global, leases: &[Lease]) -> Result<Vec<Row>, AllocError> {
 }
 
 // The table of leases.
-fn table(alloc: Global, leases: &[Lease]) -> Result<Rows, Fault> {
+pub(crate) fn table(alloc: Global, leases: &[Lease]) -> Result<Rows, Fault> {
     let rows = list(alloc, leases)?;
     if !Rows::accepts(&rows) {
         return Err(Fault::Rows);
@@ -52,7 +52,7 @@ fn table(alloc: Global, leases: &[Lease]) -> Result<Rows, Fault> {
 }
 
 // Sets a lease.
-fn set(alloc: Global, rows: &mut Rows, lease: Lease) -> Result<(), Fault> {
+pub(crate) fn set(alloc: Global, rows: &mut Rows, lease: Lease) -> Result<(), Fault> {
     let row = row(alloc, lease)?;
     if !row.is_in_range() || row.changed < rows.latest() {
         return Err(Fault::Rows);
@@ -113,7 +113,7 @@ fn client_of(row: Option<&Row>) -> Option<&[u8]> {
 }
 
 // The address of a row.
-fn address_of(row: Option<&Row>) -> Option<u32> {
+pub(crate) fn address_of(row: Option<&Row>) -> Option<u32> {
     match row {
         Some(row) => Some(row.address),
         None => None,
@@ -311,7 +311,7 @@ fn a_row_that_has_ended_is_found_among_those_renewed(rt: HostRuntime) -> Result<
 const NAMES: &[u8] = b"0123456789abcdefghijklmnopqrstuvwxyzABC";
 
 // The name of a client with a number.
-fn name(number: u32) -> &'static [u8] {
+pub(crate) fn name(number: u32) -> &'static [u8] {
     NAMES.get(..(number % 40) as usize).unwrap_or(NAMES)
 }
 
