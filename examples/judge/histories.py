@@ -340,7 +340,7 @@ def show(differs, root, events):
     print(f"line {line + 1}\nprogram {came}\njudge   {wanted}")
 
 
-def main():
+def main(history=history):
     words = argparse.ArgumentParser()
     words.add_argument("seed", type=int)
     words.add_argument("count", type=int)

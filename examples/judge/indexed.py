@@ -1,16 +1,17 @@
 #!/usr/bin/env python3
 """The judge's table with an index, for days of many rows.
 
-    indexed.py SEED COUNT     compares it with the plain list of judge.py, on the random histories of histories.py
+    indexed.py SEED COUNT [crowds]     compares it with the plain list of judge.py, on the random histories of
+                                       histories.py, or of crowds.py
 
 A row is found by its address and by its client in a dict. The addresses of a subnet's pools that are reserved for
 nobody are worked out once: the client's own reserved one need not stand among them, since a DISCOVER gets it before its
 pools are looked at, or finds that somebody else has it.
 """
+import importlib
 import random
 import sys
 
-import histories
 import judge
 
 
@@ -52,9 +53,11 @@ class Indexed:
 
 def main():
     seed, count = int(sys.argv[1]), int(sys.argv[2])
+    made = importlib.import_module(sys.argv[3] if len(sys.argv) > 3 else "histories")
     handled = 0
     for number in range(count):
-        root, events, (wanted, rows, _) = histories.history(random.Random(seed * 1_000_000 + number))
+        root, events, _judged = made.history(random.Random(seed * 1_000_000 + number))
+        wanted, rows, _fault = judge.replay(root, events)
         table, lines = Indexed(root), []
         for event in map(judge.event_of, events[: len(wanted)]):
             line, table = judge.handle(root, table, *event)

@@ -140,7 +140,7 @@ fn is_done(alloc: Global, desk: &mut Desk, round: u32) -> Result<bool, AllocErro
     if desk.asks != Asks::Dora {
         return Ok(true);
     }
-    let bytes = request(newcomer(round), address, SERVER);
+    let bytes = request(newcomer(desk, round), address, SERVER);
     Ok(given(alloc, desk, &bytes, round)?.is_some())
 }
 
@@ -150,10 +150,10 @@ fn asked(desk: &Desk, round: u32) -> [u8; 300] {
     let (client, address) = match desk.leases {
         Leases::All | Leases::Offers => (0, address_of(number)),
         Leases::Ended | Leases::Beside | Leases::Away => (0, POOL),
-        _ => (number, address_of(number)),
+        _ => (mixed(number), address_of(number)),
     };
     match desk.asks {
-        Asks::Read | Asks::New | Asks::Offer | Asks::Dora => discover(newcomer(round)),
+        Asks::Read | Asks::New | Asks::Offer | Asks::Dora => discover(newcomer(desk, round)),
         Asks::Known => discover(client),
         Asks::Lease => request(client, address, SERVER),
         Asks::Renew => renewal(client, address),
@@ -163,9 +163,9 @@ fn asked(desk: &Desk, round: u32) -> [u8; 300] {
     }
 }
 
-// The number of a client without a row, another in each round.
-fn newcomer(round: u32) -> u32 {
-    round.wrapping_add(0x1000_0000)
+// The number of a client without a row, another in each round, and in mixed order among the others.
+fn newcomer(desk: &Desk, round: u32) -> u32 {
+    mixed(desk.size.wrapping_add(round))
 }
 
 // The address that a datagram is given by the reply, where there is one and it is no NAK.

@@ -1,3 +1,4 @@
+use crate::mixed;
 use kd_rows::{Row, Rows, State};
 use kd_wire::Bytes;
 use std::alloc::{AllocError, Global};
@@ -21,7 +22,7 @@ const FAR: u64 = 2_000_000_000;
 // Whose the rows are, and where.
 #[derive(Clone, Copy, PartialEq, Eq)]
 pub(crate) enum Leases {
-    // Each of a client of its own; each twelfth address of the pools has none.
+    // Each of a client of its own, in mixed order; each twelfth address of the pools has none.
     Own,
     // The same addresses, all of the client 0.
     All,
@@ -78,7 +79,7 @@ pub(crate) fn table_of(alloc: Global, leases: Leases, rows: u32) -> Result<Rows,
 fn row_of(alloc: Global, leases: Leases, number: u32) -> Result<Row, AllocError> {
     let client = match leases {
         Leases::All | Leases::Ended | Leases::Offers | Leases::Beside | Leases::Away => 0,
-        _ => number,
+        _ => mixed(number),
     };
     Ok(Row {
         address: place_of(leases, number),

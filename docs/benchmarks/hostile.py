@@ -1,0 +1,102 @@
+#!/usr/bin/env python3
+"""What a message costs where clients are hostile and numbers large, beside the goals.
+
+    hostile.py [--program P] [--times] [--only WORK]
+
+Runs works of crates/kd_bench (P, its out/kd_bench where nothing is said) and prints a table in Markdown: the work, rows
+and reservations, instructions of a round by callgrind, those of the work that it is compared with, the ratio, the goal,
+and whether it is met. With --times it prints microseconds of processor time in their place, the best of five runs.
+What the program takes without a round is taken off. --only prints the rows of one work alone.
+"""
+import argparse
+import os
+import re
+import subprocess
+
+TOP = os.path.dirname(os.path.dirname(os.path.dirname(os.path.realpath(__file__))))
+HOLDERS = ["all", "beside", "away", "ended"]
+MANY, MOST, FEW = 60_000, 1_000_000, 1_000
+SUBNET, WHOLE = 4096, 200_000
+# Each work with its rows and reservations (None: a work over the table alone), what it is compared with, and the goal.
+ROWS = [((f"renewal-{holder}", MANY, 0), ("renewal", MANY, 0), 3) for holder in HOLDERS[:3]]
+ROWS += [((f"known-{holder}", MANY, 0), ("known", MANY, 0), 3) for holder in HOLDERS]
+ROWS += [((f"other-{holder}", MANY, 0), ("other", MANY, 0), 3) for holder in HOLDERS + ["offers"]]
+ROWS += [((work, MANY, SUBNET), (work, MANY, 0), 1.5) for work in ("new", "known", "request", "renewal", "full", "dora")]
+ROWS += [((work, MANY, SUBNET), (work, MANY, 0), 1.5) for work in ("kept", "ended")]
+ROWS += [((work, FEW, WHOLE), (work, FEW, 0), 1.5) for work in ("new", "known", "request", "renewal")]
+ROWS += [(("dora", rows, 0), ("dora", FEW, 0), 1.8) for rows in (MANY, MOST)]
+ROWS += [((work, MOST, None), (work, MANY, None), 2.5) for work in ("add", "rise")]
+ROWS += [(("new", MANY, 0), ("renewal", MANY, 0), 2), (("offer", MANY, 0), ("renewal", MANY, 0), 2)]
+ROWS += [(("cookie", FEW, 0), None, "2 us"), (("noise", FEW, 0), None, "2 us")]
+# Works that may go over all rows in each round.
+LONG = re.compile("known-.*|other-.*|kept|ended")
+
+
+def words_of(program, work, rounds):
+    name, rows, reservations = work
+    numbers = [rows, rounds] if reservations is None else [rows, reservations, rounds]
+    return [program, name, *map(str, numbers)]
+
+
+def instructions(program, work, rounds):
+    words = ["valgrind", "--tool=callgrind", "--callgrind-out-file=/dev/null", *words_of(program, work, rounds)]
+    done = subprocess.run(words, capture_output=True, text=True, check=True)
+    return int(re.search(r"refs:\s+([\d,]+)", done.stderr).group(1).replace(",", ""))
+
+
+def microseconds(program, work, rounds):
+    """Processor time of the best of five runs."""
+    best = []
+    for _ in range(5):
+        process = subprocess.Popen(words_of(program, work, rounds), stdout=subprocess.DEVNULL)
+        used = os.wait4(process.pid, 0)[2]
+        best.append(used.ru_utime + used.ru_stime)
+    return min(best) * 1e6
+
+
+def cost(program, work, is_timed):
+    """What a round of a work costs."""
+    if not is_timed:
+        rounds = 2 if LONG.fullmatch(work[0]) else 1000
+        return (instructions(program, work, rounds) - instructions(program, work, 0)) / rounds
+    nothing, rounds = microseconds(program, work, 0), 4
+    while True:
+        spent = microseconds(program, work, rounds) - nothing
+        if spent > 200_000 or rounds >= 60_000:
+            return spent / rounds
+        rounds = min(60_000, rounds * max(2, min(50, int(250_000 / max(spent, 1)))))
+
+
+def shown(figure):
+    return "" if figure is None else f"{figure:,.2f}" if figure < 100 else f"{figure:,.0f}"
+
+
+def main():
+    words = argparse.ArgumentParser()
+    words.add_argument("--program", default=f"{TOP}/crates/kd_bench/out/kd_bench")
+    words.add_argument("--times", action="store_true")
+    words.add_argument("--only")
+    words = words.parse_args()
+    known = {}
+
+    def found(work):
+        if work is not None and work not in known:
+            known[work] = cost(words.program, work, words.times)
+        return known.get(work)
+
+    print("| Work | Rows | Reservations | Cost | Compared with | Its cost | Ratio | Goal | Met |")
+    print("|---|---|---|---|---|---|---|---|---|", flush=True)
+    for work, other, goal in ROWS:
+        if words.only not in (None, work[0]):
+            continue
+        (name, rows, reservations), mine, its = work, found(work), found(other)
+        beside = "" if other is None else f"`{other[0]}` {other[1]:,}, {other[2] or 0:,}"
+        ratio = None if its is None else mine / its
+        is_met = ("" if not words.times else mine <= 2) if its is None else ratio <= goal
+        said = {True: "yes", False: "no", "": ""}[is_met]
+        cells = [f"`{name}`", f"{rows:,}", f"{reservations or 0:,}", shown(mine), beside, shown(its), shown(ratio), goal, said]
+        print("| " + " | ".join(map(str, cells)) + " |", flush=True)
+
+
+if __name__ == "__main__":
+    main()
