@@ -28,8 +28,8 @@ ROWS += [(("dora", rows, 0), ("dora", FEW, 0), 1.8) for rows in (MANY, MOST)]
 ROWS += [((work, MOST, None), (work, MANY, None), 2.5) for work in ("add", "rise")]
 ROWS += [(("new", MANY, 0), ("renewal", MANY, 0), 2), (("offer", MANY, 0), ("renewal", MANY, 0), 2)]
 ROWS += [(("cookie", FEW, 0), None, "2 us"), (("noise", FEW, 0), None, "2 us")]
-# Works that may go over all rows in each round.
-LONG = re.compile("known-.*|other-.*|kept|ended")
+# Works that go over all rows or all reservations in each round.
+LONG = re.compile("(known|other)-.* 0|(kept|ended) [1-9].*")
 
 
 def words_of(program, work, rounds):
@@ -57,7 +57,7 @@ def microseconds(program, work, rounds):
 def cost(program, work, is_timed):
     """What a round of a work costs."""
     if not is_timed:
-        rounds = 2 if LONG.fullmatch(work[0]) else 1000
+        rounds = 2 if LONG.fullmatch(f"{work[0]} {work[2]}") else 1000
         return (instructions(program, work, rounds) - instructions(program, work, 0)) / rounds
     nothing, rounds = microseconds(program, work, 0), 4
     while True:

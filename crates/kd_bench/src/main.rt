@@ -13,21 +13,21 @@
 //! behind the others.
 //!
 //! `kd_bench new 60000 4096 1000000` answers a million DISCOVERs of clients without a row, over a
-//! table of 60,000 rows with gaps, under a configuration of 4,096 reservations outside of the pools;
-//! those beyond 4,096 are in other subnets. So do
+//! table of 60,000 rows with gaps, under a configuration of 4,096 reservations in no pool; those
+//! beyond 4,096 are in other subnets. So do
 //!
 //! - `read`, which reads the message alone; `offer`, which sets the row of the offer, and `dora`,
 //!   which asks for the offer and sets that row too, both in pools that have no gaps;
 //! - `known`, a DISCOVER of a client with a lease; `request`, the REQUEST for its lease; `renewal`,
 //!   the renewal of its lease, both of which set the row; `other`, its REQUEST to another server;
-//! - `known-all`, `renewal-all` and `other-all`, where that client has all rows; `-beside`, where it
-//!   has an old one in a pool and the others in the same subnet in no pool; `-away`, where it has
-//!   the others in another subnet; `-ended`, where the others are offers that have ended; and
+//! - `known-all`, `renewal-all` and `other-all`, where that client has all rows; `-beside`, where
+//!   it has an old one in a pool and the others in the same subnet in no pool; `-away`, where it
+//!   has the others in another subnet; `-ended`, where the others are offers that have ended; and
 //!   `other-offers`, where all are offers that have not;
 //! - `kept`, as `new`, where the first addresses without a row are the reserved ones; `full`, in
 //!   pools that have a row at each address; `past`, in full pools whose rows have not ended, though
-//!   an earlier one had; and `ended`, in full pools whose rows have ended, where the first addresses
-//!   are the reserved ones;
+//!   an earlier one had; and `ended`, in full pools whose rows have ended, where the first ones are
+//!   the reserved ones;
 //! - `cookie`, a DISCOVER with another cookie, and `noise`, 300 bytes that are no message.
 //!
 //! It prints how often there was a reply that is no NAK: never in `other`, `full`, `past`, `cookie`

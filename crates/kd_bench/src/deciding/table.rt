@@ -12,7 +12,7 @@ const BESIDE: u32 = 0x0a64_0000;
 
 const AWAY: u32 = 0x0c00_0000;
 
-// The moment of the first message; by then the ended rows have ended, and the others end long after.
+// The moment of the first message, that by which the ended rows have ended, and one long after.
 pub(crate) const MOMENT: u64 = 10_000;
 
 const ENDED: u64 = 6_000;
