@@ -1,8 +1,12 @@
 -- Frames of a log that a start leaves out: SQLite's write-ahead log (its file format, section 4).
-use Rattle.std.specs.Prelude.{◌≡◌, ◌⊎◌, ℕ, ◌+◌, ◌-◌, ◌≤◌, List, length, Option, None, Some}
+use Rattle.std.specs.Prelude.{◌≡◌, ◌⊎◌, ℕ, ◌+◌, ◌-◌, ◌≤◌, ⊤, List, length, Option, None, Some}
 use Rattle.sqlite_wal.specs.Format.{be32, part}
 use Rattle.sqlite_wal.specs.PageSize.{IsPageSize}
 use Rattle.sqlite_wal.specs.Recovery.{IsIgnored, IsLogFor, Replays, frame_at}
+use Rattle.kd_keeps.specs.declared.fault.Cause.{Cause}
+use Rattle.kd_keeps.specs.declared.fault.Cause.TheVariants.{DatabaseCorrupt, OutOfMemory, TooBig}
+use Rattle.kd_keeps.specs.declared.fault.StoreFault.{StoreFault}
+use Rattle.kd_keeps.specs.declared.fault.StoreFault.TheVariants.{Schema, Sql}
 
 -- at a place of a log begins a frame of this same log: it has the salts of the log's header
 pub record IsOwnFrame (log : List ℕ) (at : ℕ) : Type 0 where
@@ -25,3 +29,17 @@ AreLeftOut log None =
 AreLeftOut log (Some count) =
     (size at : ℕ) × IsLogFor size log × IsEndOfFrames log size at × IsOwnFrame log at
     × (count ≡ length log - at)
+
+-- why the frames of a log with pages of this size are not counted: memory runs out, a start takes
+-- no number of them, or 32 bits do not number them
+abbrev pub IsNotCounted : List ℕ → ℕ → Cause → Type 0
+IsNotCounted log size OutOfMemory = ⊤
+IsNotCounted log size DatabaseCorrupt = (k : ℕ) → ¬ Replays size log k
+IsNotCounted log size TooBig = frame_at size 0xffff_fffe ≤ length log
+IsNotCounted log size _ = ⊥
+
+-- why there is no count: the file is a log with pages of some size, and its frames are not counted
+abbrev pub IsNoCount : List ℕ → StoreFault → Type 0
+IsNoCount log Schema = ⊥
+IsNoCount log (Sql cause) =
+    (size : ℕ) × IsPageSize size × IsLogFor size log × IsNotCounted log size cause

@@ -9,6 +9,7 @@
 #![tactic(auto)]
 
 mod image;
+mod read_only;
 mod stops;
 mod stores;
 mod tail;

@@ -1,12 +1,11 @@
-ghost use Rattle.std.specs.Prelude.{◌≡◌, ◌≤◌, IfOk, IfSome, IsTrue, false};
-ghost use Rattle.sqlite_disk.specs.Memory.{memory_bytes, memory_is_usable};
+ghost use Rattle.std.specs.Prelude.{◌≡◌, ◌<◌, ◌≤◌, ◌^◌, IfErr, IfOk, IsTrue, false};
 ghost use Rattle.sqlite_wal.specs.PageSize.{bytes_of};
 ghost use Rattle.sqlite_wal.specs.Recovery.{IsLogFor, frame_at};
-ghost use Rattle.kd_database.specs.Tail.{AreLeftOut, IsOwnFrame};
+ghost use Rattle.kd_database.specs.Tail.{AreLeftOut, IsNoCount, IsOwnFrame};
 
-use crate::image::file_of;
+use crate::read_only::ReadOnly;
 use kd_keeps::{Cause, StoreFault};
-use sqlite_disk::{Files, Memory};
+use sqlite_disk::Files;
 use sqlite_wal::{Error, PageSize, probe_frames, probe_page_size};
 use std::alloc::Global;
 
@@ -14,9 +13,6 @@ use std::alloc::Global;
 const LOG_HEADER: usize = 32;
 
 const FRAME_HEADER: usize = 24;
-
-// No file is as long.
-const LONGEST: usize = 1 << 62;
 
 // Where the salts are in a log's header, and in a frame's.
 const SALTS_OF_LOG: usize = 16;
@@ -32,54 +28,49 @@ const SALTS: usize = 8;
 ///
 /// # Errors
 ///
-/// `Sql`: memory runs out, or the file is no log that a start reads.
+/// `Sql`, and only where the header is that of a log: memory runs out, a start refuses the log, or
+/// it has more frames than 32 bits number.
 pub fn left_out(alloc: Global, log: &[u8]) -> Result<Option<usize>, StoreFault>
-    ensures { IfOk result (AreLeftOut log.now) }
+    ensures counted { IfOk result (AreLeftOut log.now) }
+    ensures refused { IfErr result (IsNoCount log.now) }
 {
     let mut files = Files {
-        log: file_of(alloc, log)?,
-        db: Memory::new(alloc),
+        log: ReadOnly::new(log),
+        db: ReadOnly::new(b""),
     };
     match probe_page_size(&mut files) {
-        Ok(Some(size)) => left_out_of(alloc, &mut files.log, log, size),
+        Ok(Some(size)) => left_out_of(alloc, log, size),
         Ok(None) => Ok(None),
-        Err(_) => Err(StoreFault::Sql(Cause::SystemIoFailure)),
+        Err(_) => unreachable!(),
     }
 }
 
-// The same of a log with pages of this size, which is a file in memory too.
-fn left_out_of(
-    alloc: Global,
-    file: &mut Memory,
-    log: &[u8],
-    size: PageSize,
-) -> Result<Option<usize>, StoreFault>
-    requires bytes { memory_bytes file.old ≡ log.now }
-    requires usable { IsTrue (memory_is_usable file.old) }
+// The same of a log with pages of this size.
+fn left_out_of(alloc: Global, log: &[u8], size: PageSize) -> Result<Option<usize>, StoreFault>
     requires named { IsLogFor (bytes_of size) log.now }
-    ensures { IfOk result (AreLeftOut log.now) }
+    ensures counted { IfOk result (AreLeftOut log.now) }
+    ensures refused { IfErr result (IsNoCount log.now) }
 {
-    let frames = match probe_frames(alloc, file, size) {
+    let frames = match probe_frames(alloc, &mut ReadOnly::new(log), size) {
         Ok(pages) => pages.len(),
         Err(error) => return Err(StoreFault::Sql(cause_of(error))),
     };
-    match end_of(frames, size.bytes()) {
-        Some(end) if is_own_frame(log, end) => Ok(Some(log.len() - end)),
-        Some(_) => Ok(None),
-        None => Err(StoreFault::Sql(Cause::DatabaseCorrupt)),
+    let end = frames_end(frames, size.bytes());
+    if is_own_frame(log, end) {
+        Ok(Some(log.len() - end))
+    } else {
+        Ok(None)
     }
 }
 
-// Where so many frames of a log end, if a file can be so long.
+// The place behind so many frames of a log.
 #[tactic(auto, unfolding(sqlite_wal::specs::Recovery::frames_len))]
-fn end_of(frames: usize, page_size: usize) -> Option<usize>
-    requires { page_size ≤ 65536 }
-    ensures { IfSome result (λ at. at ≡ frame_at page_size frames) }
+fn frames_end(frames: usize, page_size: usize) -> usize
+    requires size { page_size ≤ 65536 }
+    requires within { frame_at page_size frames < 2 ^ 64 }
+    ensures { result ≡ frame_at page_size frames }
 {
-    match frames.checked_mul(FRAME_HEADER + page_size) {
-        Some(length) if length < LONGEST => Some(LOG_HEADER + length),
-        _ => None,
-    }
+    LOG_HEADER + frames * (FRAME_HEADER + page_size)
 }
 
 // A frame of this same log begins at a place.
@@ -94,11 +85,16 @@ fn is_own_frame(log: &[u8], at: usize) -> bool
     salts == &log[SALTS_OF_LOG..SALTS_OF_LOG + SALTS]
 }
 
-// Why a log is not read.
-fn cause_of(error: Error) -> Cause {
+// Why a log is not read; a file that only gives its bytes has no failures of its own.
+fn cause_of(error: Error) -> Cause
+    ensures memory { error ≡ Error.OutOfMemory → result ≡ Cause.OutOfMemory }
+    ensures damaged { error ≡ Error.Corrupt → result ≡ Cause.DatabaseCorrupt }
+    ensures long { error ≡ Error.Full → result ≡ Cause.TooBig }
+{
     match error {
         Error::OutOfMemory => Cause::OutOfMemory,
         Error::Corrupt => Cause::DatabaseCorrupt,
+        Error::Full => Cause::TooBig,
         _ => Cause::SystemIoFailure,
     }
 }
