@@ -1,11 +1,10 @@
 -- How far the frames reach that a start takes of a log, and why there is no count of them.
-use Rattle.std.proofs.Common.{◌≡◌, ◌≤◌, ◌<◌, ◌+◌, ◌^◌, ℕ, zero, suc, List, length, inl, inr, ap, sym, ◌∙◌, subst, refl, false, nat_lt, arith}
+use Rattle.std.proofs.Common.{◌≡◌, ◌≤◌, ◌<◌, ◌+◌, ℕ, zero, suc, List, length, inl, inr, ap, sym, subst, refl, nat_lt, arith}
 use Rattle.std.proofs.lemmas.Bool.Decides.{nat_tests}
 use Rattle.sqlite_disk.specs.Disk.{MoreFaults}
 use Rattle.sqlite_wal.specs.declared.error.Error.{Error}
 use Rattle.sqlite_wal.specs.declared.error.Error.TheVariants as errors
-use Rattle.sqlite_wal.specs.PageSize.{IsPageSize}
-use Rattle.sqlite_wal.specs.Recovery.{AreFramesOf, IsLogFor, Replays, frame_at, frames_len}
+use Rattle.sqlite_wal.specs.Recovery.{AreFramesOf, IsLogFor, Replays, frame_at}
 use Rattle.sqlite_wal.specs.Reads.{OnlyReads}
 use Rattle.sqlite_wal.specs.Outcome.{HasCause}
 use Rattle.sqlite_wal.specs.Opening.{RefusesLog}

@@ -27,7 +27,7 @@ use std::alloc::Global;
 ///
 /// Those of `store_in_file`: `Sql` where the bytes are no database or memory runs out, and `Schema`
 /// where its table `lease` is not ours or has a row that is out of range.
-pub fn rows_in(alloc: Global, log: &[u8], db: &[u8]) -> Result<Vec<Row>, StoreFault>
+pub fn rows_in_bytes(alloc: Global, log: &[u8], db: &[u8]) -> Result<Vec<Row>, StoreFault>
     ensures held { IfOk result (λ rows. AreRowsIn (bytes_image log.now db.now) rows.items) }
     ensures rise { IfOk result (λ rows. Rise rows.items) }
     ensures ranges { IfOk result (λ rows. All IsInRange rows.items) }

@@ -14,7 +14,7 @@ mod stops;
 mod stores;
 mod tail;
 
-pub use image::rows_in;
+pub use image::rows_in_bytes;
 pub use stops::{kills, let_go, restarts};
 pub use stores::{InFile, InMemory, store_from, store_in_file, store_in_memory, store_over};
 pub use tail::left_out;

@@ -1,5 +1,5 @@
 use crate::files::{Steps, expect, over_file, put, remove};
-use kd_database::{left_out, rows_in};
+use kd_database::{left_out, rows_in_bytes};
 use kd_io::copy_at;
 use kd_keeps::{Keeps, Opened};
 use kd_rows::{Row, State};
@@ -113,7 +113,7 @@ fn is_own(rt: &HostRuntime, path: &str) -> Result<bool, Fail> {
 // The rows of the file, which a store has open.
 fn look(rt: &HostRuntime) -> Result<Vec<Row>, Fail> {
     let copy = copy_at(rt, "rows.db")?;
-    Ok(rows_in(rt.alloc(), copy.log.as_slice(), copy.db.as_slice())?)
+    Ok(rows_in_bytes(rt.alloc(), copy.log.as_slice(), copy.db.as_slice())?)
 }
 
 // The log of the file is whole. Where a byte of its first frame is another, all of it is left out but

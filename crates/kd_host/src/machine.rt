@@ -1,7 +1,7 @@
 use kd_check::findings::{SocketTrouble, StoreTrouble};
 use kd_commands::Listening;
 use kd_config::Config;
-use kd_database::{left_out, let_go, rows_in, store_from};
+use kd_database::{left_out, let_go, rows_in_bytes, store_from};
 use kd_io::{
     Copied, LookFault, Output, Sending, Socket, StartFault, configuration, copy_at, journal,
     seconds_of, start_words, try_database, try_socket,
@@ -131,7 +131,7 @@ impl<'a, F: Start> Host for Machine<'a, F, Below<F>> {
 
     fn copy(&mut self, path: &str) -> Result<Vec<Row>, LookFault> {
         let Copied { log, db } = copy_at(self.rt, path)?;
-        match rows_in(self.rt.alloc(), log.as_slice(), db.as_slice()) {
+        match rows_in_bytes(self.rt.alloc(), log.as_slice(), db.as_slice()) {
             Ok(rows) => Ok(rows),
             Err(fault) => Err(LookFault::Store(fault)),
         }

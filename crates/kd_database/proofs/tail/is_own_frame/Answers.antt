@@ -1,7 +1,6 @@
-use Rattle.std.proofs.Common.{◌≡◌, ◌+◌, ◌-◌, ℕ, Bool, List, refl, ap, sym, ◌∙◌, subst, take, drop, true, false, true≢false, arith, nat_eq}
+use Rattle.std.proofs.Common.{◌≡◌, ◌+◌, ◌-◌, ℕ, Bool, List, refl, ap, sym, ◌∙◌, take, drop, true≢false, arith, nat_eq}
 use Rattle.std.specs.Cmp.Lexicographic.{bytes_decides, pointwise}
 use Rattle.sqlite_wal.specs.Format.{part}
-use Rattle.kd_database.specs.Tail.{IsOwnFrame}
 use Rattle.kd_database.proofs.tail.is_own_frame.Goals as goal
 
 -- eight bytes from a place on, as they are cut

@@ -1,4 +1,4 @@
-use Rattle.std.proofs.Common.{◌≡◌, arith}
+use Rattle.std.proofs.Common.{arith}
 use Rattle.kd_database.proofs.Counting.{no_fault, none_refused}
 use Rattle.kd_database.proofs.tail.left_out.Goals as goal
 

@@ -12,7 +12,7 @@ use Rattle.sqlite.specs.State.{HasCleanDisk}
 use Rattle.kd_store.specs.Kept.{Kept}
 use Rattle.kd_database.specs.Image.{AreRowsIn, bytes_image}
 use Rattle.kd_database.proofs.Opening.{held_rows, same_image}
-use Rattle.kd_database.proofs.image.rows_in.Goals as goal
+use Rattle.kd_database.proofs.image.rows_in_bytes.Goals as goal
 
 pub returns-in-Err-clause-refused : goal.returns-in-Err-clause-refused
 returns-in-Err-clause-refused c = inl (SqliteFailure OutOfMemory, refl, c.in-Err.ensures.memory)
