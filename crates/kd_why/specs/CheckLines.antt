@@ -93,6 +93,10 @@ row_words now (Some row) =
 abbrev pub row_line : ℕ → Option Row → List ℕ
 row_line now row = codes "check row: " ++ row_words now row
 
+-- the same of an address, at the moment and in the table that are asked about
+abbrev pub row_line_at : Asking → ℕ → List ℕ
+row_line_at q a = row_line q.now (row_at q.rows a)
+
 -- whether the row is the client's
 abbrev pub owner_line : Bool → List ℕ
 owner_line is_own =
@@ -153,7 +157,7 @@ lease_check_lines (Some server) row checks = selecting_lines row checks
 abbrev pub checks_text : Asking → ℕ → Option Checks → List ℕ
 checks_text q a None = []
 checks_text q a (Some checks) =
-    lease_check_lines (named_server q.message) (row_line q.now (row_at q.rows a)) checks
+    lease_check_lines (named_server q.message) (row_line_at q a) checks
 
 -- the checks of the address that the REQUEST is about, if there is one
 abbrev pub asked_at : Asking → Option Subnet → Option Checks → Option ℕ → List ℕ
@@ -178,7 +182,7 @@ request_lines q s set checks =
 -- the client holds the address that the message is about, if there is one
 abbrev pub holding_at : Asking → Option ℕ → List ℕ
 holding_at q None = []
-holding_at q (Some a) = row_line q.now (row_at q.rows a) ++ held_line (held_at q a)
+holding_at q (Some a) = row_line_at q a ++ held_line (held_at q a)
 
 -- the lease or the offer that is given up
 unfoldable pub holding_lines : Asking → List ℕ

@@ -95,6 +95,21 @@ struct Asked<'a> {
     moment: u64,
 }
 
+// The same for a client whose classes have these names.
+fn question_of<'a>(asked: Asked<'a>, names: &'a Held, client: &'a Bytes) -> Question<'a>
+    ensures { asking result ≡ asked_for asked.entry.config.now asked.entry.rows.now.rows
+        names.now asked.entry.message.now asked.entry.moment client.now }
+{
+    Question {
+        config: asked.config,
+        rows: asked.rows,
+        names,
+        message: asked.message,
+        client: client.as_slice(),
+        moment: asked.moment,
+    }
+}
+
 // The first address of each rank for a client in a subnet, if there are both.
 fn found_for(
     asked: Asked<'_>,
@@ -106,24 +121,8 @@ fn found_for(
         names.now asked.entry.message.now asked.entry.moment)
         (option_copied subnet.entry) result }
 {
-    let Asked {
-        config,
-        rows,
-        message,
-        moment,
-    } = asked;
     match client {
-        Some(client) => found_in(
-            &Question {
-                config,
-                rows,
-                names,
-                message,
-                client: client.as_slice(),
-                moment,
-            },
-            subnet,
-        ),
+        Some(client) => found_in(&question_of(asked, names, client), subnet),
         None => None,
     }
 }
@@ -150,24 +149,8 @@ fn checked_for(
         names.now asked.entry.message.now asked.entry.moment)
         (option_copied subnet.entry) result }
 {
-    let Asked {
-        config,
-        rows,
-        message,
-        moment,
-    } = asked;
     match client {
-        Some(client) => checked_in(
-            &Question {
-                config,
-                rows,
-                names,
-                message,
-                client: client.as_slice(),
-                moment,
-            },
-            subnet,
-        ),
+        Some(client) => checked_in(&question_of(asked, names, client), subnet),
         None => None,
     }
 }

@@ -1,9 +1,9 @@
 ghost use Rattle.std.specs.Prelude.{◌≡◌, ◌++◌, OnOk, Some, codes, option_copied, string_bytes};
+ghost use Rattle.kd_lease.specs.Rules.{asking};
 ghost use Rattle.kd_replay.specs.Text.{address_text};
-ghost use Rattle.kd_rows.specs.Table.{row_at};
 ghost use Rattle.kd_server.specs.Leases.{word_of_live};
 ghost use Rattle.kd_why.specs.CheckLines.{address_line, fits_line, free_line, held_line, known_line, offer_line, owner_line};
-ghost use Rattle.kd_why.specs.CheckLines.{pool_word, prefix_line, request_source, reserved_word, row_line, row_words};
+ghost use Rattle.kd_why.specs.CheckLines.{pool_word, prefix_line, request_source, reserved_word, row_line_at, row_words};
 ghost use Rattle.kd_why.specs.CheckLines.{sender_line, served_line, served_word, server_line, subject_source, which_word};
 
 use crate::checks::Checks;
@@ -178,7 +178,7 @@ pub(crate) fn put_row_found(
     address: u32,
 ) -> Result<(), AllocError>
     ensures { OnOk result (string_bytes out.new ≡ string_bytes out.old
-        ++ row_line question.now.moment (row_at question.now.rows.now.rows address)) }
+        ++ row_line_at (asking question.now) address) }
 {
     out.push_str("check row: ")?;
     put_row_of(alloc, out, question.rows.get(address), question.moment)

@@ -1,8 +1,7 @@
 ghost use Rattle.std.specs.Prelude.{◌≡◌, ◌++◌, OnOk, Some, option_copied, string_bytes};
 ghost use Rattle.kd_lease.specs.Rules.{asking};
-ghost use Rattle.kd_rows.specs.Table.{row_at};
 ghost use Rattle.kd_why.specs.CheckLines.{asked_at, asked_lines, checks_text, free_line, known_lines, own_lines, renewing_lines};
-ghost use Rattle.kd_why.specs.CheckLines.{request_lines, row_line, selecting_lines, served_line};
+ghost use Rattle.kd_why.specs.CheckLines.{request_lines, row_line_at, selecting_lines, served_line};
 
 use crate::check_lines::{Matter, is_other};
 use crate::checks::{Checks, subject_of};
@@ -110,8 +109,8 @@ fn put_lease_checks(out: &mut String, subject: &Subject<'_>) -> Result<(), Alloc
 #[tactic(auto, unfolding(crate::specs::CheckLines::selecting_lines))]
 fn put_selecting(out: &mut String, subject: &Subject<'_>) -> Result<(), AllocError>
     ensures { OnOk result (string_bytes out.new ≡ string_bytes out.old
-        ++ selecting_lines (row_line subject.now.question.moment
-        (row_at subject.now.question.rows.now.rows subject.now.address)) subject.now.checks) }
+        ++ selecting_lines (row_line_at (asking subject.now.question) subject.now.address)
+        subject.now.checks) }
 {
     put_fits(out, &subject.checks)?;
     if subject.checks.fits {
@@ -123,8 +122,7 @@ fn put_selecting(out: &mut String, subject: &Subject<'_>) -> Result<(), AllocErr
 
 fn put_free_at(out: &mut String, subject: &Subject<'_>) -> Result<(), AllocError>
     ensures { OnOk result (string_bytes out.new ≡ string_bytes out.old
-        ++ (row_line subject.now.question.moment
-        (row_at subject.now.question.rows.now.rows subject.now.address)
+        ++ (row_line_at (asking subject.now.question) subject.now.address
         ++ free_line subject.now.checks.free)) }
 {
     put_subject_row(out, subject)?;
@@ -135,8 +133,8 @@ fn put_free_at(out: &mut String, subject: &Subject<'_>) -> Result<(), AllocError
 #[tactic(auto, unfolding(crate::specs::CheckLines::renewing_lines))]
 fn put_renewing(out: &mut String, subject: &Subject<'_>) -> Result<(), AllocError>
     ensures { OnOk result (string_bytes out.new ≡ string_bytes out.old
-        ++ renewing_lines (row_line subject.now.question.moment
-        (row_at subject.now.question.rows.now.rows subject.now.address)) subject.now.checks) }
+        ++ renewing_lines (row_line_at (asking subject.now.question) subject.now.address)
+        subject.now.checks) }
 {
     put_prefix_found(out, subject.checks.in_prefix)?;
     if subject.checks.in_prefix {
@@ -149,8 +147,8 @@ fn put_renewing(out: &mut String, subject: &Subject<'_>) -> Result<(), AllocErro
 #[tactic(auto, unfolding(crate::specs::CheckLines::known_lines))]
 fn put_renewing_known(out: &mut String, subject: &Subject<'_>) -> Result<(), AllocError>
     ensures { OnOk result (string_bytes out.new ≡ string_bytes out.old
-        ++ known_lines (row_line subject.now.question.moment
-        (row_at subject.now.question.rows.now.rows subject.now.address)) subject.now.checks) }
+        ++ known_lines (row_line_at (asking subject.now.question) subject.now.address)
+        subject.now.checks) }
 {
     put_client_found(out, subject.checks.known)?;
     if subject.checks.known {
@@ -163,8 +161,8 @@ fn put_renewing_known(out: &mut String, subject: &Subject<'_>) -> Result<(), All
 #[tactic(auto, unfolding(crate::specs::CheckLines::own_lines))]
 fn put_renewing_own(out: &mut String, subject: &Subject<'_>) -> Result<(), AllocError>
     ensures { OnOk result (string_bytes out.new ≡ string_bytes out.old
-        ++ own_lines (row_line subject.now.question.moment
-        (row_at subject.now.question.rows.now.rows subject.now.address)) subject.now.checks) }
+        ++ own_lines (row_line_at (asking subject.now.question) subject.now.address)
+        subject.now.checks) }
 {
     put_subject_row(out, subject)?;
     put_owner(out, subject.checks.own)?;
@@ -178,8 +176,7 @@ fn put_renewing_own(out: &mut String, subject: &Subject<'_>) -> Result<(), Alloc
 // The row of the address.
 fn put_subject_row(out: &mut String, subject: &Subject<'_>) -> Result<(), AllocError>
     ensures { OnOk result (string_bytes out.new ≡ string_bytes out.old
-        ++ row_line subject.now.question.moment
-        (row_at subject.now.question.rows.now.rows subject.now.address)) }
+        ++ row_line_at (asking subject.now.question) subject.now.address) }
 {
     put_row_found(subject.alloc, out, &subject.question, subject.address)
 }
