@@ -122,7 +122,8 @@ pub trait Host {
     ///
     /// It can't be read, or is no store of leases.
     fn copy(&mut self, path: &str) -> Result<Vec<Row>, LookFault>
-        ensures given { MatchResult result (λ rows. copies self.old path.now (Ok rows.items) self.new)
+        ensures given { MatchResult result
+            (λ rows. copies self.old path.now (Ok rows.items) self.new)
             (λ fault. copies self.old path.now (Err fault) self.new) }
         ensures rise { IfOk result (λ rows. Rise rows.items) }
         ensures ranges { IfOk result (λ rows. All IsInRange rows.items) };
