@@ -6,6 +6,8 @@
 //! `kd_tests` since they need the table's crates alone.
 #![tactic(auto)]
 
+#[cfg(test)]
+mod ages;
 mod fused;
 #[cfg(test)]
 mod rows;

@@ -22,7 +22,7 @@ impl From<AllocError> for Fault {
 pub(crate) type Lease = (u32, &'static [u8], u64, u64);
 
 // The row of a bound lease.
-fn row(alloc: Global, lease: Lease) -> Result<Row, AllocError> {
+pub(crate) fn row(alloc: Global, lease: Lease) -> Result<Row, AllocError> {
     let (address, client, changed, ends) = lease;
     Ok(Row {
         address,
@@ -54,6 +54,11 @@ pub(crate) fn table(alloc: Global, leases: &[Lease]) -> Result<Rows, Fault> {
 // Sets a lease.
 pub(crate) fn set(alloc: Global, rows: &mut Rows, lease: Lease) -> Result<(), Fault> {
     let row = row(alloc, lease)?;
+    set_row(rows, row)
+}
+
+// Sets a row.
+pub(crate) fn set_row(rows: &mut Rows, row: Row) -> Result<(), Fault> {
     if !row.is_in_range() || row.changed < rows.latest() {
         return Err(Fault::Rows);
     }
@@ -63,7 +68,7 @@ pub(crate) fn set(alloc: Global, rows: &mut Rows, lease: Lease) -> Result<(), Fa
 }
 
 // Leases of three clients, one of them without a name; the third was set last but one.
-const LEASES: [Lease; 5] = [
+pub(crate) const LEASES: [Lease; 5] = [
     (0, b"a", 5, 5),
     (10, b"b", 7, 100),
     (11, b"a", 9, 50),

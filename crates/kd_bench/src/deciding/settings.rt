@@ -1,11 +1,9 @@
-use crate::deciding::table::{POOL, gap};
+use crate::deciding::table::{POOL, POOL_SIZE, gap};
 use kd_config::{Config, ConfigFault};
 use std::alloc::{AllocError, Global};
 use std::fmt::Write;
 
-// How many addresses a pool has at most, and how many reservations a subnet.
-const POOL_SIZE: u32 = 65_536;
-
+// How many reservations a subnet has at most.
 const SUBNET_RESERVATIONS: u32 = 4096;
 
 // Where the reservations begin that are in no pool, 10.200.0.0, and the subnets that have the

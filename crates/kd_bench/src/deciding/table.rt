@@ -6,6 +6,11 @@ use std::alloc::{AllocError, Global};
 // The first address of the pools, 10.1.0.0.
 pub(crate) const POOL: u32 = 0x0a01_0000;
 
+// How many addresses a pool has at most, and fewer than the rows of each.
+pub(crate) const POOL_SIZE: u32 = 65_536;
+
+const SMALL: u32 = 60_000;
+
 // Where the leases begin that are in the subnet of the pools and in no pool, 10.100.0.0, and those
 // in another subnet, 12.0.0.0.
 const BESIDE: u32 = 0x0a64_0000;
@@ -59,6 +64,16 @@ pub(crate) fn gap(rows: u32, number: u32) -> u32 {
     }
 }
 
+// The first addresses of pools that have so many rows, and what is behind them: where a server cuts
+// its table.
+fn cuts(alloc: Global, rows: u32) -> Result<Vec<u32>, AllocError> {
+    let mut cuts = Vec::new(alloc);
+    for number in 0..(rows / SMALL).wrapping_add(2) {
+        cuts.push(POOL.wrapping_add(number.wrapping_mul(POOL_SIZE)))?;
+    }
+    Ok(cuts)
+}
+
 // A table of so many rows, of which those with a greater number are newer.
 pub(crate) fn table_of(alloc: Global, leases: Leases, rows: u32) -> Result<Rows, AllocError> {
     let mut list = Vec::new(alloc);
@@ -68,7 +83,8 @@ pub(crate) fn table_of(alloc: Global, leases: Leases, rows: u32) -> Result<Rows,
     if !Rows::accepts(&list) {
         return Rows::new(Vec::new(alloc));
     }
-    let mut table = Rows::new(list)?;
+    let cuts = cuts(alloc, rows)?;
+    let mut table = Rows::with_cuts(list, cuts)?;
     if leases == Leases::Renewed {
         renew_first(alloc, &mut table)?;
     }

@@ -1,0 +1,133 @@
+use crate::rows::{Fault, LEASES, name, row, set, set_row, table};
+use kd_rows::{Row, Rows, State};
+use std::alloc::{AllocError, Global};
+use std::test::Fail;
+
+// The addresses of a client's rows in a state from one address to another, the newest first.
+fn by_age(
+    alloc: Global,
+    rows: &Rows,
+    client: &[u8],
+    state: State,
+    first: u32,
+    last: u32,
+) -> Result<Vec<u32>, AllocError> {
+    let mut found = Vec::new(alloc);
+    let mut before: Option<&Row> = None;
+    for _ in 0..rows.len() {
+        match rows.newest_of(client, state, first, last, before) {
+            Some(row) => {
+                found.push(row.address)?;
+                before = Some(row);
+            }
+            None => return Ok(found),
+        }
+    }
+    Ok(found)
+}
+
+// How many rows of a client in a state stand from one address to another.
+fn count_of(rows: &Rows, client: &[u8], state: State, first: u32, last: u32) -> usize {
+    let mut count = 0usize;
+    for i in 0..rows.len() {
+        if let Some(row) = rows.at(i) {
+            if row.client.as_slice() == client
+                && row.state == state
+                && first <= row.address
+                && row.address <= last
+            {
+                count = count.wrapping_add(1);
+            }
+        }
+    }
+    count
+}
+
+#[test]
+fn the_newest_row_of_a_client_is_found(rt: HostRuntime) -> Result<(), Fail> {
+    let mut rows = table(rt.alloc(), &LEASES)?;
+    let all = by_age(rt.alloc(), &rows, b"a", State::Bound, 0, u32::MAX)?;
+    assert!(rt; all.as_slice() == [11u32, 0xffff_ffff, 0].as_slice());
+    assert!(rt; rows.longest(State::Bound) == 93 && rows.longest(State::Offered) == 0);
+    set(rt.alloc(), &mut rows, (0, b"a", 9, 120))?;
+    let all = by_age(rt.alloc(), &rows, b"a", State::Bound, 0, u32::MAX)?;
+    assert!(rt; all.as_slice() == [0u32, 11, 0xffff_ffff].as_slice());
+    let high = by_age(rt.alloc(), &rows, b"a", State::Bound, 1, u32::MAX)?;
+    assert!(rt; high.as_slice() == [11u32, 0xffff_ffff].as_slice());
+    set(rt.alloc(), &mut rows, (11, b"b", 10, 20))?;
+    let all = by_age(rt.alloc(), &rows, b"a", State::Bound, 0, u32::MAX)?;
+    assert!(rt; all.as_slice() == [0u32, 0xffff_ffff].as_slice());
+    let other = by_age(rt.alloc(), &rows, b"b", State::Bound, 0, u32::MAX)?;
+    assert!(rt; other.as_slice() == [11u32, 10].as_slice());
+    assert!(rt; rows.longest(State::Bound) == 111);
+    assert!(rt; by_age(rt.alloc(), &rows, b"a", State::Released, 0, u32::MAX)?.is_empty());
+    Ok(())
+}
+
+// Three addresses at which a table is cut.
+fn cuts(alloc: Global) -> Result<Vec<u32>, AllocError> {
+    let mut cuts = Vec::new(alloc);
+    for cut in [151u32, 50, 90] {
+        cuts.push(cut)?;
+    }
+    Ok(cuts)
+}
+
+// Rows of five clients in all four states, set in mixed order and some of them set again, in a table
+// that is cut at three addresses.
+fn mixed(alloc: Global) -> Result<Rows, Fault> {
+    let cuts = cuts(alloc)?;
+    let mut rows = Rows::with_cuts(Vec::new(alloc), cuts)?;
+    for i in 0..600u32 {
+        let changed = u64::from(i / 7);
+        let ends = changed.wrapping_add(u64::from(i % 13));
+        let address = i.wrapping_mul(37) % 211;
+        let mut row = row(alloc, (address, name(i.wrapping_mul(i) % 5), changed, ends))?;
+        row.state = match i.wrapping_mul(11) % 4 {
+            0 => State::Offered,
+            1 => State::Bound,
+            2 => State::Released,
+            _ => State::Declined,
+        };
+        set_row(&mut rows, row)?;
+    }
+    Ok(rows)
+}
+
+// Whether each address but the first has a row that is no newer than that of the one before.
+fn fall_in_age(rows: &Rows, addresses: &[u32]) -> bool {
+    for i in 1..addresses.len() {
+        match (rows.get(addresses[i - 1]), rows.get(addresses[i])) {
+            (Some(first), Some(second)) => {
+                let same = first.changed == second.changed;
+                if second.changed > first.changed || (same && second.address <= first.address) {
+                    return false;
+                }
+            }
+            _ => return false,
+        }
+    }
+    true
+}
+
+#[test]
+fn rows_set_in_mixed_order_are_found_by_age(rt: HostRuntime) -> Result<(), Fail> {
+    let rows = mixed(rt.alloc())?;
+    let mut total = 0usize;
+    for i in 0..5u32 {
+        for number in 1..5u8 {
+            if let Some(state) = State::of_number(number) {
+                for range in [(0u32, u32::MAX), (50, 150)] {
+                    let found = by_age(rt.alloc(), &rows, name(i), state, range.0, range.1)?;
+                    assert!(rt; found.len() == count_of(&rows, name(i), state, range.0, range.1));
+                    assert!(rt; fall_in_age(&rows, &found));
+                    if range.0 == 0 {
+                        total = total.wrapping_add(found.len());
+                    }
+                }
+            }
+        }
+    }
+    assert!(rt; total == rows.len() && total == 211);
+    Ok(())
+}
