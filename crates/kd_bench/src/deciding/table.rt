@@ -64,11 +64,11 @@ pub(crate) fn gap(rows: u32, number: u32) -> u32 {
     }
 }
 
-// The first addresses of pools that have so many rows, and what is behind them: where a server cuts
+// The first addresses of the pools for so many rows, and what is behind them: where a server cuts
 // its table.
 fn cuts(alloc: Global, rows: u32) -> Result<Vec<u32>, AllocError> {
     let mut cuts = Vec::new(alloc);
-    for number in 0..(rows / SMALL).wrapping_add(2) {
+    for number in 0..(rows / SMALL).wrapping_add(4) {
         cuts.push(POOL.wrapping_add(number.wrapping_mul(POOL_SIZE)))?;
     }
     Ok(cuts)
