@@ -28,8 +28,8 @@ ROWS += [(("dora", rows, 0), ("dora", FEW, 0), 1.8) for rows in (MANY, MOST)]
 ROWS += [((work, MOST, None), (work, MANY, None), 2.5) for work in ("add", "rise")]
 ROWS += [(("new", MANY, 0), ("renewal", MANY, 0), 2), (("offer", MANY, 0), ("renewal", MANY, 0), 2)]
 ROWS += [(("cookie", FEW, 0), None, "2 us"), (("noise", FEW, 0), None, "2 us")]
-# Works that go over all rows or all reservations in each round.
-LONG = re.compile("(known|other)-.* 0|(kept|ended) [1-9].*")
+# Works that go over all reservations in each round.
+LONG = re.compile("(kept|ended) [1-9].*")
 
 
 def words_of(program, work, rounds):

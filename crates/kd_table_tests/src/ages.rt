@@ -43,24 +43,26 @@ fn count_of(rows: &Rows, client: &[u8], state: State, first: u32, last: u32) -> 
     count
 }
 
+// Whether these are the addresses of the bound rows of a client from one address on, the newest first.
+fn are_newest(
+    alloc: Global,
+    rows: &Rows,
+    client: &[u8],
+    first: u32,
+    addresses: &[u32],
+) -> Result<bool, AllocError> {
+    let found = by_age(alloc, rows, client, State::Bound, first, u32::MAX)?;
+    Ok(found.as_slice() == addresses)
+}
+
 #[test]
 fn the_newest_row_of_a_client_is_found(rt: HostRuntime) -> Result<(), Fail> {
     let mut rows = table(rt.alloc(), &LEASES)?;
-    let all = by_age(rt.alloc(), &rows, b"a", State::Bound, 0, u32::MAX)?;
-    assert!(rt; all.as_slice() == [11u32, 0xffff_ffff, 0].as_slice());
-    assert!(rt; rows.longest(State::Bound) == 93 && rows.longest(State::Offered) == 0);
+    assert!(rt; are_newest(rt.alloc(), &rows, b"a", 0, &[11, 0xffff_ffff, 0])?);
     set(rt.alloc(), &mut rows, (0, b"a", 9, 120))?;
-    let all = by_age(rt.alloc(), &rows, b"a", State::Bound, 0, u32::MAX)?;
-    assert!(rt; all.as_slice() == [0u32, 11, 0xffff_ffff].as_slice());
-    let high = by_age(rt.alloc(), &rows, b"a", State::Bound, 1, u32::MAX)?;
-    assert!(rt; high.as_slice() == [11u32, 0xffff_ffff].as_slice());
-    set(rt.alloc(), &mut rows, (11, b"b", 10, 20))?;
-    let all = by_age(rt.alloc(), &rows, b"a", State::Bound, 0, u32::MAX)?;
-    assert!(rt; all.as_slice() == [0u32, 0xffff_ffff].as_slice());
-    let other = by_age(rt.alloc(), &rows, b"b", State::Bound, 0, u32::MAX)?;
-    assert!(rt; other.as_slice() == [11u32, 10].as_slice());
-    assert!(rt; rows.longest(State::Bound) == 111);
-    assert!(rt; by_age(rt.alloc(), &rows, b"a", State::Released, 0, u32::MAX)?.is_empty());
+    assert!(rt; are_newest(rt.alloc(), &rows, b"a", 0, &[0, 11, 0xffff_ffff])?);
+    assert!(rt; are_newest(rt.alloc(), &rows, b"a", 1, &[11, 0xffff_ffff])?);
+    assert!(rt; rows.longest(State::Bound) == 111 && rows.longest(State::Offered) == 0);
     Ok(())
 }
 
