@@ -5,46 +5,45 @@ mod settings;
 mod table;
 
 use crate::mixed;
-use kd_config::{Config, ConfigFault};
-use kd_lease::{Answer, Decision, PlanKind, decide};
+use kd_config::ConfigFault;
+use kd_lease::{Answer, Decision, Leases, PlanKind, decide_on};
 use kd_options::Message;
-use kd_rows::Rows;
 use message::{OTHER_SERVER, SERVER, bad_cookie, discover, noise, renewal, request};
 use settings::{Place, Setting, config_of};
 use std::alloc::{AllocError, Global};
-use table::{Leases, MOMENT, POOL, address_of, set, table_of};
+use table::{Layout, MOMENT, POOL, address_of, leases_of, set};
 
 // A work: its name, the rows, where the reserved addresses lie, and what is asked.
-pub(crate) type Scene = (&'static str, Leases, Place, Asks);
+pub(crate) type Scene = (&'static str, Layout, Place, Asks);
 
 // The works.
 pub(crate) const SCENES: [Scene; 26] = [
-    ("read", Leases::Own, Place::Apart, Asks::Read),
-    ("new", Leases::Own, Place::Apart, Asks::New),
-    ("offer", Leases::Dense, Place::Apart, Asks::Offer),
-    ("dora", Leases::Dense, Place::Apart, Asks::Dora),
-    ("known", Leases::Own, Place::Apart, Asks::Known),
-    ("known-all", Leases::All, Place::Apart, Asks::Known),
-    ("known-beside", Leases::Beside, Place::Apart, Asks::Known),
-    ("known-away", Leases::Away, Place::Apart, Asks::Known),
-    ("known-ended", Leases::Ended, Place::Apart, Asks::Known),
-    ("request", Leases::Own, Place::Apart, Asks::Lease),
-    ("renewal", Leases::Own, Place::Apart, Asks::Renew),
-    ("renewal-all", Leases::All, Place::Apart, Asks::Renew),
-    ("renewal-beside", Leases::Beside, Place::Apart, Asks::Renew),
-    ("renewal-away", Leases::Away, Place::Apart, Asks::Renew),
-    ("other", Leases::Own, Place::Apart, Asks::Other),
-    ("other-all", Leases::All, Place::Apart, Asks::Other),
-    ("other-beside", Leases::Beside, Place::Apart, Asks::Other),
-    ("other-away", Leases::Away, Place::Apart, Asks::Other),
-    ("other-ended", Leases::Ended, Place::Apart, Asks::Other),
-    ("other-offers", Leases::Offers, Place::Apart, Asks::Other),
-    ("kept", Leases::Own, Place::Gaps, Asks::New),
-    ("full", Leases::Full, Place::Apart, Asks::New),
-    ("past", Leases::Renewed, Place::Apart, Asks::New),
-    ("ended", Leases::Over, Place::First, Asks::New),
-    ("cookie", Leases::Own, Place::Apart, Asks::Cookie),
-    ("noise", Leases::Own, Place::Apart, Asks::Noise),
+    ("read", Layout::Own, Place::Apart, Asks::Read),
+    ("new", Layout::Own, Place::Apart, Asks::New),
+    ("offer", Layout::Dense, Place::Apart, Asks::Offer),
+    ("dora", Layout::Dense, Place::Apart, Asks::Dora),
+    ("known", Layout::Own, Place::Apart, Asks::Known),
+    ("known-all", Layout::All, Place::Apart, Asks::Known),
+    ("known-beside", Layout::Beside, Place::Apart, Asks::Known),
+    ("known-away", Layout::Away, Place::Apart, Asks::Known),
+    ("known-ended", Layout::Ended, Place::Apart, Asks::Known),
+    ("request", Layout::Own, Place::Apart, Asks::Lease),
+    ("renewal", Layout::Own, Place::Apart, Asks::Renew),
+    ("renewal-all", Layout::All, Place::Apart, Asks::Renew),
+    ("renewal-beside", Layout::Beside, Place::Apart, Asks::Renew),
+    ("renewal-away", Layout::Away, Place::Apart, Asks::Renew),
+    ("other", Layout::Own, Place::Apart, Asks::Other),
+    ("other-all", Layout::All, Place::Apart, Asks::Other),
+    ("other-beside", Layout::Beside, Place::Apart, Asks::Other),
+    ("other-away", Layout::Away, Place::Apart, Asks::Other),
+    ("other-ended", Layout::Ended, Place::Apart, Asks::Other),
+    ("other-offers", Layout::Offers, Place::Apart, Asks::Other),
+    ("kept", Layout::Own, Place::Gaps, Asks::New),
+    ("full", Layout::Full, Place::Apart, Asks::New),
+    ("past", Layout::Renewed, Place::Apart, Asks::New),
+    ("ended", Layout::Over, Place::First, Asks::New),
+    ("cookie", Layout::Own, Place::Apart, Asks::Cookie),
+    ("noise", Layout::Own, Place::Apart, Asks::Noise),
 ];
 
 // Which client's message it is, and which.
@@ -80,40 +79,39 @@ pub(crate) struct Amounts {
     pub(crate) rounds: u32,
 }
 
-// A server: its configuration and its table, at first of so many rows; and what it is asked.
+// A server's leases, at first of so many rows, and what it is asked.
 #[derive(Drop)]
 struct Desk {
-    config: Config,
-    rows: Rows,
-    size: u32,
     leases: Leases,
+    size: u32,
+    layout: Layout,
     asks: Asks,
 }
 
 // How often a work gave what it should.
 pub(crate) fn worked(alloc: Global, scene: &Scene, amounts: Amounts) -> Result<u32, ConfigFault> {
-    let (_, leases, place, asks) = *scene;
+    let (_, layout, place, asks) = *scene;
     let size = amounts.rows;
     let setting = Setting {
-        pooled: pooled(leases, size),
+        pooled: pooled(layout, size),
         size,
         reservations: amounts.reservations,
         place,
     };
+    let config = config_of(alloc, &setting)?;
     let mut desk = Desk {
-        config: config_of(alloc, &setting)?,
-        rows: table_of(alloc, leases, size)?,
+        leases: leases_of(alloc, config, layout, size)?,
         size,
-        leases,
+        layout,
         asks,
     };
     Ok(again(alloc, &mut desk, amounts.rounds)?)
 }
 
 // How many addresses the pools have: as many as rows, or enough for them and 131,072 more.
-fn pooled(leases: Leases, size: u32) -> u32 {
-    match leases {
-        Leases::Full | Leases::Renewed | Leases::Over => size,
+fn pooled(layout: Layout, size: u32) -> u32 {
+    match layout {
+        Layout::Full | Layout::Renewed | Layout::Over => size,
         _ => size.wrapping_add(size / 11).wrapping_add(131_072),
     }
 }
@@ -147,9 +145,9 @@ fn is_done(alloc: Global, desk: &mut Desk, round: u32) -> Result<bool, AllocErro
 // The datagram of a round.
 fn asked(desk: &Desk, round: u32) -> [u8; 300] {
     let number = mixed(round) % desk.size.max(1);
-    let (client, address) = match desk.leases {
-        Leases::All | Leases::Offers => (0, address_of(number)),
-        Leases::Ended | Leases::Beside | Leases::Away => (0, POOL),
+    let (client, address) = match desk.layout {
+        Layout::All | Layout::Offers => (0, address_of(number)),
+        Layout::Ended | Layout::Beside | Layout::Away => (0, POOL),
         _ => (mixed(number), address_of(number)),
     };
     match desk.asks {
@@ -178,19 +176,13 @@ fn given(
     let Ok(message) = Message::read(alloc, bytes) else {
         return Ok(None);
     };
-    let names = desk.config.classes().held(alloc, &message)?;
+    let names = desk.leases.config().classes().held(alloc, &message)?;
     let moment = MOMENT + u64::from(round);
-    let Decision { row, answer } = decide(
-        alloc,
-        &desk.config,
-        &desk.rows,
-        &message,
-        &names,
-        moment,
-    )?;
+    let over = desk.leases.ground();
+    let Decision { row, answer } = decide_on(alloc, over, &message, &names, moment)?;
     if let Some(row) = row {
         if sets_rows(desk.asks) {
-            set(&mut desk.rows, row)?;
+            set(&mut desk.leases, row)?;
         }
     }
     match answer {

@@ -1,11 +1,13 @@
 pub mod Aged
-pub mod Ended
 pub mod Giving
 pub mod Guards
 pub mod Held
+pub mod Least
 pub mod Newest
+pub mod Passing
 pub mod Pools
 pub mod Records
 pub mod Reserved
 pub mod Single
 pub mod Valuing
+pub mod Withheld

@@ -11,10 +11,6 @@ use Rattle.kd_lease.specs.Choice.{Asking, IsFirstOf, has_rank, pooled, is_before
 use Rattle.kd_lease.specs.Ranks.{IsRanked}
 use Rattle.kd_lease.specs.Seeking.{IsLeastOpen, is_open, pool_rank}
 
--- no address is open from the first up to an end
-abbrev pub NoneUpTo : Asking → Subnet → Bool → ℕ → ℕ → Type 0
-NoneUpTo q s new first end = (a : ℕ) → first ≤ a → a < end → is_open q s new a ≡ false
-
 -- the first pool that has an address
 pool_at : (pools : List Pool) (a : ℕ) (d : Pool) → pool_place pools a < length pools → has (get_or pools (pool_place pools a) d).range a ≡ true
 pool_at [] a d less = absurd (omega arith)
@@ -85,6 +81,10 @@ left : (t u : Bool) → (t && u) ≡ true → t ≡ true
 left true u h = refl
 left false u h = h
 
+both : (t u : Bool) → t ≡ true → u ≡ true → (t && u) ≡ true
+both true u e h = h
+both false u e h = e
+
 right : (t u : Bool) → (t && u) ≡ true → u ≡ true
 right true u h = h
 right false u h = absurd (false≢true h)
@@ -92,7 +92,7 @@ right false u h = absurd (false≢true h)
 pub first_open : (q : Asking) (s : Subnet) (new : Bool) (n : ℕ) (pool : Pool) (found : ℕ) → n < length s.pools → pool ≡ get_or s.pools n pool → NoneIn q s new n
     → IsLeastOpen q s new pool.range.first pool.range.last (Some found) → IsFirstOf q s (pool_rank new) found
 first_open q s new n pool found less is h least = record {
-  ranked = ranked q s new found ∙ rw (pool_any s.pools n found pool less at) least.2;
+  ranked = ranked q s new found ∙ both (pooled s found) (is_open q s new found) (pool_any s.pools n found pool less at) least.2;
   first = λ b has_it. earlier q s new b found ∙ by b (left (pooled s b) (is_open q s new b) (sym (ranked q s new b) ∙ has_it)) (right (pooled s b) (is_open q s new b) (sym (ranked q s new b) ∙ has_it));
 } where
   at : has (get_or s.pools n pool).range found ≡ true

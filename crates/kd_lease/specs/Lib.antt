@@ -2,10 +2,12 @@ pub mod Aging
 pub mod Change
 pub mod Choice
 pub mod Client
+pub mod Cuts
 pub mod Decided
 pub mod Destination
 pub mod Given
 pub mod Laws
+pub mod Leases
 pub mod Plan
 pub mod Ranks
 pub mod ReplyOf
@@ -14,3 +16,4 @@ pub mod Rules
 pub mod Seeking
 pub mod SubnetOf
 pub mod Valuing
+pub mod Withholding

@@ -2,9 +2,10 @@
 -- sought among a client's addresses and in pools.
 use Rattle.std.specs.Prelude.{◌≡◌, ℕ, ◌<◌, ◌≤◌, Bool, true, false, not, ◌&&◌, is_none, Option, Some, None, if◌then◌else◌}
 use Rattle.kd_config.specs.Address.{has_address}
+use Rattle.kd_config.specs.Configuration.{Configuration}
 use Rattle.kd_config.specs.declared.subnet.Subnet.{Subnet}
 use Rattle.kd_rows.specs.Table.{row_at}
-use Rattle.kd_lease.specs.Choice.{Asking, Choice, NoChoice, Rank, fitting_for, has_rank, has_such, live_row, set_later, past_row, reserved_in}
+use Rattle.kd_lease.specs.Choice.{Asking, Choice, NoChoice, Rank, address_reserved, fitting_for, has_rank, has_such, live_row, pooled, reserved_anywhere, same_address, set_later, past_row, reserved_in}
 use Rattle.kd_lease.specs.Choice.Rank.{own, past, fresh, expired}
 use Rattle.kd_lease.specs.Rules.{offered_to}
 use Rattle.kd_lease.specs.declared.seeking.Sought.{Sought}
@@ -41,15 +42,46 @@ pool_rank false = expired
 abbrev pub reserves : ℕ → Subnet → Bool
 reserves a s = has_address s.prefix a && reserved_in a s
 
+-- an address has no row (`true`), or one that has ended
+abbrev pub untaken : Asking → Bool → ℕ → Bool
+untaken q true a = is_none (row_at q.rows a)
+untaken q false a = has_such (λ row. not (live_row q.now row)) (row_at q.rows a)
+
 -- an address, where it is in a pool, has that rank
 abbrev pub is_open : Asking → Subnet → Bool → ℕ → Bool
-is_open q s true a = is_none (row_at q.rows a) && fitting_for q s a
-is_open q s false a =
-    has_such (λ row. not (live_row q.now row)) (row_at q.rows a) && fitting_for q s a
+is_open q s new a = untaken q new a && fitting_for q s a
+
+-- an address is in a pool of the subnet and reserved for nobody
+abbrev pub common_in : Configuration → Subnet → ℕ → Bool
+common_in config s a = pooled s a && not (reserved_anywhere config a)
+
+-- such an address is open to all clients
+abbrev pub is_common_open : Asking → Subnet → Bool → ℕ → Bool
+is_common_open q s new a = untaken q new a && common_in q.config s a
+
+-- an address is reserved for the client, and open
+abbrev pub is_kept_open : Asking → Subnet → Bool → ℕ → Bool
+is_kept_open q s new a =
+    untaken q new a && same_address (address_reserved q.message s) a
+
+-- the least address from first to last that is such, or that none is
+abbrev pub IsLeast : (ℕ → Bool) → ℕ → ℕ → Option ℕ → Type 0
+IsLeast such first last None = (a : ℕ) → first ≤ a → a ≤ last → such a ≡ false
+IsLeast such first last (Some found) =
+    (first ≤ found) × (found ≤ last) × (such found ≡ true)
+    × ((a : ℕ) → first ≤ a → a < found → such a ≡ false)
 
 -- the least address from first to last that is open, or that none is
 abbrev pub IsLeastOpen : Asking → Subnet → Bool → ℕ → ℕ → Option ℕ → Type 0
-IsLeastOpen q s new first last None = (a : ℕ) → first ≤ a → a ≤ last → is_open q s new a ≡ false
-IsLeastOpen q s new first last (Some found) =
-    (first ≤ found) × (found ≤ last) × (is_open q s new found ≡ true)
-    × ((a : ℕ) → first ≤ a → a < found → is_open q s new a ≡ false)
+IsLeastOpen q s new first last found = IsLeast (is_open q s new) first last found
+
+-- an address is untaken, and reserved for nobody
+abbrev pub is_vacant : Asking → Bool → ℕ → Bool
+is_vacant q new a = untaken q new a && not (reserved_anywhere q.config a)
+
+-- an untaken address from first to last before which none is vacant, or that none is
+abbrev pub IsNextUntaken : Asking → Bool → ℕ → ℕ → Option ℕ → Type 0
+IsNextUntaken q new first last None = (a : ℕ) → first ≤ a → a ≤ last → is_vacant q new a ≡ false
+IsNextUntaken q new first last (Some found) =
+    (first ≤ found) × (found ≤ last) × (untaken q new found ≡ true)
+    × ((a : ℕ) → first ≤ a → a < found → is_vacant q new a ≡ false)

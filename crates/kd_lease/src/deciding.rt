@@ -7,6 +7,7 @@ ghost use Rattle.kd_lease.specs.declared.plan.Answer.TheVariants as answers;
 
 use crate::client::{is_from_server, room_of};
 use crate::effects::effect_of;
+use crate::grounds::Ground;
 use crate::identities::identity;
 use crate::items::reply_items;
 use crate::plan::{Answer, Decision, Plan, PlanKind};
@@ -42,6 +43,28 @@ pub fn decide(
     ensures replies { IfOk result (λ d. IsAnswerTo message.now d.answer) }
     ensures set { IfOk result (λ d. IfSome d.row (IsSetAt moment)) }
 {
+    decide_on(alloc, Ground::of(config, rows), message, names, moment)
+}
+
+/// The same over a ground, which may know the reserved addresses.
+///
+/// # Errors
+///
+/// As of `decide`.
+pub fn decide_on(
+    alloc: Global,
+    over: Ground<'_>,
+    message: &Message<'_>,
+    names: &Held,
+    moment: u64,
+) -> Result<Decision, AllocError>
+    requires { moment < 2 ^ 40 }
+    ensures decides { IfOk result
+        (λ d. Decides over.entry.config.now over.entry.rows.now.rows names.now message.now moment
+        d.row (outcome_in d.answer)) }
+    ensures replies { IfOk result (λ d. IsAnswerTo message.now d.answer) }
+    ensures set { IfOk result (λ d. IfSome d.row (IsSetAt moment)) }
+{
     if is_from_server(message) {
         return Ok(quiet(Reason::NotRequest));
     }
@@ -51,17 +74,8 @@ pub fn decide(
     if names.contains(b"DROP") {
         return Ok(quiet(Reason::DropClass));
     }
-    answer_for(
-        alloc,
-        &Question {
-            config,
-            rows,
-            names,
-            message,
-            client: client.as_slice(),
-            moment,
-        },
-    )
+    let question = Question::new(over, names, message, client.as_slice(), moment);
+    answer_for(alloc, &question)
 }
 
 // What a client's message changes and gets, by its rule.

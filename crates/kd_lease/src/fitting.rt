@@ -3,10 +3,11 @@ ghost use Rattle.std.specs.Option.{option_copied};
 ghost use Rattle.kd_rows.specs.Table.{belongs_to};
 ghost use Rattle.kd_lease.specs.Choice.{address_of_value, fitting_for, pooled, same_address, free_for, held_row, holding_state, own_row, live_row, past_row, usable, freed_by, requested_address};
 ghost use Rattle.kd_lease.specs.Rules.{asking};
+ghost use Rattle.kd_lease.specs.Seeking.{common_in};
 
 use crate::question::Question;
 use crate::reservation::{is_reserved, reserved_address};
-use kd_config::Subnet;
+use kd_config::{Config, Subnet};
 use kd_options::Message;
 use kd_rows::{Row, State};
 
@@ -15,8 +16,15 @@ use kd_rows::{Row, State};
 pub fn fits(question: &Question<'_>, subnet: &Subnet, address: u32) -> bool
     ensures { result ≡ fitting_for (asking question.now) subnet.now address }
 {
-    (in_pools(subnet, address) && !is_reserved(question.config, address))
+    is_common(question.config, subnet, address)
         || is_address(reserved_address(question.message, subnet), address)
+}
+
+// An address is in a pool of the subnet and reserved for nobody.
+pub(crate) fn is_common(config: &Config, subnet: &Subnet, address: u32) -> bool
+    ensures { result ≡ common_in config.now subnet.now address }
+{
+    in_pools(subnet, address) && !is_reserved(config, address)
 }
 
 /// A pool of the subnet has this address, in host order.

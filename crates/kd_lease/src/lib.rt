@@ -6,19 +6,24 @@
 //! the address that a client is offered that of `specs/Choice.antt`; what is true of these rules
 //! over every table is in `specs/Laws.antt`; a reply's configured options are those that the
 //! configuration gives to the client (`specs/Given.antt`); its header and its destination are those
-//! of `specs/ReplyOf.antt` and `specs/Destination.antt`.
+//! of `specs/ReplyOf.antt` and `specs/Destination.antt`. All this holds over every table, whether or
+//! not it knows the addresses that the configuration reserves (`Ground`); that of `Leases`
+//! (`specs/Leases.antt`) does, and passes over them.
 #![tactic(auto)]
 
 mod aging;
 mod choice;
 mod client;
+mod cutting;
 mod deciding;
 mod effects;
 mod fitting;
 mod given;
+mod grounds;
 mod identities;
 mod items;
 pub mod laws;
+mod leases;
 mod plan;
 mod planned;
 mod pooling;
@@ -30,13 +35,17 @@ mod seeking;
 mod sending;
 mod setting;
 mod subnet;
+mod untaken;
 mod values;
+mod withholding;
 
 pub use client::asks_for;
-pub use deciding::decide;
+pub use deciding::{decide, decide_on};
 pub use effects::{effect_of, renewed_of, server_of};
 pub use fitting::{fits, in_pools, is_free, requested_of};
+pub use grounds::Ground;
 pub use identities::identity;
+pub use leases::Leases;
 pub use plan::{Answer, Decision, Plan, PlanKind};
 pub use planned::{Effect, Planned};
 pub use question::Question;

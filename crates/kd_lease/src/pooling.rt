@@ -1,10 +1,13 @@
-ghost use Rattle.std.specs.Prelude.{◌≡◌, true, false};
+ghost use Rattle.std.specs.Prelude.{◌≡◌};
+ghost use Rattle.kd_config.specs.Reservation.{earlier};
 ghost use Rattle.kd_lease.specs.Rules.{asking};
 ghost use Rattle.kd_lease.specs.Ranks.{IsRanked};
-ghost use Rattle.kd_lease.specs.Seeking.{IsLeastOpen, pool_rank};
+ghost use Rattle.kd_lease.specs.Seeking.{IsLeast, IsLeastOpen, is_common_open, is_kept_open, pool_rank};
 
-use crate::fitting::fits;
+use crate::fitting::is_common;
 use crate::question::Question;
+use crate::reservation::reserved_address;
+use crate::untaken::{is_untaken, next_untaken};
 use kd_config::{Range, Subnet};
 
 // The first address in pool order that fits, where it has no row (`new`), or where its row has
@@ -21,58 +24,64 @@ pub(crate) fn pooled(question: &Question<'_>, subnet: &Subnet, new: bool) -> Opt
     None
 }
 
-// The least such address of a range.
+// The least such address of a range: reserved for the client, or open to all clients.
 fn least_open(question: &Question<'_>, subnet: &Subnet, new: bool, range: Range) -> Option<u32>
     ensures { IsLeastOpen (asking question.now) subnet.now new range.first range.last result }
 {
-    if new {
-        least_fresh(question, subnet, range)
-    } else {
-        least_expired(question, subnet, range)
+    lesser_of(
+        kept_open(question, subnet, new, range),
+        least_common(question, subnet, new, range),
+    )
+}
+
+// The address that is reserved for the client, where it is in a range and open.
+fn kept_open(question: &Question<'_>, subnet: &Subnet, new: bool, range: Range) -> Option<u32>
+    ensures { IsLeast (is_kept_open (asking question.now) subnet.now new) range.first range.last
+        result }
+{
+    match reserved_address(question.message, subnet) {
+        Some(address) => {
+            if range.contains(address) && is_untaken(question, new, address) {
+                Some(address)
+            } else {
+                None
+            }
+        }
+        None => None,
     }
 }
 
-// The least address of a range that fits and has no row.
-fn least_fresh(question: &Question<'_>, subnet: &Subnet, range: Range) -> Option<u32>
-    ensures { IsLeastOpen (asking question.now) subnet.now true range.first range.last result }
+// The least address of a range that is open to all clients. Where the table knows the reserved
+// addresses, the first that is found is one.
+fn least_common(question: &Question<'_>, subnet: &Subnet, new: bool, range: Range) -> Option<u32>
+    ensures { IsLeast (is_common_open (asking question.now) subnet.now new) range.first range.last
+        result }
 {
     let mut from = range.first;
     while from <= range.last {
-        match question.rows.first_gap(from, range.last) {
+        match next_untaken(question, new, from, range.last) {
             None => return None,
-            Some(gap) => {
-                if fits(question, subnet, gap) {
-                    return Some(gap);
+            Some(address) => {
+                if is_common(question.config, subnet, address) {
+                    return Some(address);
                 }
-                if gap == range.last {
+                if address == range.last {
                     return None;
                 }
-                from = gap + 1;
+                from = address + 1;
             }
         }
     }
     None
 }
 
-// The least address of a range that fits and whose row has ended.
-fn least_expired(question: &Question<'_>, subnet: &Subnet, range: Range) -> Option<u32>
-    ensures { IsLeastOpen (asking question.now) subnet.now false range.first range.last result }
+// The lesser of two addresses, of which each may be missing.
+fn lesser_of(a: Option<u32>, b: Option<u32>) -> Option<u32>
+    ensures { result ≡ earlier a b }
 {
-    let rows = question.rows;
-    let mut from = range.first;
-    while from <= range.last {
-        match rows.next_ended(from, range.last, question.moment) {
-            None => return None,
-            Some(row) => {
-                if fits(question, subnet, row.address) {
-                    return Some(row.address);
-                }
-                if row.address == range.last {
-                    return None;
-                }
-                from = row.address + 1;
-            }
-        }
+    match (a, b) {
+        (Some(a), Some(b)) => Some(a.min(b)),
+        (Some(a), None) => Some(a),
+        (None, b) => b,
     }
-    None
 }

@@ -1,9 +1,13 @@
+ghost use Rattle.std.specs.Option.{option_copied};
+ghost use Rattle.kd_lease.specs.Withholding.{KnowsReserved};
+
+use crate::grounds::Ground;
 use kd_config::Config;
 use kd_machine::Held;
 use kd_options::Message;
-use kd_rows::Rows;
+use kd_rows::{Rows, Withheld};
 
-/// What the rules of leases are asked over.
+/// What the rules of leases are asked over, for a client.
 #[derive(Clone, Copy)]
 pub struct Question<'a> {
     /// The configuration.
@@ -18,4 +22,36 @@ pub struct Question<'a> {
     pub client: &'a [u8],
     /// The moment, in seconds; no row was set later.
     pub moment: u64,
+    // The same table, where it knows the reserved addresses.
+    pub(crate) known: Option<&'a Withheld>,
+    ghost knows: { KnowsReserved config.now rows.now.rows (option_copied known) },
+}
+
+impl<'a> Question<'a> {
+    ghost use Rattle.std.specs.Prelude.{◌≡◌};
+    ghost use Rattle.kd_lease.specs.Change.{asked_for};
+    ghost use Rattle.kd_lease.specs.Rules.{asking};
+
+    /// The question of a message, whose client has this identity and whose classes have these
+    /// names, at a moment, in seconds.
+    pub fn new(
+        over: Ground<'a>,
+        names: &'a Held,
+        message: &'a Message<'a>,
+        client: &'a [u8],
+        moment: u64,
+    ) -> Question<'a>
+        ensures { asking result ≡ asked_for over.entry.config.now over.entry.rows.now.rows
+            names.now message.now moment client.now }
+    {
+        Question {
+            config: over.config,
+            rows: over.rows,
+            names,
+            message,
+            client,
+            moment,
+            known: over.known,
+        }
+    }
 }

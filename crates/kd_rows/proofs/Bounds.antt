@@ -7,7 +7,10 @@ use Rattle.std.proofs.lemmas.List.{get_or_default}
 use Rattle.std.proofs.lemmas.Option.{same_Some}
 use Rattle.kd_rows.specs.declared.row.Row.{Row}
 use Rattle.kd_rows.specs.Index.{IsBound, IsBounded, IsLower, IsNow, IsPlace, block_number, end_at}
+use Rattle.kd_rows.specs.Open.{open_rows}
 use Rattle.kd_rows.specs.Table.{Rise, row_at, with_row}
+use Rattle.kd_rows.specs.Withheld.{is_withheld}
+use Rattle.kd_rows.proofs.Opens.{open_all}
 use Rattle.kd_rows.proofs.Places.{apart, read_at}
 use Rattle.kd_rows.proofs.Sets.{all-with_row, rise-with_row, row_at-with_row}
 
@@ -93,48 +96,57 @@ enough_after rows bounds row room rows_room bounds_room left rows_left bounds_le
   by false true there one two three = omega arith
   by false false there one two three = omega arith
 
--- the search of a block's rows: the least end of those that were passed
-abbrev pub IsLeastTo : List Row → ℕ → ℕ → ℕ → Type 0
-IsLeastTo rows block place least = (i : ℕ) (d : Row) → i < place → i < length rows → block_number (get_or rows i d).address ≡ block → least ≤ (get_or rows i d).ends
+-- the search of a block's rows: the least end of those that were passed and are not withheld
+abbrev pub IsLeastTo : List ℕ → List Row → ℕ → ℕ → ℕ → Type 0
+IsLeastTo withheld rows block place least = (i : ℕ) (d : Row) → i < place → i < length rows → is_withheld withheld (get_or rows i d).address ≡ false → block_number (get_or rows i d).address ≡ block → least ≤ (get_or rows i d).ends
 
 -- none of the rows below a block is of it
-pub least_first : (rows : List Row) (block place least : ℕ) → IsPlace rows (block * 64) place → IsLeastTo rows block place least
-least_first rows block place least p i d before within e = let h = p.below i d before in absurd (omega (arith, h, e))
+pub least_first : (withheld : List ℕ) (rows : List Row) (block place least : ℕ) → IsPlace rows (block * 64) place → IsLeastTo withheld rows block place least
+least_first withheld rows block place least p i d before within out e = let h = p.below i d before in absurd (omega (arith, h, e))
 
 -- one row more
-pub least_step : (rows : List Row) (block place least next : ℕ) (row : Row) → place < length rows → row ≡ get_or rows place row → IsLeastTo rows block place least → next ≤ least → next ≤ row.ends → IsLeastTo rows block (place + 1) next
-least_step rows block place least next row within is h low lower i d before inside e = ⊎_elim
-    (λ l. let g = h i d l inside e in omega arith)
-    (λ l. let at : i ≡ place = omega arith in subst (λ (n : ℕ). next ≤ (get_or rows n d).ends) (sym at) (subst (λ (r : Row). next ≤ r.ends) (is ∙ same) lower))
+pub least_step : (withheld : List ℕ) (rows : List Row) (block place least next : ℕ) (row : Row) → place < length rows → row ≡ get_or rows place row → IsLeastTo withheld rows block place least → next ≤ least → (is_withheld withheld row.address ≡ false → next ≤ row.ends)
+    → IsLeastTo withheld rows block (place + 1) next
+least_step withheld rows block place least next row within is h low lower i d before inside out e = ⊎_elim
+    (λ l. let g = h i d l inside out e in omega arith)
+    (λ l. let at : i ≡ place = omega arith in
+    let this : is_withheld withheld row.address ≡ false = ap (is_withheld withheld) (sym (read_at rows place row d within is) ∙ ap (λ (n : ℕ). (get_or rows n d).address) (sym at)) ∙ out in
+    subst (λ (n : ℕ). next ≤ (get_or rows n d).ends) (sym at) (subst (λ (r : Row). next ≤ r.ends) (is ∙ same) (lower this)))
     (cases_lt i place) where
       same : get_or rows place row ≡ get_or rows place d
       same = get_or_default rows place row d within
 
 -- the rows from one of a greater block on are of none that is searched
-pub least_to : (rows : List Row) (block place least : ℕ) (row : Row) → Rise rows → place < length rows → row ≡ get_or rows place row → block < block_number row.address → IsLeastTo rows block place least → IsBound rows block least
-least_to rows block place least row rise within is above h i d inside e = ⊎_elim
-    (λ l. h i d l inside e)
+pub least_to : (withheld : List ℕ) (rows : List Row) (block place least : ℕ) (row : Row) → Rise rows → place < length rows → row ≡ get_or rows place row → block < block_number row.address → IsLeastTo withheld rows block place least → IsBound (open_rows withheld rows) block least
+least_to withheld rows block place least row rise within is above h = open_all (λ (r : Row). block_number r.address ≡ block → least ≤ r.ends) withheld rows
+    (λ i d inside out e. ⊎_elim
+    (λ l. h i d l inside out e)
     (λ l. let g = apart rows rise place i d l inside in let f = read_at rows place row d within is in absurd (omega (arith, g, f, e, above)))
-    (cases_lt i place)
+    (cases_lt i place))
 
-pub least_all : (rows : List Row) (block place least : ℕ) → length rows ≤ place → IsLeastTo rows block place least → IsBound rows block least
-least_all rows block place least all h i d inside e = h i d (omega arith) inside e
+pub least_all : (withheld : List ℕ) (rows : List Row) (block place least : ℕ) → length rows ≤ place → IsLeastTo withheld rows block place least → IsBound (open_rows withheld rows) block least
+least_all withheld rows block place least all h = open_all (λ (r : Row). block_number r.address ≡ block → least ≤ r.ends) withheld rows (λ i d inside out e. h i d (omega arith) inside out e)
 
--- while the bounds are set: those so far are bounds, and the rows that were passed have one each
-pub record BoundedTo (rows bounds : List Row) (place : ℕ) : Type 0 where
+-- while the bounds are set: those so far are bounds of others, and the rows that were passed have
+-- one each
+pub record BoundedTo (rows others bounds : List Row) (place : ℕ) : Type 0 where
   pub rise : Rise bounds
   pub has : (i : ℕ) (d : Row) → i < place → i < length rows → IsSome (row_at bounds (block_number (get_or rows i d).address))
-  pub least : (block : ℕ) (bound : Row) → row_at bounds block ≡ Some bound → IsBound rows block bound.ends
+  pub least : (block : ℕ) (bound : Row) → row_at bounds block ≡ Some bound → IsBound others block bound.ends
 
-pub bounded_first : (rows bounds : List Row) → bounds ≡ [] → BoundedTo rows bounds 0
-bounded_first rows bounds none = subst (λ (bs : List Row). BoundedTo rows bs 0) (sym none) (record { rise = tt; has = λ i d before. absurd (omega arith); least = λ block bound h. cc })
+pub bounded_first : (rows others bounds : List Row) → bounds ≡ [] → BoundedTo rows others bounds 0
+bounded_first rows others bounds none = subst (λ (bs : List Row). BoundedTo rows others bs 0) (sym none) (record { rise = tt; has = λ i d before. absurd (omega arith); least = λ block bound h. cc })
 
-pub bounded_all : (rows bounds : List Row) (place : ℕ) → length rows ≤ place → BoundedTo rows bounds place → IsBounded rows bounds
-bounded_all rows bounds place all h = record { rise = h.rise; has = λ i d within. h.has i d (omega arith) within; least = h.least }
+pub bounded_all : (withheld : List ℕ) (rows others bounds : List Row) (place : ℕ) → open_rows withheld rows ≡ others → length rows ≤ place → BoundedTo rows others bounds place → IsBounded others bounds
+bounded_all withheld rows others bounds place same all h = record {
+  rise = h.rise;
+  has = subst (λ (xs : List Row). All (λ (r : Row). IsSome (row_at bounds (block_number r.address))) xs) same (open_all (λ (r : Row). IsSome (row_at bounds (block_number r.address))) withheld rows (λ i d within out. h.has i d (omega arith) within));
+  least = h.least;
+}
 
 -- a row of the block of the one before has its bound
-pub bounded_same : (rows bounds : List Row) (place : ℕ) (row other : Row) → 0 < place → place < length rows → row ≡ get_or rows place row → other ≡ get_or rows (place - 1) other → block_number other.address ≡ block_number row.address → BoundedTo rows bounds place → BoundedTo rows bounds (place + 1)
-bounded_same rows bounds place row other from within is was same h = record { rise = h.rise; has = has; least = h.least } where
+pub bounded_same : (rows others bounds : List Row) (place : ℕ) (row other : Row) → 0 < place → place < length rows → row ≡ get_or rows place row → other ≡ get_or rows (place - 1) other → block_number other.address ≡ block_number row.address → BoundedTo rows others bounds place → BoundedTo rows others bounds (place + 1)
+bounded_same rows others bounds place row other from within is was same h = record { rise = h.rise; has = has; least = h.least } where
   has : (i : ℕ) (d : Row) → i < place + 1 → i < length rows → IsSome (row_at bounds (block_number (get_or rows i d).address))
   has i d before inside = ⊎_elim (λ l. h.has i d l inside) (λ l. here (omega arith)) (cases_lt i place) where
     here : i ≡ place → IsSome (row_at bounds (block_number (get_or rows i d).address))
@@ -145,16 +157,16 @@ bounded_same rows bounds place row other from within is was same h = record { ri
         subst (λ (x : ℕ). IsSome (row_at bounds x)) (ap block_number b ∙ same ∙ sym (ap block_number a)) g
 
 -- and one of another block has the one that is set
-pub bounded_more : (rows bounds : List Row) (place : ℕ) (row bound : Row) → place < length rows → row ≡ get_or rows place row → bound.address ≡ block_number row.address → IsBound rows bound.address bound.ends → BoundedTo rows bounds place → BoundedTo rows (with_row bound bounds) (place + 1)
-bounded_more rows bounds place row bound within is same this h = record { rise = rise-with_row bound bounds h.rise; has = has; least = least } where
+pub bounded_more : (rows others bounds : List Row) (place : ℕ) (row bound : Row) → place < length rows → row ≡ get_or rows place row → bound.address ≡ block_number row.address → IsBound others bound.address bound.ends → BoundedTo rows others bounds place → BoundedTo rows others (with_row bound bounds) (place + 1)
+bounded_more rows others bounds place row bound within is same this h = record { rise = rise-with_row bound bounds h.rise; has = has; least = least } where
   has : (i : ℕ) (d : Row) → i < place + 1 → i < length rows → IsSome (row_at (with_row bound bounds) (block_number (get_or rows i d).address))
   has i d before inside = ⊎_elim
       (λ l. some_more bound bounds (block_number (get_or rows i d).address) (h.has i d l inside))
       (λ l. let e : i ≡ place = omega arith in some_here bound bounds (block_number (get_or rows i d).address) (same ∙ sym (ap block_number (ap (λ (n : ℕ). (get_or rows n d).address) e ∙ read_at rows place row d within is))))
       (cases_lt i place)
 
-  least : (block : ℕ) (b : Row) → row_at (with_row bound bounds) block ≡ Some b → IsBound rows block b.ends
+  least : (block : ℕ) (b : Row) → row_at (with_row bound bounds) block ≡ Some b → IsBound others block b.ends
   least block b e = by (read_set bound bounds block b e) where
-    by : ((bound.address ≡ block) × (bound ≡ b)) ⊎ ((bound.address ≡ block → ⊥) × (row_at bounds block ≡ Some b)) → IsBound rows block b.ends
-    by (inl f) = subst (λ (x : Row). IsBound rows block x.ends) f.1 (subst (λ (n : ℕ). IsBound rows n bound.ends) f.0 this)
+    by : ((bound.address ≡ block) × (bound ≡ b)) ⊎ ((bound.address ≡ block → ⊥) × (row_at bounds block ≡ Some b)) → IsBound others block b.ends
+    by (inl f) = subst (λ (x : Row). IsBound others block x.ends) f.1 (subst (λ (n : ℕ). IsBound others n bound.ends) f.0 this)
     by (inr n) = h.least block b n.1

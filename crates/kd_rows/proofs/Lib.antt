@@ -19,3 +19,8 @@ pub mod Walks
 pub mod Zoning
 pub mod Zoned
 pub mod NextZones
+pub mod Listed
+pub mod Ranks
+pub mod Opens
+pub mod Frees
+pub mod Guards

@@ -1,20 +1,24 @@
 -- The first row that has ended: the rows of a block are looked at one after another, and blocks passed over.
-use Rattle.std.proofs.Common.{◌≡◌, ℕ, ◌+◌, ◌*◌, ◌<◌, ◌≤◌, max, min, List, length, get_or, Some, None, IsSome, Option, refl, sym, ap, ◌∙◌, subst, arith, ⊎_elim, ◌⊎◌, inl, inr}
+use Rattle.std.proofs.Common.{◌≡◌, ℕ, ◌+◌, ◌*◌, ◌<◌, ◌≤◌, max, min, List, false, length, get_or, Some, None, IsSome, Option, refl, sym, ap, ◌∙◌, subst, arith, ⊎_elim, ◌⊎◌, inl, inr}
 use Rattle.std.specs.List.{All}
 use Rattle.std.proofs.lemmas.Bool.{cases_eq, cases_lt}
+use Rattle.std.proofs.lemmas.Option.{same_Some}
 use Rattle.kd_rows.specs.declared.row.Row.{Row}
 use Rattle.kd_rows.specs.Index.{IsBounded, IsPlace, block_number}
+use Rattle.kd_rows.specs.Open.{open_rows}
 use Rattle.kd_rows.specs.Table.{IsNextEnded, Rise, row_at}
+use Rattle.kd_rows.specs.Withheld.{IsNextOpenEnded, is_withheld}
 use Rattle.kd_rows.proofs.Bounds.{row_all}
+use Rattle.kd_rows.proofs.Opens.{open_at, open_is}
 use Rattle.kd_rows.proofs.Places.{apart, is_at, none_at, read_at}
 
 -- an address stands below the rows from a place on
 abbrev pub IsBelowFrom : List Row → ℕ → ℕ → Type 0
 IsBelowFrom rows a place = (i : ℕ) (d : Row) → place ≤ i → i < length rows → a < (get_or rows i d).address
 
--- none of the rows from an address on and before a place has ended
-abbrev pub NoneEnded : List Row → ℕ → ℕ → ℕ → Type 0
-NoneEnded rows first moment place = (a : ℕ) (row : Row) → first ≤ a → IsBelowFrom rows a place → row_at rows a ≡ Some row → moment < row.ends
+-- none of the open rows from an address on and before a place has ended
+abbrev pub NoneEnded : List ℕ → List Row → ℕ → ℕ → ℕ → Type 0
+NoneEnded withheld rows first moment place = (a : ℕ) (row : Row) → first ≤ a → IsBelowFrom rows a place → row_at (open_rows withheld rows) a ≡ Some row → moment < row.ends
 
 -- the row at a place stands where its address is
 pub found_here : (rows : List Row) (place : ℕ) (row : Row) → Rise rows → place < length rows → row ≡ get_or rows place row → row_at rows row.address ≡ Some row
@@ -24,8 +28,11 @@ found_here rows place row rise within is = (is_at rows row.address place rise wi
 pub nowhere : (rows : List Row) (a place : ℕ) → ((i : ℕ) (d : Row) → i < place → i < length rows → (get_or rows i d).address < a) → IsBelowFrom rows a place → row_at rows a ≡ None
 nowhere rows a place below above = none_at rows a (λ i d within e. ⊎_elim (λ l. let h = below i d l within in omega arith) (λ l. let h = above i d l within in omega arith) (cases_lt i place))
 
-pub none_first : (rows : List Row) (first moment place : ℕ) → IsPlace rows first place → NoneEnded rows first moment place
-none_first rows first moment place p a row from above found = let none = nowhere rows a place (λ i d before within. let h = p.below i d before in omega arith) above in cc
+pub none_first : (withheld : List ℕ) (rows : List Row) (first moment place : ℕ) → IsPlace rows first place → NoneEnded withheld rows first moment place
+none_first withheld rows first moment place p a row from above found =
+    let none = nowhere rows a place (λ i d before within. let h = p.below i d before in omega arith) above in
+    let there = (open_is withheld rows a row found).1 in
+    cc
 
 -- an address below that of the row at a place stands below the rows from there on
 pub below_here : (rows : List Row) (place a : ℕ) (row : Row) → Rise rows → place < length rows → row ≡ get_or rows place row → a < row.address → IsBelowFrom rows a place
@@ -46,28 +53,33 @@ around rows place a row rise within is above = ⊎_elim
           let g = read_at rows place row d within is in
           omega arith
 
--- one row more that has not ended
-pub none_step : (rows : List Row) (first moment place : ℕ) (row : Row) → Rise rows → place < length rows → row ≡ get_or rows place row → moment < row.ends → NoneEnded rows first moment place → NoneEnded rows first moment (place + 1)
-none_step rows first moment place row rise within is live h a other from above found = by (around rows place a row rise within is above) where
-  by : IsBelowFrom rows a place ⊎ ((a ≡ row.address) ⊎ (row_at rows a ≡ None)) → moment < other.ends
-  by (inl below) = h a other from below found
-  by (inr (inl e)) = let this : row_at rows a ≡ Some row = subst (λ (n : ℕ). row_at rows n ≡ Some row) (sym e) (found_here rows place row rise within is) in let same : row ≡ other = cc in subst (λ (r : Row). moment < r.ends) same live
-  by (inr (inr none)) = cc
+-- one row more that has not ended, or is withheld
+pub none_step : (withheld : List ℕ) (rows : List Row) (first moment place : ℕ) (row : Row) → Rise rows → place < length rows → row ≡ get_or rows place row → (is_withheld withheld row.address ≡ false → moment < row.ends) → NoneEnded withheld rows first moment place
+    → NoneEnded withheld rows first moment (place + 1)
+none_step withheld rows first moment place row rise within is live h a other from above found = by (around rows place a row rise within is above) (open_is withheld rows a other found) where
+  by : IsBelowFrom rows a place ⊎ ((a ≡ row.address) ⊎ (row_at rows a ≡ None)) → (is_withheld withheld a ≡ false) × (row_at rows a ≡ Some other) → moment < other.ends
+  by (inl below) there = h a other from below found
+  by (inr (inl e)) there =
+      let this : row_at rows a ≡ Some row = subst (λ (n : ℕ). row_at rows n ≡ Some row) (sym e) (found_here rows place row rise within is) in
+      let same : row ≡ other = same_Some row other (sym this ∙ there.1) in
+      subst (λ (r : Row). moment < r.ends) same (live (subst (λ (n : ℕ). is_withheld withheld n ≡ false) e there.0))
+  by (inr (inr none)) there = let e = there.1 in cc
 
-pub ended_here : (rows : List Row) (first last moment place : ℕ) (row : Row) → Rise rows → place < length rows → row ≡ get_or rows place row → first ≤ row.address → row.address ≤ last → row.ends ≤ moment → NoneEnded rows first moment place → IsNextEnded rows first last moment (Some row)
-ended_here rows first last moment place row rise within is from to ended h = (
-  found_here rows place row rise within is,
+pub ended_here : (withheld : List ℕ) (rows : List Row) (first last moment place : ℕ) (row : Row) → Rise rows → place < length rows → row ≡ get_or rows place row → first ≤ row.address → row.address ≤ last → row.ends ≤ moment → is_withheld withheld row.address ≡ false → NoneEnded withheld rows first moment place
+    → IsNextEnded (open_rows withheld rows) first last moment (Some row)
+ended_here withheld rows first last moment place row rise within is from to ended out h = (
+  open_at withheld rows row.address out ∙ found_here rows place row rise within is,
   from,
   to,
   ended,
   λ a other low less found. h a other low (below_here rows place a row rise within is less) found,
 )
 
-pub none_past : (rows : List Row) (first last moment place : ℕ) (row : Row) → Rise rows → place < length rows → row ≡ get_or rows place row → last < row.address → NoneEnded rows first moment place → IsNextEnded rows first last moment None
-none_past rows first last moment place row rise within is past h a other low high found = h a other low (below_here rows place a row rise within is (omega arith)) found
+pub none_past : (withheld : List ℕ) (rows : List Row) (first last moment place : ℕ) (row : Row) → Rise rows → place < length rows → row ≡ get_or rows place row → last < row.address → NoneEnded withheld rows first moment place → IsNextEnded (open_rows withheld rows) first last moment None
+none_past withheld rows first last moment place row rise within is past h a other low high found = h a other low (below_here rows place a row rise within is (omega arith)) found
 
-pub none_over : (rows : List Row) (first last moment place : ℕ) → length rows ≤ place → NoneEnded rows first moment place → IsNextEnded rows first last moment None
-none_over rows first last moment place all h a other low high found = h a other low (λ i d after inside. absurd (omega arith)) found
+pub none_over : (withheld : List ℕ) (rows : List Row) (first last moment place : ℕ) → length rows ≤ place → NoneEnded withheld rows first moment place → IsNextEnded (open_rows withheld rows) first last moment None
+none_over withheld rows first last moment place all h a other low high found = h a other low (λ i d after inside. absurd (omega arith)) found
 
 -- none ends before the moment that all of them end at or after
 pub none_early : (rows : List Row) (first last moment least : ℕ) → All (λ row. least ≤ row.ends) rows → moment < least → IsNextEnded rows first last moment None
@@ -146,3 +158,10 @@ blocks_past rows bounds first last moment place bound b within is past h a row f
 
 pub blocks_over : (rows bounds : List Row) (first last moment place : ℕ) → length bounds ≤ place → NoneOf rows bounds first last moment place → IsNextEnded rows first last moment None
 blocks_over rows bounds first last moment place all h a row from to found = h a row from to (λ i d after inside. absurd (omega arith)) found
+
+-- the first open row that has ended, of all rows
+pub ended_open : (withheld : List ℕ) (rows : List Row) (first last moment : ℕ) (found : Option Row) → IsNextEnded (open_rows withheld rows) first last moment found → IsNextOpenEnded rows withheld first last moment found
+ended_open withheld rows first last moment None h = λ a row from to out there. h a row from to (open_at withheld rows a out ∙ there)
+ended_open withheld rows first last moment (Some row) h =
+    let is = open_is withheld rows row.address row h.0 in
+    (is.1, h.1, h.2, is.0, h.3, λ a other from less out there. h.4 a other from less (open_at withheld rows a out ∙ there))

@@ -7,3 +7,5 @@ pub mod Zones
 pub mod Full
 pub mod Ages
 pub mod Holds
+pub mod Withheld
+pub mod Open

@@ -2,7 +2,8 @@ ghost use Rattle.std.specs.Prelude.{◌≡◌, ◌+◌, ◌<◌, [], length, Non
 ghost use Rattle.kd_rows.specs.Index.{IsBound, IsBounded, IsLower, IsNow, IsPlace, block_number, bound_row, end_at};
 ghost use Rattle.kd_rows.specs.Table.{Rise, row_at, with_row};
 
-use crate::sorted::Sorted;
+use crate::addresses::is_among;
+use crate::open_rows::OpenRows;
 use std::alloc::{AllocError, Global};
 use std::marker::Model;
 
@@ -134,31 +135,31 @@ impl Blocks {
 }
 
 // The least end of the rows in the block of an address, the greatest of all moments without rows.
-pub(crate) fn least_beside(rows: &Sorted, address: u32) -> u64
-    requires { Rise rows.now.rows }
-    ensures { IsBound rows.now.rows (block_number address) result }
+pub(crate) fn least_beside(rows: &OpenRows, address: u32) -> u64
+    ensures { IsBound rows.now (block_number address) result }
 {
     let block = block_of(address);
     let mut least = u64::MAX;
-    for place in rows.place_of(block * BLOCK)..rows.len() {
-        let row = rows.row(place);
+    for place in rows.all.place_of(block * BLOCK)..rows.all.len() {
+        let row = rows.all.row(place);
         if block < block_of(row.address) {
             return least;
         }
-        least = row.ends.min(least);
+        if !is_among(rows.withheld, row.address) {
+            least = row.ends.min(least);
+        }
     }
     least
 }
 
 // Sets the bound of each block that has rows.
-pub(crate) fn bound_all(blocks: &mut Blocks, rows: &Sorted) -> Result<(), AllocError>
-    requires none { blocks.old.rows ≡ [] }
-    requires rise { Rise rows.now.rows }
-    ensures { OnOk result (IsBounded rows.now.rows blocks.new.rows) }
+pub(crate) fn bound_all(blocks: &mut Blocks, rows: &OpenRows) -> Result<(), AllocError>
+    requires { blocks.old.rows ≡ [] }
+    ensures { OnOk result (IsBounded rows.now blocks.new.rows) }
 {
-    for place in 0..rows.len() {
-        let address = rows.row(place).address;
-        if place == 0 || block_of(rows.row(place - 1).address) != block_of(address) {
+    for place in 0..rows.all.len() {
+        let address = rows.all.row(place).address;
+        if place == 0 || block_of(rows.all.row(place - 1).address) != block_of(address) {
             blocks.reserve()?;
             blocks.set(Bound {
                 block: block_of(address),
@@ -187,9 +188,8 @@ pub(crate) fn kept_bound(held: Option<u64>, replaced: Option<u64>, ends: u64) ->
 }
 
 // The bound of the block of an address: what is left of it, or the least end of its rows.
-pub(crate) fn bound_now(rows: &Sorted, address: u32, kept: Option<u64>) -> u64
-    requires { Rise rows.now.rows }
-    ensures { IsNow rows.now.rows (block_number address) kept result }
+pub(crate) fn bound_now(rows: &OpenRows, address: u32, kept: Option<u64>) -> u64
+    ensures { IsNow rows.now (block_number address) kept result }
 {
     match kept {
         Some(least) => least,

@@ -1,23 +1,23 @@
 ghost use Rattle.std.specs.Option.{option_copied};
 ghost use Rattle.kd_rows.specs.Index.{IsBounded};
-ghost use Rattle.kd_rows.specs.Table.{IsNextEnded, Rise};
+ghost use Rattle.kd_rows.specs.Table.{IsNextEnded};
 
+use crate::addresses::is_among;
 use crate::blocks::{BLOCK, Blocks, block_of};
+use crate::open_rows::OpenRows;
 use crate::row::Row;
-use crate::sorted::Sorted;
 
 // The row of the least address from `first` to `last` that has ended by a moment; a block in which
 // no row has is passed over.
 pub(crate) fn next_ended<'a>(
-    rows: &'a Sorted,
+    rows: &OpenRows<'a>,
     blocks: &Blocks,
     first: u32,
     last: u32,
     moment: u64,
 ) -> Option<&'a Row>
-    requires rise { Rise rows.now.rows }
-    requires bounded { IsBounded rows.now.rows blocks.now.rows }
-    ensures { IsNextEnded rows.now.rows first last moment (option_copied result) }
+    requires { IsBounded rows.now blocks.now.rows }
+    ensures { IsNextEnded rows.now first last moment (option_copied result) }
 {
     let end = block_of(last);
     for place in blocks.place_of(block_of(first))..blocks.len() {
@@ -38,16 +38,16 @@ pub(crate) fn next_ended<'a>(
 }
 
 // The same, where each row is looked at.
-fn ended_in(rows: &Sorted, first: u32, last: u32, moment: u64) -> Option<&Row>
-    requires { Rise rows.now.rows }
-    ensures { IsNextEnded rows.now.rows first last moment (option_copied result) }
+fn ended_in<'a>(rows: &OpenRows<'a>, first: u32, last: u32, moment: u64) -> Option<&'a Row>
+    ensures { IsNextEnded rows.now first last moment (option_copied result) }
 {
-    for place in rows.place_of(first)..rows.len() {
-        let row = rows.row(place);
+    let all = rows.all;
+    for place in all.place_of(first)..all.len() {
+        let row = all.row(place);
         if last < row.address {
             return None;
         }
-        if row.ends <= moment {
+        if row.ends <= moment && !is_among(rows.withheld, row.address) {
             return Some(row);
         }
     }

@@ -2,25 +2,31 @@
 //!
 //! What this layer promises to the one above: the table is the list of its rows in rising address
 //! (`specs/Table.antt`), each call says what it reads or changes there, and setting a row takes no
-//! memory, which is asked for before. Times are in seconds, in the ranges of `specs/Row.antt`.
+//! memory, which is asked for before. Beside it stands a table with addresses that are withheld
+//! (`specs/Withheld.antt`). Times are in seconds, in the ranges of `specs/Row.antt`.
 #![tactic(auto)]
 
 mod across;
+mod addresses;
 mod age;
 mod blocks;
 mod ended;
 mod find;
+mod free;
 mod full;
 mod holds;
 mod index;
 pub mod laws;
 mod numbers;
+mod open_rows;
 mod put;
 mod row;
 mod rows;
 mod sorted;
 mod tiered;
+mod withheld;
 mod zones;
 
 pub use row::{Row, State};
 pub use rows::Rows;
+pub use withheld::Withheld;

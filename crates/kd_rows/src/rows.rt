@@ -12,6 +12,7 @@ use crate::find::{find, gap_in};
 use crate::full::{Full, full_of};
 use crate::holds::{Holds, holds_in};
 use crate::index::{next_of, nth_of};
+use crate::open_rows::OpenRows;
 use crate::put::put_row;
 use crate::row::{Row, State};
 use crate::sorted::Sorted;
@@ -95,7 +96,7 @@ impl Rows {
         let alloc = *rows.allocator();
         let mut blocks = Blocks::new(alloc);
         let sorted = Sorted::new(rows, cuts)?;
-        bound_all(&mut blocks, &sorted)?;
+        bound_all(&mut blocks, &OpenRows::all(&sorted))?;
         let full = full_of(alloc, &sorted)?;
         Ok(Rows {
             room: sorted.room().min(blocks.room()),
@@ -106,6 +107,21 @@ impl Rows {
             least,
             holds,
         })
+    }
+
+    // The rows in rising address.
+    pub(crate) fn sorted(&self) -> &Sorted
+        ensures rows { result.now.rows ≡ self.now.rows }
+        ensures rise { Rise result.now.rows }
+    {
+        &self.rows
+    }
+
+    // For how many new addresses, at least, there is room.
+    pub(crate) fn room(&self) -> usize
+        ensures { result ≡ self.now.room }
+    {
+        self.room
     }
 
     /// How many rows there are; they rise in address, and their times are in range.
@@ -233,7 +249,13 @@ impl Rows {
         if moment < self.least {
             return None;
         }
-        next_ended(&self.rows, &self.blocks, first, last, moment)
+        next_ended(
+            &OpenRows::all(&self.rows),
+            &self.blocks,
+            first,
+            last,
+            moment,
+        )
     }
 
     /// Whether a row can be set without memory: its address has one, or there is room for one more.
@@ -273,6 +295,21 @@ impl Rows {
         ensures room { self.new.room
             ≡ self.old.room - (if is_some (row_at self.old.rows row.address) then 0 else 1) }
     {
+        self.exchange(row);
+    }
+
+    // The same, with the end of the row that was there.
+    pub(crate) fn exchange(&mut self, row: Row) -> Option<u64>
+        requires spare { room_for_row self.old row ≡ true }
+        requires changed { latest_of self.old.rows ≤ row.changed }
+        requires range { IsInRange row }
+        ensures rows { self.new.rows ≡ with_row row self.old.rows }
+        ensures least { self.new.least ≡ min self.old.least row.ends }
+        ensures room { self.new.room
+            ≡ self.old.room - (if is_some (row_at self.old.rows row.address) then 0 else 1) }
+        ensures replaced { result ≡ end_at self.old.rows row.address }
+        ensures rise { Rise self.old.rows }
+    {
         let address = row.address;
         let block = block_of(address);
         let replaced = ends_at(&self.rows, address);
@@ -282,9 +319,10 @@ impl Rows {
         self.least = self.least.min(row.ends);
         self.holds = self.holds.with(&row);
         put_row(&mut self.rows, row);
-        let least = bound_now(&self.rows, address, kept);
+        let least = bound_now(&OpenRows::all(&self.rows), address, kept);
         self.blocks.set(Bound { block, least });
         self.full.add(address, replaced.is_none());
+        replaced
     }
 }
 
@@ -300,7 +338,7 @@ fn ends_at(rows: &Sorted, address: u32) -> Option<u64>
 }
 
 // For how many new addresses there is room after a row was set: a new address takes one place.
-fn room_after(room: usize, replaced: Option<u64>) -> usize
+pub(crate) fn room_after(room: usize, replaced: Option<u64>) -> usize
     ensures { result ≡ room - (if is_some replaced then 0 else 1) }
 {
     match replaced {

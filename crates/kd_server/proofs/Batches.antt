@@ -58,6 +58,12 @@ module _ (steps : List Row → Event → Handled → List Row → Type 0) (event
   moved_or_none rows set (inl none) = inl none.0
   moved_or_none rows set (inr changed) = inr changed
 
+-- what a datagram does over a configuration and rows it does over the same ones
+pub turn_over : (c config : Configuration) (ports : Ports) (r rows : List Row) (now : ℕ) (bytes : List ℕ) (row : Option Row) (response : Response) → c ≡ config → r ≡ rows
+    → IsTurn c ports r now bytes row response → IsTurn config ports rows now bytes row response
+turn_over c config ports r rows now bytes row response one two turn =
+    subst (λ (k : Configuration). IsTurn k ports rows now bytes row response) one (subst (λ (l : List Row). IsTurn c ports l now bytes row response) two turn)
+
 -- where its row is not set the event is left out
 pub left_out_if : (config : Configuration) (ports : Ports) (rows new : List Row) (event : Event) (now : ℕ) (row : Option Row) (response : Response) (result : Result Handled ServeFault)
     → event.moment < 2 ^ 40 → IsTurn config ports rows now event.bytes row response → IfErr result (IsUnset rows new (after rows row))

@@ -16,13 +16,12 @@ use Rattle.kd_replay.specs.declared.fault.LoopFault.{LoopFault}
 use Rattle.kd_replay.specs.declared.fault.LoopFault.TheVariants as loops
 use Rattle.kd_replay.specs.declared.fault.ServeFault.{ServeFault}
 use Rattle.kd_replay.specs.declared.fault.ServeFault.TheVariants as faults
-use Rattle.kd_options.specs.Message.{Reads}
 use Rattle.kd_rows.specs.Table.{latest_of}
 use Rattle.kd_rows.specs.declared.row.Row.{Row}
 use Rattle.kd_keeps.specs.declared.fault.StoreFault.{StoreFault}
 use Rattle.kd_server.specs.Batch.{Batched, IsCommitted, IsLost, LeavesOut}
 use Rattle.kd_server.specs.Keeping.{IsStopped, Keeping, Refuses, Steps, StepsTo, StoreHolds, latest_in}
-use Rattle.kd_server.specs.Lives.{AreCalls, AreSteps, Call, CallAnswers, Called, IsAnswerOf, IsDone, IsIdle, IsLeft, IsNoRun, IsRun, LivesAreHistories, LivesKeepConfigurations, Opening, OpeningsAreHistories, OpeningsEnd, ReachingIsCalls, Report, RunsAreCalls, ServingIsCalls, calls_of, reports, reports_of}
+use Rattle.kd_server.specs.Lives.{AreCalls, AreSteps, Call, CallAnswers, Called, IsDone, IsIdle, IsLeft, IsNoRun, IsRun, LivesAreHistories, LivesKeepConfigurations, Opening, OpeningsAreHistories, OpeningsEnd, ReachingIsCalls, Report, RunsAreCalls, ServingIsCalls, calls_of, reports, reports_of}
 use Rattle.kd_server.specs.Lives.Call.{one, batch}
 use Rattle.kd_server.specs.NoOverlap.{AreOfOne, HistoryTo, LeaseHistory, LeaseStep, now_of}
 use Rattle.kd_server.specs.Step.{IsAnswered, IsUnreadable}

@@ -1,5 +1,4 @@
 pub mod Batch
-pub mod Cuts
 pub mod Keeping
 pub mod Leases
 pub mod Lives

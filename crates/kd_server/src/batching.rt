@@ -17,8 +17,9 @@ use crate::turning::{Turn, turn_at};
 use kd_config::Config;
 use kd_event::{Handled, Ports};
 use kd_keeps::{Keeps, StoreFault};
+use kd_lease::Leases;
 use kd_replay::{Arrived, ServeFault};
-use kd_rows::{Row, Rows};
+use kd_rows::Row;
 use std::alloc::{AllocError, Global};
 
 /// What a server works with: the memory, and what it goes by.
@@ -35,8 +36,9 @@ pub struct Rules<'a> {
 // Handles events one after another, up to the first fault: their rows are set, and those to be
 // committed are listed.
 pub(crate) fn handle_each(
-    rules: Rules<'_>,
-    rows: &mut Rows,
+    alloc: Global,
+    ports: Ports,
+    leases: &mut Leases,
     set: &mut Vec<Row>,
     list: &mut Vec<Handled>,
     events: &[Arrived],
@@ -44,16 +46,17 @@ pub(crate) fn handle_each(
     requires room { length events.now ≤ vec_capacity list.old }
     requires none { list.old.items ≡ [] }
     requires empty { set.old.items ≡ [] }
-    ensures runs { Runs (StepsTo rules.entry.config.now rules.entry.ports) LeavesOut
-        events.now list.new.items result rows.old.rows rows.new.rows }
+    ensures runs { Runs (StepsTo leases.old.config ports) LeavesOut
+        events.now list.new.items result leases.old.table.rows leases.new.table.rows }
+    ensures config { leases.new.config ≡ leases.old.config }
     ensures small { All (λ handled. IsSmall handled.response) list.new.items }
-    ensures sets { with_rows set.new.items rows.old.rows ≡ rows.new.rows }
+    ensures sets { with_rows set.new.items leases.old.table.rows ≡ leases.new.table.rows }
     ensures ranges { All IsInRange set.new.items }
     ensures changes { (set.new.items ≡ [])
-        ⊎ IsChangedBy (StepsTo rules.entry.config.now rules.entry.ports) events.now rows.old.rows }
+        ⊎ IsChangedBy (StepsTo leases.old.config ports) events.now leases.old.table.rows }
 {
     for event in events {
-        match handle_one(rules, rows, set, event) {
+        match handle_one(alloc, ports, leases, set, event) {
             Ok(handled) => list.push_reserved(handled),
             Err(fault) => return Some(fault),
         }
@@ -63,105 +66,112 @@ pub(crate) fn handle_each(
 
 // Handles an event: its row is set, and listed to be committed where it changes the rows.
 fn handle_one(
-    rules: Rules<'_>,
-    rows: &mut Rows,
+    alloc: Global,
+    ports: Ports,
+    leases: &mut Leases,
     set: &mut Vec<Row>,
     event: &Arrived,
 ) -> Result<Handled, ServeFault>
     ensures handled { IfOk result (λ handled.
-        StepsTo rules.entry.config.now rules.entry.ports rows.old.rows event.now handled rows.new.rows) }
+        StepsTo leases.old.config ports leases.old.table.rows event.now handled leases.new.table.rows) }
+    ensures config { leases.new.config ≡ leases.old.config }
     ensures small { IfOk result (λ handled. IsSmall handled.response) }
     ensures failed { IfErr result
-        (λ fault. LeavesOut rows.old.rows event.now fault rows.new.rows) }
-    ensures set { Stages rows.old.rows set.old.items rows.new.rows set.new.items }
+        (λ fault. LeavesOut leases.old.table.rows event.now fault leases.new.table.rows) }
+    ensures set { Stages leases.old.table.rows set.old.items leases.new.table.rows set.new.items }
 {
-    handle_at(rules, rows, set, event.moment(), event.bytes())
+    handle_at(alloc, ports, leases, set, event.moment(), event.bytes())
 }
 
 // Handles a datagram at a moment, in the same way.
-pub(crate) fn handle_at(
-    rules: Rules<'_>,
-    rows: &mut Rows,
+fn handle_at(
+    alloc: Global,
+    ports: Ports,
+    leases: &mut Leases,
     set: &mut Vec<Row>,
     moment: u64,
     bytes: &[u8],
 ) -> Result<Handled, ServeFault>
     ensures handled { IfOk result (λ handled.
-        StepsTo rules.entry.config.now rules.entry.ports rows.old.rows
-        (record { moment = moment; bytes = bytes.now }) handled rows.new.rows) }
+        StepsTo leases.old.config ports leases.old.table.rows
+        (record { moment = moment; bytes = bytes.now }) handled leases.new.table.rows) }
+    ensures config { leases.new.config ≡ leases.old.config }
     ensures small { IfOk result (λ handled. IsSmall handled.response) }
-    ensures failed { IfErr result (λ fault. LeavesOut rows.old.rows
-        (record { moment = moment; bytes = bytes.now }) fault rows.new.rows) }
-    ensures set { Stages rows.old.rows set.old.items rows.new.rows set.new.items }
+    ensures failed { IfErr result (λ fault. LeavesOut leases.old.table.rows
+        (record { moment = moment; bytes = bytes.now }) fault leases.new.table.rows) }
+    ensures set { Stages leases.old.table.rows set.old.items leases.new.table.rows set.new.items }
 {
     if moment >= MOMENTS {
         return Err(ServeFault::MomentTooLarge);
     }
-    let Rules {
-        alloc,
-        ports,
-        config,
-    } = rules;
-    let now = moment.max(rows.latest());
-    let turn = turn_at(alloc, ports, config, rows, now, bytes)?;
-    stage_turn(alloc, rows, set, now, turn)
+    let now = moment.max(leases.rows().latest());
+    let turn = turn_at(alloc, ports, leases.ground(), now, bytes)?;
+    stage_turn(alloc, leases, set, now, turn)
 }
 
 // Sets the row of a datagram, as `stage`, and hands out what is sent for it.
 fn stage_turn(
     alloc: Global,
-    rows: &mut Rows,
+    leases: &mut Leases,
     set: &mut Vec<Row>,
     now: u64,
     turn: Turn,
 ) -> Result<Handled, ServeFault>
-    requires { IfSome turn.row (IsSettable rows.old.rows) }
+    requires { IfSome turn.row (IsSettable leases.old.table.rows) }
     ensures handled { IfOk result
         (λ handled. handled ≡ record { now = now; response = turn.response }) }
-    ensures rows { OnOk result (rows.new.rows ≡ after rows.old.rows turn.row) }
+    ensures config { leases.new.config ≡ leases.old.config }
+    ensures rows { OnOk result (leases.new.table.rows ≡ after leases.old.table.rows turn.row) }
     ensures unset { IfErr result
-        (IsUnset rows.old.rows rows.new.rows (after rows.old.rows turn.row)) }
-    ensures set { Stages rows.old.rows set.old.items rows.new.rows set.new.items }
+        (IsUnset leases.old.table.rows leases.new.table.rows (after leases.old.table.rows turn.row)) }
+    ensures set { Stages leases.old.table.rows set.old.items leases.new.table.rows set.new.items }
 {
     let Turn { row, response } = turn;
-    stage(alloc, rows, set, row)?;
+    stage(alloc, leases, set, row)?;
     Ok(Handled { now, response })
 }
 
 // Sets a row, where there is one and it changes the rows, and lists it to be committed.
 fn stage(
     alloc: Global,
-    rows: &mut Rows,
+    leases: &mut Leases,
     set: &mut Vec<Row>,
     row: Option<Row>,
 ) -> Result<(), ServeFault>
-    requires { IfSome row (IsSettable rows.old.rows) }
-    ensures rows { OnOk result (rows.new.rows ≡ after rows.old.rows row) }
+    requires { IfSome row (IsSettable leases.old.table.rows) }
+    ensures config { leases.new.config ≡ leases.old.config }
+    ensures rows { OnOk result (leases.new.table.rows ≡ after leases.old.table.rows row) }
     ensures unset { IfErr result
-        (IsUnset rows.old.rows rows.new.rows (after rows.old.rows row)) }
-    ensures set { Stages rows.old.rows set.old.items rows.new.rows set.new.items }
+        (IsUnset leases.old.table.rows leases.new.table.rows (after leases.old.table.rows row)) }
+    ensures set { Stages leases.old.table.rows set.old.items leases.new.table.rows set.new.items }
 {
     match row {
-        Some(row) => stage_row(alloc, rows, set, row),
+        Some(row) => stage_row(alloc, leases, set, row),
         None => Ok(()),
     }
 }
 
 // Sets a row, where it changes the rows, and lists it to be committed.
 #[tactic(auto, using(crate::proofs::Staged::staged, crate::proofs::Staged::unstaged))]
-fn stage_row(alloc: Global, rows: &mut Rows, set: &mut Vec<Row>, row: Row) -> Result<(), ServeFault>
-    requires { IsSettable rows.old.rows row }
-    ensures rows { OnOk result (rows.new.rows ≡ with_row row rows.old.rows) }
+fn stage_row(
+    alloc: Global,
+    leases: &mut Leases,
+    set: &mut Vec<Row>,
+    row: Row,
+) -> Result<(), ServeFault>
+    requires { IsSettable leases.old.table.rows row }
+    ensures config { leases.new.config ≡ leases.old.config }
+    ensures rows { OnOk result (leases.new.table.rows ≡ with_row row leases.old.table.rows) }
     ensures unset { IfErr result
-        (IsUnset rows.old.rows rows.new.rows (with_row row rows.old.rows)) }
-    ensures set { Stages rows.old.rows set.old.items rows.new.rows set.new.items }
+        (IsUnset leases.old.table.rows leases.new.table.rows (with_row row leases.old.table.rows)) }
+    ensures set { Stages leases.old.table.rows set.old.items leases.new.table.rows set.new.items }
 {
-    if rows.has(&row) {
+    if leases.rows().has(&row) {
         return Ok(());
     }
-    rows.reserve(&row)?;
+    leases.reserve(&row)?;
     list_row(alloc, set, &row)?;
-    rows.set(row);
+    leases.set(row);
     Ok(())
 }
 

@@ -8,7 +8,6 @@
 #![tactic(auto)]
 
 mod batching;
-mod cutting;
 pub mod laws;
 mod leases;
 mod replaying;

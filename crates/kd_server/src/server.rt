@@ -13,13 +13,13 @@ ghost use Rattle.kd_server.specs.Keeping.{IsUnopened, Opens, Refuses, Steps, Sti
 ghost use Rattle.kd_server.specs.Leases.{IsNoList, leases_of_rows};
 ghost use Rattle.kd_server.specs.Unkept.{IsSettable, IsUnkept};
 
-use crate::batching::{Rules, handle_each, keep_all};
-use crate::cutting::table_of;
+use crate::batching::{handle_each, keep_all};
 use crate::leases::{Lease, leases_at};
 use crate::turning::{Turn, turn_at};
 use kd_config::Config;
 use kd_event::{Event, Handled, Ports};
 use kd_keeps::{Keeps, Opened};
+use kd_lease::Leases;
 use kd_replay::{Arrived, ServeFault, Serves, ServesAll, run_with};
 use kd_rows::{Row, Rows};
 use std::alloc::Global;
@@ -29,8 +29,7 @@ use std::marker::Model;
 #[derive(Drop)]
 pub struct Server<S: Keeps> {
     ports: Ports,
-    config: Config,
-    rows: Rows,
+    leases: Leases,
     store: S,
     alloc: Global,
 }
@@ -41,7 +40,12 @@ impl<S: Keeps> Model for Server<S> {
     ghost Value = { Keeping S };
 
     ghost view = { λ s.
-        record { ports = s.ports; config = s.config; rows = s.rows.rows; store = s.store } };
+        record {
+          ports = s.ports;
+          config = s.leases.config;
+          rows = s.leases.table.rows;
+          store = s.store;
+        } };
 }
 
 // Moments are below this, 2^40 seconds.
@@ -98,22 +102,22 @@ impl<S: Keeps> Server<S> {
         ensures config { result.0 ≡ self.config }
         ensures store { result.1 ≡ self.store }
     {
-        let Server { config, store, .. } = self;
-        (config, store)
+        let Server { leases, store, .. } = self;
+        (leases.into_config(), store)
     }
 
     /// The configuration that it goes by.
     pub fn config(&self) -> &Config
         ensures { result.now ≡ self.now.config }
     {
-        &self.config
+        self.leases.config()
     }
 
     /// The rows of leases, ended ones among them.
     pub fn rows(&self) -> &Rows
         ensures { result.now.rows ≡ self.now.rows }
     {
-        &self.rows
+        self.leases.rows()
     }
 
     /// Whether the store has failed.
@@ -127,14 +131,14 @@ impl<S: Keeps> Server<S> {
     pub fn row_count(&self) -> usize
         ensures { result ≡ length self.now.rows }
     {
-        self.rows.len()
+        self.leases.rows().len()
     }
 
     /// The latest change of a row, in whole seconds; 0 without rows.
     pub fn latest_change(&self) -> u64
         ensures { result ≡ latest_of self.now.rows }
     {
-        self.rows.latest()
+        self.leases.rows().latest()
     }
 
     /// The leases at a moment, in whole seconds: the rows in rising address, and which of them have
@@ -150,7 +154,7 @@ impl<S: Keeps> Server<S> {
             × (moment < 2 ^ 40)) }
         ensures failed { IfErr result (IsNoList (is_some (S.fault self.now.store)) moment) }
     {
-        leases_at(self.alloc, &self.rows, self.store.failed(), moment)
+        leases_at(self.alloc, self.leases.rows(), self.store.failed(), moment)
     }
 
     /// Handles events one after another, up to the first fault. The list for all of them is grown
@@ -190,9 +194,9 @@ impl<S: Keeps> Server<S> {
         if moment >= MOMENTS {
             return Err(ServeFault::MomentTooLarge);
         }
-        let now = moment.max(self.rows.latest());
-        let turn = turn_at(self.alloc, self.ports, &self.config, &self.rows, now, bytes)?;
-        settle(&mut self.rows, &mut self.store, now, turn)
+        let now = moment.max(self.leases.rows().latest());
+        let turn = turn_at(self.alloc, self.ports, self.leases.ground(), now, bytes)?;
+        settle(&mut self.leases, &mut self.store, now, turn)
     }
 
     /// What is sent for events, in their order, each at its moment; the rows that they set are
@@ -216,12 +220,14 @@ impl<S: Keeps> Server<S> {
             return (Vec::new(self.alloc), Some(ServeFault::Memory));
         };
         let mut set = Vec::new(self.alloc);
-        let rules = Rules {
-            alloc: self.alloc,
-            ports: self.ports,
-            config: &self.config,
-        };
-        let fault = handle_each(rules, &mut self.rows, &mut set, &mut list, events);
+        let fault = handle_each(
+            self.alloc,
+            self.ports,
+            &mut self.leases,
+            &mut set,
+            &mut list,
+            events,
+        );
         match keep_all(&mut self.store, set.as_slice()) {
             Ok(()) => (list, fault),
             Err(fault) => (Vec::new(self.alloc), Some(ServeFault::Store(fault))),
@@ -273,76 +279,78 @@ fn seat<S: Keeps>(
     ensures memory { IfErr result (λ back.
         (back.0 ≡ faults.Memory) × (back.1 ≡ config) × (back.2 ≡ store)) }
 {
-    match table_of(alloc, &config, rows) {
-        Ok(rows) => Ok(Server {
+    match Leases::new(alloc, config, rows) {
+        Ok(leases) => Ok(Server {
             ports,
-            config,
-            rows,
+            leases,
             store,
             alloc,
         }),
-        Err(_) => Err((ServeFault::Memory, config, store)),
+        Err(config) => Err((ServeFault::Memory, config, store)),
     }
 }
 
 // Keeps the row that a datagram sets, and then hands out what is sent for it.
 fn settle<S: Keeps>(
-    rows: &mut Rows,
+    leases: &mut Leases,
     store: &mut S,
     now: u64,
     turn: Turn,
 ) -> Result<Handled, ServeFault>
     requires works { is_some (S.fault store.old) ≡ false }
-    requires set { IfSome turn.row (IsSettable rows.old.rows) }
+    requires set { IfSome turn.row (IsSettable leases.old.table.rows) }
     ensures handled { IfOk result
         (λ handled. handled ≡ record { now = now; response = turn.response }) }
-    ensures rows { OnOk result (rows.new.rows ≡ after rows.old.rows turn.row) }
+    ensures config { leases.new.config ≡ leases.old.config }
+    ensures rows { OnOk result (leases.new.table.rows ≡ after leases.old.table.rows turn.row) }
     ensures store { OnOk result
-        (StillHolds S.Keeps store.old store.new rows.old.rows rows.new.rows) }
+        (StillHolds S.Keeps store.old store.new leases.old.table.rows leases.new.table.rows) }
     ensures failed { IfErr result
-        (IsUnkept S.Keeps rows.old.rows rows.new.rows store.old store.new
-        (after rows.old.rows turn.row)) }
+        (IsUnkept S.Keeps leases.old.table.rows leases.new.table.rows store.old store.new
+        (after leases.old.table.rows turn.row)) }
 {
     let Turn { row, response } = turn;
-    keep(rows, store, row)?;
+    keep(leases, store, row)?;
     Ok(Handled { now, response })
 }
 
 // Sets a row in the store and among the rows, where there is one and it changes them.
-fn keep<S: Keeps>(rows: &mut Rows, store: &mut S, row: Option<Row>) -> Result<(), ServeFault>
+fn keep<S: Keeps>(leases: &mut Leases, store: &mut S, row: Option<Row>) -> Result<(), ServeFault>
     requires works { is_some (S.fault store.old) ≡ false }
-    requires set { IfSome row (IsSettable rows.old.rows) }
-    ensures rows { OnOk result (rows.new.rows ≡ after rows.old.rows row) }
+    requires set { IfSome row (IsSettable leases.old.table.rows) }
+    ensures config { leases.new.config ≡ leases.old.config }
+    ensures rows { OnOk result (leases.new.table.rows ≡ after leases.old.table.rows row) }
     ensures store { OnOk result
-        (StillHolds S.Keeps store.old store.new rows.old.rows rows.new.rows) }
+        (StillHolds S.Keeps store.old store.new leases.old.table.rows leases.new.table.rows) }
     ensures failed { IfErr result
-        (IsUnkept S.Keeps rows.old.rows rows.new.rows store.old store.new
-        (after rows.old.rows row)) }
+        (IsUnkept S.Keeps leases.old.table.rows leases.new.table.rows store.old store.new
+        (after leases.old.table.rows row)) }
 {
     match row {
-        Some(row) => keep_row(rows, store, row),
+        Some(row) => keep_row(leases, store, row),
         None => Ok(()),
     }
 }
 
 // Sets a row in the store and among the rows, where it changes them.
-fn keep_row<S: Keeps>(rows: &mut Rows, store: &mut S, row: Row) -> Result<(), ServeFault>
+fn keep_row<S: Keeps>(leases: &mut Leases, store: &mut S, row: Row) -> Result<(), ServeFault>
     requires works { is_some (S.fault store.old) ≡ false }
-    requires set { IsSettable rows.old.rows row }
-    ensures rows { OnOk result (rows.new.rows ≡ with_row row rows.old.rows) }
+    requires set { IsSettable leases.old.table.rows row }
+    ensures config { leases.new.config ≡ leases.old.config }
+    ensures rows { OnOk result (leases.new.table.rows ≡ with_row row leases.old.table.rows) }
     ensures store { OnOk result
-        (StillHolds S.Keeps store.old store.new rows.old.rows rows.new.rows) }
+        (StillHolds S.Keeps store.old store.new leases.old.table.rows leases.new.table.rows) }
     ensures failed { IfErr result
-        (IsUnkept S.Keeps rows.old.rows rows.new.rows store.old store.new
-        (with_row row rows.old.rows)) }
+        (IsUnkept S.Keeps leases.old.table.rows leases.new.table.rows store.old store.new
+        (with_row row leases.old.table.rows)) }
 {
-    if rows.has(&row) {
+    if leases.rows().has(&row) {
         return Ok(());
     }
-    rows.reserve(&row)?;
+    leases.reserve(&row)?;
     match store.put(&row) {
         Ok(()) => {
-            rows.set(row);
+            leases.set(row);
             Ok(())
         }
         Err(fault) => Err(ServeFault::Store(fault)),

@@ -1,13 +1,18 @@
-ghost use Rattle.std.specs.Prelude.{◌≡◌, ◌<◌, ◌^◌, IfErr, IfOk};
+ghost use Rattle.std.specs.Prelude.{◌≡◌, ◌<◌, ◌^◌, IfErr, IfOk, IfSome, OnOk};
+ghost use Rattle.kd_lease.specs.Change.{after};
 ghost use Rattle.kd_replay.specs.Text.{IsSmall};
 ghost use Rattle.kd_server.specs.Batch.{LeavesOut};
+ghost use Rattle.kd_rows.specs.Table.{with_row};
+ghost use Rattle.kd_server.specs.Staging.{IsUnset};
 ghost use Rattle.kd_server.specs.Trial.{TriesStep, WouldAnswer, at_rows, trying};
+ghost use Rattle.kd_server.specs.Unkept.{IsSettable};
 
-use crate::batching::{Rules, handle_at};
+use crate::batching::Rules;
 use crate::leases::copy_of;
 use crate::server::MOMENTS;
 use crate::turning::{Turn, turn_at};
 use kd_event::Handled;
+use kd_lease::Ground;
 use kd_replay::ServeFault;
 use kd_rows::{Row, Rows};
 use std::alloc::{AllocError, Global};
@@ -21,6 +26,8 @@ pub struct Trial<'a> {
 }
 
 impl<'a> Model for Trial<'a> {
+    ghost use Rattle.kd_rows.specs.Table.{with_row};
+    ghost use Rattle.kd_server.specs.Staging.{IsUnset};
     ghost use Rattle.kd_server.specs.Trial.{Trying, trying};
 
     ghost Value = { Trying };
@@ -69,8 +76,18 @@ impl<'a> Trial<'a> {
             (record { moment = moment; bytes = bytes.now }) fault self.new.rows) }
         ensures same { self.new ≡ at_rows self.old self.new.rows }
     {
-        let mut set = Vec::new(self.rules.alloc);
-        handle_at(self.rules, &mut self.rows, &mut set, moment, bytes)
+        if moment >= MOMENTS {
+            return Err(ServeFault::MomentTooLarge);
+        }
+        let Rules {
+            alloc,
+            ports,
+            config,
+        } = self.rules;
+        let now = moment.max(self.rows.latest());
+        let over = Ground::of(config, &self.rows);
+        let turn = turn_at(alloc, ports, over, now, bytes)?;
+        taken(&mut self.rows, now, turn)
     }
 }
 
@@ -93,10 +110,58 @@ impl Rules<'_> {
             return Err(ServeFault::MomentTooLarge);
         }
         let now = moment.max(rows.latest());
-        let turn = turn_at(self.alloc, self.ports, self.config, rows, now, bytes)?;
+        let turn = turn_at(
+            self.alloc,
+            self.ports,
+            Ground::of(self.config, rows),
+            now,
+            bytes,
+        )?;
         let Turn { response, .. } = turn;
         Ok(Handled { now, response })
     }
+}
+
+// Sets the row of a datagram, and hands out what is sent for it.
+fn taken(rows: &mut Rows, now: u64, turn: Turn) -> Result<Handled, ServeFault>
+    requires { IfSome turn.row (IsSettable rows.old.rows) }
+    ensures handled { IfOk result
+        (λ handled. handled ≡ record { now = now; response = turn.response }) }
+    ensures rows { OnOk result (rows.new.rows ≡ after rows.old.rows turn.row) }
+    ensures unset { IfErr result
+        (IsUnset rows.old.rows rows.new.rows (after rows.old.rows turn.row)) }
+{
+    let Turn { row, response } = turn;
+    put(rows, row)?;
+    Ok(Handled { now, response })
+}
+
+// Sets a row, where there is one.
+fn put(rows: &mut Rows, row: Option<Row>) -> Result<(), ServeFault>
+    requires { IfSome row (IsSettable rows.old.rows) }
+    ensures rows { OnOk result (rows.new.rows ≡ after rows.old.rows row) }
+    ensures unset { IfErr result
+        (IsUnset rows.old.rows rows.new.rows (after rows.old.rows row)) }
+{
+    match row {
+        Some(row) => put_row(rows, row),
+        None => Ok(()),
+    }
+}
+
+// Sets a row, where it changes the rows.
+fn put_row(rows: &mut Rows, row: Row) -> Result<(), ServeFault>
+    requires { IsSettable rows.old.rows row }
+    ensures rows { OnOk result (rows.new.rows ≡ with_row row rows.old.rows) }
+    ensures unset { IfErr result
+        (IsUnset rows.old.rows rows.new.rows (with_row row rows.old.rows)) }
+{
+    if rows.has(&row) {
+        return Ok(());
+    }
+    rows.reserve(&row)?;
+    rows.set(row);
+    Ok(())
 }
 
 // A copy of rows.

@@ -7,12 +7,11 @@ ghost use Rattle.kd_server.specs.Keeping.{HasHeader};
 ghost use Rattle.kd_server.specs.Step.{Responds};
 ghost use Rattle.kd_server.specs.Turn.{IsSent, IsTurn, Turns};
 
-use kd_config::Config;
 use kd_event::{Ports, Reason, Response};
-use kd_lease::{Answer, Decision, Plan, decide, destination};
+use kd_lease::{Answer, Decision, Ground, Plan, decide_on, destination};
 use kd_options::{Message, ReadFault, WriteFault};
 use kd_replay::ServeFault;
-use kd_rows::{Row, Rows};
+use kd_rows::Row;
 use kd_wire::Bytes;
 use std::alloc::{AllocError, Global};
 
@@ -28,20 +27,20 @@ pub(crate) struct Turn {
 pub(crate) fn turn_at(
     alloc: Global,
     ports: Ports,
-    config: &Config,
-    rows: &Rows,
+    over: Ground<'_>,
     moment: u64,
     bytes: &[u8],
 ) -> Result<Turn, AllocError>
     requires { moment < 2 ^ 40 }
     ensures found { IfOk result
-        (λ t. IsTurn config.now ports rows.now.rows moment bytes.now t.row t.response) }
+        (λ t. IsTurn over.entry.config.now ports over.entry.rows.now.rows moment bytes.now
+        t.row t.response) }
     ensures small { IfOk result (λ t. IsSmall t.response) }
     ensures set { IfOk result (λ t. IfSome t.row (IsSetAt moment)) }
     ensures memory { OnErr result (HasHeader bytes.now) }
 {
     match Message::read(alloc, bytes) {
-        Ok(message) => turn_of(alloc, ports, config, rows, moment, &message),
+        Ok(message) => turn_of(alloc, ports, over, moment, &message),
         Err(ReadFault::Memory) => Err(AllocError),
         Err(_) => Ok(Turn {
             row: None,
@@ -54,19 +53,19 @@ pub(crate) fn turn_at(
 fn turn_of(
     alloc: Global,
     ports: Ports,
-    config: &Config,
-    rows: &Rows,
+    over: Ground<'_>,
     moment: u64,
     message: &Message<'_>,
 ) -> Result<Turn, AllocError>
     requires { moment < 2 ^ 40 }
     ensures found { IfOk result
-        (λ t. Turns config.now ports rows.now.rows moment message.now t.row t.response) }
+        (λ t. Turns over.entry.config.now ports over.entry.rows.now.rows moment message.now
+        t.row t.response) }
     ensures small { IfOk result (λ t. IsSmall t.response) }
     ensures set { IfOk result (λ t. IfSome t.row (IsSetAt moment)) }
 {
-    let names = config.classes().held(alloc, message)?;
-    let Decision { row, answer } = decide(alloc, config, rows, message, &names, moment)?;
+    let names = over.config.classes().held(alloc, message)?;
+    let Decision { row, answer } = decide_on(alloc, over, message, &names, moment)?;
     let response = response_to(alloc, ports, message, &answer)?;
     Ok(Turn { row, response })
 }

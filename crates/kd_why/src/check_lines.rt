@@ -13,7 +13,7 @@ use crate::request_lines::put_request;
 use crate::text::Scene;
 use kd_config::Subnet;
 use kd_event::Reason;
-use kd_lease::{Answer, Question, is_held_at, server_of};
+use kd_lease::{Answer, Ground, Question, is_held_at, server_of};
 use kd_options::MessageType;
 use kd_rows::Row;
 use kd_wire::Bytes;
@@ -88,14 +88,13 @@ fn matter_of<'a>(scene: &Scene<'a>, client: &'a Bytes) -> Matter<'a>
 {
     Matter {
         alloc: scene.alloc,
-        question: Question {
-            config: scene.config,
-            rows: scene.rows,
-            names: &scene.explanation.names,
-            message: scene.message,
-            client: client.as_slice(),
-            moment: scene.moment,
-        },
+        question: Question::new(
+            Ground::of(scene.config, scene.rows),
+            &scene.explanation.names,
+            scene.message,
+            client.as_slice(),
+            scene.moment,
+        ),
         subnet: scene.explanation.subnet,
         set: &scene.explanation.decision.row,
         checks: scene.explanation.checks,

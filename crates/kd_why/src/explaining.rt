@@ -6,7 +6,9 @@ ghost use Rattle.kd_why.specs.Explaining.{AreCheckedAt, AreCheckedFor, AreChecke
 use crate::checks::{Checks, checks_of, subject_of};
 use crate::classes::{Trace, trace_classes};
 use kd_config::{Config, Reservation, Subnet};
-use kd_lease::{Decision, Question, Ranks, decide, identity, ranks_of, reservation_of, subnet_of};
+use kd_lease::{
+    Decision, Ground, Question, Ranks, decide, identity, ranks_of, reservation_of, subnet_of,
+};
 use kd_machine::{Held, Outcome};
 use kd_options::Message;
 use kd_rows::Rows;
@@ -100,14 +102,13 @@ fn question_of<'a>(asked: Asked<'a>, names: &'a Held, client: &'a Bytes) -> Ques
     ensures { asking result ≡ asked_for asked.entry.config.now asked.entry.rows.now.rows
         names.now asked.entry.message.now asked.entry.moment client.now }
 {
-    Question {
-        config: asked.config,
-        rows: asked.rows,
+    Question::new(
+        Ground::of(asked.config, asked.rows),
         names,
-        message: asked.message,
-        client: client.as_slice(),
-        moment: asked.moment,
-    }
+        asked.message,
+        client.as_slice(),
+        asked.moment,
+    )
 }
 
 // The first address of each rank for a client in a subnet, if there are both.

@@ -1,4 +1,10 @@
+ghost use Rattle.std.specs.List.{All};
+ghost use Rattle.kd_rows.specs.Row.{IsInRange};
+ghost use Rattle.kd_rows.specs.Table.{Rise};
+
 use crate::mixed;
+use kd_config::Config;
+use kd_lease::Leases;
 use kd_rows::{Row, Rows, State};
 use kd_wire::Bytes;
 use std::alloc::{AllocError, Global};
@@ -6,10 +12,8 @@ use std::alloc::{AllocError, Global};
 // The first address of the pools, 10.1.0.0.
 pub(crate) const POOL: u32 = 0x0a01_0000;
 
-// How many addresses a pool has at most, and fewer than the rows of each.
+// How many addresses a pool has at most.
 pub(crate) const POOL_SIZE: u32 = 65_536;
-
-const SMALL: u32 = 60_000;
 
 // Where the leases begin that are in the subnet of the pools and in no pool, 10.100.0.0, and those
 // in another subnet, 12.0.0.0.
@@ -26,7 +30,7 @@ const FAR: u64 = 2_000_000_000;
 
 // Whose the rows are, and where.
 #[derive(Clone, Copy, PartialEq, Eq)]
-pub(crate) enum Leases {
+pub(crate) enum Layout {
     // Each of a client of its own, in mixed order; each twelfth address of the pools has none.
     Own,
     // The same addresses, all of the client 0.
@@ -64,63 +68,83 @@ pub(crate) fn gap(rows: u32, number: u32) -> u32 {
     }
 }
 
-// The first addresses of the pools for so many rows, and what is behind them: where a server cuts
-// its table.
-fn cuts(alloc: Global, rows: u32) -> Result<Vec<u32>, AllocError> {
-    let mut cuts = Vec::new(alloc);
-    for number in 0..(rows / SMALL).wrapping_add(4) {
-        cuts.push(POOL.wrapping_add(number.wrapping_mul(POOL_SIZE)))?;
+// The leases of a configuration with so many rows, of which those with a greater number are newer.
+pub(crate) fn leases_of(
+    alloc: Global,
+    config: Config,
+    layout: Layout,
+    rows: u32,
+) -> Result<Leases, AllocError> {
+    let list = list_of(alloc, layout, rows)?;
+    let mut leases = over(alloc, config, accepted(alloc, list))?;
+    if layout == Layout::Renewed {
+        renew_first(alloc, &mut leases)?;
     }
-    Ok(cuts)
+    Ok(leases)
 }
 
-// A table of so many rows, of which those with a greater number are newer.
-pub(crate) fn table_of(alloc: Global, leases: Leases, rows: u32) -> Result<Rows, AllocError> {
+// So many rows.
+fn list_of(alloc: Global, layout: Layout, rows: u32) -> Result<Vec<Row>, AllocError> {
     let mut list = Vec::new(alloc);
     for number in 0..rows {
-        list.push(row_of(alloc, leases, number)?)?;
+        list.push(row_of(alloc, layout, number)?)?;
     }
-    if !Rows::accepts(&list) {
-        return Rows::new(Vec::new(alloc));
+    Ok(list)
+}
+
+// These rows where they can be a table, or none.
+fn accepted(alloc: Global, list: Vec<Row>) -> Vec<Row>
+    ensures rise { Rise result.items }
+    ensures ranges { All IsInRange result.items }
+{
+    if Rows::accepts(&list) {
+        list
+    } else {
+        Vec::new(alloc)
     }
-    let cuts = cuts(alloc, rows)?;
-    let mut table = Rows::with_cuts(list, cuts)?;
-    if leases == Leases::Renewed {
-        renew_first(alloc, &mut table)?;
+}
+
+// The leases of a configuration with these rows.
+fn over(alloc: Global, config: Config, list: Vec<Row>) -> Result<Leases, AllocError>
+    requires rise { Rise list.items }
+    requires ranges { All IsInRange list.items }
+{
+    match Leases::new(alloc, config, list) {
+        Ok(leases) => Ok(leases),
+        Err(_) => Err(AllocError),
     }
-    Ok(table)
 }
 
 // The row with a number.
-fn row_of(alloc: Global, leases: Leases, number: u32) -> Result<Row, AllocError> {
-    let client = match leases {
-        Leases::All | Leases::Ended | Leases::Offers | Leases::Beside | Leases::Away => 0,
+fn row_of(alloc: Global, layout: Layout, number: u32) -> Result<Row, AllocError> {
+    let client = match layout {
+        Layout::All | Layout::Ended | Layout::Offers | Layout::Beside | Layout::Away => 0,
         _ => mixed(number),
     };
     Ok(Row {
-        address: place_of(leases, number),
+        address: place_of(layout, number),
         client: Bytes::own(Vec::from_slice(alloc, &identity(client))?),
-        state: match leases {
-            Leases::Offers => State::Offered,
-            Leases::Ended if number > 0 => State::Offered,
+        state: match layout {
+            Layout::Offers => State::Offered,
+            Layout::Ended if number > 0 => State::Offered,
             _ => State::Bound,
         },
         changed: 1000 + u64::from(number / 1000 % 4000),
-        ends: match leases {
-            Leases::Over => ENDED,
-            Leases::Ended if number > 0 => ENDED,
-            Leases::Renewed if number == 0 => ENDED,
+        ends: match layout {
+            Layout::Over => ENDED,
+            Layout::Ended if number > 0 => ENDED,
+            Layout::Renewed if number == 0 => ENDED,
             _ => FAR,
         },
     })
 }
 
 // The address of the row with a number.
-fn place_of(leases: Leases, number: u32) -> u32 {
-    match leases {
-        Leases::Own | Leases::All | Leases::Ended | Leases::Offers => address_of(number),
-        Leases::Beside if number > 0 => BESIDE.wrapping_add(number),
-        Leases::Away if number > 0 => AWAY.wrapping_add(number),
+fn place_of(layout: Layout, number: u32) -> u32 {
+    match layout {
+        Layout::Own | Layout::All | Layout::Ended | Layout::Offers => address_of(number),
+        Layout::Beside if number > 0 => BESIDE.wrapping_add(number),
+        Layout::Away if number > 0 => AWAY.wrapping_add(number),
         _ => POOL.wrapping_add(number),
     }
 }
@@ -132,17 +156,17 @@ fn identity(number: u32) -> [u8; 8] {
 }
 
 // Sets the first row anew.
-fn renew_first(alloc: Global, table: &mut Rows) -> Result<(), AllocError> {
-    let mut row = row_of(alloc, Leases::Full, 0)?;
+fn renew_first(alloc: Global, leases: &mut Leases) -> Result<(), AllocError> {
+    let mut row = row_of(alloc, Layout::Full, 0)?;
     row.changed = MOMENT;
-    set(table, row)
+    set(leases, row)
 }
 
 // Sets a row where the table may take it.
-pub(crate) fn set(table: &mut Rows, row: Row) -> Result<(), AllocError> {
-    if row.is_in_range() && table.latest() <= row.changed {
-        table.reserve(&row)?;
-        table.set(row);
+pub(crate) fn set(leases: &mut Leases, row: Row) -> Result<(), AllocError> {
+    if row.is_in_range() && leases.rows().latest() <= row.changed {
+        leases.reserve(&row)?;
+        leases.set(row);
     }
     Ok(())
 }

@@ -5,6 +5,6 @@ use Rattle.kd_rows.proofs.ended.ended_in.Given as goal
 
 abbrev pub invariant-loop-place : goal.invariant-loop-place
 invariant-loop-place l = record {
-  above : (i : ℕ) (d : Row) → l.place ≤ i → i < length l.rows.rows → l.first ≤ (get_or l.rows.rows i d).address;
-  none : NoneEnded l.rows.rows l.first l.moment l.place;
+  above : (i : ℕ) (d : Row) → l.place ≤ i → i < length l.all.rows → l.first ≤ (get_or l.all.rows i d).address;
+  none : NoneEnded l.rows-inside.withheld.now l.all.rows l.first l.moment l.place;
 }

@@ -10,13 +10,14 @@ use Rattle.kd_server.proofs.batching.handle_each.Given as goal
 
 abbrev pub invariant-loop-event : goal.invariant-loop-event
 invariant-loop-event l =
-    let steps = StepsTo l.rules.config.now l.rules.ports in
+    let steps = StepsTo l.fn.leases.config l.ports in
     record {
+      config : l.leases.config ≡ l.fn.leases.config;
       count : vec_len l.list ≡ l.event-index;
       room : length l.events ≤ vec_capacity l.list;
-      history : History steps l.fn.rows.rows (take l.event-index l.events) l.list.items l.rows.rows;
+      history : History steps l.fn.leases.table.rows (take l.event-index l.events) l.list.items l.leases.table.rows;
       small : All (λ handled. IsSmall handled.response) l.list.items;
-      sets : with_rows l.set.items l.fn.rows.rows ≡ l.rows.rows;
+      sets : with_rows l.set.items l.fn.leases.table.rows ≡ l.leases.table.rows;
       ranges : All IsInRange l.set.items;
-      moved : Moved steps l.events l.fn.rows.rows l.rows.rows l.set.items;
+      moved : Moved steps l.events l.fn.leases.table.rows l.leases.table.rows l.set.items;
     }

@@ -1,10 +1,11 @@
-use Rattle.std.proofs.Common.{ap, refl, sym, true≢false, ◌∙◌}
+use Rattle.std.proofs.Common.{◌≡◌, List, ap, refl, subst, sym, true≢false, ◌∙◌}
 use Rattle.kd_rows.specs.Table.{with_row}
+use Rattle.kd_rows.specs.declared.row.Row.{Row}
 use Rattle.kd_server.proofs.Staged.{staged}
 use Rattle.kd_server.proofs.batching.stage_row.Goals as goal
 
 pub returns-clause-set : goal.returns-clause-set
 returns-clause-set c =
-    staged c.args.rows.now.rows c.args.set.now.items c.set.new.self.rows c.list_row.new.set.items c.args.row c.args.row
+    staged c.args.leases.now.table.rows c.args.set.now.items c.set.new.self.table.rows c.list_row.new.set.items c.args.row c.args.row
     refl (c.set.ensures.rows ∙ ap (with_row c.args.row) c.reserve.ensures.rows) c.in_ok-list_row.ensures.listed c.requires.in_range
-    (λ same. true≢false (sym (c.has.ensures.1 same) ∙ c.if-has.false))
+    (λ same. true≢false (sym (c.has.ensures.1 (subst (λ (l : List Row). with_row c.args.row l ≡ l) (sym c.rows.ensures.rows) same)) ∙ c.if-has.false))

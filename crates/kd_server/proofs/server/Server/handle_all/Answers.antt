@@ -7,6 +7,6 @@ use Rattle.kd_server.proofs.server.Server.handle_all.Goals as goal
 
 pub returns-in_default-clause-batch : goal.returns-in_default-clause-batch
 returns-in_default-clause-batch g c =
-    let old : Keeping _ = record { ports = c.self.inside.ports; config = c.self.inside.config; rows = c.self.inside.rows.rows; store = c.self.inside.store } in
+    let old : Keeping _ = record { ports = c.self.inside.ports; config = c.self.inside.leases.config; rows = c.self.inside.leases.table.rows; store = c.self.inside.store } in
     subst (λ (k : Keeping _). IsCommitted g.S.Keeps k c.args.events.now c.new-in_default.result.items (Some faults.Memory) k) c.self.view_is
     (not_begun_is g.S.Keeps old c.args.events.now c.new-in_default.result.items (sym c.failed.ensures ∙ c.if-failed.false) c.new-in_default.ensures.items)

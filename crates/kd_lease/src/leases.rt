@@ -1,0 +1,111 @@
+ghost use Rattle.std.specs.Prelude.{◌≡◌, ◌-◌, ◌≤◌, IfErr, IfOk, OnErr, OnOk, if◌then◌else◌, is_some, min, true, false};
+ghost use Rattle.std.specs.List.{All};
+ghost use Rattle.kd_rows.specs.Row.{IsInRange};
+ghost use Rattle.kd_rows.specs.Table.{Rise, latest_of, least_of, room_for_row, row_at, with_row};
+
+use crate::grounds::Ground;
+use crate::withholding::withheld_of;
+use kd_config::Config;
+use kd_rows::{Row, Rows, Withheld};
+use std::alloc::{AllocError, Global};
+use std::marker::Model;
+
+/// A configuration and its table of leases, which knows the addresses that the configuration
+/// reserves: a search for an address passes over them.
+#[derive(Drop)]
+pub struct Leases {
+    config: Config,
+    table: Withheld,
+}
+
+impl Model for Leases {
+    ghost use Rattle.kd_lease.specs.Leases.{Leased};
+    ghost use Rattle.kd_lease.specs.Withholding.{WithholdsReserved};
+
+    ghost Value = { Leased };
+
+    ghost view = { λ l. record { config = l.config; table = l.table.table } };
+
+    ghost invariant = { λ l. WithholdsReserved l.config l.table.withheld };
+}
+
+impl Leases {
+    /// The leases of a configuration, with rows that rise in address, one an address.
+    ///
+    /// # Errors
+    ///
+    /// Out of memory; the configuration is given back.
+    pub fn new(alloc: Global, config: Config, rows: Vec<Row>) -> Result<Leases, Config>
+        requires rise { Rise rows.items }
+        requires ranges { All IsInRange rows.items }
+        ensures config { IfOk result (λ leases. leases.config ≡ config) }
+        ensures rows { IfOk result (λ leases. leases.table.rows ≡ rows.items) }
+        ensures least { IfOk result (λ leases. leases.table.least ≡ least_of rows.items) }
+        ensures memory { IfErr result (λ back. back ≡ config) }
+    {
+        match withheld_of(alloc, &config, rows) {
+            Ok(table) => Ok(Leases { config, table }),
+            Err(_) => Err(config),
+        }
+    }
+
+    /// The configuration.
+    pub fn config(&self) -> &Config
+        ensures { result.now ≡ self.now.config }
+    {
+        &self.config
+    }
+
+    /// The table of leases.
+    pub fn rows(&self) -> &Rows
+        ensures rows { result.now.rows ≡ self.now.table.rows }
+        ensures least { result.now.least ≡ self.now.table.least }
+    {
+        self.table.rows()
+    }
+
+    /// What the rules of leases are asked over: this configuration and this table.
+    pub fn ground(&self) -> Ground<'_>
+        ensures config { result.config.now ≡ self.now.config }
+        ensures rows { result.rows.now.rows ≡ self.now.table.rows }
+    {
+        Ground::knowing(&self.config, &self.table)
+    }
+
+    /// Makes room, so that a row can be set without memory.
+    ///
+    /// # Errors
+    ///
+    /// There was no room, and there is no memory for it; the rows stay as they are.
+    pub fn reserve(&mut self, row: &Row) -> Result<(), AllocError>
+        ensures config { self.new.config ≡ self.old.config }
+        ensures rows { self.new.table.rows ≡ self.old.table.rows }
+        ensures least { self.new.table.least ≡ self.old.table.least }
+        ensures spare { OnOk result (room_for_row self.new.table row.now ≡ true) }
+        ensures needed { OnErr result (room_for_row self.old.table row.now ≡ false) }
+    {
+        self.table.reserve(row)
+    }
+
+    /// Sets a row: in place of the row of its address, or where that address belongs. No memory is
+    /// taken.
+    pub fn set(&mut self, row: Row)
+        requires spare { room_for_row self.old.table row ≡ true }
+        requires changed { latest_of self.old.table.rows ≤ row.changed }
+        requires range { IsInRange row }
+        ensures config { self.new.config ≡ self.old.config }
+        ensures rows { self.new.table.rows ≡ with_row row self.old.table.rows }
+        ensures least { self.new.table.least ≡ min self.old.table.least row.ends }
+        ensures room { self.new.table.room ≡ self.old.table.room
+            - (if is_some (row_at self.old.table.rows row.address) then 0 else 1) }
+    {
+        self.table.set(row);
+    }
+
+    /// Gives the configuration back; the table goes.
+    pub fn into_config(self) -> Config
+        ensures { result ≡ self.config }
+    {
+        self.config
+    }
+}

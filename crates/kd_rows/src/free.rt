@@ -1,0 +1,53 @@
+ghost use Rattle.std.specs.Prelude.{◌≡◌, ◌≤◌};
+ghost use Rattle.kd_rows.specs.Index.{IsPlace};
+ghost use Rattle.kd_rows.specs.Open.{AreApart, IsTakenEnd, address_rows};
+ghost use Rattle.kd_rows.specs.Table.{Rise};
+ghost use Rattle.kd_rows.specs.Withheld.{IsFirstFree};
+
+use crate::addresses::{first_outside, place_in};
+use crate::sorted::Sorted;
+
+// The least address from `first` to `last` that has no row and is not withheld. Of the addresses
+// from `first` to a row each is taken where rows and withheld addresses are as many as they.
+pub(crate) fn free_in(rows: &Sorted, bare: &[u32], first: u32, last: u32) -> Option<u32>
+    requires rise { Rise rows.now.rows }
+    requires bare { Rise (address_rows bare.now) }
+    requires apart { AreApart rows.now.rows bare.now }
+    requires order { first ≤ last }
+    ensures { IsFirstFree rows.now.rows bare.now first last result }
+{
+    let start = rows.place_of(first);
+    let end = taken_end(rows, bare, first, start);
+    if end == start {
+        return first_outside(bare, first, last);
+    }
+    let before = rows.row(end - 1).address;
+    if last <= before {
+        return None;
+    }
+    first_outside(bare, before + 1, last)
+}
+
+// The place behind the last row to which each address from `first` on is taken.
+fn taken_end(rows: &Sorted, bare: &[u32], first: u32, start: usize) -> usize
+    requires rise { Rise rows.now.rows }
+    requires bare { Rise (address_rows bare.now) }
+    requires apart { AreApart rows.now.rows bare.now }
+    requires start { IsPlace rows.now.rows first start }
+    ensures { IsTakenEnd rows.now.rows bare.now first start result }
+{
+    let skip = place_in(bare, first);
+    let mut low = start;
+    let mut high = rows.len();
+    'halves: while low < high {
+        let middle = low + (high - low) / 2;
+        let address = rows.row(middle).address;
+        let taken = place_in(bare, address) - skip;
+        if (address - first) as usize - (middle - start) == taken {
+            low = middle + 1;
+        } else {
+            high = middle;
+        }
+    }
+    low
+}
