@@ -1,6 +1,8 @@
 //! Runs console cases: for each file that is named, the sessions in it, each command within this
 //! program by the same public calls that `kdhcp` makes. It prints how many cases came out as
-//! written, and each other one with both texts.
+//! written, and each other one with both texts. The words after each `then` are those of a command
+//! of `kdhcp`, which is carried out over the files of this folder and the standard streams, as the
+//! `main` of `kdhcp` does it; after it the exit status is printed.
 #![tactic(auto)]
 
 mod case;
@@ -14,22 +16,36 @@ mod session;
 mod stores;
 mod words;
 
+use kd_host::carry_out;
 use session::Session;
+use sqlite::Unknown;
 use std::{fs, io};
 
 fn main(rt: HostRuntime) -> io::Result<()> {
-    let paths: Vec<String> = std::env::args(&rt)?.skip(1).collect(rt.alloc())?;
-    for path in &paths {
-        let text = fs::read_to_string(&rt, path.as_str())?;
-        let mut session = Session::new(rt.alloc());
-        for line in text.lines() {
-            session.take(&rt, line)?;
+    let words: Vec<String> = std::env::args(&rt)?.skip(1).collect(rt.alloc())?;
+    let mut parts = words.split(|word| word.as_str() == "then");
+    if let Some(paths) = parts.next() {
+        for path in paths {
+            run_cases(&rt, path.as_str())?;
         }
-        session.finish(&rt)?;
-        println!(rt;
-            "{path}: {} as written, {} not",
-            session.well, session.badly
-        )?;
+    }
+    for command in parts {
+        let status = carry_out(&rt, "kdhcp\n", Unknown, command);
+        println!(rt; "status {status}")?;
     }
     Ok(())
+}
+
+// Runs the cases of a file.
+fn run_cases(rt: &HostRuntime, path: &str) -> io::Result<()> {
+    let text = fs::read_to_string(rt, path)?;
+    let mut session = Session::new(rt.alloc());
+    for line in text.lines() {
+        session.take(rt, line)?;
+    }
+    session.finish(rt)?;
+    println!(rt;
+        "{path}: {} as written, {} not",
+        session.well, session.badly
+    )
 }

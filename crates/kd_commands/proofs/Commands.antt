@@ -1,19 +1,10 @@
--- What a command line has once a subcommand is added to it.
+-- What a command has once an argument is added to it.
 use Rattle.std.proofs.Common.{◌≡◌, ◌∙◌, ap₂, refl, false, Result, Ok, Err}
 use Rattle.std.specs.Result.{IfOk}
-use Rattle.clap.specs.Words.{AddsArg, AddsSubcommand, App, Rule, app_of, rule_of, with_rule, with_subcommand}
+use Rattle.clap.specs.Words.{AddsArg, App, Rule, app_of, rule_of, with_rule}
 use Rattle.clap.specs.declared.builder.arg.Arg.{Arg}
 use Rattle.clap.specs.declared.builder.command.Command.{Command}
 use Rattle.clap.specs.declared.builder.command.Command.TheViews.{out-Command}
-
-pub added : (old sub new : Command) (a b : App) → AddsSubcommand old sub new → app_of old ≡ a → app_of sub ≡ b → (out-Command sub).has_globals ≡ false
-    → app_of new ≡ with_subcommand a b.top
-added old sub new a b adds is_a is_b local = adds.shape local ∙ ap₂ (λ x y. with_subcommand x y.top) is_a is_b
-
-pub added_last : {E : Type 0} (old sub : Command) (r : Result Command E) (a b : App) → IfOk r (AddsSubcommand old sub) → app_of old ≡ a → app_of sub ≡ b
-    → (out-Command sub).has_globals ≡ false → IfOk r (λ new. app_of new ≡ with_subcommand a b.top)
-added_last old sub (Ok new) a b adds is_a is_b local = added old sub new a b adds is_a is_b local
-added_last old sub (Err error) a b adds is_a is_b local = tt
 
 -- a command has this shape, and no argument of it is global
 pub record Has (c : Command) (a : App) : Type 0 where

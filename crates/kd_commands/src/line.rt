@@ -1,5 +1,5 @@
 ghost use Rattle.std.specs.Prelude.{◌≡◌, IfOk, Some, codes, false};
-ghost use Rattle.clap.specs.Words.{app_of, rule_of};
+ghost use Rattle.clap.specs.Words.{App, app_of, rule_of, with_subcommand};
 ghost use Rattle.clap.specs.declared.builder.command.Command.TheViews.{out-Command};
 ghost use Rattle.kd_commands.specs.Order.{command_line, compile_line, eval_line, events_line, expr_line, files_line};
 ghost use Rattle.kd_commands.specs.Order.{check_line, import_line, leases_line, listing_line, pools_line};
@@ -13,27 +13,38 @@ use std::alloc::{AllocError, Global};
 pub(crate) fn kdhcp<'a>(alloc: Global) -> Result<Command<'a>, AllocError>
     ensures { IfOk result (λ c. app_of c ≡ command_line) }
 {
-    tools(alloc)?
-        .subcommand(eval(alloc)?)?
-        .subcommand(replay(alloc)?)?
-        .subcommand(leases(alloc)?)?
-        .subcommand(pools(alloc)?)?
-        .subcommand(why(alloc)?)?
-        .subcommand(import(alloc)?)?
-        .subcommand(events(alloc)?)?
-        .subcommand(check(alloc)?)?
-        .subcommand(serve(alloc)?)
+    let to_eval = added(tools(alloc), eval(alloc));
+    let to_replay = added(to_eval, replay(alloc));
+    let to_leases = added(to_replay, leases(alloc));
+    let to_pools = added(to_leases, pools(alloc));
+    let to_why = added(to_pools, why(alloc));
+    let to_import = added(to_why, import(alloc));
+    let to_events = added(to_import, events(alloc));
+    let to_check = added(to_events, check(alloc));
+    added(to_check, serve(alloc))
 }
 
 // The command line up to its subcommands of one text.
 fn tools<'a>(alloc: Global) -> Result<Command<'a>, AllocError>
     ensures { IfOk result (λ c. app_of c ≡ tools_line) }
 {
-    program(alloc)?
-        .subcommand(show(alloc)?)?
-        .subcommand(expr(alloc)?)?
-        .subcommand(compile(alloc)?)?
-        .subcommand(verify(alloc)?)
+    let to_show = added(program(alloc), show(alloc));
+    let to_expr = added(to_show, expr(alloc));
+    let to_compile = added(to_expr, compile(alloc));
+    added(to_compile, verify(alloc))
+}
+
+// A command line with one subcommand more, where there was memory for both.
+fn added<'a>(
+    line: Result<Command<'a>, AllocError>,
+    subcommand: Result<Command<'a>, AllocError>,
+) -> Result<Command<'a>, AllocError>
+    ensures { (top : App) (sub : App) → IfOk line.entry (λ c. app_of c ≡ top)
+        → IfOk subcommand.entry (λ c. app_of c ≡ sub)
+        → IfOk subcommand.entry (λ c. (out-Command c).has_globals ≡ false)
+        → IfOk result (λ c. app_of c ≡ with_subcommand top sub.top) }
+{
+    line?.subcommand(subcommand?)
 }
 
 // The command line before its subcommands.

@@ -1,3 +1,5 @@
+ghost use Rattle.std.specs.Prelude.{◌≡◌, false};
+
 use crate::doubles::{Giving, Keeping};
 use crate::support::server_on;
 use kd_event::Ports;
@@ -19,13 +21,27 @@ fn replayed(
     let (step, source_fails, sink_limit) = ends;
     let mut source = Giving::new(input.as_bytes(), step, source_fails);
     let mut sink = Keeping::new(alloc, step.max(1), sink_limit);
+    match replayed_by(alloc, &mut source, &mut sink) {
+        Ok(result) => Ok((result, sink)),
+        Err(fault) => Err(fault),
+    }
+}
+
+// The same between these ends.
+fn replayed_by(
+    alloc: Global,
+    source: &mut Giving<'_>,
+    sink: &mut Keeping,
+) -> Result<Result<u64, ReplayFault>, AllocError>
+    requires source { source.old.failed ≡ false }
+    requires sink { sink.old.failed ≡ false }
+{
     let ports = Ports {
         server: 67,
         client: 68,
     };
     let mut server = server_on(alloc, ports)?;
-    let result = replay(alloc, &mut source, &mut sink, &mut server);
-    Ok((result, sink))
+    Ok(replay(alloc, source, sink, &mut server))
 }
 
 // How many events were handled, or the number and the text of the fault.

@@ -1,8 +1,8 @@
 // Datagrams that are served as they are received: over a socket, and over links that fail.
-ghost use Rattle.std.specs.Prelude.{◌≡◌, ◌≤◌, IfOk, IfSome, false, length};
+ghost use Rattle.std.specs.Prelude.{◌≡◌, ◌<◌, ◌≤◌, IfOk, IfSome, false, length};
 
 use crate::doubles::Keeping;
-use crate::support::{COOKIE, server_on};
+use crate::support::{COOKIE, server_of, server_on};
 use kd_config::Config;
 use kd_event::{Destination, Event, Ports};
 use kd_io::{Sending, Socket};
@@ -18,6 +18,12 @@ use std::fmt::Write;
 use std::net::{SocketAddr, UdpSocket};
 use std::test::Fail;
 use std::time::Duration;
+
+// Replies go to their senders.
+const MIRRORED: Sending = Sending {
+    mirror: true,
+    broadcast_as: None,
+};
 
 // A server of the built-in configuration.
 fn server(alloc: Global) -> Result<Server<Fused>, AllocError> {
@@ -83,32 +89,45 @@ fn tells_both(alloc: Global, reply: &[u8], written: &[u8]) -> Result<bool, Fail>
     }
 }
 
-#[test]
-fn two_datagrams_are_served_over_a_socket(rt: HostRuntime) -> Result<(), Fail> {
+// What serving two datagrams of a socket writes.
+fn served_two(rt: &HostRuntime, socket: UdpSocket) -> Result<Keeping, Fail> {
     let alloc = rt.alloc();
-    let (socket, address) = bound(&rt)?;
-    let (client, _) = bound(&rt)?;
-    client.send_to(discover(alloc, 1)?.as_slice(), address)?;
-    client.send_to(&[0], address)?;
-    let sending = Sending {
-        mirror: true,
-        broadcast_as: None,
-    };
-    let mut link = Socket::over(&rt, socket, sending);
+    let mut server = server(alloc)?;
+    let mut link = Socket::over(rt, socket, MIRRORED);
     let mut sink = Keeping::new(alloc, 7, usize::MAX);
-    let served = serve(
-        alloc,
-        &mut link,
-        &mut None::<Keeping>,
-        &mut sink,
-        &mut server(alloc)?,
-        limits(1, 2),
-    );
-    assert!(rt; served == Ok(()));
+    match served_by(&mut link, &mut sink, &mut server, alloc, limits(1, 2)) {
+        Ok(()) => Ok(sink),
+        Err(fault) => Err(fault.into()),
+    }
+}
+
+// Whether a client's socket has received a reply from this address, of which these lines are.
+fn is_told(
+    alloc: Global,
+    client: &UdpSocket,
+    address: SocketAddr,
+    written: &[u8],
+) -> Result<bool, Fail> {
     let mut reply = [0; 1_500];
     let (len, sender) = client.recv_from(&mut reply)?;
-    assert!(rt; sender == address);
-    assert!(rt; tells_both(alloc, &reply[..len], sink.as_slice())?);
+    Ok(sender == address && tells_both(alloc, &reply[..len], written)?)
+}
+
+#[test]
+fn two_datagrams_are_served_over_a_socket(rt: HostRuntime) -> Result<(), Fail> {
+    let (socket, address) = bound(&rt)?;
+    let (client, _) = bound(&rt)?;
+    send(rt.alloc(), &client, address)?;
+    let sink = served_two(&rt, socket)?;
+    assert!(rt; is_told(rt.alloc(), &client, address, sink.as_slice())?);
+    Ok(())
+}
+
+// Sends a DISCOVER and a datagram that is no message.
+fn send(alloc: Global, client: &UdpSocket, address: SocketAddr) -> Result<(), Fail> {
+    let bytes = discover(alloc, 1)?;
+    client.send_to(bytes.as_slice(), address)?;
+    client.send_to(&[0], address)?;
     Ok(())
 }
 
@@ -202,6 +221,21 @@ impl Link for Wired {
     }
 }
 
+// How serving so many datagrams in batches of at most so many ends, without a record.
+fn served_by<L: Link>(
+    link: &mut L,
+    sink: &mut Keeping,
+    server: &mut Server<Fused>,
+    alloc: Global,
+    limits: Limits,
+) -> Result<(), LoopFault>
+    requires link { L.has_failed link.old ≡ false }
+    requires sink { sink.old.failed ≡ false }
+    requires some { 0 < limits.most }
+{
+    serve(alloc, link, &mut None::<Keeping>, sink, server, limits)
+}
+
 // How serving three datagrams ends where two come, with what was written up to so many bytes, and
 // the last reply.
 fn served(
@@ -209,16 +243,10 @@ fn served(
     loses: bool,
     until: usize,
 ) -> Result<(Result<(), LoopFault>, Keeping, Vec<u8>), AllocError> {
+    let mut server = server(alloc)?;
     let mut link = Wired::new(alloc, 2, loses)?;
     let mut sink = Keeping::new(alloc, usize::MAX, until);
-    let result = serve(
-        alloc,
-        &mut link,
-        &mut None::<Keeping>,
-        &mut sink,
-        &mut server(alloc)?,
-        limits(2, 3),
-    );
+    let result = served_by(&mut link, &mut sink, &mut server, alloc, limits(2, 3));
     let Wired { reply, .. } = link;
     Ok((result, sink, reply))
 }
@@ -265,11 +293,8 @@ fn wide_server(alloc: Global, calls: u64) -> Result<Server<Fused>, Fail> {
         server: 67,
         client: 68,
     };
-    let store = Fused::new(alloc, calls)?;
-    match Server::open(alloc, Config::read(alloc, WIDE, &[])?, store, ports) {
-        Ok(server) => Ok(server),
-        Err(_) => Err("no server is opened".into()),
-    }
+    let config = Config::read(alloc, WIDE, &[])?;
+    Ok(server_of(alloc, config, ports, calls)?)
 }
 
 // A socket at which the DISCOVERs of so many clients wait.
@@ -298,23 +323,12 @@ fn lines_of(text: &[u8]) -> usize {
 fn served_over(
     rt: &HostRuntime,
     socket: UdpSocket,
-    mut server: Server<Fused>,
+    server: &mut Server<Fused>,
     count: u64,
 ) -> (Result<(), LoopFault>, usize) {
-    let sending = Sending {
-        mirror: true,
-        broadcast_as: None,
-    };
-    let mut link = Socket::over(rt, socket, sending);
+    let mut link = Socket::over(rt, socket, MIRRORED);
     let mut sink = Keeping::new(rt.alloc(), usize::MAX, usize::MAX);
-    let served = serve(
-        rt.alloc(),
-        &mut link,
-        &mut None::<Keeping>,
-        &mut sink,
-        &mut server,
-        limits(32, count),
-    );
+    let served = served_by(&mut link, &mut sink, server, rt.alloc(), limits(32, count));
     (served, lines_of(sink.as_slice()))
 }
 
@@ -324,9 +338,9 @@ fn waited(
     clients: u8,
     calls: u64,
 ) -> Result<(Result<(), LoopFault>, usize), Fail> {
+    let mut server = wide_server(rt.alloc(), calls)?;
     let socket = crowded(rt, clients)?;
-    let server = wide_server(rt.alloc(), calls)?;
-    Ok(served_over(rt, socket, server, u64::from(clients)))
+    Ok(served_over(rt, socket, &mut server, u64::from(clients)))
 }
 
 // How many clients wait, how many commits there are, and how many lines where the last commit fails.
@@ -391,21 +405,32 @@ fn told(alloc: Global, log: &[Happening]) -> Result<String, AllocError> {
 }
 
 // Three events: two DISCOVERs, and between them a datagram that reads as no message.
-fn input(alloc: Global) -> Result<[Event; 3], AllocError> {
-    Ok([
-        discovered(alloc, 100, 1)?,
-        Event {
-            moment: 110,
-            bytes: Bytes::own(Vec::from_slice(alloc, &[0x0a])?),
-        },
-        discovered(alloc, 300, 2)?,
-    ])
+fn input(alloc: Global) -> Result<Vec<Event>, AllocError> {
+    let mut events = Vec::with_capacity(alloc, 3)?;
+    events.push(discovered(alloc, 100, 1)?)?;
+    events.push(unreadable(alloc)?)?;
+    events.push(discovered(alloc, 300, 2)?)?;
+    Ok(events)
+}
+
+// A datagram of one byte at the moment 110.
+fn unreadable(alloc: Global) -> Result<Event, AllocError> {
+    let bytes = Vec::from_slice(alloc, &[0x0a])?;
+    Ok(Event {
+        moment: 110,
+        bytes: Bytes::own(bytes),
+    })
 }
 
 // What serving them leaves, where one waits behind each that is waited for.
 fn served_input(alloc: Global) -> Result<ServedBytes, AllocError> {
+    let events = input(alloc)?;
+    served_events(alloc, &events)
+}
+
+fn served_events(alloc: Global, events: &[Event]) -> Result<ServedBytes, AllocError> {
     let mut server = server(alloc)?;
-    match serve_bytes(alloc, &input(alloc)?, 1, &mut server, 32) {
+    match serve_bytes(alloc, events, 1, &mut server, 32) {
         Some(served) => Ok(served),
         None => Err(AllocError),
     }
@@ -433,18 +458,20 @@ fn what_happens_is_told_in_its_order(rt: HostRuntime) -> Result<(), Fail> {
     Ok(())
 }
 
+// Whether a record of three events replays to these lines.
+fn replays_to(alloc: Global, journal: &[u8], wanted: &[u8]) -> Result<bool, AllocError> {
+    let mut server = server(alloc)?;
+    let (lines, done) = replay_bytes(alloc, journal, &mut server);
+    Ok(done == Ok(3) && lines.as_slice() == wanted)
+}
+
 // The record replays to the lines that were written.
 #[test]
 fn what_is_recorded_replays_to_what_was_written(rt: HostRuntime) -> Result<(), Fail> {
     let served = served_input(rt.alloc())?;
-    let mut server = server(rt.alloc())?;
-    let (lines, done) = replay_bytes(rt.alloc(), served.journal.as_slice(), &mut server);
-    assert!(rt; done == Ok(3) && lines.as_slice() == served.lines.as_slice());
-    assert!(rt;
-        lines
-            .as_slice()
-            .starts_with(b"100 reply hardware 192.0.2.10:68 02")
-    );
+    let lines = served.lines.as_slice();
+    assert!(rt; lines.starts_with(b"100 reply hardware 192.0.2.10:68 02"));
+    assert!(rt; replays_to(rt.alloc(), served.journal.as_slice(), lines)?);
     Ok(())
 }
 
@@ -468,8 +495,7 @@ fn ended(
         max_ahead: Some(50),
     };
     let mut sink = Keeping::new(alloc, usize::MAX, usize::MAX);
-    let none = &mut None::<Keeping>;
-    Ok(serve(alloc, &mut link, none, &mut sink, server, limits))
+    Ok(served_by(&mut link, &mut sink, server, alloc, limits))
 }
 
 // The moment at the start, the seconds by which the clock jumps, those that the steady clock counts,
@@ -485,20 +511,27 @@ const JUMPS: [(u64, u64, u64, bool); 8] = [
     (0, 51, 0, true),
 ];
 
+// Whether serving ends because the clock is ahead, or well, or for want of memory.
+fn is_end(end: &Result<(), LoopFault>, is_ahead: bool) -> bool {
+    match end {
+        Ok(()) => !is_ahead,
+        Err(LoopFault::Ahead) => is_ahead,
+        Err(fault) => *fault == LoopFault::Memory,
+    }
+}
+
+// Whether serving over no leases ends so.
+fn ends_so(alloc: Global, row: (u64, u64, u64, bool)) -> Result<bool, AllocError> {
+    let (moment, jump, passes, is_ahead) = row;
+    let mut server = server(alloc)?;
+    let end = ended(alloc, &mut server, moment, jump, passes)?;
+    Ok(is_end(&end, is_ahead))
+}
+
 #[test]
 fn serving_ends_where_the_clock_jumps_ahead(rt: HostRuntime) -> Result<(), Fail> {
-    let alloc = rt.alloc();
-    for (moment, jump, passes, is_ahead) in JUMPS {
-        let wanted = if is_ahead {
-            Err(LoopFault::Ahead)
-        } else {
-            Ok(())
-        };
-        let end = ended(alloc, &mut server(alloc)?, moment, jump, passes)?;
-        assert!(rt;
-            end == wanted || end == Err(LoopFault::Memory),
-            "{moment} {jump} {passes}"
-        );
+    for row in JUMPS {
+        assert!(rt; ends_so(rt.alloc(), row)?, "{} {} {}", row.0, row.1, row.2);
     }
     Ok(())
 }
@@ -514,20 +547,25 @@ const SETS_BACK: [(u64, u64, u64, bool); 6] = [
     (960, 50, 0, false),
 ];
 
+// Whether serving over that offer ends so.
+fn ends_so_later(alloc: Global, row: (u64, u64, u64, bool)) -> Result<bool, AllocError> {
+    let (moment, jump, passes, is_ahead) = row;
+    let mut server = server(alloc)?;
+    let first = ended(alloc, &mut server, 1_000, 0, 0)?;
+    let end = ended(alloc, &mut server, moment, jump, passes)?;
+    Ok(first == Err(LoopFault::Memory) || is_end(&end, is_ahead))
+}
+
 #[test]
 fn the_clock_is_measured_at_the_latest_change(rt: HostRuntime) -> Result<(), Fail> {
-    let alloc = rt.alloc();
-    for (moment, jump, passes, is_ahead) in SETS_BACK {
-        let wanted = if is_ahead {
-            Err(LoopFault::Ahead)
-        } else {
-            Ok(())
-        };
-        let mut server = server(alloc)?;
-        let first = ended(alloc, &mut server, 1_000, 0, 0)?;
-        let end = ended(alloc, &mut server, moment, jump, passes)?;
-        let is_full = first == Err(LoopFault::Memory) || end == Err(LoopFault::Memory);
-        assert!(rt; is_full || end == wanted, "{moment} {jump} {passes}");
+    for row in SETS_BACK {
+        assert!(rt;
+            ends_so_later(rt.alloc(), row)?,
+            "{} {} {}",
+            row.0,
+            row.1,
+            row.2
+        );
     }
     Ok(())
 }

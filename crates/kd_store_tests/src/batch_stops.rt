@@ -3,9 +3,9 @@
 // answered, and the day goes on.
 use crate::days::{Lease, RENEWED, Step};
 use crate::device::{
-    Device, LOSSES, Left, Loss, STOPPED, UNOPENED, connected, files, files_left, left_of,
+    Device, LOSSES, Left, Loss, STOPPED, Work, files, files_left, left_of, over_files,
 };
-use crate::serving::{arrived, is_answer, let_go, opened, stands_at};
+use crate::serving::{Refusal, arrived, is_answer, let_go, opened, stands_at};
 use kd_config::Config;
 use kd_event::Handled;
 use kd_keeps::Keeps;
@@ -102,36 +102,52 @@ fn sent<S: Keeps>(alloc: Global, server: &mut Server<S>) -> Result<End, Fail> {
     Ok(End::Whole)
 }
 
-// So it does over a connection: where it ended, and what lies below.
-fn sent_over<S: Alter + Drop>(alloc: Global, conn: Connection<S>) -> Result<(End, S), Fail> {
-    match opened(alloc, Config::read(alloc, RENEWED.0, &[])?, conn) {
-        Ok(mut server) => {
-            let end = sent(alloc, &mut server);
-            let left = let_go(server);
-            Ok((end?, left))
-        }
-        Err((refusal, left)) => {
-            if !refusal.is_stop() {
-                return Err("an opening that stops has another fault".into());
-            }
-            Ok((End::Unopened, left))
+// Does so, and finds where it ended.
+#[derive(Drop)]
+struct Sends;
+
+impl Work for Sends {
+    type Found = End;
+
+    fn done<S: Alter + Drop>(self, alloc: Global, conn: Connection<S>) -> (Result<End, Fail>, S) {
+        match Config::read(alloc, RENEWED.0, &[]) {
+            Ok(config) => sent_with(alloc, config, conn),
+            Err(fault) => (Err(fault.into()), conn.into_store()),
         }
     }
 }
 
-// And over files.
+// The same under a configuration.
+fn sent_with<S: Alter + Drop>(
+    alloc: Global,
+    config: Config,
+    conn: Connection<S>,
+) -> (Result<End, Fail>, S) {
+    match opened(alloc, config, conn) {
+        Ok(mut server) => {
+            let end = sent(alloc, &mut server);
+            (end, let_go(server))
+        }
+        Err((refusal, left)) => (unopened(&refusal), left),
+    }
+}
+
+// The events end at the opening where that stops.
+fn unopened(refusal: &Refusal) -> Result<End, Fail> {
+    if refusal.is_stop() {
+        Ok(End::Unopened)
+    } else {
+        Err("an opening that stops has another fault".into())
+    }
+}
+
+// The same over files.
 fn sent_to(alloc: Global, files: Files<Device>) -> Result<(End, Files<Device>), Fail> {
-    match connected(alloc, files, OPTIONS) {
-        Ok(conn) => {
-            let (end, left) = sent_over(alloc, conn)?;
-            Ok((end, left.close()))
-        }
-        Err((error, files)) => {
-            if error != UNOPENED {
-                return Err("files that stop are not opened for another cause".into());
-            }
-            Ok((End::Unopened, files))
-        }
+    let (found, files) = over_files(alloc, files, OPTIONS, Sends);
+    match found {
+        Some(Ok(end)) => Ok((end, files)),
+        Some(Err(fault)) => Err(fault),
+        None => Ok((End::Unopened, files)),
     }
 }
 
@@ -159,24 +175,44 @@ fn goes_on_at<S: Keeps>(alloc: Global, server: &mut Server<S>, end: End) -> Resu
     Ok(())
 }
 
-// So it does over a connection.
-fn goes_on_over<S: Alter + Drop>(alloc: Global, conn: Connection<S>, end: End) -> Result<(), Fail> {
-    match opened(alloc, Config::read(alloc, RENEWED.0, &[])?, conn) {
+// Finds that it is so.
+#[derive(Drop)]
+struct GoesOn(End);
+
+impl Work for GoesOn {
+    type Found = ();
+
+    fn done<S: Alter + Drop>(self, alloc: Global, conn: Connection<S>) -> (Result<(), Fail>, S) {
+        match Config::read(alloc, RENEWED.0, &[]) {
+            Ok(config) => goes_on_with(alloc, config, conn, self.0),
+            Err(fault) => (Err(fault.into()), conn.into_store()),
+        }
+    }
+}
+
+// The same under a configuration.
+fn goes_on_with<S: Alter + Drop>(
+    alloc: Global,
+    config: Config,
+    conn: Connection<S>,
+    end: End,
+) -> (Result<(), Fail>, S) {
+    match opened(alloc, config, conn) {
         Ok(mut server) => {
             let went_on = goes_on_at(alloc, &mut server, end);
-            let _left = let_go(server);
-            went_on
+            (went_on, let_go(server))
         }
-        Err(_) => Err("what a stop left is not opened".into()),
+        Err((_, left)) => (Err("what a stop left is not opened".into()), left),
     }
 }
 
 // And with what a loss leaves of the files.
 fn goes_on(alloc: Global, left: &Left, loss: Loss, end: End) -> Result<(), Fail> {
     let files = files_left(alloc, left, loss, (u64::MAX, u64::MAX))?;
-    match connected(alloc, files, OPTIONS) {
-        Ok(conn) => goes_on_over(alloc, conn, end),
-        Err(_) => Err("what a stop left is not opened".into()),
+    let (found, _files) = over_files(alloc, files, OPTIONS, GoesOn(end));
+    match found {
+        Some(went_on) => went_on,
+        None => Err("what a stop left is not opened".into()),
     }
 }
 

@@ -1,8 +1,8 @@
 use crate::days::{Day, FIRST, Got, INFORMED, INFORMS, Lease, NEXT, RENEWED, SHARED, Step};
 use crate::device::{
-    Device, LOSSES, Left, Loss, STOPPED, UNOPENED, connected, files, files_left, left_of,
+    Device, LOSSES, Left, Loss, STOPPED, Work, files, files_left, left_of, over_files,
 };
-use crate::serving::{is_answer, let_go, opened, sent, stands_at};
+use crate::serving::{Refusal, is_answer, let_go, opened, sent, stands_at};
 use kd_config::Config;
 use kd_event::{Reason, Response};
 use kd_keeps::Keeps;
@@ -115,27 +115,49 @@ fn sent_from<S: Keeps>(
     Ok(End::Whole)
 }
 
-// The steps of a day from one on, over a connection, up to the first that stops: where that is, and
-// what lies below.
-fn day_of<S: Alter + Drop>(
-    alloc: Global,
+// Sends the steps of a day from one on, up to the first that stops, and finds where that is.
+#[derive(Drop)]
+struct Sends {
     day: Day,
+    from: usize,
+}
+
+impl Work for Sends {
+    type Found = End;
+
+    fn done<S: Alter + Drop>(self, alloc: Global, conn: Connection<S>) -> (Result<End, Fail>, S) {
+        let Sends { day, from } = self;
+        let (config, steps) = day;
+        match Config::read(alloc, config, &[]) {
+            Ok(config) => sent_with(alloc, config, steps, conn, from),
+            Err(fault) => (Err(fault.into()), conn.into_store()),
+        }
+    }
+}
+
+// The same under a configuration.
+fn sent_with<S: Alter + Drop>(
+    alloc: Global,
+    config: Config,
+    steps: &[Step],
     conn: Connection<S>,
     from: usize,
-) -> Result<(End, S), Fail> {
-    let (config, steps) = day;
-    match opened(alloc, Config::read(alloc, config, &[])?, conn) {
+) -> (Result<End, Fail>, S) {
+    match opened(alloc, config, conn) {
         Ok(mut server) => {
             let end = sent_from(alloc, &mut server, steps, from);
-            let left = let_go(server);
-            Ok((end?, left))
+            (end, let_go(server))
         }
-        Err((refusal, left)) => {
-            if !refusal.is_stop() {
-                return Err("an opening that stops has another fault".into());
-            }
-            Ok((End::Unopened, left))
-        }
+        Err((refusal, left)) => (unopened(&refusal), left),
+    }
+}
+
+// A day ends at its opening where that stops.
+fn unopened(refusal: &Refusal) -> Result<End, Fail> {
+    if refusal.is_stop() {
+        Ok(End::Unopened)
+    } else {
+        Err("an opening that stops has another fault".into())
     }
 }
 
@@ -147,17 +169,11 @@ fn day_over(
     from: usize,
     options: Options,
 ) -> Result<(End, Files<Device>), Fail> {
-    match connected(alloc, files, options) {
-        Ok(conn) => {
-            let (end, left) = day_of(alloc, day, conn, from)?;
-            Ok((end, left.close()))
-        }
-        Err((error, files)) => {
-            if error != UNOPENED {
-                return Err("files that stop are not opened for another cause".into());
-            }
-            Ok((End::Unopened, files))
-        }
+    let (found, files) = over_files(alloc, files, options, Sends { day, from });
+    match found {
+        Some(Ok(end)) => Ok((end, files)),
+        Some(Err(fault)) => Err(fault),
+        None => Ok((End::Unopened, files)),
     }
 }
 
@@ -204,30 +220,50 @@ fn goes_on_at<S: Keeps>(
     Ok(())
 }
 
-// So it does over a connection.
-fn goes_on_over<S: Alter + Drop>(
-    alloc: Global,
+// Finds that it is so.
+#[derive(Drop)]
+struct GoesOn {
     day: Day,
+    end: End,
+}
+
+impl Work for GoesOn {
+    type Found = ();
+
+    fn done<S: Alter + Drop>(self, alloc: Global, conn: Connection<S>) -> (Result<(), Fail>, S) {
+        let GoesOn { day, end } = self;
+        let (config, steps) = day;
+        match Config::read(alloc, config, &[]) {
+            Ok(config) => goes_on_with(alloc, config, steps, conn, end),
+            Err(fault) => (Err(fault.into()), conn.into_store()),
+        }
+    }
+}
+
+// The same under a configuration.
+fn goes_on_with<S: Alter + Drop>(
+    alloc: Global,
+    config: Config,
+    steps: &[Step],
     conn: Connection<S>,
     end: End,
-) -> Result<(), Fail> {
-    let (config, steps) = day;
-    match opened(alloc, Config::read(alloc, config, &[])?, conn) {
+) -> (Result<(), Fail>, S) {
+    match opened(alloc, config, conn) {
         Ok(mut server) => {
             let went_on = goes_on_at(alloc, &mut server, steps, end);
-            let _left = let_go(server);
-            went_on
+            (went_on, let_go(server))
         }
-        Err(_) => Err("what a stop left is not opened".into()),
+        Err((_, left)) => (Err("what a stop left is not opened".into()), left),
     }
 }
 
 // And so it does with what a loss leaves of the files.
 fn goes_on(alloc: Global, day: Day, left: &Left, loss: Loss, end: End) -> Result<(), Fail> {
     let files = files_left(alloc, left, loss, (u64::MAX, u64::MAX))?;
-    match connected(alloc, files, options(Stopped::Log)) {
-        Ok(conn) => goes_on_over(alloc, day, conn, end),
-        Err(_) => Err("what a stop left is not opened".into()),
+    let (found, _files) = over_files(alloc, files, options(Stopped::Log), GoesOn { day, end });
+    match found {
+        Some(went_on) => went_on,
+        None => Err("what a stop left is not opened".into()),
     }
 }
 

@@ -4,6 +4,7 @@ use sqlite::{Alter, Connection, Error, ErrorCode, FileStore, Files, Options};
 use sqlite_disk::{Crash, Disk, Fuse, Memory};
 use std::alloc::{AllocError, Global};
 use std::io;
+use std::test::Fail;
 
 /// A file in memory that answers so many calls and fails at each one after.
 pub(crate) type Device = Fuse<Memory>;
@@ -16,8 +17,8 @@ pub(crate) fn files(alloc: Global, calls: (u64, u64)) -> Files<Device> {
     }
 }
 
-/// The connection to the files; or why there is none, and the files.
-pub(crate) fn connected(
+// The connection to the files; or why there is none, and the files.
+fn connected(
     alloc: Global,
     files: Files<Device>,
     options: Options,
@@ -31,9 +32,47 @@ pub(crate) fn connected(
     }
 }
 
-/// The store over a connection; or why there is none, and what lies below it. This and what stands on it is over any store
-/// of SQLite's: over files alone each would be proved against all parts of a connection, which
-/// takes the prover a minute.
+/// What is done over a connection to any store of SQLite's, whose other side is given back.
+pub(crate) trait Work: Drop {
+    /// What comes of it.
+    type Found: Drop;
+
+    /// Does it.
+    fn done<S: Alter + Drop>(
+        self,
+        alloc: Global,
+        conn: Connection<S>,
+    ) -> (Result<Self::Found, Fail>, S);
+}
+
+/// Does work over files: what comes of it, or nothing where they are not opened since their device
+/// stops; and the files. What moves a connection to files is proved against all parts of one, which
+/// takes the prover a minute: so this alone does, and all else is over any store.
+pub(crate) fn over_files<W: Work>(
+    alloc: Global,
+    files: Files<Device>,
+    options: Options,
+    work: W,
+) -> (Option<Result<W::Found, Fail>>, Files<Device>) {
+    match connected(alloc, files, options) {
+        Ok(conn) => {
+            let (found, left) = work.done(alloc, conn);
+            (Some(found), left.close())
+        }
+        Err((error, files)) => (unopened(error), files),
+    }
+}
+
+// Nothing is done over files that are not opened.
+fn unopened<T>(error: Error) -> Option<Result<T, Fail>> {
+    if error == UNOPENED {
+        None
+    } else {
+        Some(Err("files that stop are not opened for another cause".into()))
+    }
+}
+
+/// The store over a connection; or why there is none, and what lies below it.
 pub(crate) fn stored<S: Alter + Drop>(
     alloc: Global,
     conn: Connection<S>,
@@ -50,8 +89,8 @@ pub(crate) fn stored<S: Alter + Drop>(
 /// The fault of a store whose device stops.
 pub(crate) const STOPPED: StoreFault = StoreFault::Sql(Cause::SystemIoFailure);
 
-/// The error of files that are not opened since their device stops.
-pub(crate) const UNOPENED: Error = Error::SqliteFailure(ErrorCode::SystemIoFailure);
+// The error of files that are not opened since their device stops.
+const UNOPENED: Error = Error::SqliteFailure(ErrorCode::SystemIoFailure);
 
 /// What a stop leaves of the bytes that were written and not synced.
 #[derive(Clone, Copy)]

@@ -1,7 +1,8 @@
-use crate::device::{Device, STOPPED, UNOPENED, connected, files, stored};
+use crate::device::{Device, STOPPED, Work, files, over_files, stored};
 use crate::leases::{Lease, are_rows_of, row};
-use kd_keeps::Keeps;
+use kd_keeps::{Keeps, StoreFault};
 use kd_rows::State;
+use kd_store::Store;
 use sqlite::{Alter, Connection, Files, Options};
 use sqlite_disk::Crash;
 use std::alloc::Global;
@@ -50,36 +51,44 @@ fn answered<S: Keeps>(alloc: Global, store: &mut S) -> Result<usize, Fail> {
     Ok(5)
 }
 
-// Makes the five calls up to the first fault: what is left below the connection, and how many are
-// answered.
-fn stopped_over<S: Alter + Drop>(alloc: Global, conn: Connection<S>) -> Result<(S, usize), Fail> {
-    let mut store = match stored(alloc, conn) {
-        Ok(store) => store,
-        Err((fault, left)) => {
-            if fault != STOPPED {
-                return Err("a store that stops is not opened for another cause".into());
-            }
-            return Ok((left, 0));
+// Makes the five calls up to the first fault, and finds how many are answered.
+#[derive(Drop)]
+struct Calls;
+
+impl Work for Calls {
+    type Found = usize;
+
+    fn done<S: Alter + Drop>(self, alloc: Global, conn: Connection<S>) -> (Result<usize, Fail>, S) {
+        match stored(alloc, conn) {
+            Ok(store) => called(alloc, store),
+            Err((fault, left)) => (none(fault), left),
         }
-    };
+    }
+}
+
+// The same over a store.
+fn called<S: Alter + Drop>(alloc: Global, mut store: Store<S>) -> (Result<usize, Fail>, S) {
     let calls = answered(alloc, &mut store);
-    let left = store.close().into_store();
-    Ok((left, calls?))
+    (calls, store.close().into_store())
+}
+
+// No call is answered by a store that is not opened since its device stops.
+fn none(fault: StoreFault) -> Result<usize, Fail> {
+    if fault == STOPPED {
+        Ok(0)
+    } else {
+        Err("a store that stops is not opened for another cause".into())
+    }
 }
 
 // The same over files: what is left of them, and how many are answered.
 fn stopped(alloc: Global, files: Files<Device>) -> Result<(Files<Device>, usize), Fail> {
-    let conn = match connected(alloc, files, Options::new(1)) {
-        Ok(conn) => conn,
-        Err((error, left)) => {
-            if error != UNOPENED {
-                return Err("files that stop are not opened for another cause".into());
-            }
-            return Ok((left, 0));
-        }
-    };
-    let (left, calls) = stopped_over(alloc, conn)?;
-    Ok((left.close(), calls))
+    let (found, left) = over_files(alloc, files, Options::new(1), Calls);
+    match found {
+        Some(Ok(calls)) => Ok((left, calls)),
+        Some(Err(fault)) => Err(fault),
+        None => Ok((left, 0)),
+    }
 }
 
 // Of so many answered calls, the numbers of the tables before and after the next.
@@ -98,18 +107,25 @@ fn is_at_either<S: Keeps>(store: &mut S, answered: usize) -> Result<bool, Fail> 
     )
 }
 
-// So is the store over a connection.
-fn is_beside<S: Alter + Drop>(
-    alloc: Global,
-    conn: Connection<S>,
-    answered: usize,
-) -> Result<bool, Fail> {
-    let Ok(mut store) = stored(alloc, conn) else {
-        return Ok(false);
-    };
+// Finds whether it is so, of so many answered calls.
+#[derive(Drop)]
+struct Beside(usize);
+
+impl Work for Beside {
+    type Found = bool;
+
+    fn done<S: Alter + Drop>(self, alloc: Global, conn: Connection<S>) -> (Result<bool, Fail>, S) {
+        match stored(alloc, conn) {
+            Ok(store) => looked(store, self.0),
+            Err((_, left)) => (Ok(false), left),
+        }
+    }
+}
+
+// The same over a store.
+fn looked<S: Alter + Drop>(mut store: Store<S>, answered: usize) -> (Result<bool, Fail>, S) {
     let is_there = is_at_either(&mut store, answered);
-    let _conn = store.close();
-    is_there
+    (is_there, store.close().into_store())
 }
 
 // After a crash the store in the files is at the table before the next call, or at the one after
@@ -117,9 +133,10 @@ fn is_beside<S: Alter + Drop>(
 fn is_left(alloc: Global, mut files: Files<Device>, answered: usize) -> Result<bool, Fail> {
     files.log.crash();
     files.db.crash();
-    match connected(alloc, files, Options::new(1)) {
-        Ok(conn) => is_beside(alloc, conn, answered),
-        Err(_) => Ok(false),
+    let (found, _left) = over_files(alloc, files, Options::new(1), Beside(answered));
+    match found {
+        Some(is_beside) => is_beside,
+        None => Ok(false),
     }
 }
 

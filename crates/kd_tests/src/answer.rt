@@ -1,5 +1,5 @@
 use crate::support::{DISCOVER, datagram};
-use kd_commands::{LineFault, Order, order};
+use kd_commands::{Order, order};
 use kd_tools::{Printed, answer, exit_status};
 use std::alloc::{AllocError, Global};
 use std::test::Fail;
@@ -11,64 +11,6 @@ fn owned(alloc: Global, words: &[&str]) -> Result<Vec<String>, AllocError> {
         owned.push(String::from_str(alloc, word)?)?;
     }
     Ok(owned)
-}
-
-// The name of an order and its texts, the second one empty where it has one alone.
-fn texts_of(order: &Order) -> (&str, &str, &str) {
-    match order {
-        Order::Show { hex, .. } => ("show", hex.as_str(), ""),
-        Order::Verify { hex } => ("verify", hex.as_str(), ""),
-        Order::Eval { program, datagram } => ("eval", program.as_str(), datagram.as_str()),
-        Order::EvalText { text, datagram } => ("--text", text.as_str(), datagram.as_str()),
-        _ => ("", "", ""),
-    }
-}
-
-// Words, and the order that they give. What is printed of them is that of a mistake, since they are
-// not hexadecimal.
-const HANDED_ON: [(&[&str], (&str, &str, &str)); 17] = [
-    (
-        &["show", "not hexadecimal"],
-        ("show", "not hexadecimal", ""),
-    ),
-    (&["show", "--", "-a"], ("show", "-a", "")),
-    (&["show", "a", "--"], ("show", "a", "")),
-    (&["show", "-"], ("show", "-", "")),
-    (
-        &["verify", "no hexadecimal"],
-        ("verify", "no hexadecimal", ""),
-    ),
-    (&["verify", "--", "-a"], ("verify", "-a", "")),
-    (
-        &["eval", "no hexadecimal", ""],
-        ("eval", "no hexadecimal", ""),
-    ),
-    (&["eval", "--", "-a", "-b"], ("eval", "-a", "-b")),
-    (&["eval", "4b", "--", "-b"], ("eval", "4b", "-b")),
-    (&["eval", "--", "--", "01"], ("eval", "--", "01")),
-    (&["eval", "show", "eval"], ("eval", "show", "eval")),
-    (&["eval", "--", "--text", "01"], ("eval", "--text", "01")),
-    (&["eval", "4b", "--", "--text"], ("eval", "4b", "--text")),
-    (
-        &["eval", "--text", "--", "-1 == 1", "-b"],
-        ("--text", "-1 == 1", "-b"),
-    ),
-    (&["eval", "a", "--text", "--", "-b"], ("--text", "a", "-b")),
-    (&["eval", "--text", "a", "--", "-b"], ("--text", "a", "-b")),
-    (&["eval", "a", "b", "--text", "--"], ("--text", "a", "b")),
-];
-
-// Whether words give this order.
-fn gives(alloc: Global, words: &[&str], want: (&str, &str, &str)) -> Result<bool, LineFault> {
-    Ok(texts_of(&order(alloc, &owned(alloc, words)?)?) == want)
-}
-
-#[test]
-fn words_are_handed_on_as_they_are(rt: HostRuntime) -> Result<(), Fail> {
-    for (words, want) in HANDED_ON {
-        assert!(rt; gives(rt.alloc(), words, want)?, "{words:?}");
-    }
-    Ok(())
 }
 
 // Those that no case tells: of faults of the store, of memory and of the output, and of those
@@ -227,25 +169,43 @@ fn prints_with(
     print_again(alloc, &all, out, fault)
 }
 
+// Whether each row of `PRINTED` is printed so.
+fn print_rows(alloc: Global) -> Result<bool, AllocError> {
+    for (words, out, fault) in &PRINTED {
+        if !prints_again(alloc, words, out, fault)? {
+            return Ok(false);
+        }
+    }
+    Ok(true)
+}
+
+// The same of `RUN`.
+fn run_rows(alloc: Global) -> Result<bool, AllocError> {
+    for (words, out) in &RUN {
+        if !prints_with(alloc, words, DISCOVER, out, "")? {
+            return Ok(false);
+        }
+    }
+    Ok(true)
+}
+
+// The same of `REFUSED`.
+fn refuse_rows(alloc: Global) -> Result<bool, AllocError> {
+    for (words, fault) in &REFUSED {
+        if !prints_with(alloc, words, b"\x3c\x01a\xff", "", fault)? {
+            return Ok(false);
+        }
+    }
+    Ok(true)
+}
+
 // Where an allocation is refused the answer is that, and the same call made again gives the lines.
 #[test]
 fn want_of_memory_is_answered_as_such(rt: HostRuntime) -> Result<(), Fail> {
-    for (words, out, fault) in PRINTED {
-        assert!(rt; prints_again(rt.alloc(), words, out, fault)?, "{words:?}");
-    }
     let joined = b"\x35\x01\x01\x3c\x02kd\x3c\x01a";
     assert!(rt; prints_with(rt.alloc(), &["show"], joined, SHOWN, "")?);
-    for (words, out) in RUN {
-        assert!(rt;
-            prints_with(rt.alloc(), words, DISCOVER, out, "")?,
-            "{words:?}"
-        );
-    }
-    for (words, fault) in REFUSED {
-        assert!(rt;
-            prints_with(rt.alloc(), words, b"\x3c\x01a\xff", "", fault)?,
-            "{words:?}"
-        );
-    }
+    assert!(rt; print_rows(rt.alloc())?);
+    assert!(rt; run_rows(rt.alloc())?);
+    assert!(rt; refuse_rows(rt.alloc())?);
     Ok(())
 }

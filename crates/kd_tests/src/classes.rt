@@ -45,9 +45,15 @@ fn classes(alloc: Global) -> Result<Classes, Fault> {
 
 // The names that a DISCOVER of vendor class `kd` holds then.
 fn held(alloc: Global) -> Result<Held, Fault> {
+    let classes = classes(alloc)?;
     let bytes = datagram(alloc, DISCOVER)?;
-    let message = Message::read(alloc, &bytes)?;
-    Ok(classes(alloc)?.held(alloc, &message)?)
+    held_over(alloc, &classes, &bytes)
+}
+
+// The names that a datagram holds then.
+fn held_over(alloc: Global, classes: &Classes, bytes: &[u8]) -> Result<Held, Fault> {
+    let message = Message::read(alloc, bytes)?;
+    Ok(classes.held(alloc, &message)?)
 }
 
 #[test]

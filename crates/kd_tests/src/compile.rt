@@ -1,20 +1,30 @@
-use crate::support::{DISCOVER, Fault, datagram};
+use crate::support::{DISCOVER, Fault, datagram, outcome_over};
 use kd_compile::{CompileFault, compile};
-use kd_expr::{ExprFault, read, type_of};
-use kd_machine::{Held, Outcome, eval};
-use kd_options::Message;
+use kd_expr::{ExprFault, Typed, read, type_of};
+use kd_machine::Outcome;
+use kd_token::Verified;
 use std::alloc::Global;
 use std::test::Fail;
+
+// The class test of a text.
+fn typed_of(alloc: Global, text: &[u8]) -> Result<Typed, Fault> {
+    match type_of(read(alloc, text)?) {
+        Ok(typed) => Ok(typed),
+        Err((_fault, _expr)) => Err(Fault::Other),
+    }
+}
+
+// What it is compiled to.
+fn program_of(alloc: Global, text: &[u8]) -> Result<Verified, Fault> {
+    let typed = typed_of(alloc, text)?;
+    Ok(compile(alloc, &typed)?)
+}
 
 // What a class test gives over a datagram, with the names that the message has before any
 // definition.
 fn outcome(alloc: Global, text: &[u8], bytes: &[u8]) -> Result<Outcome, Fault> {
-    let message = Message::read(alloc, bytes)?;
-    let held = Held::base(alloc, &message)?;
-    match type_of(read(alloc, text)?) {
-        Ok(typed) => Ok(eval(alloc, &compile(alloc, &typed)?, &message, &held)?),
-        Err((_fault, _expr)) => Err(Fault::Other),
-    }
+    let program = program_of(alloc, text)?;
+    outcome_over(alloc, &program, bytes)
 }
 
 // A text with names, branches, and each kind of operand that takes memory when it is run.

@@ -1,5 +1,5 @@
-use crate::support::{DISCOVER, Fault, datagram, is, program_in, token_file};
-use kd_machine::{Held, Outcome, eval};
+use crate::support::{DISCOVER, Fault, datagram, is, outcome_over, program_in, token_file};
+use kd_machine::{Held, Outcome};
 use kd_options::Message;
 use std::alloc::{AllocError, Global};
 use std::test::Fail;
@@ -52,11 +52,10 @@ const DIGITS: &[u8] = b"\x01\x00\x01a\x01\x00\x01b\x0f\x01\x00\x01:\x10\x11\x01\
 
 // The outcome of that program over a DISCOVER.
 fn outcome(alloc: Global) -> Result<Outcome, Fault> {
+    let file = token_file(alloc, b"\x00", 8, DIGITS)?;
+    let program = program_in(alloc, &file)?;
     let bytes = datagram(alloc, DISCOVER)?;
-    let message = Message::read(alloc, &bytes)?;
-    let held = Held::base(alloc, &message)?;
-    let verified = program_in(alloc, &token_file(alloc, b"\x00", 8, DIGITS)?)?;
-    Ok(eval(alloc, &verified, &message, &held)?)
+    outcome_over(alloc, &program, &bytes)
 }
 
 // With a refused request for memory the answer is want of it; the same call made again gives what

@@ -1,8 +1,8 @@
 use kd_classes::ClassFault;
 use kd_compile::CompileFault;
 use kd_expr::ExprFault;
-use kd_machine::EvalFault;
-use kd_options::ReadFault;
+use kd_machine::{EvalFault, Held, Outcome, eval};
+use kd_options::{Message, ReadFault};
 use kd_token::{FileFault, Program, Verified, VerifyFault, verify};
 use std::alloc::{AllocError, Global};
 
@@ -115,6 +115,22 @@ pub(crate) fn program_in(alloc: Global, file: &[u8]) -> Result<Verified, Fault> 
         Ok(verified) => Ok(verified),
         Err((fault, _program)) => Err(Fault::from(fault)),
     }
+}
+
+/// What a program gives over a datagram, with the names that the message has before any definition.
+pub(crate) fn outcome_over(
+    alloc: Global,
+    program: &Verified,
+    bytes: &[u8],
+) -> Result<Outcome, Fault> {
+    let message = Message::read(alloc, bytes)?;
+    outcome_of(alloc, program, &message)
+}
+
+// The same over its message.
+fn outcome_of(alloc: Global, program: &Verified, message: &Message<'_>) -> Result<Outcome, Fault> {
+    let held = Held::base(alloc, message)?;
+    Ok(eval(alloc, program, message, &held)?)
 }
 
 /// A value is there and has these bytes.
