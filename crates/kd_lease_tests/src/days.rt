@@ -1,3 +1,5 @@
+ghost use Rattle.std.specs.Prelude.{◌≡◌, None};
+
 use crate::fields::{DIRECT, Fields, bytes_of};
 use kd_config::Config;
 use kd_event::{Mode, Ports, Reason, Response};
@@ -7,12 +9,12 @@ use kd_table_tests::Fused;
 use std::alloc::{AllocError, Global};
 use std::test::Fail;
 
-// Why a call gives nothing.
+/// Why a call gives nothing.
 #[derive(Clone, Copy, Debug, PartialEq, Eq)]
-enum Fault {
-    // There is no memory.
+pub(crate) enum Fault {
+    /// There is no memory.
     Memory,
-    // Any other cause.
+    /// Any other cause.
     Other,
 }
 
@@ -149,10 +151,20 @@ const PORTS: Ports = Ports {
     client: 68,
 };
 
-// A server of the built-in configuration over an empty store that answers so many calls.
-fn opened(alloc: Global, calls: u64) -> Result<Server<Fused>, Fault> {
-    let store = Fused::new(alloc, calls)?;
-    match Server::open(alloc, Config::builtin(alloc)?, store, PORTS) {
+/// A server of the built-in configuration over an empty store that answers so many calls.
+pub(crate) fn opened(alloc: Global, calls: u64) -> Result<Server<Fused>, Fault> {
+    let config = Config::builtin(alloc)?;
+    match Fused::new(alloc, calls) {
+        Ok(store) => opened_over(alloc, config, store),
+        Err(AllocError) => Err(Fault::Memory),
+    }
+}
+
+// The same over a store.
+fn opened_over(alloc: Global, config: Config, store: Fused) -> Result<Server<Fused>, Fault>
+    requires { store.fault ≡ None }
+{
+    match Server::open(alloc, config, store, PORTS) {
         Ok(server) => Ok(server),
         Err((ServeFault::Memory, _, _)) => Err(Fault::Memory),
         Err(_) => Err(Fault::Other),
@@ -214,9 +226,20 @@ fn sent(alloc: Global, server: &mut Server<Fused>, message: Sent) -> Result<Got,
 
 // How many messages of a day got what they should, up to the first that did not.
 fn as_worked_out(alloc: Global, day: &[(Sent, Got)]) -> Result<usize, Fault> {
-    let mut server = opened(alloc, 1000)?;
+    match opened(alloc, 1000) {
+        Ok(mut server) => right_in(alloc, &mut server, day),
+        Err(fault) => Err(fault),
+    }
+}
+
+// The same over a server.
+fn right_in(
+    alloc: Global,
+    server: &mut Server<Fused>,
+    day: &[(Sent, Got)],
+) -> Result<usize, Fault> {
     for (right, (message, want)) in day.iter().enumerate() {
-        if sent(alloc, &mut server, *message)? != *want {
+        if sent(alloc, server, *message)? != *want {
             return Ok(right);
         }
     }
@@ -247,18 +270,31 @@ fn leases_are_renewed_given_back_and_declined(rt: HostRuntime) -> Result<(), Fai
     Ok(())
 }
 
-// What a server over a store that fails at its second put answers: an offer, the fault, and the
+// Whether a server over a store that fails at its second put answers an offer, the fault, and the
 // same at the next.
+fn stops_so(alloc: Global, server: &mut Server<Fused>) -> Result<bool, Fault> {
+    let first = sent(alloc, server, (100, 1, DISCOVER, 0))?;
+    let bytes = datagram(alloc, (110, 2, DISCOVER, 0))?;
+    let second = server.handle(110, bytes.as_slice()).map(|_| ());
+    let third = server.handle(111, bytes.as_slice()).map(|_| ());
+    Ok(
+        first == Got::Reply(2, POOL[0], Mode::Hardware)
+            && second.map_err(|fault| fault.number()) == Err(92)
+            && third == Err(ServeFault::Failed),
+    )
+}
+
+// The same of a server that is opened.
+fn stops(alloc: Global) -> Result<bool, Fault> {
+    match opened(alloc, 2) {
+        Ok(mut server) => stops_so(alloc, &mut server),
+        Err(fault) => Err(fault),
+    }
+}
+
 #[test]
 fn no_reply_is_sent_once_the_store_has_failed(rt: HostRuntime) -> Result<(), Fail> {
-    let mut server = opened(rt.alloc(), 2)?;
-    let first = sent(rt.alloc(), &mut server, (100, 1, DISCOVER, 0))?;
-    assert!(rt; first == Got::Reply(2, POOL[0], Mode::Hardware));
-    let bytes = datagram(rt.alloc(), (110, 2, DISCOVER, 0))?;
-    let second = server.handle(110, bytes.as_slice()).map(|_| ());
-    assert!(rt; second.map_err(|fault| fault.number()) == Err(92));
-    let third = server.handle(111, bytes.as_slice()).map(|_| ());
-    assert!(rt; third == Err(ServeFault::Failed));
+    assert!(rt; stops(rt.alloc())?);
     Ok(())
 }
 

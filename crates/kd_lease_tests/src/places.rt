@@ -1,5 +1,5 @@
+use crate::days::opened;
 use crate::fields::{DIRECT, Fields, bytes_of};
-use kd_config::Config;
 use kd_event::{Destination, Mode, Ports, Reason, Response};
 use kd_lease::{Plan, PlanKind, destination};
 use kd_options::{Items, Message, Reply};
@@ -99,10 +99,18 @@ const RELAYS: [(u32, Result<Mode, Reason>); 3] = [
 
 // How a DISCOVER through this relay is answered.
 fn answered(alloc: Global, giaddr: u32) -> Result<Result<Mode, Reason>, Fail> {
-    let store = Fused::new(alloc, 10)?;
-    let Ok(mut server) = Server::open(alloc, Config::builtin(alloc)?, store, PORTS) else {
-        return Err("no server".into());
-    };
+    match opened(alloc, 10) {
+        Ok(mut server) => answer_of(alloc, &mut server, giaddr),
+        Err(fault) => Err(fault.into()),
+    }
+}
+
+// The same by a server.
+fn answer_of(
+    alloc: Global,
+    server: &mut Server<Fused>,
+    giaddr: u32,
+) -> Result<Result<Mode, Reason>, Fail> {
     let bytes = bytes_of(alloc, &Fields { giaddr, ..DIRECT })?;
     match server.handle(100, bytes.as_slice())?.response {
         Response::Reply(destination, _) => Ok(Ok(destination.mode)),

@@ -1,10 +1,9 @@
-ghost use Rattle.std.specs.Prelude.{◌≡◌, false};
-
 use crate::doubles::{Giving, Keeping};
-use crate::support::server_on;
+use crate::support::{Work, with_server};
 use kd_event::Ports;
 use kd_replay::ReplayFault;
-use kd_server::replay;
+use kd_server::{Server, replay};
+use kd_table_tests::Fused;
 use std::alloc::{AllocError, Global};
 use std::test::Fail;
 
@@ -12,36 +11,43 @@ use std::test::Fail;
 // them or ends; the sink takes as many a call, up to a limit at which it fails.
 type Ends = (usize, bool, usize);
 
+// The ports of a server.
+const PORTS: Ports = Ports {
+    server: 67,
+    client: 68,
+};
+
+// Replays an input between such ends; what is found are the answer, and the sink after it.
+#[derive(Drop)]
+struct Replays<'a> {
+    input: &'a str,
+    ends: Ends,
+}
+
+impl<'a> Work for Replays<'a> {
+    type Found = (Result<u64, ReplayFault>, Keeping);
+
+    fn done(
+        self,
+        alloc: Global,
+        server: &mut Server<Fused>,
+    ) -> Result<(Result<u64, ReplayFault>, Keeping), Fail> {
+        let Replays { input, ends } = self;
+        let (step, source_fails, sink_limit) = ends;
+        let mut source = Giving::new(input.as_bytes(), step, source_fails);
+        let mut sink = Keeping::new(alloc, step.max(1), sink_limit);
+        let result = replay(alloc, &mut source, &mut sink, server);
+        Ok((result, sink))
+    }
+}
+
 // What a replay of this input by the built-in configuration answers, and the sink after it.
 fn replayed(
     alloc: Global,
     input: &str,
     ends: Ends,
-) -> Result<(Result<u64, ReplayFault>, Keeping), AllocError> {
-    let (step, source_fails, sink_limit) = ends;
-    let mut source = Giving::new(input.as_bytes(), step, source_fails);
-    let mut sink = Keeping::new(alloc, step.max(1), sink_limit);
-    match replayed_by(alloc, &mut source, &mut sink) {
-        Ok(result) => Ok((result, sink)),
-        Err(fault) => Err(fault),
-    }
-}
-
-// The same between these ends.
-fn replayed_by(
-    alloc: Global,
-    source: &mut Giving<'_>,
-    sink: &mut Keeping,
-) -> Result<Result<u64, ReplayFault>, AllocError>
-    requires source { source.old.failed ≡ false }
-    requires sink { sink.old.failed ≡ false }
-{
-    let ports = Ports {
-        server: 67,
-        client: 68,
-    };
-    let mut server = server_on(alloc, ports)?;
-    Ok(replay(alloc, source, sink, &mut server))
+) -> Result<(Result<u64, ReplayFault>, Keeping), Fail> {
+    with_server(alloc, PORTS, Replays { input, ends })
 }
 
 // How many events were handled, or the number and the text of the fault.
@@ -53,13 +59,7 @@ fn printed(alloc: Global, handled: Result<u64, ReplayFault>) -> Result<String, A
 }
 
 // Whether a replay of an input answers this, and writes this.
-fn ends_as(
-    alloc: Global,
-    input: &str,
-    ends: Ends,
-    want: &str,
-    output: &str,
-) -> Result<bool, AllocError> {
+fn ends_as(alloc: Global, input: &str, ends: Ends, want: &str, output: &str) -> Result<bool, Fail> {
     let (result, sink) = replayed(alloc, input, ends)?;
     let found = printed(alloc, result)?;
     Ok(found.as_str() == want && sink.as_slice() == output.as_bytes())
@@ -106,7 +106,7 @@ fn a_replay_ends_as_its_ends_do(rt: HostRuntime) -> Result<(), Fail> {
 }
 
 // What a replay of an input answers whose source gives at most so many bytes a call.
-fn answers(alloc: Global, input: &str, step: usize, want: &str) -> Result<bool, AllocError> {
+fn answers(alloc: Global, input: &str, step: usize, want: &str) -> Result<bool, Fail> {
     let (result, _) = replayed(alloc, input, (step, false, 1000))?;
     Ok(printed(alloc, result)?.as_str() == want)
 }
@@ -138,7 +138,7 @@ fn lines_are_found_in_pieces(rt: HostRuntime) -> Result<(), Fail> {
 }
 
 // What a replay of a line with so many digits answers.
-fn answers_long(alloc: Global, count: usize, step: usize, want: &str) -> Result<bool, AllocError> {
+fn answers_long(alloc: Global, count: usize, step: usize, want: &str) -> Result<bool, Fail> {
     let zeros = "0".repeat(alloc, count)?;
     let input = format!(in alloc; "5 {zeros}\n")?;
     answers(alloc, input.as_str(), step, want)
@@ -166,13 +166,10 @@ fn a_line_may_be_long(rt: HostRuntime) -> Result<(), Fail> {
 }
 
 // Whether a replay answers want of memory, or its sink has failed for want of it, or it ends well.
-fn is_right(replayed: Result<(Result<u64, ReplayFault>, Keeping), AllocError>) -> bool {
-    match replayed {
-        Ok((Err(ReplayFault::Memory) | Err(ReplayFault::Write), sink)) => {
-            sink.as_slice().len() <= 42
-        }
-        Ok((result, _)) => result == Ok(2),
-        Err(AllocError) => true,
+fn is_right(end: &Result<u64, ReplayFault>, sink: &Keeping) -> bool {
+    match end {
+        Err(ReplayFault::Memory) | Err(ReplayFault::Write) => sink.as_slice().len() <= 42,
+        end => *end == Ok(2),
     }
 }
 
@@ -180,7 +177,8 @@ fn is_right(replayed: Result<(Result<u64, ReplayFault>, Keeping), AllocError>) -
 // want of it; the same replay made again gives what it gives with ample memory.
 #[test]
 fn want_of_memory_is_answered_as_such(rt: HostRuntime) -> Result<(), Fail> {
-    assert!(rt; is_right(replayed(rt.alloc(), "5 \n6 00\n", (1000, false, 1000))));
+    let (result, sink) = replayed(rt.alloc(), "5 \n6 00\n", (1000, false, 1000))?;
+    assert!(rt; is_right(&result, &sink));
     assert!(rt; answers(rt.alloc(), "5 \n6 00\n", 1000, "2")?);
     Ok(())
 }

@@ -1,4 +1,5 @@
-use crate::support::{COOKIE, server_on};
+use crate::support::{COOKIE, Work, server_of, with_server};
+use kd_config::Config;
 use kd_event::{Destination, Event, Mode, Ports, Reason, Response};
 use kd_replay::ServeFault;
 use kd_server::Server;
@@ -7,14 +8,11 @@ use kd_wire::Bytes;
 use std::alloc::{AllocError, Global};
 use std::test::Fail;
 
-// A server of the built-in configuration, on ports of its own.
-fn server(alloc: Global) -> Result<Server<Fused>, AllocError> {
-    let ports = Ports {
-        server: 1067,
-        client: 1068,
-    };
-    server_on(alloc, ports)
-}
+// Ports of their own.
+const PORTS: Ports = Ports {
+    server: 1067,
+    client: 1068,
+};
 
 // An INFORM of 192.0.2.77, through this relay.
 fn inform(alloc: Global, relay: &[u8; 4]) -> Result<Vec<u8>, AllocError> {
@@ -63,13 +61,35 @@ const WAYS: [([u8; 4], Destination); 2] = [
     ),
 ];
 
+// Finds whether replies go those ways.
+#[derive(Drop)]
+struct Sends;
+
+impl Work for Sends {
+    type Found = bool;
+
+    fn done(self, alloc: Global, server: &mut Server<Fused>) -> Result<bool, Fail> {
+        for (relay, destination) in WAYS {
+            if sent(alloc, server, &relay)? != (1000, destination) {
+                return Ok(false);
+            }
+        }
+        Ok(true)
+    }
+}
+
+// The configuration that a server gives back.
+fn given_back(alloc: Global) -> Result<Config, AllocError> {
+    let config = Config::builtin(alloc)?;
+    let server = server_of(alloc, config, PORTS, u64::MAX)?;
+    let (config, _) = server.close();
+    Ok(config)
+}
+
 #[test]
 fn a_server_has_its_ports_and_gives_its_configuration_back(rt: HostRuntime) -> Result<(), Fail> {
-    let mut server = server(rt.alloc())?;
-    for (relay, destination) in WAYS {
-        assert!(rt; sent(rt.alloc(), &mut server, &relay)? == (1000, destination));
-    }
-    let (config, _) = server.close();
+    assert!(rt; with_server(rt.alloc(), PORTS, Sends)?);
+    let config = given_back(rt.alloc())?;
     assert!(rt; config.server() == 0xc000_0201 && config.subnets().len() == 1);
     Ok(())
 }
@@ -118,14 +138,24 @@ fn runs_to(
     Ok(run(server, &events) == want)
 }
 
-// Events that are run give what they give one by one; a fault ends the list, and nothing is left
-// out.
+// Finds whether events that are run give what they give one by one, and a fault ends the list.
+#[derive(Drop)]
+struct Runs;
+
+impl Work for Runs {
+    type Found = bool;
+
+    fn done(self, alloc: Global, server: &mut Server<Fused>) -> Result<bool, Fail> {
+        let late = (2, Some(ServeFault::MomentTooLarge));
+        let is_whole = runs_to(alloc, server, &[2], (2, None))?;
+        Ok(is_whole && runs_to(alloc, server, &[2, 1 << 40, 3], late)?)
+    }
+}
+
+// Nothing is left out.
 #[test]
 fn a_run_ends_at_the_first_fault(rt: HostRuntime) -> Result<(), Fail> {
-    let mut server = server(rt.alloc())?;
-    let late = (2, Some(ServeFault::MomentTooLarge));
-    assert!(rt; runs_to(rt.alloc(), &mut server, &[2], (2, None))?);
-    assert!(rt; runs_to(rt.alloc(), &mut server, &[2, 1 << 40, 3], late)?);
+    assert!(rt; with_server(rt.alloc(), PORTS, Runs)?);
     Ok(())
 }
 
@@ -145,14 +175,26 @@ fn runs_twice(server: &mut Server<Fused>, events: &[Event]) -> bool {
     is_right && run(server, events) == (1, None)
 }
 
-// With a refused request for memory a run and an event answer want of memory, and the same call
-// made again gives what it gives with ample memory.
+// Finds whether a run and an event answer want of memory where it is refused, and the same call made
+// again gives what it gives with ample memory.
+#[derive(Drop)]
+struct RunsTwice;
+
+impl Work for RunsTwice {
+    type Found = bool;
+
+    fn done(self, alloc: Global, server: &mut Server<Fused>) -> Result<bool, Fail> {
+        let events = events(alloc, &[])?;
+        Ok(
+            runs_twice(server, &events)
+                && is_answered(alloc, server)?
+                && sent(alloc, server, &[0; 4])?.0 == 1000,
+        )
+    }
+}
+
 #[test]
 fn want_of_memory_is_answered_as_such(rt: HostRuntime) -> Result<(), Fail> {
-    let mut server = server(rt.alloc())?;
-    let events = events(rt.alloc(), &[])?;
-    assert!(rt; runs_twice(&mut server, &events));
-    assert!(rt; is_answered(rt.alloc(), &mut server)?);
-    assert!(rt; sent(rt.alloc(), &mut server, &[0; 4])?.0 == 1000);
+    assert!(rt; with_server(rt.alloc(), PORTS, RunsTwice)?);
     Ok(())
 }

@@ -2,7 +2,7 @@
 ghost use Rattle.std.specs.Prelude.{◌≡◌, ◌<◌, ◌≤◌, IfOk, IfSome, false, length};
 
 use crate::doubles::Keeping;
-use crate::support::{COOKIE, server_of, server_on};
+use crate::support::{COOKIE, Work, with_server, with_server_of};
 use kd_config::Config;
 use kd_event::{Destination, Event, Ports};
 use kd_io::{Sending, Socket};
@@ -25,14 +25,11 @@ const MIRRORED: Sending = Sending {
     broadcast_as: None,
 };
 
-// A server of the built-in configuration.
-fn server(alloc: Global) -> Result<Server<Fused>, AllocError> {
-    let ports = Ports {
-        server: 67,
-        client: 68,
-    };
-    server_on(alloc, ports)
-}
+// The ports of a server.
+const PORTS: Ports = Ports {
+    server: 67,
+    client: 68,
+};
 
 // So many datagrams in batches of at most so many, whatever the clock says.
 fn limits(most: usize, count: u64) -> Limits
@@ -89,15 +86,24 @@ fn tells_both(alloc: Global, reply: &[u8], written: &[u8]) -> Result<bool, Fail>
     }
 }
 
-// What serving two datagrams of a socket writes.
-fn served_two(rt: &HostRuntime, socket: UdpSocket) -> Result<Keeping, Fail> {
-    let alloc = rt.alloc();
-    let mut server = server(alloc)?;
-    let mut link = Socket::over(rt, socket, MIRRORED);
-    let mut sink = Keeping::new(alloc, 7, usize::MAX);
-    match served_by(&mut link, &mut sink, &mut server, alloc, limits(1, 2)) {
-        Ok(()) => Ok(sink),
-        Err(fault) => Err(fault.into()),
+// Serves two datagrams of a socket, and finds what that writes.
+#[derive(Drop)]
+struct Two<'a> {
+    rt: &'a HostRuntime,
+    socket: UdpSocket,
+}
+
+impl<'a> Work for Two<'a> {
+    type Found = Keeping;
+
+    fn done(self, alloc: Global, server: &mut Server<Fused>) -> Result<Keeping, Fail> {
+        let Two { rt, socket } = self;
+        let mut link = Socket::over(rt, socket, MIRRORED);
+        let mut sink = Keeping::new(alloc, 7, usize::MAX);
+        match served_by(&mut link, &mut sink, server, alloc, limits(1, 2)) {
+            Ok(()) => Ok(sink),
+            Err(fault) => Err(fault.into()),
+        }
     }
 }
 
@@ -118,7 +124,8 @@ fn two_datagrams_are_served_over_a_socket(rt: HostRuntime) -> Result<(), Fail> {
     let (socket, address) = bound(&rt)?;
     let (client, _) = bound(&rt)?;
     send(rt.alloc(), &client, address)?;
-    let sink = served_two(&rt, socket)?;
+    let work = Two { rt: &rt, socket };
+    let sink = with_server(rt.alloc(), PORTS, work)?;
     assert!(rt; is_told(rt.alloc(), &client, address, sink.as_slice())?);
     Ok(())
 }
@@ -236,19 +243,29 @@ fn served_by<L: Link>(
     serve(alloc, link, &mut None::<Keeping>, sink, server, limits)
 }
 
-// How serving three datagrams ends where two come, with what was written up to so many bytes, and
-// the last reply.
-fn served(
-    alloc: Global,
+// Serves three datagrams where two come, and finds how that ends, what was written up to so many
+// bytes, and the last reply.
+#[derive(Drop)]
+struct Three {
     loses: bool,
     until: usize,
-) -> Result<(Result<(), LoopFault>, Keeping, Vec<u8>), AllocError> {
-    let mut server = server(alloc)?;
-    let mut link = Wired::new(alloc, 2, loses)?;
-    let mut sink = Keeping::new(alloc, usize::MAX, until);
-    let result = served_by(&mut link, &mut sink, &mut server, alloc, limits(2, 3));
-    let Wired { reply, .. } = link;
-    Ok((result, sink, reply))
+}
+
+impl Work for Three {
+    type Found = (Result<(), LoopFault>, Keeping, Vec<u8>);
+
+    fn done(
+        self,
+        alloc: Global,
+        server: &mut Server<Fused>,
+    ) -> Result<(Result<(), LoopFault>, Keeping, Vec<u8>), Fail> {
+        let Three { loses, until } = self;
+        let mut link = Wired::new(alloc, 2, loses)?;
+        let mut sink = Keeping::new(alloc, usize::MAX, until);
+        let result = served_by(&mut link, &mut sink, server, alloc, limits(2, 3));
+        let Wired { reply, .. } = link;
+        Ok((result, sink, reply))
+    }
 }
 
 #[test]
@@ -256,7 +273,8 @@ fn serving_ends_where_nothing_is_received_and_tells_of_lost_replies(
     rt: HostRuntime,
 ) -> Result<(), Fail> {
     let alloc = rt.alloc();
-    let (result, sink, reply) = served(alloc, true, usize::MAX)?;
+    let (loses, until) = (true, usize::MAX);
+    let (result, sink, reply) = with_server(alloc, PORTS, Three { loses, until })?;
     if result == Err(LoopFault::Memory) {
         return Ok(());
     }
@@ -270,7 +288,8 @@ fn serving_ends_where_nothing_is_received_and_tells_of_lost_replies(
 #[test]
 fn serving_ends_where_a_line_is_not_written(rt: HostRuntime) -> Result<(), Fail> {
     let alloc = rt.alloc();
-    let (result, sink, reply) = served(alloc, false, 700)?;
+    let (loses, until) = (false, 700);
+    let (result, sink, reply) = with_server(alloc, PORTS, Three { loses, until })?;
     if result == Err(LoopFault::Memory) {
         return Ok(());
     }
@@ -286,16 +305,6 @@ fn serving_ends_where_a_line_is_not_written(rt: HostRuntime) -> Result<(), Fail>
 const WIDE: &[u8] =
     b"{\"Dhcp4\":{\"server-address\":\"192.0.2.1\",\"valid-lifetime\":3600,\"subnet4\":[\
     {\"subnet\":\"192.0.2.0/24\",\"pools\":[{\"pool\":\"192.0.2.10 - 192.0.2.199\"}]}]}}";
-
-// A server of that pool over an empty store, which answers so many calls.
-fn wide_server(alloc: Global, calls: u64) -> Result<Server<Fused>, Fail> {
-    let ports = Ports {
-        server: 67,
-        client: 68,
-    };
-    let config = Config::read(alloc, WIDE, &[])?;
-    Ok(server_of(alloc, config, ports, calls)?)
-}
 
 // A socket at which the DISCOVERs of so many clients wait.
 fn crowded(rt: &HostRuntime, clients: u8) -> Result<UdpSocket, Fail> {
@@ -318,18 +327,29 @@ fn lines_of(text: &[u8]) -> usize {
     lines
 }
 
-// How serving so many datagrams of a socket ends, up to 32 in a batch; and how many lines are
-// written.
-fn served_over(
-    rt: &HostRuntime,
+// Serves so many datagrams of a socket, up to 32 in a batch, and finds how that ends and how many
+// lines are written.
+#[derive(Drop)]
+struct Crowd<'a> {
+    rt: &'a HostRuntime,
     socket: UdpSocket,
-    server: &mut Server<Fused>,
     count: u64,
-) -> (Result<(), LoopFault>, usize) {
-    let mut link = Socket::over(rt, socket, MIRRORED);
-    let mut sink = Keeping::new(rt.alloc(), usize::MAX, usize::MAX);
-    let served = served_by(&mut link, &mut sink, server, rt.alloc(), limits(32, count));
-    (served, lines_of(sink.as_slice()))
+}
+
+impl<'a> Work for Crowd<'a> {
+    type Found = (Result<(), LoopFault>, usize);
+
+    fn done(
+        self,
+        alloc: Global,
+        server: &mut Server<Fused>,
+    ) -> Result<(Result<(), LoopFault>, usize), Fail> {
+        let Crowd { rt, socket, count } = self;
+        let mut link = Socket::over(rt, socket, MIRRORED);
+        let mut sink = Keeping::new(alloc, usize::MAX, usize::MAX);
+        let served = served_by(&mut link, &mut sink, server, alloc, limits(32, count));
+        Ok((served, lines_of(sink.as_slice())))
+    }
 }
 
 // The same where the DISCOVERs of so many clients wait, over a store that answers so many calls.
@@ -338,9 +358,13 @@ fn waited(
     clients: u8,
     calls: u64,
 ) -> Result<(Result<(), LoopFault>, usize), Fail> {
-    let mut server = wide_server(rt.alloc(), calls)?;
-    let socket = crowded(rt, clients)?;
-    Ok(served_over(rt, socket, &mut server, u64::from(clients)))
+    let work = Crowd {
+        rt,
+        socket: crowded(rt, clients)?,
+        count: u64::from(clients),
+    };
+    let config = Config::read(rt.alloc(), WIDE, &[])?;
+    with_server_of(rt.alloc(), config, PORTS, calls, work)
 }
 
 // How many clients wait, how many commits there are, and how many lines where the last commit fails.
@@ -422,17 +446,19 @@ fn unreadable(alloc: Global) -> Result<Event, AllocError> {
     })
 }
 
-// What serving them leaves, where one waits behind each that is waited for.
-fn served_input(alloc: Global) -> Result<ServedBytes, AllocError> {
-    let events = input(alloc)?;
-    served_events(alloc, &events)
-}
+// Serves them, where one waits behind each that is waited for, and finds what that leaves.
+#[derive(Drop)]
+struct Served;
 
-fn served_events(alloc: Global, events: &[Event]) -> Result<ServedBytes, AllocError> {
-    let mut server = server(alloc)?;
-    match serve_bytes(alloc, events, 1, &mut server, 32) {
-        Some(served) => Ok(served),
-        None => Err(AllocError),
+impl Work for Served {
+    type Found = ServedBytes;
+
+    fn done(self, alloc: Global, server: &mut Server<Fused>) -> Result<ServedBytes, Fail> {
+        let events = input(alloc)?;
+        match serve_bytes(alloc, &events, 1, server, 32) {
+            Some(served) => Ok(served),
+            None => Err(AllocError.into()),
+        }
     }
 }
 
@@ -448,7 +474,7 @@ fn record(alloc: Global) -> Result<String, AllocError> {
 // datagram.
 #[test]
 fn what_happens_is_told_in_its_order(rt: HostRuntime) -> Result<(), Fail> {
-    let served = served_input(rt.alloc())?;
+    let served = with_server(rt.alloc(), PORTS, Served)?;
     assert!(rt; served.end == Ok(()));
     let wanted = "said 0\npassed 0\n\
         waited for 244\nsaid 100\nwaits 1\nsaid 110\nsaid 110\npassed 110\nwent 10\n\
@@ -458,20 +484,30 @@ fn what_happens_is_told_in_its_order(rt: HostRuntime) -> Result<(), Fail> {
     Ok(())
 }
 
-// Whether a record of three events replays to these lines.
-fn replays_to(alloc: Global, journal: &[u8], wanted: &[u8]) -> Result<bool, AllocError> {
-    let mut server = server(alloc)?;
-    let (lines, done) = replay_bytes(alloc, journal, &mut server);
-    Ok(done == Ok(3) && lines.as_slice() == wanted)
+// Finds whether a record of three events replays to these lines.
+#[derive(Drop)]
+struct Replays<'a> {
+    journal: &'a [u8],
+    lines: &'a [u8],
+}
+
+impl<'a> Work for Replays<'a> {
+    type Found = bool;
+
+    fn done(self, alloc: Global, server: &mut Server<Fused>) -> Result<bool, Fail> {
+        let (lines, done) = replay_bytes(alloc, self.journal, server);
+        Ok(done == Ok(3) && lines.as_slice() == self.lines)
+    }
 }
 
 // The record replays to the lines that were written.
 #[test]
 fn what_is_recorded_replays_to_what_was_written(rt: HostRuntime) -> Result<(), Fail> {
-    let served = served_input(rt.alloc())?;
+    let served = with_server(rt.alloc(), PORTS, Served)?;
     let lines = served.lines.as_slice();
     assert!(rt; lines.starts_with(b"100 reply hardware 192.0.2.10:68 02"));
-    assert!(rt; replays_to(rt.alloc(), served.journal.as_slice(), lines)?);
+    let journal = served.journal.as_slice();
+    assert!(rt; with_server(rt.alloc(), PORTS, Replays { journal, lines })?);
     Ok(())
 }
 
@@ -520,18 +556,25 @@ fn is_end(end: &Result<(), LoopFault>, is_ahead: bool) -> bool {
     }
 }
 
-// Whether serving over no leases ends so.
-fn ends_so(alloc: Global, row: (u64, u64, u64, bool)) -> Result<bool, AllocError> {
-    let (moment, jump, passes, is_ahead) = row;
-    let mut server = server(alloc)?;
-    let end = ended(alloc, &mut server, moment, jump, passes)?;
-    Ok(is_end(&end, is_ahead))
+// Finds whether serving over no leases ends so.
+#[derive(Drop)]
+struct Jumps((u64, u64, u64, bool));
+
+impl Work for Jumps {
+    type Found = bool;
+
+    fn done(self, alloc: Global, server: &mut Server<Fused>) -> Result<bool, Fail> {
+        let (moment, jump, passes, is_ahead) = self.0;
+        let end = ended(alloc, server, moment, jump, passes)?;
+        Ok(is_end(&end, is_ahead))
+    }
 }
 
 #[test]
 fn serving_ends_where_the_clock_jumps_ahead(rt: HostRuntime) -> Result<(), Fail> {
     for row in JUMPS {
-        assert!(rt; ends_so(rt.alloc(), row)?, "{} {} {}", row.0, row.1, row.2);
+        let is_so = with_server(rt.alloc(), PORTS, Jumps(row))?;
+        assert!(rt; is_so, "{} {} {}", row.0, row.1, row.2);
     }
     Ok(())
 }
@@ -547,25 +590,26 @@ const SETS_BACK: [(u64, u64, u64, bool); 6] = [
     (960, 50, 0, false),
 ];
 
-// Whether serving over that offer ends so.
-fn ends_so_later(alloc: Global, row: (u64, u64, u64, bool)) -> Result<bool, AllocError> {
-    let (moment, jump, passes, is_ahead) = row;
-    let mut server = server(alloc)?;
-    let first = ended(alloc, &mut server, 1_000, 0, 0)?;
-    let end = ended(alloc, &mut server, moment, jump, passes)?;
-    Ok(first == Err(LoopFault::Memory) || is_end(&end, is_ahead))
+// Finds whether serving over that offer ends so.
+#[derive(Drop)]
+struct SetsBack((u64, u64, u64, bool));
+
+impl Work for SetsBack {
+    type Found = bool;
+
+    fn done(self, alloc: Global, server: &mut Server<Fused>) -> Result<bool, Fail> {
+        let (moment, jump, passes, is_ahead) = self.0;
+        let first = ended(alloc, server, 1_000, 0, 0)?;
+        let end = ended(alloc, server, moment, jump, passes)?;
+        Ok(first == Err(LoopFault::Memory) || is_end(&end, is_ahead))
+    }
 }
 
 #[test]
 fn the_clock_is_measured_at_the_latest_change(rt: HostRuntime) -> Result<(), Fail> {
     for row in SETS_BACK {
-        assert!(rt;
-            ends_so_later(rt.alloc(), row)?,
-            "{} {} {}",
-            row.0,
-            row.1,
-            row.2
-        );
+        let is_so = with_server(rt.alloc(), PORTS, SetsBack(row))?;
+        assert!(rt; is_so, "{} {} {}", row.0, row.1, row.2);
     }
     Ok(())
 }

@@ -5,14 +5,41 @@ use kd_event::Ports;
 use kd_server::Server;
 use kd_table_tests::Fused;
 use std::alloc::{AllocError, Global};
+use std::test::Fail;
 
 /// The bytes 236 to 239 of a datagram.
 pub(crate) const COOKIE: [u8; 4] = [99, 130, 83, 99];
 
-/// A server of the built-in configuration on these ports, over an empty store.
-pub(crate) fn server_on(alloc: Global, ports: Ports) -> Result<Server<Fused>, AllocError> {
-    let config = Config::builtin(alloc)?;
-    server_of(alloc, config, ports, u64::MAX)
+/// What is done with a server. What holds a server is proved against all parts of its table, so
+/// `with_server_of` alone does, and all else borrows one.
+pub(crate) trait Work: Drop {
+    /// What comes of it.
+    type Found: Drop;
+
+    /// Does it.
+    fn done(self, alloc: Global, server: &mut Server<Fused>) -> Result<Self::Found, Fail>;
+}
+
+/// Does work with a server of the built-in configuration on these ports, over an empty store.
+pub(crate) fn with_server<W: Work>(alloc: Global, ports: Ports, work: W) -> Result<W::Found, Fail> {
+    match Config::builtin(alloc) {
+        Ok(config) => with_server_of(alloc, config, ports, u64::MAX, work),
+        Err(fault) => Err(fault.into()),
+    }
+}
+
+/// The same with a configuration, over an empty store that answers so many calls.
+pub(crate) fn with_server_of<W: Work>(
+    alloc: Global,
+    config: Config,
+    ports: Ports,
+    calls: u64,
+    work: W,
+) -> Result<W::Found, Fail> {
+    match server_of(alloc, config, ports, calls) {
+        Ok(mut server) => work.done(alloc, &mut server),
+        Err(fault) => Err(fault.into()),
+    }
 }
 
 /// A server of a configuration, over an empty store that answers so many calls.
