@@ -3,7 +3,7 @@ use Rattle.std.proofs.Common.{◌≡◌, ℕ, ◌+◌, ◌<◌, ◌≤◌, ◌^�
 use Rattle.std.specs.List.{All, insert, remove}
 use Rattle.std.proofs.lemmas.Bool.{cases_eq, cases_lt}
 use Rattle.std.proofs.lemmas.Bool.Decides.{nat_tests}
-use Rattle.std.proofs.lemmas.List.{drop-map, get_or-map, get_or-set_other, get_or-set_same, get_or_append_left, get_or_at, get_or_default, length-map, length-set, length_push, map-append, same_lists, take-map, take_all, take_more}
+use Rattle.std.proofs.lemmas.List.{drop-map, get_or-map, get_or-set_other, get_or-set_same, get_or_append_left, get_or_at, get_or_default, length-map, length-set, length_push, map-append, map-set, same_lists, take-map, take_all, take_more}
 use Rattle.std.proofs.lemmas.List.Edits.{length-insert}
 use Rattle.std.proofs.lemmas.List.Elements.{All-push}
 use Rattle.kd_rows.specs.declared.row.Row.{Row}
@@ -179,6 +179,18 @@ inserted_now slots rows new_slots numbers new_numbers place number row low sorte
 
       none : row_at (rows_in slots numbers) row.address ≡ None
       none = subst (λ (rs : List Row). row_at rs row.address ≡ None) (sym are) absent
+
+-- the same, of slots whose contents are seen as rows
+pub replaced_seen : {X : Type 0} (row_of : X → Row) (slots : List X) (rows : List Row) (numbers : List ℕ) (place number : ℕ) (x : X) → IsByAddress (map row_of slots) numbers → rows_in (map row_of slots) numbers ≡ rows → number ≡ get_or numbers place number → IsRowPlace rows (row_of x).address place
+    → IsByAddress (map row_of (set slots number x)) numbers × (rows_in (map row_of (set slots number x)) numbers ≡ with_row (row_of x) rows)
+replaced_seen row_of slots rows numbers place number x sorted are is at = subst
+    (λ (rs : List Row). IsByAddress rs numbers × (rows_in rs numbers ≡ with_row (row_of x) rows)) (sym (map-set row_of slots number x))
+    (replaced_now (map row_of slots) rows numbers place number (row_of x) sorted are is at)
+
+pub inserted_seen : {X : Type 0} (row_of : X → Row) (slots new_slots : List X) (rows : List Row) (numbers new_numbers : List ℕ) (place number : ℕ) (x : X) → (row_of x).address < 2 ^ 32 → IsByAddress (map row_of slots) numbers → rows_in (map row_of slots) numbers ≡ rows → IsPlace rows (row_of x).address place → row_at rows (row_of x).address ≡ None → number ≡ length slots → new_slots ≡ slots ++ x ∷ [] → new_numbers ≡ insert numbers place number
+    → IsByAddress (map row_of new_slots) new_numbers × (rows_in (map row_of new_slots) new_numbers ≡ with_row (row_of x) rows)
+inserted_seen row_of slots new_slots rows numbers new_numbers place number x low sorted are p none is pushed put =
+    inserted_now (map row_of slots) rows (map row_of new_slots) numbers new_numbers place number (row_of x) low sorted are p none (is ∙ sym (length-map slots row_of)) (ap (map row_of) pushed ∙ map-append row_of slots (x ∷ [])) put
 
 -- what a loop that numbers rows keeps
 pub record AreFirst (rows : List Row) (count : ℕ) (numbers : List ℕ) : Type 0 where

@@ -1,9 +1,11 @@
 ghost use Rattle.std.specs.Prelude.{◌≡◌, ◌+◌, ◌<◌, [], length, None, OnOk, is_some, if◌then◌else◌, slice_index_or};
-ghost use Rattle.kd_rows.specs.Index.{IsBound, IsBounded, IsLower, IsNow, IsPlace, block_number, bound_row, end_at};
+ghost use Rattle.kd_rows.specs.Index.{IsBound, IsBounded, IsLower, IsNow, IsPlace, IsRowPlace, block_number, bound_row, end_at};
 ghost use Rattle.kd_rows.specs.Table.{Rise, row_at, with_row};
 
 use crate::addresses::is_among;
+use crate::numbers::number_of;
 use crate::open_rows::OpenRows;
+use crate::tiered::Tiered;
 use std::alloc::{AllocError, Global};
 use std::marker::Model;
 
@@ -24,23 +26,27 @@ pub(crate) struct Bound {
     pub(crate) least: u64,
 }
 
-// The bounds of the blocks that have rows, in rising order of the blocks.
+// The bounds of the blocks that have rows, in rising order of the blocks. A bound stays in the slot
+// in which it came: where one is put among the others, only the numbers of slots move.
 #[derive(Drop)]
 pub(crate) struct Blocks {
-    bounds: Vec<Bound>,
+    slots: Vec<Bound>,
+    // The numbers of the slots, in rising order of their blocks.
+    order: Tiered,
 }
 
 impl Model for Blocks {
-    ghost use Rattle.std.specs.Prelude.{◌-◌, map, vec_capacity, vec_len};
-    ghost use Rattle.kd_rows.specs.Index.{Bounds, bound_row};
+    ghost use Rattle.std.specs.Prelude.{◌-◌, map, min, vec_capacity, vec_len};
+    ghost use Rattle.kd_rows.specs.Index.{Bounds, IsByAddress, bound_row, rows_in};
 
     ghost Value = { Bounds };
 
     ghost view = { λ s. record {
-      rows = map bound_row s.bounds.items;
-      room = vec_capacity s.bounds - vec_len
-          s.bounds;
+      rows = rows_in (map bound_row s.slots.items) s.order.numbers;
+      room = min (vec_capacity s.slots - vec_len s.slots) s.order.room;
     } };
+
+    ghost invariant = { λ s. IsByAddress (map bound_row s.slots.items) s.order.numbers };
 }
 
 impl Blocks {
@@ -49,7 +55,8 @@ impl Blocks {
         ensures { result.rows ≡ [] }
     {
         Blocks {
-            bounds: Vec::new(alloc),
+            slots: Vec::new(alloc),
+            order: Tiered::new(alloc),
         }
     }
 
@@ -57,7 +64,7 @@ impl Blocks {
     pub(crate) fn len(&self) -> usize
         ensures { result ≡ length self.now.rows }
     {
-        self.bounds.len()
+        self.order.len()
     }
 
     // The bound at a place.
@@ -65,7 +72,7 @@ impl Blocks {
         requires { place < length self.now.rows }
         ensures { bound_row result ≡ slice_index_or self.now.rows place (bound_row result) }
     {
-        self.bounds[place]
+        self.slots[self.order.at(place) as usize]
     }
 
     // The place of the first bound that is of a block or of one above it.
@@ -74,7 +81,7 @@ impl Blocks {
         ensures { IsPlace self.now.rows block result }
     {
         let mut low = 0;
-        let mut high = self.bounds.len();
+        let mut high = self.order.len();
         'halves: while low < high {
             let middle = low + (high - low) / 2;
             if self.at(middle).block < block {
@@ -103,7 +110,8 @@ impl Blocks {
     pub(crate) fn room(&self) -> usize
         ensures { result ≡ self.now.room }
     {
-        self.bounds.capacity() - self.bounds.len()
+        let slots = self.slots.capacity() - self.slots.len();
+        slots.min(self.order.room())
     }
 
     // Makes room for a bound more.
@@ -111,7 +119,8 @@ impl Blocks {
         ensures rows { self.new.rows ≡ self.old.rows }
         ensures room { OnOk result (0 < self.new.room) }
     {
-        self.bounds.reserve(1)
+        self.slots.reserve(1)?;
+        self.order.reserve()
     }
 
     // Sets a bound: in place of that of its block, or where its block belongs.
@@ -124,13 +133,33 @@ impl Blocks {
     {
         let place = self.place_of(bound.block);
         if place < self.len() && self.at(place).block == bound.block {
-            self.bounds[place] = bound;
+            self.replace(place, bound);
         } else {
-            match self.bounds.insert(place, bound) {
-                Ok(()) => (),
-                Err(_) => unreachable!(),
-            }
+            self.insert_bound(place, bound);
         }
+    }
+
+    // Sets a bound in place of the one of its block.
+    fn replace(&mut self, place: usize, bound: Bound)
+        requires { IsRowPlace self.old.rows bound.block place }
+        ensures rows { self.new.rows ≡ with_row (bound_row bound) self.old.rows }
+        ensures room { self.new.room ≡ self.old.room }
+    {
+        let number = self.order.at(place) as usize;
+        self.slots[number] = bound;
+    }
+
+    // Puts a bound where its block, which has none, belongs.
+    fn insert_bound(&mut self, place: usize, bound: Bound)
+        requires place { IsPlace self.old.rows bound.block place }
+        requires none { row_at self.old.rows bound.block ≡ None }
+        requires room { 0 < self.old.room }
+        ensures rows { self.new.rows ≡ with_row (bound_row bound) self.old.rows }
+        ensures room { self.new.room + 1 ≡ self.old.room }
+    {
+        let number = number_of(self.slots.len(), bound.block);
+        self.order.put_at(place, number);
+        self.slots.push_reserved(bound);
     }
 }
 

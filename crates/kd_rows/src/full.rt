@@ -18,7 +18,8 @@ pub(crate) struct Run {
 }
 
 // Runs of addresses that all have rows, so that what is full need not be searched. Rows are never
-// removed, so a run stays true. Not every address that has a row is in one.
+// removed, so a run stays true. Where an address comes between two runs they are joined. Not every
+// address that has a row is in one.
 #[derive(Drop)]
 pub(crate) struct Full {
     runs: Vec<Run>,
@@ -65,9 +66,25 @@ impl Full {
     {
         if new {
             match self.ending_before(address) {
-                Some(place) => self.runs[place].last = address,
+                Some(place) => self.lengthen(place, address),
                 None => self.begin(address),
             }
+        }
+    }
+
+    // A run that ends right before an address that has a row has that one too; where another begins
+    // right after it, the two are joined.
+    fn lengthen(&mut self, place: usize, address: u32)
+        requires place { place < length self.old }
+        requires ends { (d : Run) → (slice_index_or self.old place d).last + 1 ≡ address }
+        ensures { (rows : List Row) → AreFull rows self.old → IsSome (row_at rows address)
+            → AreFull rows self.new }
+    {
+        if let Some(after) = self.beginning_after(address) {
+            self.runs[place].last = self.runs[after].last;
+            self.runs.swap_remove(after);
+        } else {
+            self.runs[place].last = address;
         }
     }
 
