@@ -118,7 +118,7 @@ fn replied(
 {
     let room = room_of(question.message);
     let reply = Reply {
-        header: reply_header(kind, yiaddr, &question.message.header()),
+        header: reply_header(kind, yiaddr, question.message.header()),
         items: reply_items(alloc, question, kind, yiaddr)?,
     };
     if !fits_room(&reply, room) {

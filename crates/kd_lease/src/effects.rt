@@ -303,7 +303,7 @@ fn quiet(reason: Reason) -> Effect
 pub(crate) fn subnet_for<'a>(question: &Question<'a>) -> Option<&'a Subnet>
     ensures { option_copied result ≡ serving_subnet (asking question.now) }
 {
-    subnet_of(question.config, question.names, &question.message.header())
+    subnet_of(question.config, question.names, question.message.header())
 }
 
 /// The server that a message names, option 54, in host order (RFC 2132 section 9.7).

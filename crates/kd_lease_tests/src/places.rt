@@ -71,7 +71,7 @@ fn sent_to(alloc: Global, way: Way) -> Result<Destination, Fail> {
         kind,
         yiaddr: 0xc000_020a,
         reply: Reply {
-            header: message.header(),
+            header: *message.header(),
             items: Items::own(Vec::new(alloc)),
         },
         room: 548,

@@ -67,10 +67,10 @@ impl<'a> Message<'a> {
     }
 
     /// The header's fields.
-    pub fn header(&self) -> Header
-        ensures { result ≡ self.now.header }
+    pub fn header(&self) -> &Header
+        ensures { result.now ≡ self.now.header }
     {
-        self.head
+        &self.head
     }
 
     /// The number of bytes of the datagram, 240 to 4,096.

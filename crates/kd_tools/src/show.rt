@@ -32,8 +32,8 @@ fn put_header(alloc: Global, out: &mut String, message: &Message<'_>) -> Result<
 {
     let header = message.header();
     put_len(out, message.len())?;
-    put_numbers(alloc, out, &header)?;
-    put_addresses(out, &header)?;
+    put_numbers(alloc, out, header)?;
+    put_addresses(out, header)?;
     put_mac(alloc, out, message)?;
     put_type(out, message)?;
     Ok(())

@@ -55,7 +55,7 @@ pub fn explain<'a>(
 {
     let Trace { outcomes, names } = trace_classes(alloc, config.classes(), message)?;
     let client = identity(alloc, message)?;
-    let subnet = subnet_of(config, &names, &message.header());
+    let subnet = subnet_of(config, &names, message.header());
     let reservation = reservation_in(message, subnet);
     let asked = Asked {
         config,

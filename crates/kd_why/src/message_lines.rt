@@ -19,7 +19,7 @@ pub(crate) fn put_message(out: &mut String, scene: &Scene<'_>) -> Result<(), All
 {
     put_moment(out, scene.moment)?;
     put_client(scene.alloc, out, scene.message, &scene.explanation.client)?;
-    put_header(out, &scene.message.header())?;
+    put_header(out, scene.message.header())?;
     put_options(out, scene.message)
 }
 

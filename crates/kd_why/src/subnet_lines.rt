@@ -16,7 +16,7 @@ pub(crate) fn put_place(out: &mut String, scene: &Scene<'_>) -> Result<(), Alloc
     ensures { OnOk result (string_bytes out.new ≡ string_bytes out.old
         ++ place_line scene.now.config.now.server scene.now.message.now.header) }
 {
-    put_place_of(out, scene.config.server(), &scene.message.header())
+    put_place_of(out, scene.config.server(), scene.message.header())
 }
 
 #[tactic(auto, unfolding(crate::specs::FoundLines::place_line))]
@@ -58,7 +58,7 @@ pub(crate) fn put_subnets(out: &mut String, scene: &Scene<'_>) -> Result<(), All
         scene.now.explanation.now.names scene.now.config.now.subnets) }
 {
     let sought = Sought {
-        place: place_of(scene.config.server(), &scene.message.header()),
+        place: place_of(scene.config.server(), scene.message.header()),
         names: &scene.explanation.names,
     };
     put_sought(scene.alloc, out, sought, scene.config.subnets())
