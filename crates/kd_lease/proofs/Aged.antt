@@ -16,14 +16,15 @@ use Rattle.kd_rows.specs.declared.row.Row.{Row}
 use Rattle.kd_rows.specs.declared.row.State.{State}
 use Rattle.kd_rows.specs.declared.row.State.TheVariants.{Offered, Bound, Released, Declined}
 use Rattle.kd_lease.specs.Aging.{is_in_state, is_within, live_sought, newer_found, reserved_sought, sought_for, sought_in, sought_within, state_sought}
-use Rattle.kd_lease.specs.Choice.{Asking, address_reserved, changed_in, fitting_for, has_such, held_row, holding_state, live_row, past_row, pooled, reserved_anywhere, same_address, set_later}
+use Rattle.kd_lease.specs.Choice.{Asking, Rank, changed_in, has_rank, has_such, held_row, holding_state, is_before, live_row, pooled, reserved_anywhere, same_address, set_later}
 use Rattle.kd_lease.specs.Choice.Rank.{own, past}
 use Rattle.kd_lease.specs.Ranks.{IsRanked}
-use Rattle.kd_lease.specs.Rules.{IsNewest, offered_state}
-use Rattle.kd_lease.specs.Seeking.{sought_at}
+use Rattle.kd_lease.specs.Rules.{IsNewest, asking, held_at, offered_state}
+use Rattle.kd_lease.specs.Seeking.{fitting_with, past_at, sought_at}
+use Rattle.kd_lease.specs.declared.choosing.Choosing.{Choosing}
 use Rattle.kd_lease.specs.declared.seeking.Sought.{Sought}
 use Rattle.kd_lease.specs.declared.seeking.Sought.TheVariants as seeks
-use Rattle.kd_lease.proofs.Newest.{not_newer, not_newer_itself, sought_is_mine}
+use Rattle.kd_lease.proofs.Newest.{not_newer, not_newer_itself, own_sought, past_sought, sought_is_mine}
 
 both : (t u : Bool) → (t && u) ≡ true → (t ≡ true) × (u ≡ true)
 both true u h = (refl, h)
@@ -130,21 +131,21 @@ by_state q sought first last o b r d ho hb hr hd =
 
 -- what is sought has a row in one of the states that it can be in
 in_states : (q : Asking) (sought : Sought) (a : ℕ) (row : Row) → row_at q.rows a ≡ Some row → sought_at q sought a ≡ true → state_sought sought row.state ≡ true
-in_states q (seeks.Own s) a row there h =
-    let held = (both (has_such (held_row q) (row_at q.rows a)) (fitting_for q s.now a) h).0 in
+in_states q (seeks.Own choosing) a row there h =
+    let held = (both (held_at q a) (fitting_with choosing.now a) h).0 in
     let its : held_row q row ≡ true = sym (ap (has_such (held_row q)) there) ∙ held in
     (both (belongs_to q.client row) (holding_state row.state) (both (live_row q.now row) (belongs_to q.client row && holding_state row.state) its).1).1
-in_states q (seeks.Past s) a row there h = refl
+in_states q (seeks.Past choosing) a row there h = refl
 in_states q seeks.Offer a row there h =
     let its : (live_row q.now row && (belongs_to q.client row && offered_state row.state)) ≡ true = sym (ap (has_such (λ r. live_row q.now r && (belongs_to q.client r && offered_state r.state))) there) ∙ h in
     (both (belongs_to q.client row) (offered_state row.state) (both (live_row q.now row) (belongs_to q.client row && offered_state row.state) its).1).1
 
 -- such a row is live, where rows that have not ended are sought
 is_live_at : (q : Asking) (sought : Sought) (a : ℕ) (row : Row) → row_at q.rows a ≡ Some row → live_sought sought ≡ true → sought_at q sought a ≡ true → live_row q.now row ≡ true
-is_live_at q (seeks.Own s) a row there live h =
-    let held = (both (has_such (held_row q) (row_at q.rows a)) (fitting_for q s.now a) h).0 in
+is_live_at q (seeks.Own choosing) a row there live h =
+    let held = (both (held_at q a) (fitting_with choosing.now a) h).0 in
     (both (live_row q.now row) (belongs_to q.client row && holding_state row.state) (sym (ap (has_such (held_row q)) there) ∙ held)).0
-is_live_at q (seeks.Past s) a row there live h = absurd (false≢true live)
+is_live_at q (seeks.Past choosing) a row there live h = absurd (false≢true live)
 is_live_at q seeks.Offer a row there live h =
     (both (live_row q.now row) (belongs_to q.client row && offered_state row.state) (sym (ap (has_such (λ r. live_row q.now r && (belongs_to q.client r && offered_state r.state))) there) ∙ h)).0
 
@@ -365,49 +366,49 @@ not_in_state q sought state first last out a = by (sought_in q sought state firs
       absurd (false≢true (sym out ∙ (sym (ap (state_sought sought) is) ∙ in_states q sought a s.row s.there s.is)))
 
 -- those that are sought at the address that is reserved for the client, or in the first n pools
-abbrev pub sought_up_to : Asking → Sought → Subnet → ℕ → ℕ → Bool
-sought_up_to q sought s n a = sought_at q sought a && (same_address (address_reserved q.message s) a || list_any (λ pool. has pool.range a) (take n s.pools))
+abbrev pub sought_up_to : Asking → Sought → Choosing → ℕ → ℕ → Bool
+sought_up_to q sought choosing n a = sought_at q sought a && (same_address choosing.own a || list_any (λ pool. has pool.range a) (take n choosing.subnet.now.pools))
 
-pub no_pool_yet : (q : Asking) (sought : Sought) (s : Subnet) (best : Option ℕ) → IsNewest q.rows (reserved_sought q sought s) best → IsNewest q.rows (sought_up_to q sought s 0) best
-no_pool_yet q sought s best = newest_alike q.rows (reserved_sought q sought s) (sought_up_to q sought s 0) best (λ a. ap (λ (t : Bool). sought_at q sought a && t) (no_or (same_address (address_reserved q.message s) a) false refl))
+pub no_pool_yet : (q : Asking) (sought : Sought) (choosing : Choosing) (best : Option ℕ) → IsNewest q.rows (reserved_sought q sought choosing.own) best → IsNewest q.rows (sought_up_to q sought choosing 0) best
+no_pool_yet q sought choosing best = newest_alike q.rows (reserved_sought q sought choosing.own) (sought_up_to q sought choosing 0) best (λ a. ap (λ (t : Bool). sought_at q sought a && t) (no_or (same_address choosing.own a) false refl))
 
 -- a pool more
-pub pool_more : (q : Asking) (sought : Sought) (s : Subnet) (n : ℕ) (pool : Pool) (best found : Option ℕ) → n < length s.pools → pool ≡ get_or s.pools n pool → IsNewest q.rows (sought_up_to q sought s n) best
-    → IsNewest q.rows (sought_within q sought pool.range.first pool.range.last) found → IsNewest q.rows (sought_up_to q sought s (n + 1)) (newer_found q.rows best found)
-pool_more q sought s n pool best found less is h g = newest_of_both q.rows (sought_up_to q sought s n) (sought_within q sought pool.range.first pool.range.last) (sought_up_to q sought s (n + 1)) best found each h g where
+pub pool_more : (q : Asking) (sought : Sought) (choosing : Choosing) (n : ℕ) (pool : Pool) (best found : Option ℕ) → n < length choosing.subnet.now.pools → pool ≡ get_or choosing.subnet.now.pools n pool → IsNewest q.rows (sought_up_to q sought choosing n) best
+    → IsNewest q.rows (sought_within q sought pool.range.first pool.range.last) found → IsNewest q.rows (sought_up_to q sought choosing (n + 1)) (newer_found q.rows best found)
+pool_more q sought choosing n pool best found less is h g = newest_of_both q.rows (sought_up_to q sought choosing n) (sought_within q sought pool.range.first pool.range.last) (sought_up_to q sought choosing (n + 1)) best found each h g where
   by : (w r t u : Bool) → (w && (r || (t || u))) ≡ ((w && (r || t)) || (w && u))
   by true true t u = refl
   by true false t u = refl
   by false r t u = refl
 
-  each : (a : ℕ) → sought_up_to q sought s (n + 1) a ≡ (sought_up_to q sought s n a || sought_within q sought pool.range.first pool.range.last a)
+  each : (a : ℕ) → sought_up_to q sought choosing (n + 1) a ≡ (sought_up_to q sought choosing n a || sought_within q sought pool.range.first pool.range.last a)
   each a =
-      ap (λ (t : Bool). sought_at q sought a && (same_address (address_reserved q.message s) a || t)) (list_any_more (λ p. has p.range a) s.pools n pool less ∙ ap (λ (p : Pool). list_any (λ o. has o.range a) (take n s.pools) || has p.range a) (sym is))
-      ∙ by (sought_at q sought a) (same_address (address_reserved q.message s) a) (list_any (λ p. has p.range a) (take n s.pools)) (has pool.range a)
+      ap (λ (t : Bool). sought_at q sought a && (same_address choosing.own a || t)) (list_any_more (λ p. has p.range a) choosing.subnet.now.pools n pool less ∙ ap (λ (p : Pool). list_any (λ o. has o.range a) (take n choosing.subnet.now.pools) || has p.range a) (sym is))
+      ∙ by (sought_at q sought a) (same_address choosing.own a) (list_any (λ p. has p.range a) (take n choosing.subnet.now.pools)) (has pool.range a)
 
-pub all_pools : (q : Asking) (sought : Sought) (s : Subnet) (n : ℕ) (best : Option ℕ) → length s.pools ≤ n → IsNewest q.rows (sought_up_to q sought s n) best → IsNewest q.rows (sought_for q sought s) best
-all_pools q sought s n best all = newest_alike q.rows (sought_up_to q sought s n) (sought_for q sought s) best (λ a. ap (λ (pools : List Pool). sought_at q sought a && (same_address (address_reserved q.message s) a || list_any (λ p. has p.range a) pools)) (sym (take_all n s.pools all)))
+pub all_pools : (q : Asking) (sought : Sought) (choosing : Choosing) (n : ℕ) (best : Option ℕ) → length choosing.subnet.now.pools ≤ n → IsNewest q.rows (sought_up_to q sought choosing n) best → IsNewest q.rows (sought_for q sought choosing) best
+all_pools q sought choosing n best all = newest_alike q.rows (sought_up_to q sought choosing n) (sought_for q sought choosing) best (λ a. ap (λ (pools : List Pool). sought_at q sought a && (same_address choosing.own a || list_any (λ p. has p.range a) pools)) (sym (take_all n choosing.subnet.now.pools all)))
 
--- what fits a subnet is reserved for the client there, or in a pool
-fits_somewhere : (q : Asking) (s : Subnet) (a : ℕ) → fitting_for q s a ≡ true → (same_address (address_reserved q.message s) a || pooled s a) ≡ true
-fits_somewhere q s a = by (pooled s a) (reserved_anywhere q.config a) (same_address (address_reserved q.message s) a) where
+-- what fits is reserved for the client, or in a pool
+fits_somewhere : (choosing : Choosing) (a : ℕ) → fitting_with choosing a ≡ true → (same_address choosing.own a || pooled choosing.subnet.now a) ≡ true
+fits_somewhere choosing a = by (pooled choosing.subnet.now a) (reserved_anywhere choosing.question.now.config.now a) (same_address choosing.own a) where
   by : (t u w : Bool) → ((t && not u) || w) ≡ true → (w || t) ≡ true
   by t u true h = refl
   by true u false h = refl
   by false u false h = h
 
-in_subnet : (q : Asking) (s : Subnet) (t : ℕ → Bool) (a : ℕ) → ((t a && fitting_for q s a) && (same_address (address_reserved q.message s) a || pooled s a)) ≡ (t a && fitting_for q s a)
-in_subnet q s t a = by (t a && fitting_for q s a) (λ h. fits_somewhere q s a (both (t a) (fitting_for q s a) h).1) where
-  by : (w : Bool) → (w ≡ true → (same_address (address_reserved q.message s) a || pooled s a) ≡ true) → (w && (same_address (address_reserved q.message s) a || pooled s a)) ≡ w
+in_subnet : (choosing : Choosing) (t : ℕ → Bool) (a : ℕ) → ((t a && fitting_with choosing a) && (same_address choosing.own a || pooled choosing.subnet.now a)) ≡ (t a && fitting_with choosing a)
+in_subnet choosing t a = by (t a && fitting_with choosing a) (λ h. fits_somewhere choosing a (both (t a) (fitting_with choosing a) h).1) where
+  by : (w : Bool) → (w ≡ true → (same_address choosing.own a || pooled choosing.subnet.now a) ≡ true) → (w && (same_address choosing.own a || pooled choosing.subnet.now a)) ≡ w
   by true h = h refl
   by false h = refl
 
 -- the newest of those that are held or were held in a subnet is the newest of all that are
-pub newest_own : (q : Asking) (s : Bor Subnet) (best : Option ℕ) → IsNewest q.rows (sought_for q (seeks.Own s) s.now) best → IsNewest q.rows (sought_at q (seeks.Own s)) best
-newest_own q s best = newest_alike q.rows (sought_for q (seeks.Own s) s.now) (sought_at q (seeks.Own s)) best (λ a. sym (in_subnet q s.now (λ b. has_such (held_row q) (row_at q.rows b)) a))
+pub newest_own : (q : Asking) (choosing : Bor Choosing) (best : Option ℕ) → IsNewest q.rows (sought_for q (seeks.Own choosing) choosing.now) best → IsNewest q.rows (sought_at q (seeks.Own choosing)) best
+newest_own q choosing best = newest_alike q.rows (sought_for q (seeks.Own choosing) choosing.now) (sought_at q (seeks.Own choosing)) best (λ a. sym (in_subnet choosing.now (held_at q) a))
 
-pub newest_past : (q : Asking) (s : Bor Subnet) (best : Option ℕ) → IsNewest q.rows (sought_for q (seeks.Past s) s.now) best → IsNewest q.rows (sought_at q (seeks.Past s)) best
-newest_past q s best = newest_alike q.rows (sought_for q (seeks.Past s) s.now) (sought_at q (seeks.Past s)) best (λ a. sym (in_subnet q s.now (λ b. has_such (past_row q) (row_at q.rows b)) a))
+pub newest_past : (q : Asking) (choosing : Bor Choosing) (best : Option ℕ) → IsNewest q.rows (sought_for q (seeks.Past choosing) choosing.now) best → IsNewest q.rows (sought_at q (seeks.Past choosing)) best
+newest_past q choosing best = newest_alike q.rows (sought_for q (seeks.Past choosing) choosing.now) (sought_at q (seeks.Past choosing)) best (λ a. sym (in_subnet choosing.now (past_at q) a))
 
 -- what is true of all rows is true of that of an address
 pub all_at : (P : Row → Type 0) (rows : List Row) → All P rows → (a : ℕ) (row : Row) → row_at rows a ≡ Some row → P row
@@ -438,25 +439,27 @@ newest_of_all_rows q sought best bounded = newest_alike q.rows (sought_within q 
     by true (Some row) e mine = sym (low a (subst (λ (x : ℕ). x < 4294967296) (address_at q.rows a row e) (all_at (λ r. r.address < 4294967296) q.rows bounded a row e)))
 
 -- the newest is the first of its rank
-pub own_ranked : (q : Asking) (s : Bor Subnet) (best : Option ℕ) → IsNewest q.rows (sought_at q (seeks.Own s)) best → IsRanked q s.now own best
-own_ranked q s None h = h
-own_ranked q s (Some a) h = record { ranked = h.0; first = h.1 }
+ranked : (q : Asking) (s : Subnet) (r : Rank) (such : ℕ → Bool) (best : Option ℕ) → ((a b : ℕ) → is_before q s r a b ≡ set_later q.rows a b) → ((a : ℕ) → has_rank q s r a ≡ such a) → IsNewest q.rows such best → IsRanked q s r best
+ranked q s r such None before same h = λ a. same a ∙ h a
+ranked q s r such (Some a) before same h = record { ranked = same a ∙ h.0; first = λ b has. before b a ∙ h.1 b (sym (same b) ∙ has) }
 
-pub past_ranked : (q : Asking) (s : Bor Subnet) (best : Option ℕ) → IsNewest q.rows (sought_at q (seeks.Past s)) best → IsRanked q s.now past best
-past_ranked q s None h = h
-past_ranked q s (Some a) h = record { ranked = h.0; first = h.1 }
+pub own_ranked : (choosing : Bor Choosing) (best : Option ℕ) → IsNewest (asking choosing.now.question.now).rows (sought_at (asking choosing.now.question.now) (seeks.Own choosing)) best → IsRanked (asking choosing.now.question.now) choosing.now.subnet.now own best
+own_ranked choosing best = ranked (asking choosing.now.question.now) choosing.now.subnet.now own (sought_at (asking choosing.now.question.now) (seeks.Own choosing)) best (λ a b. refl) (λ a. sym (own_sought choosing a))
+
+pub past_ranked : (choosing : Bor Choosing) (best : Option ℕ) → IsNewest (asking choosing.now.question.now).rows (sought_at (asking choosing.now.question.now) (seeks.Past choosing)) best → IsRanked (asking choosing.now.question.now) choosing.now.subnet.now past best
+past_ranked choosing best = ranked (asking choosing.now.question.now) choosing.now.subnet.now past (sought_at (asking choosing.now.question.now) (seeks.Past choosing)) best (λ a b. refl) (λ a. sym (past_sought choosing a))
 
 -- the address that is reserved for the client, where it is sought
-pub reserved_it : (q : Asking) (sought : Sought) (s : Subnet) (a : ℕ) → address_reserved q.message s ≡ Some a → sought_at q sought a ≡ true → IsNewest q.rows (reserved_sought q sought s) (Some a)
-reserved_it q sought s a is it = (and_true (sought_at q sought a) _ it (ap (λ (o : Option ℕ). same_address o a) is ∙ eq-eqb a a refl), newest) where
-  newest : (b : ℕ) → reserved_sought q sought s b ≡ true → set_later q.rows b a ≡ false
+pub reserved_it : (q : Asking) (sought : Sought) (kept : Option ℕ) (a : ℕ) → kept ≡ Some a → sought_at q sought a ≡ true → IsNewest q.rows (reserved_sought q sought kept) (Some a)
+reserved_it q sought kept a is it = (and_true (sought_at q sought a) _ it (ap (λ (o : Option ℕ). same_address o a) is ∙ eq-eqb a a refl), newest) where
+  newest : (b : ℕ) → reserved_sought q sought kept b ≡ true → set_later q.rows b a ≡ false
   newest b h =
       let same : a ≡ b = eqb-true a b (sym (ap (λ (o : Option ℕ). same_address o b) is) ∙ (both (sought_at q sought b) _ h).1) in
       ap (λ (x : ℕ). set_later q.rows x a) (sym same) ∙ not_newer_itself q.rows a
 
-pub reserved_not_it : (q : Asking) (sought : Sought) (s : Subnet) (a : ℕ) → address_reserved q.message s ≡ Some a → sought_at q sought a ≡ false → IsNewest q.rows (reserved_sought q sought s) None
-reserved_not_it q sought s a is not_it b = by (reserved_sought q sought s b) refl where
-  by : (t : Bool) → reserved_sought q sought s b ≡ t → reserved_sought q sought s b ≡ false
+pub reserved_not_it : (q : Asking) (sought : Sought) (kept : Option ℕ) (a : ℕ) → kept ≡ Some a → sought_at q sought a ≡ false → IsNewest q.rows (reserved_sought q sought kept) None
+reserved_not_it q sought kept a is not_it b = by (reserved_sought q sought kept b) refl where
+  by : (t : Bool) → reserved_sought q sought kept b ≡ t → reserved_sought q sought kept b ≡ false
   by false h = h
   by true h =
       let same : a ≡ b = eqb-true a b (sym (ap (λ (o : Option ℕ). same_address o b) is) ∙ (both (sought_at q sought b) _ h).1) in

@@ -1,15 +1,16 @@
 -- The newest of a client's addresses: they are looked at one after another.
-use Rattle.std.proofs.Common.{◌≡◌, ℕ, suc, ◌+◌, ◌<◌, ◌≤◌, Bool, true, false, ◌&&◌, ◌||◌, ◌==◌, nat_lt, not, List, [], ◌∷◌, length, get_or, map, filter, Option, Some, None, slice_get, refl, sym, ap, subst, ◌∙◌, arith, below_more, ⊎_elim, if◌then◌else◌}
+use Rattle.std.proofs.Common.{◌≡◌, Bor, ℕ, suc, ◌+◌, ◌<◌, ◌≤◌, Bool, true, false, ◌&&◌, ◌||◌, ◌==◌, nat_lt, not, List, [], ◌∷◌, length, get_or, map, filter, Option, Some, None, slice_get, refl, sym, ap, subst, ◌∙◌, arith, below_more, ⊎_elim, if◌then◌else◌}
 use Rattle.std.proofs.lemmas.Bool.{eqb-true, false≢true}
 use Rattle.std.proofs.lemmas.Bool.Decides.{nat_tests}
 use Rattle.std.proofs.lemmas.Option.{none-some, slice_get_cases}
 use Rattle.kd_rows.specs.Table.{addresses_of, belongs_to, row_at}
 use Rattle.kd_rows.specs.declared.row.Row.{Row}
-use Rattle.kd_lease.specs.Choice.{Asking, changed_in, fitting_for, has_rank, has_such, held_row, holding_state, live_row, set_later, past_row}
+use Rattle.kd_lease.specs.Choice.{Asking, changed_in, fitting_for, has_rank, has_such, held_row, holding_state, live_row, same_address, set_later, past_row}
 use Rattle.kd_lease.specs.Choice.Rank.{own, past}
-use Rattle.kd_lease.specs.Rules.{IsNewest, held_at, offered_state}
+use Rattle.kd_lease.specs.Rules.{IsNewest, asking, held_at, offered_state}
 use Rattle.kd_lease.specs.Ranks.{IsRanked}
-use Rattle.kd_lease.specs.Seeking.{newer_of, past_at, sought_at}
+use Rattle.kd_lease.specs.Seeking.{common_in, fitting_with, newer_of, past_at, sought_at}
+use Rattle.kd_lease.specs.declared.choosing.Choosing.{Choosing}
 use Rattle.kd_lease.specs.declared.seeking.Sought.{Sought}
 use Rattle.kd_lease.specs.declared.seeking.Sought.TheVariants as seeks
 use Rattle.kd_config.specs.declared.subnet.Subnet.{Subnet}
@@ -91,15 +92,21 @@ such_is_mine : (q : Asking) (such : Row → Bool) → ((row : Row) → such row 
 such_is_mine q such h None g = g
 such_is_mine q such h (Some row) g = h row g
 
+held_is_mine : (q : Asking) (a : ℕ) → held_at q a ≡ true → has_such (belongs_to q.client) (row_at q.rows a) ≡ true
+held_is_mine q a h = such_is_mine q (held_row q) (λ row g. mine q row (live_row q.now row) (holding_state row.state) g) (row_at q.rows a) h
+
+had_is_mine : (q : Asking) (a : ℕ) → past_at q a ≡ true → has_such (belongs_to q.client) (row_at q.rows a) ≡ true
+had_is_mine q a h = such_is_mine q (past_row q) (λ row g. past_is_mine (not (live_row q.now row)) (belongs_to q.client row) g) (row_at q.rows a) h
+
 own_is_mine : (q : Asking) (s : Subnet) (a : ℕ) → has_rank q s own a ≡ true → has_such (belongs_to q.client) (row_at q.rows a) ≡ true
-own_is_mine q s a h = such_is_mine q (held_row q) (λ row g. mine q row (live_row q.now row) (holding_state row.state) g) (row_at q.rows a) (both (held_at q a) (fitting_for q s a) h)
+own_is_mine q s a h = held_is_mine q a (both (held_at q a) (fitting_for q s a) h)
 
 past_is_its : (q : Asking) (s : Subnet) (a : ℕ) → has_rank q s past a ≡ true → has_such (belongs_to q.client) (row_at q.rows a) ≡ true
-past_is_its q s a h = such_is_mine q (past_row q) (λ row g. past_is_mine (not (live_row q.now row)) (belongs_to q.client row) g) (row_at q.rows a) (both (past_at q a) (fitting_for q s a) h)
+past_is_its q s a h = had_is_mine q a (both (past_at q a) (fitting_for q s a) h)
 
 pub sought_is_mine : (q : Asking) (sought : Sought) (a : ℕ) → sought_at q sought a ≡ true → has_such (belongs_to q.client) (row_at q.rows a) ≡ true
-sought_is_mine q (seeks.Own s) a h = own_is_mine q s.now a h
-sought_is_mine q (seeks.Past s) a h = past_is_its q s.now a h
+sought_is_mine q (seeks.Own choosing) a h = held_is_mine q a (both (held_at q a) (fitting_with choosing.now a) h)
+sought_is_mine q (seeks.Past choosing) a h = had_is_mine q a (both (past_at q a) (fitting_with choosing.now a) h)
 sought_is_mine q seeks.Offer a h = such_is_mine q (λ row. live_row q.now row && (belongs_to q.client row && offered_state row.state)) (λ row g. mine q row (live_row q.now row) (offered_state row.state) g) (row_at q.rows a) h
 
 pub at_start : (rows : List Row) (such : ℕ → Bool) (xs : List ℕ) → IsNewestOf rows such xs 0 None
@@ -109,6 +116,22 @@ at_start rows such xs k less = absurd (omega arith)
 pub better_is : (q : Asking) (sought : Sought) (best : Option ℕ) (a : ℕ) → newer_of q sought best a ≡ better_of q.rows (sought_at q sought) best a
 better_is q sought None a = refl
 better_is q sought (Some b) a = refl
+
+-- what fits a choice is what fits its subnet for its client
+fits_same : (choosing : Choosing) (such : ℕ → Bool) (b : ℕ) → (such b && fitting_with choosing b) ≡ (such b && fitting_for (asking choosing.question.now) choosing.subnet.now b)
+fits_same choosing such b = ap (λ (own : Option ℕ). such b && (common_in choosing.question.now.config.now choosing.subnet.now b || same_address own b)) choosing.reserved
+
+-- what is sought among those that the client holds, or had, has that rank
+pub own_sought : (choosing : Bor Choosing) (b : ℕ) → sought_at (asking choosing.now.question.now) (seeks.Own choosing) b ≡ has_rank (asking choosing.now.question.now) choosing.now.subnet.now own b
+own_sought choosing = fits_same choosing.now (held_at (asking choosing.now.question.now))
+
+pub past_sought : (choosing : Bor Choosing) (b : ℕ) → sought_at (asking choosing.now.question.now) (seeks.Past choosing) b ≡ has_rank (asking choosing.now.question.now) choosing.now.subnet.now past b
+past_sought choosing = fits_same choosing.now (past_at (asking choosing.now.question.now))
+
+-- the same address is better where the same are such
+pub better_same : (rows : List Row) (p r : ℕ → Bool) (best : Option ℕ) (a : ℕ) → p a ≡ r a → better_of rows p best a ≡ better_of rows r best a
+better_same rows p r None a same = ap (λ (t : Bool). if t then Some a else None) same
+better_same rows p r (Some b) a same = ap (λ (t : Bool). if t && set_later rows a b then Some a else Some b) same
 
 -- no address stands after the last
 pub get_past : (xs : List ℕ) (i : ℕ) → slice_get xs i ≡ None → length xs ≤ i

@@ -1,20 +1,20 @@
 -- A client's rows by their age: words of private contracts alone.
 use Rattle.std.specs.Prelude.{ℕ, Bool, true, false, ◌&&◌, ◌||◌, ◌==◌, nat_le, List, Option, Some, None, if◌then◌else◌}
-use Rattle.kd_config.specs.declared.subnet.Subnet.{Subnet}
 use Rattle.kd_rows.specs.Row.{state_number}
 use Rattle.kd_rows.specs.Table.{row_at}
 use Rattle.kd_rows.specs.declared.row.Row.{Row}
 use Rattle.kd_rows.specs.declared.row.State.{State}
-use Rattle.kd_lease.specs.Choice.{Asking, address_reserved, has_such, holding_state, pooled, same_address, set_later}
+use Rattle.kd_lease.specs.Choice.{Asking, has_such, holding_state, pooled, same_address, set_later}
 use Rattle.kd_lease.specs.Rules.{offered_state}
 use Rattle.kd_lease.specs.Seeking.{sought_at}
+use Rattle.kd_lease.specs.declared.choosing.Choosing.{Choosing}
 use Rattle.kd_lease.specs.declared.seeking.Sought.{Sought}
 use Rattle.kd_lease.specs.declared.seeking.Sought.TheVariants as seeks
 
 -- a state in which a row that is sought can be
 abbrev pub state_sought : Sought → State → Bool
-state_sought (seeks.Own s) state = holding_state state
-state_sought (seeks.Past s) state = true
+state_sought (seeks.Own choosing) state = holding_state state
+state_sought (seeks.Past choosing) state = true
 state_sought seeks.Offer state = offered_state state
 
 -- an address is from first to last
@@ -36,19 +36,18 @@ sought_in q sought state first last a =
 
 -- what is sought are rows that have not ended
 abbrev pub live_sought : Sought → Bool
-live_sought (seeks.Own s) = true
-live_sought (seeks.Past s) = false
+live_sought (seeks.Own choosing) = true
+live_sought (seeks.Past choosing) = false
 live_sought seeks.Offer = true
 
--- an address that is sought, where it is the one that is reserved for the client in a subnet
-abbrev pub reserved_sought : Asking → Sought → Subnet → ℕ → Bool
-reserved_sought q sought s a =
-    sought_at q sought a && same_address (address_reserved q.message s) a
+-- an address that is sought, where it is the one that is reserved for the client
+abbrev pub reserved_sought : Asking → Sought → Option ℕ → ℕ → Bool
+reserved_sought q sought own a = sought_at q sought a && same_address own a
 
 -- an address that is sought, where it is reserved for the client in a subnet or in a pool of it
-abbrev pub sought_for : Asking → Sought → Subnet → ℕ → Bool
-sought_for q sought s a =
-    sought_at q sought a && (same_address (address_reserved q.message s) a || pooled s a)
+abbrev pub sought_for : Asking → Sought → Choosing → ℕ → Bool
+sought_for q sought choosing a =
+    sought_at q sought a && (same_address choosing.own a || pooled choosing.subnet.now a)
 
 -- the newer of two addresses, of which each may be missing
 abbrev pub newer_found : List Row → Option ℕ → Option ℕ → Option ℕ

@@ -1,13 +1,14 @@
 -- Words of private contracts alone: what the rules are asked over as the code holds it, what is
 -- sought among a client's addresses and in pools.
-use Rattle.std.specs.Prelude.{◌≡◌, ℕ, ◌<◌, ◌≤◌, Bool, true, false, not, ◌&&◌, is_none, Option, Some, None, if◌then◌else◌}
+use Rattle.std.specs.Prelude.{◌≡◌, ℕ, ◌<◌, ◌≤◌, Bool, true, false, not, ◌&&◌, ◌||◌, is_none, Option, Some, None, if◌then◌else◌}
 use Rattle.kd_config.specs.Address.{has_address}
 use Rattle.kd_config.specs.Configuration.{Configuration}
 use Rattle.kd_config.specs.declared.subnet.Subnet.{Subnet}
 use Rattle.kd_rows.specs.Table.{row_at}
-use Rattle.kd_lease.specs.Choice.{Asking, Choice, NoChoice, Rank, address_reserved, fitting_for, has_rank, has_such, live_row, pooled, reserved_anywhere, same_address, set_later, past_row, reserved_in}
-use Rattle.kd_lease.specs.Choice.Rank.{own, past, fresh, expired}
-use Rattle.kd_lease.specs.Rules.{offered_to}
+use Rattle.kd_lease.specs.Choice.{Asking, Choice, NoChoice, Rank, fitting_for, has_such, live_row, pooled, reserved_anywhere, same_address, set_later, past_row, reserved_in}
+use Rattle.kd_lease.specs.Choice.Rank.{fresh, expired}
+use Rattle.kd_lease.specs.Rules.{held_at, offered_to}
+use Rattle.kd_lease.specs.declared.choosing.Choosing.{Choosing}
 use Rattle.kd_lease.specs.declared.seeking.Sought.{Sought}
 use Rattle.kd_lease.specs.declared.seeking.Sought.TheVariants as seeks
 
@@ -15,10 +16,19 @@ use Rattle.kd_lease.specs.declared.seeking.Sought.TheVariants as seeks
 abbrev pub past_at : Asking → ℕ → Bool
 past_at q a = has_such (past_row q) (row_at q.rows a)
 
+-- an address is in a pool of the subnet and reserved for nobody
+abbrev pub common_in : Configuration → Subnet → ℕ → Bool
+common_in config s a = pooled s a && not (reserved_anywhere config a)
+
+-- an address fits: it is such, or the one that is reserved for the client
+abbrev pub fitting_with : Choosing → ℕ → Bool
+fitting_with choosing a =
+    common_in choosing.question.now.config.now choosing.subnet.now a || same_address choosing.own a
+
 -- an address is sought
 abbrev pub sought_at : Asking → Sought → ℕ → Bool
-sought_at q (seeks.Own s) a = has_rank q s.now own a
-sought_at q (seeks.Past s) a = has_rank q s.now past a
+sought_at q (seeks.Own choosing) a = held_at q a && fitting_with choosing.now a
+sought_at q (seeks.Past choosing) a = past_at q a && fitting_with choosing.now a
 sought_at q seeks.Offer a = offered_to q a
 
 -- the newer of what was found and an address that is sought
@@ -51,18 +61,13 @@ untaken q false a = has_such (λ row. not (live_row q.now row)) (row_at q.rows a
 abbrev pub is_open : Asking → Subnet → Bool → ℕ → Bool
 is_open q s new a = untaken q new a && fitting_for q s a
 
--- an address is in a pool of the subnet and reserved for nobody
-abbrev pub common_in : Configuration → Subnet → ℕ → Bool
-common_in config s a = pooled s a && not (reserved_anywhere config a)
-
--- such an address is open to all clients
+-- an address has that rank, where it is in a pool and reserved for nobody
 abbrev pub is_common_open : Asking → Subnet → Bool → ℕ → Bool
 is_common_open q s new a = untaken q new a && common_in q.config s a
 
--- an address is reserved for the client, and open
-abbrev pub is_kept_open : Asking → Subnet → Bool → ℕ → Bool
-is_kept_open q s new a =
-    untaken q new a && same_address (address_reserved q.message s) a
+-- an address is the one that is reserved for the client, and open
+abbrev pub is_kept_open : Asking → Option ℕ → Bool → ℕ → Bool
+is_kept_open q own new a = untaken q new a && same_address own a
 
 -- the least address from first to last that is such, or that none is
 abbrev pub IsLeast : (ℕ → Bool) → ℕ → ℕ → Option ℕ → Type 0

@@ -6,11 +6,10 @@ ghost use Rattle.kd_lease.specs.Seeking.{sought_at};
 ghost use Rattle.kd_rows.specs.Table.{row_at};
 ghost use Rattle.kd_rows.specs.declared.row.Row.{Row as RowOf};
 
+use crate::choosing::Choosing;
 use crate::fitting::is_holding;
 use crate::question::Question;
-use crate::reservation::reserved_address;
 use crate::seeking::{Sought, is_newer, is_offered, is_sought};
-use kd_config::Subnet;
 use kd_rows::{Row, Rows, State};
 
 // The newest of the client's addresses that are sought, found by the age of its rows.
@@ -19,8 +18,8 @@ pub(crate) fn newest(question: &Question<'_>, sought: &Sought<'_>) -> Option<u32
         (sought_at (asking question.now) sought.now) result }
 {
     match sought {
-        Sought::Own(subnet) => newest_in(question, sought, subnet),
-        Sought::Past(subnet) => newest_in(question, sought, subnet),
+        Sought::Own(choosing) => newest_in(question, sought, choosing),
+        Sought::Past(choosing) => newest_in(question, sought, choosing),
         Sought::Offer => {
             // Each address has 32 bits, as the length says beside itself.
             let _count = question.rows.len();
@@ -30,12 +29,12 @@ pub(crate) fn newest(question: &Question<'_>, sought: &Sought<'_>) -> Option<u32
 }
 
 // The newest of those that are reserved for the client in a subnet, or in a pool of it.
-fn newest_in(question: &Question<'_>, sought: &Sought<'_>, subnet: &Subnet) -> Option<u32>
+fn newest_in(question: &Question<'_>, sought: &Sought<'_>, choosing: &Choosing<'_>) -> Option<u32>
     ensures { IsNewest (asking question.now).rows
-        (sought_for (asking question.now) sought.now subnet.now) result }
+        (sought_for (asking question.now) sought.now choosing.now) result }
 {
-    let mut best = newest_reserved(question, sought, subnet);
-    for pool in subnet.pools.as_slice() {
+    let mut best = newest_reserved(question, sought, choosing.own);
+    for pool in choosing.subnet.pools.as_slice() {
         let found = newest_within(question, sought, pool.range.first, pool.range.last);
         best = newer(question.rows, best, found);
     }
@@ -43,11 +42,11 @@ fn newest_in(question: &Question<'_>, sought: &Sought<'_>, subnet: &Subnet) -> O
 }
 
 // The address that is reserved for the client, where it is sought.
-fn newest_reserved(question: &Question<'_>, sought: &Sought<'_>, subnet: &Subnet) -> Option<u32>
+fn newest_reserved(question: &Question<'_>, sought: &Sought<'_>, own: Option<u32>) -> Option<u32>
     ensures { IsNewest (asking question.now).rows
-        (reserved_sought (asking question.now) sought.now subnet.now) result }
+        (reserved_sought (asking question.now) sought.now own) result }
 {
-    match reserved_address(question.message, subnet) {
+    match own {
         Some(address) => {
             if is_sought(question, sought, address) {
                 Some(address)

@@ -4,10 +4,10 @@ ghost use Rattle.kd_lease.specs.Rules.{asking};
 ghost use Rattle.kd_lease.specs.Ranks.{IsRanked};
 ghost use Rattle.kd_lease.specs.Seeking.{IsChosen};
 
-use crate::fitting::{is_free, is_usable, requested_of};
+use crate::choosing::Choosing;
+use crate::fitting::{fits_with, is_free, requested_of};
 use crate::pooling::pooled;
 use crate::question::Question;
-use crate::reservation::reserved_address;
 use crate::seeking::newest_known;
 use kd_config::Subnet;
 
@@ -15,11 +15,12 @@ use kd_config::Subnet;
 pub(crate) fn choose(question: &Question<'_>, subnet: &Subnet) -> Option<u32>
     ensures { IsChosen (asking question.now) subnet.now result }
 {
-    match kept(question, subnet) {
+    let choosing = Choosing::new(question, subnet);
+    match kept(&choosing) {
         Some(address) => return Some(address),
         None => {}
     }
-    let known = newest_known(question, subnet);
+    let known = newest_known(&choosing);
     match known.own {
         Some(address) => return Some(address),
         None => {}
@@ -28,24 +29,24 @@ pub(crate) fn choose(question: &Question<'_>, subnet: &Subnet) -> Option<u32>
         Some(address) => return Some(address),
         None => {}
     }
-    match asked_for(question, subnet) {
+    match asked_for(&choosing) {
         Some(address) => return Some(address),
         None => {}
     }
-    match pooled(question, subnet, true) {
+    match pooled(&choosing, true) {
         Some(address) => return Some(address),
         None => {}
     }
-    pooled(question, subnet, false)
+    pooled(&choosing, false)
 }
 
 // The address that is reserved for the client, where it is free.
-pub(crate) fn kept(question: &Question<'_>, subnet: &Subnet) -> Option<u32>
-    ensures { IsRanked (asking question.now) subnet.now reserved result }
+pub(crate) fn kept(choosing: &Choosing<'_>) -> Option<u32>
+    ensures { IsRanked (asking choosing.now.question.now) choosing.now.subnet.now reserved result }
 {
-    match reserved_address(question.message, subnet) {
+    match choosing.own {
         Some(address) => {
-            if is_free(question, address) {
+            if is_free(choosing.question, address) {
                 Some(address)
             } else {
                 None
@@ -56,12 +57,12 @@ pub(crate) fn kept(question: &Question<'_>, subnet: &Subnet) -> Option<u32>
 }
 
 // The address that the client asks for, where it may be given it.
-pub(crate) fn asked_for(question: &Question<'_>, subnet: &Subnet) -> Option<u32>
-    ensures { IsRanked (asking question.now) subnet.now asked result }
+pub(crate) fn asked_for(choosing: &Choosing<'_>) -> Option<u32>
+    ensures { IsRanked (asking choosing.now.question.now) choosing.now.subnet.now asked result }
 {
-    match requested_of(question.message) {
+    match requested_of(choosing.question.message) {
         Some(address) => {
-            if is_usable(question, subnet, address) {
+            if fits_with(choosing, address) && is_free(choosing.question, address) {
                 Some(address)
             } else {
                 None

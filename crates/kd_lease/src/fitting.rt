@@ -3,8 +3,9 @@ ghost use Rattle.std.specs.Option.{option_copied};
 ghost use Rattle.kd_rows.specs.Table.{belongs_to};
 ghost use Rattle.kd_lease.specs.Choice.{address_of_value, fitting_for, pooled, same_address, free_for, held_row, holding_state, own_row, live_row, past_row, usable, freed_by, requested_address};
 ghost use Rattle.kd_lease.specs.Rules.{asking};
-ghost use Rattle.kd_lease.specs.Seeking.{common_in};
+ghost use Rattle.kd_lease.specs.Seeking.{common_in, fitting_with};
 
+use crate::choosing::Choosing;
 use crate::question::Question;
 use crate::reservation::{is_reserved, reserved_address};
 use kd_config::{Config, Subnet};
@@ -18,6 +19,14 @@ pub fn fits(question: &Question<'_>, subnet: &Subnet, address: u32) -> bool
 {
     is_common(question.config, subnet, address)
         || is_address(reserved_address(question.message, subnet), address)
+}
+
+// The same where the address that is reserved for the client is known.
+pub(crate) fn fits_with(choosing: &Choosing<'_>, address: u32) -> bool
+    ensures { result ≡ fitting_with choosing.now address }
+{
+    is_common(choosing.question.config, choosing.subnet, address)
+        || is_address(choosing.own, address)
 }
 
 // An address is in a pool of the subnet and reserved for nobody.

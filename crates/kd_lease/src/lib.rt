@@ -13,6 +13,7 @@
 
 mod aging;
 mod choice;
+mod choosing;
 mod client;
 mod cutting;
 mod deciding;

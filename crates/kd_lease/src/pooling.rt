@@ -4,19 +4,20 @@ ghost use Rattle.kd_lease.specs.Rules.{asking};
 ghost use Rattle.kd_lease.specs.Ranks.{IsRanked};
 ghost use Rattle.kd_lease.specs.Seeking.{IsLeast, IsLeastOpen, is_common_open, is_kept_open, pool_rank};
 
+use crate::choosing::Choosing;
 use crate::fitting::is_common;
 use crate::question::Question;
-use crate::reservation::reserved_address;
 use crate::untaken::{is_untaken, next_untaken};
 use kd_config::{Range, Subnet};
 
 // The first address in pool order that fits, where it has no row (`new`), or where its row has
 // ended.
-pub(crate) fn pooled(question: &Question<'_>, subnet: &Subnet, new: bool) -> Option<u32>
-    ensures { IsRanked (asking question.now) subnet.now (pool_rank new) result }
+pub(crate) fn pooled(choosing: &Choosing<'_>, new: bool) -> Option<u32>
+    ensures { IsRanked (asking choosing.now.question.now) choosing.now.subnet.now (pool_rank new)
+        result }
 {
-    for pool in subnet.pools.as_slice() {
-        match least_open(question, subnet, new, pool.range) {
+    for pool in choosing.subnet.pools.as_slice() {
+        match least_open(choosing, new, pool.range) {
             Some(address) => return Some(address),
             None => {}
         }
@@ -25,21 +26,21 @@ pub(crate) fn pooled(question: &Question<'_>, subnet: &Subnet, new: bool) -> Opt
 }
 
 // The least such address of a range: reserved for the client, or open to all clients.
-fn least_open(question: &Question<'_>, subnet: &Subnet, new: bool, range: Range) -> Option<u32>
-    ensures { IsLeastOpen (asking question.now) subnet.now new range.first range.last result }
+fn least_open(choosing: &Choosing<'_>, new: bool, range: Range) -> Option<u32>
+    ensures { IsLeastOpen (asking choosing.now.question.now) choosing.now.subnet.now new range.first
+        range.last result }
 {
     lesser_of(
-        kept_open(question, subnet, new, range),
-        least_common(question, subnet, new, range),
+        kept_open(choosing.question, choosing.own, new, range),
+        least_common(choosing.question, choosing.subnet, new, range),
     )
 }
 
 // The address that is reserved for the client, where it is in a range and open.
-fn kept_open(question: &Question<'_>, subnet: &Subnet, new: bool, range: Range) -> Option<u32>
-    ensures { IsLeast (is_kept_open (asking question.now) subnet.now new) range.first range.last
-        result }
+fn kept_open(question: &Question<'_>, own: Option<u32>, new: bool, range: Range) -> Option<u32>
+    ensures { IsLeast (is_kept_open (asking question.now) own new) range.first range.last result }
 {
-    match reserved_address(question.message, subnet) {
+    match own {
         Some(address) => {
             if range.contains(address) && is_untaken(question, new, address) {
                 Some(address)

@@ -2,6 +2,7 @@ ghost use Rattle.kd_lease.specs.Ranks.{AreRanks};
 ghost use Rattle.kd_lease.specs.Rules.{asking};
 
 use crate::choice::{asked_for, kept};
+use crate::choosing::Choosing;
 use crate::pooling::pooled;
 use crate::question::Question;
 use crate::seeking::{newest_own, newest_past};
@@ -29,12 +30,13 @@ pub struct Ranks {
 pub fn ranks_of(question: &Question<'_>, subnet: &Subnet) -> Ranks
     ensures { AreRanks (asking question.now) subnet.now result }
 {
+    let choosing = Choosing::new(question, subnet);
     Ranks {
-        reserved: kept(question, subnet),
-        own: newest_own(question, subnet),
-        past: newest_past(question, subnet),
-        asked: asked_for(question, subnet),
-        fresh: pooled(question, subnet, true),
-        expired: pooled(question, subnet, false),
+        reserved: kept(&choosing),
+        own: newest_own(&choosing),
+        past: newest_past(&choosing),
+        asked: asked_for(&choosing),
+        fresh: pooled(&choosing, true),
+        expired: pooled(&choosing, false),
     }
 }

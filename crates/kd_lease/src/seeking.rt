@@ -8,7 +8,8 @@ ghost use Rattle.kd_lease.specs.Seeking.{newer_of, past_at, sought_at};
 ghost use Rattle.kd_rows.specs.Table.{row_at};
 
 use crate::aging::newest;
-use crate::fitting::{fits, is_held_by, is_live, is_of, is_past};
+use crate::choosing::Choosing;
+use crate::fitting::{fits_with, is_held_by, is_live, is_of, is_past};
 use crate::question::Question;
 use kd_config::{Prefix, Subnet};
 use kd_rows::{Rows, State};
@@ -17,9 +18,9 @@ use kd_rows::{Rows, State};
 #[derive(Clone, Copy)]
 pub(crate) enum Sought<'a> {
     // Those that it holds and that fit.
-    Own(&'a Subnet),
+    Own(&'a Choosing<'a>),
     // Those whose rows have ended and that fit.
-    Past(&'a Subnet),
+    Past(&'a Choosing<'a>),
     // Those that are offered to it.
     Offer,
 }
@@ -37,10 +38,15 @@ const FEW: usize = 2;
 
 // What the client knows. Most clients have a row or two: they are looked at one after another, and
 // for a client without rows the index of the table is searched once.
-pub(crate) fn newest_known(question: &Question<'_>, subnet: &Subnet) -> Known
-    ensures own { IsRanked (asking question.now) subnet.now own result.own }
-    ensures past { result.own ≡ None → IsRanked (asking question.now) subnet.now past result.past }
+pub(crate) fn newest_known(choosing: &Choosing<'_>) -> Known
+    ensures own { IsRanked (asking choosing.now.question.now) choosing.now.subnet.now own
+        result.own }
+    ensures past { result.own ≡ None
+        → IsRanked (asking choosing.now.question.now) choosing.now.subnet.now past result.past }
 {
+    let question = choosing.question;
+    let own = Sought::Own(choosing);
+    let past = Sought::Past(choosing);
     let mut known = Known {
         own: None,
         past: None,
@@ -48,45 +54,47 @@ pub(crate) fn newest_known(question: &Question<'_>, subnet: &Subnet) -> Known
     for i in 0..FEW {
         match question.rows.of_client(question.client, i) {
             Some(address) => {
-                known.own = better(question, &Sought::Own(subnet), known.own, address);
-                known.past = better(question, &Sought::Past(subnet), known.past, address);
+                known.own = better(question, &own, known.own, address);
+                known.past = better(question, &past, known.past, address);
             }
             None => return known,
         }
     }
-    known_by_age(question, subnet)
+    known_by_age(choosing)
 }
 
 // The same for a client of any number of rows. Where it holds an address, those that it had are not
 // looked for, since all that it holds would be in the way.
-fn known_by_age(question: &Question<'_>, subnet: &Subnet) -> Known
-    ensures own { IsRanked (asking question.now) subnet.now own result.own }
-    ensures past { result.own ≡ None → IsRanked (asking question.now) subnet.now past result.past }
+fn known_by_age(choosing: &Choosing<'_>) -> Known
+    ensures own { IsRanked (asking choosing.now.question.now) choosing.now.subnet.now own
+        result.own }
+    ensures past { result.own ≡ None
+        → IsRanked (asking choosing.now.question.now) choosing.now.subnet.now past result.past }
 {
-    match newest_own(question, subnet) {
+    match newest_own(choosing) {
         Some(address) => Known {
             own: Some(address),
             past: None,
         },
         None => Known {
             own: None,
-            past: newest_past(question, subnet),
+            past: newest_past(choosing),
         },
     }
 }
 
 // The newest of the addresses that the client holds and that fit.
-pub(crate) fn newest_own(question: &Question<'_>, subnet: &Subnet) -> Option<u32>
-    ensures { IsRanked (asking question.now) subnet.now own result }
+pub(crate) fn newest_own(choosing: &Choosing<'_>) -> Option<u32>
+    ensures { IsRanked (asking choosing.now.question.now) choosing.now.subnet.now own result }
 {
-    newest(question, &Sought::Own(subnet))
+    newest(choosing.question, &Sought::Own(choosing))
 }
 
 // The newest of the client's addresses whose rows have ended and that fit.
-pub(crate) fn newest_past(question: &Question<'_>, subnet: &Subnet) -> Option<u32>
-    ensures { IsRanked (asking question.now) subnet.now past result }
+pub(crate) fn newest_past(choosing: &Choosing<'_>) -> Option<u32>
+    ensures { IsRanked (asking choosing.now.question.now) choosing.now.subnet.now past result }
 {
-    newest(question, &Sought::Past(subnet))
+    newest(choosing.question, &Sought::Past(choosing))
 }
 
 /// The server knows the client in a subnet: the client has a row at an address in its prefix.
@@ -138,8 +146,8 @@ pub(crate) fn is_sought(question: &Question<'_>, sought: &Sought<'_>, address: u
     ensures { result ≡ sought_at (asking question.now) sought.now address }
 {
     match sought {
-        Sought::Own(subnet) => is_held_at(question, address) && fits(question, subnet, address),
-        Sought::Past(subnet) => is_past_at(question, address) && fits(question, subnet, address),
+        Sought::Own(choosing) => is_held_at(question, address) && fits_with(choosing, address),
+        Sought::Past(choosing) => is_past_at(question, address) && fits_with(choosing, address),
         Sought::Offer => is_offer(question, address),
     }
 }

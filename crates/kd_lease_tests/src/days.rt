@@ -24,9 +24,9 @@ impl From<AllocError> for Fault {
     }
 }
 
-// A message: the moment, the last byte of its client's hardware address, its options after the
-// cookie, and ciaddr.
-type Sent = (u64, u8, &'static [u8], u32);
+// A message: the moment, the number at the end of its client's hardware address, its options after
+// the cookie, and ciaddr.
+type Sent = (u64, u32, &'static [u8], u32);
 
 // What comes back: the type of a reply, its yiaddr and how it is sent; or the reason for which
 // there is none.

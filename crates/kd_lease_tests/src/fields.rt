@@ -3,8 +3,8 @@ use std::alloc::{AllocError, Global};
 /// The fields of a client's message that tests set.
 #[derive(Clone, Copy)]
 pub(crate) struct Fields<'a> {
-    /// The last byte of its hardware address.
-    pub(crate) client: u8,
+    /// The last four bytes of its hardware address, which begins with 10 and 0.
+    pub(crate) client: u32,
     /// Its options, after the cookie.
     pub(crate) options: &'a [u8],
     pub(crate) ciaddr: u32,
@@ -28,7 +28,8 @@ pub(crate) fn bytes_of(alloc: Global, fields: &Fields<'_>) -> Result<Vec<u8>, Al
     bytes.extend_from_slice(&fields.ciaddr.to_be_bytes())?;
     bytes.resize(24, 0)?;
     bytes.extend_from_slice(&fields.giaddr.to_be_bytes())?;
-    bytes.extend_from_slice(&[10, 0, 0, 0, 0, fields.client])?;
+    bytes.extend_from_slice(&[10, 0])?;
+    bytes.extend_from_slice(&fields.client.to_be_bytes())?;
     bytes.resize(236, 0)?;
     bytes.extend_from_slice(&[99, 130, 83, 99])?;
     bytes.extend_from_slice(fields.options)?;

@@ -1,6 +1,6 @@
 //! Tests of the server with leases by values: days of a few events, worked out by hand from the
 //! rules, over a store in memory; what stands after a store that fails, and after a refused request
-//! for memory; where replies go.
+//! for memory; where replies go; what is offered where hundreds of addresses are reserved.
 //!
 //! They are a crate of their own since a crate is proved once more with its tests.
 #![tactic(auto)]
@@ -11,3 +11,7 @@ mod days;
 mod fields;
 #[cfg(test)]
 mod places;
+#[cfg(test)]
+mod reserved;
+#[cfg(test)]
+mod scenes;

@@ -4,7 +4,7 @@ use Rattle.kd_lease.proofs.Aged.{reserved_it, reserved_not_it}
 use Rattle.kd_lease.proofs.aging.newest_reserved.Goals as goal
 
 pub returns-then-is_sought : goal.returns-then-is_sought
-returns-then-is_sought c = reserved_it (asking c.args.question.now) c.args.sought.now c.args.subnet.now c.in-Some.address (sym c.reserved_address.ensures ∙ c.in-Some.is) (sym c.is_sought.ensures ∙ c.if-is_sought.true)
+returns-then-is_sought c = reserved_it (asking c.args.question.now) c.args.sought.now c.args.own c.in-Some.address c.in-Some.is (sym c.is_sought.ensures ∙ c.if-is_sought.true)
 
 pub returns-else-is_sought : goal.returns-else-is_sought
-returns-else-is_sought c = reserved_not_it (asking c.args.question.now) c.args.sought.now c.args.subnet.now c.in-Some.address (sym c.reserved_address.ensures ∙ c.in-Some.is) (sym c.is_sought.ensures ∙ c.if-is_sought.false)
+returns-else-is_sought c = reserved_not_it (asking c.args.question.now) c.args.sought.now c.args.own c.in-Some.address c.in-Some.is (sym c.is_sought.ensures ∙ c.if-is_sought.false)

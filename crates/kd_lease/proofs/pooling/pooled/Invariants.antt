@@ -3,4 +3,4 @@ use Rattle.kd_lease.proofs.Pools.{NoneIn}
 use Rattle.kd_lease.proofs.pooling.pooled.Given as goal
 
 abbrev pub invariant-loop-pool : goal.invariant-loop-pool
-invariant-loop-pool l = NoneIn (asking l.question) l.subnet l.new l.pool-index
+invariant-loop-pool l = NoneIn (asking l.choosing.question.now) l.choosing.subnet.now l.new l.pool-index

@@ -3,4 +3,4 @@ use Rattle.kd_lease.proofs.Newest.{AreKnown}
 use Rattle.kd_lease.proofs.seeking.newest_known.Given as goal
 
 abbrev pub invariant-loop-i : goal.invariant-loop-i
-invariant-loop-i l = AreKnown (asking l.question) l.subnet l.i l.known.own l.known.past
+invariant-loop-i l = AreKnown (asking l.choosing.question.now) l.choosing.subnet.now l.i l.known.own l.known.past

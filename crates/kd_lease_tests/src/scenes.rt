@@ -1,0 +1,176 @@
+// Leases with many rows, of a configuration with many reservations.
+
+use crate::days::Fault;
+use kd_config::Config;
+use kd_lease::Leases;
+use kd_rows::{Row, Rows, State};
+use kd_wire::Bytes;
+use std::alloc::{AllocError, Global};
+use std::fmt::Write;
+
+/// The first address of the pool, 10.0.1.0.
+pub(crate) const POOL: u32 = 0x0a00_0100;
+
+/// The first of the addresses behind it, 10.0.128.0, which are in no pool.
+pub(crate) const BEHIND: u32 = 0x0a00_8000;
+
+/// The client of the row at the first address of the pool; that of the next is the next client.
+pub(crate) const OWNER: u32 = 100_000;
+
+/// The moment of each message.
+pub(crate) const MOMENT: u64 = 10_000;
+
+// The moments at which the rows were set, at which those end that have ended, and at which the
+// others do.
+const SET: u64 = 1_000;
+
+const ENDED: u64 = 9_999;
+
+const FAR: u64 = 1_000_000;
+
+// Of each four addresses of the pool the last is vacant.
+const STEP: u32 = 4;
+
+/// Which addresses of the pool have rows. Those that are not vacant are leased to a client each.
+#[derive(Clone, Copy, PartialEq, Eq)]
+pub(crate) enum Layout {
+    /// None.
+    Empty,
+    /// Those that are not vacant.
+    Gaps,
+    /// All; those of the vacant ones have ended.
+    Ended,
+    /// All.
+    Full,
+}
+
+/// Where the reserved addresses lie, the first for the client 0 and so on.
+#[derive(Clone, Copy, PartialEq, Eq)]
+pub(crate) enum Place {
+    /// At the first addresses of the pool.
+    First,
+    /// At the first vacant addresses of the pool.
+    Vacant,
+    /// In no pool.
+    Behind,
+}
+
+/// Leases: how many addresses the pool has, which of them have rows, how many addresses are
+/// reserved, and where they lie.
+pub(crate) type Scene = (u32, Layout, u32, Place);
+
+/// The configuration of a scene.
+pub(crate) fn config_of(alloc: Global, scene: &Scene) -> Result<Config, Fault> {
+    let text = text_of(alloc, scene)?;
+    match Config::read(alloc, text.as_bytes(), &[]) {
+        Ok(config) => Ok(config),
+        Err(fault) if fault.number() == 91 => Err(Fault::Memory),
+        Err(_) => Err(Fault::Other),
+    }
+}
+
+/// The leases of a scene over its configuration. Where there is no memory for them the
+/// configuration is given back.
+pub(crate) fn leases_of(
+    alloc: Global,
+    scene: &Scene,
+    config: Config,
+) -> Result<Leases, (Fault, Config)> {
+    match rows_of(alloc, scene) {
+        Ok(rows) => over(alloc, config, rows),
+        Err(AllocError) => Err((Fault::Memory, config)),
+    }
+}
+
+// The same with these rows, where they can be a table.
+fn over(alloc: Global, config: Config, rows: Vec<Row>) -> Result<Leases, (Fault, Config)> {
+    if !Rows::accepts(&rows) {
+        return Err((Fault::Other, config));
+    }
+    match Leases::new(alloc, config, rows) {
+        Ok(leases) => Ok(leases),
+        Err(config) => Err((Fault::Memory, config)),
+    }
+}
+
+// The text of the configuration of a scene.
+fn text_of(alloc: Global, scene: &Scene) -> Result<String, AllocError> {
+    let (pooled, _, reserved, place) = *scene;
+    let mut text = String::new(alloc);
+    text.push_str("{\"Dhcp4\":{\"server-address\":\"10.0.0.1\",\"subnet4\":[")?;
+    text.push_str("{\"subnet\":\"10.0.0.0/16\",\"pools\":[{\"pool\":\"")?;
+    put_address(&mut text, POOL)?;
+    text.push_str(" - ")?;
+    put_address(&mut text, POOL.wrapping_add(pooled).wrapping_sub(1))?;
+    text.push_str("\"}],\"reservations\":[")?;
+    for number in 0..reserved {
+        if number > 0 {
+            text.push_str(",")?;
+        }
+        put_reservation(&mut text, number, reserved_address(place, number))?;
+    }
+    text.push_str("]}]}}")?;
+    Ok(text)
+}
+
+// Puts the reservation of an address for the client with a number.
+fn put_reservation(text: &mut String, number: u32, address: u32) -> Result<(), AllocError> {
+    write!(
+        text,
+        "{{\"hw-address\":\"0a00{number:08x}\",\"ip-address\":\""
+    )?;
+    put_address(text, address)?;
+    text.push_str("\"}")
+}
+
+// Puts an address with its dots.
+fn put_address(text: &mut String, address: u32) -> Result<(), AllocError> {
+    let [a, b, c, d] = address.to_be_bytes();
+    write!(text, "{a}.{b}.{c}.{d}")
+}
+
+// The reserved address with a number.
+fn reserved_address(place: Place, number: u32) -> u32 {
+    match place {
+        Place::First => POOL.wrapping_add(number),
+        Place::Vacant => POOL
+            .wrapping_add(number.wrapping_mul(STEP))
+            .wrapping_add(STEP - 1),
+        Place::Behind => BEHIND.wrapping_add(number),
+    }
+}
+
+// The rows of a scene.
+fn rows_of(alloc: Global, scene: &Scene) -> Result<Vec<Row>, AllocError> {
+    let (pooled, layout, _, _) = *scene;
+    let mut rows = Vec::new(alloc);
+    for number in 0..pooled {
+        if let Some(ends) = end_of(layout, number % STEP == STEP - 1) {
+            rows.push(row_of(alloc, number, ends)?)?;
+        }
+    }
+    Ok(rows)
+}
+
+// When the row of an address of the pool ends, which is vacant or not, where it has one.
+fn end_of(layout: Layout, is_vacant: bool) -> Option<u64> {
+    match layout {
+        Layout::Empty => None,
+        Layout::Gaps if is_vacant => None,
+        Layout::Ended if is_vacant => Some(ENDED),
+        _ => Some(FAR),
+    }
+}
+
+// The row of the address of the pool with a number.
+fn row_of(alloc: Global, number: u32, ends: u64) -> Result<Row, AllocError> {
+    let [a, b, c, d] = OWNER.wrapping_add(number).to_be_bytes();
+    let client = Vec::from_slice(alloc, &[0, 1, 10, 0, a, b, c, d])?;
+    Ok(Row {
+        address: POOL.wrapping_add(number),
+        client: Bytes::own(client),
+        state: State::Bound,
+        changed: SET,
+        ends,
+    })
+}
