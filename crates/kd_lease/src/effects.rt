@@ -12,7 +12,6 @@ use crate::planned::{Effect, Planned};
 use crate::question::Question;
 use crate::seeking::{Sought, is_client_at, is_held_at, knows_client};
 use crate::setting::{declined, leased, offer_row, released};
-use crate::subnet::subnet_of;
 use kd_config::{Config, Subnet};
 use kd_event::Reason;
 use kd_options::{Message, MessageType};
@@ -66,7 +65,7 @@ fn discover(alloc: Global, question: &Question<'_>) -> Result<Effect, AllocError
         (λ effect. InSubnet (serving_subnet (asking question.now))
         (OnDiscover (asking question.now)) effect.row effect.planned) }
 {
-    match subnet_for(question) {
+    match question.subnet {
         Some(subnet) => discover_in(alloc, question, subnet),
         None => Ok(quiet(Reason::NoSubnet)),
     }
@@ -120,7 +119,7 @@ fn select(alloc: Global, question: &Question<'_>) -> Result<Effect, AllocError>
     let Some(address) = requested_of(question.message) else {
         return Ok(quiet(Reason::NoRequested));
     };
-    match subnet_for(question) {
+    match question.subnet {
         Some(subnet) => select_in(alloc, question, subnet, address),
         None => Ok(quiet(Reason::NoSubnet)),
     }
@@ -167,7 +166,7 @@ fn renew(alloc: Global, question: &Question<'_>) -> Result<Effect, AllocError>
     let Some(address) = renewed_of(question.message) else {
         return Ok(quiet(Reason::NoRequested));
     };
-    match subnet_for(question) {
+    match question.subnet {
         Some(subnet) => renew_in(alloc, question, subnet, address),
         None => Ok(quiet(Reason::NoSubnet)),
     }
@@ -253,7 +252,7 @@ fn inform(question: &Question<'_>) -> Effect
     if question.message.header().ciaddr == 0 {
         return quiet(Reason::NoCiaddr);
     }
-    match subnet_for(question) {
+    match question.subnet {
         Some(_) => Effect {
             row: None,
             planned: Planned::Inform,
@@ -297,13 +296,6 @@ fn quiet(reason: Reason) -> Effect
         row: None,
         planned: Planned::Quiet(reason),
     }
-}
-
-// The subnet that serves the message.
-pub(crate) fn subnet_for<'a>(question: &Question<'a>) -> Option<&'a Subnet>
-    ensures { option_copied result ≡ serving_subnet (asking question.now) }
-{
-    subnet_of(question.config, question.names, question.message.header())
 }
 
 /// The server that a message names, option 54, in host order (RFC 2132 section 9.7).

@@ -3,7 +3,6 @@ ghost use Rattle.kd_lease.specs.Plan.{option_of_item};
 ghost use Rattle.kd_lease.specs.ReplyOptions.{configured_for, configured_in, lease_times, reply_options, plan_type, times_in};
 ghost use Rattle.kd_lease.specs.Rules.{asking, serving_subnet};
 
-use crate::effects::subnet_for;
 use crate::given::put_given;
 use crate::plan::PlanKind;
 use crate::question::Question;
@@ -110,7 +109,7 @@ fn put_configured_at(
     ensures { OnOk result (map option_of_item list.new.items ≡ map option_of_item list.old.items
         ++ configured_in (asking question.now) (serving_subnet (asking question.now)) address) }
 {
-    match subnet_for(question) {
+    match question.subnet {
         Some(subnet) => put_given(
             alloc,
             list,

@@ -1,8 +1,11 @@
+ghost use Rattle.std.specs.Prelude.{◌≡◌};
 ghost use Rattle.std.specs.Option.{option_copied};
+ghost use Rattle.kd_lease.specs.SubnetOf.{subnet_serving};
 ghost use Rattle.kd_lease.specs.Withholding.{KnowsReserved};
 
 use crate::grounds::Ground;
-use kd_config::Config;
+use crate::subnet::subnet_of;
+use kd_config::{Config, Subnet};
 use kd_machine::Held;
 use kd_options::Message;
 use kd_rows::{Rows, Withheld};
@@ -24,7 +27,11 @@ pub struct Question<'a> {
     pub moment: u64,
     // The same table, where it knows the reserved addresses.
     pub(crate) known: Option<&'a Withheld>,
+    // The subnet that serves the message: it is looked for once.
+    pub(crate) subnet: Option<&'a Subnet>,
     ghost knows: { KnowsReserved config.now rows.now.rows (option_copied known) },
+    ghost serves: { option_copied subnet
+        ≡ subnet_serving config.now names.now message.now.header },
 }
 
 impl<'a> Question<'a> {
@@ -52,6 +59,7 @@ impl<'a> Question<'a> {
             client,
             moment,
             known: over.known,
+            subnet: subnet_of(over.config, names, message.header()),
         }
     }
 }
