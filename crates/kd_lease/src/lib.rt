@@ -46,6 +46,8 @@ pub use effects::{effect_of, renewed_of, server_of};
 pub use fitting::{fits, in_pools, is_free, requested_of};
 pub use grounds::Ground;
 pub use identities::identity;
+pub use kd_event::{Destination, Mode, Ports};
+pub use kd_rows::{Row, Rows, State};
 pub use leases::Leases;
 pub use plan::{Answer, Decision, Plan, PlanKind};
 pub use planned::{Effect, Planned};

@@ -17,6 +17,8 @@ mod trial;
 mod turning;
 
 pub use batching::Rules;
+pub use kd_event::{Event, Handled, Ports, Reason, Response};
+pub use kd_replay::{EndFailed, LoopFault, ReplayFault, ServeFault, Sink, Source};
 pub use leases::{Lease, lease_lines, leases_at};
 pub use replaying::replay;
 pub use server::Server;

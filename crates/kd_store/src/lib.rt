@@ -18,4 +18,6 @@ pub mod laws;
 mod statement;
 mod store;
 
+pub use kd_keeps::{Cause, StoreFault};
+pub use kd_rows::Row;
 pub use store::Store;
