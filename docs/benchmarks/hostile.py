@@ -1,12 +1,12 @@
 #!/usr/bin/env python3
 """What a message costs where clients are hostile and numbers large, beside the goals.
 
-    hostile.py [--program P] [--times] [--only WORK]
+    hostile.py [--program P] [--only WORK]
 
-Runs works of crates/kd_bench (P, its out/kd_bench where nothing is said) and prints a table in Markdown: the work, rows
-and reservations, instructions of a round by callgrind, those of the work that it is compared with, the ratio, the goal,
-and whether it is met. With --times it prints microseconds of processor time in their place, the best of five runs.
-What the program takes without a round is taken off. --only prints the rows of one work alone.
+Runs works of crates/kd_bench (P, or its out/kd_bench) and prints a table in Markdown: the work, its rows and reservations,
+the instructions of a round by callgrind, its microseconds of processor time as the best of five runs, the work that it is
+compared with, the ratios of both, the goal, and whether it is met. What the program takes without a round is taken off.
+--only prints the rows of one work.
 """
 import argparse
 import os
@@ -28,8 +28,7 @@ ROWS += [(("dora", rows, 0), ("dora", FEW, 0), 1.8) for rows in (MANY, MOST)]
 ROWS += [((work, MOST, None), (work, MANY, None), 2.5) for work in ("add", "rise")]
 ROWS += [(("new", MANY, 0), ("renewal", MANY, 0), 2), (("offer", MANY, 0), ("renewal", MANY, 0), 2)]
 ROWS += [(("cookie", FEW, 0), None, "2 us"), (("noise", FEW, 0), None, "2 us")]
-# Works that go over all reservations in each round.
-LONG = re.compile("(kept|ended) [1-9].*")
+ROUNDS = 1000
 
 
 def words_of(program, work, rounds):
@@ -54,11 +53,11 @@ def microseconds(program, work, rounds):
     return min(best) * 1e6
 
 
-def cost(program, work, is_timed):
-    """What a round of a work costs."""
-    if not is_timed:
-        rounds = 2 if LONG.fullmatch(f"{work[0]} {work[2]}") else 1000
-        return (instructions(program, work, rounds) - instructions(program, work, 0)) / rounds
+def instructions_of_round(program, work):
+    return (instructions(program, work, ROUNDS) - instructions(program, work, 0)) / ROUNDS
+
+
+def microseconds_of_round(program, work):
     nothing, rounds = microseconds(program, work, 0), 4
     while True:
         spent = microseconds(program, work, rounds) - nothing
@@ -67,35 +66,42 @@ def cost(program, work, is_timed):
         rounds = min(60_000, rounds * max(2, min(50, int(250_000 / max(spent, 1)))))
 
 
+def met(ratios, time, goal):
+    """Whether a goal is met: a ratio by instructions and by time, or a time."""
+    if not ratios:
+        return "yes" if time <= 2 else "no"
+    by_instructions, by_time = (ratio <= goal for ratio in ratios)
+    if by_instructions and by_time:
+        return "yes"
+    return "by instructions" if by_instructions else "by time" if by_time else "no"
+
+
 def shown(figure):
-    return "" if figure is None else f"{figure:,.2f}" if figure < 100 else f"{figure:,.0f}"
+    return f"{figure:,.2f}" if figure < 100 else f"{figure:,.0f}"
 
 
 def main():
     words = argparse.ArgumentParser()
     words.add_argument("--program", default=f"{TOP}/crates/kd_bench/out/kd_bench")
-    words.add_argument("--times", action="store_true")
     words.add_argument("--only")
     words = words.parse_args()
     known = {}
 
     def found(work):
-        if work is not None and work not in known:
-            known[work] = cost(words.program, work, words.times)
-        return known.get(work)
+        if work not in known:
+            known[work] = instructions_of_round(words.program, work), microseconds_of_round(words.program, work)
+        return known[work]
 
-    print("| Work | Rows | Reservations | Cost | Compared with | Its cost | Ratio | Goal | Met |")
-    print("|---|---|---|---|---|---|---|---|---|", flush=True)
+    print("| Work | Rows | Reservations | Instructions | us | Compared with | Ratio | Ratio of time | Goal | Met |")
+    print("|---|---|---|---|---|---|---|---|---|---|", flush=True)
     for work, other, goal in ROWS:
         if words.only not in (None, work[0]):
             continue
-        (name, rows, reservations), mine, its = work, found(work), found(other)
-        beside = "" if other is None else f"`{other[0]}` {other[1]:,}, {other[2] or 0:,}"
-        ratio = None if its is None else mine / its
-        is_met = ("" if not words.times else mine <= 2) if its is None else ratio <= goal
-        said = {True: "yes", False: "no", "": ""}[is_met]
-        cells = [f"`{name}`", f"{rows:,}", f"{reservations or 0:,}", shown(mine), beside, shown(its), shown(ratio), goal, said]
-        print("| " + " | ".join(map(str, cells)) + " |", flush=True)
+        (name, rows, reservations), mine = work, found(work)
+        ratios = [it / its for it, its in zip(mine, found(other))] if other else []
+        beside = f"`{other[0]}` {other[1]:,}, {other[2] or 0:,}" if other else ""
+        cells = [f"`{name}`", f"{rows:,}", f"{reservations or 0:,}", *map(shown, mine), beside, *(map(shown, ratios) if ratios else ["", ""])]
+        print("| " + " | ".join(map(str, [*cells, goal, met(ratios, mine[1], goal)])) + " |", flush=True)
 
 
 if __name__ == "__main__":
