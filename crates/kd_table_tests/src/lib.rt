@@ -15,5 +15,7 @@ mod rows;
 mod stores;
 #[cfg(test)]
 mod tiers;
+#[cfg(test)]
+mod withheld;
 
 pub use fused::Fused;
