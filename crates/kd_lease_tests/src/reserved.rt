@@ -43,8 +43,9 @@ const LARGE: [(Scene, Offers); 9] = [
             (299, Some(POOL + 1199)),
         ],
     ),
-    // Of the first three hundred addresses, which are reserved, three in four are leased: neither
-    // the client for which one is reserved gets it nor keeps it the one that leases it.
+    // The first three hundred addresses are reserved, and three in four of them are leased: the
+    // client for which such an address is reserved does not get it, and the one that leases it
+    // does not keep it.
     (
         (4000, Layout::Gaps, 300, Place::First),
         &[
