@@ -1,18 +1,7 @@
 ghost use Rattle.std.specs.Prelude.{◌≡◌, ◌<◌, ◌∷◌, [], MatchOption, length};
 ghost use Rattle.kd_replay.specs.Lines.{lines_of};
-ghost use Rattle.kd_import.specs.Parts.{IsSplitAt};
 
-use memchr::memchr;
-
-// What stands before the first of a byte, and after it; without that byte, all and nothing.
-pub(crate) fn cut(text: &[u8], byte: u8) -> (&[u8], &[u8])
-    ensures { IsSplitAt byte text.now result.0.now result.1.now }
-{
-    match memchr(byte, text) {
-        Some(at) => (&text[..at], &text[at + 1..]),
-        None => text.split_at(text.len()),
-    }
-}
+use kd_words::cut;
 
 // The first line of a text, without its line feed, and what follows it.
 pub(crate) fn next_line(text: &[u8]) -> Option<(&[u8], &[u8])>
