@@ -1,6 +1,6 @@
 -- What is written of events, cut into lines.
-use Rattle.std.proofs.Common.{◌≡◌, ℕ, rules, Bool, true, false, List, [], ◌∷◌, ◌++◌, refl, ap, ◌∙◌, append_assoc, inl, inr}
-use Rattle.std.specs.List.{All, AllByRecursion, AllZip, flat_map}
+use Rattle.std.proofs.Common.{◌≡◌, ℕ, rules, Bool, true, false, List, [], ◌∷◌, ◌++◌, ap, ◌∙◌, append_assoc, inl, inr}
+use Rattle.std.specs.List.{AllByRecursion, flat_map}
 use Rattle.std.proofs.lemmas.List.Elements.{All-head, All-tail}
 use Rattle.kd_event.specs.declared.event.Handled.{Handled}
 use Rattle.kd_event.specs.declared.event.Response.{Response}
@@ -10,7 +10,7 @@ use Rattle.kd_replay.specs.Serving.{Answered, behind_line, text_of}
 use Rattle.kd_replay.specs.Text.{line_of}
 use Rattle.kd_replay.proofs.Looking.{lines_line}
 use Rattle.kd_events.specs.Laws.{IsLogLine, LogsAreRead, ServedLogsAreRead}
-use Rattle.kd_events.specs.Logged.{IsHandledLine, IsWritable}
+use Rattle.kd_events.specs.Logged.{IsWritable}
 use Rattle.kd_events.proofs.Written.{body, body_plain, written}
 
 first_line : (handled : Handled) (rest : List ℕ) → IsWritable handled → lines_of (line_of handled ++ rest) ≡ body handled ∷ lines_of rest

@@ -9,11 +9,13 @@ use Rattle.kd_event.specs.declared.event.Response.TheVariants as responses
 use Rattle.kd_replay.specs.Finding.{HasNo}
 use Rattle.kd_replay.specs.Text.{address_text, bytes_text, line_of, response_text}
 use Rattle.kd_replay.proofs.Looking.{plain_append}
+use Rattle.kd_words.specs.Words.{IsCutOff}
+use Rattle.kd_words.proofs.Cuts.{cut_is}
+use Rattle.kd_words.proofs.Plain.{address_plain, colon_is_none, decimal_plain, newline_is_none, space_is_none}
 use Rattle.kd_events.specs.Logged.{IsHandledLine, IsWritable}
-use Rattle.kd_events.specs.Parts.{AreLineWords, IsCutOff, after_mode, after_third, second_word, third_word}
+use Rattle.kd_events.specs.Parts.{AreLineWords, after_mode, after_third, second_word, third_word}
 use Rattle.kd_events.specs.declared.words.Words.{Words}
-use Rattle.kd_events.proofs.Cuts.{cut_is}
-use Rattle.kd_events.proofs.Plain.{address_plain, colon_is_none, decimal_plain, newline_is_none, rest_plain, second_plain, second_spaceless, space_is_none, third_plain, third_spaceless}
+use Rattle.kd_events.proofs.Plain.{rest_plain, second_plain, second_spaceless, third_plain, third_spaceless}
 
 -- what follows the moment
 abbrev behind : Response → List ℕ

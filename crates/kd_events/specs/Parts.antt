@@ -1,19 +1,13 @@
--- Words of private contracts alone: a text cut at a byte, and the words of a line.
-use Rattle.std.specs.Prelude.{◌≡◌, ℕ, List, [], ◌∷◌, ◌++◌, codes, decimal, ◌⊎◌}
+-- Words of private contracts alone: the words of a line.
+use Rattle.std.specs.Prelude.{◌≡◌, ℕ, List, ◌∷◌, ◌++◌, codes, decimal}
 use Rattle.kd_event.specs.Reason.{reason_name, reason_number}
 use Rattle.kd_event.specs.declared.destination.Destination.{Destination}
 use Rattle.kd_event.specs.declared.event.Handled.{Handled}
 use Rattle.kd_event.specs.declared.event.Response.{Response}
 use Rattle.kd_event.specs.declared.event.Response.TheVariants as responses
-use Rattle.kd_replay.specs.Finding.{HasNo}
 use Rattle.kd_replay.specs.Text.{address_text, bytes_text, mode_word}
 use Rattle.kd_events.specs.Logged.{IsWritable}
 use Rattle.kd_events.specs.declared.words.Words.{Words}
-
--- a text is cut at the first of a byte, or stays whole where it has none
-pub record IsCutOff (byte : ℕ) (text front back : List ℕ) : Type 0 where
-  pub plain : HasNo byte front
-  pub parts : (text ≡ front ++ byte ∷ back) ⊎ ((text ≡ front) × (back ≡ []))
 
 -- the second word of a line
 abbrev pub second_word : Response → List ℕ

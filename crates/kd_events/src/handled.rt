@@ -11,13 +11,10 @@ ghost use Rattle.kd_replay.specs.Text.{IsSmall, address_text, line_of, mode_word
 ghost use Rattle.kd_events.specs.Logged.{HasBytes, IsHandledLine};
 ghost use Rattle.kd_events.specs.Parts.{AreLineWords, after_mode};
 
-use crate::address::address_of_word;
-use crate::bytes::bytes_of_word;
-use crate::cut::cut;
-use crate::number::{number_of_word, port_of_word};
 use crate::words::{Words, words_of};
 use kd_event::{Destination, Handled, Mode, Reason, Response};
 use kd_replay::event_line;
+use kd_words::{address_of_word, bytes_of_word, cut, number_of_word, port_of_word};
 use std::alloc::{AllocError, Global};
 
 // The most bytes that a reply has.

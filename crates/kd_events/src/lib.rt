@@ -6,14 +6,10 @@
 //! beside the lines of events is passed over, and any other line is bad.
 #![tactic(auto)]
 
-mod address;
-mod bytes;
-mod cut;
 mod events;
 mod filter;
 mod handled;
 mod laws;
-mod number;
 mod people;
 mod printed;
 mod time;

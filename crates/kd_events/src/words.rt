@@ -2,7 +2,7 @@ ghost use Rattle.kd_event.specs.declared.event.Handled.{Handled};
 ghost use Rattle.kd_events.specs.Logged.{IsHandledLine};
 ghost use Rattle.kd_events.specs.Parts.{AreLineWords};
 
-use crate::cut::cut;
+use kd_words::cut;
 
 // The first three words of a line, and what follows them.
 #[derive(Clone, Copy)]

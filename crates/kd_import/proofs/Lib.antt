@@ -1,6 +1,5 @@
-pub mod Cuts
+pub mod Lines
 pub mod Plain
-pub mod Fields
 pub mod Printed
 pub mod Addressed
 pub mod Zipped

@@ -1,18 +1,11 @@
--- Words of private contracts alone: a text cut at a byte, the words of a line, and rows under their
--- addresses.
-use Rattle.std.specs.Prelude.{◌≡◌, ℕ, List, [], ◌∷◌, ◌++◌, map, decimal, ◌⊎◌}
-use Rattle.kd_replay.specs.Finding.{HasNo}
+-- Words of private contracts alone: the words of a line, and rows under their addresses.
+use Rattle.std.specs.Prelude.{◌≡◌, ℕ, List, map, decimal}
 use Rattle.kd_replay.specs.Text.{address_text, bytes_text}
 use Rattle.kd_rows.specs.declared.row.Row.{Row}
 use Rattle.kd_server.specs.Leases.{word_of_live, word_of_state}
 use Rattle.kd_server.specs.declared.leases.Lease.{Lease}
 use Rattle.kd_import.specs.Import.{IsStorable}
 use Rattle.kd_import.specs.declared.words.Words.{Words}
-
--- a text is cut at the first of a byte, or stays whole where it has none
-pub record IsSplitAt (byte : ℕ) (text front back : List ℕ) : Type 0 where
-  pub plain : HasNo byte front
-  pub parts : (text ≡ front ++ byte ∷ back) ⊎ ((text ≡ front) × (back ≡ []))
 
 -- the words are those of the line of a lease
 pub record AreWords (words : Words) (lease : Lease) : Type 0 where

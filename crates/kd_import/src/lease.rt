@@ -5,14 +5,12 @@ ghost use Rattle.kd_server.specs.declared.leases.Lease.{Lease};
 ghost use Rattle.kd_import.specs.Import.{IsLeaseLine};
 ghost use Rattle.kd_import.specs.Parts.{AreWords};
 
-use crate::address::address_in;
-use crate::client::client_in;
-use crate::number::number_in;
 use crate::state::{is_live, state_in};
 use crate::words::{Words, words_of};
 use kd_rows::Row;
 use kd_server::{Lease, lease_lines};
 use kd_wire::Bytes;
+use kd_words::{address_of_word, bytes_of_word, number_of_word};
 use std::alloc::{AllocError, Global};
 use std::slice;
 
@@ -40,7 +38,7 @@ fn lease_in(alloc: Global, line: &[u8]) -> Result<Option<Lease>, AllocError>
     ensures bytes { IfOk result (λ found. IfSome found (λ lease. IsBytes lease.row.client)) }
 {
     let words = words_of(line);
-    let Some(client) = client_in(alloc, words.client)? else {
+    let Some(client) = bytes_of_word(alloc, words.client)? else {
         return Ok(None);
     };
     Ok(lease_with(words, client))
@@ -53,11 +51,11 @@ fn lease_with(words: Words<'_>, client: Bytes) -> Option<Lease>
     ensures client { IfSome result (λ lease. lease.row.client ≡ client) }
 {
     let row = Row {
-        address: address_in(words.address)?,
+        address: address_of_word(words.address)?,
         client,
         state: state_in(words.state)?,
-        changed: number_in(words.changed)?,
-        ends: number_in(words.ends)?,
+        changed: number_of_word(words.changed)?,
+        ends: number_of_word(words.ends)?,
     };
     Some(Lease {
         row,

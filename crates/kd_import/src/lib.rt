@@ -6,13 +6,10 @@
 //! table is read as that table (`specs/Laws.antt`).
 #![tactic(auto)]
 
-mod address;
-mod client;
-mod cut;
 mod fault;
 mod laws;
 mod lease;
-mod number;
+mod line;
 mod state;
 mod table;
 mod words;

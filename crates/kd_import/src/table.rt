@@ -7,9 +7,9 @@ ghost use Rattle.kd_rows.specs.declared.row.Row.{Row};
 ghost use Rattle.kd_import.specs.Import.{IsImportFault, IsTable};
 ghost use Rattle.kd_import.specs.Parts.{by_address};
 
-use crate::cut::next_line;
 use crate::fault::ImportFault;
 use crate::lease::lease_of_line;
+use crate::line::next_line;
 use kd_rows::Row;
 use std::alloc::{AllocError, Global};
 use std::collections::BTreeMap;

@@ -2,7 +2,7 @@ ghost use Rattle.kd_server.specs.declared.leases.Lease.{Lease};
 ghost use Rattle.kd_import.specs.Import.{IsLeaseLine};
 ghost use Rattle.kd_import.specs.Parts.{AreWords};
 
-use crate::cut::cut;
+use kd_words::cut;
 
 // The words of a line, but for the fourth and the sixth, which are the same in each lease's.
 #[derive(Clone, Copy)]
