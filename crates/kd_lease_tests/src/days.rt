@@ -3,6 +3,7 @@ ghost use Rattle.std.specs.Prelude.{◌≡◌, None};
 use crate::fields::{DIRECT, Fields, bytes_of};
 use kd_config::Config;
 use kd_event::{Mode, Ports, Reason, Response};
+use kd_keeps::{Cause, StoreFault};
 use kd_replay::ServeFault;
 use kd_server::Server;
 use kd_table_tests::Fused;
@@ -166,8 +167,16 @@ fn opened_over(alloc: Global, config: Config, store: Fused) -> Result<Server<Fus
 {
     match Server::open(alloc, config, store, PORTS) {
         Ok(server) => Ok(server),
-        Err((ServeFault::Memory, _, _)) => Err(Fault::Memory),
-        Err(_) => Err(Fault::Other),
+        Err((fault, _, _)) => Err(cause_of(fault)),
+    }
+}
+
+// Why a server gives nothing: there is no memory for the event, or none within its store.
+fn cause_of(fault: ServeFault) -> Fault {
+    match fault {
+        ServeFault::Memory => Fault::Memory,
+        ServeFault::Store(StoreFault::Sql(Cause::OutOfMemory)) => Fault::Memory,
+        _ => Fault::Other,
     }
 }
 
@@ -219,8 +228,7 @@ fn sent(alloc: Global, server: &mut Server<Fused>, message: Sent) -> Result<Got,
     let bytes = datagram(alloc, message)?;
     match server.handle(message.0, bytes.as_slice()) {
         Ok(handled) => Ok(received(&handled.response)),
-        Err(ServeFault::Memory) => Err(Fault::Memory),
-        Err(_) => Err(Fault::Other),
+        Err(fault) => Err(cause_of(fault)),
     }
 }
 
@@ -304,7 +312,7 @@ fn no_reply_is_sent_once_the_store_has_failed(rt: HostRuntime) -> Result<(), Fai
 fn want_of_memory_is_answered_as_such(rt: HostRuntime) -> Result<(), Fail> {
     match as_worked_out(rt.alloc(), OFFERS) {
         Ok(right) => assert!(rt; right == 6),
-        Err(fault) => assert!(rt; fault == Fault::Memory || fault == Fault::Other),
+        Err(fault) => assert!(rt; fault == Fault::Memory),
     }
     assert!(rt; as_worked_out(rt.alloc(), OFFERS)? == 6);
     Ok(())

@@ -1,5 +1,6 @@
 //! Tests of the server by what a value alone can show: an allocator that refuses, configurations
-//! that no text gives, files and folders, sources and sinks that fail in mid-stream, sockets.
+//! that no text gives, files and folders, sources and sinks that fail in mid-stream, sockets, the
+//! lines of events.
 //!
 //! They stand beside `kd_tests`, whose crates are below the server's.
 #![tactic(auto)]
@@ -10,6 +11,8 @@ mod config;
 mod doubles;
 #[cfg(test)]
 mod ends;
+#[cfg(test)]
+mod lines;
 #[cfg(test)]
 mod replay;
 #[cfg(test)]

@@ -1,7 +1,7 @@
 use crate::doubles::{Giving, Keeping};
 use crate::support::{Work, with_server};
 use kd_event::Ports;
-use kd_replay::ReplayFault;
+use kd_replay::{ReplayFault, replay_bytes};
 use kd_server::{Server, replay};
 use kd_table_tests::Fused;
 use std::alloc::{AllocError, Global};
@@ -165,11 +165,21 @@ fn a_line_may_be_long(rt: HostRuntime) -> Result<(), Fail> {
     Ok(())
 }
 
-// Whether a replay answers want of memory, or its sink has failed for want of it, or it ends well.
+// What a replay of two datagrams that are no messages writes: its first line, and both.
+const FIRST_LINE: &[u8] = b"5 quiet 1 Unreadable\n";
+
+const BOTH_LINES: &[u8] = b"5 quiet 1 Unreadable\n6 quiet 1 Unreadable\n";
+
+// Whether a replay of them ends well with both lines, or answers want of memory, or its sink has
+// failed for want of it; then the lines are whole.
 fn is_right(end: &Result<u64, ReplayFault>, sink: &Keeping) -> bool {
+    let written = sink.as_slice();
     match end {
-        Err(ReplayFault::Memory) | Err(ReplayFault::Write) => sink.as_slice().len() <= 42,
-        end => *end == Ok(2),
+        Ok(handled) => *handled == 2 && written == BOTH_LINES,
+        Err(ReplayFault::Memory) | Err(ReplayFault::Write) => {
+            written.is_empty() || written == FIRST_LINE || written == BOTH_LINES
+        }
+        Err(_) => false,
     }
 }
 
@@ -180,5 +190,44 @@ fn want_of_memory_is_answered_as_such(rt: HostRuntime) -> Result<(), Fail> {
     let (result, sink) = replayed(rt.alloc(), "5 \n6 00\n", (1000, false, 1000))?;
     assert!(rt; is_right(&result, &sink));
     assert!(rt; answers(rt.alloc(), "5 \n6 00\n", 1000, "2")?);
+    Ok(())
+}
+
+// Replays bytes that are held; what is found are the lines, and the answer.
+#[derive(Drop)]
+struct ReplaysHeld<'a>(&'a [u8]);
+
+impl<'a> Work for ReplaysHeld<'a> {
+    type Found = (Vec<u8>, Result<u64, ReplayFault>);
+
+    fn done(
+        self,
+        alloc: Global,
+        server: &mut Server<Fused>,
+    ) -> Result<(Vec<u8>, Result<u64, ReplayFault>), Fail> {
+        Ok(replay_bytes(alloc, self.0, server))
+    }
+}
+
+// Bytes, the answer to a replay of them, and its lines.
+const HELD: [(&str, &str, &str); 4] = [
+    (
+        "5 \n6 00\n",
+        "2",
+        "5 quiet 1 Unreadable\n6 quiet 1 Unreadable\n",
+    ),
+    ("5 ", "1", "5 quiet 1 Unreadable\n"),
+    ("5 \n5 0g\n", "97 BadLine 2", "5 quiet 1 Unreadable\n"),
+    ("", "0", ""),
+];
+
+#[test]
+fn bytes_that_are_held_replay_to_their_lines(rt: HostRuntime) -> Result<(), Fail> {
+    for (input, want, output) in HELD {
+        let work = ReplaysHeld(input.as_bytes());
+        let (lines, result) = with_server(rt.alloc(), PORTS, work)?;
+        assert!(rt; printed(rt.alloc(), result)?.as_str() == want, "{input}");
+        assert!(rt; lines.as_slice() == output.as_bytes(), "{input}");
+    }
     Ok(())
 }

@@ -275,9 +275,6 @@ fn serving_ends_where_nothing_is_received_and_tells_of_lost_replies(
     let alloc = rt.alloc();
     let (loses, until) = (true, usize::MAX);
     let (result, sink, reply) = with_server(alloc, PORTS, Three { loses, until })?;
-    if result == Err(LoopFault::Memory) {
-        return Ok(());
-    }
     assert!(rt; result == Err(LoopFault::Read));
     let line = offer_line(alloc, reply.as_slice())?;
     let wanted = format!(in alloc; "{line}fault 99 Send\n{line}fault 99 Send\n")?;
@@ -290,9 +287,6 @@ fn serving_ends_where_a_line_is_not_written(rt: HostRuntime) -> Result<(), Fail>
     let alloc = rt.alloc();
     let (loses, until) = (false, 700);
     let (result, sink, reply) = with_server(alloc, PORTS, Three { loses, until })?;
-    if result == Err(LoopFault::Memory) {
-        return Ok(());
-    }
     assert!(rt; result == Err(LoopFault::Write));
     let line = offer_line(alloc, reply.as_slice())?;
     let wanted = format!(in alloc; "{line}{line}")?;
@@ -547,12 +541,11 @@ const JUMPS: [(u64, u64, u64, bool); 8] = [
     (0, 51, 0, true),
 ];
 
-// Whether serving ends because the clock is ahead, or well, or for want of memory.
+// Whether serving ends because the clock is ahead, or well.
 fn is_end(end: &Result<(), LoopFault>, is_ahead: bool) -> bool {
     match end {
         Ok(()) => !is_ahead,
-        Err(LoopFault::Ahead) => is_ahead,
-        Err(fault) => *fault == LoopFault::Memory,
+        Err(fault) => is_ahead && *fault == LoopFault::Ahead,
     }
 }
 
@@ -601,7 +594,7 @@ impl Work for SetsBack {
         let (moment, jump, passes, is_ahead) = self.0;
         let first = ended(alloc, server, 1_000, 0, 0)?;
         let end = ended(alloc, server, moment, jump, passes)?;
-        Ok(first == Err(LoopFault::Memory) || is_end(&end, is_ahead))
+        Ok(first == Ok(()) && is_end(&end, is_ahead))
     }
 }
 

@@ -1,0 +1,90 @@
+// What is decided for a message by its configuration and table alone.
+
+use crate::fields::{DIRECT, bytes_of};
+use kd_config::Config;
+use kd_lease::{Answer, Decision, Plan, PlanKind, decide};
+use kd_options::Message;
+use kd_rows::{Row, Rows, State};
+use std::alloc::{AllocError, Global};
+use std::test::Fail;
+
+// 192.0.2.10, the first address of the built-in pool.
+const FIRST: u32 = 0xc000_020a;
+
+// What is decided for the DISCOVER of the client 0a0000000001 at the moment 100, over an empty table
+// of the built-in configuration.
+fn first_decision(alloc: Global) -> Result<Decision, Fail> {
+    match Config::builtin(alloc) {
+        Ok(config) => decided_by(alloc, &config),
+        Err(fault) => Err(fault.into()),
+    }
+}
+
+// The same by a configuration.
+fn decided_by(alloc: Global, config: &Config) -> Result<Decision, Fail> {
+    match Rows::new(Vec::new(alloc)) {
+        Ok(rows) => decided_over(alloc, config, &rows),
+        Err(fault) => Err(fault.into()),
+    }
+}
+
+// The same over a table.
+fn decided_over(alloc: Global, config: &Config, rows: &Rows) -> Result<Decision, Fail> {
+    let bytes = bytes_of(alloc, &DIRECT)?;
+    let message = Message::read(alloc, bytes.as_slice())?;
+    let names = config.classes().held(alloc, &message)?;
+    Ok(decide(alloc, config, rows, &message, &names, 100)?)
+}
+
+// The row holds the first address for the client, for a minute.
+fn is_held(row: &Row) -> bool {
+    row.address == FIRST
+        && row.client.as_slice() == [0, 1, 10, 0, 0, 0, 0, 1].as_slice()
+        && row.state == State::Offered
+        && row.changed == 100
+        && row.ends == 160
+}
+
+// The cookie and the options of the OFFER: its type, the server 192.0.2.1, a lease of 3600 seconds
+// that is renewed after 1800 and rebound after 3150, the mask, End.
+const OPTIONS: &[u8] = b"\x63\x82\x53\x63\x35\x01\x02\x36\x04\xc0\x00\x02\x01\
+    \x33\x04\x00\x00\x0e\x10\x3a\x04\x00\x00\x07\x08\x3b\x04\x00\x00\x0c\x4e\
+    \x01\x04\xff\xff\xff\x00\xff";
+
+// The bytes of the OFFER.
+fn offer(alloc: Global) -> Result<Vec<u8>, AllocError> {
+    let mut bytes = Vec::from_slice(alloc, &[2, 1, 6, 0, 0, 0, 0, 1])?;
+    bytes.resize(16, 0)?;
+    bytes.extend_from_slice(&[192, 0, 2, 10])?;
+    bytes.resize(28, 0)?;
+    bytes.extend_from_slice(&[10, 0, 0, 0, 0, 1])?;
+    bytes.resize(236, 0)?;
+    bytes.extend_from_slice(OPTIONS)?;
+    bytes.resize(300, 0)?;
+    Ok(bytes)
+}
+
+// The room of a client that does not say how much it takes.
+const ROOM: u16 = 548;
+
+// The plan is an OFFER of the first address, which has these bytes.
+fn is_offered(alloc: Global, plan: &Plan) -> Result<bool, Fail> {
+    let written = plan.reply.write(alloc, ROOM)?;
+    let is_first = plan.kind == PlanKind::Offer && plan.yiaddr == FIRST && plan.room == ROOM;
+    Ok(is_first && written.as_slice() == offer(alloc)?.as_slice())
+}
+
+#[test]
+fn a_discover_over_an_empty_table_sets_a_row_and_is_offered_its_address(
+    rt: HostRuntime,
+) -> Result<(), Fail> {
+    let decision = first_decision(rt.alloc())?;
+    match (&decision.row, &decision.answer) {
+        (Some(row), Answer::Plan(plan)) => {
+            assert!(rt; is_held(row));
+            assert!(rt; is_offered(rt.alloc(), plan)?);
+            Ok(())
+        }
+        _ => Err("no row or no plan".into()),
+    }
+}
