@@ -24,7 +24,7 @@ const LOOPBACK: u32 = 0x7f00_0001;
 const ALL_OF_LOOPBACK: u32 = 0x7fff_ffff;
 
 // The client of every datagram.
-const CLIENT: u32 = 7;
+const CLIENT: u32 = 1;
 
 // A socket on a free port of an address, and the port.
 fn bound(rt: &HostRuntime, address: u32) -> Result<(UdpSocket, u16), Fail> {
@@ -249,5 +249,46 @@ fn a_socket_waits_again_for_the_next_datagram(rt: HostRuntime) -> Result<(), Fai
     let begun = Instant::now(&rt)?;
     assert!(rt; link.receive(&mut room).is_err());
     assert!(rt; begun.elapsed(&rt)? >= Duration::from_millis(200));
+    Ok(())
+}
+
+// The cookie and the options of the OFFER: its type, the server 192.0.2.1, a lease of 3600 seconds
+// that is renewed after 1800 and rebound after 3150, the mask, End.
+const OFFERED_OPTIONS: &[u8] = b"\x63\x82\x53\x63\x35\x01\x02\x36\x04\xc0\x00\x02\x01\
+    \x33\x04\x00\x00\x0e\x10\x3a\x04\x00\x00\x07\x08\x3b\x04\x00\x00\x0c\x4e\
+    \x01\x04\xff\xff\xff\x00\xff";
+
+// All bytes of the OFFER to the client.
+fn offer_bytes(alloc: Global) -> Result<Vec<u8>, AllocError> {
+    let mut bytes = Vec::from_slice(alloc, &[2, 1, 6, 0, 0, 0, 0, 1])?;
+    bytes.resize(16, 0)?;
+    bytes.extend_from_slice(&[192, 0, 2, 10])?;
+    bytes.resize(28, 0)?;
+    bytes.extend_from_slice(&[10, 0, 0, 0, 0, 1])?;
+    bytes.resize(236, 0)?;
+    bytes.extend_from_slice(OFFERED_OPTIONS)?;
+    bytes.resize(300, 0)?;
+    Ok(bytes)
+}
+
+// What a socket receives next has these bytes and no others.
+fn receives(socket: &UdpSocket, bytes: &[u8]) -> Result<bool, Fail> {
+    let mut room = [0; 1_500];
+    let (length, _) = socket.recv_from(&mut room)?;
+    Ok(&room[..length] == bytes)
+}
+
+// Each byte of an OFFER comes over a socket.
+#[test]
+fn an_offer_comes_whole_over_a_socket(rt: HostRuntime) -> Result<(), Fail> {
+    let (socket, port) = bound(&rt, LOOPBACK)?;
+    let (sender, client_port) = bound(&rt, LOOPBACK)?;
+    send_discover(rt.alloc(), &sender, port)?;
+    let ports = Ports {
+        server: port,
+        client: client_port,
+    };
+    serve_one(&rt, &mut Socket::over(&rt, socket, MIRRORED), ports)?;
+    assert!(rt; receives(&sender, offer_bytes(rt.alloc())?.as_slice())?);
     Ok(())
 }
