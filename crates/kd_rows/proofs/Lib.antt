@@ -2,6 +2,7 @@ pub mod Ages
 pub mod Bounds
 pub mod Ends
 pub mod Fulls
+pub mod Fronts
 pub mod Held
 pub mod Indexes
 pub mod Keys

@@ -7,7 +7,7 @@ use Rattle.std.proofs.lemmas.List.{drop-map, get_or-map, get_or-set_other, get_o
 use Rattle.std.proofs.lemmas.List.Edits.{length-insert}
 use Rattle.std.proofs.lemmas.List.Elements.{All-push}
 use Rattle.kd_rows.specs.declared.row.Row.{Row}
-use Rattle.kd_rows.specs.Index.{IsRowPlace, IsByAddress, IsByKey, IsPlace, IsStored, addresses_in, lists, row_in, rows_in}
+use Rattle.kd_rows.specs.Index.{IsRowPlace, IsByAddress, IsByKey, IsPlace, addresses_in, lists, row_in, rows_in}
 use Rattle.kd_rows.specs.Table.{Rise, row_at, with_row}
 use Rattle.kd_rows.proofs.Indexes.{lists-append, lists-insert, numbered_within}
 use Rattle.kd_rows.proofs.Keys.{Stands, listed_at}
@@ -313,20 +313,20 @@ within_moved slots numbers between new from to number within inside is taken put
 pub within_by_key : (of : Row → List ℕ) (slots : List Row) (numbers : List ℕ) → IsByKey of slots numbers → All (λ n. n < length slots) numbers
 within_by_key of slots numbers numbered k d inside = subst (λ (n : ℕ). n < length slots) (get_or_default numbers k 0 d inside) (numbered_within of slots numbers numbered k inside)
 
--- the invariant after a row is overwritten
-pub replaced_stored : (slots rows : List Row) (by_address by_client by_age : List ℕ) (place number : ℕ) (row : Row) → IsStored slots by_address by_client by_age → rows_in slots by_address ≡ rows → number ≡ get_or by_address place number → IsRowPlace rows row.address place → IsStored (set slots number row) by_address by_client by_age
-replaced_stored slots rows by_address by_client by_age place number row stored are is at =
-    let n = length-set slots number row in
-    record {
-      sorted = (replaced_now slots rows by_address place number row stored.sorted are is at).0;
-      within = λ k d inside. let h = stored.within k d inside in omega (arith, h, n);
-      aged = λ k d inside. let h = stored.aged k d inside in omega (arith, h, n);
-    }
-
--- and its indexes
-pub replaced_index : (slots rows : List Row) (by_address numbers : List ℕ) (place number : ℕ) (row : Row) → IsByAddress slots by_address → rows_in slots by_address ≡ rows → number ≡ get_or by_address place number → IsRowPlace rows row.address place → addresses_in (set slots number row) numbers ≡ addresses_in slots numbers
-replaced_index slots rows by_address numbers place number row sorted are is at = same_addresses slots numbers number row (subst (λ (n : ℕ). n < length slots) (sym this) (sorted.within place 0 inside))
+-- the row that is overwritten has the address of the one that comes
+pub replaced_address : (slots rows : List Row) (by_address : List ℕ) (place number : ℕ) (row : Row) → IsByAddress slots by_address → rows_in slots by_address ≡ rows → number ≡ get_or by_address place number → IsRowPlace rows row.address place → (row_in slots number).address ≡ row.address
+replaced_address slots rows by_address place number row sorted are is at = sym
     (sym (at.here row) ∙ ap (λ (rs : List Row). (get_or rs place row).address) (sym are) ∙ ap (λ (r : Row). r.address) (row_of_place slots by_address place row inside ∙ ap (row_in slots) (sym this))) where
+      inside : place < length by_address
+      inside = omega (arith, at.in_range, ap length are, length-map by_address (row_in slots))
+
+      this : number ≡ get_or by_address place 0
+      this = is ∙ get_or_default by_address place number 0 inside
+
+-- the indexes stay where a row is overwritten
+pub replaced_index : (slots rows : List Row) (by_address numbers : List ℕ) (place number : ℕ) (row : Row) → IsByAddress slots by_address → rows_in slots by_address ≡ rows → number ≡ get_or by_address place number → IsRowPlace rows row.address place → addresses_in (set slots number row) numbers ≡ addresses_in slots numbers
+replaced_index slots rows by_address numbers place number row sorted are is at =
+    same_addresses slots numbers number row (subst (λ (n : ℕ). n < length slots) (sym this) (sorted.within place 0 inside)) (sym (replaced_address slots rows by_address place number row sorted are is at)) where
       inside : place < length by_address
       inside = omega (arith, at.in_range, ap length are, length-map by_address (row_in slots))
 

@@ -12,6 +12,7 @@ use Rattle.kd_rows.specs.declared.holds.Holds.{Holds}
 use Rattle.kd_rows.specs.declared.row.Row.{Row}
 use Rattle.kd_rows.specs.declared.row.State.TheVariants.{Offered}
 use Rattle.kd_rows.specs.Full.{AreFull}
+use Rattle.kd_rows.specs.Heads.{AreHeads, row_addresses}
 use Rattle.kd_rows.specs.Holds.{AreHolds}
 use Rattle.kd_rows.specs.Row.{IsInRange}
 use Rattle.kd_rows.specs.Table.{Rise, row_at, latest_of}
@@ -102,8 +103,12 @@ pub record IsByAddress (slots : List Row) (numbers : List ℕ) : Type 0 where
   pub rise : Rise (rows_in slots numbers)
   pub bounded : All (λ row. row.address < 2 ^ 32) (rows_in slots numbers)
 
--- what is true of slots and the lists of their numbers in the three orders
-pub record IsStored (slots : List Row) (by_address by_client by_age : List ℕ) : Type 0 where
+-- what is true of slots, the addresses and heads of their rows, and the lists of their numbers in
+-- the three orders
+pub record IsStored (slots : List Row) (addresses heads by_address by_client by_age : List ℕ)
+    : Type 0 where
+  pub addressed : addresses ≡ row_addresses slots
+  pub headed : AreHeads slots heads
   pub sorted : IsByAddress slots by_address
   pub within : All (λ n. n < length slots) by_client
   pub aged : All (λ n. n < length slots) by_age

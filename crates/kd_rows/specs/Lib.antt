@@ -9,3 +9,4 @@ pub mod Ages
 pub mod Holds
 pub mod Withheld
 pub mod Open
+pub mod Heads

@@ -1,7 +1,8 @@
-ghost use Rattle.std.specs.Prelude.{◌≡◌, ℕ, ◌+◌, ◌-◌, ◌<◌, ◌^◌, IsTrue, List, Option, length};
+ghost use Rattle.std.specs.Prelude.{◌≡◌, ℕ, ◌+◌, ◌-◌, ◌<◌, ◌^◌, IsTrue, List, Option, length, slice_index};
 ghost use Rattle.std.specs.List.{All};
 ghost use Rattle.std.specs.Option.{option_copied};
 ghost use Rattle.std.specs.Ordering.{is_lt};
+ghost use Rattle.kd_rows.specs.Heads.{IsHead};
 ghost use Rattle.kd_rows.specs.Index.{IsIndex, IsKeyPlace, Rises, age_at, age_of, key_order};
 ghost use Rattle.kd_rows.specs.Ages.{AreBelow, AreNotBelow, IsAgeStart, is_between, is_of_place, key_of_age};
 ghost use Rattle.kd_rows.specs.Row.{IsInRange};
@@ -9,6 +10,7 @@ ghost use Rattle.kd_rows.specs.Table.{IsNewestRow};
 ghost use Rattle.kd_rows.specs.Zones.{is_in_group};
 ghost use Rattle.kd_rows.specs.declared.row.Row.{Row as RowOf};
 
+use crate::heads::head_of;
 use crate::row::Row;
 use crate::sorted::Sorted;
 use crate::zones::Zones;
@@ -77,17 +79,33 @@ fn comes_before(zones: &Zones, row: &Row, place: &Age) -> bool
     client.then(age).then(address).is_lt()
 }
 
+// Whether the row at a number of the index by age comes before a place, whose client has this head.
+fn is_before(rows: &Sorted, i: usize, head: u64, place: &Age) -> bool
+    requires place { i < length rows.now.ages }
+    requires head { IsHead place.now.client.now head }
+    ensures { result
+        ≡ is_lt (key_order (age_at rows.now.cuts rows.now.rows (slice_index rows.now.ages i))
+        (key_of_age place.now)) }
+{
+    let other = rows.aged_head(i);
+    if other != head {
+        return other < head;
+    }
+    comes_before(rows.zones(), rows.aged(i), place)
+}
+
 // The number of a place in the index by age: before it stand the addresses whose rows come before.
 pub(crate) fn age_place(rows: &Sorted, place: &Age) -> usize
     requires { Rises (age_at rows.now.cuts rows.now.rows) rows.now.ages }
     ensures { IsKeyPlace (age_at rows.now.cuts rows.now.rows) rows.now.ages
         (key_of_age place.now) result }
 {
+    let head = head_of(place.client);
     let mut low = 0;
     let mut high = rows.ages_len();
     'halves: while low < high {
         let middle = low + (high - low) / 2;
-        if comes_before(rows.zones(), rows.aged(middle), place) {
+        if is_before(rows, middle, head, place) {
             low = middle + 1;
         } else {
             high = middle;
@@ -106,7 +124,7 @@ pub(crate) fn is_past_those_before(rows: &Sorted, place: usize, age: &Age) -> bo
     if place == 0 {
         return true;
     }
-    comes_before(rows.zones(), rows.aged(place - 1), age)
+    is_before(rows, place - 1, head_of(age.client), age)
 }
 
 // Whether a key stays below those that stand after a place of the index by age.
@@ -119,7 +137,7 @@ pub(crate) fn is_before_those_after(rows: &Sorted, place: usize, age: &Age) -> b
     if place == rows.ages_len() - 1 {
         return true;
     }
-    !comes_before(rows.zones(), rows.aged(place + 1), age)
+    !is_before(rows, place + 1, head_of(age.client), age)
 }
 
 // Whether a row is of the client and the group of a place.

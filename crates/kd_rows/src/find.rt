@@ -10,7 +10,7 @@ pub(crate) fn find(rows: &Sorted, address: u32) -> Option<usize>
     ensures { IsFound rows.now.rows address result }
 {
     let place = rows.place_of(address);
-    if place < rows.len() && rows.row(place).address == address {
+    if place < rows.len() && rows.address(place) == address {
         Some(place)
     } else {
         None
@@ -29,7 +29,7 @@ pub(crate) fn gap_in(rows: &Sorted, first: u32, last: u32) -> Option<u32>
     let mut high = rows.len();
     'halves: while low < high {
         let middle = low + (high - low) / 2;
-        if (rows.row(middle).address - first) as usize == middle - start {
+        if (rows.address(middle) - first) as usize == middle - start {
             low = middle + 1;
         } else {
             high = middle;

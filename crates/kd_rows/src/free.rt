@@ -21,7 +21,7 @@ pub(crate) fn free_in(rows: &Sorted, bare: &[u32], first: u32, last: u32) -> Opt
     if end == start {
         return first_outside(bare, first, last);
     }
-    let before = rows.row(end - 1).address;
+    let before = rows.address(end - 1);
     if last <= before {
         return None;
     }
@@ -41,7 +41,7 @@ fn taken_end(rows: &Sorted, bare: &[u32], first: u32, start: usize) -> usize
     let mut high = rows.len();
     'halves: while low < high {
         let middle = low + (high - low) / 2;
-        let address = rows.row(middle).address;
+        let address = rows.address(middle);
         let taken = place_in(bare, address) - skip;
         if (address - first) as usize - (middle - start) == taken {
             low = middle + 1;

@@ -1,9 +1,11 @@
-ghost use Rattle.std.specs.Prelude.{◌≡◌, slice_get};
+ghost use Rattle.std.specs.Prelude.{◌≡◌, ◌<◌, length, slice_get, slice_index};
 ghost use Rattle.std.specs.Option.{option_copied};
 ghost use Rattle.std.specs.Ordering.{is_lt};
+ghost use Rattle.kd_rows.specs.Heads.{IsHead};
 ghost use Rattle.kd_rows.specs.Index.{IsIndex, IsKeyPlace, Rises, client_of, key_at, key_order};
 ghost use Rattle.kd_rows.specs.Table.{IsNextOf, Rise, addresses_of};
 
+use crate::heads::head_of;
 use crate::row::Row;
 use crate::sorted::Sorted;
 use std::cmp::Ordering;
@@ -19,17 +21,32 @@ fn is_below(c: &[u8], a: u32, d: &[u8], b: u32) -> bool
     }
 }
 
+// Whether the key at a place of the index comes before another, whose client has this head.
+fn is_before(rows: &Sorted, i: usize, head: u64, key: (&[u8], u32)) -> bool
+    requires place { i < length rows.now.index }
+    requires head { IsHead key.0.now head }
+    ensures { result ≡ is_lt (key_order (key_at rows.now.rows (slice_index rows.now.index i))
+        (key.entry.0.now, key.entry.1)) }
+{
+    let other = rows.indexed_head(i);
+    if other != head {
+        return other < head;
+    }
+    let row = rows.indexed(i);
+    is_below(row.client.as_slice(), row.address, key.0, key.1)
+}
+
 // The place of a key: before it stand the addresses whose keys come before.
 pub(crate) fn key_place(rows: &Sorted, client: &[u8], address: u32) -> usize
     requires { Rises (key_at rows.now.rows) rows.now.index }
     ensures { IsKeyPlace (key_at rows.now.rows) rows.now.index (client.now, address) result }
 {
+    let head = head_of(client);
     let mut low = 0;
     let mut high = rows.index_len();
     'halves: while low < high {
         let middle = low + (high - low) / 2;
-        let row = rows.indexed(middle);
-        if is_below(row.client.as_slice(), row.address, client, address) {
+        if is_before(rows, middle, head, (client, address)) {
             low = middle + 1;
         } else {
             high = middle;

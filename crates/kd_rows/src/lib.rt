@@ -14,6 +14,7 @@ mod ended;
 mod find;
 mod free;
 mod full;
+mod heads;
 mod holds;
 mod index;
 pub mod laws;

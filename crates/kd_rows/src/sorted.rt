@@ -1,9 +1,11 @@
 ghost use Rattle.std.specs.Prelude.{◌≡◌, ◌+◌, ◌<◌, ◌≤◌, ◌^◌, length, IfOk, None, OnOk, Some, slice_get, slice_index, slice_index_or, vec_capacity, vec_len};
 ghost use Rattle.std.specs.List.{All, insert, remove};
 ghost use Rattle.std.specs.Option.{option_copied};
-ghost use Rattle.kd_rows.specs.Index.{IsRowPlace, IsIndex, IsPlace, age_of, client_of};
+ghost use Rattle.kd_rows.specs.Heads.{IsHeadAt};
+ghost use Rattle.kd_rows.specs.Index.{IsRowPlace, IsIndex, IsPlace, age_of, client_of, row_in};
 ghost use Rattle.kd_rows.specs.Table.{Rise, row_at, with_row};
 
+use crate::heads::{addresses_by_slot, head_of, heads_by_slot};
 use crate::numbers::{number_of, numbers_by_address, numbers_by_age, numbers_by_client};
 use crate::row::Row;
 use crate::tiered::Tiered;
@@ -16,6 +18,11 @@ use std::marker::Model;
 #[derive(Drop)]
 pub(crate) struct Sorted {
     slots: Vec<Row>,
+    // The addresses of the rows in the slots.
+    addresses: Vec<u32>,
+    // The heads of their clients: a search compares these, and looks at a row only where they are
+    // the same.
+    heads: Vec<u64>,
     // The numbers of the slots, in rising address of their rows.
     by_address: Tiered,
     // The numbers of the slots, in the order of client and address.
@@ -36,12 +43,14 @@ impl Model for Sorted {
       index = addresses_in s.slots.items s.by_client.numbers;
       ages = addresses_in s.slots.items s.by_age.numbers;
       cuts = s.zones;
-      room = min (vec_capacity s.slots - vec_len s.slots)
+      room = min (min (vec_capacity s.slots - vec_len s.slots)
+          (min (vec_capacity s.addresses - vec_len s.addresses)
+          (vec_capacity s.heads - vec_len s.heads)))
           (min s.by_address.room (min s.by_client.room s.by_age.room));
     } };
 
-    ghost invariant = { λ s. IsStored s.slots.items s.by_address.numbers s.by_client.numbers
-        s.by_age.numbers };
+    ghost invariant = { λ s. IsStored s.slots.items s.addresses.items s.heads.items
+        s.by_address.numbers s.by_client.numbers s.by_age.numbers };
 }
 
 impl Sorted {
@@ -53,12 +62,16 @@ impl Sorted {
         ensures aged { IfOk result (λ s. IsIndex (age_of s.cuts) s.rows s.ages) }
     {
         let alloc = *rows.allocator();
+        let addresses = addresses_by_slot(&rows)?;
+        let heads = heads_by_slot(&rows)?;
         let by_address = numbers_by_address(&rows)?;
         let by_client = numbers_by_client(&rows)?;
         let zones = Zones::between(cuts);
         let by_age = numbers_by_age(&zones, &rows)?;
         Ok(Sorted {
             slots: rows,
+            addresses,
+            heads,
             by_address: Tiered::of(alloc, by_address.as_slice())?,
             by_client: Tiered::of(alloc, by_client.as_slice())?,
             by_age: Tiered::of(alloc, by_age.as_slice())?,
@@ -127,6 +140,30 @@ impl Sorted {
         &self.slots[self.by_age.at(i) as usize]
     }
 
+    // The address of the row at a place.
+    pub(crate) fn address(&self, place: usize) -> u32
+        requires { place < length self.now.rows }
+        ensures { result ≡ (row_in self.now.rows place).address }
+    {
+        self.addresses[self.by_address.at(place) as usize]
+    }
+
+    // The head of the client at a place of the index by client.
+    pub(crate) fn indexed_head(&self, i: usize) -> u64
+        requires { i < length self.now.index }
+        ensures { IsHeadAt self.now.rows (slice_index self.now.index i) result }
+    {
+        self.heads[self.by_client.at(i) as usize]
+    }
+
+    // The head of the client at a place of the index by age.
+    pub(crate) fn aged_head(&self, i: usize) -> u64
+        requires { i < length self.now.ages }
+        ensures { IsHeadAt self.now.rows (slice_index self.now.ages i) result }
+    {
+        self.heads[self.by_age.at(i) as usize]
+    }
+
     // The row at a place, or that there are no more.
     pub(crate) fn get(&self, place: usize) -> Option<&Row>
         ensures { option_copied result ≡ slice_get self.now.rows place }
@@ -146,7 +183,7 @@ impl Sorted {
         let mut high = self.by_address.len();
         'halves: while low < high {
             let middle = low + (high - low) / 2;
-            if self.row(middle).address < address {
+            if self.address(middle) < address {
                 low = middle + 1;
             } else {
                 high = middle;
@@ -159,7 +196,9 @@ impl Sorted {
     pub(crate) fn room(&self) -> usize
         ensures { result ≡ self.now.room }
     {
-        let slots = self.slots.capacity() - self.slots.len();
+        let addresses = self.addresses.capacity() - self.addresses.len();
+        let heads = self.heads.capacity() - self.heads.len();
+        let slots = (self.slots.capacity() - self.slots.len()).min(addresses.min(heads));
         let indexes = self.by_client.room().min(self.by_age.room());
         slots.min(self.by_address.room().min(indexes))
     }
@@ -173,6 +212,8 @@ impl Sorted {
         ensures room { OnOk result (0 < self.new.room) }
     {
         self.slots.reserve(1)?;
+        self.addresses.reserve(1)?;
+        self.heads.reserve(1)?;
         self.by_address.reserve()?;
         self.by_client.reserve()?;
         self.by_age.reserve()
@@ -188,6 +229,7 @@ impl Sorted {
         ensures room { self.new.room ≡ self.old.room }
     {
         let number = self.by_address.at(place) as usize;
+        self.heads[number] = head_of(row.client.as_slice());
         self.slots[number] = row;
     }
 
@@ -238,6 +280,8 @@ impl Sorted {
         self.by_address.put_at(place, number);
         self.by_client.put_at(key, number);
         self.by_age.put_at(age, number);
+        self.addresses.push_reserved(row.address);
+        self.heads.push_reserved(head_of(row.client.as_slice()));
         self.slots.push_reserved(row);
     }
 }

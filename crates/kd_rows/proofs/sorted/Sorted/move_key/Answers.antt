@@ -9,6 +9,8 @@ pub invariant_of-self : goal.invariant_of-self
 invariant_of-self c =
     let inside : c.args.from < length c.self.inside.by_client.numbers = omega (arith, c.requires.from, ap (λ (t : Ordered). length t.index) c.self.view_is, length-map c.self.inside.by_client.numbers (λ n. (row_in c.self.inside.slots.items n).address)) in
     record {
+      addressed = c.self.invariant.addressed;
+      headed = c.self.invariant.headed;
       sorted = c.self.invariant.sorted;
       aged = c.self.invariant.aged;
       within = within_moved c.self.inside.slots.items c.self.inside.by_client.numbers c.take_at-number.new.self.numbers c.put_at.new.self.numbers c.args.from c.args.to c.take_at-number.result c.self.invariant.within inside c.take_at-number.ensures.value c.take_at-number.ensures.numbers c.put_at.ensures.numbers;

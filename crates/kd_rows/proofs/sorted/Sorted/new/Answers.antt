@@ -12,6 +12,8 @@ invariant_of-result c =
     let by_client = c.in_ok-of-2.ensures ∙ c.as_slice-2.ensures.value in
     let by_age = c.in_ok-of-3.ensures ∙ c.as_slice-3.ensures.value in
     record {
+      addressed = c.in_ok-addresses.ensures;
+      headed = c.in_ok-heads.ensures;
       sorted = subst (IsByAddress c.args.rows.items) (sym by_address) c.in_ok-by_address.ensures.by_address;
       within = subst (All (λ n. n < length c.args.rows.items)) (sym by_client) (within_by_key client_of c.args.rows.items c.in_ok-by_client.by_client.items c.in_ok-by_client.ensures);
       aged = subst (All (λ n. n < length c.args.rows.items)) (sym by_age) (within_by_key (age_of c.between-zones.result) c.args.rows.items c.in_ok-by_age.by_age.items c.in_ok-by_age.ensures);

@@ -1,11 +1,14 @@
-use Rattle.std.proofs.Common.{ap, ◌∙◌}
+use Rattle.std.proofs.Common.{List, ℕ, ap, subst, ◌∙◌}
+use Rattle.kd_rows.specs.Heads.{IsHead}
 use Rattle.kd_rows.specs.Index.{Ordered}
-use Rattle.kd_rows.proofs.Slots.{replaced_index, replaced_now, replaced_stored}
+use Rattle.kd_rows.proofs.Fronts.{replaced_stored}
+use Rattle.kd_rows.proofs.Slots.{replaced_index, replaced_now}
 use Rattle.kd_rows.proofs.sorted.Sorted.replace.Goals as goal
 
 pub invariant_of-self : goal.invariant_of-self
 invariant_of-self c =
-    replaced_stored c.self.inside.slots.items c.args.self.now.rows c.self.inside.by_address.numbers c.self.inside.by_client.numbers c.self.inside.by_age.numbers c.args.place c.at-number.result c.args.row c.self.invariant (ap (λ (t : Ordered). t.rows) c.self.view_is) c.at-number.ensures c.requires
+    replaced_stored c.self.inside.slots.items c.args.self.now.rows c.self.inside.addresses.items c.self.inside.heads.items c.self.inside.by_address.numbers c.self.inside.by_client.numbers c.self.inside.by_age.numbers c.args.place c.at-number.result c.head_of.result c.args.row c.self.invariant (ap (λ (t : Ordered). t.rows) c.self.view_is) c.at-number.ensures c.requires
+    (subst (λ (client : List ℕ). IsHead client c.head_of.result) c.as_slice.ensures c.head_of.ensures)
 
 pub returns-clause-rows : goal.returns-clause-rows
 returns-clause-rows c =
