@@ -7,7 +7,7 @@ use Rattle.std.proofs.lemmas.List.{append-nil}
 use Rattle.std.proofs.lemmas.Option.{slice_get_within, slice_get_past}
 use Rattle.kd_compile.specs.Measures.{number_tree, four_more, step_count, stack_depth, bound, bound_of_part, greatest, names}
 use Rattle.kd_compile.specs.Measures.{token_count as size}
-use Rattle.kd_compile.specs.Tokens.{index_of, token_field, code_of, program_for}
+use Rattle.kd_compile.specs.Tokens.{index_of, code_of, program_for}
 use Rattle.kd_compile.proofs.Fits.{operand, code_length, operand_length}
 use Rattle.kd_compile.proofs.Rows.{has_front, has_back, has_itself}
 use Rattle.kd_compile.proofs.Pieces.{known_covered, Goes, Leads, GoesOn, Piece, piece_last, piece_front, piece_then, piece_over, piece_counted, covered_shorter, covered_sooner}
@@ -15,8 +15,8 @@ use Rattle.kd_compile.proofs.Places.{Knows, names_known}
 use Rattle.kd_compile.proofs.Typed.{kind_of, IsTruth, IsBytes, IsWell, well_of}
 use Rattle.kd_expr.specs.Tree.{Tree, Literal, Int, OptionValue, RelayValue, FieldValue, OptionExists, RelayExists, Member, Equal, Not, And, Or, Group, Concat, IfElse, Substring, HexString, Lower, Upper, IntToText}
 use Rattle.kd_expr.specs.Typing.{type_of}
-use Rattle.kd_expr.specs.declared.node.Field.{Field}
-use Rattle.kd_expr.specs.declared.node.Field.TheVariants as parts
+use Rattle.kd_wire.specs.declared.field.Field.{Field}
+use Rattle.kd_wire.specs.declared.field.Field.TheVariants as parts
 use Rattle.kd_expr.specs.declared.typing.ValueType.TheVariants as types
 use Rattle.kd_token.specs.Accepts.{Accepts, Point, Flow, Assignment, IsSoundAt, flow_to, out, leaving, origin, IsCovered, IsWithin}
 use Rattle.kd_token.specs.File.{Code}
@@ -90,7 +90,7 @@ bound_le (Lower at a) = bound_le a
 bound_le (Upper at a) = bound_le a
 bound_le (IntToText at a) = omega arith
 
-part_short : (n : ℕ) (field : Field) → bound_of_part field ≤ n → IsShortKind n (field_kind (token_field field))
+part_short : (n : ℕ) (field : Field) → bound_of_part field ≤ n → IsShortKind n (field_kind field)
 part_short n parts.Mac le = le
 part_short n parts.Hlen le = tt
 part_short n parts.Htype le = tt
@@ -98,8 +98,8 @@ part_short n parts.Ciaddr le = le
 part_short n parts.Giaddr le = le
 part_short n parts.Yiaddr le = le
 part_short n parts.Siaddr le = le
-part_short n parts.Msgtype le = tt
-part_short n parts.Transid le = tt
+part_short n parts.MessageType le = tt
+part_short n parts.Transaction le = tt
 part_short n parts.Length le = tt
 
 -- a tree's tokens are a piece wherever they begin with room: they leave the tree's value on top
@@ -276,7 +276,7 @@ piece_of p (Literal at bytes) w k g = leaf_piece p (tokens.PushBytes bytes) (kin
 piece_of p (Int at n) w k g = leaf_piece p (tokens.PushInt n) kinds.Int tt (λ s c f i room end. ((room, end), tt))
 piece_of p (OptionValue at code) w k g = leaf_piece p (tokens.PushOption code) (kinds.Bytes 4096) g (λ s c f i room end. ((room, end), tt))
 piece_of p (RelayValue at code) w k g = leaf_piece p (tokens.PushRelay code) (kinds.Bytes 255) g (λ s c f i room end. ((room, end), tt))
-piece_of p (FieldValue at field) w k g = leaf_piece p (tokens.PushField (token_field field)) (field_kind (token_field field)) (part_short p.bound field g) (λ s c f i room end. ((room, end), tt))
+piece_of p (FieldValue at field) w k g = leaf_piece p (tokens.PushField field) (field_kind field) (part_short p.bound field g) (λ s c f i room end. ((room, end), tt))
 piece_of p (OptionExists at code) w k g = leaf_piece p (tokens.OptionExists code) kinds.Bool tt (λ s c f i room end. ((room, end), tt))
 piece_of p (RelayExists at code) w k g = leaf_piece p (tokens.RelayExists code) kinds.Bool tt (λ s c f i room end. ((room, end), tt))
 piece_of p (Member at name) w k g = leaf_piece p (tokens.Member (index_of name p.names)) kinds.Bool tt (member_takes p name k)

@@ -4,19 +4,19 @@ use Rattle.std.specs.Prelude.{◌⊎◌, ◌&&◌, ◌||◌, if◌then◌else◌
 use Rattle.std.proofs.lemmas.List.{append_assoc}
 use Rattle.kd_compile.specs.Measures.{four_more}
 use Rattle.kd_compile.specs.Measures.{token_count as size}
-use Rattle.kd_compile.specs.Tokens.{code_of, token_field, in_bytes, index_of}
-use Rattle.kd_compile.specs.Value.{value, part_value, truth_in, number_in, bytes_in}
+use Rattle.kd_compile.specs.Tokens.{code_of, in_bytes, index_of}
+use Rattle.kd_compile.specs.Value.{value, truth_in, number_in, bytes_in}
 use Rattle.kd_compile.proofs.Fits.{code_length, operand_length}
 use Rattle.kd_compile.proofs.Places.{Knows}
 use Rattle.kd_compile.proofs.Typed.{kind_of, IsTruth, IsNumber, IsText, IsBytes, IsWell}
 use Rattle.kd_compile.proofs.Ways.{Makes, makes_both, makes_over, makes_none, makes_one, makes_next, makes_past}
 use Rattle.kd_expr.specs.Tree.{Tree, Literal, Int, OptionValue, RelayValue, FieldValue, OptionExists, RelayExists, Member, Equal, Not, And, Or, Group, Concat, IfElse, Substring, HexString, Lower, Upper, IntToText}
-use Rattle.kd_expr.specs.declared.node.Field.{Field}
-use Rattle.kd_expr.specs.declared.node.Field.TheVariants as parts
+use Rattle.kd_wire.specs.declared.field.Field.{Field}
+use Rattle.kd_wire.specs.declared.field.Field.TheVariants as parts
 use Rattle.kd_machine.specs.Run.{rule, moves}
 use Rattle.kd_machine.specs.Val.{Val, Truth, Number, Text}
-use Rattle.kd_machine.specs.World.{World, world, value_of_field}
-use Rattle.kd_machine.specs.Parts.{is_held}
+use Rattle.kd_machine.specs.World.{World, world}
+use Rattle.kd_machine.specs.Parts.{is_held, value_of_field}
 use Rattle.kd_options.specs.Message.{Seen}
 use Rattle.kd_token.specs.File.{Code}
 use Rattle.kd_wire.specs.Steps.{◌>>=◌}
@@ -31,7 +31,7 @@ HasKind kinds.Bool v = v ≡ Truth (truth_in v)
 HasKind kinds.Int v = v ≡ Number (number_in v)
 HasKind (kinds.Bytes most) v = v ≡ Text (bytes_in v)
 
-part_kind : (m : Seen) (at : ℕ) (field : Field) → HasKind (kind_of (FieldValue at field)) (part_value m field)
+part_kind : (m : Seen) (at : ℕ) (field : Field) → HasKind (kind_of (FieldValue at field)) (value_of_field m field)
 part_kind m at parts.Mac = refl
 part_kind m at parts.Hlen = refl
 part_kind m at parts.Htype = refl
@@ -39,8 +39,8 @@ part_kind m at parts.Ciaddr = refl
 part_kind m at parts.Giaddr = refl
 part_kind m at parts.Yiaddr = refl
 part_kind m at parts.Siaddr = refl
-part_kind m at parts.Msgtype = refl
-part_kind m at parts.Transid = refl
+part_kind m at parts.MessageType = refl
+part_kind m at parts.Transaction = refl
 part_kind m at parts.Length = refl
 
 -- the value of an expression is of its kind
@@ -76,19 +76,6 @@ number_is m held t is well = let K : Kind → Type 0 = λ k. HasKind k (value m 
 
 text_is : (m : Seen) (held : List (List ℕ)) (t : Tree) → IsText t → IsWell t → value m held t ≡ Text (bytes_in (value m held t))
 text_is m held t is well = let K : Kind → Type 0 = λ k. HasKind k (value m held t) in subst K is.kind (value_kind m held t well)
-
--- the field of a token has the value of the part of a message
-part_is : (m : Seen) (field : Field) → value_of_field m (token_field field) ≡ part_value m field
-part_is m parts.Mac = refl
-part_is m parts.Hlen = refl
-part_is m parts.Htype = refl
-part_is m parts.Ciaddr = refl
-part_is m parts.Giaddr = refl
-part_is m parts.Yiaddr = refl
-part_is m parts.Siaddr = refl
-part_is m parts.Msgtype = refl
-part_is m parts.Transid = refl
-part_is m parts.Length = refl
 
 -- a number becomes its four bytes
 four_bytes : (p : Code) (w : World) (v : Val) (s : List Val) → v ≡ Number (number_in v) → Makes p w (tokens.IntBytes ∷ []) (v ∷ s) (Text (bytes_in v) ∷ s)
@@ -197,7 +184,7 @@ tree_makes p m held (Int at n) well known s = push_makes p (here p m held) (toke
 tree_makes p m held (OptionValue at code) well known s = push_makes p (here p m held) (tokens.PushOption code) _ (λ s i. refl) s
 tree_makes p m held (RelayValue at code) well known s = push_makes p (here p m held) (tokens.PushRelay code) _ (λ s i. refl) s
 tree_makes p m held (FieldValue at field) well known s =
-    push_makes p (here p m held) (tokens.PushField (token_field field)) (part_value m field) (λ s i. ap (λ v. Some (i + 1, v ∷ s)) (part_is m field)) s
+    push_makes p (here p m held) (tokens.PushField field) (value_of_field m field) (λ s i. refl) s
 tree_makes p m held (OptionExists at code) well known s = push_makes p (here p m held) (tokens.OptionExists code) _ (λ s i. refl) s
 tree_makes p m held (RelayExists at code) well known s = push_makes p (here p m held) (tokens.RelayExists code) _ (λ s i. refl) s
 tree_makes p m held (Member at name) well known s = push_makes p (here p m held) (tokens.Member (index_of name p.names)) _ (member_moves p m held name known) s

@@ -3,12 +3,11 @@
 use Rattle.std.proofs.Common.{◌≡◌, ℕ, ◌+◌, true, false, length, refl, subst, inl, inr}
 use Rattle.std.specs.Prelude.{◌⊎◌, max, Result, Ok, Err}
 use Rattle.kd_compile.specs.Measures.{number_tree, bound}
-use Rattle.kd_compile.specs.Tokens.{token_field}
 use Rattle.kd_expr.specs.Tree.{Tree, Literal, Int, OptionValue, RelayValue, FieldValue, OptionExists, RelayExists, Member, Equal, Not, And, Or, Group, Concat, IfElse, Substring, HexString, Lower, Upper, IntToText, at_of}
 use Rattle.kd_expr.specs.Typing.{type_of, field_type, want_bool, want_bytes, want_int, andthen}
 use Rattle.kd_expr.specs.declared.fault.TypeFault.{TypeFault}
-use Rattle.kd_expr.specs.declared.node.Field.{Field}
-use Rattle.kd_expr.specs.declared.node.Field.TheVariants as parts
+use Rattle.kd_wire.specs.declared.field.Field.{Field}
+use Rattle.kd_wire.specs.declared.field.Field.TheVariants as parts
 use Rattle.kd_expr.specs.declared.typing.ValueType.{ValueType}
 use Rattle.kd_expr.specs.declared.typing.ValueType.TheVariants as types
 use Rattle.kd_token.specs.Shape.{field_kind, bound_of_hex, bound_of_substring}
@@ -21,7 +20,7 @@ kind_of (Literal at bytes) = kinds.Bytes (length bytes)
 kind_of (Int at n) = kinds.Int
 kind_of (OptionValue at code) = kinds.Bytes 4096
 kind_of (RelayValue at code) = kinds.Bytes 255
-kind_of (FieldValue at field) = field_kind (token_field field)
+kind_of (FieldValue at field) = field_kind field
 kind_of (OptionExists at code) = kinds.Bool
 kind_of (RelayExists at code) = kinds.Bool
 kind_of (Member at name) = kinds.Bool
@@ -134,8 +133,8 @@ part_type at parts.Ciaddr = record { text = refl; kind = refl }
 part_type at parts.Giaddr = record { text = refl; kind = refl }
 part_type at parts.Yiaddr = record { text = refl; kind = refl }
 part_type at parts.Siaddr = record { text = refl; kind = refl }
-part_type at parts.Msgtype = record { number = refl; kind = refl; size = refl }
-part_type at parts.Transid = record { number = refl; kind = refl; size = refl }
+part_type at parts.MessageType = record { number = refl; kind = refl; size = refl }
+part_type at parts.Transaction = record { number = refl; kind = refl; size = refl }
 part_type at parts.Length = record { number = refl; kind = refl; size = refl }
 
 -- one operand, and the type of the node

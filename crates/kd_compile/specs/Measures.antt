@@ -3,8 +3,8 @@
 -- most, and which names it asks for. The numbers have no greatest one.
 use Rattle.std.specs.Prelude.{ℕ, ◌+◌, max, Bool, true, false, ◌||◌, if◌then◌else◌, List, [], length}
 use Rattle.kd_expr.specs.Tree.{Tree, Literal, Int, OptionValue, RelayValue, FieldValue, OptionExists, RelayExists, Member, Equal, Not, And, Or, Group, Concat, IfElse, Substring, HexString, Lower, Upper, IntToText}
-use Rattle.kd_expr.specs.declared.node.Field.{Field}
-use Rattle.kd_expr.specs.declared.node.Field.TheVariants as fields
+use Rattle.kd_wire.specs.declared.field.Field.{Field}
+use Rattle.kd_wire.specs.declared.field.Field.TheVariants as fields
 use Rattle.kd_machine.specs.Held.{with_name}
 use Rattle.kd_token.specs.Shape.{bound_of_hex, bound_of_substring}
 
@@ -17,8 +17,8 @@ number_part fields.Ciaddr = false
 number_part fields.Giaddr = false
 number_part fields.Yiaddr = false
 number_part fields.Siaddr = false
-number_part fields.Msgtype = true
-number_part fields.Transid = true
+number_part fields.MessageType = true
+number_part fields.Transaction = true
 number_part fields.Length = true
 
 -- whether an expression is a number

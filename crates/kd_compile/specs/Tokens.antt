@@ -4,12 +4,8 @@
 -- the expression's value and measures.
 use Rattle.std.specs.Prelude.{ℕ, suc, ◌+◌, if◌then◌else◌, List, [], ◌∷◌, ◌++◌}
 use Rattle.kd_expr.specs.Tree.{Tree, Literal, Int, OptionValue, RelayValue, FieldValue, OptionExists, RelayExists, Member, Equal, Not, And, Or, Group, Concat, IfElse, Substring, HexString, Lower, Upper, IntToText}
-use Rattle.kd_expr.specs.declared.node.Field.{Field}
-use Rattle.kd_expr.specs.declared.node.Field.TheVariants as parts
 use Rattle.kd_machine.specs.Parts.{same}
 use Rattle.kd_token.specs.File.{Code, code}
-use Rattle.kd_token.specs.declared.token.Field.{Field as TokenField}
-use Rattle.kd_token.specs.declared.token.Field.TheVariants as fields
 use Rattle.kd_token.specs.declared.token.Token.{Token}
 use Rattle.kd_token.specs.declared.token.Token.TheVariants as tokens
 use Rattle.kd_compile.specs.Compiled.{version_for}
@@ -21,19 +17,6 @@ abbrev pub index_of : List ℕ → List (List ℕ) → ℕ
 index_of name [] = 0
 index_of name (x ∷ names) = if same name x then 0 else suc (index_of name names)
 
--- the field of a token that a part of a message is
-abbrev pub token_field : Field → TokenField
-token_field parts.Mac = fields.Mac
-token_field parts.Hlen = fields.Hlen
-token_field parts.Htype = fields.Htype
-token_field parts.Ciaddr = fields.Ciaddr
-token_field parts.Giaddr = fields.Giaddr
-token_field parts.Yiaddr = fields.Yiaddr
-token_field parts.Siaddr = fields.Siaddr
-token_field parts.Msgtype = fields.MessageType
-token_field parts.Transid = fields.Transaction
-token_field parts.Length = fields.Length
-
 -- the token after an operand where a byte string is wanted
 abbrev pub in_bytes : Tree → List Token
 in_bytes t = if number_tree t then tokens.IntBytes ∷ [] else []
@@ -44,7 +27,7 @@ code_of names (Literal at bytes) = tokens.PushBytes bytes ∷ []
 code_of names (Int at n) = tokens.PushInt n ∷ []
 code_of names (OptionValue at code) = tokens.PushOption code ∷ []
 code_of names (RelayValue at code) = tokens.PushRelay code ∷ []
-code_of names (FieldValue at field) = tokens.PushField (token_field field) ∷ []
+code_of names (FieldValue at field) = tokens.PushField field ∷ []
 code_of names (OptionExists at code) = tokens.OptionExists code ∷ []
 code_of names (RelayExists at code) = tokens.RelayExists code ∷ []
 code_of names (Member at name) = tokens.Member (index_of name names) ∷ []

@@ -7,14 +7,12 @@ use Rattle.std.specs.Fmt.{decimal}
 use Rattle.std.specs.Map.{lookup}
 use Rattle.byteorder.specs.Endian.{big_bytes}
 use Rattle.kd_expr.specs.Tree.{Tree, Literal, Int, OptionValue, RelayValue, FieldValue, OptionExists, RelayExists, Member, Equal, Not, And, Or, Group, Concat, IfElse, Substring, HexString, Lower, Upper, IntToText}
-use Rattle.kd_expr.specs.declared.node.Field.{Field}
-use Rattle.kd_expr.specs.declared.node.Field.TheVariants as fields
 use Rattle.kd_options.specs.Joined.{value_of}
-use Rattle.kd_options.specs.Message.{Seen, mac_of}
+use Rattle.kd_options.specs.Message.{Seen}
 use Rattle.kd_options.specs.RelayWalk.{relay_list}
 use Rattle.kd_machine.specs.Strings.{substring, hex_of}
 use Rattle.kd_machine.specs.Val.{Val, Truth, Number, Text}
-use Rattle.kd_machine.specs.Parts.{same, is_held, or_empty, type_in}
+use Rattle.kd_machine.specs.Parts.{same, is_held, or_empty, value_of_field}
 
 -- a truth value
 abbrev pub truth_in : Val → Bool
@@ -34,19 +32,6 @@ bytes_in (Text bytes) = bytes
 bytes_in (Number n) = big_bytes 4 n
 bytes_in (Truth b) = []
 
--- the value of a part of a message
-abbrev pub part_value : Seen → Field → Val
-part_value m fields.Mac = Text (mac_of m.header)
-part_value m fields.Hlen = Number m.header.hlen
-part_value m fields.Htype = Number m.header.htype
-part_value m fields.Ciaddr = Text (big_bytes 4 m.header.ciaddr)
-part_value m fields.Giaddr = Text (big_bytes 4 m.header.giaddr)
-part_value m fields.Yiaddr = Text (big_bytes 4 m.header.yiaddr)
-part_value m fields.Siaddr = Text (big_bytes 4 m.header.siaddr)
-part_value m fields.Msgtype = Number (type_in (value_of 53 m.options))
-part_value m fields.Transid = Number m.header.xid
-part_value m fields.Length = Number m.len
-
 -- a sub-option of a message's relay information, where it is present (kd_options
 -- `laws::relay_list_is_standard`)
 abbrev pub relay_value : Seen → ℕ → Option (List ℕ)
@@ -58,7 +43,7 @@ value m held (Literal at bytes) = Text bytes
 value m held (Int at n) = Number n
 value m held (OptionValue at code) = Text (or_empty (value_of code m.options))
 value m held (RelayValue at code) = Text (or_empty (relay_value m code))
-value m held (FieldValue at field) = part_value m field
+value m held (FieldValue at field) = value_of_field m field
 value m held (OptionExists at code) = Truth (is_some (value_of code m.options))
 value m held (RelayExists at code) = Truth (is_some (relay_value m code))
 value m held (Member at name) = Truth (is_held name held)

@@ -1,14 +1,14 @@
 ghost use Rattle.std.specs.Prelude.{[], ◌≡◌, ◌≤◌, ◌++◌, ◌∷◌, IfOk, OnOk, length};
 ghost use Rattle.std.specs.List.{position};
 ghost use Rattle.kd_compile.specs.Measures.{names, names_after, token_count};
-ghost use Rattle.kd_compile.specs.Tokens.{code_of, token_field, in_bytes, index_of};
+ghost use Rattle.kd_compile.specs.Tokens.{code_of, in_bytes, index_of};
 ghost use Rattle.kd_expr.specs.View.{tree_of};
 ghost use Rattle.kd_machine.specs.Held.{with_name};
 ghost use Rattle.kd_machine.specs.Parts.{is_held, same};
 
 use crate::measure::{four, is_number, tokens};
-use kd_expr::{Field, Node};
-use kd_token::{Field as TokenField, Token};
+use kd_expr::Node;
+use kd_token::Token;
 use kd_wire::Bytes;
 use std::alloc::{AllocError, Global};
 
@@ -102,24 +102,6 @@ pub(crate) fn member_names(alloc: Global, node: &Node) -> Result<Vec<Bytes>, All
     Ok(names)
 }
 
-// The field of a token that a part of a message is.
-fn field_of(field: Field) -> TokenField
-    ensures { result ≡ token_field field }
-{
-    match field {
-        Field::Mac => TokenField::Mac,
-        Field::Hlen => TokenField::Hlen,
-        Field::Htype => TokenField::Htype,
-        Field::Ciaddr => TokenField::Ciaddr,
-        Field::Giaddr => TokenField::Giaddr,
-        Field::Yiaddr => TokenField::Yiaddr,
-        Field::Siaddr => TokenField::Siaddr,
-        Field::Msgtype => TokenField::MessageType,
-        Field::Transid => TokenField::Transaction,
-        Field::Length => TokenField::Length,
-    }
-}
-
 // One token at the end.
 fn put(out: &mut Vec<Token>, token: Token) -> Result<(), AllocError>
     ensures { OnOk result (out.new.items ≡ out.old.items ++ (token ∷ [])) }
@@ -166,7 +148,7 @@ pub(crate) fn put_code(
         Node::Int { value, .. } => put(out, Token::PushInt(*value)),
         Node::Option { code, .. } => put(out, Token::PushOption(*code)),
         Node::Relay { code, .. } => put(out, Token::PushRelay(*code)),
-        Node::Field { field, .. } => put(out, Token::PushField(field_of(*field))),
+        Node::Field { field, .. } => put(out, Token::PushField(*field)),
         Node::OptionExists { code, .. } => put(out, Token::OptionExists(*code)),
         Node::RelayExists { code, .. } => put(out, Token::RelayExists(*code)),
         Node::Member { name, .. } => {

@@ -3,7 +3,8 @@ ghost use Rattle.kd_compile.specs.Measures.{bound, greatest, bound_of_part};
 ghost use Rattle.kd_expr.specs.View.{tree_of};
 ghost use Rattle.kd_token.specs.Shape.{bound_of_hex, bound_of_substring};
 
-use kd_expr::{Field, Node};
+use kd_expr::Node;
+use kd_wire::Field;
 
 // Above every length that a program can declare; greater ones count as this.
 const MOST: usize = 65_536;
@@ -27,8 +28,8 @@ fn part_bound(field: Field) -> usize
         | Field::Giaddr
         | Field::Yiaddr
         | Field::Siaddr
-        | Field::Msgtype
-        | Field::Transid
+        | Field::MessageType
+        | Field::Transaction
         | Field::Length => 4,
     }
 }

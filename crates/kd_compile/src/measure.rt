@@ -2,7 +2,8 @@ ghost use Rattle.std.specs.Prelude.{◌≡◌, ◌<◌, ◌^◌};
 ghost use Rattle.kd_compile.specs.Measures.{stack_depth, four_more, branching, number_tree, number_part, step_count, token_count};
 ghost use Rattle.kd_expr.specs.View.{tree_of};
 
-use kd_expr::{Field, Node};
+use kd_expr::Node;
+use kd_wire::Field;
 
 // Whether a part of a message is a number.
 fn is_number_part(field: Field) -> bool
@@ -10,7 +11,7 @@ fn is_number_part(field: Field) -> bool
 {
     match field {
         Field::Mac | Field::Ciaddr | Field::Giaddr | Field::Yiaddr | Field::Siaddr => false,
-        Field::Hlen | Field::Htype | Field::Msgtype | Field::Transid | Field::Length => true,
+        Field::Hlen | Field::Htype | Field::MessageType | Field::Transaction | Field::Length => true,
     }
 }
 

@@ -2,7 +2,6 @@ ghost use Rattle.std.specs.Prelude.{◌≡◌, [], IfOk};
 ghost use Rattle.kd_config.specs.Configuration.{builtin_config, subnet_built_in, times_built_in};
 
 use crate::config::Config;
-use crate::entries::Entries;
 use crate::pool::Pool;
 use crate::prefix::Prefix;
 use crate::range::Range;
@@ -10,6 +9,7 @@ use crate::reservations::Reservations;
 use crate::subnet::Subnet;
 use crate::times::Times;
 use kd_classes::{Classes, OptionList};
+use kd_wire::Entries;
 use std::alloc::{AllocError, Global};
 
 impl Config {

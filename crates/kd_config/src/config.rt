@@ -1,10 +1,10 @@
 ghost use Rattle.std.specs.Prelude.{◌≡◌};
 ghost use Rattle.kd_config.specs.Sound.{IsSound};
 
-use crate::entries::Entries;
 use crate::subnet::Subnet;
 use crate::times::Times;
 use kd_classes::{Classes, OptionData, OptionList};
+use kd_wire::Entries;
 use std::marker::Model;
 
 /// A configuration: what a server goes by. Each of its values is in its range, each list within its

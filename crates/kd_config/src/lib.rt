@@ -12,7 +12,6 @@
 
 mod builtin;
 mod config;
-mod entries;
 mod fault;
 pub mod laws;
 mod objects;
@@ -29,8 +28,8 @@ mod times;
 mod token_file;
 
 pub use config::Config;
-pub use entries::Entries;
 pub use fault::{ConfigFault, FileTestFault, TestFault};
+pub use kd_wire::Entries;
 pub use pool::Pool;
 pub use prefix::Prefix;
 pub use range::Range;

@@ -5,7 +5,6 @@ ghost use Rattle.kd_config.specs.Steps.{must};
 ghost use Rattle.kd_config.specs.Subnet.{has_subnet_keys, subnet_of, subnet_prefix, subnet_with};
 ghost use Rattle.kd_config.specs.declared.objects.faults.SettingsFault.TheVariants.{Memory};
 
-use crate::entries::Entries;
 use crate::objects::faults::SettingsFault;
 use crate::objects::lists::{Entry, entries_of};
 use crate::objects::options::options_of;
@@ -15,7 +14,7 @@ use crate::prefix::{Prefix, prefix_of};
 use crate::reservations::Reservations;
 use crate::rules::place::{Place, bad_value};
 use kd_classes::OptionList;
-use kd_wire::Bytes;
+use kd_wire::{Bytes, Entries};
 use serde_json::Value;
 use std::alloc::Global;
 

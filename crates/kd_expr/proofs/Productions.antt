@@ -6,8 +6,8 @@ use Rattle.kd_expr.specs.Names.{field_by_name}
 use Rattle.kd_expr.specs.Reading as reading
 use Rattle.kd_expr.specs.Reading.{Reader, Deeper, on_ok, sign_at, word_at, seq, either, one, done, sign_here, word_here, code_of_option, code_of_relay, field_of, signed, length_of_part, class_name, bracketed, option_at, relay_at, field_after, packet_at, member_at, operand_in_brackets, group_at, operands_in_brackets, ifelse_at, substring_after, form_at, named_at, primary_at, sum_of, and_of, or_of, sum_at, compare_at, not_at, and_at, or_at, operands_joined, chain}
 use Rattle.kd_expr.specs.Tree.{Tree, Literal, Int, OptionValue, RelayValue, FieldValue, OptionExists, RelayExists, Member, Equal, Not, Concat, IfElse, Substring, HexString, Lower, Upper, IntToText, at_of}
-use Rattle.kd_expr.specs.declared.node.Field.{Field}
-use Rattle.kd_expr.specs.declared.node.Field.TheVariants.{Length}
+use Rattle.kd_wire.specs.declared.field.Field.{Field}
+use Rattle.kd_wire.specs.declared.field.Field.TheVariants.{Length}
 use Rattle.kd_expr.proofs.Complete.{Answers, Misses, InHand, hand_ends, chain_one, chain_more, StopsCompare, ReadsAny, Complete, group_reads, one_reads, two_read, ifelse_reads, substring_reads, class_reads, code_reads, less_true}
 
 literal_reads : (n at : ℕ) (s : List ℕ) (end : ℕ) (rest : List Lexeme) → Answers (primary_at (reading.below n) end (StringAt at s ∷ rest)) (Literal at s) rest

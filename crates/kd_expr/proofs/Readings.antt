@@ -6,7 +6,7 @@ use Rattle.kd_expr.specs.Reading.{Reader, Deeper, on_ok, seq, wanted, done, sign
 use Rattle.kd_expr.specs.Refusals.{refusal_of, code_refusal, option_refusal, signed_refusal}
 use Rattle.kd_expr.specs.declared.fault.SyntaxFault.{SyntaxFault}
 use Rattle.kd_expr.specs.Tree.{Tree, Int, OptionValue, RelayValue, FieldValue, OptionExists, RelayExists, Member, Equal, Not, Group, Concat, IfElse, Substring, HexString, Lower, Upper, IntToText, at_of}
-use Rattle.kd_expr.specs.declared.node.Field.{Field}
+use Rattle.kd_wire.specs.declared.field.Field.{Field}
 use Rattle.kd_expr.proofs.Options.{ok_pair, err_is, if_ok}
 use Rattle.kd_expr.proofs.Sound.{IsSound, Takes, same_sound, on_ok_twice, done_sound, seq_sound, seq_one_sound, either_sound, chain_sound, weaker, OneOf, is_one, wanted_sound}
 use Rattle.kd_expr.proofs.Tokens.{sign_is, word_is, option_code_is, relay_code_is, IsRelayCode, relay_number, IsSuffix, hex, exists, suffix_is, IsPartName, part_name, field_of_is, signed_is, length_is, IsClassName, class_is, class_name_is}

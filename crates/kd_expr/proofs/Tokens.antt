@@ -4,7 +4,7 @@ use Rattle.kd_expr.specs.Grammar.{IsOptionCode, code_number, code_name, IsSigned
 use Rattle.kd_expr.specs.Lexical.{Lexeme, StringAt, NumberAt, MinusAt, NameAt, SignAt}
 use Rattle.kd_expr.specs.Names.{field_by_name}
 use Rattle.kd_expr.specs.Reading.{sign_at, word_at, code_of_option, code_of_relay, suffix_of, field_of, signed, length_of_part, class_name}
-use Rattle.kd_expr.specs.declared.node.Field.{Field}
+use Rattle.kd_wire.specs.declared.field.Field.{Field}
 use Rattle.kd_expr.proofs.Options.{some_is, none_is, if_some}
 use Rattle.std.proofs.lemmas.Slice.Eq.{bytes_eq-Decides}
 

@@ -9,7 +9,7 @@ use Rattle.kd_expr.specs.Refusals.{refusal_of, code_refusal, option_refusal, sig
 use Rattle.kd_expr.specs.Tree.{Tree, Literal, Int, OptionValue, RelayValue, FieldValue, OptionExists, RelayExists, Member, Equal, Not, Group, Concat, IfElse, Substring, HexString, Lower, Upper, IntToText, at_of}
 use Rattle.kd_expr.specs.declared.fault.SyntaxFault.{SyntaxFault}
 use Rattle.kd_expr.specs.declared.fault.SyntaxFault.TheVariants as faults
-use Rattle.kd_expr.specs.declared.node.Field.{Field}
+use Rattle.kd_wire.specs.declared.field.Field.{Field}
 use Rattle.kd_expr.proofs.Faulty.{IsBlind, IsSteady, IsShort, plain_steady, steady_same, rest_shorter, Begins, Refused, too_large, too_low, unknown, unexpected, nested, bad, refusal_is, Comes, Good, comes, same_good, done_good, seq_good, head_same, goes_on, stops_at, reads_one, either_good, either_good_to, wanted_good, seq_one_good, weaker_good, chain_good, at_the_end}
 use Rattle.kd_expr.proofs.Options.{none_is}
 use Rattle.kd_expr.proofs.Readings.{before_is, InBrackets, in_brackets, DeeperIsSound, primary_sound, not_sound, and_sound, below_sound}

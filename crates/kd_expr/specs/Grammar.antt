@@ -5,8 +5,8 @@ use Rattle.std.specs.Prelude.{◌≡◌, ℕ, zero, suc, ◌+◌, ◌*◌, ◌-�
 use Rattle.kd_expr.specs.Lexical.{Lexeme, StringAt, HexAt, AddressAt, NumberAt, MinusAt, NameAt, SignAt, Scans}
 use Rattle.kd_expr.specs.Names.{code_by_name, field_by_name}
 use Rattle.kd_expr.specs.Tree.{Tree, Literal, Int, OptionValue, RelayValue, FieldValue, OptionExists, RelayExists, Member, Equal, Not, And, Or, Group, Concat, IfElse, Substring, HexString, Lower, Upper, IntToText, at_of}
-use Rattle.kd_expr.specs.declared.node.Field.{Field}
-use Rattle.kd_expr.specs.declared.node.Field.TheVariants.{Length}
+use Rattle.kd_wire.specs.declared.field.Field.{Field}
+use Rattle.kd_wire.specs.declared.field.Field.TheVariants.{Length}
 
 -- `(` at a place
 abbrev pub OpenAt : ℕ → Lexeme

@@ -1,8 +1,8 @@
 -- The names of options and of message fields in a class test (Kea Administrator Reference Manual,
 -- chapter Client Classification), in lower case as written here.
 use Rattle.std.specs.Prelude.{ℕ, List, codes, bytes_eq, Option, Some, None, if◌then◌else◌}
-use Rattle.kd_expr.specs.declared.node.Field.{Field}
-use Rattle.kd_expr.specs.declared.node.Field.TheVariants.{Mac, Hlen, Htype, Ciaddr, Giaddr, Yiaddr, Siaddr, Msgtype, Transid}
+use Rattle.kd_wire.specs.declared.field.Field.{Field}
+use Rattle.kd_wire.specs.declared.field.Field.TheVariants.{Mac, Hlen, Htype, Ciaddr, Giaddr, Yiaddr, Siaddr, MessageType, Transaction}
 
 -- the code of the option that a name stands for
 unfoldable pub code_by_name : List ℕ → Option ℕ
@@ -34,6 +34,6 @@ field_by_name name =
     else if bytes_eq name (codes "giaddr") then Some Giaddr
     else if bytes_eq name (codes "yiaddr") then Some Yiaddr
     else if bytes_eq name (codes "siaddr") then Some Siaddr
-    else if bytes_eq name (codes "msgtype") then Some Msgtype
-    else if bytes_eq name (codes "transid") then Some Transid
+    else if bytes_eq name (codes "msgtype") then Some MessageType
+    else if bytes_eq name (codes "transid") then Some Transaction
     else None

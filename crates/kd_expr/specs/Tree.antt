@@ -1,7 +1,7 @@
 -- The tree of a class test (Kea Administrator Reference Manual, chapter Client Classification),
 -- without memory. Each node begins with the place of its first byte.
 use Rattle.std.specs.Prelude.{ℕ, ℤ, List, Option}
-use Rattle.kd_expr.specs.declared.node.Field.{Field}
+use Rattle.kd_wire.specs.declared.field.Field.{Field}
 
 -- a node with its place and what it holds
 pub data Tree : Type 0 where

@@ -5,8 +5,8 @@ use Rattle.std.specs.Prelude.{ℕ, Result, Ok, Err}
 use Rattle.kd_expr.specs.Tree.{Tree, Literal, Int, OptionValue, RelayValue, FieldValue, OptionExists, RelayExists, Member, Equal, Not, And, Or, Group, Concat, IfElse, Substring, HexString, Lower, Upper, IntToText, at_of}
 use Rattle.kd_expr.specs.declared.fault.TypeFault.{TypeFault}
 use Rattle.kd_expr.specs.declared.fault.TypeFault.TheVariants.{WantsBool, WantsBytes, WantsInt}
-use Rattle.kd_expr.specs.declared.node.Field.{Field}
-use Rattle.kd_expr.specs.declared.node.Field.TheVariants as fields
+use Rattle.kd_wire.specs.declared.field.Field.{Field}
+use Rattle.kd_wire.specs.declared.field.Field.TheVariants as fields
 use Rattle.kd_expr.specs.declared.typing.ValueType.{ValueType}
 use Rattle.kd_expr.specs.declared.typing.ValueType.TheVariants as types
 
@@ -19,8 +19,8 @@ field_type fields.Ciaddr = types.Bytes
 field_type fields.Giaddr = types.Bytes
 field_type fields.Yiaddr = types.Bytes
 field_type fields.Siaddr = types.Bytes
-field_type fields.Msgtype = types.Int
-field_type fields.Transid = types.Int
+field_type fields.MessageType = types.Int
+field_type fields.Transaction = types.Int
 field_type fields.Length = types.Int
 
 -- an operand at a place, of this type, has to be a truth value

@@ -29,6 +29,6 @@ mod typing;
 pub use address::read_address;
 pub use expr::{Expr, Typed, type_of};
 pub use fault::{ExprFault, TypeFault};
-pub use node::{Field, Node};
+pub use node::Node;
 pub use reader::read;
 pub use typing::ValueType;

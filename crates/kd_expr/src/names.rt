@@ -7,11 +7,12 @@ ghost use Rattle.kd_expr.specs.View.{lexemes, tree_of};
 
 use crate::fault::SyntaxFault;
 use crate::literal::bytes_of;
-use crate::node::{Field, Node};
+use crate::node::Node;
 use crate::number::number;
 use crate::parser::Source;
 use crate::take::{expect_sign, expect_word, unexpected};
 use crate::token::{Kind, Sign, Token};
+use kd_wire::Field;
 
 // What stands behind `option`.
 #[tactic(auto, unfolding(crate::specs::Reading::option_at))]
@@ -341,9 +342,9 @@ fn field_named(name: &[u8]) -> Option<Field>
     } else if name == b"siaddr".as_slice() {
         Some(Field::Siaddr)
     } else if name == b"msgtype".as_slice() {
-        Some(Field::Msgtype)
+        Some(Field::MessageType)
     } else if name == b"transid".as_slice() {
-        Some(Field::Transid)
+        Some(Field::Transaction)
     } else {
         None
     }

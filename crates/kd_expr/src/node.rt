@@ -2,32 +2,7 @@ ghost use Rattle.std.specs.Prelude.{◌≡◌};
 ghost use Rattle.kd_expr.specs.Tree.{at_of};
 ghost use Rattle.kd_expr.specs.View.{tree_of};
 
-use kd_wire::Bytes;
-
-/// What `pkt4.` and `pkt.` name: a part of the message's header, its type, or its length.
-#[derive(Clone, Copy, PartialEq, Eq)]
-pub enum Field {
-    /// `mac`, the hardware address.
-    Mac,
-    /// `hlen`, the hardware address's length.
-    Hlen,
-    /// `htype`, the kind of hardware address.
-    Htype,
-    /// `ciaddr`, the address that the client says it has.
-    Ciaddr,
-    /// `giaddr`, the relay's address.
-    Giaddr,
-    /// `yiaddr`, the address that the server gives.
-    Yiaddr,
-    /// `siaddr`, the next server's address.
-    Siaddr,
-    /// `msgtype`, the message type.
-    Msgtype,
-    /// `transid`, the transaction.
-    Transid,
-    /// `pkt.len`, the datagram's length.
-    Length,
-}
+use kd_wire::{Bytes, Field};
 
 /// A node of an expression. Its place `at` is the offset of its first byte in the text.
 #[derive(Drop)]

@@ -7,9 +7,9 @@ ghost use Rattle.kd_expr.specs.View.{lexemes, lexeme_at, sign_byte};
 ghost use Rattle.kd_expr.specs.declared.fault.SyntaxFault.TheVariants as faults;
 
 use crate::fault::SyntaxFault;
-use crate::node::Field;
 use crate::number::number;
 use crate::token::{Kind, Sign, Token};
+use kd_wire::Field;
 
 // The fault of the first token, which cannot stand there; at the end of the text where none is
 // left.

@@ -5,7 +5,8 @@ ghost use Rattle.kd_expr.specs.Tree.{at_of};
 ghost use Rattle.kd_expr.specs.View.{tree_of};
 
 use crate::fault::TypeFault;
-use crate::node::{Field, Node};
+use crate::node::Node;
+use kd_wire::Field;
 
 /// What an expression stands for.
 #[derive(Clone, Copy, PartialEq, Eq)]
@@ -117,7 +118,7 @@ fn type_of_field(field: Field) -> ValueType
     match field {
         Field::Mac | Field::Ciaddr | Field::Giaddr | Field::Yiaddr | Field::Siaddr =>
             ValueType::Bytes,
-        Field::Hlen | Field::Htype | Field::Msgtype | Field::Transid | Field::Length =>
+        Field::Hlen | Field::Htype | Field::MessageType | Field::Transaction | Field::Length =>
             ValueType::Int,
     }
 }

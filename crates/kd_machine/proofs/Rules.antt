@@ -18,16 +18,16 @@ use Rattle.kd_wire.specs.Steps.{◌>>=◌}
 use Rattle.kd_token.specs.Shape.{bytes_taken, bool_taken, int_taken, field_kind, bound_of_substring, bound_of_hex, gives}
 use Rattle.kd_token.specs.declared.shape.Kind.{Kind}
 use Rattle.kd_token.specs.declared.shape.Kind.TheVariants as kinds
-use Rattle.kd_token.specs.declared.token.Field.{Field}
-use Rattle.kd_token.specs.declared.token.Field.TheVariants as fields
+use Rattle.kd_wire.specs.declared.field.Field.{Field}
+use Rattle.kd_wire.specs.declared.field.Field.TheVariants as fields
 use Rattle.kd_token.specs.declared.token.Token.{Token}
 use Rattle.kd_token.specs.declared.token.Token.TheVariants as tokens
 use Rattle.kd_token.specs.declared.token.Version.{Version}
 use Rattle.kd_machine.specs.Val.{Val, Truth, Number, Text}
 use Rattle.kd_machine.specs.Values.{take_text, take_truth, take_number}
 use Rattle.kd_machine.specs.Strings.{is_negative, start_in, part, part_from, substring, byte_digits, hex_of}
-use Rattle.kd_machine.specs.World.{World, option_in, relay_in, value_of_field}
-use Rattle.kd_machine.specs.Parts.{is_held, or_empty, type_in}
+use Rattle.kd_machine.specs.World.{World, option_in, relay_in}
+use Rattle.kd_machine.specs.Parts.{is_held, or_empty, type_in, value_of_field}
 use Rattle.kd_machine.specs.Run.{rule}
 use Rattle.kd_machine.specs.Fits.{FitsKind, Fits}
 

@@ -16,8 +16,8 @@ use Rattle.kd_token.specs.declared.way.Way.TheVariants as routes
 use Rattle.kd_machine.specs.Val.{Val, Truth, Number, Text, longest}
 use Rattle.kd_machine.specs.Values.{take_text, take_truth, take_number}
 use Rattle.kd_machine.specs.Strings.{substring, hex_of}
-use Rattle.kd_machine.specs.World.{World, world, option_in, relay_in, value_of_field}
-use Rattle.kd_machine.specs.Parts.{same, is_held, or_empty}
+use Rattle.kd_machine.specs.World.{World, world, option_in, relay_in}
+use Rattle.kd_machine.specs.Parts.{same, is_held, or_empty, value_of_field}
 
 -- what a token that goes on makes of the values; none where it cannot take what it wants. A branch
 -- does not go on: it moves by its way (`moves_by`)

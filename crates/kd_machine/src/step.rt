@@ -3,8 +3,8 @@ ghost use Rattle.std.specs.Map.{lookup};
 ghost use Rattle.kd_machine.specs.Run.{IsFree, rule};
 ghost use Rattle.kd_machine.specs.Val.{Text};
 ghost use Rattle.kd_machine.specs.Values.{stands_for};
-ghost use Rattle.kd_machine.specs.World.{value_of_field, world};
-ghost use Rattle.kd_machine.specs.Parts.{or_empty};
+ghost use Rattle.kd_machine.specs.World.{world};
+ghost use Rattle.kd_machine.specs.Parts.{or_empty, value_of_field};
 ghost use Rattle.kd_options.specs.RelayWalk.{relay_list};
 
 use crate::held::Held;
@@ -12,7 +12,8 @@ use crate::stack::Stack;
 use crate::texts::{choose, concat, digits, equal, hex_string, lower, narrow, upper};
 use crate::value::{Small, Value};
 use kd_options::Message;
-use kd_token::{Field, Program, Token};
+use kd_token::{Program, Token};
+use kd_wire::Field;
 use std::alloc::{AllocError, Global};
 
 // The value of a field of the message.

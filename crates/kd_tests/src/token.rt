@@ -1,5 +1,5 @@
-use kd_token::{Field, FileFault, Program, Token, VerifyFault, Version, Way, verify};
-use kd_wire::Bytes;
+use kd_token::{FileFault, Program, Token, VerifyFault, Version, Way, verify};
+use kd_wire::{Bytes, Field};
 use std::alloc::{AllocError, Global};
 use std::test::Fail;
 

@@ -10,7 +10,8 @@ use Rattle.kd_token.specs.declared.fault.FileFault.TheVariants as faults
 use Rattle.kd_token.specs.declared.token.Token.{Token}
 use Rattle.kd_token.specs.declared.token.Token.TheVariants as tokens
 use Rattle.kd_token.specs.declared.token.Version.{Version}
-use Rattle.kd_token.specs.File.{Code, HasFile, IsFileOf, IsToken, AreTokens, field_number, file_bytes, signed_bytes, token_bytes}
+use Rattle.kd_token.specs.File.{Code, HasFile, IsFileOf, IsToken, AreTokens, file_bytes, signed_bytes, token_bytes}
+use Rattle.kd_wire.specs.Field.{field_number}
 use Rattle.kd_token.specs.FirstFault.{Part, free, operand, limited, name_parts, count_parts, operand_parts, token_parts, later_parts, parts, bytes_of_parts, ComesNext, BeginsNone, IsFileFault, IsRestFault}
 use Rattle.kd_token.specs.Laws.{HaveOneFault}
 use Rattle.kd_token.proofs.Read.{parts_spelled}

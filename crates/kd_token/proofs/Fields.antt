@@ -8,13 +8,14 @@ use Rattle.std.proofs.lemmas.Bool.{ltb-false, eqb-true}
 use Rattle.std.proofs.lemmas.List.{length-replicate}
 use Rattle.byteorder.specs.Endian.{big_bytes}
 use Rattle.kd_token.specs.declared.fault.FileFault.TheVariants as faults
-use Rattle.kd_token.specs.declared.token.Field.{Field}
-use Rattle.kd_token.specs.declared.token.Field.TheVariants as fields
+use Rattle.kd_wire.specs.declared.field.Field.{Field}
+use Rattle.kd_wire.specs.declared.field.Field.TheVariants as fields
 use Rattle.kd_token.specs.declared.token.Token.{Token}
 use Rattle.kd_token.specs.declared.token.Token.TheVariants as tokens
 use Rattle.kd_token.specs.declared.token.Version.{Version}
 use Rattle.kd_token.specs.declared.token.Version.TheVariants as versions
-use Rattle.kd_token.specs.File.{Code, HasFile, IsName, IsToken, IsCount, AreTokens, code, field_number, signed_bytes, version_number}
+use Rattle.kd_token.specs.File.{Code, HasFile, IsName, IsToken, IsCount, AreTokens, code, signed_bytes, version_number}
+use Rattle.kd_wire.specs.Field.{field_number}
 use Rattle.kd_token.specs.Reading.{◌>>=◌, ReadStep, already, fault_where, known_or, bytes_next, number_next, limited_at, signed_at, version_of, version_at, name_at, names_at, all_names_at, long_at, field_numbered, field_at, count_after, count_at, substring_at, branch_at, plain_token, operands_at, token_at, tokens_at, all_tokens_at, fields_at}
 use Rattle.kd_token.specs.FirstFault.{Part, part_with, free, limited, operand, name_parts, count_parts, token_parts, later_parts}
 use Rattle.kd_token.proofs.Told.{Follows, Outcome, Row, Told, at_place, bind_told, bytes_told, field_told, four_told, gives_told, known, limited_told, makes_told, many_told, one_form, one_told, row_some, signed_told, tested, two_form, two_told, weaker}

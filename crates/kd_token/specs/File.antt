@@ -5,12 +5,11 @@ use Rattle.std.specs.Int.{w32, cast_unsigned}
 use Rattle.std.specs.Int.RustNames.{FitsSigned}
 use Rattle.std.specs.List.{flat_map, AllByRecursion}
 use Rattle.byteorder.specs.Endian.{big_bytes}
-use Rattle.kd_token.specs.declared.token.Field.{Field}
-use Rattle.kd_token.specs.declared.token.Field.TheVariants as fields
 use Rattle.kd_token.specs.declared.token.Token.{Token}
 use Rattle.kd_token.specs.declared.token.Token.TheVariants as tokens
 use Rattle.kd_token.specs.declared.token.Version.{Version}
 use Rattle.kd_token.specs.declared.token.Version.TheVariants as versions
+use Rattle.kd_wire.specs.Field.{field_number}
 
 -- what contracts see of a program; its bound is the declared greatest length of a value
 pub record Code : Type 0 where
@@ -36,19 +35,6 @@ code version steps depth bound names tokens = record {
 abbrev pub version_number : Version → ℕ
 version_number versions.One = 1
 version_number versions.Two = 2
-
--- the number of each field
-abbrev pub field_number : Field → ℕ
-field_number fields.Mac = 0
-field_number fields.Hlen = 1
-field_number fields.Htype = 2
-field_number fields.Ciaddr = 3
-field_number fields.Giaddr = 4
-field_number fields.Yiaddr = 5
-field_number fields.Siaddr = 6
-field_number fields.MessageType = 7
-field_number fields.Transaction = 8
-field_number fields.Length = 9
 
 -- a byte string after its length of two bytes
 abbrev pub long_bytes : List ℕ → List ℕ

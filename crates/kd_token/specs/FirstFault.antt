@@ -8,7 +8,8 @@ use Rattle.kd_token.specs.declared.fault.FileFault.{FileFault}
 use Rattle.kd_token.specs.declared.fault.FileFault.TheVariants as faults
 use Rattle.kd_token.specs.declared.token.Token.{Token}
 use Rattle.kd_token.specs.declared.token.Token.TheVariants as tokens
-use Rattle.kd_token.specs.File.{Code, HasFile, IsFileOf, field_number, signed_bytes, token_bytes, version_number}
+use Rattle.kd_token.specs.File.{Code, HasFile, IsFileOf, signed_bytes, token_bytes, version_number}
+use Rattle.kd_wire.specs.Field.{field_number}
 
 -- a field of a file: its bytes, the fault where the file ends within it, and the fault where bytes
 -- stand there that no file has; each by the place of its first byte

@@ -4,8 +4,8 @@ use Rattle.std.specs.Prelude.{ℕ, ℤ, ◌+◌, ◌-◌, ◌*◌, ◌≤◌, mi
 use Rattle.std.specs.Int.RustNames.{unsigned_abs}
 use Rattle.kd_token.specs.declared.shape.Kind.{Kind}
 use Rattle.kd_token.specs.declared.shape.Kind.TheVariants as kinds
-use Rattle.kd_token.specs.declared.token.Field.{Field}
-use Rattle.kd_token.specs.declared.token.Field.TheVariants as fields
+use Rattle.kd_wire.specs.declared.field.Field.{Field}
+use Rattle.kd_wire.specs.declared.field.Field.TheVariants as fields
 use Rattle.kd_token.specs.declared.token.Token.{Token}
 use Rattle.kd_token.specs.declared.token.Token.TheVariants as tokens
 use Rattle.kd_wire.specs.Steps.{◌>>=◌}

@@ -30,6 +30,6 @@ mod way;
 pub use fault::{FileFault, VerifyFault};
 pub use program::Program;
 pub use shape::Kind;
-pub use token::{Field, Token, Version};
+pub use token::{Token, Version};
 pub use verifier::{Verified, verify};
 pub use way::Way;

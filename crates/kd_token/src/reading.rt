@@ -3,14 +3,15 @@ ghost use Rattle.std.specs.Int.RustNames.{FitsSigned};
 ghost use Rattle.std.specs.Int.{w32};
 ghost use Rattle.std.specs.List.{AllByRecursion, flat_map};
 ghost use Rattle.byteorder.specs.Endian.{big_bytes};
-ghost use Rattle.kd_token.specs.File.{AreTokens, IsBranch, IsCount, IsName, IsToken, count_bytes, field_number, long_bytes, name_bytes, signed_bytes, token_bytes, version_number};
+ghost use Rattle.kd_token.specs.File.{AreTokens, IsBranch, IsCount, IsName, IsToken, count_bytes, long_bytes, name_bytes, signed_bytes, token_bytes, version_number};
+ghost use Rattle.kd_wire.specs.Field.{field_number};
 ghost use Rattle.kd_token.specs.Reading.{ReaderGives, all_names_at, all_tokens_at, count_at, field_at, field_numbered, long_at, magic_at, name_at, names_at, operands_at, plain_token, skip_at, substring_at, token_at, tokens_at, version_at};
 ghost use Rattle.kd_token.specs.declared.token.Version.{Version};
 
 use crate::fault::FileFault;
 use crate::reader::Reader;
-use crate::token::{Field, Token, Version};
-use kd_wire::Bytes;
+use crate::token::{Token, Version};
+use kd_wire::{Bytes, Field};
 use std::alloc::Global;
 
 const MAGIC: u32 = 0x4b34_544b;

@@ -4,8 +4,9 @@ ghost use Rattle.kd_token.specs.File.{IsShort};
 ghost use Rattle.kd_token.specs.Meet.{met, met_of_kinds};
 ghost use Rattle.kd_token.specs.declared.shape.Kind.TheVariants.{Bool, Int};
 
-use crate::token::{Field, Token};
+use crate::token::Token;
 use arrayvec::ArrayVec;
+use kd_wire::Field;
 use std::marker::Model;
 
 /// The kind of a value on the stack.

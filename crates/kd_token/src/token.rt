@@ -1,7 +1,7 @@
 ghost use Rattle.std.specs.Prelude.{◌≡◌, MatchOption};
-ghost use Rattle.kd_token.specs.File.{field_number, version_number};
+ghost use Rattle.kd_token.specs.File.{version_number};
 
-use kd_wire::Bytes;
+use kd_wire::{Bytes, Field};
 
 /// The version of a token file.
 #[derive(Clone, Copy, PartialEq, Eq)]
@@ -20,51 +20,6 @@ impl Version {
         match self {
             Version::One => 1,
             Version::Two => 2,
-        }
-    }
-}
-
-/// A field of the message that a token pushes (RFC 2131 section 2).
-#[derive(Clone, Copy, PartialEq, Eq)]
-pub enum Field {
-    /// The hardware address: the first `hlen` bytes of `chaddr`, at most 16.
-    Mac,
-    /// The length that the client gives for its hardware address.
-    Hlen,
-    /// The kind of hardware address.
-    Htype,
-    /// The address that the client says it has.
-    Ciaddr,
-    /// The relay that the message came through.
-    Giaddr,
-    /// The address that the server gives.
-    Yiaddr,
-    /// The next server in booting.
-    Siaddr,
-    /// The message type, option 53 (RFC 2132 section 9.6).
-    MessageType,
-    /// The transaction, `xid`.
-    Transaction,
-    /// The number of bytes of the datagram.
-    Length,
-}
-
-impl Field {
-    /// The field's number in the file, 0 to 9.
-    pub fn number(self) -> u8
-        ensures { result ≡ field_number self }
-    {
-        match self {
-            Field::Mac => 0,
-            Field::Hlen => 1,
-            Field::Htype => 2,
-            Field::Ciaddr => 3,
-            Field::Giaddr => 4,
-            Field::Yiaddr => 5,
-            Field::Siaddr => 6,
-            Field::MessageType => 7,
-            Field::Transaction => 8,
-            Field::Length => 9,
         }
     }
 }

@@ -4,3 +4,4 @@ pub mod Walk
 pub mod Front
 pub mod Put
 pub mod Steps
+pub mod Field

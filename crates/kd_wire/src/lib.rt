@@ -8,13 +8,15 @@
 #![tactic(auto)]
 
 mod area;
-mod bytes;
+mod entries;
+mod field;
 mod header;
 mod put;
 mod walk;
 
 pub use area::{Cut, pieces};
-pub use bytes::Bytes;
+pub use entries::{Bytes, Entries};
+pub use field::Field;
 pub use header::{Header, WireFault};
 pub use put::{put_end, put_piece, write_header};
 pub use walk::Pieces;

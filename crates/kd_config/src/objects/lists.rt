@@ -6,9 +6,9 @@ ghost use Rattle.kd_config.specs.Gives.{Means, GivesAs};
 ghost use Rattle.kd_config.specs.Lists.{all_of, items_or_none, list_of};
 ghost use Rattle.kd_config.specs.declared.objects.faults.SettingsFault.TheVariants.{Memory};
 
-use crate::entries::Entries;
 use crate::objects::faults::SettingsFault;
 use crate::rules::place::{Place, bad_value};
+use kd_wire::Entries;
 use serde_json::Value;
 use std::alloc::Global;
 

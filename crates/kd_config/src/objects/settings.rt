@@ -5,7 +5,6 @@ ghost use Rattle.kd_config.specs.Settings.{has_dhcp4_keys, has_root_keys, whole_
 ghost use Rattle.kd_config.specs.Steps.{must};
 ghost use Rattle.kd_config.specs.declared.objects.faults.SettingsFault.TheVariants.{Memory};
 
-use crate::entries::Entries;
 use crate::objects::class::ClassEntry;
 use crate::objects::faults::SettingsFault;
 use crate::objects::lists::entries_of;
@@ -15,6 +14,7 @@ use crate::rules::place::{Place, bad_value, missing};
 use crate::subnet::Subnet;
 use crate::times::{Times, times_of};
 use kd_classes::OptionList;
+use kd_wire::Entries;
 use serde_json::Value;
 use std::alloc::Global;
 
