@@ -22,7 +22,7 @@ module _ {H N U L R S : Type 0} (h : Hosts H N U L R) (l : Links L) (r : Sinks R
   receives_calls limit count link rest journal recorded server left status old new it = serving limit it.result count server left _ _ it.served
 
   works_calls : (work : Work) (before after : H) (server left : Keeping S) (status : ℕ) (old new : Streams) → Works h l r g work before after server left status old new → AreCalls g server left
-  works_calls works.Replay before after server left status old new w = reaching server left w.1.reached
+  works_calls works.Replay before after server left status old new w = reaching server left w.1.replayed.reached
   works_calls (works.Explain number) before after server left status old new w = same_calls server left w.1.0
   works_calls (works.Show view at) before after server left status old new w = same_calls server left w.1.0
   works_calls (works.Serve listening count journal max_ahead) before after server left status old new w = ⊎_elim

@@ -19,15 +19,13 @@ use Rattle.kd_commands.specs.declared.orders.Listening.{Listening}
 use Rattle.kd_commands.specs.declared.orders.Order.{Order}
 use Rattle.kd_commands.specs.declared.orders.Order.TheVariants as orders
 use Rattle.kd_replay.specs.Faults.{loop_fault_number, replay_fault_number, serve_fault_number}
-use Rattle.kd_replay.specs.History.{Reaches}
-use Rattle.kd_replay.specs.Replay.{Handles, HandlesWhole, LeavesWritten, most_lines}
+use Rattle.kd_replay.specs.Replay.{HasReplayed}
 use Rattle.kd_replay.specs.Serving.{ServesTo, Traffic, contents_in, failed_in}
 use Rattle.kd_replay.specs.declared.ends.EndFailed.{EndFailed}
 use Rattle.kd_replay.specs.declared.ends.Sink.{Ghosts as Sinks}
 use Rattle.kd_replay.specs.declared.fault.LoopFault.{LoopFault}
 use Rattle.kd_replay.specs.declared.fault.LoopFault.TheVariants as looping
 use Rattle.kd_replay.specs.declared.fault.ReplayFault.{ReplayFault}
-use Rattle.kd_replay.specs.declared.fault.ReplayFault.TheVariants as replaying
 use Rattle.kd_replay.specs.declared.link.Link.{Ghosts as Links}
 use Rattle.kd_replay.specs.declared.fault.ServeFault.{ServeFault}
 use Rattle.kd_server.specs.Batch.{Batched}
@@ -96,21 +94,11 @@ module _ {L R S : Type 0} (l : Links L) (r : Sinks R) (g : Ghosts S) where
 
 -- over a store of leases
 module _ {S : Type 0} (g : Ghosts S) where
-  -- a server replays what is left of standard input, to standard output; where that input fails, the
-  -- lines that it gave whole are handled, or 1,000,000 lines. Where the streams do not tell their
-  -- bytes events are handled one after another, as many as it says
+  -- a server replays what is left of standard input, to standard output
   pub record ReplaysInput (server after : Keeping S) (status : ℕ) (old new : Streams) : Type 0 where
     pub result : Result ℕ ReplayFault
-    pub leaves : (input output : List ℕ) → old.input.bytes ≡ Some input
-        → old.output.bytes ≡ Some output
-        → LeavesWritten (Steps g) (Refuses g)
-        (new.input.failed ≡ true) result input server after output new.output.bytes
-    pub whole : IsErrOf result replaying.Read → (input output : List ℕ)
-        → old.input.bytes ≡ Some input → old.output.bytes ≡ Some output
-        → HandlesWhole (Steps g) input new.input.bytes server after output new.output.bytes
-        ⊎ Handles (Steps g) most_lines server after
-    pub counted : IfOk result (λ count. Handles (Steps g) count server after)
-    pub reached : Reaches (Steps g) (Refuses g) server after
+    pub replayed : HasReplayed (Steps g) (Refuses g) (new.input.failed ≡ true) result server after
+        old.input.bytes new.input.bytes old.output.bytes new.output.bytes
     pub ends : EndsReplay result status old.faults new.faults
 
 -- the replies of the log on standard input are printed, those that are asked for

@@ -1,7 +1,8 @@
 -- A replay: which lines of the input are handled, what is written for them, and how it ends.
-use Rattle.std.specs.Prelude.{◌≡◌, ◌≢◌, ℕ, ◌+◌, ◌<◌, ◌≤◌, List, [], ◌∷◌, ◌++◌, ◌⊎◌, Option, Some, Result, Ok, Err, length}
+use Rattle.std.specs.Prelude.{◌≡◌, ◌≢◌, ℕ, ◌+◌, ◌<◌, ◌≤◌, IfOk, List, [], ◌∷◌, ◌++◌, ◌⊎◌, Option, Some, Result, Ok, Err, length}
 use Rattle.std.specs.List.{flat_map}
-use Rattle.kd_replay.specs.History.{History}
+use Rattle.std.specs.Result.{IsErrOf}
+use Rattle.kd_replay.specs.History.{History, Reaches}
 use Rattle.kd_replay.specs.Lines.{HasMoment, IsEventLine, line_feeds, lines_of}
 use Rattle.kd_replay.specs.Text.{line_of}
 use Rattle.kd_event.specs.declared.event.Event.{Event}
@@ -132,3 +133,18 @@ module _ {H : Type 0} (gives : H → Event → Handled → H → Type 0)
     pub out : List ℕ
     pub told : contents ≡ Some out
     pub replays : Replays source_failed result (lines_of input) server new old out
+
+  -- a replay of a source to a sink, by its result. Where both tell their bytes, what it leaves
+  -- written; where the source fails, the lines that it gave whole are handled, or 1,000,000 lines.
+  -- Whether they tell them or not, events are handled one after another, as many as it says
+  pub record HasReplayed (source_failed : Type 0) (result : Result ℕ ReplayFault) (server new : H)
+      (input left old contents : Option (List ℕ)) : Type 0 where
+    pub leaves : (bytes text : List ℕ) → input ≡ Some bytes → old ≡ Some text
+        → LeavesWritten source_failed result bytes server new text contents
+    pub read : IsErrOf result faults.Read → source_failed ⊎ Handles gives most_lines server new
+    pub whole : IsErrOf result faults.Read → (bytes text : List ℕ) → input ≡ Some bytes
+        → old ≡ Some text
+        → HandlesWhole gives bytes left server new text contents
+        ⊎ Handles gives most_lines server new
+    pub counted : IfOk result (λ count. Handles gives count server new)
+    pub reached : Reaches gives fails server new

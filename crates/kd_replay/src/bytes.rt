@@ -4,7 +4,7 @@ ghost use Rattle.kd_replay.specs.Replay.{Replays};
 
 use crate::ends::{EndFailed, Sink, Source};
 use crate::fault::ReplayFault;
-use crate::replaying::replay_with;
+use crate::replaying::replay;
 use crate::serves::Serves;
 use std::alloc::Global;
 
@@ -72,7 +72,7 @@ impl Sink for Kept {
 ///
 /// # Errors
 ///
-/// Those of `replay_with`: `Read` where the input has more than 1,000,000 lines, and `Write` where
+/// Those of `replay`: `Read` where the input has more than 1,000,000 lines, and `Write` where
 /// there is no memory for what is written.
 pub fn replay_bytes<H: Serves>(
     alloc: Global,
@@ -84,7 +84,7 @@ pub fn replay_bytes<H: Serves>(
 {
     let mut source = Held { rest: input };
     let mut sink = Kept::new(alloc);
-    let done = replay_with(alloc, &mut source, &mut sink, server);
+    let done = replay(alloc, &mut source, &mut sink, server);
     let Kept { bytes, failed: _ } = sink;
     (bytes, done)
 }

@@ -5,7 +5,7 @@ ghost use Rattle.kd_replay.specs.Handling.{EndsEvent, HandlesEvent, line_room};
 ghost use Rattle.kd_replay.specs.History.{Reaches};
 ghost use Rattle.kd_replay.specs.Lines.{line_limit};
 ghost use Rattle.kd_replay.specs.Parts.{WritesPart};
-ghost use Rattle.kd_replay.specs.Replay.{Handles, HandlesWhole, LeavesWritten, most_lines};
+ghost use Rattle.kd_replay.specs.Replay.{Handles, HandlesWhole, HasReplayed, LeavesWritten, most_lines};
 ghost use Rattle.kd_replay.specs.Text.{line_of};
 ghost use Rattle.kd_replay.specs.declared.fault.ReplayFault.TheVariants as faults;
 
@@ -52,7 +52,24 @@ impl Work {
 /// `Read` where the source fails, or has more than 1,000,000 lines; `BadLine` at a line that is no
 /// event; `Serve` with the fault of a line's event; `Write` where the sink fails; `Memory`. What
 /// was handled before stands written.
-pub fn replay_with<R: Source, W: Sink, H: Serves>(
+pub fn replay<R: Source, W: Sink, H: Serves>(
+    alloc: Global,
+    source: &mut R,
+    sink: &mut W,
+    server: &mut H,
+) -> Result<u64, ReplayFault>
+    requires source { R.has_failed source.old ≡ false }
+    requires sink { W.has_failed sink.old ≡ false }
+    ensures replayed { HasReplayed H.gives H.fails (R.has_failed source.new ≡ true) result
+        server.old server.new (R.remaining source.old) (R.remaining source.new)
+        (W.contents sink.old) (W.contents sink.new) }
+    ensures write { IsErrOf result faults.Write → W.has_failed sink.new ≡ true }
+{
+    replay_lines(alloc, source, sink, server)
+}
+
+// The same, what it does clause by clause.
+fn replay_lines<R: Source, W: Sink, H: Serves>(
     alloc: Global,
     source: &mut R,
     sink: &mut W,

@@ -9,7 +9,7 @@ use crate::fault::LoopFault;
 use crate::happening::Happening;
 use crate::post::{Given, Post};
 use crate::serves::ServesAll;
-use crate::serving::{Limits, serve_with};
+use crate::serving::{Limits, serve};
 use kd_event::Event;
 use std::alloc::Global;
 use std::marker::{Brand, PhantomData};
@@ -27,7 +27,7 @@ pub struct ServedBytes {
     pub end: Result<(), LoopFault>,
 }
 
-/// Serves an input in memory, as `serve_with` serves a link: behind each datagram that is waited for,
+/// Serves an input in memory, as `serve` serves a link: behind each datagram that is waited for,
 /// the next `waiting` datagrams have come already. The clock says the moment of the event that came
 /// last, and each reply is sent. The clock has no limit. It asks nothing of its caller.
 ///
@@ -99,7 +99,7 @@ fn serve_post<I: Given, H: ServesAll>(
         count: input.len() as u64,
         max_ahead: None,
     };
-    let end = serve_with(alloc, &mut post, &mut journal, &mut sink, server, limits);
+    let end = serve(alloc, &mut post, &mut journal, &mut sink, server, limits);
     Some(ServedBytes {
         log: post.log?,
         journal: journal?.bytes,

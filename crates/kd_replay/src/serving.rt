@@ -73,7 +73,7 @@ pub struct Limits {
 /// fails: nothing of that batch is handled; `Serve` with the fault of an event, after those before it
 /// are answered; `Write` where the sink fails; `Memory` before the first datagram, or where the server
 /// is out of memory. What was served before stands.
-pub fn serve_with<L: Link, R: Sink, W: Sink, H: ServesAll>(
+pub fn serve<L: Link, R: Sink, W: Sink, H: ServesAll>(
     alloc: Global,
     link: &mut L,
     journal: &mut Option<R>,

@@ -10,17 +10,13 @@
 mod batching;
 pub mod laws;
 mod leases;
-mod replaying;
 mod server;
-mod serving;
 mod trial;
 mod turning;
 
 pub use batching::Rules;
 pub use kd_event::{Event, Handled, Ports, Reason, Response};
-pub use kd_replay::{EndFailed, LoopFault, ReplayFault, ServeFault, Sink, Source};
+pub use kd_replay::{EndFailed, LoopFault, ReplayFault, ServeFault, Sink, Source, replay, serve};
 pub use leases::{Lease, lease_lines, leases_at};
-pub use replaying::replay;
 pub use server::Server;
-pub use serving::serve;
 pub use trial::Trial;

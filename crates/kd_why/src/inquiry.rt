@@ -5,7 +5,7 @@ ghost use Rattle.kd_why.specs.Inquiring.{IsExplainedAt, IsNotExplained, IsReache
 use crate::lines::Lines;
 use crate::why::why_text;
 use kd_event::Handled;
-use kd_replay::{ReplayFault, ServeFault, Serves, Source, replay_with};
+use kd_replay::{ReplayFault, ServeFault, Serves, Source, replay};
 use kd_rows::Rows;
 use kd_server::{Rules, Trial};
 use std::marker::Model;
@@ -40,7 +40,7 @@ pub fn why_line<R: Source>(
         left,
         text: None,
     };
-    let done = replay_with(rules.alloc, source, &mut sink, &mut inquiry);
+    let done = replay(rules.alloc, source, &mut sink, &mut inquiry);
     let Inquiry { text, .. } = inquiry;
     match text {
         Some(text) => Ok(text),

@@ -6,19 +6,13 @@ use Rattle.kd_program.proofs.serving.replayed.Goals as goal
 pub returns-in-Ok : goal.returns-in-Ok
 returns-in-Ok g c = record {
   result = Ok c.in-Ok.field-0;
-  leaves = c.in-Ok.ensures.replayed;
-  whole = c.in-Ok.ensures.whole;
-  counted = c.in-Ok.ensures.counted;
-  reached = c.in-Ok.ensures.reached;
+  replayed = c.in-Ok.ensures.replayed;
   ends = (refl, refl);
 }
 
 pub returns-in-Err : goal.returns-in-Err
 returns-in-Err g c = record {
   result = Err c.in-Err.fault;
-  leaves = c.in-Err.ensures.replayed;
-  whole = c.in-Err.ensures.whole;
-  counted = tt;
-  reached = c.in-Err.ensures.reached;
+  replayed = c.in-Err.ensures.replayed;
   ends = told_as _ _ _ _ _ (written_to g.E.Sink c.args.ends.now.faults) _ c.number.ensures c.replay_status.ensures c.refuse_as.ensures;
 }

@@ -6,7 +6,7 @@ use Rattle.kd_replay.proofs.bytes.replay_bytes.Goals as goal
 
 pub returns : goal.returns
 returns g c =
-    let left = c.replay_with-done.ensures.replayed c.args.input.now [] refl (ap (λ l. Some l) c.new-sink.ensures.bytes) in
-    let told : left.out ≡ c.replay_with-done.new.sink.bytes.items = cc in
-    subst (λ (out : List ℕ). Replays g.H.Serves.gives g.H.Serves.fails ⊥ c.replay_with-done.result (lines_of c.args.input.now) c.args.server.now c.replay_with-done.new.server [] out) told
+    let left = c.replay-done.ensures.replayed.leaves c.args.input.now [] refl (ap (λ l. Some l) c.new-sink.ensures.bytes) in
+    let told : left.out ≡ c.replay-done.new.sink.bytes.items = cc in
+    subst (λ (out : List ℕ). Replays g.H.Serves.gives g.H.Serves.fails ⊥ c.replay-done.result (lines_of c.args.input.now) c.args.server.now c.replay-done.new.server [] out) told
     (replays_without g.H.Serves.gives g.H.Serves.fails _ (λ e. true≢false (sym e)) _ _ _ _ _ _ left.replays)

@@ -4,7 +4,7 @@ use Rattle.kd_replay.specs.Handling.{line_room}
 use Rattle.kd_replay.specs.Lines.{line_limit}
 use Rattle.kd_replay.specs.Replay.{Handles}
 use Rattle.kd_replay.proofs.Going.{Going}
-use Rattle.kd_replay.proofs.replaying.replay_with.Given as goal
+use Rattle.kd_replay.proofs.replaying.replay_lines.Given as goal
 
 abbrev pub invariant-loop-number : goal.invariant-loop-number
 invariant-loop-number g l = record {

@@ -3,7 +3,7 @@ use Rattle.std.proofs.lemmas.Result.{err_from_is_err_and}
 use Rattle.kd_replay.specs.Replay.{Handles, most_lines}
 use Rattle.kd_replay.proofs.Going.{going_line, going_none, handles_more, handles_none, leaves_bad, leaves_end, leaves_event, leaves_memory, leaves_memory_at, leaves_more, leaves_more_long, leaves_read, leaves_too_long, none_ahead, whole_read}
 use Rattle.kd_replay.proofs.Histories.{reaches_ended, reaches_none}
-use Rattle.kd_replay.proofs.replaying.replay_with.Goals as goal
+use Rattle.kd_replay.proofs.replaying.replay_lines.Goals as goal
 
 pub returns-in_err-work-clause-reached : goal.returns-in_err-work-clause-reached
 returns-in_err-work-clause-reached g c = reaches_none g.H.Serves.gives g.H.Serves.fails c.args.server.now
