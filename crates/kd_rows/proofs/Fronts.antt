@@ -12,7 +12,7 @@ use Rattle.std.proofs.lemmas.List.Elements.{All-push, All-set}
 use Rattle.std.proofs.Math.Seq.{map-set_same}
 use Rattle.std.proofs.Math.Nat.{pow-le-pow_right, pow-suc}
 use Rattle.kd_rows.specs.declared.row.Row.{Row}
-use Rattle.kd_rows.specs.Heads.{AreHeads, HasBytes, IsHead, IsHeadAt, front_number, row_addresses}
+use Rattle.kd_rows.specs.Heads.{AreHeads, IsByteList, IsHead, IsHeadAt, front_number, row_addresses}
 use Rattle.kd_rows.specs.Index.{IsByAddress, IsRowPlace, IsStored, addresses_in, age_key, age_of, client_of, key_by, key_order, order_in, row_in, rows_in}
 use Rattle.kd_rows.specs.Table.{row_at}
 use Rattle.kd_rows.specs.Zones.{group_in}
@@ -28,7 +28,7 @@ higher b e p x y less small = let more : b * p + p ≤ e * p = scaled b e p less
     rest k = grind arith
 
 -- n bytes as a number
-pub front_small : (n : ℕ) (bytes : List ℕ) → HasBytes bytes → front_number n bytes < 256 ^ n
+pub front_small : (n : ℕ) (bytes : List ℕ) → IsByteList bytes → front_number n bytes < 256 ^ n
 front_small zero bytes are = omega arith
 front_small (suc n) [] are =
     let more = front_small n [] are in
@@ -41,7 +41,7 @@ front_small (suc n) (b ∷ bytes) are =
     omega (arith, less, size)
 
 -- fewer than 8 of them leave room for one more
-pub front_fits : (n : ℕ) (bytes : List ℕ) → HasBytes bytes → n < 8 → front_number n bytes * 256 + 255 < 2 ^ 64
+pub front_fits : (n : ℕ) (bytes : List ℕ) → IsByteList bytes → n < 8 → front_number n bytes * 256 + 255 < 2 ^ 64
 front_fits n bytes are few =
     let small = front_small n bytes are in
     let most : 256 ^ n ≤ 256 ^ 7 = pow-le-pow_right {n = 256} (omega arith) {i = n} {j = 7} (omega (arith, few)) in
@@ -82,7 +82,7 @@ beside : (x a b : ℕ) → nat_cmp (x + a) (x + b) ≡ nat_cmp a b
 beside x a b = grind (arith, nat_tests)
 
 -- where the first bytes of two lists differ as numbers, that is their order
-pub fronts_decide : (n : ℕ) (c d : List ℕ) → HasBytes c → HasBytes d → (front_number n c ≡ front_number n d → ⊥) → slice_cmp nat_cmp c d ≡ nat_cmp (front_number n c) (front_number n d)
+pub fronts_decide : (n : ℕ) (c d : List ℕ) → IsByteList c → IsByteList d → (front_number n c ≡ front_number n d → ⊥) → slice_cmp nat_cmp c d ≡ nat_cmp (front_number n c) (front_number n d)
 fronts_decide zero c d here there other = absurd (other refl)
 fronts_decide (suc n) [] [] here there other = absurd (other refl)
 fronts_decide (suc n) [] (e ∷ d) here there other = sym (nat_less 0 (front_number (suc n) (e ∷ d)) (omega (arith, other)))
@@ -178,7 +178,7 @@ addresses_length slots = length-map slots (λ (row : Row). row.address)
 -- a row more
 pub heads_more : (slots : List Row) (heads : List ℕ) (row : Row) (head : ℕ) → AreHeads slots heads → IsHead row.client head → AreHeads (slots ++ row ∷ []) (heads ++ head ∷ [])
 heads_more slots heads row head are is = record {
-  bytes = All-push (λ row. HasBytes row.client) slots row are.bytes is.bytes;
+  bytes = All-push (λ row. IsByteList row.client) slots row are.bytes is.bytes;
   value = ap (λ (hs : List ℕ). hs ++ head ∷ []) are.value ∙ ap (λ (h : ℕ). map (λ row. front_number 8 row.client) slots ++ h ∷ []) is.value ∙ sym (map-append (λ row. front_number 8 row.client) slots (row ∷ []));
 }
 
@@ -191,7 +191,7 @@ one_taken rows i row inside is = take_more rows i row inside ∙ ap (λ (r : Row
 -- a row in place of another
 pub heads_set : (slots : List Row) (heads : List ℕ) (n : ℕ) (row : Row) (head : ℕ) → AreHeads slots heads → IsHead row.client head → AreHeads (set slots n row) (set heads n head)
 heads_set slots heads n row head are is = record {
-  bytes = All-set (λ row. HasBytes row.client) slots n row is.bytes are.bytes;
+  bytes = All-set (λ row. IsByteList row.client) slots n row is.bytes are.bytes;
   value = ap (λ (hs : List ℕ). set hs n head) are.value ∙ ap (set (map (λ row. front_number 8 row.client) slots) n) is.value ∙ sym (map-set (λ row. front_number 8 row.client) slots n row);
 }
 

@@ -13,12 +13,12 @@ front_number (suc n) [] = 0
 front_number (suc n) (byte ∷ bytes) = byte * 256 ^ n + front_number n bytes
 
 -- each number of a list is a byte
-abbrev pub HasBytes : List ℕ → Type 0
-HasBytes client = (i : ℕ) → slice_index client i < 256
+abbrev pub IsByteList : List ℕ → Type 0
+IsByteList client = (i : ℕ) → slice_index client i < 256
 
 -- a number is the head of a client: its first 8 bytes
 pub record IsHead (client : List ℕ) (head : ℕ) : Type 0 where
-  pub bytes : HasBytes client
+  pub bytes : IsByteList client
   pub value : head ≡ front_number 8 client
 
 -- a number is the head of the client that has an address
@@ -29,7 +29,7 @@ pub record IsHeadAt (rows : List Row) (a head : ℕ) : Type 0 where
 
 -- numbers are the heads of the clients of rows
 pub record AreHeads (rows : List Row) (heads : List ℕ) : Type 0 where
-  pub bytes : All (λ row. HasBytes row.client) rows
+  pub bytes : All (λ row. IsByteList row.client) rows
   pub value : heads ≡ map (λ row. front_number 8 row.client) rows
 
 -- the addresses of rows, each in its place

@@ -1,17 +1,17 @@
 use Rattle.std.proofs.Common.{◌≡◌, ℕ, ◌+◌, ◌*◌, ap, arith, sym, ◌∙◌}
-use Rattle.kd_rows.specs.Heads.{HasBytes, front_number}
+use Rattle.kd_rows.specs.Heads.{IsByteList, front_number}
 use Rattle.kd_rows.proofs.Fronts.{front_fits, front_more}
 use Rattle.kd_rows.proofs.heads.head_of.Goals as goal
 
 pub overflow_mul-head : goal.overflow_mul-head
 overflow_mul-head c =
-    let are : HasBytes c.args.client.now = (λ i. let byte = c.type_inv.client i in omega (arith, byte)) in
+    let are : IsByteList c.args.client.now = (λ i. let byte = c.type_inv.client i in omega (arith, byte)) in
     let fits = front_fits c.loop-i.i c.args.client.now are (omega arith) in
     omega (arith, fits, c.loop-i.invariant)
 
 pub overflow_add-head : goal.overflow_add-head
 overflow_add-head c =
-    let are : HasBytes c.args.client.now = (λ i. let byte = c.type_inv.client i in omega (arith, byte)) in
+    let are : IsByteList c.args.client.now = (λ i. let byte = c.type_inv.client i in omega (arith, byte)) in
     let fits = front_fits c.loop-i.i c.args.client.now are (omega arith) in
     omega (arith, fits, c.loop-i.invariant, c.byte_at.ensures.bound)
 
