@@ -2,13 +2,12 @@ ghost use Rattle.std.specs.Prelude.{◌≡◌, ◌∷◌, ◌++◌, [], IfOk, On
 ghost use Rattle.std.specs.List.{flat_map};
 ghost use Rattle.hex.specs.Hex.{encode_lower};
 ghost use Rattle.kd_options.specs.Message.{mac_of};
-ghost use Rattle.kd_replay.specs.Text.{address_text, bytes_text};
 ghost use Rattle.kd_events.specs.People.{IsPeopleLine, address_or_dash, colon_byte, mac_text, reply_words, type_word, value_text};
 
 use crate::time::time_text;
 use kd_options::{Message, MessageType};
+use kd_replay::{put_address, put_bytes};
 use std::alloc::{AllocError, Global};
-use std::fmt::Write;
 
 const OPTION_CLIENT_IDENTIFIER: u8 = 61;
 
@@ -60,14 +59,14 @@ fn put_reply(alloc: Global, out: &mut String, message: &Message<'_>) -> Result<(
 {
     let header = message.header();
     put_mac(alloc, out, message.mac())?;
-    put_address(out, " ", header.yiaddr)?;
+    put_address_word(out, " ", header.yiaddr)?;
     put_value(
         alloc,
         out,
         " client ",
         message.option(OPTION_CLIENT_IDENTIFIER),
     )?;
-    put_address(out, " relay ", header.giaddr)?;
+    put_address_word(out, " relay ", header.giaddr)?;
     put_value(alloc, out, " circuit ", message.relay(RELAY_CIRCUIT))?;
     put_value(alloc, out, " remote ", message.relay(RELAY_REMOTE))
 }
@@ -124,27 +123,14 @@ fn put_value(
     }
 }
 
-fn put_bytes(alloc: Global, out: &mut String, bytes: &[u8]) -> Result<(), AllocError>
-    ensures { OnOk result (string_bytes out.new ≡ string_bytes out.old ++ bytes_text bytes.now) }
-{
-    if bytes.is_empty() {
-        return out.push_str("-");
-    }
-    let text = hex::encode(alloc, bytes)?;
-    out.push_str(text.as_str())
-}
-
 // A word, and an address in decimal.
-fn put_address(out: &mut String, word: &str, address: u32) -> Result<(), AllocError>
+fn put_address_word(out: &mut String, word: &str, address: u32) -> Result<(), AllocError>
     ensures { OnOk result
         (string_bytes out.new ≡ string_bytes out.old ++ (word.now ++ address_or_dash address)) }
 {
+    out.push_str(word)?;
     if address == 0 {
-        return write!(out, "{word}-");
+        return out.push_str("-");
     }
-    let first = address / 0x100_0000;
-    let second = address / 0x1_0000 % 256;
-    let third = address / 0x100 % 256;
-    let last = address % 256;
-    write!(out, "{word}{first}.{second}.{third}.{last}")
+    put_address(out, address)
 }

@@ -1,22 +1,11 @@
 ghost use Rattle.std.specs.Prelude.{◌≡◌, ◌++◌, OnOk, string_bytes};
-ghost use Rattle.kd_replay.specs.Text.{address_text};
 ghost use Rattle.kd_pools.specs.Printed.{counts_text, prefix_text, range_text};
 
 use crate::counts::Counts;
 use kd_config::{Prefix, Range};
+use kd_replay::put_address;
 use std::alloc::AllocError;
 use std::fmt::Write;
-
-// An address, in decimal.
-fn put_address(out: &mut String, address: u32) -> Result<(), AllocError>
-    ensures { OnOk result (string_bytes out.new ≡ string_bytes out.old ++ address_text address) }
-{
-    let a = address / 0x100_0000;
-    let b = address / 0x1_0000 % 256;
-    let c = address / 0x100 % 256;
-    let d = address % 256;
-    write!(out, "{a}.{b}.{c}.{d}")
-}
 
 // A range: its first address and its last.
 #[tactic(auto, unfolding(crate::specs::Printed::range_text))]

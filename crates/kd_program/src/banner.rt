@@ -1,5 +1,6 @@
 use kd_commands::Listening;
 use kd_config::Subnet;
+use kd_replay::put_address;
 use std::alloc::{AllocError, Global};
 use std::fmt::Write;
 
@@ -62,11 +63,8 @@ pub fn banner_line(alloc: Global, banner: &Banner<'_>) -> Result<String, AllocEr
 
 // An address, a number in host order, and a port.
 fn put_place(line: &mut String, address: u32, port: u16) -> Result<(), AllocError> {
-    let a = address / 0x100_0000;
-    let b = address / 0x1_0000 % 256;
-    let c = address / 0x100 % 256;
-    let d = address % 256;
-    write!(line, "{a}.{b}.{c}.{d}:{port}")
+    put_address(line, address)?;
+    write!(line, ":{port}")
 }
 
 // The moment of the latest change, or a dash where there are no leases.

@@ -33,6 +33,7 @@ mod served;
 mod serves;
 mod serving;
 mod text;
+mod words;
 mod writing;
 
 pub use arrived::Arrived;
@@ -51,3 +52,4 @@ pub use serves::{Serves, ServesAll};
 pub use serving::{Limits, serve};
 pub use text::event_line;
 pub use writing::write_all;
+pub use words::{put_address, put_bytes};

@@ -1,11 +1,10 @@
 ghost use Rattle.std.specs.Prelude.{◌≡◌, ◌<◌, ◌^◌, ◌++◌, false, nat_lt, IfErr, IfOk, OnOk, map, codes, string_bytes};
 ghost use Rattle.std.specs.Fmt.{decimal};
 ghost use Rattle.std.specs.List.{flat_map};
-ghost use Rattle.kd_replay.specs.Text.{address_text, bytes_text};
 ghost use Rattle.kd_server.specs.Leases.{IsNoList, lease_of_row, lease_line, leases_of_rows, word_of_live, word_of_state};
 
 use crate::server::MOMENTS;
-use kd_replay::ServeFault;
+use kd_replay::{ServeFault, put_address, put_bytes};
 use kd_rows::{Row, Rows, State};
 use kd_wire::Bytes;
 use std::alloc::{AllocError, Global};
@@ -115,28 +114,6 @@ fn put_lease(alloc: Global, out: &mut String, lease: &Lease) -> Result<(), Alloc
     out.push_str(live_word(*live))?;
     out.push_str("\n")?;
     Ok(())
-}
-
-// The address, in decimal.
-fn put_address(out: &mut String, address: u32) -> Result<(), AllocError>
-    ensures { OnOk result (string_bytes out.new ≡ string_bytes out.old ++ address_text address) }
-{
-    let a = address / 0x100_0000;
-    let b = address / 0x1_0000 % 256;
-    let c = address / 0x100 % 256;
-    let d = address % 256;
-    write!(out, "{a}.{b}.{c}.{d}")
-}
-
-// Bytes in hexadecimal, or a dash.
-fn put_bytes(alloc: Global, out: &mut String, bytes: &[u8]) -> Result<(), AllocError>
-    ensures { OnOk result (string_bytes out.new ≡ string_bytes out.old ++ bytes_text bytes.now) }
-{
-    if bytes.is_empty() {
-        return out.push_str("-");
-    }
-    let text = hex::encode(alloc, bytes)?;
-    out.push_str(text.as_str())
 }
 
 // When the row was set, and its end.

@@ -8,6 +8,7 @@ ghost use Rattle.kd_tools.specs.Show.{len_line, numbers_line, addresses_line, ma
 
 use kd_names::put_named;
 use kd_options::Message;
+use kd_replay::{put_address, put_bytes};
 use kd_wire::Header;
 use std::alloc::{AllocError, Global};
 use std::fmt::Write;
@@ -52,9 +53,9 @@ fn put_numbers(alloc: Global, out: &mut String, header: &Header) -> Result<(), A
     put_number(out, " htype ", u16::from(header.htype))?;
     put_number(out, " hlen ", u16::from(header.hlen))?;
     put_number(out, " hops ", u16::from(header.hops))?;
-    put_bytes(alloc, out, " xid ", &header.xid.to_be_bytes())?;
+    put_bytes_word(alloc, out, " xid ", &header.xid.to_be_bytes())?;
     put_number(out, " secs ", header.secs)?;
-    put_bytes(alloc, out, " flags ", &header.flags.to_be_bytes())?;
+    put_bytes_word(alloc, out, " flags ", &header.flags.to_be_bytes())?;
     out.push_str("\n")?;
     Ok(())
 }
@@ -63,10 +64,10 @@ fn put_addresses(out: &mut String, header: &Header) -> Result<(), AllocError>
     ensures { OnOk result
         (string_bytes out.new ≡ string_bytes out.old ++ addresses_line header.now) }
 {
-    put_address(out, "ciaddr ", header.ciaddr)?;
-    put_address(out, " yiaddr ", header.yiaddr)?;
-    put_address(out, " siaddr ", header.siaddr)?;
-    put_address(out, " giaddr ", header.giaddr)?;
+    put_address_word(out, "ciaddr ", header.ciaddr)?;
+    put_address_word(out, " yiaddr ", header.yiaddr)?;
+    put_address_word(out, " siaddr ", header.siaddr)?;
+    put_address_word(out, " giaddr ", header.giaddr)?;
     out.push_str("\n")?;
     Ok(())
 }
@@ -75,7 +76,7 @@ fn put_mac(alloc: Global, out: &mut String, message: &Message<'_>) -> Result<(),
     ensures { OnOk result
         (string_bytes out.new ≡ string_bytes out.old ++ mac_line message.now.header) }
 {
-    put_bytes(alloc, out, "mac ", message.mac())?;
+    put_bytes_word(alloc, out, "mac ", message.mac())?;
     out.push_str("\n")?;
     Ok(())
 }
@@ -147,7 +148,7 @@ fn put_entry(
         (string_bytes out.new ≡ string_bytes out.old ++ entry_line word.now (code, value.now)) }
 {
     put_number(out, word, u16::from(code))?;
-    put_bytes(alloc, out, " ", value)?;
+    put_bytes_word(alloc, out, " ", value)?;
     out.push_str("\n")?;
     Ok(())
 }
@@ -161,26 +162,19 @@ fn put_number(out: &mut String, word: &str, number: u16) -> Result<(), AllocErro
 }
 
 // A word and bytes in hexadecimal, or a dash where there are none.
-fn put_bytes(alloc: Global, out: &mut String, word: &str, bytes: &[u8]) -> Result<(), AllocError>
+fn put_bytes_word(alloc: Global, out: &mut String, word: &str, bytes: &[u8]) -> Result<(), AllocError>
     ensures { OnOk result
         (string_bytes out.new ≡ string_bytes out.old ++ (word.now ++ bytes_text bytes.now)) }
 {
     out.push_str(word)?;
-    if bytes.is_empty() {
-        return out.push_str("-");
-    }
-    let text = hex::encode(alloc, bytes)?;
-    out.push_str(text.as_str())
+    put_bytes(alloc, out, bytes)
 }
 
 // A word and an address in decimal.
-fn put_address(out: &mut String, word: &str, address: u32) -> Result<(), AllocError>
+fn put_address_word(out: &mut String, word: &str, address: u32) -> Result<(), AllocError>
     ensures { OnOk result
         (string_bytes out.new ≡ string_bytes out.old ++ (word.now ++ address_text address)) }
 {
-    let first = address / 0x100_0000;
-    let second = address / 0x1_0000 % 256;
-    let third = address / 0x100 % 256;
-    let last = address % 256;
-    write!(out, "{word}{first}.{second}.{third}.{last}")
+    out.push_str(word)?;
+    put_address(out, address)
 }

@@ -7,10 +7,11 @@ ghost use Rattle.kd_why.specs.CheckLines.{pool_word, prefix_line, request_source
 ghost use Rattle.kd_why.specs.CheckLines.{sender_line, served_line, served_word, server_line, subject_source, which_word};
 
 use crate::checks::Checks;
-use crate::words::{put_dotted, put_prefix, put_row, type_name, yes_or_no};
+use crate::words::{put_prefix, put_row, type_name, yes_or_no};
 use kd_config::Subnet;
 use kd_lease::{Question, server_of};
 use kd_options::{Message, MessageType};
+use kd_replay::put_address;
 use kd_rows::Row;
 use std::alloc::{AllocError, Global};
 use std::fmt::Write;
@@ -48,7 +49,7 @@ fn put_named_server(out: &mut String, named: u32, is_this: bool) -> Result<(), A
         ++ codes "\n")) }
 {
     out.push_str("check server: ")?;
-    put_dotted(out, named)?;
+    put_address(out, named)?;
     out.push_str(" is ")?;
     out.push_str(which(is_this))?;
     out.push_str("\n")
@@ -75,7 +76,7 @@ fn put_offer_at(out: &mut String, address: u32) -> Result<(), AllocError>
         ++ (codes "check offer: " ++ address_text address ++ codes " is given back\n")) }
 {
     out.push_str("check offer: ")?;
-    put_dotted(out, address)?;
+    put_address(out, address)?;
     out.push_str(" is given back\n")?;
     Ok(())
 }
@@ -101,7 +102,7 @@ fn put_address_from(out: &mut String, address: u32, source: &str) -> Result<(), 
         ++ codes " from " ++ source.now ++ codes "\n")) }
 {
     out.push_str("check address: ")?;
-    put_dotted(out, address)?;
+    put_address(out, address)?;
     out.push_str(" from ")?;
     out.push_str(source)?;
     out.push_str("\n")

@@ -4,9 +4,10 @@ ghost use Rattle.kd_why.specs.FoundLines.{client_words, header_words, message_li
 ghost use Rattle.kd_why.specs.Words.{address_word, bytes_word, kind_word};
 
 use crate::text::Scene;
-use crate::words::{filled, put_address, put_bytes, type_name};
+use crate::words::{filled, put_address_or_dash, type_name};
 use kd_lease::{requested_of, server_of};
 use kd_options::Message;
+use kd_replay::put_bytes;
 use kd_wire::{Bytes, Header};
 use std::alloc::{AllocError, Global};
 use std::fmt::Write;
@@ -67,9 +68,9 @@ fn put_header(out: &mut String, header: &Header) -> Result<(), AllocError>
     ensures { OnOk result (string_bytes out.new ≡ string_bytes out.old ++ header_words header.now) }
 {
     out.push_str(" relay ")?;
-    put_address(out, filled(header.giaddr))?;
+    put_address_or_dash(out, filled(header.giaddr))?;
     out.push_str(" ciaddr ")?;
-    put_address(out, filled(header.ciaddr))
+    put_address_or_dash(out, filled(header.ciaddr))
 }
 
 #[tactic(auto, unfolding(crate::specs::FoundLines::option_words))]
@@ -78,8 +79,8 @@ fn put_options(out: &mut String, message: &Message<'_>) -> Result<(), AllocError
         ≡ string_bytes out.old ++ option_words message.now) }
 {
     out.push_str(" requested ")?;
-    put_address(out, requested_of(message))?;
+    put_address_or_dash(out, requested_of(message))?;
     out.push_str(" server ")?;
-    put_address(out, server_of(message))?;
+    put_address_or_dash(out, server_of(message))?;
     out.push_str("\n")
 }

@@ -5,11 +5,12 @@ ghost use Rattle.kd_why.specs.OutcomeLines.{origin_class, options_address, origi
 
 use crate::origins::{Origin, origin_of};
 use crate::text::Scene;
-use crate::words::{put_bytes, put_name};
+use crate::words::put_name;
 use kd_classes::{ClassDef, Classes};
 use kd_config::Subnet;
 use kd_lease::{Plan, PlanKind};
 use kd_options::{Item, Message};
+use kd_replay::put_bytes;
 use std::alloc::{AllocError, Global};
 use std::fmt::Write;
 

@@ -4,9 +4,10 @@ ghost use Rattle.kd_why.specs.OutcomeLines.{AreOptionsOf, IsEndText, silence_lin
 
 use crate::option_lines::put_options;
 use crate::text::Scene;
-use crate::words::{put_dotted, put_row};
+use crate::words::put_row;
 use kd_event::Reason;
 use kd_lease::{Answer, Plan, PlanKind};
+use kd_replay::put_address;
 use kd_rows::Row;
 use std::alloc::{AllocError, Global};
 use std::fmt::Write;
@@ -60,7 +61,7 @@ fn put_given(out: &mut String, words: &str, address: u32) -> Result<(), AllocErr
         ≡ string_bytes out.old ++ (words.now ++ address_text address ++ codes "\n")) }
 {
     out.push_str(words)?;
-    put_dotted(out, address)?;
+    put_address(out, address)?;
     out.push_str("\n")
 }
 

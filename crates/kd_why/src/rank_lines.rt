@@ -3,7 +3,7 @@ ghost use Rattle.kd_why.specs.FoundLines.{chosen_text, rank_line, rank_lines, ra
 
 use crate::check_lines::is_ruled;
 use crate::text::Scene;
-use crate::words::put_address;
+use crate::words::put_address_or_dash;
 use kd_lease::Ranks;
 use kd_options::MessageType;
 use std::alloc::AllocError;
@@ -80,7 +80,7 @@ fn put_rank(
     out.push_str("rank ")?;
     out.push_str(rank)?;
     out.push_str(" ")?;
-    put_address(out, address)?;
+    put_address_or_dash(out, address)?;
     if wins {
         out.push_str(" wins\n")
     } else {

@@ -4,10 +4,11 @@ ghost use Rattle.kd_lease.specs.SubnetOf.{class_admits, message_place, served_by
 ghost use Rattle.kd_why.specs.FoundLines.{class_word, key_word, passed_words, place_line, place_word, reservation_line, reserved_line, sought_line, sought_lines, unasked_line};
 
 use crate::text::Scene;
-use crate::words::{put_dotted, put_name, put_prefix};
+use crate::words::{put_name, put_prefix};
 use kd_config::{Identity, Reservation, Subnet};
 use kd_lease::place_of;
 use kd_machine::Held;
+use kd_replay::put_address;
 use kd_wire::{Bytes, Header};
 use std::alloc::{AllocError, Global};
 
@@ -25,7 +26,7 @@ fn put_place_of(out: &mut String, server: u32, header: &Header) -> Result<(), Al
         ≡ string_bytes out.old ++ place_line server header.now) }
 {
     out.push_str("place ")?;
-    put_dotted(out, place_of(server, header))?;
+    put_address(out, place_of(server, header))?;
     out.push_str(" ")?;
     out.push_str(place_source(header))?;
     out.push_str("\n")
@@ -167,7 +168,7 @@ fn put_why_passed(
         put_class_name(alloc, out, &subnet.class)
     } else {
         out.push_str(" passed over: ")?;
-        put_dotted(out, place)?;
+        put_address(out, place)?;
         out.push_str(" is outside")
     }
 }
@@ -203,7 +204,7 @@ fn put_reserved(out: &mut String, reservation: &Reservation) -> Result<(), Alloc
         ≡ string_bytes out.old ++ reserved_line reservation.now) }
 {
     out.push_str("reservation ")?;
-    put_dotted(out, reservation.address)?;
+    put_address(out, reservation.address)?;
     out.push_str(" by ")?;
     out.push_str(identity_key(&reservation.identity))?;
     out.push_str("\n")?;

@@ -1,34 +1,23 @@
 ghost use Rattle.std.specs.Prelude.{◌≡◌, ◌++◌, OnOk, codes, decimal, string_bytes};
-ghost use Rattle.kd_replay.specs.Text.{address_text, bytes_text};
 ghost use Rattle.kd_server.specs.Leases.{word_of_state};
 ghost use Rattle.kd_options.specs.Kind.{type_number};
 ghost use Rattle.kd_why.specs.Words.{address_word, name_byte, name_text, prefix_word, row_text, truth_word, kind_word, unless_zero, yes_word};
 
 use kd_config::Prefix;
 use kd_options::MessageType;
+use kd_replay::{put_address, put_bytes};
 use kd_rows::{Row, State};
 use std::alloc::{AllocError, Global};
 use std::fmt::Write;
 
 // An address, in host order, or a dash where there is none.
-pub(crate) fn put_address(out: &mut String, address: Option<u32>) -> Result<(), AllocError>
+pub(crate) fn put_address_or_dash(out: &mut String, address: Option<u32>) -> Result<(), AllocError>
     ensures { OnOk result (string_bytes out.new ≡ string_bytes out.old ++ address_word address) }
 {
     match address {
-        Some(address) => put_dotted(out, address),
+        Some(address) => put_address(out, address),
         None => out.push_str("-"),
     }
-}
-
-// An address, in host order.
-pub(crate) fn put_dotted(out: &mut String, address: u32) -> Result<(), AllocError>
-    ensures { OnOk result (string_bytes out.new ≡ string_bytes out.old ++ address_text address) }
-{
-    let a = address / 0x100_0000;
-    let b = address / 0x1_0000 % 256;
-    let c = address / 0x100 % 256;
-    let d = address % 256;
-    write!(out, "{a}.{b}.{c}.{d}")
 }
 
 // The address in a field of the header: 0.0.0.0 is none.
@@ -43,20 +32,9 @@ pub(crate) fn filled(address: u32) -> Option<u32>
 pub(crate) fn put_prefix(out: &mut String, prefix: Prefix) -> Result<(), AllocError>
     ensures { OnOk result (string_bytes out.new ≡ string_bytes out.old ++ prefix_word prefix) }
 {
-    put_dotted(out, prefix.address)?;
+    put_address(out, prefix.address)?;
     let length = prefix.length;
     write!(out, "/{length}")
-}
-
-// Bytes in hexadecimal, or a dash where there are none.
-pub(crate) fn put_bytes(alloc: Global, out: &mut String, bytes: &[u8]) -> Result<(), AllocError>
-    ensures { OnOk result (string_bytes out.new ≡ string_bytes out.old ++ bytes_text bytes.now) }
-{
-    if bytes.is_empty() {
-        return out.push_str("-");
-    }
-    let text = hex::encode(alloc, bytes)?;
-    out.push_str(text.as_str())
 }
 
 // The name of a class, without spaces and line feeds.
@@ -87,7 +65,7 @@ fn put_name_byte(alloc: Global, out: &mut String, byte: u8) -> Result<(), AllocE
 pub(crate) fn put_row(alloc: Global, out: &mut String, row: &Row) -> Result<(), AllocError>
     ensures { OnOk result (string_bytes out.new ≡ string_bytes out.old ++ row_text row.now) }
 {
-    put_dotted(out, row.address)?;
+    put_address(out, row.address)?;
     put_state(out, row.state)?;
     put_bytes(alloc, out, row.client.as_slice())?;
     put_times(out, row.changed, row.ends)
