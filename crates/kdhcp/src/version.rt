@@ -1,7 +1,7 @@
 use std::alloc::{AllocError, Global};
 
 // The version of the program.
-const VERSION: &str = "0.9.0";
+const VERSION: &str = "1.0.0";
 
 // The commit that it is built from: `git archive` writes it between the quotes, where a checkout has
 // a word that begins with a dollar sign.
