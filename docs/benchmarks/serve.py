@@ -280,7 +280,7 @@ def renewed(room, kdhcp, which):
 
 def flooded(room, kdhcp):
     """The slowest answer in ms of `HARMED` clients that renew at once, ten times, while others send `FLOOD` DISCOVERs a
-    second by way of another relay. The socket is handed over with a buffer of 4 MiB, as that of examples/kdhcp.socket."""
+    second by way of another relay. The socket is handed over with a buffer of 4 MiB, as that of packaging/kdhcp.socket."""
     server = started(room, kdhcp, "handed", 0)
     loaded(room, server, 0, HARMED, "", "--save", f"{room}/harmed")
     words = [f"{room}/kdload", "--netns", "--server", SERVER, "--giaddr", OTHER_RELAY, "--mode", "discover", "--pool", POOL]
