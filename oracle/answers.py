@@ -3,7 +3,7 @@
 
     answers.py FOLDER      reads FOLDER/config.json, FOLDER/*.k4tk and FOLDER/events.lines, prints the answers
     answers.py             writes replies.lines into each folder of crates/kd_cases/data/examples
-                           that has no leases.lines; those are of judge/examples.py
+                           that has no leases.lines; those are of examples.py
 
 The answers are worked out here once more, from RFC 2131, 2132, 3046 and Kea's manual, in another language and
 by another hand than the server's. Nothing of the server's code is used.
@@ -15,7 +15,7 @@ import re
 import sys
 
 HERE = os.path.dirname(os.path.abspath(__file__))
-sys.path.insert(0, os.path.join(HERE, "replay"))
+sys.path.insert(0, os.path.join(HERE, "..", "examples", "replay"))
 from day import acknowledged, address, readable, unheard  # noqa: E402
 
 # ---- messages

@@ -8,7 +8,7 @@
  *   renew     REQUESTs that renew random addresses of its /8, to the server's address, from these addresses
  *   lease     REQUESTs that accept an offer of one of the 1,024 addresses from FIRST on, broadcast from 0.0.0.0
  *   relay     DISCOVERs, to the server's address, from DEVICE's address, which is that of their relay (giaddr)
- * It prints how many it sent. DEVICE has to be in a network namespace that was made for it: tools/floods starts it so.
+ * It prints how many it sent. DEVICE has to be in a network namespace that was made for it: system-tests/floods starts it so.
  */
 #define _GNU_SOURCE
 #include <arpa/inet.h>

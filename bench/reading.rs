@@ -1,5 +1,5 @@
 // The same work as crates/kd_bench, in Rust with a plain Vec of slices:
-//   rustc --edition 2021 -O -o /tmp/reading docs/benchmarks/reading.rs && time /tmp/reading discover 2000000
+//   rustc --edition 2021 -O -o /tmp/reading bench/reading.rs && time /tmp/reading discover 2000000
 use std::borrow::Cow;
 use std::hint::black_box;
 

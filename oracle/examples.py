@@ -3,7 +3,7 @@
 
     examples.py     in each folder of crates/kd_cases/data/examples that has leases.lines
 
-The moment of the table is that of the last event. Examples without leases are those of ../answers.py.
+The moment of the table is that of the last event. Examples without leases are those of answers.py.
 """
 import glob
 import os
@@ -17,7 +17,7 @@ def written(path, lines):
 
 
 def main():
-    for path in sorted(glob.glob(f"{judge.HERE}/../../crates/kd_cases/data/examples/*/leases.lines")):
+    for path in sorted(glob.glob(f"{judge.HERE}/../crates/kd_cases/data/examples/*/leases.lines")):
         folder = os.path.dirname(path)
         with open(f"{folder}/events.lines", encoding="ascii") as file:
             events = file.read().splitlines()

@@ -1,7 +1,7 @@
 #!/usr/bin/env bash
-# Measures kdhcp beside Kea under one load, a relay's DISCOVER to ACK: docs/benchmarks/serve.sh [WORK]. WORK is `levels`,
-# where it is left out: three rounds up to 250,000 leases and 250 class tests, a page in Markdown, and serve.svg beside
-# this file; `million`: one round over 1,000,000 leases; `durable`: three rounds up to 250,000 leases of kdhcp with a
+# Measures kdhcp beside Kea under one load, a relay's DISCOVER to ACK: bench/serve.sh [WORK]. WORK is `levels`,
+# where it is left out: three rounds up to 250,000 leases and 250 class tests, a page in Markdown, and serve.svg of
+# docs/benchmarks; `million`: one round over 1,000,000 leases; `durable`: three rounds up to 250,000 leases of kdhcp with a
 # store and of coredhcp, which syncs too; `batches`: three rounds under 1 to 64 clients at a time, and batches.svg; `soak`
 # or `soak-file`: renewals and garbage for ten minutes, kdhcp alone. It
 # installs Kea and SQLite's library by apt where they lack, takes coredhcp from its package without installing it, as
@@ -10,7 +10,7 @@
 set -euo pipefail
 here=$(cd "$(dirname "$0")" && pwd)
 work=${1:-levels}
-kdhcp=$(realpath "${KDHCP:-$here/../../crates/kdhcp/out/kdhcp}")
+kdhcp=$(realpath "${KDHCP:-$here/../crates/kdhcp/out/kdhcp}")
 [ "$work" = durable ] || command -v kea-dhcp4 >/dev/null || apt-get install -y --no-install-recommends kea-dhcp4-server >&2
 [ -e /usr/include/sqlite3.h ] || apt-get install -y --no-install-recommends libsqlite3-dev >&2
 room=$(mktemp -d /var/tmp/kdhcp-serve.XXXXXX)
@@ -22,8 +22,8 @@ fi
 cc -O2 -o "$room/kdload" "$here/kdload.c"
 cc -O2 -o "$room/store" "$here/store.c" -lsqlite3
 case $work in
-levels) unshare --net python3 "$here/serve.py" "$room" "$kdhcp" "$here/serve.svg" ;;
-batches) unshare --net python3 "$here/serve.py" "$room" "$kdhcp" batches "$here/batches.svg" ;;
+levels) unshare --net python3 "$here/serve.py" "$room" "$kdhcp" "$here/../docs/benchmarks/serve.svg" ;;
+batches) unshare --net python3 "$here/serve.py" "$room" "$kdhcp" batches "$here/../docs/benchmarks/batches.svg" ;;
 million | durable) unshare --net python3 "$here/serve.py" "$room" "$kdhcp" "$work" ;;
 soak) unshare --net python3 "$here/soak.py" "$room" "$kdhcp" "${SECONDS_OF_SOAK:-600}" ;;
 soak-file) unshare --net python3 "$here/soak.py" "$room" "$kdhcp" "${SECONDS_OF_SOAK:-600}" --store ;;

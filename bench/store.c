@@ -1,6 +1,6 @@
 /* Sets leases in a database of SQLite, one commit each, as the server does: store FILE COUNT. It prints the commits and the
    seconds that they took. The log is a WAL and each commit is synced (synchronous=FULL), which is the durability of the
-   server's own store. To build: cc -O2 -o store docs/benchmarks/store.c -lsqlite3 */
+   server's own store. To build: cc -O2 -o store bench/store.c -lsqlite3 */
 #include <sqlite3.h>
 #include <stdio.h>
 #include <stdlib.h>

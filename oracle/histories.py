@@ -20,7 +20,7 @@ import tempfile
 import judge
 from day import COOKIE, address, dotted, written  # noqa: E402
 
-ROOT = os.path.join(judge.HERE, "..", "..")
+ROOT = os.path.join(judge.HERE, "..")
 # Prefixes, with an address from which on pools and reservations are laid out.
 PREFIXES = {
     "192.0.2.0/24": "192.0.2.8",

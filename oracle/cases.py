@@ -14,7 +14,7 @@ import sys
 
 import judge
 
-DATA = os.path.join(judge.HERE, "..", "..", "crates", "kd_cases", "data")
+DATA = os.path.join(judge.HERE, "..", "crates", "kd_cases", "data")
 
 
 def expanded(names, text):

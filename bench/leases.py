@@ -1,5 +1,5 @@
 #!/usr/bin/env python3
-"""A day of leases: docs/benchmarks/leases.py [PROGRAM [EVENTS [CLIENTS [STORE]]]], 1,000,000 events of 10,000 clients over a
+"""A day of leases: bench/leases.py [PROGRAM [EVENTS [CLIENTS [STORE]]]], 1,000,000 events of 10,000 clients over a
 store in memory and ./kdhcp without words. Each client sends a DISCOVER by way of a relay, then a REQUEST, and then renews.
 Prints how many lines of each kind came, the program's resident memory after some of them, and its processor time; with
 `-` in place of PROGRAM it prints the events alone."""
@@ -11,7 +11,7 @@ import sys
 import tempfile
 import threading
 
-TOP = os.path.dirname(os.path.dirname(os.path.dirname(os.path.realpath(__file__))))
+TOP = os.path.dirname(os.path.dirname(os.path.realpath(__file__)))
 WORDS = sys.argv[1:]
 PROGRAM = WORDS[0] if WORDS else f"{TOP}/kdhcp"
 EVENTS = int(WORDS[1]) if len(WORDS) > 1 else 1_000_000

@@ -6,7 +6,7 @@ set -euo pipefail
 cd "$(dirname "${BASH_SOURCE[0]}")/../.."
 room=$(mktemp -d)
 trap 'rm -rf "$room"' EXIT
-cc -shared -fPIC -O1 -o "$room/fail.so" docs/fail-alloc/fail.c
+cc -shared -fPIC -O1 -o "$room/fail.so" system-tests/fail-alloc/fail.c
 
 asked_by() { FAIL_TELL=1 LD_PRELOAD=$room/fail.so "$@" 2>&1 >/dev/null </dev/null | sed -n 's/^asked=//p'; }
 
@@ -119,7 +119,7 @@ each_refusal_with_store() {
 }
 each_refusal_with_store examples/replay/leases.lines examples/replay/leases.replies
 echo "stores: runs=$all memory=$memory same=$same other=$other"
-python3 docs/fail-alloc/batch.py crates/kdhcp/out/kdhcp "$room/fail.so"
+python3 system-tests/fail-alloc/batch.py crates/kdhcp/out/kdhcp "$room/fail.so"
 
 # Reads and writes of one byte each change nothing.
 SHORT_IO=1 LD_PRELOAD=$room/fail.so crates/kdhcp/out/kdhcp replay <examples/replay/informs.lines |

@@ -19,7 +19,7 @@ import sys
 from typing import NamedTuple, Optional
 
 HERE = os.path.dirname(os.path.abspath(__file__))
-sys.path[:0] = [os.path.join(HERE, ".."), os.path.join(HERE, "..", "replay")]
+sys.path[:0] = [HERE, os.path.join(HERE, "..", "examples", "replay")]
 from answers import classes, given, hexadecimal, number, pool, prefix  # noqa: E402
 from day import COOKIE, address, dotted, readable, unheard, written  # noqa: E402
 

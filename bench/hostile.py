@@ -13,7 +13,7 @@ import os
 import re
 import subprocess
 
-TOP = os.path.dirname(os.path.dirname(os.path.dirname(os.path.realpath(__file__))))
+TOP = os.path.dirname(os.path.dirname(os.path.realpath(__file__)))
 HOLDERS = ["all", "beside", "away", "ended"]
 MANY, MOST, FEW = 60_000, 1_000_000, 1_000
 SUBNET, WHOLE = 4096, 200_000
