@@ -11,7 +11,8 @@ fn is_number_part(field: Field) -> bool
 {
     match field {
         Field::Mac | Field::Ciaddr | Field::Giaddr | Field::Yiaddr | Field::Siaddr => false,
-        Field::Hlen | Field::Htype | Field::MessageType | Field::Transaction | Field::Length => true,
+        Field::Hlen | Field::Htype | Field::MessageType | Field::Transaction | Field::Length =>
+            true,
     }
 }
 

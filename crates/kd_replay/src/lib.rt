@@ -51,5 +51,5 @@ pub use served::{ServedBytes, serve_bytes};
 pub use serves::{Serves, ServesAll};
 pub use serving::{Limits, serve};
 pub use text::event_line;
-pub use writing::write_all;
 pub use words::{put_address, put_bytes};
+pub use writing::write_all;

@@ -162,7 +162,12 @@ fn put_number(out: &mut String, word: &str, number: u16) -> Result<(), AllocErro
 }
 
 // A word and bytes in hexadecimal, or a dash where there are none.
-fn put_bytes_word(alloc: Global, out: &mut String, word: &str, bytes: &[u8]) -> Result<(), AllocError>
+fn put_bytes_word(
+    alloc: Global,
+    out: &mut String,
+    word: &str,
+    bytes: &[u8],
+) -> Result<(), AllocError>
     ensures { OnOk result
         (string_bytes out.new ≡ string_bytes out.old ++ (word.now ++ bytes_text bytes.now)) }
 {
