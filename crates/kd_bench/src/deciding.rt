@@ -6,7 +6,7 @@ mod table;
 
 use crate::mixed;
 use kd_config::ConfigFault;
-use kd_lease::{Answer, Decision, Leases, PlanKind, decide_on};
+use kd_lease::{Leases, PlanKind, Verdict, decide_on};
 use kd_options::Message;
 use message::{OTHER_SERVER, SERVER, bad_cookie, discover, noise, renewal, request};
 use settings::{Place, Setting, config_of};
@@ -179,14 +179,14 @@ fn given(
     let names = desk.leases.config().classes().held(alloc, &message)?;
     let moment = MOMENT + u64::from(round);
     let over = desk.leases.ground();
-    let Decision { row, answer } = decide_on(alloc, over, &message, &names, moment)?;
+    let Verdict { row, answer } = decide_on(alloc, over, &message, &names, moment)?;
     if let Some(row) = row {
         if sets_rows(desk.asks) {
             set(&mut desk.leases, row)?;
         }
     }
     match answer {
-        Answer::Plan(plan) if plan.kind != PlanKind::Nak => Ok(Some(plan.yiaddr)),
+        Ok(plan) if plan.kind != PlanKind::Nak => Ok(Some(plan.yiaddr)),
         _ => Ok(None),
     }
 }

@@ -1,5 +1,5 @@
 -- The rules have one answer: at most one row and one plan stand in each of their relations.
-use Rattle.std.proofs.Common.{◌≡◌, ℕ, ◌≤◌, ◌==◌, ◌&&◌, ◌||◌, nat_lt, Bool, true, false, codes, List, Option, Some, None, option_map, inl, inr, ◌⊎◌, refl, sym, ap, ◌∙◌, subst, arith, if◌then◌else◌}
+use Rattle.std.proofs.Common.{◌≡◌, ℕ, ◌≤◌, ◌==◌, ◌&&◌, ◌||◌, nat_lt, Bool, true, false, codes, List, [], Option, Some, None, option_map, inl, inr, ◌⊎◌, refl, sym, ap, ◌∙◌, subst, arith, if◌then◌else◌}
 use Rattle.std.proofs.lemmas.Bool.{and_from, and_parts, eqb-true, false≢true}
 use Rattle.std.proofs.lemmas.Bool.Decides.{nat_tests}
 use Rattle.kd_classes.specs.HeldSet.{HeldSet}
@@ -8,15 +8,16 @@ use Rattle.kd_config.specs.Address.{has_address}
 use Rattle.kd_config.specs.declared.subnet.Subnet.{Subnet}
 use Rattle.kd_event.specs.declared.reason.Reason.{Reason}
 use Rattle.kd_event.specs.declared.reason.Reason.TheVariants as reasons
-use Rattle.kd_lease.specs.Change.{AnswersTo, Decides, ForClient, Unless, WhereFits, after, asked_for, fits_in, outcome_for}
+use Rattle.kd_lease.specs.Change.{AnswersTo, Decides, ForClient, HasOptions, Unless, WhereFits, after, asked_for, fits_in}
 use Rattle.kd_lease.specs.Choice.{Asking, Choice, IsFirstOf, NoChoice, Rank, address_reserved, changed_in, fitting_for, free_for, pool_place, place, requested_address, same_address, set_later, usable}
 use Rattle.kd_lease.specs.Choice.Rank.{asked, expired, fresh, own, past, reserved}
 use Rattle.kd_lease.specs.Client.{client_identity, reply_room, server_message}
 use Rattle.kd_lease.specs.Laws.{OneAnswer, OneChange}
 use Rattle.kd_lease.specs.Plan.{Outcome}
+use Rattle.kd_lease.specs.Plan.Outcome.{planned, quiet}
+use Rattle.kd_lease.specs.ReplyOptions.{reply_options}
 use Rattle.kd_lease.specs.Rules.{Does, GivesUpLease, InSubnet, Informs, IsNewest, IsQuiet, IsRenewalRefused, OnDiscover, OnNamed, OnOther, OnRenew, OnRequest, OnSelect, Sets, UnlessOther, WithAsked, WithCiaddr, client_has, declined_row, held_at, is_record, leased_row, named_server, offered_to, other_server, released_row, renewable, renewed_address, row_of_offer, serving_subnet}
-use Rattle.kd_lease.specs.declared.planned.Planned.{Planned}
-use Rattle.kd_lease.specs.declared.planned.Planned.TheVariants as plans
+use Rattle.kd_lease.specs.declared.plan.PlanKind.TheVariants as kinds
 use Rattle.kd_machine.specs.Parts.{is_held}
 use Rattle.kd_options.specs.Kind.{type_number}
 use Rattle.kd_options.specs.Message.{Seen}
@@ -33,28 +34,40 @@ One {B} R = (x u : Option Row) (y v : B) → R x y → R u v → (x ≡ u) × (y
 both_same : {B : Type 0} {x u z : Option Row} {y v w : B} → (x ≡ z) × (y ≡ w) → (u ≡ z) × (v ≡ w) → (x ≡ u) × (y ≡ v)
 both_same h k = (h.0 ∙ sym k.0, h.1 ∙ sym k.1)
 
-one_quiet : (reason : Reason) → One (IsQuiet reason)
-one_quiet reason x u y v h k = both_same h k
+-- an outcome but for its options
+abbrev bare : Outcome → Outcome
+bare (planned kind a options) = planned kind a []
+bare (quiet reason) = quiet reason
 
-one_in_subnet : (o : Option Subnet) (Rule : Subnet → Option Row → Planned → Type 0) → ((s : Subnet) → One (Rule s)) → One (InSubnet o Rule)
-one_in_subnet None Rule one x u y v h k = both_same h k
+-- at most one row stands in a relation, and one outcome but for its options
+abbrev OneBare : (Option Row → Outcome → Type 0) → Type 0
+OneBare R = (x u : Option Row) (y v : Outcome) → R x y → R u v → (x ≡ u) × (bare y ≡ bare v)
+
+both_bare : {x u z : Option Row} {y v w : Outcome} → (x ≡ z) × (y ≡ w) → (u ≡ z) × (v ≡ w) → (x ≡ u) × (bare y ≡ bare v)
+both_bare h k = (h.0 ∙ sym k.0, ap bare (h.1 ∙ sym k.1))
+
+one_quiet : (reason : Reason) → OneBare (IsQuiet reason)
+one_quiet reason x u y v h k = both_bare h k
+
+one_in_subnet : (o : Option Subnet) (Rule : Subnet → Option Row → Outcome → Type 0) → ((s : Subnet) → OneBare (Rule s)) → OneBare (InSubnet o Rule)
+one_in_subnet None Rule one x u y v h k = both_bare h k
 one_in_subnet (Some s) Rule one x u y v h k = one s x u y v h k
 
-one_with_asked : (o : Option ℕ) (Rule : ℕ → Option Row → Planned → Type 0) → ((a : ℕ) → One (Rule a)) → One (WithAsked o Rule)
-one_with_asked None Rule one x u y v h k = both_same h k
+one_with_asked : (o : Option ℕ) (Rule : ℕ → Option Row → Outcome → Type 0) → ((a : ℕ) → OneBare (Rule a)) → OneBare (WithAsked o Rule)
+one_with_asked None Rule one x u y v h k = both_bare h k
 one_with_asked (Some a) Rule one x u y v h k = one a x u y v h k
 
-one_with_ciaddr : (b : Bool) (Rule : Option Row → Planned → Type 0) → One Rule → One (WithCiaddr b Rule)
-one_with_ciaddr true Rule one x u y v h k = both_same h k
+one_with_ciaddr : (b : Bool) (Rule : Option Row → Outcome → Type 0) → OneBare Rule → OneBare (WithCiaddr b Rule)
+one_with_ciaddr true Rule one x u y v h k = both_bare h k
 one_with_ciaddr false Rule one x u y v h k = one x u y v h k
 
-one_unless_other : (b : Bool) (Rule : Option Row → Planned → Type 0) → One Rule → One (UnlessOther b Rule)
-one_unless_other true Rule one x u y v h k = both_same h k
+one_unless_other : (b : Bool) (Rule : Option Row → Outcome → Type 0) → OneBare Rule → OneBare (UnlessOther b Rule)
+one_unless_other true Rule one x u y v h k = both_bare h k
 one_unless_other false Rule one x u y v h k = one x u y v h k
 
-one_gives_up : (b : Bool) (row : Row) (done : Reason) → One (GivesUpLease b row done)
-one_gives_up true row done x u y v h k = both_same h k
-one_gives_up false row done x u y v h k = both_same h k
+one_gives_up : (b : Bool) (row : Row) (done : Reason) → OneBare (GivesUpLease b row done)
+one_gives_up true row done x u y v h k = both_bare h k
+one_gives_up false row done x u y v h k = both_bare h k
 
 -- two addresses of which none is newer are one
 one_newer : (rows : List Row) (a b : ℕ) → set_later rows a b ≡ false → set_later rows b a ≡ false → a ≡ b
@@ -112,54 +125,54 @@ one_choice q s a b c d =
     one_first q s d.rank a b (subst (λ (r : Rank). IsFirstOf q s r a) same c.first) d.first
 
 -- what a DISCOVER comes to
-record IsOffer (q : Asking) (s : Subnet) (set : Option Row) (plan : Planned) : Type 0 where
+record IsOffer (q : Asking) (s : Subnet) (set : Option Row) (plan : Outcome) : Type 0 where
   a : ℕ
-  is : plan ≡ plans.Offer a
+  is : bare plan ≡ planned kinds.Offer a []
   choice : Choice q s a
   row : set ≡ row_of_offer q a
 
-record IsNoOffer (q : Asking) (s : Subnet) (set : Option Row) (plan : Planned) : Type 0 where
+record IsNoOffer (q : Asking) (s : Subnet) (set : Option Row) (plan : Outcome) : Type 0 where
   is : IsQuiet reasons.NoAddress set plan
   none : NoChoice q s
 
-discovers : (q : Asking) (s : Subnet) (set : Option Row) (plan : Planned) → OnDiscover q s set plan → IsOffer q s set plan ⊎ IsNoOffer q s set plan
-discovers q s set (plans.Offer a) h = inl (record { a = a; is = refl; choice = h.0; row = h.1 })
-discovers q s set (plans.Ack a) h = absurd h
-discovers q s set plans.Nak h = absurd h
-discovers q s set plans.Inform h = absurd h
-discovers q s set (plans.Quiet reason) h = inr (record { is = (h.1, ap plans.Quiet h.2); none = h.0 })
+discovers : (q : Asking) (s : Subnet) (set : Option Row) (plan : Outcome) → OnDiscover q s set plan → IsOffer q s set plan ⊎ IsNoOffer q s set plan
+discovers q s set (planned kinds.Offer a options) h = inl (record { a = a; is = refl; choice = h.0; row = h.1 })
+discovers q s set (planned kinds.Ack a options) h = absurd h
+discovers q s set (planned kinds.Nak a options) h = absurd h
+discovers q s set (planned kinds.InformAck a options) h = absurd h
+discovers q s set (quiet reason) h = inr (record { is = (h.1, ap quiet h.2); none = h.0 })
 
-one_discover : (q : Asking) (s : Subnet) → One (OnDiscover q s)
+one_discover : (q : Asking) (s : Subnet) → OneBare (OnDiscover q s)
 one_discover q s x u y v h k = by (discovers q s x y h) (discovers q s u v k) where
   no_both : (a : ℕ) → Choice q s a → NoChoice q s → ⊥
   no_both a c none = false≢true (sym (none c.rank a) ∙ c.first.ranked)
 
-  by : IsOffer q s x y ⊎ IsNoOffer q s x y → IsOffer q s u v ⊎ IsNoOffer q s u v → (x ≡ u) × (y ≡ v)
+  by : IsOffer q s x y ⊎ IsNoOffer q s x y → IsOffer q s u v ⊎ IsNoOffer q s u v → (x ≡ u) × (bare y ≡ bare v)
   by (inl f) (inl g) =
       let same : f.a ≡ g.a = one_choice q s f.a g.a f.choice g.choice in
-      (f.row ∙ ap (row_of_offer q) same ∙ sym g.row, f.is ∙ ap plans.Offer same ∙ sym g.is)
+      (f.row ∙ ap (row_of_offer q) same ∙ sym g.row, f.is ∙ ap (λ (n : ℕ). planned kinds.Offer n []) same ∙ sym g.is)
   by (inl f) (inr g) = absurd (no_both f.a f.choice g.none)
   by (inr f) (inl g) = absurd (no_both g.a g.choice f.none)
-  by (inr f) (inr g) = both_same f.is g.is
+  by (inr f) (inr g) = both_bare f.is g.is
 
 -- what a REQUEST to this server comes to
-abbrev IsAckOf : Asking → ℕ → Option Row → Planned → Type 0
-IsAckOf q a set plan = (set ≡ Some (leased_row q a)) × (plan ≡ plans.Ack a)
+abbrev IsAckOf : Asking → ℕ → Option Row → Outcome → Type 0
+IsAckOf q a set plan = (set ≡ Some (leased_row q a)) × (bare plan ≡ planned kinds.Ack a [])
 
-abbrev IsNakOf : Option Row → Planned → Type 0
-IsNakOf set plan = (set ≡ None) × (plan ≡ plans.Nak)
+abbrev IsNakOf : Option Row → Outcome → Type 0
+IsNakOf set plan = (set ≡ None) × (bare plan ≡ planned kinds.Nak 0 [])
 
-selects : (q : Asking) (s : Subnet) (a : ℕ) (set : Option Row) (plan : Planned) → OnSelect q s a set plan
+selects : (q : Asking) (s : Subnet) (a : ℕ) (set : Option Row) (plan : Outcome) → OnSelect q s a set plan
     → (IsAckOf q a set plan × (usable q s a ≡ true)) ⊎ (IsNakOf set plan × (usable q s a ≡ false))
-selects q s a set (plans.Offer b) h = absurd h
-selects q s a set (plans.Ack b) h = inl ((h.2 ∙ ap (λ (x : ℕ). Some (leased_row q x)) h.0, ap plans.Ack h.0), ap (usable q s) (sym h.0) ∙ h.1)
-selects q s a set plans.Nak h = inr ((h.1, refl), h.0)
-selects q s a set plans.Inform h = absurd h
-selects q s a set (plans.Quiet reason) h = absurd h
+selects q s a set (planned kinds.Offer b options) h = absurd h
+selects q s a set (planned kinds.Ack b options) h = inl ((h.2 ∙ ap (λ (x : ℕ). Some (leased_row q x)) h.0, ap (λ (n : ℕ). planned kinds.Ack n []) h.0), ap (usable q s) (sym h.0) ∙ h.1)
+selects q s a set (planned kinds.Nak b options) h = inr ((h.2, ap (λ (n : ℕ). planned kinds.Nak n []) h.0), h.1)
+selects q s a set (planned kinds.InformAck b options) h = absurd h
+selects q s a set (quiet reason) h = absurd h
 
-one_select : (q : Asking) (s : Subnet) (a : ℕ) → One (OnSelect q s a)
+one_select : (q : Asking) (s : Subnet) (a : ℕ) → OneBare (OnSelect q s a)
 one_select q s a x u y v h k = by (selects q s a x y h) (selects q s a u v k) where
-  by : (IsAckOf q a x y × (usable q s a ≡ true)) ⊎ (IsNakOf x y × (usable q s a ≡ false)) → (IsAckOf q a u v × (usable q s a ≡ true)) ⊎ (IsNakOf u v × (usable q s a ≡ false)) → (x ≡ u) × (y ≡ v)
+  by : (IsAckOf q a x y × (usable q s a ≡ true)) ⊎ (IsNakOf x y × (usable q s a ≡ false)) → (IsAckOf q a u v × (usable q s a ≡ true)) ⊎ (IsNakOf u v × (usable q s a ≡ false)) → (x ≡ u) × (bare y ≡ bare v)
   by (inl f) (inl g) = both_same f.0 g.0
   by (inl f) (inr g) = absurd (false≢true (sym g.1 ∙ f.1))
   by (inr f) (inl g) = absurd (false≢true (sym f.1 ∙ g.1))
@@ -172,43 +185,43 @@ one_newest rows such None (Some b) f g = absurd (false≢true (sym (f b) ∙ g.0
 one_newest rows such (Some a) None f g = absurd (false≢true (sym (g a) ∙ f.0))
 one_newest rows such (Some a) (Some b) f g = ap Some (one_newer rows a b (g.1 a f.0) (f.1 b g.0))
 
-one_other : (q : Asking) → One (OnOther q)
+one_other : (q : Asking) → OneBare (OnOther q)
 one_other q x u y v h k =
     let same : h.0.0 ≡ k.0.0 = one_newest q.rows (offered_to q) h.0.0 k.0.0 h.0.1 k.0.1 in
-    (h.0.2 ∙ ap (option_map (released_row q)) same ∙ sym k.0.2, h.1 ∙ sym k.1)
+    (h.0.2 ∙ ap (option_map (released_row q)) same ∙ sym k.0.2, ap bare (h.1 ∙ sym k.1))
 
 -- what a REQUEST that names no server comes to
-record IsRenewal (q : Asking) (s : Subnet) (a : ℕ) (set : Option Row) (plan : Planned) : Type 0 where
+record IsRenewal (q : Asking) (s : Subnet) (a : ℕ) (set : Option Row) (plan : Outcome) : Type 0 where
   is : IsAckOf q a set plan
   inside : has_address s.prefix a ≡ true
   may : renewable q s a ≡ true
 
-record IsRefused (q : Asking) (s : Subnet) (a : ℕ) (set : Option Row) (plan : Planned) : Type 0 where
+record IsRefused (q : Asking) (s : Subnet) (a : ℕ) (set : Option Row) (plan : Outcome) : Type 0 where
   is : IsNakOf set plan
   why : IsRenewalRefused q s a
 
-record IsUnknown (q : Asking) (s : Subnet) (a : ℕ) (set : Option Row) (plan : Planned) : Type 0 where
+record IsUnknown (q : Asking) (s : Subnet) (a : ℕ) (set : Option Row) (plan : Outcome) : Type 0 where
   is : IsQuiet reasons.NoRecord set plan
   inside : has_address s.prefix a ≡ true
   none : (b : ℕ) → is_record q s b ≡ false
 
-abbrev Renewing : Asking → Subnet → ℕ → Option Row → Planned → Type 0
+abbrev Renewing : Asking → Subnet → ℕ → Option Row → Outcome → Type 0
 Renewing q s a set plan = IsRenewal q s a set plan ⊎ (IsRefused q s a set plan ⊎ IsUnknown q s a set plan)
 
-renews : (q : Asking) (s : Subnet) (a : ℕ) (set : Option Row) (plan : Planned) → OnRenew q s a set plan → Renewing q s a set plan
-renews q s a set (plans.Offer b) h = absurd h
-renews q s a set (plans.Ack b) h = inl (record {
-  is = (h.3 ∙ ap (λ (x : ℕ). Some (leased_row q x)) h.0, ap plans.Ack h.0);
+renews : (q : Asking) (s : Subnet) (a : ℕ) (set : Option Row) (plan : Outcome) → OnRenew q s a set plan → Renewing q s a set plan
+renews q s a set (planned kinds.Offer b options) h = absurd h
+renews q s a set (planned kinds.Ack b options) h = inl (record {
+  is = (h.3 ∙ ap (λ (x : ℕ). Some (leased_row q x)) h.0, ap (λ (n : ℕ). planned kinds.Ack n []) h.0);
   inside = ap (has_address s.prefix) (sym h.0) ∙ h.1;
   may = ap (renewable q s) (sym h.0) ∙ h.2;
 })
-renews q s a set plans.Nak h = inr (inl (record { is = (h.1, refl); why = h.0 }))
-renews q s a set plans.Inform h = absurd h
-renews q s a set (plans.Quiet reason) h = inr (inr (record { is = (h.2, ap plans.Quiet h.3); inside = h.0; none = h.1 }))
+renews q s a set (planned kinds.Nak b options) h = inr (inl (record { is = (h.2, ap (λ (n : ℕ). planned kinds.Nak n []) h.0); why = h.1 }))
+renews q s a set (planned kinds.InformAck b options) h = absurd h
+renews q s a set (quiet reason) h = inr (inr (record { is = (h.2, ap quiet h.3); inside = h.0; none = h.1 }))
 
-one_renew : (q : Asking) (s : Subnet) (a : ℕ) → One (OnRenew q s a)
+one_renew : (q : Asking) (s : Subnet) (a : ℕ) → OneBare (OnRenew q s a)
 one_renew q s a x u y v h k = by (renews q s a x y h) (renews q s a u v k) where
-  refused_not : (set : Option Row) (plan : Planned) → has_address s.prefix a ≡ true → renewable q s a ≡ true → IsRenewalRefused q s a → ⊥
+  refused_not : (set : Option Row) (plan : Outcome) → has_address s.prefix a ≡ true → renewable q s a ≡ true → IsRenewalRefused q s a → ⊥
   refused_not set plan inside may (inl out) = false≢true (sym out ∙ inside)
   refused_not set plan inside may (inr h) = false≢true (sym h.1 ∙ may)
 
@@ -219,7 +232,7 @@ one_renew q s a x u y v h k = by (renews q s a x y h) (renews q s a u v k) where
   unknown_not inside (inl out) none = false≢true (sym out ∙ inside)
   unknown_not inside (inr h) none = false≢true (sym (none h.0.0) ∙ h.0.1)
 
-  by : Renewing q s a x y → Renewing q s a u v → (x ≡ u) × (y ≡ v)
+  by : Renewing q s a x y → Renewing q s a u v → (x ≡ u) × (bare y ≡ bare v)
   by (inl f) (inl g) = both_same f.is g.is
   by (inl f) (inr (inl g)) = absurd (refused_not u v f.inside f.may g.why)
   by (inl f) (inr (inr g)) = absurd (false≢true (sym (g.none a) ∙ known f.may f.inside))
@@ -228,37 +241,48 @@ one_renew q s a x u y v h k = by (renews q s a x y h) (renews q s a u v k) where
   by (inr (inl f)) (inr (inr g)) = absurd (unknown_not g.inside f.why g.none)
   by (inr (inr f)) (inl g) = absurd (false≢true (sym (f.none a) ∙ known g.may g.inside))
   by (inr (inr f)) (inr (inl g)) = absurd (unknown_not f.inside g.why f.none)
-  by (inr (inr f)) (inr (inr g)) = both_same f.is g.is
+  by (inr (inr f)) (inr (inr g)) = both_bare f.is g.is
 
-one_named : (q : Asking) (b : Bool) → One (OnNamed q b)
+-- what an INFORM comes to
+informs : (s : Subnet) (set : Option Row) (plan : Outcome) → Informs s set plan → (set ≡ None) × (bare plan ≡ planned kinds.InformAck 0 [])
+informs s set (planned kinds.Offer a options) h = absurd h
+informs s set (planned kinds.Ack a options) h = absurd h
+informs s set (planned kinds.InformAck a options) h = (h.1, ap (λ (n : ℕ). planned kinds.InformAck n []) h.0)
+informs s set (planned kinds.Nak a options) h = absurd h
+informs s set (quiet reason) h = absurd h
+
+one_informs : (s : Subnet) → OneBare (Informs s)
+one_informs s x u y v h k = both_same (informs s x y h) (informs s u v k)
+
+one_named : (q : Asking) (b : Bool) → OneBare (OnNamed q b)
 one_named q true x u y v h k =
     one_with_asked (requested_address q.message) (λ a. InSubnet (serving_subnet q) (λ s. OnSelect q s a))
     (λ a. one_in_subnet (serving_subnet q) (λ s. OnSelect q s a) (λ s. one_select q s a)) x u y v h k
 one_named q false x u y v h k = one_other q x u y v h k
 
-one_request : (q : Asking) (server : Option ℕ) → One (OnRequest q server)
+one_request : (q : Asking) (server : Option ℕ) → OneBare (OnRequest q server)
 one_request q None x u y v h k =
     one_with_asked (renewed_address q.message) (λ a. InSubnet (serving_subnet q) (λ s. OnRenew q s a))
     (λ a. one_in_subnet (serving_subnet q) (λ s. OnRenew q s a) (λ s. one_renew q s a)) x u y v h k
 one_request q (Some server) x u y v h k = one_named q _ x u y v h k
 
 -- what a message of a type does is one
-one_sets : (q : Asking) (type : MessageType) → One (Sets q type)
+one_sets : (q : Asking) (type : MessageType) → OneBare (Sets q type)
 one_sets q types.Discover x u y v h k = one_in_subnet (serving_subnet q) (OnDiscover q) (one_discover q) x u y v h k
-one_sets q types.Offer x u y v h k = both_same h k
+one_sets q types.Offer x u y v h k = both_bare h k
 one_sets q types.Request x u y v h k = one_request q (named_server q.message) x u y v h k
 one_sets q types.Decline x u y v h k =
     one_unless_other (other_server q.config.server (named_server q.message)) (WithAsked (requested_address q.message) (λ a. GivesUpLease (held_at q a) (declined_row q a) reasons.Declined))
     (one_with_asked (requested_address q.message) (λ a. GivesUpLease (held_at q a) (declined_row q a) reasons.Declined) (λ a. one_gives_up (held_at q a) (declined_row q a) reasons.Declined)) x u y v h k
-one_sets q types.Ack x u y v h k = both_same h k
-one_sets q types.Nak x u y v h k = both_same h k
+one_sets q types.Ack x u y v h k = both_bare h k
+one_sets q types.Nak x u y v h k = both_bare h k
 one_sets q types.Release x u y v h k =
     let a = q.message.header.ciaddr in
     one_unless_other (other_server q.config.server (named_server q.message)) (WithCiaddr (a == 0) (GivesUpLease (held_at q a) (released_row q a) reasons.Released))
     (one_with_ciaddr (a == 0) (GivesUpLease (held_at q a) (released_row q a) reasons.Released) (one_gives_up (held_at q a) (released_row q a) reasons.Released)) x u y v h k
 one_sets q types.Inform x u y v h k =
     one_with_ciaddr (q.message.header.ciaddr == 0) (InSubnet (serving_subnet q) Informs)
-    (one_in_subnet (serving_subnet q) Informs (λ s a b c d f g. both_same f g)) x u y v h k
+    (one_in_subnet (serving_subnet q) Informs one_informs) x u y v h k
 
 -- the type with a number
 type_at : ℕ → MessageType
@@ -284,7 +308,7 @@ type_of_number types.Release = refl
 type_of_number types.Inform = refl
 
 -- so is what a message does
-one_does : (q : Asking) → One (Does q)
+one_does : (q : Asking) → OneBare (Does q)
 one_does q x u y v h k =
     let same : h.type ≡ k.type = sym (type_of_number h.type) ∙ ap type_at (h.is ∙ sym k.is) ∙ type_of_number k.type in
     one_sets q k.type x u y v (subst (λ (type : MessageType). Sets q type x y) same h.sets) k.sets
@@ -293,13 +317,23 @@ one_where_fits : (b : Bool) (row : Option Row) (outcome : Outcome) → One (Wher
 one_where_fits true row outcome x u y v h k = both_same h k
 one_where_fits false row outcome x u y v h k = both_same h k
 
+-- an outcome with the options of a question
+abbrev with_options : Asking → Outcome → Outcome
+with_options q (planned kind a options) = planned kind a (reply_options q kind a)
+with_options q (quiet reason) = quiet reason
+
+whole : (q : Asking) (outcome : Outcome) → HasOptions q outcome → outcome ≡ with_options q (bare outcome)
+whole q (planned kind a options) h = ap (planned kind a) h
+whole q (quiet reason) h = refl
+
 one_answers : (q : Asking) → One (AnswersTo q)
 one_answers q x u y v h k =
-    let same = one_does q h.row k.row h.plan k.plan h.does k.does in
-    let at : WhereFits (fits_in (reply_room q.message) (outcome_for q k.plan)) k.row (outcome_for q k.plan) x y =
-    subst (λ (row : Option Row). WhereFits (fits_in (reply_room q.message) (outcome_for q k.plan)) row (outcome_for q k.plan) x y) same.0
-    (subst (λ (plan : Planned). WhereFits (fits_in (reply_room q.message) (outcome_for q plan)) h.row (outcome_for q plan) x y) same.1 h.replies) in
-    one_where_fits (fits_in (reply_room q.message) (outcome_for q k.plan)) k.row (outcome_for q k.plan) x u y v at k.replies
+    let same = one_does q h.row k.row h.outcome k.outcome h.does k.does in
+    let outcomes : h.outcome ≡ k.outcome = whole q h.outcome h.options ∙ ap (with_options q) same.1 ∙ sym (whole q k.outcome k.options) in
+    let at : WhereFits (fits_in (reply_room q.message) k.outcome) k.row k.outcome x y =
+    subst (λ (row : Option Row). WhereFits (fits_in (reply_room q.message) k.outcome) row k.outcome x y) same.0
+    (subst (λ (outcome : Outcome). WhereFits (fits_in (reply_room q.message) outcome) h.row outcome x y) outcomes h.replies) in
+    one_where_fits (fits_in (reply_room q.message) k.outcome) k.row k.outcome x u y v at k.replies
 
 one_unless : (b : Bool) (reason : Reason) (Done : Option Row → Outcome → Type 0) → One Done → One (Unless b reason Done)
 one_unless true reason Done one x u y v h k = both_same h k

@@ -17,22 +17,11 @@ use Rattle.kd_lease.specs.Plan.Outcome.{planned, quiet}
 use Rattle.kd_lease.specs.ReplyOf.{within_room}
 use Rattle.kd_lease.specs.ReplyOptions.{reply_options}
 use Rattle.kd_lease.specs.Rules.{Does}
-use Rattle.kd_lease.specs.declared.plan.PlanKind.{PlanKind}
-use Rattle.kd_lease.specs.declared.plan.PlanKind.TheVariants as kinds
-use Rattle.kd_lease.specs.declared.planned.Planned.{Planned}
-use Rattle.kd_lease.specs.declared.planned.Planned.TheVariants as plans
 
--- a reply of a kind, with the address that it gives or zero, and its options
-abbrev pub reply_in : Asking → PlanKind → ℕ → Outcome
-reply_in q kind yiaddr = planned kind yiaddr (reply_options q kind yiaddr)
-
--- what a message gets for what is planned
-abbrev pub outcome_for : Asking → Planned → Outcome
-outcome_for q (plans.Offer a) = reply_in q kinds.Offer a
-outcome_for q (plans.Ack a) = reply_in q kinds.Ack a
-outcome_for q plans.Nak = reply_in q kinds.Nak 0
-outcome_for q plans.Inform = reply_in q kinds.InformAck 0
-outcome_for q (plans.Quiet reason) = quiet reason
+-- a reply has its options, where there is one
+abbrev pub HasOptions : Asking → Outcome → Type 0
+HasOptions q (planned kind yiaddr options) = options ≡ reply_options q kind yiaddr
+HasOptions q (quiet reason) = Unit {0}
 
 -- the obligatory options fit, where there is a reply
 abbrev pub fits_in : ℕ → Outcome → Bool
@@ -47,10 +36,10 @@ WhereFits false row outcome set got = (set ≡ None) × (got ≡ quiet reasons.R
 -- what a message does by its rule, and gets
 pub record AnswersTo (q : Asking) (set : Option Row) (got : Outcome) : Type 0 where
   pub row : Option Row
-  pub plan : Planned
-  pub does : Does q row plan
-  pub replies : WhereFits (fits_in (reply_room q.message) (outcome_for q plan)) row
-      (outcome_for q plan) set got
+  pub outcome : Outcome
+  pub does : Does q row outcome
+  pub options : HasOptions q outcome
+  pub replies : WhereFits (fits_in (reply_room q.message) outcome) row outcome set got
 
 -- nothing is done and there is no answer, for this reason, where it applies
 abbrev pub Unless : Bool → Reason → (Option Row → Outcome → Type 0) → Option Row → Outcome → Type 0

@@ -1,20 +1,31 @@
 -- What the rules answer for a message over a table, as the code holds it.
-use Rattle.std.specs.Prelude.{◌≡◌, map}
+use Rattle.std.specs.Prelude.{◌≡◌, ℕ, Result, Ok, Err, map}
+use Rattle.kd_event.specs.declared.reason.Reason.{Reason}
 use Rattle.kd_options.specs.Message.{Seen}
 use Rattle.kd_options.specs.Reply.{ItemsFit}
+use Rattle.kd_lease.specs.Choice.{Asking}
 use Rattle.kd_lease.specs.Client.{reply_room}
 use Rattle.kd_lease.specs.Plan.{Outcome, option_of_item}
 use Rattle.kd_lease.specs.Plan.Outcome.{planned, quiet}
 use Rattle.kd_lease.specs.ReplyOf.{header_of_reply}
-use Rattle.kd_lease.specs.declared.plan.Answer.{Answer}
-use Rattle.kd_lease.specs.declared.plan.Answer.TheVariants as answers
+use Rattle.kd_lease.specs.ReplyOptions.{reply_options}
+use Rattle.kd_lease.specs.declared.plan.Outline.{Outline}
 use Rattle.kd_lease.specs.declared.plan.Plan.{Plan}
+use Rattle.kd_lease.specs.declared.plan.PlanKind.{PlanKind}
 
--- what a message gets by an answer: the kind of its reply, its address and its options, or the
--- reason
-abbrev pub outcome_in : Answer → Outcome
-outcome_in (answers.Plan plan) = planned plan.kind plan.yiaddr (map option_of_item plan.reply.items)
-outcome_in (answers.Quiet reason) = quiet reason
+-- a reply of a kind, with the address that it gives or zero, and its options
+abbrev pub reply_in : Asking → PlanKind → ℕ → Outcome
+reply_in q kind yiaddr = planned kind yiaddr (reply_options q kind yiaddr)
+
+-- what a message gets by the outline of its reply, whose options follow from it; or the reason
+abbrev pub outcome_for : Asking → Result Outline Reason → Outcome
+outcome_for q (Ok outline) = reply_in q outline.kind outline.yiaddr
+outcome_for q (Err reason) = quiet reason
+
+-- what a message gets by a plan: the kind of its reply, its address and its options; or the reason
+abbrev pub outcome_in : Result Plan Reason → Outcome
+outcome_in (Ok plan) = planned plan.kind plan.yiaddr (map option_of_item plan.reply.items)
+outcome_in (Err reason) = quiet reason
 
 -- a plan of a reply to a message: its header and its room are that message's, and its obligatory
 -- options fit
@@ -24,6 +35,6 @@ pub record IsReplyTo (m : Seen) (plan : Plan) : Type 0 where
   pub fits : ItemsFit plan.room plan.reply.items
 
 -- an answer to a message
-abbrev pub IsAnswerTo : Seen → Answer → Type 0
-IsAnswerTo m (answers.Plan plan) = IsReplyTo m plan
-IsAnswerTo m (answers.Quiet reason) = Unit {0}
+abbrev pub IsAnswerTo : Seen → Result Plan Reason → Type 0
+IsAnswerTo m (Ok plan) = IsReplyTo m plan
+IsAnswerTo m (Err reason) = Unit {0}

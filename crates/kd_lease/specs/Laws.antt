@@ -8,21 +8,22 @@ use Rattle.kd_rows.specs.Table.{belongs_to, row_at}
 use Rattle.kd_rows.specs.declared.row.Row.{Row}
 use Rattle.kd_lease.specs.Change.{Changes, Decides}
 use Rattle.kd_lease.specs.Choice.{Asking, Rank, has_rank, live_row, usable}
-use Rattle.kd_lease.specs.Plan.{Outcome}
+use Rattle.kd_lease.specs.Plan.{Outcome, ReplyOption}
+use Rattle.kd_lease.specs.Plan.Outcome.{planned}
 use Rattle.kd_lease.specs.Rules.{Sets, renewable}
-use Rattle.kd_lease.specs.declared.planned.Planned.{Planned}
-use Rattle.kd_lease.specs.declared.planned.Planned.TheVariants as plans
+use Rattle.kd_lease.specs.declared.plan.PlanKind.TheVariants as kinds
 
 -- a row that is set was changed now
 abbrev pub SetsNow : Type 0
 SetsNow =
-    (q : Asking) (type : MessageType) (row : Row) (planned : Planned)
-    → Sets q type (Some row) planned → row.changed ≡ q.now
+    (q : Asking) (type : MessageType) (row : Row) (outcome : Outcome)
+    → Sets q type (Some row) outcome → row.changed ≡ q.now
 
 -- a NAK sets no row
 abbrev pub NakSetsNone : Type 0
 NakSetsNone =
-    (q : Asking) (type : MessageType) (set : Option Row) → Sets q type set plans.Nak → set ≡ None
+    (q : Asking) (type : MessageType) (set : Option Row) (a : ℕ) (options : List ReplyOption)
+    → Sets q type set (planned kinds.Nak a options) → set ≡ None
 
 -- a row of another client that has not ended, whatever its state
 pub record IsAnothers (q : Asking) (a : ℕ) (row : Row) : Type 0 where
@@ -45,8 +46,10 @@ HeldIsNotUsable =
 -- and it is neither offered nor leased
 abbrev pub HeldIsNotGiven : Type 0
 HeldIsNotGiven =
-    (q : Asking) (type : MessageType) (set : Option Row) (a : ℕ) (row : Row) → IsAnothers q a row
-    → Sets q type set (plans.Offer a) ⊎ Sets q type set (plans.Ack a) → ⊥
+    (q : Asking) (type : MessageType) (set : Option Row) (a : ℕ) (options : List ReplyOption)
+    (row : Row) → IsAnothers q a row
+    → Sets q type set (planned kinds.Offer a options)
+    ⊎ Sets q type set (planned kinds.Ack a options) → ⊥
 
 -- a message whose classes have these names, at a moment and over a table, sets one row, or none, and
 -- gets one thing

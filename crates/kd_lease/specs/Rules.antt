@@ -1,6 +1,7 @@
 -- What each message of a client does (RFC 2131 section 4.3): which row of the table is set, or
--- none, and what is planned for it. The rows, their states and the times for which an offer and a
--- declined address are held are ours.
+-- none, and what the message gets: the kind of its reply and the address that this gives, or the
+-- reason for which there is none. What options a reply has is not said here. The rows, their states
+-- and the times for which an offer and a declined address are held are ours.
 use Rattle.std.specs.Prelude.{◌≡◌, ℕ, ◌+◌, Bool, true, false, not, ◌&&◌, ◌==◌, ◌⊎◌, List, [], Option, Some, None, option_map, if◌then◌else◌}
 use Rattle.kd_config.specs.Address.{has_address}
 use Rattle.kd_config.specs.declared.subnet.Subnet.{Subnet}
@@ -18,10 +19,11 @@ use Rattle.kd_rows.specs.declared.row.State.{State}
 use Rattle.kd_rows.specs.declared.row.State.TheVariants as states
 use Rattle.kd_lease.specs.Choice.{Asking, Choice, NoChoice, address_of_value, fitting_for, has_such, held_row, live_row, set_later, usable, requested_address}
 use Rattle.kd_lease.specs.Client.{kind_of}
+use Rattle.kd_lease.specs.Plan.{Outcome}
+use Rattle.kd_lease.specs.Plan.Outcome.{planned, quiet}
 use Rattle.kd_lease.specs.SubnetOf.{subnet_serving}
+use Rattle.kd_lease.specs.declared.plan.PlanKind.TheVariants as kinds
 use Rattle.kd_lease.specs.declared.question.Question.{Question}
-use Rattle.kd_lease.specs.declared.planned.Planned.{Planned}
-use Rattle.kd_lease.specs.declared.planned.Planned.TheVariants as plans
 
 -- what a question asks
 abbrev pub asking : Question → Asking
@@ -107,53 +109,54 @@ IsNewest rows such (Some a) =
     (such a ≡ true) × ((b : ℕ) → such b ≡ true → set_later rows b a ≡ false)
 
 -- no row is set, and there is no answer, for this reason
-abbrev pub IsQuiet : Reason → Option Row → Planned → Type 0
-IsQuiet reason set planned = (set ≡ None) × (planned ≡ plans.Quiet reason)
+abbrev pub IsQuiet : Reason → Option Row → Outcome → Type 0
+IsQuiet reason set outcome = (set ≡ None) × (outcome ≡ quiet reason)
 
 -- the subnet that serves the message
 abbrev pub serving_subnet : Asking → Option Subnet
 serving_subnet q = subnet_serving q.config q.names q.message.header
 
 -- what is done in a subnet; nothing where there is none
-abbrev pub InSubnet : Option Subnet → (Subnet → Option Row → Planned → Type 0) → Option Row
-    → Planned → Type 0
-InSubnet None Does set planned = IsQuiet reasons.NoSubnet set planned
-InSubnet (Some s) Does set planned = Does s set planned
+abbrev pub InSubnet : Option Subnet → (Subnet → Option Row → Outcome → Type 0) → Option Row
+    → Outcome → Type 0
+InSubnet None Does set outcome = IsQuiet reasons.NoSubnet set outcome
+InSubnet (Some s) Does set outcome = Does s set outcome
 
 -- what is done with the address that is asked for; nothing where there is none
-abbrev pub WithAsked : Option ℕ → (ℕ → Option Row → Planned → Type 0) → Option Row → Planned
+abbrev pub WithAsked : Option ℕ → (ℕ → Option Row → Outcome → Type 0) → Option Row → Outcome
     → Type 0
-WithAsked None Does set planned = IsQuiet reasons.NoRequested set planned
-WithAsked (Some a) Does set planned = Does a set planned
+WithAsked None Does set outcome = IsQuiet reasons.NoRequested set outcome
+WithAsked (Some a) Does set outcome = Does a set outcome
 
 -- what is done where the client says its address; nothing where that is zero
-abbrev pub WithCiaddr : Bool → (Option Row → Planned → Type 0) → Option Row → Planned → Type 0
-WithCiaddr true Does set planned = IsQuiet reasons.NoCiaddr set planned
-WithCiaddr false Does set planned = Does set planned
+abbrev pub WithCiaddr : Bool → (Option Row → Outcome → Type 0) → Option Row → Outcome → Type 0
+WithCiaddr true Does set outcome = IsQuiet reasons.NoCiaddr set outcome
+WithCiaddr false Does set outcome = Does set outcome
 
 -- the row that an offer sets: none where the client leases the address
 abbrev pub row_of_offer : Asking → ℕ → Option Row
 row_of_offer q a = if leased_to q a then None else Some (offered_row q a)
 
 -- a DISCOVER in its subnet (section 4.3.1): an offer of the address for the client
-abbrev pub OnDiscover : Asking → Subnet → Option Row → Planned → Type 0
-OnDiscover q s set (plans.Offer a) = Choice q s a × (set ≡ row_of_offer q a)
-OnDiscover q s set (plans.Quiet reason) = NoChoice q s × (set ≡ None) × (reason ≡ reasons.NoAddress)
+abbrev pub OnDiscover : Asking → Subnet → Option Row → Outcome → Type 0
+OnDiscover q s set (planned kinds.Offer a options) = Choice q s a × (set ≡ row_of_offer q a)
+OnDiscover q s set (quiet reason) = NoChoice q s × (set ≡ None) × (reason ≡ reasons.NoAddress)
 OnDiscover q s set other = ⊥
 
 -- a REQUEST to this server for an address (section 4.3.2, SELECTING): it is leased where the client
 -- may be given it
-abbrev pub OnSelect : Asking → Subnet → ℕ → Option Row → Planned → Type 0
-OnSelect q s asked set (plans.Ack a) =
+abbrev pub OnSelect : Asking → Subnet → ℕ → Option Row → Outcome → Type 0
+OnSelect q s asked set (planned kinds.Ack a options) =
     (a ≡ asked) × (usable q s a ≡ true) × (set ≡ Some (leased_row q a))
-OnSelect q s asked set plans.Nak = (usable q s asked ≡ false) × (set ≡ None)
+OnSelect q s asked set (planned kinds.Nak a options) =
+    (a ≡ 0) × (usable q s asked ≡ false) × (set ≡ None)
 OnSelect q s asked set other = ⊥
 
 -- a REQUEST to another server: the newest offer to the client, where there is one, is given back
-abbrev pub OnOther : Asking → Option Row → Planned → Type 0
-OnOther q set planned =
+abbrev pub OnOther : Asking → Option Row → Outcome → Type 0
+OnOther q set outcome =
     ((offer : Option ℕ) × IsNewest q.rows (offered_to q) offer
-    × (set ≡ option_map (released_row q) offer)) × (planned ≡ plans.Quiet reasons.OtherServer)
+    × (set ≡ option_map (released_row q) offer)) × (outcome ≡ quiet reasons.OtherServer)
 
 -- why a REQUEST that names no server is refused: the address is outside the subnet's prefix; or the
 -- client has a row there, but may not renew this one
@@ -164,12 +167,13 @@ IsRenewalRefused q s a =
 
 -- a REQUEST that names no server (section 4.3.2, INIT-REBOOT, RENEWING and REBINDING): a client
 -- that the server knows in the subnet may renew its lease there
-abbrev pub OnRenew : Asking → Subnet → ℕ → Option Row → Planned → Type 0
-OnRenew q s asked set (plans.Ack a) =
+abbrev pub OnRenew : Asking → Subnet → ℕ → Option Row → Outcome → Type 0
+OnRenew q s asked set (planned kinds.Ack a options) =
     (a ≡ asked) × (has_address s.prefix a ≡ true) × (renewable q s a ≡ true)
     × (set ≡ Some (leased_row q a))
-OnRenew q s asked set plans.Nak = IsRenewalRefused q s asked × (set ≡ None)
-OnRenew q s asked set (plans.Quiet reason) =
+OnRenew q s asked set (planned kinds.Nak a options) =
+    (a ≡ 0) × IsRenewalRefused q s asked × (set ≡ None)
+OnRenew q s asked set (quiet reason) =
     (has_address s.prefix asked ≡ true) × ((b : ℕ) → is_record q s b ≡ false) × (set ≡ None)
     × (reason ≡ reasons.NoRecord)
 OnRenew q s asked set other = ⊥
@@ -189,67 +193,68 @@ abbrev pub renewed_address : Seen → Option ℕ
 renewed_address m = if m.header.ciaddr == 0 then requested_address m else Some m.header.ciaddr
 
 -- a REQUEST that names a server, this one or another
-abbrev pub OnNamed : Asking → Bool → Option Row → Planned → Type 0
-OnNamed q true set planned =
+abbrev pub OnNamed : Asking → Bool → Option Row → Outcome → Type 0
+OnNamed q true set outcome =
     WithAsked (requested_address q.message)
-    (λ a. InSubnet (serving_subnet q) (λ s. OnSelect q s a)) set planned
-OnNamed q false set planned = OnOther q set planned
+    (λ a. InSubnet (serving_subnet q) (λ s. OnSelect q s a)) set outcome
+OnNamed q false set outcome = OnOther q set outcome
 
 -- a REQUEST, by the server that it names (section 4.3.2)
-abbrev pub OnRequest : Asking → Option ℕ → Option Row → Planned → Type 0
-OnRequest q None set planned =
+abbrev pub OnRequest : Asking → Option ℕ → Option Row → Outcome → Type 0
+OnRequest q None set outcome =
     WithAsked (renewed_address q.message)
-    (λ a. InSubnet (serving_subnet q) (λ s. OnRenew q s a)) set planned
-OnRequest q (Some server) set planned = OnNamed q (server == q.config.server) set planned
+    (λ a. InSubnet (serving_subnet q) (λ s. OnRenew q s a)) set outcome
+OnRequest q (Some server) set outcome = OnNamed q (server == q.config.server) set outcome
 
 -- a lease or an offer that the client gives up: where it holds it, this row is set
-abbrev pub GivesUpLease : Bool → Row → Reason → Option Row → Planned → Type 0
-GivesUpLease true row done set planned = (set ≡ Some row) × (planned ≡ plans.Quiet done)
-GivesUpLease false row done set planned = IsQuiet reasons.NotHeld set planned
+abbrev pub GivesUpLease : Bool → Row → Reason → Option Row → Outcome → Type 0
+GivesUpLease true row done set outcome = (set ≡ Some row) × (outcome ≡ quiet done)
+GivesUpLease false row done set outcome = IsQuiet reasons.NotHeld set outcome
 
 -- what is done unless the message names another server
-abbrev pub UnlessOther : Bool → (Option Row → Planned → Type 0) → Option Row → Planned → Type 0
-UnlessOther true Does set planned = IsQuiet reasons.OtherServer set planned
-UnlessOther false Does set planned = Does set planned
+abbrev pub UnlessOther : Bool → (Option Row → Outcome → Type 0) → Option Row → Outcome → Type 0
+UnlessOther true Does set outcome = IsQuiet reasons.OtherServer set outcome
+UnlessOther false Does set outcome = Does set outcome
 
 -- a DECLINE (section 4.3.3): the address that it names is held back
-abbrev pub OnDecline : Asking → Option Row → Planned → Type 0
-OnDecline q set planned =
+abbrev pub OnDecline : Asking → Option Row → Outcome → Type 0
+OnDecline q set outcome =
     UnlessOther (other_server q.config.server (named_server q.message))
     (WithAsked (requested_address q.message)
-    (λ a. GivesUpLease (held_at q a) (declined_row q a) reasons.Declined)) set planned
+    (λ a. GivesUpLease (held_at q a) (declined_row q a) reasons.Declined)) set outcome
 
 -- a RELEASE (section 4.3.4): the client's address is given back
-abbrev pub OnRelease : Asking → Option Row → Planned → Type 0
-OnRelease q set planned =
+abbrev pub OnRelease : Asking → Option Row → Outcome → Type 0
+OnRelease q set outcome =
     let a = q.message.header.ciaddr in
     UnlessOther (other_server q.config.server (named_server q.message))
     (WithCiaddr (a == 0) (GivesUpLease (held_at q a) (released_row q a) reasons.Released)) set
-    planned
+    outcome
 
 -- an answer to an INFORM sets no row
-abbrev pub Informs : Subnet → Option Row → Planned → Type 0
-Informs s set planned = (set ≡ None) × (planned ≡ plans.Inform)
+abbrev pub Informs : Subnet → Option Row → Outcome → Type 0
+Informs s set (planned kinds.InformAck a options) = (a ≡ 0) × (set ≡ None)
+Informs s set other = ⊥
 
 -- an INFORM (section 4.3.5), in its subnet
-abbrev pub OnInform : Asking → Option Row → Planned → Type 0
-OnInform q set planned =
-    WithCiaddr (q.message.header.ciaddr == 0) (InSubnet (serving_subnet q) Informs) set planned
+abbrev pub OnInform : Asking → Option Row → Outcome → Type 0
+OnInform q set outcome =
+    WithCiaddr (q.message.header.ciaddr == 0) (InSubnet (serving_subnet q) Informs) set outcome
 
 -- what a message of this type does; those that servers send do nothing
-abbrev pub Sets : Asking → MessageType → Option Row → Planned → Type 0
-Sets q types.Discover set planned = InSubnet (serving_subnet q) (OnDiscover q) set planned
-Sets q types.Request set planned = OnRequest q (named_server q.message) set planned
-Sets q types.Decline set planned = OnDecline q set planned
-Sets q types.Release set planned = OnRelease q set planned
-Sets q types.Inform set planned = OnInform q set planned
-Sets q other set planned = IsQuiet reasons.NotRequest set planned
+abbrev pub Sets : Asking → MessageType → Option Row → Outcome → Type 0
+Sets q types.Discover set outcome = InSubnet (serving_subnet q) (OnDiscover q) set outcome
+Sets q types.Request set outcome = OnRequest q (named_server q.message) set outcome
+Sets q types.Decline set outcome = OnDecline q set outcome
+Sets q types.Release set outcome = OnRelease q set outcome
+Sets q types.Inform set outcome = OnInform q set outcome
+Sets q other set outcome = IsQuiet reasons.NotRequest set outcome
 
 -- what a message does, by its type
-pub record Does (q : Asking) (set : Option Row) (planned : Planned) : Type 0 where
+pub record Does (q : Asking) (set : Option Row) (outcome : Outcome) : Type 0 where
   pub type : MessageType
   pub is : type_number type ≡ kind_of q.message
-  pub sets : Sets q type set planned
+  pub sets : Sets q type set outcome
 
 -- a row that was changed at a moment, and whose times are in range
 pub record IsSetAt (moment : ℕ) (row : Row) : Type 0 where

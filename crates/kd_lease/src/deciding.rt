@@ -1,19 +1,18 @@
-ghost use Rattle.std.specs.Prelude.{◌≡◌, ℕ, ◌<◌, ◌^◌, IfOk, IfSome, None};
-ghost use Rattle.kd_lease.specs.Change.{AnswersTo, Decides, WhereFits, fits_in, reply_in};
+ghost use Rattle.std.specs.Prelude.{◌≡◌, ℕ, ◌<◌, ◌^◌, IfOk, IfSome};
+ghost use Rattle.kd_lease.specs.Change.{AnswersTo, Decides, WhereFits, fits_in};
 ghost use Rattle.kd_lease.specs.Client.{reply_room};
-ghost use Rattle.kd_lease.specs.Decided.{IsAnswerTo, outcome_in};
+ghost use Rattle.kd_lease.specs.Decided.{IsAnswerTo, outcome_in, reply_in};
 ghost use Rattle.kd_lease.specs.Rules.{IsSetAt, asking};
-ghost use Rattle.kd_lease.specs.declared.plan.Answer.TheVariants as answers;
 
 use crate::client::{is_from_server, room_of};
 use crate::effects::effect_of;
 use crate::grounds::Ground;
 use crate::identities::identity;
 use crate::items::reply_items;
-use crate::plan::{Answer, Decision, Plan, PlanKind};
-use crate::planned::{Effect, Planned};
+use crate::plan::{Outline, Plan};
 use crate::question::Question;
 use crate::reply::{fits_room, reply_header};
+use crate::verdict::{Decision, Verdict, quiet};
 use kd_config::Config;
 use kd_event::Reason;
 use kd_machine::Held;
@@ -86,36 +85,33 @@ fn answer_for(alloc: Global, question: &Question<'_>) -> Result<Decision, AllocE
     ensures replies { IfOk result (λ d. IsAnswerTo question.now.message.now d.answer) }
     ensures set { IfOk result (λ d. IfSome d.row (IsSetAt question.now.moment)) }
 {
-    let Effect { row, planned } = effect_of(alloc, question)?;
-    match planned {
-        Planned::Offer(address) => replied(alloc, question, row, PlanKind::Offer, address),
-        Planned::Ack(address) => replied(alloc, question, row, PlanKind::Ack, address),
-        Planned::Nak => replied(alloc, question, row, PlanKind::Nak, 0),
-        Planned::Inform => replied(alloc, question, row, PlanKind::InformAck, 0),
-        Planned::Quiet(reason) => Ok(Decision {
+    let Verdict { row, answer } = effect_of(alloc, question)?;
+    match answer {
+        Ok(outline) => replied(alloc, question, row, outline),
+        Err(reason) => Ok(Verdict {
             row,
-            answer: Answer::Quiet(reason),
+            answer: Err(reason),
         }),
     }
 }
 
-// The reply of a kind, which gives an address or none, with the row that it sets; neither where its
-// obligatory options do not fit.
+// The reply of an outline, with the row that it sets; neither where its obligatory options do not
+// fit.
 fn replied(
     alloc: Global,
     question: &Question<'_>,
     row: Option<Row>,
-    kind: PlanKind,
-    yiaddr: u32,
+    outline: Outline,
 ) -> Result<Decision, AllocError>
-    ensures answers { IfOk result
-        (λ d. WhereFits (fits_in (reply_room question.now.message.now)
-        (reply_in (asking question.now) kind yiaddr))
-        row (reply_in (asking question.now) kind yiaddr) d.row (outcome_in d.answer)) }
+    ensures answers { let reply = reply_in (asking question.now) outline.kind outline.yiaddr in
+        IfOk result
+        (λ d. WhereFits (fits_in (reply_room question.now.message.now) reply) row reply d.row
+        (outcome_in d.answer)) }
     ensures replies { IfOk result (λ d. IsAnswerTo question.now.message.now d.answer) }
     ensures set { (moment : ℕ) → IfSome row (IsSetAt moment)
         → IfOk result (λ d. IfSome d.row (IsSetAt moment)) }
 {
+    let Outline { kind, yiaddr } = outline;
     let room = room_of(question.message);
     let reply = Reply {
         header: reply_header(kind, yiaddr, question.message.header()),
@@ -124,24 +120,13 @@ fn replied(
     if !fits_room(&reply, room) {
         return Ok(quiet(Reason::ReplyTooLong));
     }
-    Ok(Decision {
+    Ok(Verdict {
         row,
-        answer: Answer::Plan(Plan {
+        answer: Ok(Plan {
             kind,
             yiaddr,
             reply,
             room,
         }),
     })
-}
-
-// No row is set, and there is no answer, for this reason.
-fn quiet(reason: Reason) -> Decision
-    ensures row { result.row ≡ None }
-    ensures answer { result.answer ≡ answers.Quiet reason }
-{
-    Decision {
-        row: None,
-        answer: Answer::Quiet(reason),
-    }
 }

@@ -1,37 +1,40 @@
-ghost use Rattle.std.specs.Prelude.{◌≡◌, ◌<◌, ◌^◌, IfOk, IfSome, None, Some};
+ghost use Rattle.std.specs.Prelude.{◌≡◌, ◌<◌, ◌^◌, IfOk, IfSome, None, Ok, Some};
 ghost use Rattle.kd_config.specs.Sound.{AreTimes};
 ghost use Rattle.std.specs.Option.{option_copied};
 ghost use Rattle.kd_lease.specs.Rules.{Does, InSubnet, IsSetAt, OnDecline, OnDiscover, OnInform, OnOther, OnRelease, OnRenew, OnRequest, OnSelect, WithAsked, asking, leased_row, renewable, other_server, renewed_address, named_server, serving_subnet};
 ghost use Rattle.kd_lease.specs.Choice.{requested_address};
-ghost use Rattle.kd_lease.specs.declared.planned.Planned.TheVariants as plans;
+ghost use Rattle.kd_lease.specs.Decided.{outcome_for};
+ghost use Rattle.kd_lease.specs.declared.plan.PlanKind.TheVariants as kinds;
 
 use crate::aging::newest;
 use crate::choice::choose;
 use crate::fitting::{address_in, fits, is_usable, requested_of};
-use crate::planned::{Effect, Planned};
+use crate::plan::{Outline, PlanKind};
 use crate::question::Question;
 use crate::seeking::{Sought, is_client_at, is_held_at, knows_client};
 use crate::setting::{declined, leased, offer_row, released};
+use crate::verdict::{Verdict, quiet};
 use kd_config::{Config, Subnet};
 use kd_event::Reason;
 use kd_options::{Message, MessageType};
 use std::alloc::{AllocError, Global};
 
-/// What a message does (RFC 2131 section 4.3): the row of the table that is set, or none, and what
-/// is planned for it, which is all but its reply. The checks that come before its type are not made
-/// here.
+/// What a message does (RFC 2131 section 4.3): the row of the table that is set, or none, and the
+/// outline of its reply, or the reason for which there is none. The checks that come before its
+/// type are not made here.
 ///
 /// # Errors
 ///
 /// There is no memory for the client's identity in the row.
-pub fn effect_of(alloc: Global, question: &Question<'_>) -> Result<Effect, AllocError>
+pub fn effect_of(alloc: Global, question: &Question<'_>) -> Result<Verdict<Outline>, AllocError>
     requires { question.now.moment < 2 ^ 40 }
-    ensures does { IfOk result (λ effect. Does (asking question.now) effect.row effect.planned) }
-    ensures set { IfOk result (λ effect. IfSome effect.row (IsSetAt question.now.moment)) }
+    ensures does { let q = asking question.now in
+        IfOk result (λ v. Does q v.row (outcome_for q v.answer)) }
+    ensures set { IfOk result (λ v. IfSome v.row (IsSetAt question.now.moment)) }
 {
-    let effect = effect_by_type(alloc, question)?;
+    let verdict = effect_by_type(alloc, question)?;
     have_ranges(question.config);
-    Ok(effect)
+    Ok(verdict)
 }
 
 // The times of a configuration are in their ranges, which is all that this says.
@@ -42,9 +45,10 @@ fn have_ranges(config: &Config)
 }
 
 // What a message does, by its type.
-fn effect_by_type(alloc: Global, question: &Question<'_>) -> Result<Effect, AllocError>
+fn effect_by_type(alloc: Global, question: &Question<'_>) -> Result<Verdict<Outline>, AllocError>
     requires { question.now.moment < 2 ^ 40 }
-    ensures { IfOk result (λ effect. Does (asking question.now) effect.row effect.planned) }
+    ensures { let q = asking question.now in
+        IfOk result (λ v. Does q v.row (outcome_for q v.answer)) }
 {
     match question.message.kind() {
         MessageType::Discover => discover(alloc, question),
@@ -59,11 +63,11 @@ fn effect_by_type(alloc: Global, question: &Question<'_>) -> Result<Effect, Allo
 }
 
 // A DISCOVER (RFC 2131 section 4.3.1).
-fn discover(alloc: Global, question: &Question<'_>) -> Result<Effect, AllocError>
+fn discover(alloc: Global, question: &Question<'_>) -> Result<Verdict<Outline>, AllocError>
     requires { question.now.moment < 2 ^ 40 }
-    ensures { IfOk result
-        (λ effect. InSubnet (serving_subnet (asking question.now))
-        (OnDiscover (asking question.now)) effect.row effect.planned) }
+    ensures { let q = asking question.now in
+        IfOk result
+        (λ v. InSubnet (serving_subnet q) (OnDiscover q) v.row (outcome_for q v.answer)) }
 {
     match question.subnet {
         Some(subnet) => discover_in(alloc, question, subnet),
@@ -76,26 +80,29 @@ fn discover_in(
     alloc: Global,
     question: &Question<'_>,
     subnet: &Subnet,
-) -> Result<Effect, AllocError>
+) -> Result<Verdict<Outline>, AllocError>
     requires { question.now.moment < 2 ^ 40 }
-    ensures { IfOk result
-        (λ effect. OnDiscover (asking question.now) subnet.now effect.row effect.planned) }
+    ensures { let q = asking question.now in
+        IfOk result (λ v. OnDiscover q subnet.now v.row (outcome_for q v.answer)) }
 {
     match choose(question, subnet) {
-        Some(address) => Ok(Effect {
+        Some(address) => Ok(Verdict {
             row: offer_row(alloc, question, address)?,
-            planned: Planned::Offer(address),
+            answer: Ok(Outline {
+                kind: PlanKind::Offer,
+                yiaddr: address,
+            }),
         }),
         None => Ok(quiet(Reason::NoAddress)),
     }
 }
 
 // A REQUEST, by the server that it names (RFC 2131 section 4.3.2).
-fn request(alloc: Global, question: &Question<'_>) -> Result<Effect, AllocError>
+fn request(alloc: Global, question: &Question<'_>) -> Result<Verdict<Outline>, AllocError>
     requires { question.now.moment < 2 ^ 40 }
-    ensures { IfOk result
-        (λ effect. OnRequest (asking question.now)
-        (named_server question.now.message.now) effect.row effect.planned) }
+    ensures { let q = asking question.now in
+        IfOk result
+        (λ v. OnRequest q (named_server q.message) v.row (outcome_for q v.answer)) }
 {
     match server_of(question.message) {
         Some(server) => {
@@ -110,11 +117,12 @@ fn request(alloc: Global, question: &Question<'_>) -> Result<Effect, AllocError>
 }
 
 // A REQUEST to this server for an address (SELECTING).
-fn select(alloc: Global, question: &Question<'_>) -> Result<Effect, AllocError>
+fn select(alloc: Global, question: &Question<'_>) -> Result<Verdict<Outline>, AllocError>
     requires { question.now.moment < 2 ^ 40 }
-    ensures { IfOk result (λ effect. WithAsked (requested_address question.now.message.now)
-        (λ a. InSubnet (serving_subnet (asking question.now))
-        (λ s. OnSelect (asking question.now) s a)) effect.row effect.planned) }
+    ensures { let q = asking question.now in
+        IfOk result
+        (λ v. WithAsked (requested_address q.message)
+        (λ a. InSubnet (serving_subnet q) (λ s. OnSelect q s a)) v.row (outcome_for q v.answer)) }
 {
     let Some(address) = requested_of(question.message) else {
         return Ok(quiet(Reason::NoRequested));
@@ -131,10 +139,10 @@ fn select_in(
     question: &Question<'_>,
     subnet: &Subnet,
     address: u32,
-) -> Result<Effect, AllocError>
+) -> Result<Verdict<Outline>, AllocError>
     requires { question.now.moment < 2 ^ 40 }
-    ensures { IfOk result
-        (λ effect. OnSelect (asking question.now) subnet.now address effect.row effect.planned) }
+    ensures { let q = asking question.now in
+        IfOk result (λ v. OnSelect q subnet.now address v.row (outcome_for q v.answer)) }
 {
     if is_usable(question, subnet, address) {
         lease(alloc, question, address)
@@ -144,24 +152,26 @@ fn select_in(
 }
 
 // A REQUEST to another server: the newest offer to the client is given back.
-fn other(alloc: Global, question: &Question<'_>) -> Result<Effect, AllocError>
-    ensures { IfOk result (λ effect. OnOther (asking question.now) effect.row effect.planned) }
+fn other(alloc: Global, question: &Question<'_>) -> Result<Verdict<Outline>, AllocError>
+    ensures { let q = asking question.now in
+        IfOk result (λ v. OnOther q v.row (outcome_for q v.answer)) }
 {
     match newest(question, &Sought::Offer) {
-        Some(address) => Ok(Effect {
+        Some(address) => Ok(Verdict {
             row: Some(released(alloc, question, address)?),
-            planned: Planned::Quiet(Reason::OtherServer),
+            answer: Err(Reason::OtherServer),
         }),
         None => Ok(quiet(Reason::OtherServer)),
     }
 }
 
 // A REQUEST that names no server (INIT-REBOOT, RENEWING and REBINDING).
-fn renew(alloc: Global, question: &Question<'_>) -> Result<Effect, AllocError>
+fn renew(alloc: Global, question: &Question<'_>) -> Result<Verdict<Outline>, AllocError>
     requires { question.now.moment < 2 ^ 40 }
-    ensures { IfOk result (λ effect. WithAsked (renewed_address question.now.message.now)
-        (λ a. InSubnet (serving_subnet (asking question.now))
-        (λ s. OnRenew (asking question.now) s a)) effect.row effect.planned) }
+    ensures { let q = asking question.now in
+        IfOk result
+        (λ v. WithAsked (renewed_address q.message)
+        (λ a. InSubnet (serving_subnet q) (λ s. OnRenew q s a)) v.row (outcome_for q v.answer)) }
 {
     let Some(address) = renewed_of(question.message) else {
         return Ok(quiet(Reason::NoRequested));
@@ -178,10 +188,10 @@ fn renew_in(
     question: &Question<'_>,
     subnet: &Subnet,
     address: u32,
-) -> Result<Effect, AllocError>
+) -> Result<Verdict<Outline>, AllocError>
     requires { question.now.moment < 2 ^ 40 }
-    ensures { IfOk result
-        (λ effect. OnRenew (asking question.now) subnet.now address effect.row effect.planned) }
+    ensures { let q = asking question.now in
+        IfOk result (λ v. OnRenew q subnet.now address v.row (outcome_for q v.answer)) }
 {
     if !subnet.prefix.contains(address) {
         return Ok(nak());
@@ -204,9 +214,10 @@ fn may_renew(question: &Question<'_>, subnet: &Subnet, address: u32) -> bool
 }
 
 // A DECLINE (RFC 2131 section 4.3.3).
-fn decline(alloc: Global, question: &Question<'_>) -> Result<Effect, AllocError>
+fn decline(alloc: Global, question: &Question<'_>) -> Result<Verdict<Outline>, AllocError>
     requires { question.now.moment < 2 ^ 40 }
-    ensures { IfOk result (λ effect. OnDecline (asking question.now) effect.row effect.planned) }
+    ensures { let q = asking question.now in
+        IfOk result (λ v. OnDecline q v.row (outcome_for q v.answer)) }
 {
     if names_other(question.config.server(), server_of(question.message)) {
         return Ok(quiet(Reason::OtherServer));
@@ -215,9 +226,9 @@ fn decline(alloc: Global, question: &Question<'_>) -> Result<Effect, AllocError>
         return Ok(quiet(Reason::NoRequested));
     };
     if is_held_at(question, address) {
-        Ok(Effect {
+        Ok(Verdict {
             row: Some(declined(alloc, question, address)),
-            planned: Planned::Quiet(Reason::Declined),
+            answer: Err(Reason::Declined),
         })
     } else {
         Ok(quiet(Reason::NotHeld))
@@ -225,8 +236,9 @@ fn decline(alloc: Global, question: &Question<'_>) -> Result<Effect, AllocError>
 }
 
 // A RELEASE (RFC 2131 section 4.3.4).
-fn release(alloc: Global, question: &Question<'_>) -> Result<Effect, AllocError>
-    ensures { IfOk result (λ effect. OnRelease (asking question.now) effect.row effect.planned) }
+fn release(alloc: Global, question: &Question<'_>) -> Result<Verdict<Outline>, AllocError>
+    ensures { let q = asking question.now in
+        IfOk result (λ v. OnRelease q v.row (outcome_for q v.answer)) }
 {
     if names_other(question.config.server(), server_of(question.message)) {
         return Ok(quiet(Reason::OtherServer));
@@ -236,9 +248,9 @@ fn release(alloc: Global, question: &Question<'_>) -> Result<Effect, AllocError>
         return Ok(quiet(Reason::NoCiaddr));
     }
     if is_held_at(question, address) {
-        Ok(Effect {
+        Ok(Verdict {
             row: Some(released(alloc, question, address)?),
-            planned: Planned::Quiet(Reason::Released),
+            answer: Err(Reason::Released),
         })
     } else {
         Ok(quiet(Reason::NotHeld))
@@ -246,55 +258,59 @@ fn release(alloc: Global, question: &Question<'_>) -> Result<Effect, AllocError>
 }
 
 // An INFORM (RFC 2131 section 4.3.5).
-fn inform(question: &Question<'_>) -> Effect
-    ensures { OnInform (asking question.now) result.row result.planned }
+fn inform(question: &Question<'_>) -> Verdict<Outline>
+    ensures { let q = asking question.now in OnInform q result.row (outcome_for q result.answer) }
 {
     if question.message.header().ciaddr == 0 {
         return quiet(Reason::NoCiaddr);
     }
     match question.subnet {
-        Some(_) => Effect {
+        Some(_) => Verdict {
             row: None,
-            planned: Planned::Inform,
+            answer: Ok(Outline {
+                kind: PlanKind::InformAck,
+                yiaddr: 0,
+            }),
         },
         None => quiet(Reason::NoSubnet),
     }
 }
 
 // An address is leased to the client.
-fn lease(alloc: Global, question: &Question<'_>, address: u32) -> Result<Effect, AllocError>
+fn lease(
+    alloc: Global,
+    question: &Question<'_>,
+    address: u32,
+) -> Result<Verdict<Outline>, AllocError>
     requires { question.now.moment < 2 ^ 40 }
     ensures { IfOk result
-        (λ effect. effect
+        (λ v. v
         ≡ record {
           row = Some
               (leased_row (asking question.now) address);
-          planned = plans.Ack address;
+          answer = Ok (record { kind = kinds.Ack; yiaddr = address });
         }) }
 {
-    Ok(Effect {
+    Ok(Verdict {
         row: Some(leased(alloc, question, address)?),
-        planned: Planned::Ack(address),
+        answer: Ok(Outline {
+            kind: PlanKind::Ack,
+            yiaddr: address,
+        }),
     })
 }
 
 // A NAK sets no row.
-fn nak() -> Effect
-    ensures { result ≡ record { row = None; planned = plans.Nak } }
+fn nak() -> Verdict<Outline>
+    ensures { result
+        ≡ record { row = None; answer = Ok (record { kind = kinds.Nak; yiaddr = 0 }) } }
 {
-    Effect {
+    Verdict {
         row: None,
-        planned: Planned::Nak,
-    }
-}
-
-// No row is set, and there is no answer, for this reason.
-fn quiet(reason: Reason) -> Effect
-    ensures { result ≡ record { row = None; planned = plans.Quiet reason } }
-{
-    Effect {
-        row: None,
-        planned: Planned::Quiet(reason),
+        answer: Ok(Outline {
+            kind: PlanKind::Nak,
+            yiaddr: 0,
+        }),
     }
 }
 

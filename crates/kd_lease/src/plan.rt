@@ -1,6 +1,4 @@
-use kd_event::Reason;
 use kd_options::Reply;
-use kd_rows::Row;
 
 /// What a planned reply is (RFC 2131 sections 3.1 and 4.3).
 #[derive(Clone, Copy, PartialEq, Eq)]
@@ -15,6 +13,15 @@ pub enum PlanKind {
     Nak,
 }
 
+/// The outline of a reply, from which its options follow.
+#[derive(Clone, Copy, PartialEq, Eq)]
+pub struct Outline {
+    /// What the reply is.
+    pub kind: PlanKind,
+    /// The client's new address, or zero.
+    pub yiaddr: u32,
+}
+
 /// A reply before it is written and sent.
 #[derive(Drop)]
 pub struct Plan {
@@ -26,22 +33,4 @@ pub struct Plan {
     pub reply: Reply,
     /// The bytes that it may have, 548 to 1472.
     pub room: u16,
-}
-
-/// What a message gets.
-#[derive(Drop)]
-pub enum Answer {
-    /// A reply is sent.
-    Plan(Plan),
-    /// Nothing is sent.
-    Quiet(Reason),
-}
-
-/// What the rules decide for a message.
-#[derive(Drop)]
-pub struct Decision {
-    /// The row that is set in the table of leases, if one is.
-    pub row: Option<Row>,
-    /// What the message gets.
-    pub answer: Answer,
 }

@@ -2,7 +2,7 @@
 
 use crate::fields::{DIRECT, bytes_of};
 use kd_config::Config;
-use kd_lease::{Answer, Decision, Plan, PlanKind, decide};
+use kd_lease::{Decision, Plan, PlanKind, decide};
 use kd_options::Message;
 use kd_rows::{Row, Rows, State};
 use std::alloc::{AllocError, Global};
@@ -80,7 +80,7 @@ fn a_discover_over_an_empty_table_sets_a_row_and_is_offered_its_address(
 ) -> Result<(), Fail> {
     let decision = first_decision(rt.alloc())?;
     match (&decision.row, &decision.answer) {
-        (Some(row), Answer::Plan(plan)) => {
+        (Some(row), Ok(plan)) => {
             assert!(rt; is_held(row));
             assert!(rt; is_offered(rt.alloc(), plan)?);
             Ok(())

@@ -5,7 +5,7 @@ use crate::fields::{DIRECT, Fields, bytes_of};
 use crate::scenes::{BEHIND, Layout, MOMENT, OWNER, POOL, Place, Scene, config_of, leases_of};
 use kd_config::Config;
 use kd_event::Reason;
-use kd_lease::{Answer, Decision, Leases, PlanKind, decide_on};
+use kd_lease::{Decision, Leases, Plan, PlanKind, Verdict, decide_on};
 use kd_options::{Message, ReadFault};
 use kd_rows::{Row, Rows};
 use std::alloc::Global;
@@ -151,10 +151,10 @@ fn decided_for(alloc: Global, leases: &Leases, message: &Message<'_>) -> Result<
 }
 
 // The address that an OFFER has; none where there is no address for the client.
-fn address_in(answer: &Answer) -> Result<Option<u32>, Fault> {
+fn address_in(answer: &Result<Plan, Reason>) -> Result<Option<u32>, Fault> {
     match answer {
-        Answer::Plan(plan) if plan.kind == PlanKind::Offer => Ok(Some(plan.yiaddr)),
-        Answer::Quiet(Reason::NoAddress) => Ok(None),
+        Ok(plan) if plan.kind == PlanKind::Offer => Ok(Some(plan.yiaddr)),
+        Err(Reason::NoAddress) => Ok(None),
         _ => Err(Fault::Other),
     }
 }
@@ -172,7 +172,7 @@ fn set(leases: &mut Leases, row: Row) -> Result<(), Fault> {
 // What a client is offered for a DISCOVER. The row of the offer is set.
 fn offered(alloc: Global, leases: &mut Leases, client: u32) -> Result<Option<u32>, Fault> {
     let bytes = bytes_of(alloc, &Fields { client, ..DIRECT })?;
-    let Decision { row, answer } = decided(alloc, leases, bytes.as_slice())?;
+    let Verdict { row, answer } = decided(alloc, leases, bytes.as_slice())?;
     if let Some(row) = row {
         set(leases, row)?;
     }

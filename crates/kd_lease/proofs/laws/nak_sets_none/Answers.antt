@@ -1,7 +1,7 @@
-use Rattle.std.proofs.Common.{refl}
+use Rattle.kd_lease.specs.Plan.Outcome.{planned}
+use Rattle.kd_lease.specs.declared.plan.PlanKind.TheVariants as kinds
 use Rattle.kd_lease.proofs.Guards.{guarded}
-use Rattle.kd_lease.specs.declared.planned.Planned.TheVariants as plans
 use Rattle.kd_lease.proofs.laws.nak_sets_none.Goals as goal
 
 pub returns : goal.returns
-returns c = λ q type set h. (guarded q type set plans.Nak h).nak refl
+returns c = λ q type set a options h. (guarded q type set (planned kinds.Nak a options) h).nak tt

@@ -3,4 +3,4 @@ use Rattle.kd_lease.proofs.Guards.{guarded}
 use Rattle.kd_lease.proofs.laws.sets_now.Goals as goal
 
 pub returns : goal.returns
-returns c = λ q type row planned h. let good = (guarded q type (Some row) planned h).good row refl in good.changed
+returns c = λ q type row outcome h. let good = (guarded q type (Some row) outcome h).good row refl in good.changed
