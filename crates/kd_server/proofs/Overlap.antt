@@ -6,7 +6,7 @@ use Rattle.std.proofs.lemmas.Option.{none-some, same_Some}
 use Rattle.std.specs.Cmp.Lexicographic.{bytes_decides}
 use Rattle.std.specs.List.{slice_get}
 use Rattle.kd_event.specs.declared.reason.Reason.{Reason}
-use Rattle.kd_lease.specs.Change.{after, asked_for, outcome_for}
+use Rattle.kd_lease.specs.Change.{after, asked_for}
 use Rattle.kd_lease.specs.Choice.{Asking, live_row}
 use Rattle.kd_lease.specs.Client.{client_identity}
 use Rattle.kd_lease.specs.Laws.{HeldHasNoRank, HeldIsNotGiven, HeldIsNotUsable, SetsNow}
@@ -14,8 +14,6 @@ use Rattle.kd_lease.specs.Plan.{Outcome, ReplyOption}
 use Rattle.kd_lease.specs.Plan.Outcome.{planned, quiet}
 use Rattle.kd_lease.specs.Rules.{Sets, bound_state, leased_row}
 use Rattle.kd_lease.specs.declared.plan.PlanKind.TheVariants as kinds
-use Rattle.kd_lease.specs.declared.planned.Planned.{Planned}
-use Rattle.kd_lease.specs.declared.planned.Planned.TheVariants as plans
 use Rattle.kd_options.specs.Kind.{type_number}
 use Rattle.kd_options.specs.declared.kind.MessageType.{MessageType}
 use Rattle.kd_options.specs.declared.kind.MessageType.TheVariants as types
@@ -65,22 +63,6 @@ record Shortens (e : LeaseStep) (client : List ℕ) (a start time : ℕ) : Type 
 -- what a step may do to an address that is safe
 abbrev Loosens : LeaseStep → List ℕ → ℕ → ℕ → ℕ → Type 0
 Loosens e client a start time = GivesUp e client a ⊎ Shortens e client a start time
-
--- an OFFER is what was planned
-offer_planned : (q : Asking) (plan : Planned) (a : ℕ) (options : List ReplyOption) → outcome_for q plan ≡ planned kinds.Offer a options → plan ≡ plans.Offer a
-offer_planned q (plans.Offer b) a options e = let h : b ≡ a = cc in ap plans.Offer h
-offer_planned q (plans.Ack b) a options e = cc
-offer_planned q plans.Nak a options e = cc
-offer_planned q plans.Inform a options e = cc
-offer_planned q (plans.Quiet reason) a options e = cc
-
--- an ACK is what was planned
-ack_planned : (q : Asking) (plan : Planned) (a : ℕ) (options : List ReplyOption) → outcome_for q plan ≡ planned kinds.Ack a options → plan ≡ plans.Ack a
-ack_planned q (plans.Offer b) a options e = cc
-ack_planned q (plans.Ack b) a options e = let h : b ≡ a = cc in ap plans.Ack h
-ack_planned q plans.Nak a options e = cc
-ack_planned q plans.Inform a options e = cc
-ack_planned q (plans.Quiet reason) a options e = cc
 
 -- before a place of a history there is a step in which the client gives up the address
 record GivesUpBefore (es : List LeaseStep) (j : ℕ) (client : List ℕ) (a : ℕ) : Type 0 where
@@ -238,10 +220,10 @@ module _ (get_of_set : GetOfSet) (latest_of_set : LatestOfSet) (sets_now : SetsN
     set_row : (r : Ruled e.config e.before c.names e.message (now_of e) c.set outcome) (row : Row) → c.set ≡ Some row → IsSafe e.after a client start time ⊎ Loosens e client a start time
     set_row r row is =
         let q = asked_for e.config e.before c.names e.message (now_of e) r.client in
-        let changed : row.changed ≡ q.now = sets_now q r.does.type row r.plan (subst (λ (o : Option Row). Sets q r.does.type o r.plan) is r.does.sets) in
+        let changed : row.changed ≡ q.now = sets_now q r.does.type row outcome (subst (λ (o : Option Row). Sets q r.does.type o outcome) is r.does.sets) in
         let becomes : e.after ≡ with_row row e.before = c.becomes ∙ ap (after e.before) is in
         ⊎_elim (λ s. inl (subst (λ (rows : List Row). IsSafe rows a client start time) (sym becomes) s)) (λ l. inr (⊎_elim (λ g. inl (given_up r row becomes g)) (λ s. inr (shortened r row becomes s)) l))
-        (set_keeps q r.does.type row a client start time changed (omega arith) (may_set no_rank not_usable q r.does.type c.set r.plan r.does.sets row is) safe)
+        (set_keeps q r.does.type row a client start time changed (omega arith) (may_set no_rank not_usable q r.does.type c.set outcome r.does.sets row is) safe)
 
     by_set : (r : Ruled e.config e.before c.names e.message (now_of e) c.set outcome) (o : Option Row) → c.set ≡ o → IsSafe e.after a client start time ⊎ Loosens e client a start time
     by_set r None is = same is
@@ -269,29 +251,27 @@ module _ (get_of_set : GetOfSet) (latest_of_set : LatestOfSet) (sets_now : SetsN
     by_rule : Ruled e.config e.before c.names e.message (now_of e) c.set (planned kinds.Ack a l.options) → IsSafe e.after a client (now_of e) (lifetime_of e)
     by_rule r =
         let q = asked_for e.config e.before c.names e.message (now_of e) r.client in
-        let plan = ack_planned q r.plan a l.options (sym r.gets) in
-        let sets : Sets q r.does.type c.set (plans.Ack a) = subst (λ (p : Planned). Sets q r.does.type c.set p) plan r.does.sets in
-        let is : c.set ≡ Some (leased_row q a) = acked q r.does.type c.set a (r.does.is ∙ l.request) sets in
+        let is : c.set ≡ Some (leased_row q a) = acked q r.does.type c.set a l.options (r.does.is ∙ l.request) r.does.sets in
         let becomes : e.after ≡ with_row (leased_row q a) e.before = c.becomes ∙ ap (after e.before) is in
         subst (λ (rows : List Row). IsSafe rows a client (now_of e) (lifetime_of e)) (sym becomes)
         (lease_safe q a client (same_Some r.client client (sym r.by ∙ l.by)) (omega arith))
 
-  -- a plan that gives an address of a client to another comes only when the time has passed
-  given_by : (f : LeaseStep) (a : ℕ) (client other : List ℕ) (start time : ℕ) (outcome : Outcome) (plan : Planned) → (plan ≡ plans.Offer a) ⊎ (plan ≡ plans.Ack a)
-      → (c : ChangesTo f outcome) (r : Ruled f.config f.before c.names f.message (now_of f) c.set outcome) → r.plan ≡ plan
+  -- a reply that gives an address of a client to another comes only when the time has passed
+  given_by : (f : LeaseStep) (a : ℕ) (client other : List ℕ) (start time : ℕ) (outcome : Outcome) (options : List ReplyOption) → (outcome ≡ planned kinds.Offer a options) ⊎ (outcome ≡ planned kinds.Ack a options)
+      → (c : ChangesTo f outcome) (r : Ruled f.config f.before c.names f.message (now_of f) c.set outcome)
       → client_identity f.message ≡ Some other → other ≢ client → Holds f.before a client (start + time) → start + time ≤ now_of f
-  given_by f a client other start time outcome plan gives c r is by apart h = by_live (cases_Bool (live_row (now_of f) h.row)) where
+  given_by f a client other start time outcome options gives c r by apart h = by_live (cases_Bool (live_row (now_of f) h.row)) where
     others : belongs_to r.client h.row ≡ false
     others = false_from_ne_true (belongs_to r.client h.row) (λ own.
         apart (same_Some other r.client (sym by ∙ r.by) ∙ sym ((bytes_decides h.row.client r.client).0 own) ∙ h.own))
 
-    unfair : live_row (now_of f) h.row ≡ true → (plan ≡ plans.Offer a) ⊎ (plan ≡ plans.Ack a) → ⊥
+    unfair : live_row (now_of f) h.row ≡ true → (outcome ≡ planned kinds.Offer a options) ⊎ (outcome ≡ planned kinds.Ack a options) → ⊥
     unfair live (inl e) =
-        not_given (asked_for f.config f.before c.names f.message (now_of f) r.client) r.does.type c.set a h.row (record { there = h.there; live = live; other = others })
-        (inl (subst (λ (p : Planned). Sets (asked_for f.config f.before c.names f.message (now_of f) r.client) r.does.type c.set p) (is ∙ e) r.does.sets))
+        not_given (asked_for f.config f.before c.names f.message (now_of f) r.client) r.does.type c.set a options h.row (record { there = h.there; live = live; other = others })
+        (inl (subst (λ (y : Outcome). Sets (asked_for f.config f.before c.names f.message (now_of f) r.client) r.does.type c.set y) e r.does.sets))
     unfair live (inr e) =
-        not_given (asked_for f.config f.before c.names f.message (now_of f) r.client) r.does.type c.set a h.row (record { there = h.there; live = live; other = others })
-        (inr (subst (λ (p : Planned). Sets (asked_for f.config f.before c.names f.message (now_of f) r.client) r.does.type c.set p) (is ∙ e) r.does.sets))
+        not_given (asked_for f.config f.before c.names f.message (now_of f) r.client) r.does.type c.set a options h.row (record { there = h.there; live = live; other = others })
+        (inr (subst (λ (y : Outcome). Sets (asked_for f.config f.before c.names f.message (now_of f) r.client) r.does.type c.set y) e r.does.sets))
 
     by_live : (live_row (now_of f) h.row ≡ true) ⊎ (live_row (now_of f) h.row ≡ false) → start + time ≤ now_of f
     by_live (inl live) = absurd (unfair live gives)
@@ -307,8 +287,7 @@ module _ (get_of_set : GetOfSet) (latest_of_set : LatestOfSet) (sets_now : SetsN
     silent s = let e = s.1.1 in absurd cc
 
     by_rule : Ruled f.config f.before c.names f.message (now_of f) c.set (planned kinds.Offer a o.options) → start + time ≤ now_of f
-    by_rule r = given_by f a client other start time (planned kinds.Offer a o.options) r.plan
-        (inl (offer_planned (asked_for f.config f.before c.names f.message (now_of f) r.client) r.plan a o.options (sym r.gets))) c r refl o.by apart h
+    by_rule r = given_by f a client other start time (planned kinds.Offer a o.options) o.options (inl refl) c r o.by apart h
 
   -- and so does an ACK
   leased_late : (f : LeaseStep) (a : ℕ) (client other : List ℕ) (start time : ℕ) → Happens f f.outcome → Leases f other a → other ≢ client → Holds f.before a client (start + time) → start + time ≤ now_of f
@@ -320,8 +299,7 @@ module _ (get_of_set : GetOfSet) (latest_of_set : LatestOfSet) (sets_now : SetsN
     silent s = let e = s.1.1 in absurd cc
 
     by_rule : Ruled f.config f.before c.names f.message (now_of f) c.set (planned kinds.Ack a l.options) → start + time ≤ now_of f
-    by_rule r = given_by f a client other start time (planned kinds.Ack a l.options) r.plan
-        (inr (ack_planned (asked_for f.config f.before c.names f.message (now_of f) r.client) r.plan a l.options (sym r.gets))) c r refl l.by apart h
+    by_rule r = given_by f a client other start time (planned kinds.Ack a l.options) l.options (inr refl) c r l.by apart h
 
   -- a step gives a safe address to another only when the time has passed
   given_late : (f : LeaseStep) (a : ℕ) (client other : List ℕ) (start time : ℕ) → Happens f f.outcome → GivesTo f other a → other ≢ client

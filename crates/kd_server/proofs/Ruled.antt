@@ -3,12 +3,11 @@ use Rattle.std.proofs.Common.{◌≡◌, ℕ, Bool, true, false, codes, List, Op
 use Rattle.kd_config.specs.Configuration.{Configuration}
 use Rattle.kd_event.specs.declared.reason.Reason.{Reason}
 use Rattle.kd_event.specs.declared.reason.Reason.TheVariants as reasons
-use Rattle.kd_lease.specs.Change.{AnswersTo, Decides, ForClient, Unless, WhereFits, asked_for, fits_in, outcome_for}
+use Rattle.kd_lease.specs.Change.{AnswersTo, Decides, ForClient, Unless, WhereFits, asked_for, fits_in}
 use Rattle.kd_lease.specs.Client.{client_identity, server_message, reply_room}
 use Rattle.kd_lease.specs.Plan.{Outcome}
 use Rattle.kd_lease.specs.Plan.Outcome.{quiet}
 use Rattle.kd_lease.specs.Rules.{Does}
-use Rattle.kd_lease.specs.declared.planned.Planned.{Planned}
 use Rattle.kd_machine.specs.Parts.{is_held}
 use Rattle.kd_options.specs.Message.{Seen}
 use Rattle.kd_rows.specs.declared.row.Row.{Row}
@@ -17,13 +16,11 @@ use Rattle.kd_rows.specs.declared.row.Row.{Row}
 abbrev pub IsSilent : Option Row → Outcome → Type 0
 IsSilent set got = (set ≡ None) × ((reason : Reason) × (got ≡ quiet reason))
 
--- a row is set by a rule, or none, and the message gets what is planned
+-- a row is set, or none, and the message gets what it gets by a rule
 pub record Ruled (config : Configuration) (rows : List Row) (names : List (List ℕ)) (m : Seen) (now : ℕ) (set : Option Row) (got : Outcome) : Type 0 where
   pub client : List ℕ
   pub by : client_identity m ≡ Some client
-  pub plan : Planned
-  pub does : Does (asked_for config rows names m now client) set plan
-  pub gets : got ≡ outcome_for (asked_for config rows names m now client) plan
+  pub does : Does (asked_for config rows names m now client) set got
 
 unless : (P : Type 0) (b : Bool) (reason : Reason) (Done : Option Row → Outcome → Type 0) (set : Option Row) (got : Outcome)
     → (IsSilent set got → P) → (Done set got → P) → Unless b reason Done set got → P
@@ -56,5 +53,5 @@ ruled config rows names m now set got h =
       answered : (client : List ℕ) → client_identity m ≡ Some client → AnswersTo (asked_for config rows names m now client) set got → IsSilent set got ⊎ Ruled config rows names m now set got
       answered client by a =
           let q = asked_for config rows names m now client in
-          where_fits (IsSilent set got ⊎ Ruled config rows names m now set got) (fits_in (reply_room m) (outcome_for q a.plan)) a.row (outcome_for q a.plan) set got inl
-          (λ same gets. inr (record { client = client; by = by; plan = a.plan; does = subst (λ (o : Option Row). Does q o a.plan) (sym same) a.does; gets = gets })) a.replies
+          where_fits (IsSilent set got ⊎ Ruled config rows names m now set got) (fits_in (reply_room m) a.outcome) a.row a.outcome set got inl
+          (λ same gets. inr (record { client = client; by = by; does = subst (λ (y : Outcome). Does q set y) (sym gets) (subst (λ (o : Option Row). Does q o a.outcome) (sym same) a.does) })) a.replies

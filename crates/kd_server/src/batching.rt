@@ -13,9 +13,9 @@ ghost use Rattle.kd_server.specs.Unkept.{IsSettable};
 
 use crate::leases::copy_of;
 use crate::server::MOMENTS;
-use crate::turning::{Turn, turn_at};
+use crate::turning::turn_at;
 use kd_config::Config;
-use kd_event::{Handled, Ports};
+use kd_event::{Handled, Ports, Response};
 use kd_keeps::{Keeps, StoreFault};
 use kd_lease::Leases;
 use kd_replay::{Arrived, ServeFault};
@@ -115,18 +115,18 @@ fn stage_turn(
     leases: &mut Leases,
     set: &mut Vec<Row>,
     now: u64,
-    turn: Turn,
+    turn: (Option<Row>, Response),
 ) -> Result<Handled, ServeFault>
-    requires { IfSome turn.row (IsSettable leases.old.table.rows) }
+    requires { IfSome turn.0 (IsSettable leases.old.table.rows) }
     ensures handled { IfOk result
-        (λ handled. handled ≡ record { now = now; response = turn.response }) }
+        (λ handled. handled ≡ record { now = now; response = turn.1 }) }
     ensures config { leases.new.config ≡ leases.old.config }
-    ensures rows { OnOk result (leases.new.table.rows ≡ after leases.old.table.rows turn.row) }
+    ensures rows { OnOk result (leases.new.table.rows ≡ after leases.old.table.rows turn.0) }
     ensures unset { IfErr result
-        (IsUnset leases.old.table.rows leases.new.table.rows (after leases.old.table.rows turn.row)) }
+        (IsUnset leases.old.table.rows leases.new.table.rows (after leases.old.table.rows turn.0)) }
     ensures set { Stages leases.old.table.rows set.old.items leases.new.table.rows set.new.items }
 {
-    let Turn { row, response } = turn;
+    let (row, response) = turn;
     stage(alloc, leases, set, row)?;
     Ok(Handled { now, response })
 }

@@ -15,9 +15,9 @@ ghost use Rattle.kd_server.specs.Unkept.{IsSettable, IsUnkept};
 
 use crate::batching::{handle_each, keep_all};
 use crate::leases::{Lease, leases_at};
-use crate::turning::{Turn, turn_at};
+use crate::turning::turn_at;
 use kd_config::Config;
-use kd_event::{Event, Handled, Ports};
+use kd_event::{Event, Handled, Ports, Response};
 use kd_keeps::{Keeps, Opened};
 use kd_lease::Leases;
 use kd_replay::{Arrived, ServeFault, Serves, ServesAll, run_with};
@@ -295,21 +295,21 @@ fn settle<S: Keeps>(
     leases: &mut Leases,
     store: &mut S,
     now: u64,
-    turn: Turn,
+    turn: (Option<Row>, Response),
 ) -> Result<Handled, ServeFault>
     requires works { is_some (S.fault store.old) ≡ false }
-    requires set { IfSome turn.row (IsSettable leases.old.table.rows) }
+    requires set { IfSome turn.0 (IsSettable leases.old.table.rows) }
     ensures handled { IfOk result
-        (λ handled. handled ≡ record { now = now; response = turn.response }) }
+        (λ handled. handled ≡ record { now = now; response = turn.1 }) }
     ensures config { leases.new.config ≡ leases.old.config }
-    ensures rows { OnOk result (leases.new.table.rows ≡ after leases.old.table.rows turn.row) }
+    ensures rows { OnOk result (leases.new.table.rows ≡ after leases.old.table.rows turn.0) }
     ensures store { OnOk result
         (StillHolds S.Keeps store.old store.new leases.old.table.rows leases.new.table.rows) }
     ensures failed { IfErr result
         (IsUnkept S.Keeps leases.old.table.rows leases.new.table.rows store.old store.new
-        (after leases.old.table.rows turn.row)) }
+        (after leases.old.table.rows turn.0)) }
 {
-    let Turn { row, response } = turn;
+    let (row, response) = turn;
     keep(leases, store, row)?;
     Ok(Handled { now, response })
 }

@@ -10,8 +10,8 @@ ghost use Rattle.kd_server.specs.Unkept.{IsSettable};
 use crate::batching::Rules;
 use crate::leases::copy_of;
 use crate::server::MOMENTS;
-use crate::turning::{Turn, turn_at};
-use kd_event::Handled;
+use crate::turning::turn_at;
+use kd_event::{Handled, Response};
 use kd_lease::Ground;
 use kd_replay::ServeFault;
 use kd_rows::{Row, Rows};
@@ -117,21 +117,21 @@ impl Rules<'_> {
             now,
             bytes,
         )?;
-        let Turn { response, .. } = turn;
+        let (_, response) = turn;
         Ok(Handled { now, response })
     }
 }
 
 // Sets the row of a datagram, and hands out what is sent for it.
-fn taken(rows: &mut Rows, now: u64, turn: Turn) -> Result<Handled, ServeFault>
-    requires { IfSome turn.row (IsSettable rows.old.rows) }
+fn taken(rows: &mut Rows, now: u64, turn: (Option<Row>, Response)) -> Result<Handled, ServeFault>
+    requires { IfSome turn.0 (IsSettable rows.old.rows) }
     ensures handled { IfOk result
-        (λ handled. handled ≡ record { now = now; response = turn.response }) }
-    ensures rows { OnOk result (rows.new.rows ≡ after rows.old.rows turn.row) }
+        (λ handled. handled ≡ record { now = now; response = turn.1 }) }
+    ensures rows { OnOk result (rows.new.rows ≡ after rows.old.rows turn.0) }
     ensures unset { IfErr result
-        (IsUnset rows.old.rows rows.new.rows (after rows.old.rows turn.row)) }
+        (IsUnset rows.old.rows rows.new.rows (after rows.old.rows turn.0)) }
 {
-    let Turn { row, response } = turn;
+    let (row, response) = turn;
     put(rows, row)?;
     Ok(Handled { now, response })
 }

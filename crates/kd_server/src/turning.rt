@@ -8,21 +8,15 @@ ghost use Rattle.kd_server.specs.Step.{Responds};
 ghost use Rattle.kd_server.specs.Turn.{IsSent, IsTurn, Turns};
 
 use kd_event::{Ports, Reason, Response};
-use kd_lease::{Answer, Decision, Ground, Plan, decide_on, destination};
+use kd_lease::{Ground, Plan, Verdict, decide_on, destination};
 use kd_options::{Message, ReadFault, WriteFault};
 use kd_replay::ServeFault;
 use kd_rows::Row;
 use kd_wire::Bytes;
 use std::alloc::{AllocError, Global};
 
-// What a datagram does: the row that it sets, if it sets one, and what is sent.
-#[derive(Drop)]
-pub(crate) struct Turn {
-    pub(crate) row: Option<Row>,
-    pub(crate) response: Response,
-}
-
-// What a datagram does at a moment. No memory is taken before its header is read.
+// What a datagram does at a moment: the row that it sets, if it sets one, and what is sent. No
+// memory is taken before its header is read.
 #[tactic(auto, using(crate::proofs::Headed::message_headed))]
 pub(crate) fn turn_at(
     alloc: Global,
@@ -30,22 +24,19 @@ pub(crate) fn turn_at(
     over: Ground<'_>,
     moment: u64,
     bytes: &[u8],
-) -> Result<Turn, AllocError>
+) -> Result<(Option<Row>, Response), AllocError>
     requires { moment < 2 ^ 40 }
     ensures found { IfOk result
         (λ t. IsTurn over.entry.config.now ports over.entry.rows.now.rows moment bytes.now
-        t.row t.response) }
-    ensures small { IfOk result (λ t. IsSmall t.response) }
-    ensures set { IfOk result (λ t. IfSome t.row (IsSetAt moment)) }
+        t.0 t.1) }
+    ensures small { IfOk result (λ t. IsSmall t.1) }
+    ensures set { IfOk result (λ t. IfSome t.0 (IsSetAt moment)) }
     ensures memory { OnErr result (HasHeader bytes.now) }
 {
     match Message::read(alloc, bytes) {
         Ok(message) => turn_of(alloc, ports, over, moment, &message),
         Err(ReadFault::Memory) => Err(AllocError),
-        Err(_) => Ok(Turn {
-            row: None,
-            response: Response::Quiet(Reason::Unreadable),
-        }),
+        Err(_) => Ok((None, Response::Quiet(Reason::Unreadable))),
     }
 }
 
@@ -56,18 +47,18 @@ fn turn_of(
     over: Ground<'_>,
     moment: u64,
     message: &Message<'_>,
-) -> Result<Turn, AllocError>
+) -> Result<(Option<Row>, Response), AllocError>
     requires { moment < 2 ^ 40 }
     ensures found { IfOk result
         (λ t. Turns over.entry.config.now ports over.entry.rows.now.rows moment message.now
-        t.row t.response) }
-    ensures small { IfOk result (λ t. IsSmall t.response) }
-    ensures set { IfOk result (λ t. IfSome t.row (IsSetAt moment)) }
+        t.0 t.1) }
+    ensures small { IfOk result (λ t. IsSmall t.1) }
+    ensures set { IfOk result (λ t. IfSome t.0 (IsSetAt moment)) }
 {
     let names = over.config.classes().held(alloc, message)?;
-    let Decision { row, answer } = decide_on(alloc, over, message, &names, moment)?;
+    let Verdict { row, answer } = decide_on(alloc, over, message, &names, moment)?;
     let response = response_to(alloc, ports, message, &answer)?;
-    Ok(Turn { row, response })
+    Ok((row, response))
 }
 
 // What is sent for an answer to a message.
@@ -75,15 +66,15 @@ fn response_to(
     alloc: Global,
     ports: Ports,
     message: &Message<'_>,
-    answer: &Answer,
+    answer: &Result<Plan, Reason>,
 ) -> Result<Response, AllocError>
     requires { IsAnswerTo message.now answer.now }
     ensures found { IfOk result (Responds ports message.now (outcome_in answer.now)) }
     ensures small { IfOk result IsSmall }
 {
     match answer {
-        Answer::Plan(plan) => sent(alloc, ports, message, plan),
-        Answer::Quiet(reason) => Ok(Response::Quiet(*reason)),
+        Ok(plan) => sent(alloc, ports, message, plan),
+        Err(reason) => Ok(Response::Quiet(*reason)),
     }
 }
 

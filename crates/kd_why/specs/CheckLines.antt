@@ -1,12 +1,12 @@
 -- The lines of what the rules check (RFC 2131 section 4.3), up to the check at which a message ends.
-use Rattle.std.specs.Prelude.{ℕ, ◌==◌, ◌&&◌, not, is_none, nat_lt, Bool, if◌then◌else◌, List, [], ◌++◌, Option, Some, None, codes}
+use Rattle.std.specs.Prelude.{ℕ, ◌==◌, ◌&&◌, not, is_none, nat_lt, Bool, if◌then◌else◌, List, [], ◌++◌, Option, Some, None, Result, Err, codes}
 use Rattle.kd_config.specs.declared.subnet.Subnet.{Subnet}
+use Rattle.kd_event.specs.declared.reason.Reason.{Reason}
 use Rattle.kd_event.specs.declared.reason.Reason.TheVariants as reasons
 use Rattle.kd_lease.specs.Choice.{Asking}
 use Rattle.kd_lease.specs.Client.{kind_of}
 use Rattle.kd_lease.specs.Rules.{held_at, named_server, other_server}
-use Rattle.kd_lease.specs.declared.plan.Answer.{Answer}
-use Rattle.kd_lease.specs.declared.plan.Answer.TheVariants as answers
+use Rattle.kd_lease.specs.declared.plan.Plan.{Plan}
 use Rattle.kd_options.specs.Kind.{type_number}
 use Rattle.kd_options.specs.Message.{Seen}
 use Rattle.kd_options.specs.declared.kind.MessageType.TheVariants as types
@@ -226,10 +226,10 @@ client_lines asks s set checks (Some client) = rule_lines (asks client) s set ch
 
 -- the line of a check at which the message ends before its rule, or else its rule's lines, and the
 -- room for the reply where that is why there is none
-abbrev pub checks_by : Answer → Seen → List ℕ → List ℕ
-checks_by (answers.Quiet reasons.NotRequest) m rule = sender_line m
-checks_by (answers.Quiet reasons.NoIdentity) m rule = codes "check identity: none\n"
-checks_by (answers.Quiet reasons.DropClass) m rule = codes "check class: the client is in DROP\n"
-checks_by (answers.Quiet reasons.ReplyTooLong) m rule =
+abbrev pub checks_by : Result Plan Reason → Seen → List ℕ → List ℕ
+checks_by (Err reasons.NotRequest) m rule = sender_line m
+checks_by (Err reasons.NoIdentity) m rule = codes "check identity: none\n"
+checks_by (Err reasons.DropClass) m rule = codes "check class: the client is in DROP\n"
+checks_by (Err reasons.ReplyTooLong) m rule =
     rule ++ codes "check room: too small for the options that the reply must have\n"
 checks_by other m rule = rule

@@ -1,6 +1,6 @@
 -- The lines of what a message is and of what is found for it: its classes, its place, its subnet,
 -- its reservation and the ranks of addresses.
-use Rattle.std.specs.Prelude.{ℕ, ◌==◌, ◌&&◌, not, Bool, true, false, is_some, if◌then◌else◌, List, [], ◌∷◌, ◌++◌, drop, Option, Some, None, codes, decimal, option_copied}
+use Rattle.std.specs.Prelude.{ℕ, ◌==◌, ◌&&◌, not, Bool, true, false, is_some, if◌then◌else◌, List, [], ◌∷◌, ◌++◌, drop, Option, Some, None, Result, Err, codes, decimal, option_copied}
 use Rattle.std.specs.List.{flat_map}
 use Rattle.kd_classes.specs.declared.definition.ClassDef.{ClassDef}
 use Rattle.kd_config.specs.Address.{has_address}
@@ -9,13 +9,13 @@ use Rattle.kd_config.specs.declared.reservation.Identity.{Identity}
 use Rattle.kd_config.specs.declared.reservation.Identity.TheVariants as identities
 use Rattle.kd_config.specs.declared.reservation.Reservation.{Reservation}
 use Rattle.kd_config.specs.declared.subnet.Subnet.{Subnet}
+use Rattle.kd_event.specs.declared.reason.Reason.{Reason}
 use Rattle.kd_event.specs.declared.reason.Reason.TheVariants as reasons
 use Rattle.kd_lease.specs.Choice.{requested_address}
 use Rattle.kd_lease.specs.Client.{kind_of}
 use Rattle.kd_lease.specs.Rules.{named_server}
 use Rattle.kd_lease.specs.SubnetOf.{message_place, served_by}
-use Rattle.kd_lease.specs.declared.plan.Answer.{Answer}
-use Rattle.kd_lease.specs.declared.plan.Answer.TheVariants as answers
+use Rattle.kd_lease.specs.declared.plan.Plan.{Plan}
 use Rattle.kd_lease.specs.declared.ranks.Ranks.{Ranks}
 use Rattle.kd_machine.specs.declared.run.Outcome.{Outcome}
 use Rattle.kd_options.specs.Kind.{type_number}
@@ -178,10 +178,10 @@ rank_lines ranks =
     ++ rank_line (winning_rank ranks == 6) (codes "6 expired") ranks.expired
 
 -- no check before its type ends a message
-abbrev pub reaches_rule : Answer → Bool
-reaches_rule (answers.Quiet reasons.NotRequest) = false
-reaches_rule (answers.Quiet reasons.NoIdentity) = false
-reaches_rule (answers.Quiet reasons.DropClass) = false
+abbrev pub reaches_rule : Result Plan Reason → Bool
+reaches_rule (Err reasons.NotRequest) = false
+reaches_rule (Err reasons.NoIdentity) = false
+reaches_rule (Err reasons.DropClass) = false
 reaches_rule other = true
 
 -- the lines of the ranks that are found, if they are
@@ -190,7 +190,7 @@ ranks_text None = []
 ranks_text (Some ranks) = rank_lines ranks
 
 -- those of a DISCOVER that its rule answers: other messages choose no address
-abbrev pub chosen_text : Seen → Answer → Option Ranks → List ℕ
+abbrev pub chosen_text : Seen → Result Plan Reason → Option Ranks → List ℕ
 chosen_text m answer ranks =
     if kind_of m == type_number types.Discover && reaches_rule answer then ranks_text ranks else []
 

@@ -1,12 +1,10 @@
 -- The lines of what a message gets: how it ends, the options of its reply, and the row that it sets.
-use Rattle.std.specs.Prelude.{◌≡◌, ℕ, max, Bool, true, false, ◌==◌, ◌||◌, if◌then◌else◌, List, [], ◌∷◌, ◌++◌, Option, Some, None, codes, decimal, slice_get, option_copied}
+use Rattle.std.specs.Prelude.{◌≡◌, ℕ, max, Bool, true, false, ◌==◌, ◌||◌, if◌then◌else◌, List, [], ◌∷◌, ◌++◌, Option, Some, None, Result, Ok, Err, codes, decimal, slice_get, option_copied}
 use Rattle.kd_classes.specs.declared.definition.ClassDef.{ClassDef}
 use Rattle.kd_config.specs.Configuration.{Configuration}
 use Rattle.kd_config.specs.declared.subnet.Subnet.{Subnet}
 use Rattle.kd_event.specs.Reason.{reason_name, reason_number}
 use Rattle.kd_event.specs.declared.reason.Reason.{Reason}
-use Rattle.kd_lease.specs.declared.plan.Answer.{Answer}
-use Rattle.kd_lease.specs.declared.plan.Answer.TheVariants as answers
 use Rattle.kd_lease.specs.declared.plan.Plan.{Plan}
 use Rattle.kd_lease.specs.declared.plan.PlanKind.{PlanKind}
 use Rattle.kd_lease.specs.declared.plan.PlanKind.TheVariants as kinds
@@ -121,8 +119,8 @@ pub record AreOptionsOf (config : Configuration) (m : Seen) (e : Explanation) (p
       plan.reply.items text
 
 -- the lines of how a message ends: its reply and the options of that, or why there is none
-abbrev pub IsEndText : Configuration → Seen → Explanation → Answer → List ℕ → Type 0
-IsEndText config m e (answers.Plan plan) text =
+abbrev pub IsEndText : Configuration → Seen → Explanation → Result Plan Reason → List ℕ → Type 0
+IsEndText config m e (Ok plan) text =
     (options : List ℕ) × AreOptionsOf config m e plan options
     × (text ≡ ends_line plan.kind plan.yiaddr ++ options)
-IsEndText config m e (answers.Quiet reason) text = text ≡ silence_line reason
+IsEndText config m e (Err reason) text = text ≡ silence_line reason

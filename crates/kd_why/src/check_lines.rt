@@ -13,7 +13,7 @@ use crate::request_lines::put_request;
 use crate::text::Scene;
 use kd_config::Subnet;
 use kd_event::Reason;
-use kd_lease::{Answer, Ground, Question, is_held_at, server_of};
+use kd_lease::{Ground, Plan, Question, is_held_at, server_of};
 use kd_options::MessageType;
 use kd_rows::Row;
 use kd_wire::Bytes;
@@ -41,10 +41,10 @@ pub(crate) fn put_checks(out: &mut String, scene: &Scene<'_>) -> Result<(), Allo
         scene.now.explanation.now.checks scene.now.explanation.now.client)) }
 {
     match &scene.explanation.decision.answer {
-        Answer::Quiet(Reason::NotRequest) => put_sender(out, scene.message),
-        Answer::Quiet(Reason::NoIdentity) => out.push_str("check identity: none\n"),
-        Answer::Quiet(Reason::DropClass) => out.push_str("check class: the client is in DROP\n"),
-        Answer::Quiet(Reason::ReplyTooLong) => {
+        Err(Reason::NotRequest) => put_sender(out, scene.message),
+        Err(Reason::NoIdentity) => out.push_str("check identity: none\n"),
+        Err(Reason::DropClass) => out.push_str("check class: the client is in DROP\n"),
+        Err(Reason::ReplyTooLong) => {
             put_rule(out, scene)?;
             out.push_str("check room: too small for the options that the reply must have\n")
         }
@@ -53,13 +53,13 @@ pub(crate) fn put_checks(out: &mut String, scene: &Scene<'_>) -> Result<(), Allo
 }
 
 // No check before its type ends the message.
-pub(crate) fn is_ruled(answer: &Answer) -> bool
+pub(crate) fn is_ruled(answer: &Result<Plan, Reason>) -> bool
     ensures { result ≡ reaches_rule answer.now }
 {
     match answer {
-        Answer::Quiet(Reason::NotRequest) => false,
-        Answer::Quiet(Reason::NoIdentity) => false,
-        Answer::Quiet(Reason::DropClass) => false,
+        Err(Reason::NotRequest) => false,
+        Err(Reason::NoIdentity) => false,
+        Err(Reason::DropClass) => false,
         _ => true,
     }
 }

@@ -6,7 +6,7 @@ use crate::option_lines::put_options;
 use crate::text::Scene;
 use crate::words::put_row;
 use kd_event::Reason;
-use kd_lease::{Answer, Plan, PlanKind};
+use kd_lease::{Plan, PlanKind};
 use kd_replay::put_address;
 use kd_rows::Row;
 use std::alloc::{AllocError, Global};
@@ -20,8 +20,8 @@ pub(crate) fn put_end(out: &mut String, scene: &Scene<'_>) -> Result<(), AllocEr
         × (string_bytes out.new ≡ string_bytes out.old ++ text)) }
 {
     match &scene.explanation.decision.answer {
-        Answer::Plan(plan) => put_plan(out, scene, plan),
-        Answer::Quiet(reason) => put_reason(out, *reason),
+        Ok(plan) => put_plan(out, scene, plan),
+        Err(reason) => put_reason(out, *reason),
     }
 }
 

@@ -7,7 +7,7 @@ returns-clause-failed c =
     let leases = c.args.leases.now in
     let turn = c.in_ok-turn.turn in
     left_out_if leases.config c.args.ports leases.table.rows c.stage_turn.new.leases.table.rows (record { moment = c.args.moment; bytes = c.args.bytes.now }) c.max-now.result
-    turn.row turn.response c.stage_turn.result (omega (arith))
-    (turn_over _ leases.config c.args.ports _ leases.table.rows c.max-now.result c.args.bytes.now turn.row turn.response c.ground.ensures.config c.ground.ensures.rows
+    turn.0 turn.1 c.stage_turn.result (omega (arith))
+    (turn_over _ leases.config c.args.ports _ leases.table.rows c.max-now.result c.args.bytes.now turn.0 turn.1 c.ground.ensures.config c.ground.ensures.rows
     c.in_ok-turn.ensures.found)
     c.stage_turn.ensures.unset

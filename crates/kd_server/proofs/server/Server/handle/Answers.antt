@@ -16,8 +16,8 @@ returns-clause-failed g c =
     let new : Configuration → Keeping _ = λ k. record { ports = ports; config = k; rows = c.settle.new.leases.table.rows; store = c.settle.new.store } in
     subst (λ (k : Keeping _). IfErr c.settle.result (λ fault. Refuses g.S.Keeps k event fault (new c.settle.new.leases.config))) c.self.view_is
     (subst (λ (k : Configuration). IfErr c.settle.result (λ fault. Refuses g.S.Keeps old event fault (new k))) (sym c.settle.ensures.config)
-    (refused_if g.S.Keeps old event c.in_ok-turn.turn.row c.in_ok-turn.turn.response c.max-now.result c.settle.result c.settle.new.leases.table.rows c.settle.new.store
+    (refused_if g.S.Keeps old event c.in_ok-turn.turn.0 c.in_ok-turn.turn.1 c.max-now.result c.settle.result c.settle.new.leases.table.rows c.settle.new.store
     (sym c.failed.ensures ∙ c.if-failed.false) (omega arith) (c.max-now.ensures ∙ ap (max c.args.moment) (c.latest.ensures.latest ∙ ap latest_of c.rows.ensures.rows))
-    (turn_over _ config ports _ c.self.inside.leases.table.rows c.max-now.result c.args.bytes.now c.in_ok-turn.turn.row c.in_ok-turn.turn.response c.ground.ensures.config c.ground.ensures.rows
+    (turn_over _ config ports _ c.self.inside.leases.table.rows c.max-now.result c.args.bytes.now c.in_ok-turn.turn.0 c.in_ok-turn.turn.1 c.ground.ensures.config c.ground.ensures.rows
     c.in_ok-turn.ensures.found)
     c.settle.ensures.failed))
