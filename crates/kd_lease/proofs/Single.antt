@@ -8,7 +8,7 @@ use Rattle.kd_config.specs.Address.{has_address}
 use Rattle.kd_config.specs.declared.subnet.Subnet.{Subnet}
 use Rattle.kd_event.specs.declared.reason.Reason.{Reason}
 use Rattle.kd_event.specs.declared.reason.Reason.TheVariants as reasons
-use Rattle.kd_lease.specs.Change.{AnswersTo, Decides, ForClient, HasOptions, Unless, WhereFits, after, asked_for, fits_in}
+use Rattle.kd_lease.specs.Change.{AnswersTo, Decides, ForClient, HasReplyOptions, Unless, WhereFits, after, asked_for, fits_in}
 use Rattle.kd_lease.specs.Choice.{Asking, Choice, IsFirstOf, NoChoice, Rank, address_reserved, changed_in, fitting_for, free_for, pool_place, place, requested_address, same_address, set_later, usable}
 use Rattle.kd_lease.specs.Choice.Rank.{asked, expired, fresh, own, past, reserved}
 use Rattle.kd_lease.specs.Client.{client_identity, reply_room, server_message}
@@ -322,7 +322,7 @@ abbrev with_options : Asking → Outcome → Outcome
 with_options q (planned kind a options) = planned kind a (reply_options q kind a)
 with_options q (quiet reason) = quiet reason
 
-whole : (q : Asking) (outcome : Outcome) → HasOptions q outcome → outcome ≡ with_options q (bare outcome)
+whole : (q : Asking) (outcome : Outcome) → HasReplyOptions q outcome → outcome ≡ with_options q (bare outcome)
 whole q (planned kind a options) h = ap (planned kind a) h
 whole q (quiet reason) h = refl
 

@@ -19,9 +19,9 @@ use Rattle.kd_lease.specs.ReplyOptions.{reply_options}
 use Rattle.kd_lease.specs.Rules.{Does}
 
 -- a reply has its options, where there is one
-abbrev pub HasOptions : Asking → Outcome → Type 0
-HasOptions q (planned kind yiaddr options) = options ≡ reply_options q kind yiaddr
-HasOptions q (quiet reason) = Unit {0}
+abbrev pub HasReplyOptions : Asking → Outcome → Type 0
+HasReplyOptions q (planned kind yiaddr options) = options ≡ reply_options q kind yiaddr
+HasReplyOptions q (quiet reason) = Unit {0}
 
 -- the obligatory options fit, where there is a reply
 abbrev pub fits_in : ℕ → Outcome → Bool
@@ -38,7 +38,7 @@ pub record AnswersTo (q : Asking) (set : Option Row) (got : Outcome) : Type 0 wh
   pub row : Option Row
   pub outcome : Outcome
   pub does : Does q row outcome
-  pub options : HasOptions q outcome
+  pub options : HasReplyOptions q outcome
   pub replies : WhereFits (fits_in (reply_room q.message) outcome) row outcome set got
 
 -- nothing is done and there is no answer, for this reason, where it applies

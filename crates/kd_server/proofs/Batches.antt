@@ -1,5 +1,5 @@
 -- Events that are handled together: the rows that they set, and how the batch ends.
-use Rattle.std.proofs.Common.{◌≡◌, ◌≢◌, ◌⊎◌, inl, inr, ℕ, ◌^◌, ◌<◌, IfErr, List, [], ◌∷◌, Option, Some, None, Result, Ok, Err, false, is_some, drop, take, refl, sym, subst, ◌∙◌}
+use Rattle.std.proofs.Common.{◌≡◌, ◌≢◌, ◌⊎◌, inl, inr, ℕ, List, [], ◌∷◌, Option, Some, None, false, is_some, drop, take, refl, sym, subst, ◌∙◌}
 use Rattle.std.proofs.lemmas.List.{take-append-drop}
 use Rattle.kd_config.specs.Configuration.{Configuration}
 use Rattle.kd_event.specs.declared.event.Event.{Event}
@@ -15,10 +15,8 @@ use Rattle.kd_replay.specs.declared.fault.ServeFault.TheVariants as faults
 use Rattle.kd_rows.specs.declared.row.Row.{Row}
 use Rattle.kd_server.specs.Batch.{Batched, IsChangedBy, IsCommitted, LeavesOut}
 use Rattle.kd_server.specs.Keeping.{Keeping, StepsTo}
-use Rattle.kd_server.specs.Staging.{IsUnset}
 use Rattle.kd_server.specs.Turn.{IsTurn}
 use Rattle.kd_replay.proofs.Histories.{runs_none}
-use Rattle.kd_server.proofs.Stopping.{headed}
 
 -- an event that is not handled leaves the rows
 pub left_rows : (fault : ServeFault) (rows : List Row) (event : Event) (new : List Row) → LeavesOut rows event fault new → new ≡ rows
@@ -63,14 +61,6 @@ pub turn_over : (c config : Configuration) (ports : Ports) (r rows : List Row) (
     → IsTurn c ports r now bytes row response → IsTurn config ports rows now bytes row response
 turn_over c config ports r rows now bytes row response one two turn =
     subst (λ (k : Configuration). IsTurn k ports rows now bytes row response) one (subst (λ (l : List Row). IsTurn c ports l now bytes row response) two turn)
-
--- where its row is not set the event is left out
-pub left_out_if : (config : Configuration) (ports : Ports) (rows new : List Row) (event : Event) (now : ℕ) (row : Option Row) (response : Response) (result : Result Handled ServeFault)
-    → event.moment < 2 ^ 40 → IsTurn config ports rows now event.bytes row response → IfErr result (IsUnset rows new (after rows row))
-    → IfErr result (λ fault. LeavesOut rows event fault new)
-left_out_if config ports rows new event now row response (Ok handled) early turn unset = tt
-left_out_if config ports rows new event now row response (Err fault) early turn unset =
-    subst (λ (f : ServeFault). LeavesOut rows event f new) (sym unset.memory) (early, headed config ports rows now event.bytes row response turn unset.changed, unset.same)
 
 -- no event is left out for a fault of the store
 no_store : (why : StoreFault) (after : List Event) (list : List Handled) (mid new : List Row) → Halts LeavesOut (Some (faults.Store why)) after list mid new → ⊥

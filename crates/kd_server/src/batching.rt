@@ -15,7 +15,7 @@ use crate::leases::copy_of;
 use crate::server::MOMENTS;
 use crate::turning::turn_at;
 use kd_config::Config;
-use kd_event::{Handled, Ports, Response};
+use kd_event::{Handled, Ports};
 use kd_keeps::{Keeps, StoreFault};
 use kd_lease::Leases;
 use kd_replay::{Arrived, ServeFault};
@@ -105,28 +105,7 @@ fn handle_at(
         return Err(ServeFault::MomentTooLarge);
     }
     let now = moment.max(leases.rows().latest());
-    let turn = turn_at(alloc, ports, leases.ground(), now, bytes)?;
-    stage_turn(alloc, leases, set, now, turn)
-}
-
-// Sets the row of a datagram, as `stage`, and hands out what is sent for it.
-fn stage_turn(
-    alloc: Global,
-    leases: &mut Leases,
-    set: &mut Vec<Row>,
-    now: u64,
-    turn: (Option<Row>, Response),
-) -> Result<Handled, ServeFault>
-    requires { IfSome turn.0 (IsSettable leases.old.table.rows) }
-    ensures handled { IfOk result
-        (λ handled. handled ≡ record { now = now; response = turn.1 }) }
-    ensures config { leases.new.config ≡ leases.old.config }
-    ensures rows { OnOk result (leases.new.table.rows ≡ after leases.old.table.rows turn.0) }
-    ensures unset { IfErr result
-        (IsUnset leases.old.table.rows leases.new.table.rows (after leases.old.table.rows turn.0)) }
-    ensures set { Stages leases.old.table.rows set.old.items leases.new.table.rows set.new.items }
-{
-    let (row, response) = turn;
+    let (row, response) = turn_at(alloc, ports, leases.ground(), now, bytes)?;
     stage(alloc, leases, set, row)?;
     Ok(Handled { now, response })
 }

@@ -17,7 +17,7 @@ use crate::batching::{handle_each, keep_all};
 use crate::leases::{Lease, leases_at};
 use crate::turning::turn_at;
 use kd_config::Config;
-use kd_event::{Event, Handled, Ports, Response};
+use kd_event::{Event, Handled, Ports};
 use kd_keeps::{Keeps, Opened};
 use kd_lease::Leases;
 use kd_replay::{Arrived, ServeFault, Serves, ServesAll, run_with};
@@ -195,8 +195,9 @@ impl<S: Keeps> Server<S> {
             return Err(ServeFault::MomentTooLarge);
         }
         let now = moment.max(self.leases.rows().latest());
-        let turn = turn_at(self.alloc, self.ports, self.leases.ground(), now, bytes)?;
-        settle(&mut self.leases, &mut self.store, now, turn)
+        let (row, response) = turn_at(self.alloc, self.ports, self.leases.ground(), now, bytes)?;
+        keep(&mut self.leases, &mut self.store, row)?;
+        Ok(Handled { now, response })
     }
 
     /// What is sent for events, in their order, each at its moment; the rows that they set are
@@ -288,30 +289,6 @@ fn seat<S: Keeps>(
         }),
         Err(config) => Err((ServeFault::Memory, config, store)),
     }
-}
-
-// Keeps the row that a datagram sets, and then hands out what is sent for it.
-fn settle<S: Keeps>(
-    leases: &mut Leases,
-    store: &mut S,
-    now: u64,
-    turn: (Option<Row>, Response),
-) -> Result<Handled, ServeFault>
-    requires works { is_some (S.fault store.old) ≡ false }
-    requires set { IfSome turn.0 (IsSettable leases.old.table.rows) }
-    ensures handled { IfOk result
-        (λ handled. handled ≡ record { now = now; response = turn.1 }) }
-    ensures config { leases.new.config ≡ leases.old.config }
-    ensures rows { OnOk result (leases.new.table.rows ≡ after leases.old.table.rows turn.0) }
-    ensures store { OnOk result
-        (StillHolds S.Keeps store.old store.new leases.old.table.rows leases.new.table.rows) }
-    ensures failed { IfErr result
-        (IsUnkept S.Keeps leases.old.table.rows leases.new.table.rows store.old store.new
-        (after leases.old.table.rows turn.0)) }
-{
-    let (row, response) = turn;
-    keep(leases, store, row)?;
-    Ok(Handled { now, response })
 }
 
 // Sets a row in the store and among the rows, where there is one and it changes them.

@@ -11,7 +11,7 @@ use crate::batching::Rules;
 use crate::leases::copy_of;
 use crate::server::MOMENTS;
 use crate::turning::turn_at;
-use kd_event::{Handled, Response};
+use kd_event::Handled;
 use kd_lease::Ground;
 use kd_replay::ServeFault;
 use kd_rows::{Row, Rows};
@@ -86,8 +86,9 @@ impl<'a> Trial<'a> {
         } = self.rules;
         let now = moment.max(self.rows.latest());
         let over = Ground::of(config, &self.rows);
-        let turn = turn_at(alloc, ports, over, now, bytes)?;
-        taken(&mut self.rows, now, turn)
+        let (row, response) = turn_at(alloc, ports, over, now, bytes)?;
+        put(&mut self.rows, row)?;
+        Ok(Handled { now, response })
     }
 }
 
@@ -110,30 +111,10 @@ impl Rules<'_> {
             return Err(ServeFault::MomentTooLarge);
         }
         let now = moment.max(rows.latest());
-        let turn = turn_at(
-            self.alloc,
-            self.ports,
-            Ground::of(self.config, rows),
-            now,
-            bytes,
-        )?;
-        let (_, response) = turn;
+        let over = Ground::of(self.config, rows);
+        let (_, response) = turn_at(self.alloc, self.ports, over, now, bytes)?;
         Ok(Handled { now, response })
     }
-}
-
-// Sets the row of a datagram, and hands out what is sent for it.
-fn taken(rows: &mut Rows, now: u64, turn: (Option<Row>, Response)) -> Result<Handled, ServeFault>
-    requires { IfSome turn.0 (IsSettable rows.old.rows) }
-    ensures handled { IfOk result
-        (λ handled. handled ≡ record { now = now; response = turn.1 }) }
-    ensures rows { OnOk result (rows.new.rows ≡ after rows.old.rows turn.0) }
-    ensures unset { IfErr result
-        (IsUnset rows.old.rows rows.new.rows (after rows.old.rows turn.0)) }
-{
-    let (row, response) = turn;
-    put(rows, row)?;
-    Ok(Handled { now, response })
 }
 
 // Sets a row, where there is one.
