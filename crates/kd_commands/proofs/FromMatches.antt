@@ -62,20 +62,20 @@ asks_for ws (Eval program datagram) asked gives h =
 asks_for ws (EvalText text datagram) asked gives h =
     let is : tests (string_bytes text) (string_bytes datagram) ≡ asked = cc in
     subst (Asks ws) (sym is) h
-asks_for ws (Replay config token_dir store why) asked gives h =
-    let is : replays (option_map string_bytes config) (option_map string_bytes token_dir) (option_map string_bytes store) why ≡ asked = cc in
+asks_for ws (Replay files why) asked gives h =
+    let is : replays (option_map string_bytes files.config) (option_map string_bytes files.token_dir) (option_map string_bytes files.store) why ≡ asked = cc in
     subst (Asks ws) (sym is) h
-asks_for ws (ListOrder listing config token_dir store at) asked gives h =
-    let is : lists listing (option_map string_bytes config) (option_map string_bytes token_dir) (option_map string_bytes store) at ≡ asked = cc in
+asks_for ws (ListOrder listing files at) asked gives h =
+    let is : lists listing (option_map string_bytes files.config) (option_map string_bytes files.token_dir) (option_map string_bytes files.store) at ≡ asked = cc in
     subst (Asks ws) (sym is) h
 asks_for ws (Look listing config token_dir store at) asked gives h =
     let is : looks listing (option_map string_bytes config) (option_map string_bytes token_dir) (string_bytes store) at ≡ asked = cc in
     subst (Asks ws) (sym is) h
-asks_for ws (Why config token_dir store live at hex) asked gives h =
+asks_for ws (Why files live at hex) asked gives h =
     let is : explains (record {
-      config = option_map string_bytes config;
-      token_dir = option_map string_bytes token_dir;
-      store = option_map string_bytes store;
+      config = option_map string_bytes files.config;
+      token_dir = option_map string_bytes files.token_dir;
+      store = option_map string_bytes files.store;
       live = live;
       at = at;
       hex = string_bytes hex;
@@ -85,21 +85,21 @@ asks_for ws (Import store) asked gives h = let is : imports (string_bytes store)
 asks_for ws (Events mac address) asked gives h =
     let is : filters (option_map (λ bytes. bytes.items) mac) address ≡ asked = cc in
     subst (Asks ws) (sym is) h
-asks_for ws (Check config token_dir store bind port max_ahead) asked gives h =
+asks_for ws (Check files bind port max_ahead) asked gives h =
     let is : checks (record {
-      config = option_map string_bytes config;
-      token_dir = option_map string_bytes token_dir;
-      store = option_map string_bytes store;
+      config = option_map string_bytes files.config;
+      token_dir = option_map string_bytes files.token_dir;
+      store = option_map string_bytes files.store;
       bind = bind;
       port = port;
       max_ahead = max_ahead;
     }) ≡ asked = cc in
     subst (Asks ws) (sym is) h
-asks_for ws (Serve config token_dir store listening count journal max_ahead) asked gives h =
+asks_for ws (Serve files listening count journal max_ahead) asked gives h =
     let is : serves (record {
-      config = option_map string_bytes config;
-      token_dir = option_map string_bytes token_dir;
-      store = option_map string_bytes store;
+      config = option_map string_bytes files.config;
+      token_dir = option_map string_bytes files.token_dir;
+      store = option_map string_bytes files.store;
       listening = listening;
       count = count;
       journal = option_map string_bytes journal;

@@ -427,20 +427,20 @@ AsksFor words (Eval program datagram) =
     Asks words (evaluates (string_bytes program) (string_bytes datagram))
 AsksFor words (EvalText text datagram) =
     Asks words (tests (string_bytes text) (string_bytes datagram))
-AsksFor words (Replay config token_dir store why) = Asks words
-    (replays (option_map string_bytes config) (option_map string_bytes token_dir)
-    (option_map string_bytes store) why)
-AsksFor words (ListOrder listing config token_dir store at) = Asks words
-    (lists listing (option_map string_bytes config) (option_map string_bytes token_dir)
-    (option_map string_bytes store) at)
+AsksFor words (Replay files why) = Asks words
+    (replays (option_map string_bytes files.config) (option_map string_bytes files.token_dir)
+    (option_map string_bytes files.store) why)
+AsksFor words (ListOrder listing files at) = Asks words
+    (lists listing (option_map string_bytes files.config) (option_map string_bytes files.token_dir)
+    (option_map string_bytes files.store) at)
 AsksFor words (Look listing config token_dir store at) = Asks words
     (looks listing (option_map string_bytes config) (option_map string_bytes token_dir)
     (string_bytes store) at)
-AsksFor words (Why config token_dir store live at hex) =
+AsksFor words (Why files live at hex) =
     Asks words (explains (record {
-      config = option_map string_bytes config;
-      token_dir = option_map string_bytes token_dir;
-      store = option_map string_bytes store;
+      config = option_map string_bytes files.config;
+      token_dir = option_map string_bytes files.token_dir;
+      store = option_map string_bytes files.store;
       live = live;
       at = at;
       hex = string_bytes hex;
@@ -448,20 +448,20 @@ AsksFor words (Why config token_dir store live at hex) =
 AsksFor words (Import store) = Asks words (imports (string_bytes store))
 AsksFor words (Events mac address) =
     Asks words (filters (option_map (λ bytes. bytes.items) mac) address)
-AsksFor words (Check config token_dir store bind port max_ahead) =
+AsksFor words (Check files bind port max_ahead) =
     Asks words (checks (record {
-      config = option_map string_bytes config;
-      token_dir = option_map string_bytes token_dir;
-      store = option_map string_bytes store;
+      config = option_map string_bytes files.config;
+      token_dir = option_map string_bytes files.token_dir;
+      store = option_map string_bytes files.store;
       bind = bind;
       port = port;
       max_ahead = max_ahead;
     }))
-AsksFor words (Serve config token_dir store listening count journal max_ahead) =
+AsksFor words (Serve files listening count journal max_ahead) =
     Asks words (serves (record {
-      config = option_map string_bytes config;
-      token_dir = option_map string_bytes token_dir;
-      store = option_map string_bytes store;
+      config = option_map string_bytes files.config;
+      token_dir = option_map string_bytes files.token_dir;
+      store = option_map string_bytes files.store;
       listening = listening;
       count = count;
       journal = option_map string_bytes journal;
@@ -483,40 +483,40 @@ given_by (Compile text) = Some (compiles (string_bytes text))
 given_by (Verify hex) = Some (verifies (string_bytes hex))
 given_by (Eval program datagram) = Some (evaluates (string_bytes program) (string_bytes datagram))
 given_by (EvalText text datagram) = Some (tests (string_bytes text) (string_bytes datagram))
-given_by (Replay config token_dir store why) = Some
-    (replays (option_map string_bytes config) (option_map string_bytes token_dir)
-    (option_map string_bytes store) why)
-given_by (ListOrder listing config token_dir store at) = Some
-    (lists listing (option_map string_bytes config) (option_map string_bytes token_dir)
-    (option_map string_bytes store) at)
+given_by (Replay files why) = Some
+    (replays (option_map string_bytes files.config) (option_map string_bytes files.token_dir)
+    (option_map string_bytes files.store) why)
+given_by (ListOrder listing files at) = Some
+    (lists listing (option_map string_bytes files.config) (option_map string_bytes files.token_dir)
+    (option_map string_bytes files.store) at)
 given_by (Look listing config token_dir store at) = Some
     (looks listing (option_map string_bytes config) (option_map string_bytes token_dir)
     (string_bytes store) at)
-given_by (Why config token_dir store live at hex) =
+given_by (Why files live at hex) =
     Some (explains (record {
-      config = option_map string_bytes config;
-      token_dir = option_map string_bytes token_dir;
-      store = option_map string_bytes store;
+      config = option_map string_bytes files.config;
+      token_dir = option_map string_bytes files.token_dir;
+      store = option_map string_bytes files.store;
       live = live;
       at = at;
       hex = string_bytes hex;
     }))
 given_by (Import store) = Some (imports (string_bytes store))
 given_by (Events mac address) = Some (filters (option_map (λ bytes. bytes.items) mac) address)
-given_by (Check config token_dir store bind port max_ahead) =
+given_by (Check files bind port max_ahead) =
     Some (checks (record {
-      config = option_map string_bytes config;
-      token_dir = option_map string_bytes token_dir;
-      store = option_map string_bytes store;
+      config = option_map string_bytes files.config;
+      token_dir = option_map string_bytes files.token_dir;
+      store = option_map string_bytes files.store;
       bind = bind;
       port = port;
       max_ahead = max_ahead;
     }))
-given_by (Serve config token_dir store listening count journal max_ahead) =
+given_by (Serve files listening count journal max_ahead) =
     Some (serves (record {
-      config = option_map string_bytes config;
-      token_dir = option_map string_bytes token_dir;
-      store = option_map string_bytes store;
+      config = option_map string_bytes files.config;
+      token_dir = option_map string_bytes files.token_dir;
+      store = option_map string_bytes files.store;
       listening = listening;
       count = count;
       journal = option_map string_bytes journal;

@@ -15,5 +15,5 @@ mod orders;
 mod words;
 
 pub use fault::LineFault;
-pub use orders::{Listening, Listing, Order};
+pub use orders::{Files, Listening, Listing, Order};
 pub use words::order;

@@ -13,29 +13,29 @@ use std::alloc::{AllocError, Global};
 pub(crate) fn kdhcp<'a>(alloc: Global) -> Result<Command<'a>, AllocError>
     ensures { IfOk result (λ c. app_of c ≡ command_line) }
 {
-    let to_eval = added(tools(alloc), eval(alloc));
-    let to_replay = added(to_eval, replay(alloc));
-    let to_leases = added(to_replay, leases(alloc));
-    let to_pools = added(to_leases, pools(alloc));
-    let to_why = added(to_pools, why(alloc));
-    let to_import = added(to_why, import(alloc));
-    let to_events = added(to_import, events(alloc));
-    let to_check = added(to_events, check(alloc));
-    added(to_check, serve(alloc))
+    let to_eval = add_subcommand(tools(alloc), eval(alloc));
+    let to_replay = add_subcommand(to_eval, replay(alloc));
+    let to_leases = add_subcommand(to_replay, leases(alloc));
+    let to_pools = add_subcommand(to_leases, pools(alloc));
+    let to_why = add_subcommand(to_pools, why(alloc));
+    let to_import = add_subcommand(to_why, import(alloc));
+    let to_events = add_subcommand(to_import, events(alloc));
+    let to_check = add_subcommand(to_events, check(alloc));
+    add_subcommand(to_check, serve(alloc))
 }
 
 // The command line up to its subcommands of one text.
 fn tools<'a>(alloc: Global) -> Result<Command<'a>, AllocError>
     ensures { IfOk result (λ c. app_of c ≡ tools_line) }
 {
-    let to_show = added(program(alloc), show(alloc));
-    let to_expr = added(to_show, expr(alloc));
-    let to_compile = added(to_expr, compile(alloc));
-    added(to_compile, verify(alloc))
+    let to_show = add_subcommand(program(alloc), show(alloc));
+    let to_expr = add_subcommand(to_show, expr(alloc));
+    let to_compile = add_subcommand(to_expr, compile(alloc));
+    add_subcommand(to_compile, verify(alloc))
 }
 
 // A command line with one subcommand more, where there was memory for both.
-fn added<'a>(
+fn add_subcommand<'a>(
     line: Result<Command<'a>, AllocError>,
     subcommand: Result<Command<'a>, AllocError>,
 ) -> Result<Command<'a>, AllocError>
@@ -173,7 +173,7 @@ fn eval<'a>(alloc: Global) -> Result<Command<'a>, AllocError>
 }
 
 // `--NAME VALUE`: the option's name, what help calls its value, and what help says of it.
-fn valued<'a>(alloc: Global, name: &'a str, value: &'a str, help: &'a str) -> Arg<'a>
+fn value_option<'a>(alloc: Global, name: &'a str, value: &'a str, help: &'a str) -> Arg<'a>
     ensures rule { rule_of result ≡ value_rule name.entry.now }
     ensures local { result.global ≡ false }
 {
@@ -194,9 +194,9 @@ fn over_files<'a>(
     ensures app { IfOk result (λ c. app_of c ≡ files_line name.entry.now) }
     ensures local { IfOk result (λ c. (out-Command c).has_globals ≡ false) }
 {
-    let config = valued(alloc, "config", "F", "The file of the configuration, JSON");
-    let token_dir = valued(alloc, "token-dir", "D", "The folder of the token files");
-    let store = valued(
+    let config = value_option(alloc, "config", "F", "The file of the configuration, JSON");
+    let token_dir = value_option(alloc, "token-dir", "D", "The folder of the token files");
+    let store = value_option(
         alloc,
         "store",
         "F",
@@ -221,7 +221,7 @@ fn replay<'a>(alloc: Global) -> Result<Command<'a>, AllocError>
         "Replay the events of standard input",
         "Example, the test of a configuration: kdhcp replay --config config.json < /dev/null",
     )?
-    .arg(valued(
+    .arg(value_option(
         alloc,
         "why",
         "N",
@@ -234,7 +234,7 @@ fn at_moment<'a>(alloc: Global) -> Arg<'a>
     ensures rule { rule_of result ≡ needed_value (codes "at") }
     ensures local { result.global ≡ false }
 {
-    valued(alloc, "at", "M", "The moment, in whole seconds").required(true)
+    value_option(alloc, "at", "M", "The moment, in whole seconds").required(true)
 }
 
 // A subcommand that lists a store at a moment: `NAME [--config F] [--token-dir D] [--store F]
@@ -316,7 +316,7 @@ fn into_store<'a>(alloc: Global) -> Arg<'a>
     ensures local { result.global ≡ false }
 {
     let help = "The file of the leases, a database of SQLite";
-    valued(alloc, "store", "F", help).required(true)
+    value_option(alloc, "store", "F", help).required(true)
 }
 
 // `import --store F`.
@@ -335,13 +335,13 @@ fn events<'a>(alloc: Global) -> Result<Command<'a>, AllocError>
     ensures app { IfOk result (λ c. app_of c ≡ events_line) }
     ensures local { IfOk result (λ c. (out-Command c).has_globals ≡ false) }
 {
-    let mac = valued(
+    let mac = value_option(
         alloc,
         "mac",
         "M",
         "Only replies to the hardware address M, as 02:00:00:00:00:01",
     );
-    let address = valued(alloc, "address", "A", "Only replies with the address A");
+    let address = value_option(alloc, "address", "A", "Only replies with the address A");
     Command::new(alloc, "events")
         .about("Print the replies of a log for people")
         .after_help("Example: kdhcp events --address 192.0.2.17 < kdhcp.log")
@@ -355,7 +355,7 @@ fn max_ahead<'a>(alloc: Global) -> Arg<'a>
     ensures local { result.global ≡ false }
 {
     let help = "End where the clock runs more than SECONDS seconds ahead";
-    valued(alloc, "max-ahead", "SECONDS", help)
+    value_option(alloc, "max-ahead", "SECONDS", help)
 }
 
 // `check [--config F] [--token-dir D] [--store F] [--bind A] [--port P] [--max-ahead SECONDS]`.
@@ -369,8 +369,8 @@ fn check<'a>(alloc: Global) -> Result<Command<'a>, AllocError>
         "Try each step of a start, and say in words what is wrong",
         "Example: kdhcp check --config kdhcp.json --store leases.db --bind 0.0.0.0",
     )?
-    .arg(valued(alloc, "bind", "A", "The socket's address, or 127.0.0.1"))?
-    .arg(valued(alloc, "port", "P", "The socket's UDP port, or 67"))?
+    .arg(value_option(alloc, "bind", "A", "The socket's address, or 127.0.0.1"))?
+    .arg(value_option(alloc, "port", "P", "The socket's UDP port, or 67"))?
     .arg(max_ahead(alloc))
 }
 
@@ -379,7 +379,7 @@ fn count<'a>(alloc: Global) -> Arg<'a>
     ensures rule { rule_of result ≡ needed_value (codes "count") }
     ensures local { result.global ≡ false }
 {
-    valued(alloc, "count", "N", "How many datagrams are served").required(true)
+    value_option(alloc, "count", "N", "How many datagrams are served").required(true)
 }
 
 // One that serves a link without end.
@@ -398,13 +398,13 @@ fn serve<'a>(alloc: Global) -> Result<Command<'a>, AllocError>
         "Serve datagrams on a UDP socket",
         SERVE_EXAMPLE,
     )?
-    .arg(valued(alloc, "bind", "A", "The socket's address, or 127.0.0.1"))?
-    .arg(valued(alloc, "port", "P", "The socket's UDP port, or 67"))?
-    .arg(valued(alloc, "client-port", "Q", "The clients' UDP port, or 68"))?
+    .arg(value_option(alloc, "bind", "A", "The socket's address, or 127.0.0.1"))?
+    .arg(value_option(alloc, "port", "P", "The socket's UDP port, or 67"))?
+    .arg(value_option(alloc, "client-port", "Q", "The clients' UDP port, or 68"))?
     .arg(count(alloc))?
-    .arg(valued(alloc, "broadcast-as", "A", "Stands in for 255.255.255.255"))?
+    .arg(value_option(alloc, "broadcast-as", "A", "Stands in for 255.255.255.255"))?
     .arg(flag(alloc, "mirror", "Reply to the sender of a datagram"))?
-    .arg(valued(
+    .arg(value_option(
         alloc,
         "record",
         "F",

@@ -43,12 +43,8 @@ pub enum Order {
     },
     /// The events of standard input, replayed.
     Replay {
-        /// The path of the configuration's file, where the line gives one.
-        config: Option<String>,
-        /// The path of the token files' folder, where the line gives one.
-        token_dir: Option<String>,
-        /// The path of the file of the leases, where the line gives one.
-        store: Option<String>,
+        /// The files that it goes by.
+        files: Files,
         /// The line of the event that is explained in place of handling it, 1 to 1,000,000, where
         /// the line gives one.
         why: Option<u64>,
@@ -57,12 +53,8 @@ pub enum Order {
     List {
         /// What is printed.
         listing: Listing,
-        /// The path of the configuration's file, where the line gives one.
-        config: Option<String>,
-        /// The path of the token files' folder, where the line gives one.
-        token_dir: Option<String>,
-        /// The path of the file of the leases, where the line gives one.
-        store: Option<String>,
+        /// The files that it goes by.
+        files: Files,
         /// The moment, in whole seconds.
         at: u64,
     },
@@ -81,12 +73,8 @@ pub enum Order {
     },
     /// What one datagram gets, and why.
     Why {
-        /// The path of the configuration's file, where the line gives one.
-        config: Option<String>,
-        /// The path of the token files' folder, where the line gives one.
-        token_dir: Option<String>,
-        /// The path of the file of the leases; it is there where `live` is.
-        store: Option<String>,
+        /// The files that it goes by; the path of the leases' file is there where `live` is.
+        files: Files,
         /// Whether another process may have the file of the leases open.
         live: bool,
         /// The moment of the datagram, in whole seconds.
@@ -109,12 +97,8 @@ pub enum Order {
     },
     /// Each step of a start, tried without serving.
     Check {
-        /// The path of the configuration's file, where the line gives one.
-        config: Option<String>,
-        /// The path of the token files' folder, where the line gives one.
-        token_dir: Option<String>,
-        /// The path of the file of the leases, where the line gives one.
-        store: Option<String>,
+        /// The files that it goes by.
+        files: Files,
         /// The address of the socket, an IPv4 address in host order.
         bind: u32,
         /// The UDP port of the socket, 1 to 65,535.
@@ -125,12 +109,8 @@ pub enum Order {
     },
     /// Datagrams of a UDP socket, served.
     Serve {
-        /// The path of the configuration's file, where the line gives one.
-        config: Option<String>,
-        /// The path of the token files' folder, where the line gives one.
-        token_dir: Option<String>,
-        /// The path of the file of the leases, where the line gives one.
-        store: Option<String>,
+        /// The files that it goes by.
+        files: Files,
         /// Where the socket is, and where replies go.
         listening: Listening,
         /// How many datagrams are served, 0 to 2^64 - 1.
@@ -141,6 +121,17 @@ pub enum Order {
         /// none.
         max_ahead: Option<u64>,
     },
+}
+
+/// The paths of the files that an order goes by, where the line gives them.
+#[derive(Drop)]
+pub struct Files {
+    /// The file of the configuration.
+    pub config: Option<String>,
+    /// The folder of the token files.
+    pub token_dir: Option<String>,
+    /// The file of the leases.
+    pub store: Option<String>,
 }
 
 /// What is printed of a table of leases at a moment.

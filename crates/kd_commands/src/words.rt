@@ -17,7 +17,7 @@ use crate::fault::LineFault;
 use crate::hardware::hardware_in;
 use crate::line::kdhcp;
 use crate::number::{event_line_in, number_in, port_in};
-use crate::orders::{Listening, Listing, Order};
+use crate::orders::{Files, Listening, Listing, Order};
 use clap::ArgMatches;
 use clap::error::ErrorKind;
 use std::alloc::{AllocError, Global};
@@ -69,25 +69,25 @@ fn order_named(alloc: Global, name: &str, inner: &ArgMatches<'_>) -> Result<Orde
     ensures { GivesIfThere (asked_by name.now (rows_of (found_of inner.now))) result }
 {
     match name {
-        "show" => shown(alloc, inner),
-        "expr" => typed(alloc, inner),
-        "compile" => compiled(alloc, inner),
-        "verify" => verified(alloc, inner),
-        "eval" => evaluated(alloc, inner),
-        "replay" => replayed(alloc, inner),
-        "leases" => listed(alloc, Listing::Leases, inner),
-        "pools" => listed_pools(alloc, inner),
-        "why" => explained(alloc, inner),
-        "import" => imported(alloc, inner),
-        "events" => filtered(alloc, inner),
-        "check" => checked(alloc, inner),
-        "serve" => served(alloc, inner),
+        "show" => show_order(alloc, inner),
+        "expr" => expr_order(alloc, inner),
+        "compile" => compile_order(alloc, inner),
+        "verify" => verify_order(alloc, inner),
+        "eval" => eval_order(alloc, inner),
+        "replay" => replay_order(alloc, inner),
+        "leases" => listing_order(alloc, Listing::Leases, inner),
+        "pools" => pools_order(alloc, inner),
+        "why" => why_order(alloc, inner),
+        "import" => import_order(alloc, inner),
+        "events" => events_order(alloc, inner),
+        "check" => check_order(alloc, inner),
+        "serve" => serve_order(alloc, inner),
         _ => Err(LineFault::CommandLine),
     }
 }
 
 // What matches of `show` ask for.
-fn shown(alloc: Global, matches: &ArgMatches<'_>) -> Result<Order, LineFault>
+fn show_order(alloc: Global, matches: &ArgMatches<'_>) -> Result<Order, LineFault>
     ensures { GivesIfThere (showing_of (first_value (found_of matches.now) (codes "names"))
         (first_value (found_of matches.now) (codes "HEX"))) result }
 {
@@ -99,7 +99,7 @@ fn shown(alloc: Global, matches: &ArgMatches<'_>) -> Result<Order, LineFault>
 }
 
 // What matches of `expr` ask for.
-fn typed(alloc: Global, matches: &ArgMatches<'_>) -> Result<Order, LineFault>
+fn expr_order(alloc: Global, matches: &ArgMatches<'_>) -> Result<Order, LineFault>
     ensures { GivesIfThere (option_map (λ text. types text)
         (first_value (found_of matches.now) (codes "TEXT"))) result }
 {
@@ -110,7 +110,7 @@ fn typed(alloc: Global, matches: &ArgMatches<'_>) -> Result<Order, LineFault>
 }
 
 // What matches of `compile` ask for.
-fn compiled(alloc: Global, matches: &ArgMatches<'_>) -> Result<Order, LineFault>
+fn compile_order(alloc: Global, matches: &ArgMatches<'_>) -> Result<Order, LineFault>
     ensures { GivesIfThere (option_map (λ text. compiles text)
         (first_value (found_of matches.now) (codes "TEXT"))) result }
 {
@@ -122,7 +122,7 @@ fn compiled(alloc: Global, matches: &ArgMatches<'_>) -> Result<Order, LineFault>
 }
 
 // What matches of `verify` ask for.
-fn verified(alloc: Global, matches: &ArgMatches<'_>) -> Result<Order, LineFault>
+fn verify_order(alloc: Global, matches: &ArgMatches<'_>) -> Result<Order, LineFault>
     ensures { GivesIfThere (option_map (λ hex. verifies hex)
         (first_value (found_of matches.now) (codes "HEX"))) result }
 {
@@ -133,7 +133,7 @@ fn verified(alloc: Global, matches: &ArgMatches<'_>) -> Result<Order, LineFault>
 }
 
 // What matches of `eval` ask for.
-fn evaluated(alloc: Global, matches: &ArgMatches<'_>) -> Result<Order, LineFault>
+fn eval_order(alloc: Global, matches: &ArgMatches<'_>) -> Result<Order, LineFault>
     ensures { GivesIfThere (evaluation_of (first_value (found_of matches.now) (codes "text"))
         (first_value (found_of matches.now) (codes "PROGRAM"))
         (first_value (found_of matches.now) (codes "DATAGRAM"))) result }
@@ -174,14 +174,6 @@ fn is_flagged(value: Option<&str>) -> bool
     }
 }
 
-// The paths of the files that a subcommand reads, where the line gives them.
-#[derive(Drop)]
-struct Files {
-    config: Option<String>,
-    token_dir: Option<String>,
-    store: Option<String>,
-}
-
 // The paths that matches give.
 fn files_of(alloc: Global, matches: &ArgMatches<'_>) -> Result<Files, AllocError>
     ensures config { IfOk result (λ files. option_map string_bytes files.config
@@ -202,7 +194,7 @@ fn files_of(alloc: Global, matches: &ArgMatches<'_>) -> Result<Files, AllocError
 }
 
 // What matches of `replay` ask for.
-fn replayed(alloc: Global, matches: &ArgMatches<'_>) -> Result<Order, LineFault>
+fn replay_order(alloc: Global, matches: &ArgMatches<'_>) -> Result<Order, LineFault>
     ensures { GivesIfThere (replaying_of (first_value (found_of matches.now) (codes "config"))
         (first_value (found_of matches.now) (codes "token-dir"))
         (first_value (found_of matches.now) (codes "store"))
@@ -211,21 +203,16 @@ fn replayed(alloc: Global, matches: &ArgMatches<'_>) -> Result<Order, LineFault>
     let Some(why) = event_line_if_given(matches.get_str("why")) else {
         return Err(LineFault::CommandLine);
     };
-    let Files {
-        config,
-        token_dir,
-        store,
-    } = files_of(alloc, matches)?;
-    Ok(Order::Replay {
-        config,
-        token_dir,
-        store,
-        why,
-    })
+    let files = files_of(alloc, matches)?;
+    Ok(Order::Replay { files, why })
 }
 
 // What matches of `leases` or `pools` ask for, by what is printed.
-fn listed(alloc: Global, listing: Listing, matches: &ArgMatches<'_>) -> Result<Order, LineFault>
+fn listing_order(
+    alloc: Global,
+    listing: Listing,
+    matches: &ArgMatches<'_>,
+) -> Result<Order, LineFault>
     ensures { GivesIfThere (listing_of listing (first_value (found_of matches.now) (codes "config"))
         (first_value (found_of matches.now) (codes "token-dir"))
         (first_value (found_of matches.now) (codes "store"))
@@ -246,20 +233,14 @@ fn order_at(listing: Listing, is_live: bool, files: Files, at: u64) -> Result<Or
         (option_map string_bytes files.token_dir) (option_map string_bytes files.store)
         is_live at) result }
 {
+    if !is_live {
+        return Ok(Order::List { listing, files, at });
+    }
     let Files {
         config,
         token_dir,
         store,
     } = files;
-    if !is_live {
-        return Ok(Order::List {
-            listing,
-            config,
-            token_dir,
-            store,
-            at,
-        });
-    }
     match store {
         Some(store) => Ok(Order::Look {
             listing,
@@ -273,7 +254,7 @@ fn order_at(listing: Listing, is_live: bool, files: Files, at: u64) -> Result<Or
 }
 
 // What matches of `pools` ask for.
-fn listed_pools(alloc: Global, matches: &ArgMatches<'_>) -> Result<Order, LineFault>
+fn pools_order(alloc: Global, matches: &ArgMatches<'_>) -> Result<Order, LineFault>
     ensures { GivesIfThere (listing_of
         (pools_listing (first_value (found_of matches.now) (codes "prometheus")))
         (first_value (found_of matches.now) (codes "config"))
@@ -287,11 +268,11 @@ fn listed_pools(alloc: Global, matches: &ArgMatches<'_>) -> Result<Order, LineFa
     } else {
         Listing::Pools
     };
-    listed(alloc, listing, matches)
+    listing_order(alloc, listing, matches)
 }
 
 // What matches of `why` ask for.
-fn explained(alloc: Global, matches: &ArgMatches<'_>) -> Result<Order, LineFault>
+fn why_order(alloc: Global, matches: &ArgMatches<'_>) -> Result<Order, LineFault>
     ensures { GivesIfThere (explaining_of (λ name. first_value (found_of matches.now) name)) result }
 {
     let Some(moment) = number_given(matches.get_str("at")) else {
@@ -316,18 +297,11 @@ fn explanation(files: Files, live: bool, at: u64, hex: String) -> Result<Order, 
       hex = string_bytes hex;
     })) result }
 {
-    let Files {
-        config,
-        token_dir,
-        store,
-    } = files;
-    if live && store.is_none() {
+    if live && files.store.is_none() {
         return Err(LineFault::CommandLine);
     }
     Ok(Order::Why {
-        config,
-        token_dir,
-        store,
+        files,
         live,
         at,
         hex,
@@ -335,7 +309,7 @@ fn explanation(files: Files, live: bool, at: u64, hex: String) -> Result<Order, 
 }
 
 // What matches of `import` ask for.
-fn imported(alloc: Global, matches: &ArgMatches<'_>) -> Result<Order, LineFault>
+fn import_order(alloc: Global, matches: &ArgMatches<'_>) -> Result<Order, LineFault>
     ensures { GivesIfThere (option_map (λ store. imports store)
         (first_value (found_of matches.now) (codes "store"))) result }
 {
@@ -346,7 +320,7 @@ fn imported(alloc: Global, matches: &ArgMatches<'_>) -> Result<Order, LineFault>
 }
 
 // What matches of `events` ask for.
-fn filtered(alloc: Global, matches: &ArgMatches<'_>) -> Result<Order, LineFault>
+fn events_order(alloc: Global, matches: &ArgMatches<'_>) -> Result<Order, LineFault>
     ensures { GivesIfThere (filtering_of (first_value (found_of matches.now) (codes "mac"))
         (first_value (found_of matches.now) (codes "address"))) result }
 {
@@ -360,7 +334,7 @@ fn filtered(alloc: Global, matches: &ArgMatches<'_>) -> Result<Order, LineFault>
 }
 
 // What matches of `check` ask for.
-fn checked(alloc: Global, matches: &ArgMatches<'_>) -> Result<Order, LineFault>
+fn check_order(alloc: Global, matches: &ArgMatches<'_>) -> Result<Order, LineFault>
     ensures { GivesIfThere (checking_of (λ name. first_value (found_of matches.now) name)) result }
 {
     let Some(bind) = address_or(matches.get_str("bind"), LOOPBACK) else {
@@ -372,15 +346,9 @@ fn checked(alloc: Global, matches: &ArgMatches<'_>) -> Result<Order, LineFault>
     let Some(max_ahead) = number_if_given(matches.get_str("max-ahead")) else {
         return Err(LineFault::CommandLine);
     };
-    let Files {
-        config,
-        token_dir,
-        store,
-    } = files_of(alloc, matches)?;
+    let files = files_of(alloc, matches)?;
     Ok(Order::Check {
-        config,
-        token_dir,
-        store,
+        files,
         bind,
         port,
         max_ahead,
@@ -388,7 +356,7 @@ fn checked(alloc: Global, matches: &ArgMatches<'_>) -> Result<Order, LineFault>
 }
 
 // What matches of `serve` ask for.
-fn served(alloc: Global, matches: &ArgMatches<'_>) -> Result<Order, LineFault>
+fn serve_order(alloc: Global, matches: &ArgMatches<'_>) -> Result<Order, LineFault>
     ensures { GivesIfThere (serving_of (λ name. first_value (found_of matches.now) name)) result }
 {
     let Some(listening) = listening_in(matches) else {
@@ -400,16 +368,10 @@ fn served(alloc: Global, matches: &ArgMatches<'_>) -> Result<Order, LineFault>
     let Some(max_ahead) = number_if_given(matches.get_str("max-ahead")) else {
         return Err(LineFault::CommandLine);
     };
-    let Files {
-        config,
-        token_dir,
-        store,
-    } = files_of(alloc, matches)?;
+    let files = files_of(alloc, matches)?;
     let journal = text_of(alloc, matches, "record")?;
     Ok(Order::Serve {
-        config,
-        token_dir,
-        store,
+        files,
         listening,
         count,
         journal,
