@@ -18,7 +18,7 @@ use Rattle.kd_program.specs.Running.{Carries, CarriesOut, HasConfiguration, Star
 use Rattle.kd_program.specs.Streams.{Streams, Tells}
 use Rattle.kd_program.specs.declared.host.Host.{Ghosts as Hosts}
 use Rattle.kd_program.specs.declared.listing.View.TheVariants as views
-use Rattle.kd_program.specs.declared.serving.Files.{Files}
+use Rattle.kd_commands.specs.declared.orders.Files.{Files}
 use Rattle.kd_program.specs.declared.serving.Work.{Work}
 use Rattle.kd_program.specs.declared.serving.Work.TheVariants as works
 use Rattle.kd_replay.specs.declared.ends.Sink.{Ghosts as Sinks}

@@ -14,7 +14,7 @@ use Rattle.kd_keeps.specs.declared.keeps.Keeps.{Ghosts}
 use Rattle.kd_program.specs.Running.{ports_asked}
 use Rattle.kd_program.specs.Streams.{Streams}
 use Rattle.kd_program.specs.declared.host.Host.{Ghosts as Hosts}
-use Rattle.kd_program.specs.declared.serving.Files.{Files}
+use Rattle.kd_commands.specs.declared.orders.Files.{Files}
 use Rattle.kd_program.specs.declared.serving.Work.{Work}
 use Rattle.kd_replay.specs.declared.ends.Sink.{Ghosts as Sinks}
 use Rattle.kd_replay.specs.declared.link.Link.{Ghosts as Links}

@@ -21,7 +21,7 @@ use Rattle.kd_program.specs.Running.{Serves}
 use Rattle.kd_program.specs.Streams.{Stream, Streams, Tells, TellsWith}
 use Rattle.kd_program.specs.declared.host.Host.{Ghosts as Hosts}
 use Rattle.kd_program.specs.declared.listing.View.TheVariants as views
-use Rattle.kd_program.specs.declared.serving.Files.{Files}
+use Rattle.kd_commands.specs.declared.orders.Files.{Files}
 use Rattle.kd_program.specs.declared.serving.Work.{Work}
 use Rattle.kd_program.specs.declared.serving.Work.TheVariants as works
 use Rattle.kd_replay.specs.declared.ends.Sink.{Ghosts as Sinks}
@@ -48,15 +48,12 @@ AreRowsFound rows = (log db : List ℕ) × AreRowsIn (bytes_image log db) rows
 
 -- the order for a work over files
 abbrev pub order_of : Files → Work → Order
-order_of files works.Replay = orders.Replay files.config files.token_dir files.store None
-order_of files (works.Explain number) =
-    orders.Replay files.config files.token_dir files.store (Some number)
-order_of files (works.Show (views.Listing listing) at) =
-    orders.List listing files.config files.token_dir files.store at
-order_of files (works.Show (views.Why word) at) =
-    orders.Why files.config files.token_dir files.store false at word
+order_of files works.Replay = orders.Replay files None
+order_of files (works.Explain number) = orders.Replay files (Some number)
+order_of files (works.Show (views.Listing listing) at) = orders.List listing files at
+order_of files (works.Show (views.Why word) at) = orders.Why files false at word
 order_of files (works.Serve listening count journal max_ahead) =
-    orders.Serve files.config files.token_dir files.store listening count journal max_ahead
+    orders.Serve files listening count journal max_ahead
 
 -- over the disk of the database's files, a host, its store in those files, its sockets and its records
 module _ {D H U L R : Type 0} (d : Disks D) (h : Hosts H (Kept (FileStore D d)) U L R)

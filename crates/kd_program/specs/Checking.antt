@@ -10,7 +10,7 @@ use Rattle.kd_io.specs.declared.look.LookFault.{LookFault}
 use Rattle.kd_io.specs.declared.start.StartFault.{StartFault}
 use Rattle.kd_program.specs.Streams.{ShowsOrBreaks, Starves, Streams}
 use Rattle.kd_program.specs.declared.host.Host.{Ghosts as Hosts}
-use Rattle.kd_program.specs.declared.serving.Files.{Files}
+use Rattle.kd_commands.specs.declared.orders.Files.{Files}
 use Rattle.kd_replay.specs.Ahead.{is_behind}
 use Rattle.kd_rows.specs.Table.{latest_of}
 use Rattle.kd_rows.specs.declared.row.Row.{Row}

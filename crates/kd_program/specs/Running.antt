@@ -40,7 +40,7 @@ use Rattle.kd_program.specs.Streams.{Prints, Puts, ShowsOrBreaks, Starves, Strea
 use Rattle.kd_program.specs.declared.host.Host.{Ghosts as Hosts}
 use Rattle.kd_program.specs.declared.listing.View.{View}
 use Rattle.kd_program.specs.declared.listing.View.TheVariants as views
-use Rattle.kd_program.specs.declared.serving.Files.{Files}
+use Rattle.kd_commands.specs.declared.orders.Files.{Files}
 use Rattle.kd_rows.specs.declared.row.Row.{Row}
 use Rattle.kd_program.specs.declared.serving.Work.{Work}
 use Rattle.kd_program.specs.declared.serving.Work.TheVariants as works
@@ -356,28 +356,22 @@ module _ {H N U L R : Type 0} (h : Hosts H N U L R) (named : Ghosts N) (unnamed 
 
   -- what an order does
   abbrev pub CarriesOut : Order → H → H → ℕ → Streams → Streams → Type 0
-  CarriesOut (orders.Replay config token_dir store why) before after status old new =
-      Starts (record { config = config; token_dir = token_dir; store = store }) (replay_work why)
-      before after status old new
-  CarriesOut (orders.List listing config token_dir store at) before after status old new =
-      Starts (record { config = config; token_dir = token_dir; store = store })
-      (works.Show (views.Listing listing) at) before after status old new
+  CarriesOut (orders.Replay files why) before after status old new =
+      Starts files (replay_work why) before after status old new
+  CarriesOut (orders.List listing files at) before after status old new =
+      Starts files (works.Show (views.Listing listing) at) before after status old new
   CarriesOut (orders.Look listing config token_dir store at) before after status old new =
       Looks (record { config = config; token_dir = token_dir; store = None }) (string_bytes store)
       (views.Listing listing) at before after status old new
-  CarriesOut (orders.Why config token_dir store live at word) before after status old new =
-      ViewsStore live (option_map string_bytes store)
-      (record { config = config; token_dir = token_dir; store = store }) (views.Why word) at before
-      after status old new
+  CarriesOut (orders.Why files live at word) before after status old new =
+      ViewsStore live (option_map string_bytes files.store) files (views.Why word) at before after
+      status old new
   CarriesOut (orders.Import store) before after status old new =
       Imports (string_bytes store) before after status old new
-  CarriesOut (orders.Serve config token_dir store listening count journal max_ahead) before after
-      status old new =
-      Starts (record { config = config; token_dir = token_dir; store = store })
-      (works.Serve listening count journal max_ahead) before after status old new
-  CarriesOut (orders.Check config token_dir store bind port max_ahead) before after status old new =
-      ChecksStart h (record { config = config; token_dir = token_dir; store = store }) bind port
-      max_ahead before after status old new
+  CarriesOut (orders.Serve files listening count journal max_ahead) before after status old new =
+      Starts files (works.Serve listening count journal max_ahead) before after status old new
+  CarriesOut (orders.Check files bind port max_ahead) before after status old new =
+      ChecksStart h files bind port max_ahead before after status old new
   CarriesOut (orders.Events mac address) before after status old new =
       (after ≡ before)
       × SaysEvents (record { mac = option_map vec_items mac; address = address }) status old new

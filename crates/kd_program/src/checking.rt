@@ -7,8 +7,9 @@ use crate::ends::Ends;
 use crate::host::Host;
 use crate::printing::{refuse_memory, show};
 use crate::report::report_of;
-use crate::serving::{Files, configured};
+use crate::serving::read_configuration;
 use kd_check::findings::{SocketTrouble, StoreTrouble};
+use kd_commands::Files;
 use kd_config::Config;
 use kd_io::{LookFault, StartFault};
 use kd_replay::{Sink, Source, starts_behind};
@@ -82,7 +83,7 @@ pub fn check<H: Host, R: Source, O: Sink, E: Sink>(
         host.old host.new result
         (streams R.Source O.Sink E.Sink ends.old) (streams R.Source O.Sink E.Sink ends.new) }
 {
-    let config = configured(host, files);
+    let config = read_configuration(host, files);
     let store = find_store(host, &files.store, place.max_ahead);
     let socket = host.try_socket(place.address, place.port);
     let status = status_of_first(

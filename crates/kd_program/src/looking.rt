@@ -10,7 +10,8 @@ use crate::ends::Ends;
 use crate::host::Host;
 use crate::listing::{Table, View, print_view};
 use crate::printing::{refuse, refuse_memory};
-use crate::serving::{Files, configured, refuse_start};
+use crate::serving::{read_configuration, refuse_start};
+use kd_commands::Files;
 use kd_config::Config;
 use kd_replay::{Sink, Source};
 use kd_rows::{Row, Rows};
@@ -31,7 +32,7 @@ pub fn look<H: Host, R: Source, O: Sink, E: Sink>(
         files.now path.now view.now at host.old host.new result
         (streams R.Source O.Sink E.Sink ends.old) (streams R.Source O.Sink E.Sink ends.new) }
 {
-    match configured(host, files) {
+    match read_configuration(host, files) {
         Ok(config) => look_at(alloc, host, ends, &config, path, view, at),
         Err(fault) => refuse_start(alloc, &mut ends.faults, &fault),
     }

@@ -1,8 +1,8 @@
 use crate::banner::pool_addresses;
 use crate::checking::{Found, Place, Seen, StoreFinding};
 use crate::host::Host;
-use crate::serving::Files;
 use kd_check::findings::{SocketTrouble, StoreTrouble};
+use kd_commands::Files;
 use kd_config::Config;
 use kd_io::{LookFault, StartFault};
 use kd_keeps::StoreFault;

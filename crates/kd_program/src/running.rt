@@ -10,8 +10,8 @@ use crate::listing::View;
 use crate::log::{filter_of, print_events};
 use crate::looking::look;
 use crate::printing::{print, refuse_memory, refuse_words, show};
-use crate::serving::{Files, Work, served};
-use kd_commands::{Order, order};
+use crate::serving::{Work, start_server};
+use kd_commands::{Files, Order, order};
 use kd_replay::{Sink, Source};
 use kd_tools::answer;
 use std::alloc::Global;
@@ -32,13 +32,13 @@ pub fn run<H: Host, R: Source, O: Sink, E: Sink>(
         (streams R.Source O.Sink E.Sink ends.old) (streams R.Source O.Sink E.Sink ends.new) }
 {
     match order(alloc, words) {
-        Ok(order) => carried_out(alloc, order, host, ends),
+        Ok(order) => carry_out_order(alloc, order, host, ends),
         Err(fault) => refuse_words(alloc, &mut ends.faults, fault),
     }
 }
 
 // Carries out an order.
-fn carried_out<H: Host, R: Source, O: Sink, E: Sink>(
+fn carry_out_order<H: Host, R: Source, O: Sink, E: Sink>(
     alloc: Global,
     order: Order,
     host: &mut H,
@@ -51,39 +51,13 @@ fn carried_out<H: Host, R: Source, O: Sink, E: Sink>(
         (streams R.Source O.Sink E.Sink ends.old) (streams R.Source O.Sink E.Sink ends.new) }
 {
     match order {
-        Order::Replay {
-            config,
-            token_dir,
-            store,
-            why,
-        } => served(
-            alloc,
-            host,
-            ends,
-            &Files {
-                config,
-                token_dir,
-                store,
-            },
-            &replaying(why),
-        ),
-        Order::List {
-            listing,
-            config,
-            token_dir,
-            store,
-            at,
-        } => served(
-            alloc,
-            host,
-            ends,
-            &Files {
-                config,
-                token_dir,
-                store,
-            },
-            &Work::Show(View::Listing(listing), at),
-        ),
+        Order::Replay { files, why } => {
+            start_server(alloc, host, ends, &files, &work_of_replay(why))
+        }
+        Order::List { listing, files, at } => {
+            let work = Work::Show(View::Listing(listing), at);
+            start_server(alloc, host, ends, &files, &work)
+        }
         Order::Look {
             listing,
             config,
@@ -100,51 +74,28 @@ fn carried_out<H: Host, R: Source, O: Sink, E: Sink>(
             look(alloc, host, ends, &files, store.as_str(), &view, at)
         }
         Order::Why {
-            config,
-            token_dir,
-            store,
+            files,
             live,
             at,
             hex,
-        } => {
-            let files = Files {
-                config,
-                token_dir,
-                store,
-            };
-            explained(alloc, host, ends, &files, live, View::Why(hex), at)
-        }
+        } => view_store(alloc, host, ends, &files, live, View::Why(hex), at),
         Order::Import { store } => import(alloc, host, ends, store.as_str()),
         Order::Serve {
-            config,
-            token_dir,
-            store,
+            files,
             listening,
             count,
             journal,
             max_ahead,
         } => {
-            let files = Files {
-                config,
-                token_dir,
-                store,
-            };
             let work = Work::Serve(listening, count, journal, max_ahead);
-            served(alloc, host, ends, &files, &work)
+            start_server(alloc, host, ends, &files, &work)
         }
         Order::Check {
-            config,
-            token_dir,
-            store,
+            files,
             bind,
             port,
             max_ahead,
         } => {
-            let files = Files {
-                config,
-                token_dir,
-                store,
-            };
             let place = Place {
                 address: bind,
                 port,
@@ -165,7 +116,7 @@ fn carried_out<H: Host, R: Source, O: Sink, E: Sink>(
 }
 
 // What a replay is opened for: to handle the events of standard input, or to explain that of a line.
-fn replaying(why: Option<u64>) -> Work
+fn work_of_replay(why: Option<u64>) -> Work
     ensures { result ≡ replay_work why }
 {
     match why {
@@ -175,7 +126,7 @@ fn replaying(why: Option<u64>) -> Work
 }
 
 // Prints a view of the store of these files, which another process may have open where `live` is.
-fn explained<H: Host, R: Source, O: Sink, E: Sink>(
+fn view_store<H: Host, R: Source, O: Sink, E: Sink>(
     alloc: Global,
     host: &mut H,
     ends: &mut Ends<R, O, E>,
@@ -192,6 +143,6 @@ fn explained<H: Host, R: Source, O: Sink, E: Sink>(
 {
     match &files.store {
         Some(path) if live => look(alloc, host, ends, files, path.as_str(), &view, at),
-        _ => served(alloc, host, ends, files, &Work::Show(view, at)),
+        _ => start_server(alloc, host, ends, files, &Work::Show(view, at)),
     }
 }

@@ -6,7 +6,7 @@ ghost use Rattle.kd_keeps.specs.Fault.{store_fault_number};
 ghost use Rattle.kd_keeps.specs.Reading.{AreRead};
 ghost use Rattle.kd_program.specs.Streams.{TellsWith, streams, written_to};
 ghost use Rattle.kd_replay.specs.Serving.{failed_in};
-ghost use Rattle.kd_program.specs.Running.{GivesJournal, Listens, Receives, ReplaysInput, Serves, Starts, Works, ports_asked};
+ghost use Rattle.kd_program.specs.Running.{GivesJournal, Listens, ReplaysInput, Serves, Starts, Works, ports_asked};
 
 use crate::banner::{Banner, Sizes, banner_line, pool_addresses};
 use crate::ends::Ends;
@@ -14,7 +14,7 @@ use crate::explaining::explain_line;
 use crate::host::Host;
 use crate::listing::{Table, View, print_view};
 use crate::printing::{refuse, refuse_as, refuse_memory, tell};
-use kd_commands::Listening;
+use kd_commands::{Files, Listening};
 use kd_config::Config;
 use kd_event::Ports;
 use kd_io::StartFault;
@@ -23,17 +23,6 @@ use kd_replay::{EndFailed, Limits, Link, LoopFault, Sink, Source};
 use kd_server::{Server, replay, serve};
 use kd_tools::{replay_status, serve_status};
 use std::alloc::Global;
-
-/// The paths of the files that a server goes by, where they are given.
-#[derive(Drop)]
-pub struct Files {
-    /// The configuration's file.
-    pub config: Option<String>,
-    /// The folder of the token files.
-    pub token_dir: Option<String>,
-    /// The file of the leases.
-    pub store: Option<String>,
-}
 
 /// What a server is opened for.
 #[derive(Drop)]
@@ -68,7 +57,7 @@ fn batch_size(is_file: bool, mirror: bool) -> usize
 
 /// Does this work as a server that goes by the configuration of these files and keeps its leases in
 /// the store of a path, or in memory without one; and says the exit status.
-pub fn served<H: Host, R: Source, O: Sink, E: Sink>(
+pub fn start_server<H: Host, R: Source, O: Sink, E: Sink>(
     alloc: Global,
     host: &mut H,
     ends: &mut Ends<R, O, E>,
@@ -81,7 +70,7 @@ pub fn served<H: Host, R: Source, O: Sink, E: Sink>(
         files.now work.now host.old host.new result
         (streams R.Source O.Sink E.Sink ends.old) (streams R.Source O.Sink E.Sink ends.new) }
 {
-    let config = match configured(host, files) {
+    let config = match read_configuration(host, files) {
         Ok(config) => config,
         Err(fault) => return refuse_start(alloc, &mut ends.faults, &fault),
     };
@@ -93,7 +82,7 @@ pub fn served<H: Host, R: Source, O: Sink, E: Sink>(
                     name,
                     is_file: true,
                 };
-                let (status, store) = served_over(alloc, host, ends, config, opened, place, work);
+                let (status, store) = run_over_store(alloc, host, ends, config, opened, place, work);
                 host.close(name, store);
                 status
             }
@@ -105,7 +94,7 @@ pub fn served<H: Host, R: Source, O: Sink, E: Sink>(
                     name: "memory",
                     is_file: false,
                 };
-                served_over(alloc, host, ends, config, opened, place, work).0
+                run_over_store(alloc, host, ends, config, opened, place, work).0
             }
             Err(fault) => refuse_store(alloc, &mut ends.faults, &fault),
         },
@@ -113,7 +102,7 @@ pub fn served<H: Host, R: Source, O: Sink, E: Sink>(
 }
 
 /// The configuration that the host gives for these files.
-pub fn configured<H: Host>(host: &mut H, files: &Files) -> Result<Config, StartFault>
+pub fn read_configuration<H: Host>(host: &mut H, files: &Files) -> Result<Config, StartFault>
     ensures { H.Host.configures host.old (option_map string_bytes files.now.config)
         (option_map string_bytes files.now.token_dir) result host.new }
 {
@@ -149,7 +138,7 @@ pub fn refuse_store<E: Sink>(alloc: Global, faults: &mut E, fault: &StoreFault) 
 }
 
 // Does this work as a server of a configuration over a store; the store comes back.
-fn served_over<H: Host, R: Source, O: Sink, E: Sink, S: Keeps>(
+fn run_over_store<H: Host, R: Source, O: Sink, E: Sink, S: Keeps>(
     alloc: Global,
     host: &mut H,
     ends: &mut Ends<R, O, E>,
@@ -177,13 +166,13 @@ fn served_over<H: Host, R: Source, O: Sink, E: Sink, S: Keeps>(
             return (status, store);
         }
     };
-    let status = worked(alloc, host, ends, &mut server, work, sizes, place);
+    let status = do_work(alloc, host, ends, &mut server, work, sizes, place);
     let (_, store) = server.close();
     (status, store)
 }
 
 // Does this work as a server over a store.
-fn worked<H: Host, R: Source, O: Sink, E: Sink, S: Keeps>(
+fn do_work<H: Host, R: Source, O: Sink, E: Sink, S: Keeps>(
     alloc: Global,
     host: &mut H,
     ends: &mut Ends<R, O, E>,
@@ -199,7 +188,7 @@ fn worked<H: Host, R: Source, O: Sink, E: Sink, S: Keeps>(
         (streams R.Source O.Sink E.Sink ends.old) (streams R.Source O.Sink E.Sink ends.new) }
 {
     match work {
-        Work::Replay => replayed(alloc, ends, server),
+        Work::Replay => replay_input(alloc, ends, server),
         Work::Explain(number) => explain_line(alloc, ends, &table_of(server), *number),
         Work::Show(view, at) => print_view(alloc, ends, view, &table_of(server), *at),
         Work::Serve(listening, count, journal, max_ahead) => {
@@ -215,7 +204,7 @@ fn worked<H: Host, R: Source, O: Sink, E: Sink, S: Keeps>(
                 count: *count,
                 max_ahead: *max_ahead,
             };
-            listened(alloc, host, ends, server, &banner, text_of(journal), limits)
+            serve_link(alloc, host, ends, server, &banner, text_of(journal), limits)
         }
     }
 }
@@ -250,7 +239,7 @@ fn ports_of(work: &Work) -> Ports
 }
 
 // Replays the events of standard input to standard output.
-fn replayed<R: Source, O: Sink, E: Sink, S: Keeps>(
+fn replay_input<R: Source, O: Sink, E: Sink, S: Keeps>(
     alloc: Global,
     ends: &mut Ends<R, O, E>,
     server: &mut Server<S>,
@@ -273,7 +262,7 @@ fn replayed<R: Source, O: Sink, E: Sink, S: Keeps>(
 }
 
 // Serves so many datagrams of a socket, and says on standard error what it does before it begins.
-fn listened<H: Host, R: Source, O: Sink, E: Sink, S: Keeps>(
+fn serve_link<H: Host, R: Source, O: Sink, E: Sink, S: Keeps>(
     alloc: Global,
     host: &mut H,
     ends: &mut Ends<R, O, E>,
@@ -302,7 +291,16 @@ fn listened<H: Host, R: Source, O: Sink, E: Sink, S: Keeps>(
         return refuse_memory(&mut ends.faults);
     };
     tell(&mut ends.faults, line.as_bytes());
-    received(alloc, &mut link, &mut journal, ends, server, limits)
+    match serve(alloc, &mut link, &mut journal, &mut ends.output, server, limits) {
+        Ok(()) => 0,
+        Err(fault) => refuse_as(
+            alloc,
+            &mut ends.faults,
+            fault.number(),
+            &fault,
+            serve_status(fault),
+        ),
+    }
 }
 
 // The record at a path, where there is one.
@@ -314,34 +312,5 @@ fn journal_of<H: Host>(host: &mut H, path: Option<&str>) -> Result<Option<H::Jou
     match path {
         Some(path) => Ok(Some(host.journal(path)?)),
         None => Ok(None),
-    }
-}
-
-// Serves so many datagrams of a link.
-fn received<L: Link, J: Sink, R: Source, O: Sink, E: Sink, S: Keeps>(
-    alloc: Global,
-    link: &mut L,
-    journal: &mut Option<J>,
-    ends: &mut Ends<R, O, E>,
-    server: &mut Server<S>,
-    limits: Limits,
-) -> u8
-    requires link { L.has_failed link.old ≡ false }
-    requires journal { failed_in J.Sink journal.old ≡ false }
-    requires output { O.has_failed ends.old.output ≡ false }
-    requires most { 0 < limits.most }
-    ensures { Receives L.Link J.Sink S.Keeps
-        limits.max_ahead limits.count link.old link.new journal.old journal.new server.old server.new result
-        (streams R.Source O.Sink E.Sink ends.old) (streams R.Source O.Sink E.Sink ends.new) }
-{
-    match serve(alloc, link, journal, &mut ends.output, server, limits) {
-        Ok(()) => 0,
-        Err(fault) => refuse_as(
-            alloc,
-            &mut ends.faults,
-            fault.number(),
-            &fault,
-            serve_status(fault),
-        ),
     }
 }

@@ -3,9 +3,9 @@ use Rattle.kd_program.proofs.checking.check.Goals as goal
 
 pub returns : goal.returns
 returns g c = record {
-  config = c.configured-config.result;
-  asked = c.configured-config.new.host;
-  given = c.configured-config.ensures;
+  config = c.read_configuration-config.result;
+  asked = c.read_configuration-config.new.host;
+  given = c.read_configuration-config.ensures;
   store = _;
   store_found = c.find_store-store.ensures;
   socket = _;

@@ -1,16 +1,16 @@
 use Rattle.std.proofs.Common.{rules, refl, subst, sym, inl, inr, option_map, string_bytes}
 use Rattle.kd_program.specs.Streams.{streams}
 use Rattle.kd_program.specs.Running.{WorksOver}
-use Rattle.kd_program.proofs.serving.served.Goals as goal
+use Rattle.kd_program.proofs.serving.start_server.Goals as goal
 
 pub returns-in-Err-named_store : goal.returns-in-Err-named_store
 returns-in-Err-named_store g c = inl (record {
   config = c.in-Ok.config;
-  asked = c.configured.new.host;
+  asked = c.read_configuration.new.host;
   given = c.in-Ok.ensures;
   works = subst
       (λ path. WorksOver g.H.Host g.H.Named.Keeps g.H.Unnamed.Keeps g.H.Socket.Link g.H.Journal.Sink
-      (option_map string_bytes path) c.args.work.now c.in-Ok.config c.configured.new.host
+      (option_map string_bytes path) c.args.work.now c.in-Ok.config c.read_configuration.new.host
       c.named_store.new.self c.refuse_store.result
       (streams g.R.Source g.O.Sink g.E.Sink c.args.ends.now)
       (streams g.R.Source g.O.Sink g.E.Sink record {
@@ -29,11 +29,11 @@ returns-in-Err-named_store g c = inl (record {
 pub returns-in-Err-unnamed_store : goal.returns-in-Err-unnamed_store
 returns-in-Err-unnamed_store g c = inl (record {
   config = c.in-Ok.config;
-  asked = c.configured.new.host;
+  asked = c.read_configuration.new.host;
   given = c.in-Ok.ensures;
   works = subst
       (λ path. WorksOver g.H.Host g.H.Named.Keeps g.H.Unnamed.Keeps g.H.Socket.Link g.H.Journal.Sink
-      (option_map string_bytes path) c.args.work.now c.in-Ok.config c.configured.new.host
+      (option_map string_bytes path) c.args.work.now c.in-Ok.config c.read_configuration.new.host
       c.unnamed_store.new.self c.refuse_store-in-Err-unnamed_store.result
       (streams g.R.Source g.O.Sink g.E.Sink c.args.ends.now)
       (streams g.R.Source g.O.Sink g.E.Sink record {

@@ -2,7 +2,7 @@ use Rattle.std.proofs.Common.{refl, subst, inl, inr}
 use Rattle.kd_server.specs.Keeping.{Opens}
 use Rattle.kd_program.specs.Streams.{written_to}
 use Rattle.kd_program.proofs.Told.{told_own}
-use Rattle.kd_program.proofs.serving.served_over.Goals as goal
+use Rattle.kd_program.proofs.serving.run_over_store.Goals as goal
 
 pub returns-in-Err : goal.returns-in-Err
 returns-in-Err g c = inr (record {
@@ -21,7 +21,7 @@ pub returns : goal.returns
 returns g c = inl (record {
   server = c.in-Ok.server;
   opened = subst (λ ports. Opens g.S.Keeps ports c.args.config c.args.opened.store c.in-Ok.server) c.ports_of.ensures c.in-Ok.ensures.opened;
-  left = c.worked-status.new.server;
-  worked = c.worked-status.ensures;
+  left = c.do_work-status.new.server;
+  worked = c.do_work-status.ensures;
   closed = c.close-store.ensures.store;
 })

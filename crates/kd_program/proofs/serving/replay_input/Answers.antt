@@ -1,7 +1,7 @@
 use Rattle.std.proofs.Common.{Ok, Err, refl}
 use Rattle.kd_program.specs.Streams.{written_to}
 use Rattle.kd_program.proofs.Told.{told_as}
-use Rattle.kd_program.proofs.serving.replayed.Goals as goal
+use Rattle.kd_program.proofs.serving.replay_input.Goals as goal
 
 pub returns-in-Ok : goal.returns-in-Ok
 returns-in-Ok g c = record {
