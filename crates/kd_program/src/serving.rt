@@ -82,7 +82,9 @@ pub fn start_server<H: Host, R: Source, O: Sink, E: Sink>(
                     name,
                     is_file: true,
                 };
-                let (status, store) = run_over_store(alloc, host, ends, config, opened, place, work);
+                let (status, store) = run_over_store(
+                    alloc, host, ends, config, opened, place, work,
+                );
                 host.close(name, store);
                 status
             }
@@ -291,7 +293,14 @@ fn serve_link<H: Host, R: Source, O: Sink, E: Sink, S: Keeps>(
         return refuse_memory(&mut ends.faults);
     };
     tell(&mut ends.faults, line.as_bytes());
-    match serve(alloc, &mut link, &mut journal, &mut ends.output, server, limits) {
+    match serve(
+        alloc,
+        &mut link,
+        &mut journal,
+        &mut ends.output,
+        server,
+        limits,
+    ) {
         Ok(()) => 0,
         Err(fault) => refuse_as(
             alloc,
