@@ -74,8 +74,8 @@ module _ {D E : Type 0} {d : Disks D} {e : Disks E} (k : Ghosts (Kept (FileStore
 
     -- the law of the later store tells its type alone
     pub runs : {H U L R : Type 0} (h : Hosts H (Kept (FileStore D d)) U L R) (l : Links L) (r : Sinks R) → OpeningsEnd m → CommandsAreOpenings h l r k → Held → RunsAreHistories k m h l r
-    runs h l r later_ends openings held image files work status old new left s clean db table database holds =
-        let done = openings work s.config s.store s.back s.before s.after status old new s.serves in
+    runs h l r later_ends openings held image files work old left status s clean db table database holds =
+        let done = openings work s.config _ _ status s.serves in
         let first_clean = (ends s.config (ports_asked work) done.0 s.store s.back done.1 clean).0 in
         let stands = held image s.store s.held first_clean db table database holds in (
           done.0,

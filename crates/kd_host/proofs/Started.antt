@@ -9,13 +9,13 @@ use Rattle.kd_commands.specs.declared.orders.Order.{Order}
 use Rattle.kd_config.specs.Configuration.{Configuration}
 use Rattle.kd_database.specs.Stops.{LiesBelow}
 use Rattle.kd_database.specs.Stores.{IsStoreIn, StandsAsHeld}
-use Rattle.kd_host.specs.OnFiles.{IsStatusOnFiles, RunsOnFiles, ServesFiles, order_of}
+use Rattle.kd_host.specs.OnFiles.{IsStatusOnFiles, Left, RunsOnFiles, ServesFiles, order_of}
 use Rattle.kd_io.specs.Faults.{start_fault_number}
 use Rattle.kd_io.specs.Start.{IsOfFiles}
 use Rattle.kd_keeps.specs.Fault.{store_fault_number}
 use Rattle.kd_keeps.specs.declared.keeps.Keeps.{Ghosts}
 use Rattle.kd_program.specs.Running.{Carries, CarriesOut, HasConfiguration, Starts, WorksOver}
-use Rattle.kd_program.specs.Streams.{Streams, Tells}
+use Rattle.kd_program.specs.Streams.{At, Streams, Tells}
 use Rattle.kd_program.specs.declared.host.Host.{Ghosts as Hosts}
 use Rattle.kd_program.specs.declared.listing.View.TheVariants as views
 use Rattle.kd_commands.specs.declared.orders.Files.{Files}
@@ -40,8 +40,12 @@ module _ {D H U L R : Type 0} (d : Disks D) (h : Hosts H (Kept (FileStore D d)) 
     pub closes : (before : H) (path : List ℕ) (back : Kept (FileStore D d)) (after : H) → h.closes before path back after
         → (it : FileStore D d) × (left_of after ≡ Some it) × (IsClean (view it) → LiesBelow back.conn it)
 
-  abbrev Told : ℕ → Streams → Streams → Type 0
-  Told status old new = (number : ℕ) × Tells number status old new
+  -- what a command leaves where the host stands
+  abbrev left_at : At H → Left (FileStore D d)
+  left_at after = record { streams = after.streams; below = left_of after.host }
+
+  abbrev Told : At H → At H → ℕ → Type 0
+  Told before after status = (number : ℕ) × Tells number status before.streams after.streams
 
   of_files : (files : Files) (config : Configuration) → IsOfFiles (is_some (option_map string_bytes files.config)) (is_some (option_map string_bytes files.token_dir)) config
       → IsOfFiles (is_some files.config) (is_some files.token_dir) config
@@ -49,16 +53,15 @@ module _ {D H U L R : Type 0} (d : Disks D) (h : Hosts H (Kept (FileStore D d)) 
       subst (λ folder. IsOfFiles (is_some files.config) folder config) (some_mapped string_bytes files.token_dir)
       (subst (λ file. IsOfFiles file (is_some (option_map string_bytes files.token_dir)) config) (some_mapped string_bytes files.config) is)
 
-  worked : Says → (files : Files) (work : Work) (path : List ℕ) (before after : H) (status : ℕ) (old new : Streams)
-      → (c : HasConfiguration h k unnamed l r files work before after status old new)
-      → WorksOver h k unnamed l r (Some path) work c.config c.asked after status old new
-      → ServesFiles d h k l r image files work status old new (left_of after) ⊎ Told status old new
-  worked says files work path before after status old new c (inl w) =
+  worked : Says → (files : Files) (work : Work) (path : List ℕ) (before after : At H) (status : ℕ) → (c : HasConfiguration h k unnamed l r files work before after status)
+      → WorksOver h k unnamed l r (Some path) work c.config (record before { host = c.asked }) after status
+      → ServesFiles d h k l r image files work before.streams (left_at after) status ⊎ Told before after status
+  worked says files work path before after status c (inl w) =
       let opened = says.opens c.asked path w.store w.opened w.given in
-      let closed = says.closes w.left path w.back after w.closed in
+      let closed = says.closes w.left path w.back after.host w.closed in
       inl (record {
         config = c.config;
-        of_files = of_files files c.config (says.configures before _ _ c.config c.asked c.given);
+        of_files = of_files files c.config (says.configures before.host _ _ c.config c.asked c.given);
         store = w.store;
         held = opened.0;
         is_in = opened.1;
@@ -67,39 +70,35 @@ module _ {D H U L R : Type 0} (d : Disks D) (h : Hosts H (Kept (FileStore D d)) 
         after = w.left;
         serves = w.serves;
         it = closed.0;
-        left_is = closed.1;
-        below = closed.2;
+        below_is = closed.1;
+        leaves = closed.2;
       })
-  worked says files work path before after status old new c (inr none) = inr (store_fault_number none.fault, none.told)
+  worked says files work path before after status c (inr none) = inr (store_fault_number none.fault, none.told)
 
-  started : Says → (files : Files) (work : Work) (path : List ℕ) (before after : H) (status : ℕ) (old new : Streams) → option_map string_bytes files.store ≡ Some path
-      → Starts h k unnamed l r files work before after status old new → ServesFiles d h k l r image files work status old new (left_of after) ⊎ Told status old new
-  started says files work path before after status old new named (inl c) =
-      worked says files work path before after status old new c
-      (subst (λ o. WorksOver h k unnamed l r o work c.config c.asked after status old new) named c.works)
-  started says files work path before after status old new named (inr none) = inr (start_fault_number none.fault, none.told)
+  started : Says → (files : Files) (work : Work) (path : List ℕ) (before after : At H) (status : ℕ) → option_map string_bytes files.store ≡ Some path
+      → Starts h k unnamed l r files work before after status → ServesFiles d h k l r image files work before.streams (left_at after) status ⊎ Told before after status
+  started says files work path before after status named (inl c) =
+      worked says files work path before after status c
+      (subst (λ o. WorksOver h k unnamed l r o work c.config (record before { host = c.asked }) after status) named c.works)
+  started says files work path before after status named (inr none) = inr (start_fault_number none.fault, none.told)
 
-  ordered : Says → (files : Files) (work : Work) (path : List ℕ) (before after : H) (status : ℕ) (old new : Streams) → option_map string_bytes files.store ≡ Some path
-      → CarriesOut h k unnamed l r (order_of files work) before after status old new → ServesFiles d h k l r image files work status old new (left_of after) ⊎ Told status old new
-  ordered says files works.Replay path before after status old new named c = started says files works.Replay path before after status old new named c
-  ordered says files (works.Explain number) path before after status old new named c = started says files (works.Explain number) path before after status old new named c
-  ordered says files (works.Show (views.Listing listing) at) path before after status old new named c =
-      started says files (works.Show (views.Listing listing) at) path before after status old new named c
-  ordered says files (works.Show (views.Why word) at) path before after status old new named c =
-      started says files (works.Show (views.Why word) at) path before after status old new named c
-  ordered says files (works.Serve listening count journal max_ahead) path before after status old new named c =
-      started says files (works.Serve listening count journal max_ahead) path before after status old new named c
+  ordered : Says → (files : Files) (work : Work) (path : List ℕ) (before after : At H) (status : ℕ) → option_map string_bytes files.store ≡ Some path
+      → CarriesOut h k unnamed l r (order_of files work) before after status → ServesFiles d h k l r image files work before.streams (left_at after) status ⊎ Told before after status
+  ordered says files works.Replay path before after status named c = started says files works.Replay path before after status named c
+  ordered says files (works.Explain number) path before after status named c = started says files (works.Explain number) path before after status named c
+  ordered says files (works.Show (views.Listing listing at)) path before after status named c = started says files (works.Show (views.Listing listing at)) path before after status named c
+  ordered says files (works.Show (views.Why word at)) path before after status named c = started says files (works.Show (views.Why word at)) path before after status named c
+  ordered says files (works.Serve service) path before after status named c = started says files (works.Serve service) path before after status named c
 
-  pub on_files : Says → (words : List (List ℕ)) (before after : H) (status : ℕ) (old new : Streams) → Carries h k unnamed l r words before after status old new
-      → RunsOnFiles d h k l r image words status old new (left_of after)
-  on_files says words before after status old new (inl c) = record { comes_to = inl (c.0, c.1, c.3) }
-  on_files says words before after status old new (inr c) = record {
+  pub on_files : Says → (words : List (List ℕ)) (before after : At H) (status : ℕ) → Carries h k unnamed l r words before after status
+      → RunsOnFiles d h k l r image words before.streams (left_at after) status
+  on_files says words before after status (inl c) = record { comes_to = inl (c.0, c.1, c.3) }
+  on_files says words before after status (inr c) = record {
     comes_to =
         inr (
           c.0,
           c.1,
-          λ files work path is named. ordered says files work path before after status old new named
-              (subst (λ (order : Order). CarriesOut h k unnamed l r order before after status old new) is c.2),
+          λ files work path is named. ordered says files work path before after status named (subst (λ (order : Order). CarriesOut h k unnamed l r order before after status) is c.2),
         );
   }
 
@@ -110,5 +109,5 @@ given_store P Q (Err e) p q = tt
 
 -- a command that was carried out over some streams ends with a status over some
 pub some_streams : {D H U L R : Type 0} {d : Disks D} {h : Hosts H (Kept (FileStore D d)) U L R} {k : Ghosts (Kept (FileStore D d))} {l : Links L} {r : Sinks R} {image : Image} {words : List (List ℕ)} {status : ℕ}
-    {old new : Streams} {left : Option (FileStore D d)} → RunsOnFiles d h k l r image words status old new left → IsStatusOnFiles d h k l r image words status
-some_streams {old = old} {new = new} {left = left} ran = (old, new, left, ran)
+    {old : Streams} {left : Left (FileStore D d)} → RunsOnFiles d h k l r image words old left status → IsStatusOnFiles d h k l r image words status
+some_streams {old = old} {left = left} ran = (old, left, ran)

@@ -1,5 +1,5 @@
 -- What openings of a server over files come to, whatever was between them: one life, one history.
-use Rattle.std.specs.Prelude.{ℕ, List, [], ◌∷◌, Option, None, Some}
+use Rattle.std.specs.Prelude.{ℕ, List, [], ◌∷◌, None, Some}
 use Rattle.sqlite_disk.specs.declared.Disk.{Ghosts as Disks}
 use Rattle.sqlite_store.specs.declared.store.FileStore.{FileStore}
 use Rattle.sqlite_trees.specs.Tree.{Trees}
@@ -9,7 +9,7 @@ use Rattle.kd_config.specs.Configuration.{Configuration}
 use Rattle.kd_database.specs.Stops.{IsCrashOf}
 use Rattle.kd_database.specs.Stores.{IsStoreIn}
 use Rattle.kd_event.specs.declared.ports.Ports.{Ports}
-use Rattle.kd_host.specs.OnFiles.{ServesFiles}
+use Rattle.kd_host.specs.OnFiles.{Left, ServesFiles}
 use Rattle.kd_keeps.specs.declared.keeps.Keeps.{Ghosts}
 use Rattle.kd_program.specs.Running.{ports_asked}
 use Rattle.kd_program.specs.Streams.{Streams}
@@ -60,9 +60,9 @@ module _ {D E : Type 0} {d : Disks D} {e : Disks E} (k : Ghosts (Kept (FileStore
   abbrev pub RunsAreHistories : {H U L R : Type 0} → Hosts H (Kept (FileStore D d)) U L R
       → Links L → Sinks R → Type 0
   RunsAreHistories {H} {U} {L} {R} h l r =
-      (image : Image) (files : Files) (work : Work) (status : ℕ) (old new : Streams)
-      (left : Option (FileStore D d))
-      → (s : ServesFiles d h k l r image files work status old new left)
+      (image : Image) (files : Files) (work : Work) (old : Streams)
+      (left : Left (FileStore D d)) (status : ℕ)
+      → (s : ServesFiles d h k l r image files work old left status)
       → k.has_clean_disk s.back → (db : Trees) (table : List Row) → HoldsDatabase image db
       → Holds db table
       → (calls : List Call)

@@ -50,10 +50,15 @@ AreRowsFound rows = (log db : List ℕ) × AreRowsIn (bytes_image log db) rows
 abbrev pub order_of : Files → Work → Order
 order_of files works.Replay = orders.Replay files None
 order_of files (works.Explain number) = orders.Replay files (Some number)
-order_of files (works.Show (views.Listing listing) at) = orders.List listing files at
-order_of files (works.Show (views.Why word) at) = orders.Why files false at word
-order_of files (works.Serve listening count journal max_ahead) =
-    orders.Serve files listening count journal max_ahead
+order_of files (works.Show (views.Listing listing at)) = orders.List listing files at
+order_of files (works.Show (views.Why word at)) = orders.Why files false at word
+order_of files (works.Serve service) =
+    orders.Serve files service.listening service.count service.journal service.max_ahead
+
+-- what a command leaves: its streams, and what lies below its store, if it had one
+pub record Left (F : Type 0) : Type 0 where
+  pub streams : Streams
+  pub below : Option F
 
 -- over the disk of the database's files, a host, its store in those files, its sockets and its records
 module _ {D H U L R : Type 0} (d : Disks D) (h : Hosts H (Kept (FileStore D d)) U L R)
@@ -62,8 +67,8 @@ module _ {D H U L R : Type 0} (d : Disks D) (h : Hosts H (Kept (FileStore D d)) 
   -- database that these bytes hold: its store stands at the table of that database, and the store is
   -- let go at the end, so that a crash leaves nothing of what lies below it that it does not leave of
   -- the store
-  pub record ServesFiles (image : Image) (files : Files) (work : Work) (status : ℕ)
-      (old new : Streams) (left : Option (FileStore D d)) : Type 0 where
+  pub record ServesFiles (image : Image) (files : Files) (work : Work) (old : Streams)
+      (left : Left (FileStore D d)) (status : ℕ) : Type 0 where
     pub config : Configuration
     pub of_files : IsOfFiles (is_some files.config) (is_some files.token_dir) config
     pub store : Kept (FileStore D d)
@@ -72,28 +77,29 @@ module _ {D H U L R : Type 0} (d : Disks D) (h : Hosts H (Kept (FileStore D d)) 
     pub back : Kept (FileStore D d)
     pub before : H
     pub after : H
-    pub serves : Serves h l r k work config store back before after status old new
+    pub serves : Serves h l r k work config
+        (record { held = store; at = record { host = before; streams = old } })
+        (record { held = back; at = record { host = after; streams = left.streams } }) status
     pub it : FileStore D d
-    pub left_is : left ≡ Some it
-    pub below : IsClean (view it) → LiesBelow back.conn it
+    pub below_is : left.below ≡ Some it
+    pub leaves : IsClean (view it) → LiesBelow back.conn it
 
   -- what words do: words that are no order have a fault, which is told; and where they name a store
   -- a server works over its files, or a fault is told
-  pub record RunsOnFiles (image : Image) (words : List (List ℕ)) (status : ℕ) (old new : Streams)
-      (left : Option (FileStore D d)) : Type 0 where
+  pub record RunsOnFiles (image : Image) (words : List (List ℕ)) (old : Streams)
+      (left : Left (FileStore D d)) (status : ℕ) : Type 0 where
     pub comes_to : ((fault : LineFault) × HasFault words fault
-        × Tells (line_fault_number fault) status old new)
+        × Tells (line_fault_number fault) status old left.streams)
         ⊎ ((order : Order) × AsksFor words order
         × ((files : Files) (work : Work) (path : List ℕ) → order ≡ order_of files work
         → option_map string_bytes files.store ≡ Some path
-        → ServesFiles image files work status old new left
-        ⊎ ((number : ℕ) × Tells number status old new)))
+        → ServesFiles image files work old left status
+        ⊎ ((number : ℕ) × Tells number status old left.streams)))
 
   -- a command over some streams ends with this status
   abbrev pub IsStatusOnFiles : Image → List (List ℕ) → ℕ → Type 0
   IsStatusOnFiles image words status =
-      (old : Streams) × (new : Streams) × (left : Option (FileStore D d))
-      × RunsOnFiles image words status old new left
+      (old : Streams) × (left : Left (FileStore D d)) × RunsOnFiles image words old left status
 
 -- a fault with this number is told on some stream, with this status
 abbrev pub IsStatusOf : ℕ → ℕ → Type 0

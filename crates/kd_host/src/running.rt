@@ -1,7 +1,7 @@
 ghost use Rattle.std.specs.Prelude.{◌≡◌, false, map, string_bytes};
 ghost use Rattle.sqlite_wal.specs.Files.{image_at};
 ghost use Rattle.kd_program.specs.Running.{Carries};
-ghost use Rattle.kd_program.specs.Streams.{streams};
+ghost use Rattle.kd_program.specs.Streams.{at_ends, streams};
 ghost use Rattle.kd_commands.specs.Order.{line_fault_number};
 ghost use Rattle.kd_host.specs.OnFiles.{IsStatusOf, IsStatusOnFiles, RunsOnFiles};
 
@@ -29,13 +29,15 @@ pub fn run_on<'a, F: Start, R: Source, O: Sink, E: Sink>(
     requires output { O.has_failed ends.old.output ≡ false }
     ensures carried { Carries ⟦<Machine<'a, F, Below<F>> as Host>⟧ ⟦<Store<Below<F>> as Keeps>⟧
         ⟦<Volatile as Keeps>⟧ ⟦<Socket<'a> as Link>⟧ ⟦<Output<File> as Sink>⟧ (map string_bytes words.now)
-        machine.old machine.new result
-        (streams R.Source O.Sink E.Sink ends.old) (streams R.Source O.Sink E.Sink ends.new) }
+        (at_ends R.Source O.Sink E.Sink machine.old ends.old)
+        (at_ends R.Source O.Sink E.Sink machine.new ends.new) result }
     ensures on_files { RunsOnFiles ⟦<FileFrom<F> as Disk>⟧ ⟦<Machine<'a, F, Below<F>> as Host>⟧
         ⟦<Store<Below<F>> as Keeps>⟧ ⟦<Socket<'a> as Link>⟧ ⟦<Output<File> as Sink>⟧ (image_at F.Start)
-        (map string_bytes words.now) result
-        (streams R.Source O.Sink E.Sink ends.old) (streams R.Source O.Sink E.Sink ends.new)
-        machine.new.left }
+        (map string_bytes words.now) (streams R.Source O.Sink E.Sink ends.old)
+        (record {
+          streams = streams R.Source O.Sink E.Sink ends.new;
+          below = machine.new.left;
+        }) result }
 {
     run(machine.rt.alloc(), words, machine, ends)
 }

@@ -8,7 +8,8 @@ use Rattle.kd_config.specs.Configuration.{Configuration}
 use Rattle.kd_io.specs.Faults.{look_fault_number, start_fault_number}
 use Rattle.kd_io.specs.declared.look.LookFault.{LookFault}
 use Rattle.kd_io.specs.declared.start.StartFault.{StartFault}
-use Rattle.kd_program.specs.Streams.{ShowsOrBreaks, Starves, Streams}
+use Rattle.kd_program.specs.Streams.{At, ShowsOrBreaks, Starves}
+use Rattle.kd_program.specs.declared.checking.Place.{Place}
 use Rattle.kd_program.specs.declared.host.Host.{Ghosts as Hosts}
 use Rattle.kd_commands.specs.declared.orders.Files.{Files}
 use Rattle.kd_replay.specs.Ahead.{is_behind}
@@ -77,17 +78,19 @@ module _ {H N U L R : Type 0} (h : Hosts H N U L R) where
 
   -- the steps of a start are tried in their order, a report of them is shown, and the exit status is
   -- that of the first fault; memory may run out for the report
-  pub record ChecksStart (files : Files) (address port : ℕ) (limit : Option ℕ)
-      (before after : H) (status : ℕ) (old new : Streams) : Type 0 where
+  pub record ChecksStart (files : Files) (place : Place) (before after : At H)
+      (status : ℕ) : Type 0 where
     pub config : Result Configuration StartFault
     pub asked : H
-    pub given : h.configures before (option_map string_bytes files.config)
+    pub given : h.configures before.host (option_map string_bytes files.config)
         (option_map string_bytes files.token_dir) config asked
     pub store : Option ℕ
-    pub store_found : FindsStore (option_map string_bytes files.store) limit asked after store
+    pub store_found : FindsStore (option_map string_bytes files.store) place.max_ahead asked
+        after.host store
     pub socket : Option ℕ
-    pub socket_found : FindsSocket address port after socket
+    pub socket_found : FindsSocket place.address place.port after.host socket
     pub report : List ℕ
     pub shown : ShowsOrBreaks report (check_status (config_finding config ∷ store ∷ socket ∷ []))
-        status old.output new.output old.faults new.faults
-        ⊎ Starves status old new
+        status before.streams.output after.streams.output before.streams.faults
+        after.streams.faults
+        ⊎ Starves status before.streams after.streams

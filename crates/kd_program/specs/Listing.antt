@@ -34,9 +34,10 @@ ShowsListing listing failed config rows at status old new =
     ⊎ ((fault : ServeFault) × IsNoList failed at fault × Tells (serve_fault_number fault) status old
     new)
 
--- a view of rows is shown: a listing of them, or the explanation of the datagram of a word
-abbrev pub ShowsView : View → Bool → Configuration → List Row → ℕ → ℕ → Streams → Streams → Type 0
-ShowsView (views.Listing listing) failed config rows at status old new =
+-- a view of rows is shown: a listing of them at a moment, or the explanation of the datagram of a
+-- word at one
+abbrev pub ShowsView : View → Bool → Configuration → List Row → ℕ → Streams → Streams → Type 0
+ShowsView (views.Listing listing at) failed config rows status old new =
     ShowsListing listing failed config rows at status old new
-ShowsView (views.Why word) failed config rows at status old new =
+ShowsView (views.Why word at) failed config rows status old new =
     ExplainsWord (string_bytes word) failed config rows at status old new

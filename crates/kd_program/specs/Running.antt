@@ -1,5 +1,5 @@
 -- What the words of a command line do: what is written, and the exit status.
-use Rattle.std.specs.Prelude.{◌≡◌, ◌⊎◌, ℕ, Bool, false, true, IfOk, List, Option, Some, None, Result, Ok, Err, is_some, option_map, string_bytes, vec_items}
+use Rattle.std.specs.Prelude.{◌≡◌, ◌⊎◌, ℕ, false, true, List, Option, Some, None, Result, Ok, Err, if◌then◌else◌, is_some, option_map, string_bytes, vec_items}
 use Rattle.std.specs.Result.{IsErrOf}
 use Rattle.kd_tools.specs.Printed.{Answers}
 use Rattle.kd_tools.specs.Status.{replay_status_of, serve_status_of}
@@ -36,19 +36,20 @@ use Rattle.kd_program.specs.Importing.{ImportsInto}
 use Rattle.kd_program.specs.Explaining.{ExplainsLine, standard_trial}
 use Rattle.kd_program.specs.Listing.{ShowsView}
 use Rattle.kd_program.specs.Printing.{PrintsEvents}
-use Rattle.kd_program.specs.Streams.{Prints, Puts, ShowsOrBreaks, Starves, Stream, Streams, Tells, TellsWith}
+use Rattle.kd_program.specs.Streams.{At, Prints, Puts, ShowsOrBreaks, Starves, Stream, Streams, Tells, TellsWith, With}
 use Rattle.kd_program.specs.declared.host.Host.{Ghosts as Hosts}
 use Rattle.kd_program.specs.declared.listing.View.{View}
 use Rattle.kd_program.specs.declared.listing.View.TheVariants as views
 use Rattle.kd_commands.specs.declared.orders.Files.{Files}
 use Rattle.kd_rows.specs.declared.row.Row.{Row}
+use Rattle.kd_program.specs.declared.serving.Service.{Service}
 use Rattle.kd_program.specs.declared.serving.Work.{Work}
 use Rattle.kd_program.specs.declared.serving.Work.TheVariants as works
 
 -- the ports of a server: those of its words, and else those of the standard (RFC 2131 section 4.1)
 abbrev pub ports_asked : Work → Ports
-ports_asked (works.Serve listening count journal max_ahead) =
-    record { server = listening.port; client = listening.client_port }
+ports_asked (works.Serve service) =
+    record { server = service.listening.port; client = service.listening.client_port }
 ports_asked other = record { server = 67; client = 68 }
 
 -- what a replay is opened for: to handle the events of standard input, or to explain that of a line
@@ -68,29 +69,36 @@ EndsServe (Ok done) status old new = (status ≡ 0) × (new ≡ old)
 EndsServe (Err fault) status old new =
     TellsWith (loop_fault_number fault) (serve_status_of fault) status old new
 
+-- where a server stands while it serves: a link, a record of what comes on it if there is one, and
+-- its streams
+pub record OnLink (L R S : Type 0) : Type 0 where
+  pub link : L
+  pub journal : Option R
+  pub server : Keeping S
+  pub streams : Streams
+
 -- what has happened on a link, what stands in the record, and what was written
-abbrev pub traffic_over : {L R : Type 0} → Links L → Sinks R → L → Option R → Stream → Traffic
-traffic_over l r link journal output =
+abbrev pub traffic_of : {L R S : Type 0} → Links L → Sinks R → OnLink L R S → Traffic
+traffic_of l r session =
     record {
-      trace = l.trace link;
-      recorded = contents_in r journal;
-      written = output.bytes;
+      trace = l.trace session.link;
+      recorded = contents_in r session.journal;
+      written = session.streams.output.bytes;
     }
 
 -- over a link, a record and a store of leases
 module _ {L R S : Type 0} (l : Links L) (r : Sinks R) (g : Ghosts S) where
-  -- a server serves so many datagrams of a link, while the clock is not ahead of its limit; it keeps a
-  -- record of them, and their lines are written to standard output; where nothing can be received the link has failed, and so with the
-  -- record and with standard output
-  pub record Receives (limit : Option ℕ) (count : ℕ) (link left : L) (journal rest : Option R)
-      (server after : Keeping S) (status : ℕ) (old new : Streams) : Type 0 where
+  -- a server serves so many datagrams of a link, while the clock is not ahead of its limit; it
+  -- keeps a record of them, and their lines are written to standard output; where nothing can be
+  -- received the link has failed, and so with the record and with standard output
+  pub record Receives (service : Service) (before after : OnLink L R S) (status : ℕ) : Type 0 where
     pub result : Result Unit LoopFault
-    pub served : ServesTo limit latest_in (Batched g) result count server after
-        (traffic_over l r link journal old.output) (traffic_over l r left rest new.output)
-    pub read : IsErrOf result looping.Read → l.has_failed left ≡ true
-    pub recorded : IsErrOf result looping.Record → failed_in r rest ≡ true
-    pub write : IsErrOf result looping.Write → new.output.failed ≡ true
-    pub ends : EndsServe result status old.faults new.faults
+    pub served : ServesTo service.max_ahead latest_in (Batched g) result service.count
+        before.server after.server (traffic_of l r before) (traffic_of l r after)
+    pub read : IsErrOf result looping.Read → l.has_failed after.link ≡ true
+    pub recorded : IsErrOf result looping.Record → failed_in r after.journal ≡ true
+    pub write : IsErrOf result looping.Write → after.streams.output.failed ≡ true
+    pub ends : EndsServe result status before.streams.faults after.streams.faults
 
 -- over a store of leases
 module _ {S : Type 0} (g : Ghosts S) where
@@ -122,221 +130,230 @@ module _ {H N U L R S : Type 0} (h : Hosts H N U L R) (l : Links L) (r : Sinks R
     (g : Ghosts S) where
   -- the host gives a socket and a record, where there is a path for one, and neither has failed; a
   -- line is told of what the server does, and it serves datagrams of that socket
-  pub record BeginsServing (listening : Listening) (path : Option (List ℕ)) (limit : Option ℕ)
-      (count : ℕ) (before after : H) (server left : Keeping S) (status : ℕ) (old new : Streams) : Type 0 where
+  pub record BeginsServing (service : Service) (before after : With (Keeping S) H)
+      (status : ℕ) : Type 0 where
     pub link : L
     pub bound : H
-    pub given : h.binds before listening (Ok link) bound
+    pub given : h.binds before.at.host service.listening (Ok link) bound
     pub works : l.has_failed link ≡ false
     pub journal : Option R
-    pub records : GivesJournal h r bound path (Ok journal) after
+    pub records : GivesJournal h r bound (option_map string_bytes service.journal) (Ok journal)
+        after.at.host
     pub record_works : failed_in r journal ≡ false
     pub line : List ℕ
     pub between : Stream
-    pub told : Puts line old.faults between
+    pub told : Puts line before.at.streams.faults between
     pub rest : L
     pub recorded : Option R
-    pub receives : Receives l r g limit count link rest journal recorded server left status
-        (record { input = old.input; output = old.output; faults = between }) new
+    pub receives : Receives l r g service
+        (record {
+          link = link;
+          journal = journal;
+          server = before.held;
+          streams = record (before.at.streams) { faults = between };
+        })
+        (record {
+          link = rest;
+          journal = recorded;
+          server = after.held;
+          streams = after.at.streams;
+        })
+        status
 
   -- the host gives no socket, which is told
-  pub record HasNoSocket (listening : Listening) (before after : H) (status : ℕ)
-      (old new : Streams) : Type 0 where
+  pub record HasNoSocket (listening : Listening) (before after : At H) (status : ℕ) : Type 0 where
     pub failed : EndFailed
-    pub given : h.binds before listening (Err failed) after
-    pub told : Tells 94 status old new
+    pub given : h.binds before.host listening (Err failed) after.host
+    pub told : Tells 94 status before.streams after.streams
 
   -- the host gives a socket and no record, which is told
-  pub record HasNoJournal (listening : Listening) (path : Option (List ℕ)) (before after : H)
-      (status : ℕ) (old new : Streams) : Type 0 where
+  pub record HasNoJournal (service : Service) (before after : At H) (status : ℕ) : Type 0 where
     pub link : L
     pub bound : H
-    pub given : h.binds before listening (Ok link) bound
+    pub given : h.binds before.host service.listening (Ok link) bound
     pub failed : EndFailed
-    pub records : GivesJournal h r bound path (Err failed) after
-    pub told : Tells 100 status old new
+    pub records : GivesJournal h r bound (option_map string_bytes service.journal) (Err failed)
+        after.host
+    pub told : Tells 100 status before.streams after.streams
 
   -- the host gives a socket and a record, and memory runs out for the line
-  pub record HasNoLine (listening : Listening) (path : Option (List ℕ)) (before after : H)
-      (status : ℕ) (old new : Streams) : Type 0 where
+  pub record HasNoLine (service : Service) (before after : At H) (status : ℕ) : Type 0 where
     pub link : L
     pub bound : H
-    pub given : h.binds before listening (Ok link) bound
+    pub given : h.binds before.host service.listening (Ok link) bound
     pub journal : Option R
-    pub records : GivesJournal h r bound path (Ok journal) after
-    pub told : Starves status old new
+    pub records : GivesJournal h r bound (option_map string_bytes service.journal) (Ok journal)
+        after.host
+    pub told : Starves status before.streams after.streams
 
   -- a server serves datagrams of the host's socket, or stays as it is
-  abbrev pub Listens : Listening → Option (List ℕ) → Option ℕ → ℕ → H → H → Keeping S → Keeping S
-      → ℕ → Streams → Streams → Type 0
-  Listens listening path limit count before after server left status old new =
-      BeginsServing listening path limit count before after server left status old new
-      ⊎ ((left ≡ server) ×
-      (HasNoSocket listening before after status old new
-      ⊎ (HasNoJournal listening path before after status old new
-      ⊎ HasNoLine listening path before after status old new)))
+  abbrev pub Listens : Service → With (Keeping S) H → With (Keeping S) H → ℕ → Type 0
+  Listens service before after status =
+      BeginsServing service before after status
+      ⊎ ((after.held ≡ before.held) × (HasNoSocket service.listening before.at after.at status
+      ⊎ (HasNoJournal service before.at after.at status
+      ⊎ HasNoLine service before.at after.at status)))
 
   -- what a server is opened for
-  abbrev pub Works : Work → H → H → Keeping S → Keeping S → ℕ → Streams → Streams → Type 0
-  Works works.Replay before after server left status old new =
-      (after ≡ before) × ReplaysInput g server left status old new
-  Works (works.Explain number) before after server left status old new =
-      (after ≡ before) × ((left ≡ server)
-      × ExplainsLine (standard_trial server.config server.rows) number status old new)
-  Works (works.Show view at) before after server left status old new =
-      (after ≡ before) × ((left ≡ server)
-      × ShowsView view (is_some (g.fault server.store)) server.config server.rows at status old new)
-  Works (works.Serve listening count journal max_ahead) before after server left status old new =
-      Listens listening (option_map string_bytes journal) max_ahead count before after server left
-      status old new
+  abbrev pub Works : Work → With (Keeping S) H → With (Keeping S) H → ℕ → Type 0
+  Works works.Replay before after status =
+      (after.at.host ≡ before.at.host)
+      × ReplaysInput g before.held after.held status before.at.streams after.at.streams
+  Works (works.Explain number) before after status =
+      (after.at.host ≡ before.at.host) × ((after.held ≡ before.held)
+      × ExplainsLine (standard_trial before.held.config before.held.rows) number status
+      before.at.streams after.at.streams)
+  Works (works.Show view) before after status =
+      (after.at.host ≡ before.at.host) × ((after.held ≡ before.held)
+      × ShowsView view (is_some (g.fault before.held.store)) before.held.config before.held.rows
+      status before.at.streams after.at.streams)
+  Works (works.Serve service) before after status = Listens service before after status
 
   -- a server that goes by a configuration is opened over a store, does its work, and gives back its
   -- store
-  pub record IsServed (work : Work) (config : Configuration) (store back : S) (before after : H)
-      (status : ℕ) (old new : Streams) : Type 0 where
+  pub record IsServed (work : Work) (config : Configuration) (before after : With S H)
+      (status : ℕ) : Type 0 where
     pub server : Keeping S
-    pub opened : Opens g (ports_asked work) config store server
+    pub opened : Opens g (ports_asked work) config before.held server
     pub left : Keeping S
-    pub worked : Works work before after server left status old new
-    pub closed : back ≡ left.store
+    pub worked : Works work (record { held = server; at = before.at })
+        (record { held = left; at = after.at }) status
+    pub closed : after.held ≡ left.store
 
   -- no server is opened over a store, which is told
-  pub record IsNotServed (config : Configuration) (store back : S) (before after : H) (status : ℕ)
-      (old new : Streams) : Type 0 where
+  pub record IsNotServed (config : Configuration) (before after : With S H)
+      (status : ℕ) : Type 0 where
     pub fault : ServeFault
     pub same : Configuration
-    pub refused : IsUnopened g config store fault same back
-    pub stays : after ≡ before
-    pub told : Tells (serve_fault_number fault) status old new
+    pub refused : IsUnopened g config before.held fault same after.held
+    pub stays : after.at.host ≡ before.at.host
+    pub told : Tells (serve_fault_number fault) status before.at.streams after.at.streams
 
   -- one of the two
-  abbrev pub Serves : Work → Configuration → S → S → H → H → ℕ → Streams → Streams → Type 0
-  Serves work config store back before after status old new =
-      IsServed work config store back before after status old new
-      ⊎ IsNotServed config store back before after status old new
+  abbrev pub Serves : Work → Configuration → With S H → With S H → ℕ → Type 0
+  Serves work config before after status =
+      IsServed work config before after status ⊎ IsNotServed config before after status
 
 -- over a host with its two sorts of stores, its sockets and its records
 module _ {H N U L R : Type 0} (h : Hosts H N U L R) (named : Ghosts N) (unnamed : Ghosts U)
     (l : Links L) (r : Sinks R) where
   -- a server works over the store that the host opens at a path, which has not failed, and the host
   -- gets it back
-  pub record WorksAt (path : List ℕ) (work : Work) (config : Configuration) (before after : H)
-      (status : ℕ) (old new : Streams) : Type 0 where
+  pub record WorksAt (path : List ℕ) (work : Work) (config : Configuration) (before after : At H)
+      (status : ℕ) : Type 0 where
     pub store : N
     pub opened : H
-    pub given : h.opens before path (Ok store) opened
+    pub given : h.opens before.host path (Ok store) opened
     pub works : is_some (named.fault store) ≡ false
     pub back : N
     pub left : H
-    pub serves : Serves h l r named work config store back opened left status old new
-    pub closed : h.closes left path back after
+    pub serves : Serves h l r named work config
+        (record { held = store; at = record before { host = opened } })
+        (record { held = back; at = record after { host = left } }) status
+    pub closed : h.closes left path back after.host
 
   -- a server works over the store in memory that the host makes, which has not failed
-  pub record WorksInMemory (work : Work) (config : Configuration) (before after : H) (status : ℕ)
-      (old new : Streams) : Type 0 where
+  pub record WorksInMemory (work : Work) (config : Configuration) (before after : At H)
+      (status : ℕ) : Type 0 where
     pub store : U
     pub made : H
-    pub given : h.makes before (Ok store) made
+    pub given : h.makes before.host (Ok store) made
     pub works : is_some (unnamed.fault store) ≡ false
     pub back : U
-    pub serves : Serves h l r unnamed work config store back made after status old new
+    pub serves : Serves h l r unnamed work config
+        (record { held = store; at = record before { host = made } })
+        (record { held = back; at = after }) status
 
   -- the host opens no store at a path, which is told
-  pub record HasNoStoreAt (path : List ℕ) (before after : H) (status : ℕ)
-      (old new : Streams) : Type 0 where
+  pub record HasNoStoreAt (path : List ℕ) (before after : At H) (status : ℕ) : Type 0 where
     pub fault : StoreFault
-    pub given : h.opens before path (Err fault) after
-    pub told : Tells (store_fault_number fault) status old new
+    pub given : h.opens before.host path (Err fault) after.host
+    pub told : Tells (store_fault_number fault) status before.streams after.streams
 
   -- the host makes no store in memory, which is told
-  pub record HasNoStoreInMemory (before after : H) (status : ℕ) (old new : Streams) : Type 0 where
+  pub record HasNoStoreInMemory (before after : At H) (status : ℕ) : Type 0 where
     pub fault : StoreFault
-    pub given : h.makes before (Err fault) after
-    pub told : Tells (store_fault_number fault) status old new
+    pub given : h.makes before.host (Err fault) after.host
+    pub told : Tells (store_fault_number fault) status before.streams after.streams
 
   -- a server works over the host's store, with a path or without one, or it is told that there is
   -- none
-  abbrev pub WorksOver : Option (List ℕ) → Work → Configuration → H → H → ℕ → Streams → Streams
-      → Type 0
-  WorksOver (Some path) work config before after status old new =
-      WorksAt path work config before after status old new
-      ⊎ HasNoStoreAt path before after status old new
-  WorksOver None work config before after status old new =
-      WorksInMemory work config before after status old new
-      ⊎ HasNoStoreInMemory before after status old new
+  abbrev pub WorksOver : Option (List ℕ) → Work → Configuration → At H → At H → ℕ → Type 0
+  WorksOver (Some path) work config before after status =
+      WorksAt path work config before after status ⊎ HasNoStoreAt path before after status
+  WorksOver None work config before after status =
+      WorksInMemory work config before after status ⊎ HasNoStoreInMemory before after status
 
   -- the host gives the configuration of these files, and a server goes by it
-  pub record HasConfiguration (files : Files) (work : Work) (before after : H) (status : ℕ)
-      (old new : Streams) : Type 0 where
+  pub record HasConfiguration (files : Files) (work : Work) (before after : At H)
+      (status : ℕ) : Type 0 where
     pub config : Configuration
     pub asked : H
-    pub given : h.configures before (option_map string_bytes files.config)
+    pub given : h.configures before.host (option_map string_bytes files.config)
         (option_map string_bytes files.token_dir) (Ok config) asked
-    pub works : WorksOver
-        (option_map string_bytes files.store) work config asked after status old new
+    pub works : WorksOver (option_map string_bytes files.store) work config
+        (record before { host = asked }) after status
 
   -- the host gives no configuration of these files, which is told
-  pub record HasNoConfiguration (files : Files) (before after : H) (status : ℕ)
-      (old new : Streams) : Type 0 where
+  pub record HasNoConfiguration (files : Files) (before after : At H) (status : ℕ) : Type 0 where
     pub fault : StartFault
-    pub given : h.configures before (option_map string_bytes files.config)
-        (option_map string_bytes files.token_dir) (Err fault) after
-    pub told : Tells (start_fault_number fault) status old new
+    pub given : h.configures before.host (option_map string_bytes files.config)
+        (option_map string_bytes files.token_dir) (Err fault) after.host
+    pub told : Tells (start_fault_number fault) status before.streams after.streams
 
   -- one of the two
-  abbrev pub Starts : Files → Work → H → H → ℕ → Streams → Streams → Type 0
-  Starts files work before after status old new =
-      HasConfiguration files work before after status old new
-      ⊎ HasNoConfiguration files before after status old new
+  abbrev pub Starts : Files → Work → At H → At H → ℕ → Type 0
+  Starts files work before after status =
+      HasConfiguration files work before after status
+      ⊎ HasNoConfiguration files before after status
 
   -- the host gives the rows of the database at a path, and a view of them is shown; memory may run
   -- out for it
-  pub record ShowsCopy (path : List ℕ) (view : View) (config : Configuration) (at : ℕ)
-      (before after : H) (status : ℕ) (old new : Streams) : Type 0 where
+  pub record ShowsCopy (path : List ℕ) (view : View) (config : Configuration)
+      (before after : At H) (status : ℕ) : Type 0 where
     pub rows : List Row
-    pub given : h.copies before path (Ok rows) after
-    pub shows : ShowsView view false config rows at status old new ⊎ Starves status old new
+    pub given : h.copies before.host path (Ok rows) after.host
+    pub shows : ShowsView view false config rows status before.streams after.streams
+        ⊎ Starves status before.streams after.streams
 
   -- the host gives no rows of a database at a path, which is told
-  pub record HasNoCopy (path : List ℕ) (before after : H) (status : ℕ)
-      (old new : Streams) : Type 0 where
+  pub record HasNoCopy (path : List ℕ) (before after : At H) (status : ℕ) : Type 0 where
     pub fault : LookFault
-    pub given : h.copies before path (Err fault) after
-    pub told : Tells (look_fault_number fault) status old new
+    pub given : h.copies before.host path (Err fault) after.host
+    pub told : Tells (look_fault_number fault) status before.streams after.streams
 
   -- the host gives the configuration of these files, and a database at a path is looked at
-  pub record LooksUnder (files : Files) (path : List ℕ) (view : View) (at : ℕ)
-      (before after : H) (status : ℕ) (old new : Streams) : Type 0 where
+  pub record LooksUnder (files : Files) (path : List ℕ) (view : View) (before after : At H)
+      (status : ℕ) : Type 0 where
     pub config : Configuration
     pub asked : H
-    pub given : h.configures before (option_map string_bytes files.config)
+    pub given : h.configures before.host (option_map string_bytes files.config)
         (option_map string_bytes files.token_dir) (Ok config) asked
-    pub looks : ShowsCopy path view config at asked after status old new
-        ⊎ HasNoCopy path asked after status old new
+    pub looks : ShowsCopy path view config (record before { host = asked }) after status
+        ⊎ HasNoCopy path (record before { host = asked }) after status
 
   -- a look at the database at a path, which another process may have open
-  abbrev pub Looks : Files → List ℕ → View → ℕ → H → H → ℕ → Streams → Streams → Type 0
-  Looks files path view at before after status old new =
-      LooksUnder files path view at before after status old new
-      ⊎ HasNoConfiguration files before after status old new
+  abbrev pub Looks : Files → List ℕ → View → At H → At H → ℕ → Type 0
+  Looks files path view before after status =
+      LooksUnder files path view before after status
+      ⊎ HasNoConfiguration files before after status
 
   -- the lines on standard input are imported into the store that the host opens at a path, and the
   -- host gets it back
-  pub record ImportsAt (path : List ℕ) (before after : H) (status : ℕ)
-      (old new : Streams) : Type 0 where
+  pub record ImportsAt (path : List ℕ) (before after : At H) (status : ℕ) : Type 0 where
     pub store : N
     pub opened : H
-    pub given : h.opens before path (Ok store) opened
+    pub given : h.opens before.host path (Ok store) opened
     pub rows : List Row
     pub read : AreRead named store rows
     pub back : N
-    pub imports : ImportsInto named rows store back status old new
-    pub closed : h.closes opened path back after
+    pub imports : ImportsInto named rows store back status before.streams after.streams
+    pub closed : h.closes opened path back after.host
 
   -- an import into the store at a path, or it is told that there is none
-  abbrev pub Imports : List ℕ → H → H → ℕ → Streams → Streams → Type 0
-  Imports path before after status old new =
-      ImportsAt path before after status old new ⊎ HasNoStoreAt path before after status old new
+  abbrev pub Imports : List ℕ → At H → At H → ℕ → Type 0
+  Imports path before after status =
+      ImportsAt path before after status ⊎ HasNoStoreAt path before after status
 
   -- what an order prints that needs nothing but its words; memory may run out for it
   abbrev pub Says : Order → ℕ → Streams → Streams → Type 0
@@ -344,45 +361,52 @@ module _ {H N U L R : Type 0} (h : Hosts H N U L R) (named : Ghosts N) (unnamed 
       ((printed : Printed) × Answers order printed × Prints printed status old new)
       ⊎ Starves status old new
 
-  -- a view of the store with a path, if there is one: a look where another process may have it open
-  abbrev pub ViewsStore : Bool → Option (List ℕ) → Files → View → ℕ → H → H → ℕ → Streams → Streams
-      → Type 0
-  ViewsStore true (Some path) files view at before after status old new =
-      Looks files path view at before after status old new
-  ViewsStore true None files view at before after status old new =
-      Starts files (works.Show view at) before after status old new
-  ViewsStore false path files view at before after status old new =
-      Starts files (works.Show view at) before after status old new
+  -- a view of the store of these files: a look where there is a path at which another process may
+  -- have it open
+  abbrev pub ViewsStore : Option (List ℕ) → Files → View → At H → At H → ℕ → Type 0
+  ViewsStore (Some path) files view before after status =
+      Looks files path view before after status
+  ViewsStore None files view before after status =
+      Starts files (works.Show view) before after status
 
   -- what an order does
-  abbrev pub CarriesOut : Order → H → H → ℕ → Streams → Streams → Type 0
-  CarriesOut (orders.Replay files why) before after status old new =
-      Starts files (replay_work why) before after status old new
-  CarriesOut (orders.List listing files at) before after status old new =
-      Starts files (works.Show (views.Listing listing) at) before after status old new
-  CarriesOut (orders.Look listing config token_dir store at) before after status old new =
+  abbrev pub CarriesOut : Order → At H → At H → ℕ → Type 0
+  CarriesOut (orders.Replay files why) before after status =
+      Starts files (replay_work why) before after status
+  CarriesOut (orders.List listing files at) before after status =
+      Starts files (works.Show (views.Listing listing at)) before after status
+  CarriesOut (orders.Look listing config token_dir store at) before after status =
       Looks (record { config = config; token_dir = token_dir; store = None }) (string_bytes store)
-      (views.Listing listing) at before after status old new
-  CarriesOut (orders.Why files live at word) before after status old new =
-      ViewsStore live (option_map string_bytes files.store) files (views.Why word) at before after
-      status old new
-  CarriesOut (orders.Import store) before after status old new =
-      Imports (string_bytes store) before after status old new
-  CarriesOut (orders.Serve files listening count journal max_ahead) before after status old new =
-      Starts files (works.Serve listening count journal max_ahead) before after status old new
-  CarriesOut (orders.Check files bind port max_ahead) before after status old new =
-      ChecksStart h files bind port max_ahead before after status old new
-  CarriesOut (orders.Events mac address) before after status old new =
-      (after ≡ before)
-      × SaysEvents (record { mac = option_map vec_items mac; address = address }) status old new
-  CarriesOut orders.Version before after status old new =
-      (after ≡ before)
-      × ShowsOrBreaks (h.version before) 0 status old.output new.output old.faults new.faults
-  CarriesOut other before after status old new = (after ≡ before) × Says other status old new
+      (views.Listing listing at) before after status
+  CarriesOut (orders.Why files live at word) before after status =
+      ViewsStore (if live then option_map string_bytes files.store else None) files
+      (views.Why word at) before after status
+  CarriesOut (orders.Import store) before after status =
+      Imports (string_bytes store) before after status
+  CarriesOut (orders.Serve files listening count journal max_ahead) before after status =
+      Starts files (works.Serve (record {
+        listening = listening;
+        count = count;
+        journal = journal;
+        max_ahead = max_ahead;
+      })) before after status
+  CarriesOut (orders.Check files bind port max_ahead) before after status =
+      ChecksStart h files (record { address = bind; port = port; max_ahead = max_ahead })
+      before after status
+  CarriesOut (orders.Events mac address) before after status =
+      (after.host ≡ before.host)
+      × SaysEvents (record { mac = option_map vec_items mac; address = address }) status
+      before.streams after.streams
+  CarriesOut orders.Version before after status =
+      (after.host ≡ before.host)
+      × ShowsOrBreaks (h.version before.host) 0 status before.streams.output after.streams.output
+      before.streams.faults after.streams.faults
+  CarriesOut other before after status =
+      (after.host ≡ before.host) × Says other status before.streams after.streams
 
   -- what words do: the fault that they have is told, or what they ask for is done
-  abbrev pub Carries : List (List ℕ) → H → H → ℕ → Streams → Streams → Type 0
-  Carries words before after status old new =
-      ((fault : LineFault) × HasFault words fault × (after ≡ before)
-      × Tells (line_fault_number fault) status old new)
-      ⊎ ((order : Order) × AsksFor words order × CarriesOut order before after status old new)
+  abbrev pub Carries : List (List ℕ) → At H → At H → ℕ → Type 0
+  Carries words before after status =
+      ((fault : LineFault) × HasFault words fault × (after.host ≡ before.host)
+      × Tells (line_fault_number fault) status before.streams after.streams)
+      ⊎ ((order : Order) × AsksFor words order × CarriesOut order before after status)

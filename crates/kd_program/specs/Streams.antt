@@ -40,6 +40,20 @@ streams r o e ends =
           e ends.faults;
     }
 
+-- where a command stands: its host, and its streams
+pub record At (H : Type 0) : Type 0 where
+  pub host : H
+  pub streams : Streams
+
+-- where a command stands that holds a store, or a server over one
+pub record With (S H : Type 0) : Type 0 where
+  pub held : S
+  pub at : At H
+
+-- a host and the three ends of a command as where it stands
+abbrev pub at_ends : {H R O E : Type 0} → Sources R → Sinks O → Sinks E → H → Ends R O E → At H
+at_ends r o e host ends = record { host = host; streams = streams r o e ends }
+
 -- the line of a fault: its number, its name and the operands after that
 abbrev pub fault_line : ℕ → List ℕ → List ℕ
 fault_line number name = codes "fault " ++ decimal number ++ codes " " ++ name ++ line_feed

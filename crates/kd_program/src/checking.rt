@@ -1,7 +1,7 @@
 ghost use Rattle.std.specs.Prelude.{◌≡◌, ◌∷◌, [], option_map, string_bytes};
 ghost use Rattle.kd_program.specs.Checking.{ChecksStart, FindsRows, FindsStore, check_status, config_finding, socket_finding};
 ghost use Rattle.kd_program.specs.Staging.{finding_number};
-ghost use Rattle.kd_program.specs.Streams.{streams};
+ghost use Rattle.kd_program.specs.Streams.{at_ends};
 
 use crate::ends::Ends;
 use crate::host::Host;
@@ -79,9 +79,9 @@ pub fn check<H: Host, R: Source, O: Sink, E: Sink>(
     files: &Files,
     place: Place,
 ) -> u8
-    ensures { ChecksStart H.Host files.now place.address place.port place.max_ahead
-        host.old host.new result
-        (streams R.Source O.Sink E.Sink ends.old) (streams R.Source O.Sink E.Sink ends.new) }
+    ensures { ChecksStart H.Host files.now place
+        (at_ends R.Source O.Sink E.Sink host.old ends.old)
+        (at_ends R.Source O.Sink E.Sink host.new ends.new) result }
 {
     let config = read_configuration(host, files);
     let store = find_store(host, &files.store, place.max_ahead);

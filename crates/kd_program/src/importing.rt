@@ -2,7 +2,7 @@ ghost use Rattle.std.specs.Prelude.{◌≡◌, false, is_some};
 ghost use Rattle.std.specs.List.{All};
 ghost use Rattle.kd_program.specs.Importing.{ImportsIfRead, ImportsInto, ImportsText, IsMoved};
 ghost use Rattle.kd_program.specs.Running.{Imports};
-ghost use Rattle.kd_program.specs.Streams.{streams, written_to};
+ghost use Rattle.kd_program.specs.Streams.{at_ends, streams, written_to};
 ghost use Rattle.kd_rows.specs.Row.{IsInRange};
 ghost use Rattle.kd_rows.specs.Table.{Rise};
 
@@ -42,8 +42,8 @@ pub fn import<H: Host, R: Source, O: Sink, E: Sink>(
     path: &str,
 ) -> u8
     ensures { Imports H.Host H.Named.Keeps H.Unnamed.Keeps H.Socket.Link H.Journal.Sink
-        path.now host.old host.new result
-        (streams R.Source O.Sink E.Sink ends.old) (streams R.Source O.Sink E.Sink ends.new) }
+        path.now (at_ends R.Source O.Sink E.Sink host.old ends.old)
+        (at_ends R.Source O.Sink E.Sink host.new ends.new) result }
 {
     match host.named_store(path) {
         Ok(Opened { mut store, rows }) => {

@@ -30,30 +30,39 @@ pub struct Table<'a> {
     pub failed: bool,
 }
 
-/// What is printed of a table of leases at a moment.
+/// What is printed of a table of leases at a moment, in whole seconds.
 #[derive(Drop)]
 pub enum View {
     /// A listing of it.
-    Listing(Listing),
-    /// What the datagram of this word gets, and why.
-    Why(String),
+    Listing {
+        /// What is listed.
+        listing: Listing,
+        /// The moment.
+        at: u64,
+    },
+    /// What a datagram gets, and why.
+    Why {
+        /// The datagram's bytes, as a word gives them.
+        hex: String,
+        /// The moment.
+        at: u64,
+    },
 }
 
-/// Prints a view of a table at a moment, and says the exit status.
+/// Prints a view of a table, and says the exit status.
 pub fn print_view<R: Source, O: Sink, E: Sink>(
     alloc: Global,
     ends: &mut Ends<R, O, E>,
     view: &View,
     table: &Table<'_>,
-    at: u64,
 ) -> u8
-    ensures { ShowsView view.now table.now.failed table.now.config.now table.now.rows.now.rows at
+    ensures { ShowsView view.now table.now.failed table.now.config.now table.now.rows.now.rows
         result
         (streams R.Source O.Sink E.Sink ends.old) (streams R.Source O.Sink E.Sink ends.new) }
 {
     match view {
-        View::Listing(listing) => list(alloc, ends, *listing, table, at),
-        View::Why(word) => explain_word(alloc, ends, word.as_str(), table, at),
+        View::Listing { listing, at } => list(alloc, ends, *listing, table, *at),
+        View::Why { hex, at } => explain_word(alloc, ends, hex.as_str(), table, *at),
     }
 }
 

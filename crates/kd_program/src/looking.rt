@@ -2,7 +2,7 @@ ghost use Rattle.std.specs.Prelude.{◌⊎◌, false};
 ghost use Rattle.std.specs.List.{All};
 ghost use Rattle.kd_program.specs.Listing.{ShowsView};
 ghost use Rattle.kd_program.specs.Running.{HasNoCopy, ShowsCopy, Looks};
-ghost use Rattle.kd_program.specs.Streams.{Starves, streams};
+ghost use Rattle.kd_program.specs.Streams.{Starves, at_ends, streams};
 ghost use Rattle.kd_rows.specs.Row.{IsInRange};
 ghost use Rattle.kd_rows.specs.Table.{Rise};
 
@@ -26,14 +26,14 @@ pub fn look<H: Host, R: Source, O: Sink, E: Sink>(
     files: &Files,
     path: &str,
     view: &View,
-    at: u64,
 ) -> u8
     ensures { Looks H.Host H.Named.Keeps H.Unnamed.Keeps H.Socket.Link H.Journal.Sink
-        files.now path.now view.now at host.old host.new result
-        (streams R.Source O.Sink E.Sink ends.old) (streams R.Source O.Sink E.Sink ends.new) }
+        files.now path.now view.now
+        (at_ends R.Source O.Sink E.Sink host.old ends.old)
+        (at_ends R.Source O.Sink E.Sink host.new ends.new) result }
 {
     match read_configuration(host, files) {
-        Ok(config) => look_at(alloc, host, ends, &config, path, view, at),
+        Ok(config) => look_at(alloc, host, ends, &config, path, view),
         Err(fault) => refuse_start(alloc, &mut ends.faults, &fault),
     }
 }
@@ -46,17 +46,18 @@ fn look_at<H: Host, R: Source, O: Sink, E: Sink>(
     config: &Config,
     path: &str,
     view: &View,
-    at: u64,
 ) -> u8
     ensures { ShowsCopy H.Host H.Named.Keeps H.Unnamed.Keeps H.Socket.Link H.Journal.Sink
-        path.now view.now config.now at host.old host.new result
-        (streams R.Source O.Sink E.Sink ends.old) (streams R.Source O.Sink E.Sink ends.new)
+        path.now view.now config.now
+        (at_ends R.Source O.Sink E.Sink host.old ends.old)
+        (at_ends R.Source O.Sink E.Sink host.new ends.new) result
         ⊎ HasNoCopy H.Host H.Named.Keeps H.Unnamed.Keeps H.Socket.Link H.Journal.Sink
-        path.now host.old host.new result
-        (streams R.Source O.Sink E.Sink ends.old) (streams R.Source O.Sink E.Sink ends.new) }
+        path.now
+        (at_ends R.Source O.Sink E.Sink host.old ends.old)
+        (at_ends R.Source O.Sink E.Sink host.new ends.new) result }
 {
     match host.copy(path) {
-        Ok(rows) => list_rows(alloc, ends, config, rows, view, at),
+        Ok(rows) => list_rows(alloc, ends, config, rows, view),
         Err(fault) => refuse(alloc, &mut ends.faults, fault.number(), &fault),
     }
 }
@@ -68,11 +69,10 @@ fn list_rows<R: Source, O: Sink, E: Sink>(
     config: &Config,
     rows: Vec<Row>,
     view: &View,
-    at: u64,
 ) -> u8
     requires rise { Rise rows.items }
     requires ranges { All IsInRange rows.items }
-    ensures { ShowsView view.now false config.now rows.items at result
+    ensures { ShowsView view.now false config.now rows.items result
         (streams R.Source O.Sink E.Sink ends.old) (streams R.Source O.Sink E.Sink ends.new)
         ⊎ Starves result
         (streams R.Source O.Sink E.Sink ends.old) (streams R.Source O.Sink E.Sink ends.new) }
@@ -84,7 +84,7 @@ fn list_rows<R: Source, O: Sink, E: Sink>(
                 rows: &rows,
                 failed: false,
             };
-            print_view(alloc, ends, view, &table, at)
+            print_view(alloc, ends, view, &table)
         }
         Err(_) => refuse_memory(&mut ends.faults),
     }

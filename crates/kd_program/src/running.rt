@@ -1,5 +1,5 @@
-ghost use Rattle.std.specs.Prelude.{◌≡◌, false, map, option_map, string_bytes};
-ghost use Rattle.kd_program.specs.Streams.{streams};
+ghost use Rattle.std.specs.Prelude.{◌≡◌, None, false, if◌then◌else◌, map, option_map, string_bytes};
+ghost use Rattle.kd_program.specs.Streams.{at_ends};
 ghost use Rattle.kd_program.specs.Running.{Carries, CarriesOut, ViewsStore, replay_work};
 
 use crate::checking::{Place, check};
@@ -10,7 +10,7 @@ use crate::listing::View;
 use crate::log::{filter_of, print_events};
 use crate::looking::look;
 use crate::printing::{print, refuse_memory, refuse_words, show};
-use crate::serving::{Work, start_server};
+use crate::serving::{Service, Work, start_server};
 use kd_commands::{Files, Order, order};
 use kd_replay::{Sink, Source};
 use kd_tools::answer;
@@ -28,8 +28,9 @@ pub fn run<H: Host, R: Source, O: Sink, E: Sink>(
     requires input { R.has_failed ends.old.input ≡ false }
     requires output { O.has_failed ends.old.output ≡ false }
     ensures { Carries H.Host H.Named.Keeps H.Unnamed.Keeps H.Socket.Link H.Journal.Sink
-        (map string_bytes words.now) host.old host.new result
-        (streams R.Source O.Sink E.Sink ends.old) (streams R.Source O.Sink E.Sink ends.new) }
+        (map string_bytes words.now)
+        (at_ends R.Source O.Sink E.Sink host.old ends.old)
+        (at_ends R.Source O.Sink E.Sink host.new ends.new) result }
 {
     match order(alloc, words) {
         Ok(order) => carry_out_order(alloc, order, host, ends),
@@ -47,15 +48,15 @@ fn carry_out_order<H: Host, R: Source, O: Sink, E: Sink>(
     requires input { R.has_failed ends.old.input ≡ false }
     requires output { O.has_failed ends.old.output ≡ false }
     ensures { CarriesOut H.Host H.Named.Keeps H.Unnamed.Keeps H.Socket.Link H.Journal.Sink
-        order host.old host.new result
-        (streams R.Source O.Sink E.Sink ends.old) (streams R.Source O.Sink E.Sink ends.new) }
+        order (at_ends R.Source O.Sink E.Sink host.old ends.old)
+        (at_ends R.Source O.Sink E.Sink host.new ends.new) result }
 {
     match order {
         Order::Replay { files, why } => {
             start_server(alloc, host, ends, &files, &work_of_replay(why))
         }
         Order::List { listing, files, at } => {
-            let work = Work::Show(View::Listing(listing), at);
+            let work = Work::Show(View::Listing { listing, at });
             start_server(alloc, host, ends, &files, &work)
         }
         Order::Look {
@@ -70,15 +71,15 @@ fn carry_out_order<H: Host, R: Source, O: Sink, E: Sink>(
                 token_dir,
                 store: None,
             };
-            let view = View::Listing(listing);
-            look(alloc, host, ends, &files, store.as_str(), &view, at)
+            let view = View::Listing { listing, at };
+            look(alloc, host, ends, &files, store.as_str(), &view)
         }
         Order::Why {
             files,
             live,
             at,
             hex,
-        } => view_store(alloc, host, ends, &files, live, View::Why(hex), at),
+        } => view_store(alloc, host, ends, &files, live, View::Why { hex, at }),
         Order::Import { store } => import(alloc, host, ends, store.as_str()),
         Order::Serve {
             files,
@@ -87,7 +88,12 @@ fn carry_out_order<H: Host, R: Source, O: Sink, E: Sink>(
             journal,
             max_ahead,
         } => {
-            let work = Work::Serve(listening, count, journal, max_ahead);
+            let work = Work::Serve(Service {
+                listening,
+                count,
+                journal,
+                max_ahead,
+            });
             start_server(alloc, host, ends, &files, &work)
         }
         Order::Check {
@@ -115,7 +121,8 @@ fn carry_out_order<H: Host, R: Source, O: Sink, E: Sink>(
     }
 }
 
-// What a replay is opened for: to handle the events of standard input, or to explain that of a line.
+// What a replay is opened for: to handle the events of standard input, or to explain that of a
+// line.
 fn work_of_replay(why: Option<u64>) -> Work
     ensures { result ≡ replay_work why }
 {
@@ -133,16 +140,16 @@ fn view_store<H: Host, R: Source, O: Sink, E: Sink>(
     files: &Files,
     live: bool,
     view: View,
-    at: u64,
 ) -> u8
     requires input { R.has_failed ends.old.input ≡ false }
     requires output { O.has_failed ends.old.output ≡ false }
     ensures { ViewsStore H.Host H.Named.Keeps H.Unnamed.Keeps H.Socket.Link H.Journal.Sink
-        live (option_map string_bytes files.now.store) files.now view at host.old host.new result
-        (streams R.Source O.Sink E.Sink ends.old) (streams R.Source O.Sink E.Sink ends.new) }
+        (if live then option_map string_bytes files.now.store else None) files.now view
+        (at_ends R.Source O.Sink E.Sink host.old ends.old)
+        (at_ends R.Source O.Sink E.Sink host.new ends.new) result }
 {
     match &files.store {
-        Some(path) if live => look(alloc, host, ends, files, path.as_str(), &view, at),
-        _ => start_server(alloc, host, ends, files, &Work::Show(view, at)),
+        Some(path) if live => look(alloc, host, ends, files, path.as_str(), &view),
+        _ => start_server(alloc, host, ends, files, &Work::Show(view)),
     }
 }

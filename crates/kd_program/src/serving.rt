@@ -4,7 +4,7 @@ ghost use Rattle.kd_tools.specs.Status.{status_of};
 ghost use Rattle.kd_io.specs.Faults.{start_fault_number};
 ghost use Rattle.kd_keeps.specs.Fault.{store_fault_number};
 ghost use Rattle.kd_keeps.specs.Reading.{AreRead};
-ghost use Rattle.kd_program.specs.Streams.{TellsWith, streams, written_to};
+ghost use Rattle.kd_program.specs.Streams.{TellsWith, at_ends, streams, written_to};
 ghost use Rattle.kd_replay.specs.Serving.{failed_in};
 ghost use Rattle.kd_program.specs.Running.{GivesJournal, Listens, ReplaysInput, Serves, Starts, Works, ports_asked};
 
@@ -22,7 +22,20 @@ use kd_keeps::{Keeps, Opened, StoreFault};
 use kd_replay::{EndFailed, Limits, Link, LoopFault, Sink, Source};
 use kd_server::{Server, replay, serve};
 use kd_tools::{replay_status, serve_status};
-use std::alloc::Global;
+use std::alloc::{AllocError, Global};
+
+/// How datagrams of a socket are served.
+#[derive(Drop)]
+pub struct Service {
+    /// Where the socket is, and where replies go.
+    pub listening: Listening,
+    /// How many datagrams are served.
+    pub count: u64,
+    /// The path of the file to which what comes is appended, where there is one.
+    pub journal: Option<String>,
+    /// By how many seconds the clock may run ahead; without it, by any number.
+    pub max_ahead: Option<u64>,
+}
 
 /// What a server is opened for.
 #[derive(Drop)]
@@ -31,12 +44,10 @@ pub enum Work {
     Replay,
     /// To explain the event of a line of standard input.
     Explain(u64),
-    /// To print a view of the leases at a moment, in whole seconds.
-    Show(View, u64),
-    /// To serve so many datagrams of a socket, to append what comes to the file at a path, where there
-    /// is one, and to end where the clock runs ahead by more than so many seconds, where there is such
-    /// a limit.
-    Serve(Listening, u64, Option<String>, Option<u64>),
+    /// To print a view of the leases.
+    Show(View),
+    /// To serve datagrams of a socket.
+    Serve(Service),
 }
 
 // A store as the operator names it.
@@ -67,8 +78,9 @@ pub fn start_server<H: Host, R: Source, O: Sink, E: Sink>(
     requires input { R.has_failed ends.old.input ≡ false }
     requires output { O.has_failed ends.old.output ≡ false }
     ensures { Starts H.Host H.Named.Keeps H.Unnamed.Keeps H.Socket.Link H.Journal.Sink
-        files.now work.now host.old host.new result
-        (streams R.Source O.Sink E.Sink ends.old) (streams R.Source O.Sink E.Sink ends.new) }
+        files.now work.now
+        (at_ends R.Source O.Sink E.Sink host.old ends.old)
+        (at_ends R.Source O.Sink E.Sink host.new ends.new) result }
 {
     let config = match read_configuration(host, files) {
         Ok(config) => config,
@@ -154,13 +166,11 @@ fn run_over_store<H: Host, R: Source, O: Sink, E: Sink, S: Keeps>(
     requires input { R.has_failed ends.old.input ≡ false }
     requires output { O.has_failed ends.old.output ≡ false }
     ensures { Serves H.Host H.Socket.Link H.Journal.Sink S.Keeps
-        work.now config opened.store result.1 host.old host.new result.0
-        (streams R.Source O.Sink E.Sink ends.old) (streams R.Source O.Sink E.Sink ends.new) }
+        work.now config
+        (record { held = opened.store; at = at_ends R.Source O.Sink E.Sink host.old ends.old })
+        (record { held = result.1; at = at_ends R.Source O.Sink E.Sink host.new ends.new })
+        result.0 }
 {
-    let sizes = Sizes {
-        subnets: config.subnets().len(),
-        addresses: pool_addresses(config.subnets()),
-    };
     let mut server = match Server::start(alloc, config, opened, ports_of(work)) {
         Ok(server) => server,
         Err((fault, _, store)) => {
@@ -168,7 +178,7 @@ fn run_over_store<H: Host, R: Source, O: Sink, E: Sink, S: Keeps>(
             return (status, store);
         }
     };
-    let status = do_work(alloc, host, ends, &mut server, work, sizes, place);
+    let status = do_work(alloc, host, ends, &mut server, work, place);
     let (_, store) = server.close();
     (status, store)
 }
@@ -180,34 +190,21 @@ fn do_work<H: Host, R: Source, O: Sink, E: Sink, S: Keeps>(
     ends: &mut Ends<R, O, E>,
     server: &mut Server<S>,
     work: &Work,
-    sizes: Sizes,
     place: Place<'_>,
 ) -> u8
     requires input { R.has_failed ends.old.input ≡ false }
     requires output { O.has_failed ends.old.output ≡ false }
     ensures { Works H.Host H.Socket.Link H.Journal.Sink S.Keeps
-        work.now host.old host.new server.old server.new result
-        (streams R.Source O.Sink E.Sink ends.old) (streams R.Source O.Sink E.Sink ends.new) }
+        work.now
+        (record { held = server.old; at = at_ends R.Source O.Sink E.Sink host.old ends.old })
+        (record { held = server.new; at = at_ends R.Source O.Sink E.Sink host.new ends.new })
+        result }
 {
     match work {
         Work::Replay => replay_input(alloc, ends, server),
         Work::Explain(number) => explain_line(alloc, ends, &table_of(server), *number),
-        Work::Show(view, at) => print_view(alloc, ends, view, &table_of(server), *at),
-        Work::Serve(listening, count, journal, max_ahead) => {
-            let banner = Banner {
-                listening: *listening,
-                sizes,
-                leases: server.row_count(),
-                latest: server.latest_change(),
-                store: place.name,
-            };
-            let limits = Limits {
-                most: batch_size(place.is_file, listening.mirror),
-                count: *count,
-                max_ahead: *max_ahead,
-            };
-            serve_link(alloc, host, ends, server, &banner, text_of(journal), limits)
-        }
+        Work::Show(view) => print_view(alloc, ends, view, &table_of(server)),
+        Work::Serve(service) => serve_link(alloc, host, ends, server, service, place),
     }
 }
 
@@ -229,9 +226,9 @@ fn ports_of(work: &Work) -> Ports
     ensures { result ≡ ports_asked work.now }
 {
     match work {
-        Work::Serve(listening, ..) => Ports {
-            server: listening.port,
-            client: listening.client_port,
+        Work::Serve(service) => Ports {
+            server: service.listening.port,
+            client: service.listening.client_port,
         },
         _ => Ports {
             server: 67,
@@ -269,30 +266,33 @@ fn serve_link<H: Host, R: Source, O: Sink, E: Sink, S: Keeps>(
     host: &mut H,
     ends: &mut Ends<R, O, E>,
     server: &mut Server<S>,
-    banner: &Banner<'_>,
-    path: Option<&str>,
-    limits: Limits,
+    service: &Service,
+    place: Place<'_>,
 ) -> u8
     requires output { O.has_failed ends.old.output ≡ false }
-    requires most { 0 < limits.most }
     ensures { Listens H.Host H.Socket.Link H.Journal.Sink S.Keeps
-        banner.now.listening (option_copied path.entry) limits.max_ahead limits.count
-        host.old host.new
-        server.old server.new result
-        (streams R.Source O.Sink E.Sink ends.old) (streams R.Source O.Sink E.Sink ends.new) }
+        service.now
+        (record { held = server.old; at = at_ends R.Source O.Sink E.Sink host.old ends.old })
+        (record { held = server.new; at = at_ends R.Source O.Sink E.Sink host.new ends.new })
+        result }
 {
-    let Ok(mut link) = host.socket(banner.listening) else {
+    let Ok(mut link) = host.socket(service.listening) else {
         let fault = LoopFault::Read;
         return refuse(alloc, &mut ends.faults, fault.number(), &fault);
     };
-    let Ok(mut journal) = journal_of(host, path) else {
+    let Ok(mut journal) = journal_of(host, &service.journal) else {
         let fault = LoopFault::Record;
         return refuse(alloc, &mut ends.faults, fault.number(), &fault);
     };
-    let Ok(line) = banner_line(alloc, banner) else {
+    let Ok(line) = line_of(alloc, server, service.listening, place) else {
         return refuse_memory(&mut ends.faults);
     };
     tell(&mut ends.faults, line.as_bytes());
+    let limits = Limits {
+        most: batch_size(place.is_file, service.listening.mirror),
+        count: service.count,
+        max_ahead: service.max_ahead,
+    };
     match serve(
         alloc,
         &mut link,
@@ -312,14 +312,36 @@ fn serve_link<H: Host, R: Source, O: Sink, E: Sink, S: Keeps>(
     }
 }
 
+// What a server says of itself before it serves.
+fn line_of<S: Keeps>(
+    alloc: Global,
+    server: &Server<S>,
+    listening: Listening,
+    place: Place<'_>,
+) -> Result<String, AllocError> {
+    let subnets = server.config().subnets();
+    let sizes = Sizes {
+        subnets: subnets.len(),
+        addresses: pool_addresses(subnets),
+    };
+    let banner = Banner {
+        listening,
+        sizes,
+        leases: server.row_count(),
+        latest: server.latest_change(),
+        store: place.name,
+    };
+    banner_line(alloc, &banner)
+}
+
 // The record at a path, where there is one.
-fn journal_of<H: Host>(host: &mut H, path: Option<&str>) -> Result<Option<H::Journal>, EndFailed>
-    ensures given { GivesJournal H.Host H.Journal.Sink host.old (option_copied path.entry) result
-        host.new }
+fn journal_of<H: Host>(host: &mut H, path: &Option<String>) -> Result<Option<H::Journal>, EndFailed>
+    ensures given { GivesJournal H.Host H.Journal.Sink host.old (option_map string_bytes path.now)
+        result host.new }
     ensures works { IfOk result (λ journal. failed_in H.Journal.Sink journal ≡ false) }
 {
     match path {
-        Some(path) => Ok(Some(host.journal(path)?)),
+        Some(path) => Ok(Some(host.journal(path.as_str())?)),
         None => Ok(None),
     }
 }

@@ -7,4 +7,4 @@ returns-clause-on_files g c = on_files _ _ _ _ _ _ (image_at g.F.Start) (λ mach
   configures = λ before file folder config after says. says;
   opens = λ before path store after says. says;
   closes = λ before path back after says. says;
-}) _ _ _ _ _ _ c.run.ensures
+}) _ _ _ _ c.run.ensures

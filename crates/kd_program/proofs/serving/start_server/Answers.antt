@@ -1,5 +1,5 @@
 use Rattle.std.proofs.Common.{rules, refl, subst, sym, inl, inr, option_map, string_bytes}
-use Rattle.kd_program.specs.Streams.{streams}
+use Rattle.kd_program.specs.Streams.{at_ends}
 use Rattle.kd_program.specs.Running.{WorksOver}
 use Rattle.kd_program.proofs.serving.start_server.Goals as goal
 
@@ -10,14 +10,14 @@ returns-in-Err-named_store g c = inl (record {
   given = c.in-Ok.ensures;
   works = subst
       (λ path. WorksOver g.H.Host g.H.Named.Keeps g.H.Unnamed.Keeps g.H.Socket.Link g.H.Journal.Sink
-      (option_map string_bytes path) c.args.work.now c.in-Ok.config c.read_configuration.new.host
-      c.named_store.new.self c.refuse_store.result
-      (streams g.R.Source g.O.Sink g.E.Sink c.args.ends.now)
-      (streams g.R.Source g.O.Sink g.E.Sink record {
+      (option_map string_bytes path) c.args.work.now c.in-Ok.config
+      (at_ends g.R.Source g.O.Sink g.E.Sink c.read_configuration.new.host c.args.ends.now)
+      (at_ends g.R.Source g.O.Sink g.E.Sink c.named_store.new.self record {
         input = c.args.ends.now.input;
         output = c.args.ends.now.output;
         faults = c.refuse_store.new.faults;
-      }))
+      })
+      c.refuse_store.result)
       (sym c.in-Some.is)
       (inr (record {
         fault = c.in-Err-named_store.fault;
@@ -33,14 +33,14 @@ returns-in-Err-unnamed_store g c = inl (record {
   given = c.in-Ok.ensures;
   works = subst
       (λ path. WorksOver g.H.Host g.H.Named.Keeps g.H.Unnamed.Keeps g.H.Socket.Link g.H.Journal.Sink
-      (option_map string_bytes path) c.args.work.now c.in-Ok.config c.read_configuration.new.host
-      c.unnamed_store.new.self c.refuse_store-in-Err-unnamed_store.result
-      (streams g.R.Source g.O.Sink g.E.Sink c.args.ends.now)
-      (streams g.R.Source g.O.Sink g.E.Sink record {
+      (option_map string_bytes path) c.args.work.now c.in-Ok.config
+      (at_ends g.R.Source g.O.Sink g.E.Sink c.read_configuration.new.host c.args.ends.now)
+      (at_ends g.R.Source g.O.Sink g.E.Sink c.unnamed_store.new.self record {
         input = c.args.ends.now.input;
         output = c.args.ends.now.output;
         faults = c.refuse_store-in-Err-unnamed_store.new.faults;
-      }))
+      })
+      c.refuse_store-in-Err-unnamed_store.result)
       (sym c.in-None.is)
       (inr (record {
         fault = c.in-Err-unnamed_store.fault;
