@@ -15,3 +15,17 @@ def load_rt():
     importlib.machinery.SourceFileLoader("rt", rt.__file__).exec_module(rt)
     rt.rtlib.guarded()
     return rt
+
+
+def load_prove():
+    """The script `prove` beside this file, as a module."""
+    made = types.ModuleType("prove")
+    importlib.machinery.SourceFileLoader("prove", f"{ROOT}/tools/prove").exec_module(made)
+    return made
+
+
+def crates(rt):
+    """The repository's crates, lowest first, held to HANDLES as in the gate."""
+    rt.Crate.allowed = rt.handles_of(ROOT)
+    rt.rtlib.Crate = rt.Crate
+    return rt.rtlib.crates_below(ROOT)
