@@ -8,7 +8,7 @@ use Rattle.std.proofs.Math.Seq.{take-append_seam}
 use Rattle.std.proofs.lemmas.Bool.{ne_eqb, false≢true}
 use Rattle.kd_wire.specs.Walk.{pieces_from, is_whole_from}
 
--- what a walk keeps: it has passed whole slots, and stands after them
+-- what a walk maintains: it has passed whole slots, and `left` follows them
 pub record Passed (bytes left : List ℕ) (at : ℕ) : Type 0 where
   pub slots : List Slot
   pub begins : Begins bytes slots left
@@ -25,7 +25,7 @@ spelled-append : (slots : List Slot) (slot : Slot) → flat_map spelled (slots +
 spelled-append [] slot = grind (arith, common_steps)
 spelled-append (s ∷ slots) slot = ap (λ x. spelled s ++ x) (spelled-append slots slot) ∙ sym (append_assoc (spelled s) (flat_map spelled slots) (spelled slot))
 
--- one slot more
+-- one more slot
 pub passed_more : (bytes left rest : List ℕ) (at n : ℕ) (slot : Slot) → Passed bytes left at → IsSlot slot → left ≡ spelled slot ++ rest → n ≡ length (spelled slot) → Passed bytes rest (at + n)
 passed_more bytes left rest at n slot p is e size = record {
   slots = p.slots ++ slot ∷ [];
@@ -36,7 +36,7 @@ passed_more bytes left rest at n slot p is e size = record {
   place = rw (spelled-append p.slots slot, length-append, p.place, size) refl;
 }
 
--- a walk that skips a value is after it
+-- a walk that skips a value continues after it
 pieces_from-skip : (value rest : List ℕ) → pieces_from (length value) (value ++ rest) ≡ pieces_from 0 rest
 unfolding pieces_from
 pieces_from-skip [] rest = refl
@@ -51,7 +51,7 @@ is_whole_from-skip (b ∷ value) rest = is_whole_from-skip value rest
 not_end : (code : ℕ) → IsCode code → (code == 255) ≡ false
 not_end code is = ne_eqb code 255 (λ e. omega (arith, is.1, e))
 
--- the walk gives a piece that stands at the front
+-- the walk gives the piece that the area begins with
 pub pieces_from-piece : (code : ℕ) (value rest : List ℕ) → IsCode code → pieces_from 0 (code ∷ length value ∷ (value ++ rest)) ≡ (code, value) ∷ pieces_from 0 rest
 unfolding pieces_from
 pieces_from-piece zero value rest is = absurd (omega (arith, is.0))
@@ -64,7 +64,7 @@ is_whole_from-piece zero value rest is = absurd (omega (arith, is.0))
 is_whole_from-piece (suc code) value rest is =
     let no = not_end (suc code) is in rw (no, is_whole_from-skip value rest) refl
 
--- nothing more comes at an end
+-- there are no pieces at an end
 pub pieces_from-end : (bytes : List ℕ) → IsEnd bytes → pieces_from 0 bytes ≡ []
 unfolding pieces_from
 pieces_from-end [] is = refl
@@ -137,12 +137,12 @@ cut_is_not_whole bytes at a =
 pub not_cut : (bytes : List ℕ) (at : ℕ) (list : List Piece) → IsCutAt bytes at → IsArea bytes list → ⊥
 not_cut bytes at list c a = false≢true (sym (cut_is_not_whole bytes at c) ∙ whole_area bytes list a)
 
--- the area after whole slots ends: its pieces are those of the walk
+-- if the area ends after whole slots, its pieces are those of the walk
 pub area_of_passed : (bytes left : List ℕ) (at : ℕ) → Passed bytes left at → IsEnd left → IsArea bytes (pieces_from 0 bytes)
 area_of_passed bytes left at p ends =
     let a : IsArea bytes (flat_map piece_of p.slots) = record { slots = p.slots; after = left; begins = p.begins; ends = ends; pieces = refl } in
     let P : List Piece → Type 0 = λ x. IsArea bytes x in subst P (sym (walk_area bytes _ a)) a
 
--- where a walk meets an option cut off
+-- where a walk meets an option that is cut off
 pub cut_of_passed : (bytes left : List ℕ) (at : ℕ) → Passed bytes left at → IsCutOption left → IsCutAt bytes at
 cut_of_passed bytes left at p cut = record { slots = p.slots; after = left; begins = p.begins; cut = cut; place = p.place }

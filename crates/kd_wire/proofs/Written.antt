@@ -1,9 +1,9 @@
--- Writes one after another from the front on: what stands in front is their text.
+-- Writes one after another from offset 0 on: their text comes first.
 use Rattle.std.proofs.Common.{◌≡◌, ℕ, ◌+◌, List, [], ◌++◌, length, take, drop, refl, sym, ap, ◌∙◌, length-append, drop-drop}
 use Rattle.std.proofs.lemmas.List.{take_at, drop_at}
 use Rattle.kd_wire.specs.Put.{with_bytes_at}
 
--- the text stands in front, its length is the place, and the rest is as it was
+-- the bytes begin with the text, the place is its length, and the rest is as it was
 pub record Written (old text : List ℕ) (at : ℕ) (new : List ℕ) : Type 0 where
   pub is : new ≡ text ++ drop at old
   pub place : length text ≡ at

@@ -1,4 +1,4 @@
--- An area of options (RFC 2132 section 2, RFC 2131 section 4.1): pads, pieces, an end.
+-- An area of options (RFC 2132 section 2, RFC 2131 section 4.1): pads, pieces and an end.
 use Rattle.std.specs.Prelude.{◌≡◌, ℕ, ◌<◌, List, [], ◌∷◌, ◌++◌, length}
 use Rattle.std.specs.List.{flat_map, AllByRecursion}
 
@@ -6,7 +6,7 @@ use Rattle.std.specs.List.{flat_map, AllByRecursion}
 abbrev pub Piece : Type 0
 Piece = ℕ × List ℕ
 
--- what may stand before the end: a pad, or a piece
+-- what can come before the end: a pad or a piece
 pub data Slot : Type 0 where
   pad : Slot
   piece : ℕ → List ℕ → Slot
@@ -16,11 +16,11 @@ abbrev pub spelled : Slot → List ℕ
 spelled pad = 0 ∷ []
 spelled (piece code value) = code ∷ length value ∷ value
 
--- the codes of pieces: 0 is the pad, 255 the end
+-- the codes of pieces: 0 is the pad, and 255 is the End
 abbrev pub IsCode : ℕ → Type 0
 IsCode code = (0 < code) × (code < 255)
 
--- a slot of the standard
+-- a slot that the standard allows
 abbrev pub IsSlot : Slot → Type 0
 IsSlot pad = Unit {0}
 IsSlot (piece code value) = IsCode code
@@ -30,23 +30,23 @@ abbrev pub piece_of : Slot → List Piece
 piece_of pad = []
 piece_of (piece code value) = (code, value) ∷ []
 
--- an area ends where nothing is left, or at an End, whatever follows it
+-- an area ends at the end of the bytes, or at an End, whatever follows it
 abbrev pub IsEnd : List ℕ → Type 0
 IsEnd [] = Unit {0}
 IsEnd (b ∷ bytes) = b ≡ 255
 
--- an option that is cut off: no length byte, or fewer bytes than it says
+-- an option that is cut off: it has no length byte, or fewer bytes follow than its length says
 abbrev pub IsCutOption : List ℕ → Type 0
 IsCutOption [] = ⊥
 IsCutOption (code ∷ []) = IsCode code
 IsCutOption (code ∷ n ∷ bytes) = IsCode code × (length bytes < n)
 
--- the bytes begin with these slots, and `after` follows
+-- the bytes begin with these slots, followed by `after`
 pub record Begins (bytes : List ℕ) (slots : List Slot) (after : List ℕ) : Type 0 where
   pub each : AllByRecursion IsSlot slots
   pub whole : bytes ≡ flat_map spelled slots ++ after
 
--- an area's pieces: its bytes are slots and an end, and the list has the pieces of the slots
+-- an area's pieces: its bytes are slots and an end, and the list holds the pieces of the slots
 pub record IsArea (bytes : List ℕ) (list : List Piece) : Type 0 where
   pub slots : List Slot
   pub after : List ℕ
@@ -54,7 +54,7 @@ pub record IsArea (bytes : List ℕ) (list : List Piece) : Type 0 where
   pub ends : IsEnd after
   pub pieces : list ≡ flat_map piece_of slots
 
--- where an area is cut: after whole slots stands an option that is cut off
+-- where an area is cut: an option that is cut off follows whole slots
 pub record IsCutAt (bytes : List ℕ) (at : ℕ) : Type 0 where
   pub slots : List Slot
   pub after : List ℕ

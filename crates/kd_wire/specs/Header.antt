@@ -7,15 +7,15 @@ use Rattle.kd_wire.specs.declared.header.Header.{Header}
 use Rattle.kd_wire.specs.declared.header.WireFault.{WireFault}
 use Rattle.kd_wire.specs.declared.header.WireFault.TheVariants.{Short, Long, Cookie, BadOp}
 
--- n bytes from offset i on
+-- the n bytes from offset i on
 abbrev pub bytes_at : ℕ → ℕ → List ℕ → List ℕ
 bytes_at i n bytes = slice_range bytes i (i + n)
 
--- the number of n bytes at offset i, in network order
+-- the n-byte number at offset i, in network byte order
 abbrev pub number_at : ℕ → ℕ → List ℕ → ℕ
 number_at i n bytes = big_number n (bytes_at i n bytes)
 
--- the fields of a message, each at its offset
+-- the fields of a message, each read at its offset
 unfoldable pub header_of : List ℕ → Header
 header_of bytes = record {
   op = slice_index bytes 0;

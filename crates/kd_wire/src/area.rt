@@ -5,7 +5,7 @@ use crate::walk::{Front, Pieces, front_of, pieces_over};
 use std::fmt;
 use thiserror::Error;
 
-/// An option has no length byte, or fewer bytes left than its length says.
+/// An option has no length byte, or its length is more than the bytes that follow it.
 #[derive(Clone, Copy, PartialEq, Eq, Error)]
 #[error("Cut {at}")]
 pub struct Cut {
@@ -19,12 +19,12 @@ impl fmt::Debug for Cut {
     }
 }
 
-/// The pieces of an area of options, in order, without pads and End (RFC 2132 section 3.1, 3.2).
-/// What follows an End is not looked at, and an area may end without one.
+/// Returns the pieces of an option area, in order, without pads and End (RFC 2132 sections 3.1 and
+/// 3.2). Bytes after an End are ignored, and an area may end without one.
 ///
 /// # Errors
 ///
-/// `Cut` where the area holds an option that is cut off.
+/// `Cut` if the area holds an option that is cut off.
 pub fn pieces(area: &[u8]) -> Result<Pieces<'_>, Cut>
     ensures found { IfOk result (λ list. IsArea area.now list) }
     ensures cut { IfErr result (λ fault. IsCutAt area.now fault.at) }

@@ -20,21 +20,21 @@ impl<T> Model for Entries<T> {
 impl<T> Entries<T> {
     ghost use Rattle.std.specs.Prelude.{◌≡◌};
 
-    /// The entries of a vector, which it keeps: no memory is taken.
+    /// Makes a list of a vector's elements. It keeps the vector and takes no memory.
     pub fn own(content: Vec<T>) -> Entries<T>
         ensures { result ≡ content.items }
     {
         Entries { content }
     }
 
-    /// The entries, borrowed.
+    /// Returns the elements, borrowed.
     pub fn as_slice(&self) -> &[T]
         ensures { result.now ≡ self.now }
     {
         self.content.as_slice()
     }
 
-    /// The vector given back: no memory is taken.
+    /// Returns the vector itself. Takes no memory.
     pub fn into_vec(self) -> Vec<T>
         ensures { result.items ≡ self }
     {

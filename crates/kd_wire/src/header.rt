@@ -5,44 +5,44 @@ use byteorder::{BigEndian, ByteOrder};
 use std::fmt;
 use thiserror::Error;
 
-/// The fields of a DHCP message from `op` to `file` (RFC 2131 section 2), as they stand in the
-/// datagram. Addresses are numbers in host order.
+/// The fields of a DHCP message from `op` to `file` (RFC 2131 section 2), in the order of the
+/// datagram. Addresses are numbers in host byte order.
 #[derive(Clone, Copy, PartialEq, Eq)]
 pub struct Header {
     /// 1 from a client, 2 from a server.
     pub op: u8,
-    /// The kind of link-layer address, 1 for Ethernet.
+    /// The type of link-layer address; 1 is Ethernet.
     pub htype: u8,
-    /// The length in bytes that the sender gives for its link-layer address; may exceed 16.
+    /// The length in bytes that the sender states for its link-layer address; may exceed 16.
     pub hlen: u8,
-    /// How many relays passed the message on.
+    /// The number of relays that passed the message on.
     pub hops: u8,
-    /// The transaction, which the client chose.
+    /// The transaction ID, which the client chose.
     pub xid: u32,
-    /// Seconds since the client began, by its own count.
+    /// The seconds since the client began, as the client counts them.
     pub secs: u16,
-    /// The flags; the leftmost bit asks for broadcast.
+    /// The flags; the leftmost bit asks for a broadcast reply.
     pub flags: u16,
     /// The address that the client says it has.
     pub ciaddr: u32,
-    /// "Your" address, which the server gives.
+    /// "Your" address, which the server assigns.
     pub yiaddr: u32,
-    /// The next server in booting.
+    /// The next server to use in booting.
     pub siaddr: u32,
-    /// The relay that the message came through, or zero.
+    /// The address of the relay that the message came through, or zero.
     pub giaddr: u32,
-    /// The client's link-layer address and what fills it up.
+    /// The client's link-layer address and the bytes that fill the field.
     pub chaddr: [u8; 16],
-    /// The server's name, or options (RFC 2132 section 9.3).
+    /// The server's name, or options (option 52, RFC 2132 section 9.3).
     pub sname: [u8; 64],
-    /// The boot file's name, or options (RFC 2132 section 9.3).
+    /// The boot file's name, or options (option 52, RFC 2132 section 9.3).
     pub file: [u8; 128],
 }
 
-/// Why bytes are no DHCP message's header.
+/// Why bytes do not have the header of a DHCP message.
 #[derive(Clone, Copy, PartialEq, Eq, Error)]
 pub enum WireFault {
-    /// The datagram has fewer than 240 bytes, the header and the cookie.
+    /// The datagram has fewer than the 240 bytes of the header and the cookie.
     #[error("Short")]
     Short,
     /// The datagram has more than 4,096 bytes.
@@ -63,7 +63,7 @@ impl fmt::Debug for WireFault {
 }
 
 impl WireFault {
-    /// The fault's number, 1 to 4.
+    /// Returns the fault's number, 1 to 4.
     pub fn number(self) -> u8
         ensures { result ≡ fault_number self }
     {
@@ -83,7 +83,8 @@ const LONGEST_DATAGRAM: usize = 4096;
 pub(crate) const COOKIE: u32 = 0x6382_5363;
 
 impl Header {
-    /// The header of a datagram of 240 to 4,096 bytes with the cookie of RFC 2131 section 3.
+    /// Returns the header of a datagram of 240 to 4,096 bytes that has the cookie of RFC 2131
+    /// section 3.
     ///
     /// # Errors
     ///
@@ -109,7 +110,7 @@ impl Header {
     }
 }
 
-// The fields at their offsets.
+// Reads each field at its offset.
 #[tactic(auto, unfolding(crate::specs::Header::header_of))]
 fn fields_of(bytes: &[u8]) -> Header
     requires { 240 ≤ length bytes.now }

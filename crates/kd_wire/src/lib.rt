@@ -1,10 +1,10 @@
 //! The bytes of a DHCP message: its header (RFC 2131 section 2) and its areas of options
 //! (RFC 2132 section 2).
 //!
-//! What this layer promises to the one above: a header read is the numbers that stand at the
-//! offsets of RFC 2131's figure, or the first of four faults (`specs/Header.antt`); an area's
-//! pieces are the standard's list, or the place where a piece is cut off (`specs/Area.antt`).
-//! Nothing here takes memory.
+//! What this layer promises to the one above: a header that is read has the numbers at the offsets
+//! of RFC 2131's figure, or the result is the first of four faults (`specs/Header.antt`); an area's
+//! pieces are the standard's list, or the result is the place where a piece is cut off
+//! (`specs/Area.antt`). Nothing here takes memory.
 #![tactic(auto)]
 
 mod area;

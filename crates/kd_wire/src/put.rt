@@ -7,7 +7,7 @@ ghost use Rattle.kd_wire.specs.Put.{with_bytes_at};
 use crate::header::{COOKIE, Header};
 use byteorder::{BigEndian, ByteOrder};
 
-/// Writes a header and the cookie over the first 240 bytes (RFC 2131 sections 2 and 3).
+/// Writes a header and the cookie over the first 240 bytes of `out` (RFC 2131 sections 2 and 3).
 pub fn write_header(out: &mut [u8], header: &Header)
     requires { 240 ≤ length out.old }
     ensures written { out.new ≡ header_bytes header.now ++ drop 240 out.old }
@@ -27,8 +27,8 @@ pub fn write_header(out: &mut [u8], header: &Header)
     put_u32(out, 236, COOKIE);
 }
 
-/// Writes a piece of an option, code, length and value, at a place, and answers the place after it
-/// (RFC 2132 section 2).
+/// Writes a piece of an option (code, length and value) at the offset `at`, and returns the offset
+/// after it (RFC 2132 section 2).
 pub fn put_piece(out: &mut [u8], at: usize, code: u8, value: &[u8]) -> usize
     requires code { IsCode code }
     requires few { length value.now ≤ 255 }
@@ -41,7 +41,7 @@ pub fn put_piece(out: &mut [u8], at: usize, code: u8, value: &[u8]) -> usize
     at + 2 + value.len()
 }
 
-/// Writes an End at a place, and answers the place after it (RFC 2132 section 3.2).
+/// Writes an End at the offset `at`, and returns the offset after it (RFC 2132 section 3.2).
 pub fn put_end(out: &mut [u8], at: usize) -> usize
     requires { at < length out.old }
     ensures written { out.new ≡ with_bytes_at at (255 ∷ []) out.old }
@@ -51,7 +51,7 @@ pub fn put_end(out: &mut [u8], at: usize) -> usize
     at + 1
 }
 
-// Writes bytes at a place.
+// Writes bytes at an offset.
 fn put_bytes(out: &mut [u8], at: usize, bytes: &[u8])
     requires { at + length bytes.now ≤ length out.old }
     ensures { out.new ≡ with_bytes_at at bytes.now out.old }
@@ -59,7 +59,7 @@ fn put_bytes(out: &mut [u8], at: usize, bytes: &[u8])
     out[at..at + bytes.len()].copy_from_slice(bytes);
 }
 
-// Writes a number of 2 bytes at a place.
+// Writes a 2-byte number at an offset.
 fn put_u16(out: &mut [u8], at: usize, number: u16)
     requires { at + 2 ≤ length out.old }
     ensures { out.new ≡ with_bytes_at at (big_bytes 2 number) out.old }
@@ -67,7 +67,7 @@ fn put_u16(out: &mut [u8], at: usize, number: u16)
     BigEndian::write_u16(&mut out[at..at + 2], number);
 }
 
-// Writes a number of 4 bytes at a place.
+// Writes a 4-byte number at an offset.
 fn put_u32(out: &mut [u8], at: usize, number: u32)
     requires { at + 4 ≤ length out.old }
     ensures { out.new ≡ with_bytes_at at (big_bytes 4 number) out.old }

@@ -5,8 +5,8 @@ ghost use Rattle.kd_wire.specs.Walk.{pieces_from, is_whole_from};
 
 use std::marker::Model;
 
-/// The pieces of an area that has no option cut off: the code from 1 to 254 and the value, of at
-/// most 255 bytes, of each.
+/// The pieces of an area in which no option is cut off. Each has a code from 1 to 254 and a value
+/// of at most 255 bytes.
 #[derive(Drop)]
 pub struct Pieces<'a> {
     left: &'a [u8],
@@ -39,7 +39,7 @@ impl<'a> Iterator for Pieces<'a> {
     }
 }
 
-// The iterator over an area without a cut.
+// Returns the iterator over an area in which no option is cut off.
 pub(crate) fn pieces_over(area: &[u8]) -> Pieces<'_>
     requires { is_whole_from 0 area.now ≡ true }
     ensures { result ≡ pieces_from 0 area.now }
@@ -47,7 +47,7 @@ pub(crate) fn pieces_over(area: &[u8]) -> Pieces<'_>
     Pieces { left: area }
 }
 
-// What stands at the front of an area: nothing more, a pad, a piece, or a piece that is cut off.
+// What an area begins with: its end, a pad, a piece, or a piece that is cut off.
 pub(crate) enum Front<'a> {
     End,
     Pad(&'a [u8]),
@@ -68,7 +68,7 @@ pub(crate) fn front_of(area: &[u8]) -> Front<'_>
     }
 }
 
-// The piece of this code, whose length byte and value stand at the front of `rest`.
+// Returns the piece of this code, whose length byte and value `rest` begins with.
 fn piece_of(code: u8, rest: &[u8]) -> Front<'_>
     requires { IsCode code }
     ensures { IsFront result (code ∷ rest.now) }
@@ -84,7 +84,7 @@ fn piece_of(code: u8, rest: &[u8]) -> Front<'_>
     Front::Piece(code, value, after)
 }
 
-// The first piece of an area without a cut, and what is left behind it.
+// Returns the first piece of an area without a cut, and the remaining bytes.
 fn first_piece(area: &[u8]) -> Option<(u8, &[u8], &[u8])>
     requires { is_whole_from 0 area.now ≡ true }
     ensures { MatchOption result (pieces_from 0 area.now ≡ [])
