@@ -1,4 +1,4 @@
--- The reasons for which a datagram gets no reply: their numbers and names.
+-- The reasons why a datagram gets no reply: their numbers and names.
 use Rattle.std.specs.Prelude.{ℕ, List, codes}
 use Rattle.kd_event.specs.declared.reason.Reason.{Reason}
 use Rattle.kd_event.specs.declared.reason.Reason.TheVariants as reasons

@@ -3,11 +3,11 @@
 pub enum Mode {
     /// To the relay that the message came through.
     Relay,
-    /// To the address that the client has.
+    /// To the client's own address.
     Unicast,
-    /// To every host of the link.
+    /// To all hosts on the link.
     Broadcast,
-    /// To the client's hardware address, with the address that it is given.
+    /// To the client's hardware address, with the IP address that the client is assigned.
     Hardware,
 }
 

@@ -2,29 +2,29 @@ use crate::destination::Destination;
 use crate::reason::Reason;
 use kd_wire::Bytes;
 
-/// One datagram at one moment.
+/// A datagram and the time at which it came.
 #[derive(Drop)]
 pub struct Event {
-    /// When it came, in whole seconds; a server takes moments below 2^40.
+    /// The time at which it came, in whole seconds; a server accepts times below 2^40.
     pub moment: u64,
     /// The datagram, of any length.
     pub bytes: Bytes,
 }
 
-/// What was done with one event.
+/// What the server did with an event.
 #[derive(Drop)]
 pub struct Handled {
-    /// The moment at which it counts, in whole seconds: that of the event, or the latest change of
-    /// a lease where that is later.
+    /// The time that counts for the event, in whole seconds: the event's own time, or the time of
+    /// the latest change of a lease if that is later.
     pub now: u64,
-    /// What is sent, or why nothing is.
+    /// What is sent, or why nothing is sent.
     pub response: Response,
 }
 
-/// What is sent for an event, or why nothing is.
+/// What is sent for an event, or why nothing is sent.
 #[derive(Drop)]
 pub enum Response {
-    /// A reply: where it goes, and its bytes.
+    /// A reply: where it goes and its bytes.
     Reply(Destination, Bytes),
     /// Nothing is sent, for this reason.
     Quiet(Reason),

@@ -1,8 +1,8 @@
 //! What comes in and what goes out: an event, what was done with it, where a reply goes, and why
 //! none is sent.
 //!
-//! What this layer promises to the one above: the numbers and the names of the reasons are those
-//! that are printed (`specs/Reason.antt`). All else here are values without rules of their own.
+//! What this layer promises to the one above: the numbers and names of the reasons are those that
+//! are printed (`specs/Reason.antt`). Everything else here is plain data without rules of its own.
 #![tactic(auto)]
 
 mod destination;

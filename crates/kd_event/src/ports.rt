@@ -1,8 +1,8 @@
 /// The UDP ports of a server and its clients (RFC 2131 section 4.1).
 #[derive(Clone, Copy, PartialEq, Eq)]
 pub struct Ports {
-    /// Where servers and relays receive: 67, unless set otherwise.
+    /// The port on which servers and relays receive: 67 unless set otherwise.
     pub server: u16,
-    /// Where clients receive: 68, unless set otherwise.
+    /// The port on which clients receive: 68 unless set otherwise.
     pub client: u16,
 }

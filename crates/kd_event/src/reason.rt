@@ -6,7 +6,7 @@ use std::fmt;
 /// Why a datagram gets no reply.
 #[derive(Clone, Copy, PartialEq, Eq)]
 pub enum Reason {
-    /// The datagram reads as no DHCP message.
+    /// The datagram cannot be read as a DHCP message.
     Unreadable,
     /// It is a message that servers send, not clients.
     NotRequest,
@@ -14,13 +14,13 @@ pub enum Reason {
     NoIdentity,
     /// It is in the class DROP.
     DropClass,
-    /// No subnet of the configuration is the client's.
+    /// The configuration has no subnet for the client.
     NoSubnet,
     /// No address is left for the client.
     NoAddress,
-    /// The client asks for no address.
+    /// The message does not name the address that the client asks for or declines.
     NoRequested,
-    /// The client speaks to another server.
+    /// The message is meant for another server.
     OtherServer,
     /// The server has no lease of this client in its subnet.
     NoRecord,
@@ -28,16 +28,16 @@ pub enum Reason {
     NoCiaddr,
     /// The options that a reply must have do not fit.
     ReplyTooLong,
-    /// The client's lease is ended.
+    /// The client released its lease, which has ended.
     Released,
-    /// The address is held back, since the client found it in use.
+    /// The address is held back because the client found it in use.
     Declined,
-    /// The client gives up a lease that it does not hold.
+    /// The client releases or declines a lease that it does not hold.
     NotHeld,
 }
 
 impl Reason {
-    /// The number that is printed, 1 to 14.
+    /// Returns the number that is printed, 1 to 14.
     pub fn number(self) -> u8
         ensures { result ≡ reason_number self }
     {
@@ -59,7 +59,7 @@ impl Reason {
         }
     }
 
-    /// The name that is printed, in ASCII.
+    /// Returns the name that is printed, in ASCII.
     pub fn name(self) -> &'static str
         ensures { result.now ≡ reason_name self }
     {

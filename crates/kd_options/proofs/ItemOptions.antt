@@ -29,13 +29,13 @@ value_of-each code P (x ∷ items) each = by (nat_eq code x.code) refl (value_of
     by true t rest = rw t (each.0 (sym (eqb-true code x.code t)))
     by false t rest = rw t rest
 
--- the message type that stands first is its code's value
+-- the message type that comes first is its code's value
 value_of-type : (items : List Item) → BeginsWithType items → IsSomeAnd (value_of 53 (item_options items)) IsType
 value_of-type [] is = absurd is
 value_of-type (x ∷ items) is =
     let same : nat_eq 53 x.code ≡ true = eq-eqb 53 x.code (sym is.0) in rw same is.2
 
--- one thing of each element gives another
+-- if one property of each element gives another, the other holds of all
 pub each_gives : {X : Type 0} (P Q : X → Type 0) → ((x : X) → P x → Q x) → (xs : List X) → AllByRecursion P xs → AllByRecursion Q xs
 each_gives P Q gives [] each = tt
 each_gives P Q gives (x ∷ xs) each = (gives x each.0, each_gives P Q gives xs each.1)
@@ -48,11 +48,11 @@ items_readable items kind each = record {
   server = value_of-each 54 IsAddressValue items (each_gives IsItem (λ x. x.code ≡ 54 → IsAddressValue x.value) (λ x is. is.server) items each);
 }
 
--- a piece as what stands in an area
+-- a piece as a slot of an area
 abbrev slot : Piece → Slot
 slot p = piece p.0 p.1
 
--- pieces of one code in front of others
+-- pieces of one code before others
 slots_of-one : (code : ℕ) (f : ℕ → List ℕ) (js : List ℕ) (pieces : List Piece) → IsCode code → AllByRecursion IsSlot (map slot pieces) → AllByRecursion IsSlot (map slot (map (λ j. (code, f j)) js ++ pieces))
 slots_of-one code f [] pieces is rest = rest
 slots_of-one code f (j ∷ js) pieces is rest = (is, slots_of-one code f js pieces is rest)
@@ -63,7 +63,7 @@ slots_of-items [] = tt
 slots_of-items (x ∷ items) =
     slots_of-one x.code (slice_chunk x.value 255) (range_with_len 0 (piece_count (length x.value))) (flat_map pieces_of items) x.coded (slots_of-items items)
 
--- the bytes of items, an End and anything after it are an area with the items' pieces
+-- the bytes of items, followed by an End and anything, are an area with the items' pieces
 pub items_area : (items : List Item) (behind : List ℕ) → IsArea (items_text items ++ 255 ∷ behind) (flat_map pieces_of items)
 items_area items behind =
     let pieces = flat_map pieces_of items in

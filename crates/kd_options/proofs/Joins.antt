@@ -16,7 +16,7 @@ content code (o ∷ options) = if o.0 == code then o.1 else content code options
 abbrev pub without : ℕ → List Piece → List Piece
 without code options = filter (λ o. not (o.0 == code)) options
 
--- the options with one piece more in front
+-- the options with one more piece before them
 abbrev pub adds : Piece → List Piece → List Piece
 adds p options = (p.0, p.1 ++ content p.0 options) ∷ without p.0 options
 
@@ -49,7 +49,7 @@ content-without code gone (o ∷ options) differs = by (o.0 == gone) refl (conte
     by true t rest = rw (t, other o.0 gone code t differs) rest
     by false t rest = rw t (ap (λ x. if o.0 == code then o.1 else x) rest)
 
--- the options of pieces with one more in front, where the others' values are known
+-- the options of pieces with one more before them, if the others' values are known
 options_of-cons_by : (p : Piece) (pieces : List Piece) → content p.0 (options_of pieces) ≡ joined p.0 pieces → options_of (p ∷ pieces) ≡ adds p (options_of pieces)
 options_of-cons_by p pieces known =
     λ i. (p.0, (joined-same p pieces ∙ ap (λ x. p.1 ++ x) (sym known)) i) ∷ without-map p pieces (codes pieces) i
@@ -120,7 +120,7 @@ joined_into-adds code p value options = by (p.0 == code) refl
     by true t = let P : ℕ → Type 0 = λ c. joined_into c value (adds p options) ≡ adds p (joined_into c value options) in subst P (eqb-true p.0 code t) (joined_into-adds_same p value options)
     by false t = joined_into-adds_other code p value options t
 
--- one piece more is joined to the options of those before it
+-- one more piece is joined to the options of those before it
 pub options_of-append : (pieces : List Piece) (code : ℕ) (value : List ℕ) → options_of (pieces ++ (code, value) ∷ []) ≡ joined_into code value (options_of pieces)
 options_of-append [] code value = rw (eq-eqb code code refl) (λ i. (code, append-nil value i) ∷ [])
 options_of-append (p ∷ pieces) code value =

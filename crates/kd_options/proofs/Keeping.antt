@@ -17,7 +17,7 @@ use Rattle.kd_options.proofs.Puts.{put_then, put_none, length-all_text, padded_i
 abbrev pub rest : List Item → ℕ → ℕ
 rest items i = sum_by obligatory_cost (drop i items)
 
--- so many items were looked at, and those of them that are kept stand after the header
+-- the first i items were looked at, and those of them that are kept come after the header
 pub record Putting (items : List Item) (room : ℕ) (old : List ℕ) (i at left : ℕ) (new : List ℕ) : Type 0 where
   pub done : List Item
   pub kept_is : kept room items ≡ done ++ kept_from (at + rest items i) room (drop i items)

@@ -11,7 +11,7 @@ use Rattle.kd_options.specs.Reply.{ItemsFit, base_cost, item_cost, items_text, k
 use Rattle.kd_options.specs.declared.item.Item.{Item}
 use Rattle.kd_options.proofs.Puts.{length-all_text}
 
--- what holds of the kept items with the first one, and without it, holds of them
+-- what holds of the kept items both with and without the first one holds of them
 kept_step : (Q : List Item → Type 0) (used room : ℕ) (x : Item) (items : List Item) → ((n : ℕ) → Q (x ∷ kept_from n room items)) → Q (kept_from used room items) → Q (kept_from used room (x ∷ items))
 kept_step Q used room x items with_it without_it = by x.obligatory (nat_le (used + item_cost x + 1) room)
   where
@@ -26,7 +26,7 @@ kept_each P used room [] each = tt
 kept_each P used room (x ∷ items) each =
     kept_step (AllByRecursion P) used room x items (λ n. (each.0, kept_each P n room items each.1)) (kept_each P used room items each.1)
 
--- what holds of the codes of items holds of the items by their codes, and the other way round
+-- what holds of the codes of items holds of the items by their codes, and vice versa
 codes_each : (P : ℕ → Type 0) (items : List Item) → AllByRecursion (λ x. P x.code) items → AllByRecursion P (item_codes items)
 codes_each P [] each = tt
 codes_each P (x ∷ items) each = (each.0, codes_each P items each.1)
@@ -35,7 +35,7 @@ each_code : (P : ℕ → Type 0) (items : List Item) → AllByRecursion P (item_
 each_code P [] each = tt
 each_code P (x ∷ items) each = (each.0, each_code P items each.1)
 
--- the kept items' codes are distinct, where the items' are
+-- the kept items' codes are distinct if the items' codes are
 pub kept_distinct : (used room : ℕ) (items : List Item) → IsDistinct nat_eq (item_codes items) → IsDistinct nat_eq (item_codes (kept_from used room items))
 kept_distinct used room [] distinct = distinct
 kept_distinct used room (x ∷ items) distinct =
@@ -52,7 +52,7 @@ kept_type used room (x ∷ items) is =
     let first : kept_from used room (x ∷ items) ≡ x ∷ kept_from used room items = ap (λ own. if own then x ∷ kept_from used room items else if nat_le (used + item_cost x + 1) room then x ∷ kept_from (used + item_cost x) room items else kept_from used room items) is.1 in
     subst BeginsWithType (sym first) is
 
--- one item's bytes in front
+-- one item's bytes come first
 length-items_text : (x : Item) (items : List Item) → length (items_text (x ∷ items)) ≡ item_cost x + length (items_text items)
 length-items_text x items =
     let put : Piece → List ℕ = λ p. spelled (piece p.0 p.1) in

@@ -1,4 +1,5 @@
--- The pieces of a value join to the value again, and the pieces of items to the items (RFC 3396 section 7).
+-- The pieces of a value join to the value again, and the pieces of items to the items (RFC 3396
+-- section 7).
 use Rattle.std.proofs.Common.{◌≡◌, ℕ, zero, suc, ◌+◌, ◌-◌, ◌*◌, ◌≤◌, false, List, [], ◌∷◌, ◌++◌, length, take, drop, refl, sym, ap, ◌∙◌, arith, eq-eqb, take-add, take_all, drop-drop}
 use Rattle.std.specs.Prelude.{map, nat_eq}
 use Rattle.std.specs.List.{flat_map, range_with_len, AllByRecursion, IsDistinct}
@@ -27,7 +28,7 @@ value_is value =
     let all : length value ≤ piece_count (length value) * 255 = omega arith in
     chunks_are value 0 (piece_count (length value)) ∙ take_all (piece_count (length value) * 255) value all
 
--- pieces of one code, in front of options without it, are one option more
+-- pieces of one code, before options without it, are one more option
 options_of-one : (code : ℕ) (f : ℕ → List ℕ) (j : ℕ) (js : List ℕ) (pieces : List Piece) → content code (options_of pieces) ≡ [] → without code (options_of pieces) ≡ options_of pieces → options_of (map (λ k. (code, f k)) (j ∷ js) ++ pieces) ≡ (code, flat_map f (j ∷ js)) ∷ options_of pieces
 options_of-one code f j [] pieces none out =
     options_of-cons (code, f j) pieces ∙ (λ i. (code, f j ++ none i) ∷ out i)

@@ -65,7 +65,7 @@ chunk_is value k to end =
     let width : to - k * 255 ≡ min 255 (length (drop (k * 255) value)) = omega (arith, end, length-drop (k * 255) value) in
     ap (λ n. take n (drop (k * 255) value)) width ∙ take_min 255 (drop (k * 255) value)
 
--- a piece that there is begins within the value
+-- a piece with a number below the count begins within the value
 pub begins_within : (n k : ℕ) → k < piece_count n → k * 255 ≤ n
 begins_within n k less = omega (arith, less)
 
@@ -74,14 +74,14 @@ pub next_within : (code : ℕ) (value : List ℕ) (k : ℕ) → k < piece_count 
 next_within code value k less =
     omega (arith, length-first_text code value k, length-chunk value k, begins_within (length value) k less, less)
 
--- all pieces of a value cost what is said
+-- all pieces of a value cost what `cost_of` says
 pub length-all_text : (code : ℕ) (value : List ℕ) → length (first_text code value (piece_count (length value))) ≡ cost_of (length value)
 length-all_text code value =
     let n = length value in
     let all : n ≤ 255 * piece_count n = omega arith in
     omega (arith, length-first_text code value (piece_count n), all)
 
--- what is put after a header of 240 bytes stands after it
+-- what is put after a header of 240 bytes comes after it
 pub behind_header : (head body old first new : List ℕ) → length head ≡ 240 → first ≡ head ++ drop 240 old → new ≡ with_bytes_at 240 body first → new ≡ (head ++ body) ++ drop (length (head ++ body)) old
 behind_header head body old first new size is put =
     let front : take 240 first ≡ head = ap (take 240) is ∙ take_at head (drop 240 old) 240 size in
@@ -90,7 +90,7 @@ behind_header head body old first new size is put =
     sym (drop-drop (length body) 240 first) ∙ ap (drop (length body)) (ap (drop 240) is ∙ drop_at head (drop 240 old) 240 size) ∙ drop-drop (length body) 240 old ∙ ap (λ k. drop k old) place in
     put ∙ ap (λ x. x ++ body ++ drop (240 + length body) first) front ∙ ap (λ x. head ++ body ++ x) behind
 
--- zeros up to 300 bytes are left of a room of zeros
+-- zeros up to 300 bytes remain of a room of zeros
 pub padded_is : (text : List ℕ) (room end : ℕ) → end ≡ length text → length text ≤ room → 300 ≤ room → take (max end 300) (text ++ drop end (replicate room 0)) ≡ padded text
 padded_is text room end place within least =
     let count : max end 300 ≡ length text + (300 - length text) = omega (arith, place) in

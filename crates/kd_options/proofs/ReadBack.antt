@@ -14,7 +14,7 @@ use Rattle.kd_options.specs.Laws.{IsHeader}
 behind : (bytes : List ℕ) (i n : ℕ) (field rest : List ℕ) → drop i bytes ≡ field ++ rest → length field ≡ n → drop (i + n) bytes ≡ rest
 behind bytes i n field rest at size = sym (drop-drop n i bytes) ∙ ap (drop n) at ∙ drop_at field rest n size
 
--- a field that stands in front of what follows its offset
+-- a field that comes first in the bytes from its offset on
 field_is : (bytes : List ℕ) (i n : ℕ) (field rest : List ℕ) → drop i bytes ≡ field ++ rest → length field ≡ n → bytes_at i n bytes ≡ field
 field_is bytes i n field rest at size =
     let width : i + n - i ≡ n = omega arith in
@@ -33,7 +33,7 @@ two_back x fits = let back = from_be_bytes-to_be_bytes_2 x fits in omega (arith,
 four_back : (x : ℕ) → x < 2 ^ 32 → four (bytes_high_first 4 x) ≡ x
 four_back x fits = let back = from_be_bytes-to_be_bytes_4 x fits in omega (arith, back)
 
--- a number whose bytes stand in front of what follows its offset
+-- a number whose bytes come first in the bytes from its offset on
 number_is_2 : (bytes : List ℕ) (i x : ℕ) (rest : List ℕ) → drop i bytes ≡ bytes_high_first 2 x ++ rest → x < 2 ^ 16 → number_at i 2 bytes ≡ x
 number_is_2 bytes i x rest at fits =
     ap two (field_is bytes i 2 (bytes_high_first 2 x) rest at refl) ∙ two_back x fits
@@ -42,7 +42,7 @@ number_is_4 : (bytes : List ℕ) (i x : ℕ) (rest : List ℕ) → drop i bytes 
 number_is_4 bytes i x rest at fits =
     ap four (field_is bytes i 4 (bytes_high_first 4 x) rest at refl) ∙ four_back x fits
 
--- lists one after another, taken from the front
+-- lists one after another, taken from the beginning
 from_front : (a b c d : ℕ) (x1 x2 x3 x4 x5 x6 x7 x8 x9 x10 x11 rest : List ℕ) → a ∷ b ∷ c ∷ d ∷ [] ++ x1 ++ x2 ++ x3 ++ x4 ++ x5 ++ x6 ++ x7 ++ x8 ++ x9 ++ x10 ++ x11 ++ rest ≡ a ∷ b ∷ c ∷ d ∷ (x1 ++ (x2 ++ (x3 ++ (x4 ++ (x5 ++ (x6 ++ (x7 ++ (x8 ++ (x9 ++ (x10 ++ (x11 ++ rest)))))))))))
 from_front a b c d x1 x2 x3 x4 x5 x6 x7 x8 x9 x10 x11 rest = simp append_assoc
 
@@ -55,7 +55,7 @@ known_op op (inl is) = rw is refl
 known_op op (inr is) = rw is refl
 
 module _ (h : Header) (rest : List ℕ) where
-  -- what stands from each field on, with the cookie and the rest after them
+  -- the bytes from each field on, with the cookie and the rest after them
   abbrev from_cookie : List ℕ
   from_cookie = bytes_high_first 4 cookie ++ rest
 

@@ -18,7 +18,7 @@ unfolding are_whole_from
 are_whole_from-skip [] rest = refl
 are_whole_from-skip (b ∷ value) rest = are_whole_from-skip value rest
 
--- the walk gives a sub-option that stands at the front
+-- the walk gives the sub-option that the bytes begin with
 pub subs_from-front : (code : ℕ) (value rest : List ℕ) → subs_from 0 (code ∷ length value ∷ (value ++ rest)) ≡ (code, value) ∷ subs_from 0 rest
 unfolding subs_from
 subs_from-front code value rest = rw (take-append_seam value rest, subs_from-skip value rest) refl
@@ -50,7 +50,7 @@ are_whole_from-cut (code ∷ n ∷ bytes) is = short_skip bytes n is
 length_taken : (n : ℕ) (bytes : List ℕ) → n ≤ length bytes → length (take n bytes) ≡ n
 length_taken n bytes fits = omega (arith, length-take n bytes)
 
--- a whole value is the text of its sub-options, after those bytes that are skipped
+-- a whole value is the text of its sub-options, after the bytes that are skipped
 spelled_again : (n : ℕ) (bytes : List ℕ) → are_whole_from n bytes ≡ true → (bytes ≡ take n bytes ++ flat_map sub_text (subs_from n bytes)) × (n ≤ length bytes)
 unfolding are_whole_from subs_from
 spelled_again zero [] whole = (refl, omega arith)

@@ -1,4 +1,4 @@
--- The rules of a readable message's options: the first fault is none exactly where they hold.
+-- The rules of a readable message's options: there is no first fault exactly when they hold.
 use Rattle.std.proofs.Common.{◌≡◌, ℕ, ◌≤◌, Bool, true, false, List, [], ◌∷◌, length, Option, Some, None, Result, Ok, refl, sym, ap, ◌∙◌, eq-eqb, eqb-true, le-leb, leb-true, true≢false, arith, ◌<◌, get_or}
 use Rattle.std.specs.Prelude.{◌&&◌, nat_le, not, is_some, IfSome, IsSomeAnd, if◌then◌else◌}
 use Rattle.kd_wire.specs.Area.{Piece}
@@ -108,7 +108,7 @@ first_of_options bytes header options fault head are is =
 pub not_readable : (options : List Piece) (fault : ReadFault) → Some fault ≡ option_fault options → IsReadable options → ⊥
 not_readable options fault e is = true≢false (ap is_some (e ∙ no_fault options is))
 
--- two answers of one header are the same
+-- two results of reading one header are the same
 pub same_header : (a b : HeaderRecord) (answer : Result HeaderRecord WireFault) → answer ≡ Ok a → answer ≡ Ok b → a ≡ b
 same_header a b answer x y = cc
 

@@ -1,4 +1,4 @@
--- The first sub-option of each code, told by a table of the codes that were met.
+-- The first sub-option of each code, found by a table of the codes that were met.
 use Rattle.std.proofs.Common.{◌≡◌, ℕ, zero, suc, ◌+◌, ◌-◌, ◌<◌, ◌≤◌, Bool, true, false, List, [], ◌∷◌, length, refl, sym, ap, ◌∙◌, eqb-true, get_or, set, get_or-set_same, get_or-set_other, arith}
 use Rattle.std.specs.Prelude.{◌==◌, not, filter, slice_get, if◌then◌else◌}
 use Rattle.std.specs.List.{list_all}
@@ -28,7 +28,7 @@ unseen-without seen code (q ∷ list) met = by (q.0 == code) refl (unseen-withou
 pub unseen-met : (seen : List Bool) (p : Piece) (list : List Piece) → get_or seen p.0 false ≡ true → unseen seen (firsts (p ∷ list)) ≡ unseen seen (firsts list)
 unseen-met seen p list met = rw met (unseen-without seen p.0 (firsts list) met)
 
--- a code that is met now is out from now on
+-- a code that is met at this point is left out from then on
 unseen-set : (seen : List Bool) (code : ℕ) (list : List Piece) → code < length seen → unseen seen (filter (λ q. not (q.0 == code)) list) ≡ unseen (set seen code true) list
 unseen-set seen code [] within = refl
 unseen-set seen code (q ∷ list) within = by (q.0 == code) refl (unseen-set seen code list within)
@@ -48,7 +48,7 @@ pub slice_get-later : (p : Piece) (list : List Piece) (n : ℕ) → (n ≡ 0 →
 slice_get-later p list zero ne = absurd (ne refl)
 slice_get-later p list (suc n) ne = let one : suc n - 1 ≡ n = omega arith in rw one refl
 
--- a table of nothing but no
+-- a table in which nothing is marked
 pub all_false : (xs : List Bool) → list_all not xs ≡ true → (k : ℕ) → get_or xs k false ≡ false
 all_false [] each k = refl
 all_false (true ∷ xs) each k = absurd (false≢true each)
@@ -81,7 +81,7 @@ marks-lt (false ∷ xs) zero unmet within = let most = marks-le xs in omega (ari
 marks-lt (false ∷ xs) (suc k) unmet within =
     let less : marks xs < length xs = marks-lt xs k unmet (omega (arith, within)) in omega (arith, less)
 
--- one code more
+-- one more code
 pub marks-set : (xs : List Bool) (k : ℕ) → get_or xs k false ≡ false → k < length xs → marks (set xs k true) ≡ marks xs + 1
 marks-set [] k unmet within = absurd (omega (arith, within))
 marks-set (true ∷ xs) zero unmet within = absurd (false≢true (sym unmet))

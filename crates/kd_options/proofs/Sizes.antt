@@ -1,5 +1,5 @@
--- How long what a message has can be: its header's fields, an option at most the datagram, a sub-option 255
--- bytes.
+-- How long the parts of a message can be: its header's fields have their sizes, an option has at
+-- most the datagram's bytes, and a sub-option at most 255 bytes.
 use Rattle.std.proofs.Common.{◌≡◌, ℕ, zero, suc, ◌+◌, ◌-◌, ◌*◌, ◌^◌, ◌<◌, ◌≤◌, Bool, true, false, List, [], ◌∷◌, ◌++◌, length, take, drop, filter, map, get_or, Option, Some, None, refl, sym, ap, subst, arith}
 use Rattle.std.specs.Prelude.{◌==◌, if◌then◌else◌, not, ◌||◌, nat_eq, nat_lt, Ok, Err, IfSome, MatchOption, slice_index}
 use Rattle.std.specs.List.{AllByRecursion, flat_map}
@@ -15,12 +15,12 @@ use Rattle.kd_options.specs.Laws.{IsField, IsHeader, MessagesHaveSizes}
 use Rattle.kd_options.specs.Message.{Seen, AreBytes, IsMessage}
 use Rattle.kd_options.specs.RelayWalk.{subs_from, are_whole_from, sub_options_in, relay_list}
 
--- bytes are in range where each index is
+-- bytes are in range if the byte at each index is
 pub bytes_all : (xs : List ℕ) → ((i : ℕ) → get_or xs i 0 < 256) → AreBytes xs
 bytes_all [] h = tt
 bytes_all (x ∷ xs) h = (h 0, bytes_all xs (λ i. h (suc i)))
 
--- what both lists have, their join has
+-- what holds of both lists holds of their join
 all_append : (xs ys : List ℕ) → AreBytes xs → AreBytes ys → AreBytes (xs ++ ys)
 all_append [] ys a b = b
 all_append (x ∷ xs) ys a b = (a.0, all_append xs ys a.1 b)
@@ -74,7 +74,7 @@ slots_bytes [] a = tt
 slots_bytes (pad ∷ slots) a = slots_bytes slots a.1
 slots_bytes (piece code value ∷ slots) a = (all_front value (flat_map spelled slots) a.1.1, slots_bytes slots (all_back value (flat_map spelled slots) a.1.1))
 
--- what an area has
+-- what holds of an area's pieces
 abbrev Holds : ℕ → List Piece → Type 0
 Holds most ps = (total ps ≤ most) × HaveBytes ps
 
@@ -200,7 +200,7 @@ header_fields m is = subst IsHeader (header_is is.datagram m.header is.reads.hea
 pub len_short : (m : Seen) → IsMessage m → m.len ≤ 4096
 len_short m is = let most = room is.datagram m.header is.reads.header in omega (arith, most, is.reads.len)
 
--- what the pieces of all areas hold
+-- what holds of the pieces of all areas
 pieces_hold : (bytes : List ℕ) (ps : List Piece) → AreBytes bytes → length bytes ≤ 4096 → AreasInUse bytes ps → Holds 4096 ps
 pieces_hold bytes ps a most areas =
     let one = area_holds (options_field bytes) areas.field (all_drop 240 bytes a) areas.field_is in

@@ -16,7 +16,8 @@ use Rattle.kd_options.proofs.Kept.{kept_distinct, kept_each, kept_type, kept_wit
 use Rattle.kd_options.proofs.Pieces.{options_of-items}
 use Rattle.kd_options.proofs.ReadBack.{header_back, length-header_bytes}
 
--- bytes whose options field is an area of pieces without code 52 have the options that the pieces make
+-- bytes whose options field is an area of pieces without code 52 have the options that the pieces
+-- make
 plain_options : (bytes : List ℕ) (pieces options : List Piece) → IsArea (options_field bytes) pieces → options_of pieces ≡ options → value_of 52 options ≡ None → HasOptions bytes options
 plain_options bytes pieces options area joins plain =
     let absent : value_of 52 (options_of pieces) ≡ None = ap (value_of 52) joins ∙ plain in
@@ -41,7 +42,7 @@ module _ (header : Header) (room : ℕ) (items : List Item) (is : IsReply header
   abbrev body : List ℕ
   body = items_text (kept room items)
 
-  -- header and cookie in front, and after them the kept items, End and zeros
+  -- header and cookie first, and after them the kept items, End and zeros
   text_is : reply_text header room items ≡ header_bytes header ++ (body ++ 255 ∷ zeros)
   text_is = append_assoc (header_bytes header) (body ++ 255 ∷ []) zeros ∙ ap (λ x. header_bytes header ++ x) (append_assoc body (255 ∷ []) zeros)
 

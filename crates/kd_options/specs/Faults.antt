@@ -1,4 +1,5 @@
--- The numbers of the faults of reading a message, and of the options that hold an address.
+-- The numbers of the faults of reading and writing a message, and the codes of the options that
+-- hold an address.
 use Rattle.std.specs.Prelude.{ℕ}
 use Rattle.kd_wire.specs.Header.{fault_number}
 use Rattle.kd_options.specs.declared.fault.AddressOption.{AddressOption}
@@ -15,7 +16,7 @@ abbrev pub address_option_code : AddressOption → ℕ
 address_option_code RequestedAddress = 50
 address_option_code ServerIdentifier = 54
 
--- the number of each fault: a header's fault keeps its own
+-- the number of each fault; a header's fault keeps its own number
 abbrev pub read_fault_number : ReadFault → ℕ
 read_fault_number (faults.Header fault) = fault_number fault
 read_fault_number (faults.Cut at) = 5

@@ -19,7 +19,7 @@ codes (p ∷ pieces) = p.0 ∷ filter (λ code. not (code == p.0)) (codes pieces
 abbrev pub options_of : List Piece → List Piece
 options_of pieces = map (λ code. (code, joined code pieces)) (codes pieces)
 
--- the value of an option, where it is present
+-- the value of an option, if it is present
 abbrev pub value_of : ℕ → List Piece → Option (List ℕ)
 value_of code options = lookup (nat_eq code) options
 
@@ -54,8 +54,8 @@ abbrev pub IsAreaIf : Bool → List ℕ → List Piece → Type 0
 IsAreaIf true area pieces = IsArea area pieces
 IsAreaIf false area pieces = pieces ≡ []
 
--- the pieces of all areas in use, in the order options field, file, sname; the options field's own
--- option 52 says which they are
+-- the pieces of all areas in use, in the order options field, file, sname; option 52 of the options
+-- field alone says whether file and sname are in use
 pub record AreasInUse (bytes : List ℕ) (pieces : List Piece) : Type 0 where
   pub field : List Piece
   pub file : List Piece

@@ -1,4 +1,4 @@
--- One piece more joined to the options so far. Proofs tie this step to the joined options; no
+-- One more piece joined to the options so far. Proofs tie this step to the joined options; no
 -- public contract cites it.
 use Rattle.std.specs.Prelude.{◌≡◌, ℕ, Bool, ◌==◌, List, [], ◌∷◌, ◌++◌, if◌then◌else◌, map}
 use Rattle.kd_wire.specs.Area.{Piece}
@@ -15,14 +15,14 @@ bytes_of (Joined content) = content.items
 abbrev pub entries_of : List (ℕ × Value) → List Piece
 entries_of entries = map (λ e. (e.0, bytes_of e.1)) entries
 
--- the options after one piece more: at the end of its code's value, or as a new option after the
--- others
+-- the options after one more piece: it goes at the end of its code's value, or becomes a new option
+-- after the others
 abbrev pub joined_into : ℕ → List ℕ → List Piece → List Piece
 joined_into code value [] = (code, value) ∷ []
 joined_into code value (o ∷ options) =
     if o.0 == code then (o.0, o.1 ++ value) ∷ options else o ∷ joined_into code value options
 
--- these pieces were joined to the options of any pieces before
+-- these pieces were joined to options that were made of any earlier pieces
 abbrev pub JoinsPieces : List Piece → List Piece → List Piece → Type 0
 JoinsPieces pieces old new =
     (before : List Piece) → old ≡ options_of before → new ≡ options_of (before ++ pieces)

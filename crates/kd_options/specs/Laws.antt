@@ -1,6 +1,6 @@
--- What a reply has to be (RFC 2131 section 2, RFC 2132 sections 9.1, 9.6, 9.7), and the message
--- that its text reads back as (RFC 3396 section 7): what the law of replies speaks of. And the
--- sizes of each message.
+-- What a reply must be (RFC 2131 section 2, RFC 2132 sections 9.1, 9.6, 9.7), and the message that
+-- its text reads back as (RFC 3396 section 7), for the law of replies. Also the sizes of every
+-- message.
 use Rattle.std.specs.Prelude.{◌≡◌, ◌≢◌, ◌⊎◌, ℕ, ◌^◌, ◌<◌, ◌≤◌, true, nat_eq, List, [], ◌∷◌, length, map, IfSome, IsSomeAnd}
 use Rattle.std.specs.List.{AllByRecursion, IsDistinct}
 use Rattle.std.specs.Map.{lookup}
@@ -18,7 +18,8 @@ pub record IsField (n : ℕ) (bytes : List ℕ) : Type 0 where
   pub size : length bytes ≡ n
   pub bytes_are : AreBytes bytes
 
--- a header's fields have their ranges and lengths: numbers of one, two and four bytes, and bytes
+-- a header's fields have their ranges and lengths: numbers of one, two and four bytes, and byte
+-- fields
 pub record IsHeader (header : Header) : Type 0 where
   pub op : header.op < 2 ^ 8
   pub htype : header.htype < 2 ^ 8
@@ -35,15 +36,15 @@ pub record IsHeader (header : Header) : Type 0 where
   pub sname : IsField 64 header.sname
   pub file : IsField 128 header.file
 
--- an item of a reply: not option 52, an address where it is option 50 or 54, and its value is
--- bytes; that its code is from 1 to 254 is part of its type
+-- an item of a reply: it is not option 52, it is an address if it is option 50 or 54, and its value
+-- is bytes; its type already says that its code is from 1 to 254
 pub record IsItem (item : Item) : Type 0 where
   pub plain : item.code ≢ 52
   pub requested : item.code ≡ 50 → IsAddressValue item.value
   pub server : item.code ≡ 54 → IsAddressValue item.value
   pub bytes_are : AreBytes item.value
 
--- the first item is the message type, and obligatory
+-- the first item is the message type, and it is obligatory
 abbrev pub BeginsWithType : List Item → Type 0
 BeginsWithType [] = ⊥
 BeginsWithType (item ∷ items) = (item.code ≡ 53) × (item.obligatory ≡ true) × IsType item.value
@@ -52,8 +53,8 @@ BeginsWithType (item ∷ items) = (item.code ≡ 53) × (item.obligatory ≡ tru
 abbrev pub item_codes : List Item → List ℕ
 item_codes items = map (λ item. item.code) items
 
--- a reply and its room: a header of op 1 or 2, items with distinct codes, the message type first,
--- and the room of a datagram of 576 to 1,500 bytes beside 28 for IP and UDP
+-- a reply and its room: a header with op 1 or 2, items with distinct codes, the message type first,
+-- and the room that a datagram of 576 to 1,500 bytes leaves after 28 for IP and UDP
 pub record IsReply (header : Header) (room : ℕ) (items : List Item) : Type 0 where
   pub fields : IsHeader header
   pub op : (header.op ≡ 1) ⊎ (header.op ≡ 2)
@@ -75,7 +76,7 @@ read_back header room items = record {
   options = item_options (kept room items);
 }
 
--- the sizes of a message: each field of its header has its own, the datagram has at most 4,096
+-- the sizes of a message: each field of its header has its own size, the datagram has at most 4,096
 -- bytes, its type is one byte, an option has at most 4,096 bytes and a sub-option at most 255
 pub record HasSizes (message : Seen) : Type 0 where
   pub fields : IsHeader message.header
@@ -85,6 +86,6 @@ pub record HasSizes (message : Seen) : Type 0 where
   pub sub_option : (code : ℕ)
       → IfSome (lookup (nat_eq code) (relay_list message.options)) (λ value. length value ≤ 255)
 
--- each message has these sizes
+-- every message has these sizes
 abbrev pub MessagesHaveSizes : Type 0
 MessagesHaveSizes = (message : Seen) → IsMessage message → HasSizes message

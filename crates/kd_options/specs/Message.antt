@@ -1,5 +1,5 @@
 -- A readable DHCP message (RFC 2131 section 2, RFC 2132, RFC 3396), and the first fault of bytes
--- that are none.
+-- that are not one.
 use Rattle.std.specs.Prelude.{◌≡◌, ℕ, ◌+◌, ◌<◌, List, length, take, min, Ok, Err, Some, ◌⊎◌, true}
 use Rattle.std.specs.List.{AllByRecursion}
 use Rattle.kd_wire.specs.Area.{Piece, IsArea, IsCutAt}
@@ -10,8 +10,8 @@ use Rattle.kd_options.specs.Options.{IsReadable, option_fault}
 use Rattle.kd_options.specs.declared.fault.ReadFault.{ReadFault}
 use Rattle.kd_options.specs.declared.fault.ReadFault.TheVariants as faults
 
--- what contracts see of a message: its header, the datagram's length, its options in order of first
--- appearance
+-- what contracts see of a message: its header, the datagram's length, and its options in order of
+-- first appearance
 pub record Seen : Type 0 where
   pub header : Header
   pub len : ℕ
@@ -34,18 +34,19 @@ pub record IsMessage (m : Seen) : Type 0 where
   pub bytes_are : AreBytes datagram
   pub reads : Reads datagram m
 
--- an area from this offset on is cut there, counted from the datagram's first byte
+-- an area that begins at offset `start` is cut at this offset, both counted from the datagram's
+-- first byte
 abbrev pub IsCutIn : ℕ → List ℕ → ℕ → Type 0
 IsCutIn start area at = (k : ℕ) × (at ≡ start + k) × IsCutAt area k
 
--- the file field is the first that is cut: it is in use, and the options field is whole
+-- the file field is the first area that is cut: it is in use, and the options field is whole
 pub record IsCutInFile (bytes : List ℕ) (at : ℕ) : Type 0 where
   pub field : List Piece
   pub field_is : IsArea (options_field bytes) field
   pub used : uses_file (value_of 52 (options_of field)) ≡ true
   pub cut : IsCutIn 108 (file_field bytes) at
 
--- the sname field is the first that is cut: it is in use, and the areas before it are whole
+-- the sname field is the first area that is cut: it is in use, and the areas before it are whole
 pub record IsCutInSname (bytes : List ℕ) (at : ℕ) : Type 0 where
   pub field : List Piece
   pub file : List Piece
@@ -59,7 +60,7 @@ abbrev pub IsFirstCut : List ℕ → ℕ → Type 0
 IsFirstCut bytes at =
     IsCutIn 240 (options_field bytes) at ⊎ (IsCutInFile bytes at ⊎ IsCutInSname bytes at)
 
--- bytes with a header and whole areas have options whose first fault is this one
+-- bytes whose header and areas can be read, and whose options have this first fault
 pub record HasOptionFault (bytes : List ℕ) (fault : ReadFault) : Type 0 where
   pub header : Header
   pub options : List Piece
@@ -67,8 +68,8 @@ pub record HasOptionFault (bytes : List ℕ) (fault : ReadFault) : Type 0 where
   pub options_are : HasOptions bytes options
   pub first : option_fault options ≡ Some fault
 
--- the first fault of a datagram, in the order header, areas, options; want of memory may come once
--- the header is read
+-- the first fault of a datagram, in the order header, areas, options; out of memory can come only
+-- after the header is read
 abbrev pub IsFirstFault : ReadFault → List ℕ → Type 0
 IsFirstFault (faults.Header fault) bytes = header_read bytes ≡ Err fault
 IsFirstFault (faults.Cut at) bytes =

@@ -1,5 +1,5 @@
--- Which options make a message readable, and the first that does not (RFC 2132 sections 9.1, 9.6,
--- 9.7).
+-- Which options make a message readable, and the first fault of options that do not (RFC 2132
+-- sections 9.1, 9.6, 9.7).
 use Rattle.std.specs.Prelude.{◌≡◌, ℕ, ◌≤◌, Bool, true, false, not, ◌&&◌, nat_le, List, [], ◌∷◌, length, Option, Some, None, is_some, IfSome, IsSomeAnd, if◌then◌else◌, ◌==◌}
 use Rattle.kd_wire.specs.Area.{Piece}
 use Rattle.kd_options.specs.Joined.{value_of}
@@ -17,8 +17,7 @@ IsType (n ∷ m ∷ bytes) = ⊥
 abbrev pub IsAddressValue : List ℕ → Type 0
 IsAddressValue value = length value ≡ 4
 
--- a readable message's options: 53 is there and a type; 50 and 54, where they are there, are
--- addresses
+-- a readable message's options: 53 is present and is a type; 50 and 54, if present, are addresses
 pub record IsReadable (options : List Piece) : Type 0 where
   pub kind : IsSomeAnd (value_of 53 options) IsType
   pub requested : IfSome (value_of 50 options) IsAddressValue
@@ -36,7 +35,7 @@ abbrev pub absent_or_address : Option (List ℕ) → Bool
 absent_or_address None = true
 absent_or_address (Some value) = length value == 4
 
--- the first fault of the options: no type, a bad one, a bad option 50, a bad option 54
+-- the first fault of the options: no type, a bad type, a bad option 50, a bad option 54
 unfoldable pub option_fault : List Piece → Option ReadFault
 option_fault options =
     if not (is_some (value_of 53 options)) then Some NoType

@@ -7,8 +7,8 @@ use Rattle.kd_wire.specs.Area.{Piece}
 abbrev pub sub_text : Piece → List ℕ
 sub_text p = p.0 ∷ length p.1 ∷ p.1
 
--- the sub-options of a value: those whose texts one after another are the value; none, where no
--- list is so
+-- the sub-options of a value: those whose texts, one after another, are the value; if there is no
+-- such list, none
 abbrev pub IsSubOptions : List ℕ → List Piece → Type 0
 IsSubOptions value list =
     (value ≡ flat_map sub_text list)

@@ -15,7 +15,7 @@ use Rattle.kd_options.specs.declared.item.Item.{Item}
 abbrev pub piece_count : ℕ → ℕ
 piece_count n = max 1 (div_ceil n 255)
 
--- what a value of n bytes costs: its bytes, and code and length of each piece
+-- what a value of n bytes costs: its bytes, and a code and a length for each piece
 abbrev pub cost_of : ℕ → ℕ
 cost_of n = n + 2 * piece_count n
 
@@ -23,11 +23,11 @@ cost_of n = n + 2 * piece_count n
 abbrev pub item_cost : Item → ℕ
 item_cost item = cost_of (length item.value)
 
--- what an item costs that has to be there
+-- what an item costs if it is obligatory
 abbrev pub obligatory_cost : Item → ℕ
 obligatory_cost item = if item.obligatory then item_cost item else 0
 
--- what an item costs that may be left out
+-- what an item costs if it may be left out
 abbrev pub optional_cost : Item → ℕ
 optional_cost item = if item.obligatory then 0 else item_cost item
 
@@ -35,7 +35,7 @@ optional_cost item = if item.obligatory then 0 else item_cost item
 abbrev pub base_cost : List Item → ℕ
 base_cost items = 240 + sum_by obligatory_cost items
 
--- the items kept where this much is used already: an obligatory one always, another where it fits
+-- the items kept when this much is already used: always an obligatory item, another item if it fits
 -- with an End
 abbrev pub kept_from : ℕ → ℕ → List Item → List Item
 kept_from used room [] = []
@@ -45,8 +45,8 @@ kept_from used room (item ∷ items) =
     ∷ kept_from (used + item_cost item) room items
     else kept_from used room items
 
--- the kept items: all obligatory ones, and each other that fits beside them and those kept before
--- it
+-- the kept items: all obligatory ones, and each other item that fits beside them and those kept
+-- before it
 abbrev pub kept : ℕ → List Item → List Item
 kept room items = kept_from (base_cost items) room items
 
@@ -54,7 +54,7 @@ kept room items = kept_from (base_cost items) room items
 abbrev pub ItemsFit : ℕ → List Item → Type 0
 ItemsFit room items = base_cost items + 1 ≤ room
 
--- the first k pieces of a value: 255 bytes each, and what is left
+-- the first k pieces of a value: 255 bytes each, or the remaining bytes
 abbrev pub first_pieces : ℕ → List ℕ → ℕ → List Piece
 first_pieces code value k = map (λ j. (code, slice_chunk value 255 j)) (range_with_len 0 k)
 
@@ -74,7 +74,7 @@ items_text items = pieces_text (flat_map pieces_of items)
 abbrev pub first_text : ℕ → List ℕ → ℕ → List ℕ
 first_text code value k = pieces_text (first_pieces code value k)
 
--- zeros up to 300 bytes
+-- a text with zeros up to 300 bytes
 abbrev pub padded : List ℕ → List ℕ
 padded text = text ++ replicate (300 - length text) 0
 
@@ -82,12 +82,12 @@ padded text = text ++ replicate (300 - length text) 0
 abbrev pub unpadded : Header → ℕ → List Item → List ℕ
 unpadded header room items = header_bytes header ++ (items_text (kept room items) ++ 255 ∷ [])
 
--- a reply's text: that, and zeros up to 300 bytes
+-- a reply's text: the same, with zeros up to 300 bytes
 abbrev pub reply_text : Header → ℕ → List Item → List ℕ
 reply_text header room items = padded (unpadded header room items)
 
--- what a fault of writing means: the obligatory items do not fit; want of memory comes only where
--- they do
+-- what a fault of writing means: the obligatory items do not fit; out of memory comes only if they
+-- do
 abbrev pub IsWriteFault : ℕ → List Item → WriteFault → Type 0
 IsWriteFault room items TooLong = room < base_cost items + 1
 IsWriteFault room items Memory = ItemsFit room items

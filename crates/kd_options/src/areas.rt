@@ -11,10 +11,10 @@ use indexmap::IndexMap;
 use kd_wire::{Pieces, pieces};
 use std::alloc::{AllocError, Global};
 
-// Room for as many options as a client sends, so that the table seldom grows.
+// Room for as many options as a client usually sends, so that the table seldom grows.
 const USUAL_OPTIONS: usize = 14;
 
-// The options of a datagram over all areas that its option 52 puts to use, joined.
+// Returns the options of a datagram, joined over all areas that its option 52 puts to use.
 pub(crate) fn options_in<'a>(
     alloc: Global,
     bytes: &'a [u8],
@@ -34,7 +34,7 @@ pub(crate) fn options_in<'a>(
     Ok(options)
 }
 
-// The options field.
+// Returns the options field.
 fn field_of(bytes: &[u8]) -> &[u8]
     requires { 240 ≤ length bytes.now }
     ensures { result.now ≡ options_field bytes.now }
@@ -43,7 +43,7 @@ fn field_of(bytes: &[u8]) -> &[u8]
     field
 }
 
-// Whether option 52 puts options into file, and into sname (RFC 2132 section 9.3).
+// Whether option 52 puts options into `file`, and whether into `sname` (RFC 2132 section 9.3).
 fn overload_of(value: Option<&[u8]>) -> (bool, bool)
     ensures file { result.0 ≡ uses_file (option_copied value.entry) }
     ensures sname { result.1 ≡ uses_sname (option_copied value.entry) }
@@ -56,7 +56,7 @@ fn overload_of(value: Option<&[u8]>) -> (bool, bool)
     }
 }
 
-// Joins the pieces of an area that begins at `start` to the options, if the area is in use.
+// Joins the pieces of an area that begins at offset `start` to the options, if the area is in use.
 fn add_area<'a>(
     alloc: Global,
     options: &mut IndexMap<u8, Value<'a>>,
@@ -85,7 +85,7 @@ fn add_area<'a>(
     Ok(())
 }
 
-// Joins the pieces that are left to the options.
+// Joins the remaining pieces to the options.
 fn add_pieces<'a>(
     alloc: Global,
     options: &mut IndexMap<u8, Value<'a>>,

@@ -9,14 +9,14 @@ use thiserror::Error;
 /// An option that holds one IPv4 address (RFC 2132 sections 9.1 and 9.7).
 #[derive(Clone, Copy, PartialEq, Eq)]
 pub enum AddressOption {
-    /// Option 50, the address that a client asks for.
+    /// Option 50, the address that the client asks for.
     RequestedAddress,
-    /// Option 54, the server that a client speaks to.
+    /// Option 54, the server that the client addresses.
     ServerIdentifier,
 }
 
 impl AddressOption {
-    /// The option's code.
+    /// Returns the option's code.
     pub fn code(self) -> u8
         ensures { result ≡ address_option_code self }
     {
@@ -40,14 +40,14 @@ impl fmt::Display for AddressOption {
     }
 }
 
-/// Why a datagram reads as no message.
+/// Why a datagram cannot be read as a message.
 #[derive(Clone, Copy, PartialEq, Eq, Error)]
 pub enum ReadFault {
-    /// The bytes have no header of a DHCP message.
+    /// The bytes do not have the header of a DHCP message.
     #[error("{0}")]
     Header(WireFault),
-    /// An option has no length byte, or fewer bytes left than its length says; the offset of its
-    /// code byte in the datagram.
+    /// An option has no length byte, or its length is more than the bytes that follow it. The
+    /// number is the offset of its code byte in the datagram.
     #[error("Cut {0}")]
     Cut(usize),
     /// Option 53, the message type, is absent (RFC 2132 section 9.6).
@@ -56,7 +56,7 @@ pub enum ReadFault {
     /// Option 53 is not one byte from 1 to 8.
     #[error("BadType")]
     BadType,
-    /// Option 50 or 54 has not the 4 bytes of an address.
+    /// Option 50 or 54 does not have the 4 bytes of an address.
     #[error("BadOption {0}")]
     BadOption(AddressOption),
     /// There is no memory for the options.
@@ -71,7 +71,7 @@ impl fmt::Debug for ReadFault {
 }
 
 impl ReadFault {
-    /// The fault's number: 1 to 9, or 91 for want of memory.
+    /// Returns the fault's number: 1 to 9, or 91 if out of memory.
     pub fn number(self) -> u8
         ensures { result ≡ read_fault_number self }
     {
@@ -97,7 +97,7 @@ impl From<WireFault> for ReadFault {
     }
 }
 
-/// Why a reply is not written.
+/// Why a reply cannot be written.
 #[derive(Clone, Copy, PartialEq, Eq, Error)]
 pub enum WriteFault {
     /// The obligatory options do not fit in the room.
@@ -115,7 +115,7 @@ impl fmt::Debug for WriteFault {
 }
 
 impl WriteFault {
-    /// The fault's number: 10, or 91 for want of memory.
+    /// Returns the fault's number: 10, or 91 if out of memory.
     pub fn number(self) -> u8
         ensures { result ≡ write_fault_number self }
     {
@@ -136,7 +136,7 @@ impl From<AllocError> for WriteFault {
     }
 }
 
-// Why the areas of a datagram give no options.
+// Why the options of a datagram's areas cannot be read.
 #[derive(Clone, Copy)]
 pub(crate) enum AreaFault {
     Cut(usize),

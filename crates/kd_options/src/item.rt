@@ -2,14 +2,15 @@ ghost use Rattle.kd_wire.specs.Area.{IsCode};
 
 use kd_wire::{Bytes, Entries};
 
-/// An option of a reply, as it is handed to the writer.
+/// An option of a reply, as it is given to the writer.
 #[derive(Drop)]
 pub struct Item {
     /// The option's code, 1 to 254.
     pub code: u8,
     /// Its whole value, of any length.
     pub value: Bytes,
-    /// The reply is not written without it.
+    /// Whether the option must be in the reply. An option that need not be is left out if it does
+    /// not fit.
     pub obligatory: bool,
     pub ghost coded: { IsCode code },
 }

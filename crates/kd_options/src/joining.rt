@@ -5,8 +5,7 @@ ghost use Rattle.kd_options.specs.Joining.{bytes_of, entries_of, joined_into};
 use indexmap::IndexMap;
 use std::alloc::{AllocError, Global};
 
-// An option's value: a slice of the datagram where it has one piece, its own bytes where it has
-// more.
+// An option's value: a slice of the datagram if it has one piece, or its own bytes if it has more.
 #[derive(Drop)]
 pub(crate) enum Value<'a> {
     Part(&'a [u8]),
@@ -23,7 +22,7 @@ impl<'a> Value<'a> {
         }
     }
 
-    // One piece more at the end.
+    // Appends a piece.
     fn append(&mut self, alloc: Global, piece: &[u8]) -> Result<(), AllocError>
         ensures { OnOk result (bytes_of self.new ≡ bytes_of self.old ++ piece.now) }
     {
@@ -39,7 +38,7 @@ impl<'a> Value<'a> {
     }
 }
 
-// Joins one piece to the options so far (RFC 3396 section 7).
+// Joins a piece to the options so far (RFC 3396 section 7).
 pub(crate) fn join<'a>(
     alloc: Global,
     options: &mut IndexMap<u8, Value<'a>>,
@@ -58,7 +57,7 @@ pub(crate) fn join<'a>(
     Ok(())
 }
 
-// The value of an option.
+// Returns the value of an option.
 pub(crate) fn value_in<'m>(options: &'m IndexMap<u8, Value<'_>>, code: u8) -> Option<&'m [u8]>
     ensures { option_copied result ≡ value_of code (entries_of options.now.entries) }
 {
@@ -68,7 +67,7 @@ pub(crate) fn value_in<'m>(options: &'m IndexMap<u8, Value<'_>>, code: u8) -> Op
     }
 }
 
-// The option at an index, in order of first appearance.
+// Returns the option at an index, in order of first appearance.
 pub(crate) fn entry_in<'m>(
     options: &'m IndexMap<u8, Value<'_>>,
     index: usize,

@@ -8,22 +8,22 @@ pub enum MessageType {
     Discover,
     /// A server offers an address.
     Offer,
-    /// A client asks for an address, or for more time with the one that it has.
+    /// A client asks for an address, or for more time with the address that it has.
     Request,
     /// A client found the address in use.
     Decline,
-    /// A server grants what was asked for.
+    /// A server grants the request.
     Ack,
-    /// A server refuses what was asked for.
+    /// A server refuses the request.
     Nak,
     /// A client gives its address back.
     Release,
-    /// A client asks for settings alone.
+    /// A client asks only for settings.
     Inform,
 }
 
 impl MessageType {
-    /// The number on the wire, 1 to 8.
+    /// Returns the number on the wire, 1 to 8.
     pub fn number(self) -> u8
         ensures { result ≡ type_number self }
     {
@@ -40,7 +40,7 @@ impl MessageType {
     }
 }
 
-// The type of this number.
+// Returns the type with this number.
 pub(crate) fn type_of_number(number: u8) -> MessageType
     requires least { 1 ≤ number }
     requires greatest { number ≤ 8 }

@@ -20,7 +20,7 @@ use std::alloc::Global;
 use std::marker::Model;
 
 /// A readable DHCP message (RFC 2131 section 2). It borrows its datagram: an option of one piece is
-/// a slice of it, and an option of several pieces is joined (RFC 3396).
+/// a slice of it, and an option of several pieces is a joined copy (RFC 3396).
 #[derive(Drop)]
 pub struct Message<'a> {
     head: Header,
@@ -41,13 +41,14 @@ impl<'a> Model for Message<'a> {
 }
 
 impl<'a> Message<'a> {
-    /// The message that a datagram reads as. Memory is taken for the table of options and for the
-    /// options that are joined.
+    /// Reads a datagram as a message. Takes memory for the table of options and for options that
+    /// are joined.
     ///
     /// # Errors
     ///
-    /// The first that applies of a header's fault, `Cut` in the first area that is cut, `NoType`,
-    /// `BadType`, and `BadOption` of 50 and of 54; or `Memory` in place of any later answer.
+    /// The first of these that applies: a header's fault, `Cut` in the first area that is cut,
+    /// `NoType`, `BadType`, `BadOption` of 50 and `BadOption` of 54. Once the header is read,
+    /// `Memory` may come in place of any other result.
     pub fn read(alloc: Global, bytes: &'a [u8]) -> Result<Message<'a>, ReadFault>
         ensures found { IfOk result (λ m. Reads bytes.now m) }
         ensures fault { IfErr result (λ fault. IsFirstFault fault bytes.now) }
@@ -66,14 +67,14 @@ impl<'a> Message<'a> {
         }
     }
 
-    /// The header's fields.
+    /// Returns the header's fields.
     pub fn header(&self) -> &Header
         ensures { result.now ≡ self.now.header }
     {
         &self.head
     }
 
-    /// The number of bytes of the datagram, 240 to 4,096.
+    /// Returns the number of bytes of the datagram, 240 to 4,096.
     pub fn len(&self) -> usize
         ensures value { result ≡ self.now.len }
         ensures room { result ≤ 4096 }
@@ -82,14 +83,14 @@ impl<'a> Message<'a> {
         self.size
     }
 
-    /// The message type (RFC 2132 section 9.6).
+    /// Returns the message type (RFC 2132 section 9.6).
     pub fn kind(&self) -> MessageType
         ensures { value_of 53 self.now.options ≡ Some (type_number result ∷ []) }
     {
         type_in(&self.fields)
     }
 
-    /// The hardware address: the first `hlen` bytes of `chaddr`, at most 16.
+    /// Returns the hardware address: the first `hlen` bytes of `chaddr`, at most 16.
     pub fn mac(&self) -> &[u8]
         ensures { result.now ≡ mac_of self.now.header }
     {
@@ -97,14 +98,15 @@ impl<'a> Message<'a> {
         &header.chaddr[..usize::from(header.hlen).min(16)]
     }
 
-    /// The joined value of an option, which may be empty, or `None` where it is absent.
+    /// Returns the joined value of an option, which may be empty, or `None` if the option is
+    /// absent.
     pub fn option(&self, code: u8) -> Option<&[u8]>
         ensures { option_copied result ≡ value_of code self.now.options }
     {
         value_in(&self.fields, code)
     }
 
-    /// The option at an index, in order of first appearance.
+    /// Returns the option at an index, in order of first appearance.
     pub fn option_at(&self, index: usize) -> Option<(u8, &[u8])>
         ensures value { option_map (λ p. (p.0, p.1.now)) result ≡ slice_get self.now.options index }
         ensures within { IsSome result → index + 1 < 2 ^ 64 }
@@ -112,7 +114,8 @@ impl<'a> Message<'a> {
         entry_in(&self.fields, index)
     }
 
-    /// The first sub-option of this code in the relay information, option 82 (RFC 3046 section 2).
+    /// Returns the first sub-option with this code in the relay information, option 82 (RFC 3046
+    /// section 2).
     pub fn relay(&self, code: u8) -> Option<&[u8]>
         ensures list { IsRelayList (value_of 82 self.now.options) (relay_list self.now.options) }
         ensures value { option_copied result ≡ lookup (nat_eq code) (relay_list self.now.options) }
@@ -123,8 +126,8 @@ impl<'a> Message<'a> {
         }
     }
 
-    /// The sub-option of the relay information at an index, each code once, in order of first
-    /// appearance.
+    /// Returns the sub-option at an index of the relay information. Each code counts once, in order
+    /// of first appearance.
     pub fn relay_at(&self, index: usize) -> Option<(u8, &[u8])>
         ensures list { IsRelayList (value_of 82 self.now.options) (relay_list self.now.options) }
         ensures value { option_map (λ p. (p.0, p.1.now)) result
@@ -138,7 +141,7 @@ impl<'a> Message<'a> {
     }
 }
 
-// The message type of readable options.
+// Returns the message type of readable options.
 #[tactic(auto, using(crate::proofs::Rules::type_is))]
 fn type_in(fields: &IndexMap<u8, Value<'_>>) -> MessageType
     requires { IsSomeAnd (value_of 53 (entries_of fields.now.entries)) IsType }
@@ -150,7 +153,7 @@ fn type_in(fields: &IndexMap<u8, Value<'_>>) -> MessageType
     }
 }
 
-// The first fault of the options.
+// Returns the first fault of the options.
 #[tactic(auto, unfolding(crate::specs::Options::option_fault))]
 fn fault_in(fields: &IndexMap<u8, Value<'_>>) -> Option<ReadFault>
     ensures { result ≡ option_fault (entries_of fields.now.entries) }
@@ -169,7 +172,7 @@ fn fault_in(fields: &IndexMap<u8, Value<'_>>) -> Option<ReadFault>
     None
 }
 
-// An address has four bytes, where it is there.
+// Whether the value is absent or has the four bytes of an address.
 fn may_be_address(value: Option<&[u8]>) -> bool
     ensures { result ≡ absent_or_address (option_copied value.entry) }
 {

@@ -39,7 +39,7 @@ impl<'a> Iterator for SubOptions<'a> {
     }
 }
 
-// The first sub-option of a value in which none is cut off, and what is left behind it.
+// Returns the first sub-option of a value in which none is cut off, and the remaining bytes.
 fn first_of(value: &[u8]) -> Option<(u8, &[u8], &[u8])>
     requires { are_whole_from 0 value.now ≡ true }
     ensures { MatchOption result (subs_from 0 value.now ≡ [])
@@ -53,7 +53,7 @@ fn first_of(value: &[u8]) -> Option<(u8, &[u8], &[u8])>
     }
 }
 
-// What stands at the front of a value: nothing more, a sub-option, or one that is cut off.
+// What a value begins with: its end, a sub-option, or one that is cut off.
 enum RelayFront<'a> {
     End,
     SubOption(u8, &'a [u8], &'a [u8]),
@@ -91,7 +91,7 @@ fn is_whole(value: &[u8]) -> bool
     }
 }
 
-// The sub-options of a value: none, where one is cut off.
+// Returns the sub-options of a value, or none if one is cut off.
 fn sub_options(value: &[u8]) -> SubOptions<'_>
     ensures { result ≡ sub_options_of value.now }
 {
@@ -102,7 +102,7 @@ fn sub_options(value: &[u8]) -> SubOptions<'_>
     }
 }
 
-// The first sub-option of a code.
+// Returns the first sub-option with a code.
 pub(crate) fn sub_option(value: &[u8], code: u8) -> Option<&[u8]>
     ensures { option_copied result ≡ lookup (nat_eq code) (sub_options_of value.now) }
 {
@@ -116,7 +116,7 @@ pub(crate) fn sub_option(value: &[u8], code: u8) -> Option<&[u8]>
     found
 }
 
-// A table of all codes, of which none was met.
+// Returns a table in which no code is marked as seen.
 fn no_codes() -> [bool; 256]
     ensures none { (k : ℕ) → slice_index_or result k false ≡ false }
     ensures len { length result ≡ 256 }
@@ -124,7 +124,7 @@ fn no_codes() -> [bool; 256]
     [false; 256]
 }
 
-// The sub-option at an index, each code once, in order of first appearance.
+// Returns the sub-option at an index. Each code counts once, in order of first appearance.
 pub(crate) fn sub_option_at(value: &[u8], index: usize) -> Option<(u8, &[u8])>
     ensures value { option_map (λ p. (p.0, p.1.now)) result
         ≡ slice_get (firsts (sub_options_of value.now)) index }

@@ -8,35 +8,36 @@ use crate::item::{Item, Items};
 use kd_wire::{Header, put_end, put_piece, write_header};
 use std::alloc::{AllocError, Global};
 
-/// A reply before it is written: its header, and its options in order.
+/// A reply before it is written: its header and its options in order.
 #[derive(Drop)]
 pub struct Reply {
-    /// The header; op is 1 or 2.
+    /// The header; `op` is 1 or 2.
     pub header: Header,
     /// The options.
     pub items: Items,
 }
 
-// The longest piece of a value, and the shortest reply.
+// The length of the longest piece of a value, and of the shortest reply, in bytes.
 const PIECE: usize = 255;
 
 const LEAST: usize = 300;
 
 impl Reply {
-    /// The obligatory options fit in this many bytes, with header, cookie and End.
+    /// Whether the obligatory options fit in `room` bytes, with header, cookie and End.
     pub fn fits(&self, room: u16) -> bool
         ensures { IsTrue result ↔ ItemsFit room self.now.items }
     {
         room_left(self.items.as_slice(), usize::from(room)).is_some()
     }
 
-    /// The bytes of the reply: header and cookie, each obligatory option, each other option that
-    /// fits beside them and those before it, End, and zeros up to 300 bytes. A value of more than
-    /// 255 bytes is written in pieces (RFC 3396). Takes memory for the room.
+    /// Returns the bytes of the reply: header and cookie, the obligatory options and each other
+    /// option that fits beside them and the options kept before it, all in order, then End, and
+    /// zeros up to 300 bytes. A value of more than 255 bytes is written in pieces (RFC 3396). Takes
+    /// memory for the whole room.
     ///
     /// # Errors
     ///
-    /// `TooLong` exactly where `fits` is false, and `Memory`.
+    /// `TooLong` exactly when `fits` is false, or `Memory`.
     pub fn write(&self, alloc: Global, room: u16) -> Result<Vec<u8>, WriteFault>
         requires { 300 ≤ room }
         ensures found { IfOk result
@@ -56,14 +57,14 @@ impl Reply {
     }
 }
 
-// So many zeros.
+// Returns `len` zeros.
 fn zeros(alloc: Global, len: usize) -> Result<Vec<u8>, AllocError>
     ensures { IfOk result (λ bytes. bytes.items ≡ replicate len 0) }
 {
     vec![in alloc; 0; len]
 }
 
-// Writes header, cookie, the kept items and End, and answers the place after them.
+// Writes header, cookie, the kept items and End, and returns the offset after them.
 fn write_into(out: &mut [u8], header: &Header, items: &[Item], room_left: usize) -> usize
     requires most { length out.old < 2 ^ 16 }
     requires room { room_left + base_cost items.now + 1 ≡ length out.old }
@@ -77,7 +78,7 @@ fn write_into(out: &mut [u8], header: &Header, items: &[Item], room_left: usize)
     put_end(out, end)
 }
 
-// What is left of the room beside header, cookie, all obligatory options and End.
+// Returns the room that remains beside header, cookie, all obligatory options and End.
 fn room_left(items: &[Item], room: usize) -> Option<usize>
     requires { room < 2 ^ 16 }
     ensures { MatchOption result (room < base_cost items.now + 1)
@@ -92,7 +93,7 @@ fn room_left(items: &[Item], room: usize) -> Option<usize>
     Some(left)
 }
 
-// What is left behind an option whose value has this many bytes.
+// Returns the room that remains after an option whose value has `len` bytes.
 fn less_cost(left: usize, len: usize) -> Option<usize>
     requires { left < 2 ^ 16 }
     ensures { MatchOption result (left < cost_of len) (λ rest. rest + cost_of len ≡ left) }
@@ -101,7 +102,7 @@ fn less_cost(left: usize, len: usize) -> Option<usize>
     rest.checked_sub(2 * pieces(len))
 }
 
-// How many pieces a value of this many bytes has.
+// Returns the number of pieces that a value of `len` bytes has.
 fn pieces(len: usize) -> usize
     requires { len < 2 ^ 16 }
     ensures { result ≡ piece_count len }
@@ -109,8 +110,8 @@ fn pieces(len: usize) -> usize
     len.div_ceil(PIECE).max(1)
 }
 
-// Writes the kept items after the header, and answers the place after them. The obligatory items
-// leave this much of the room.
+// Writes the kept items after the header, and returns the offset after them. `room_left` is the
+// room that the obligatory items leave.
 fn put_items(out: &mut [u8], items: &[Item], room_left: usize) -> usize
     requires most { length out.old < 2 ^ 16 }
     requires room { room_left + base_cost items.now + 1 ≡ length out.old }
@@ -131,8 +132,8 @@ fn put_items(out: &mut [u8], items: &[Item], room_left: usize) -> usize
     at
 }
 
-// What an item leaves of the room that the obligatory ones leave: an obligatory one takes none of
-// it.
+// Returns what an item leaves of the room beside the obligatory items. An obligatory item takes
+// none of it.
 fn left_beside(left: usize, item: &Item) -> Option<usize>
     requires { left < 2 ^ 16 }
     ensures { MatchOption result (left < optional_cost item.now)
@@ -145,7 +146,7 @@ fn left_beside(left: usize, item: &Item) -> Option<usize>
     }
 }
 
-// Writes an item's pieces at a place, and answers the place after them.
+// Writes an item's pieces at an offset, and returns the offset after them.
 fn put_item(out: &mut [u8], at: usize, item: &Item) -> usize
     requires code { IsCode item.now.code }
     requires few { length item.now.value < 2 ^ 16 }
@@ -156,7 +157,8 @@ fn put_item(out: &mut [u8], at: usize, item: &Item) -> usize
     put_value(out, at, item.code, item.value.as_slice())
 }
 
-// Writes a value in pieces of 255 bytes and a last one of at most 255.
+// Writes a value in pieces of 255 bytes and a last piece of at most 255, and returns the offset
+// after them.
 fn put_value(out: &mut [u8], at: usize, code: u8, value: &[u8]) -> usize
     requires code { IsCode code }
     requires few { length value.now < 2 ^ 16 }
