@@ -1,4 +1,4 @@
--- The order of age.
+-- The age order.
 use Rattle.std.proofs.Common.{◌≡◌, ℕ, Bool, ◌&&◌, ◌||◌, ◌==◌, nat_lt, List, [], ◌∷◌, suc, refl, ap, ◌∙◌, arith}
 use Rattle.std.specs.Cmp.Lexicographic.{nat_list_cmp_total, slice_cmp}
 use Rattle.std.specs.List.Sorted.{IsSortedBy}
@@ -9,7 +9,7 @@ use Rattle.std.proofs.lemmas.Bool.Decides.{nat_tests}
 use Rattle.std.proofs.lemmas.Cmp.{tied_itself}
 use Rattle.kd_rows.specs.Index.{age_key, key_order}
 
--- an end comes before each byte
+-- an end comes before every byte
 ends : nat_cmp 0 0 ≡ Equal
 ends = grind (arith, nat_tests)
 
@@ -43,14 +43,14 @@ age_order (b ∷ c) (e ∷ d) s u t v = rw (sucs b e) (regrouped (nat_cmp b e) _
 pub age_key_order : (c d : List ℕ) (s u t v a b : ℕ) → key_order (age_key c s t, a) (age_key d u v, b) ≡ ordering_then (ordering_then (slice_cmp nat_cmp c d) (ordering_then (nat_cmp s u) (nat_cmp t v))) (nat_cmp a b)
 age_key_order c d s u t v a b = ap (λ (o : Ordering). ordering_then o (nat_cmp a b)) (age_order c d s u t v)
 
--- an age comes before another, or is the same and has the lesser address
+-- an age comes before another, or is the same and has the lower address
 abbrev pub comes_first : ℕ → ℕ → ℕ → ℕ → Bool
 comes_first t a v b = nat_lt t v || ((t == v) && nat_lt a b)
 
 by_age : (t v a b : ℕ) → is_lt (ordering_then (nat_cmp t v) (nat_cmp a b)) ≡ comes_first t a v b
 by_age t v a b = grind (arith, nat_tests)
 
--- of keys of one client and state the age decides
+-- for keys of one client and state the age decides
 pub same_group : (c : List ℕ) (s t v a b : ℕ) → is_lt (key_order (age_key c s t, a) (age_key c s v, b)) ≡ comes_first t a v b
 same_group c s t v a b =
     ap is_lt (age_key_order c c s s t v a b ∙ ap (λ (o : Ordering). ordering_then (ordering_then o (ordering_then (nat_cmp s s) (nat_cmp t v))) (nat_cmp a b)) (tied_itself nat_list_cmp_total c)
@@ -59,6 +59,6 @@ same_group c s t v a b =
       alike : (s : ℕ) → nat_cmp s s ≡ Equal
       alike s = grind (arith, nat_tests)
 
--- a list that is sorted by a test is so by one that answers the same
+-- a list that is sorted by a test is sorted by any test with the same results
 pub sorted_alike : {X : Type 0} (f g : X → X → Bool) → ((x y : X) → g x y ≡ f x y) → (xs : List X) → IsSortedBy f xs → IsSortedBy g xs
 sorted_alike f g same xs sorted = λ k d low inside. same _ _ ∙ sorted k d low inside

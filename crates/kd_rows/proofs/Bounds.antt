@@ -1,4 +1,4 @@
--- The bounds of blocks: what is true of them after one is set, and after a row is.
+-- The bounds of blocks: what is true of them after a bound or a row is set.
 use Rattle.std.proofs.Common.{◌≡◌, ℕ, ◌+◌, ◌-◌, ◌*◌, ◌<◌, ◌≤◌, Bool, true, false, List, [], ◌∷◌, length, get_or, suc, refl, sym, ap, ◌∙◌, subst, Option, Some, None, IsSome, is_some, option_map, arith, ⊎_elim, ◌⊎◌, inl, inr, if◌then◌else◌, ◌==◌, ◌||◌, nat_lt, min}
 use Rattle.std.specs.List.{All}
 use Rattle.std.proofs.lemmas.Bool.{cases_eq, cases_lt, eq-eqb, eqb-true, ne_eqb}
@@ -14,7 +14,7 @@ use Rattle.kd_rows.proofs.Opens.{open_all}
 use Rattle.kd_rows.proofs.Places.{apart, read_at}
 use Rattle.kd_rows.proofs.Sets.{all-with_row, rise-with_row, row_at-with_row}
 
--- what is true of each row is true of that of an address, which stands there
+-- what is true of each row is true of the row at an address, which has that address
 pub row_all : (P : Row → Type 0) (rows : List Row) (a : ℕ) (row : Row) → All P rows → row_at rows a ≡ Some row → P row × (row.address ≡ a)
 row_all P [] a row all h = cc
 row_all P (r ∷ rows) a row all h = by (r.address == a) refl h (row_all P rows a row (λ k d within. all (suc k) d (omega arith))) where
@@ -22,7 +22,7 @@ row_all P (r ∷ rows) a row all h = by (r.address == a) refl h (row_all P rows 
   by true e h rest = subst (λ (x : Row). P x × (x.address ≡ a)) (same_Some r row h) (all 0 r (omega arith), eqb-true r.address a e)
   by false e h rest = rest h
 
--- where one is there or was, it is there after one is set
+-- if a row is or was there, one is there after a row is set
 some_here : (row : Row) (rows : List Row) (a : ℕ) → row.address ≡ a → IsSome (row_at (with_row row rows) a)
 some_here row rows a e = ap is_some (row_at-with_row row rows a) ∙ rw (eq-eqb row.address a e) refl
 
@@ -39,7 +39,7 @@ read_set bound bounds block b h = ⊎_elim
     (λ n. inr (n, subst (λ (t : Bool). (if t then Some bound else row_at bounds block) ≡ Some b) (ne_eqb bound.address block n) (sym (row_at-with_row bound bounds block) ∙ h)))
     (cases_eq bound.address block)
 
--- the bounds after a row is set, and the bound of its block
+-- the bounds after a row is set together with the bound of its block
 pub bounded_set : (rows bounds : List Row) (row bound : Row) → IsBounded rows bounds → bound.address ≡ block_number row.address → IsBound (with_row row rows) bound.address bound.ends → IsBounded (with_row row rows) (with_row bound bounds)
 bounded_set rows bounds row bound old same is = record { rise = rise-with_row bound bounds old.rise; has = has; least = least } where
   has : All (λ (r : Row). IsSome (row_at (with_row bound bounds) (block_number r.address))) (with_row row rows)
@@ -51,7 +51,7 @@ bounded_set rows bounds row bound old same is = record { rise = rise-with_row bo
     by (inl e) = subst (λ (x : Row). IsBound (with_row row rows) block x.ends) e.1 (subst (λ (n : ℕ). IsBound (with_row row rows) n bound.ends) e.0 is)
     by (inr n) = all-with_row (λ (r : Row). block_number r.address ≡ block → b.ends ≤ r.ends) row rows (λ e. absurd (n.0 (same ∙ e))) (old.least block b n.1)
 
--- what is left of a bound is one after a row is set
+-- what remains of a bound is a bound after a row is set
 pub kept_is : (rows bounds : List Row) (row : Row) (held kept : Option ℕ) (least : ℕ) → IsBounded rows bounds → held ≡ end_at bounds (block_number row.address) → IsLower held row.ends kept → IsNow (with_row row rows) (block_number row.address) kept least
     → IsBound (with_row row rows) (block_number row.address) least
 kept_is rows bounds row held None least old is lower now = now
@@ -64,7 +64,7 @@ kept_is rows bounds row (Some bound) (Some kept) least old is lower now = by (ro
       all-with_row (λ (r : Row). block_number r.address ≡ block_number row.address → least ≤ r.ends) row rows (λ h. omega (arith, lower, now))
       (λ k d within h. let g = old.least (block_number row.address) b e k d within h in omega (arith, g, lower, now, same))
 
--- a block of which a row is has room for its bound, since it has one
+-- the block of an existing row has room for its bound, because it has one
 pub held_there : (rows bounds : List Row) (row : Row) → IsBounded rows bounds → IsSome (row_at rows row.address) → IsSome (row_at bounds (block_number row.address))
 held_there rows bounds row old there = by (row_at rows row.address) refl there where
   by : (o : Option Row) → row_at rows row.address ≡ o → IsSome o → IsSome (row_at bounds (block_number row.address))
@@ -96,15 +96,15 @@ enough_after rows bounds row room rows_room bounds_room left rows_left bounds_le
   by false true there one two three = omega arith
   by false false there one two three = omega arith
 
--- the search of a block's rows: the least end of those that were passed and are not withheld
+-- the search of a block's rows: the least end of the rows that were passed and are not withheld
 abbrev pub IsLeastTo : List ℕ → List Row → ℕ → ℕ → ℕ → Type 0
 IsLeastTo withheld rows block place least = (i : ℕ) (d : Row) → i < place → i < length rows → is_withheld withheld (get_or rows i d).address ≡ false → block_number (get_or rows i d).address ≡ block → least ≤ (get_or rows i d).ends
 
--- none of the rows below a block is of it
+-- no row below a block belongs to it
 pub least_first : (withheld : List ℕ) (rows : List Row) (block place least : ℕ) → IsPlace rows (block * 64) place → IsLeastTo withheld rows block place least
 least_first withheld rows block place least p i d before within out e = let h = p.below i d before in absurd (omega (arith, h, e))
 
--- one row more
+-- one more row
 pub least_step : (withheld : List ℕ) (rows : List Row) (block place least next : ℕ) (row : Row) → place < length rows → row ≡ get_or rows place row → IsLeastTo withheld rows block place least → next ≤ least → (is_withheld withheld row.address ≡ false → next ≤ row.ends)
     → IsLeastTo withheld rows block (place + 1) next
 least_step withheld rows block place least next row within is h low lower i d before inside out e = ⊎_elim
@@ -116,7 +116,7 @@ least_step withheld rows block place least next row within is h low lower i d be
       same : get_or rows place row ≡ get_or rows place d
       same = get_or_default rows place row d within
 
--- the rows from one of a greater block on are of none that is searched
+-- from the first row of a higher block on, no row belongs to the block that is searched
 pub least_to : (withheld : List ℕ) (rows : List Row) (block place least : ℕ) (row : Row) → Rise rows → place < length rows → row ≡ get_or rows place row → block < block_number row.address → IsLeastTo withheld rows block place least → IsBound (open_rows withheld rows) block least
 least_to withheld rows block place least row rise within is above h = open_all (λ (r : Row). block_number r.address ≡ block → least ≤ r.ends) withheld rows
     (λ i d inside out e. ⊎_elim
@@ -127,8 +127,8 @@ least_to withheld rows block place least row rise within is above h = open_all (
 pub least_all : (withheld : List ℕ) (rows : List Row) (block place least : ℕ) → length rows ≤ place → IsLeastTo withheld rows block place least → IsBound (open_rows withheld rows) block least
 least_all withheld rows block place least all h = open_all (λ (r : Row). block_number r.address ≡ block → least ≤ r.ends) withheld rows (λ i d inside out e. h i d (omega arith) inside out e)
 
--- while the bounds are set: those so far are bounds of others, and the rows that were passed have
--- one each
+-- while the bounds are set: those so far are bounds of `others`, and each row that was passed has
+-- one
 pub record BoundedTo (rows others bounds : List Row) (place : ℕ) : Type 0 where
   pub rise : Rise bounds
   pub has : (i : ℕ) (d : Row) → i < place → i < length rows → IsSome (row_at bounds (block_number (get_or rows i d).address))
@@ -144,7 +144,7 @@ bounded_all withheld rows others bounds place same all h = record {
   least = h.least;
 }
 
--- a row of the block of the one before has its bound
+-- a row in the same block as the one before has its bound
 pub bounded_same : (rows others bounds : List Row) (place : ℕ) (row other : Row) → 0 < place → place < length rows → row ≡ get_or rows place row → other ≡ get_or rows (place - 1) other → block_number other.address ≡ block_number row.address → BoundedTo rows others bounds place → BoundedTo rows others bounds (place + 1)
 bounded_same rows others bounds place row other from within is was same h = record { rise = h.rise; has = has; least = h.least } where
   has : (i : ℕ) (d : Row) → i < place + 1 → i < length rows → IsSome (row_at bounds (block_number (get_or rows i d).address))
@@ -156,7 +156,7 @@ bounded_same rows others bounds place row other from within is was same h = reco
         let g = h.has (place - 1) d (omega arith) (omega arith) in
         subst (λ (x : ℕ). IsSome (row_at bounds x)) (ap block_number b ∙ same ∙ sym (ap block_number a)) g
 
--- and one of another block has the one that is set
+-- and a row in another block has the bound that is set
 pub bounded_more : (rows others bounds : List Row) (place : ℕ) (row bound : Row) → place < length rows → row ≡ get_or rows place row → bound.address ≡ block_number row.address → IsBound others bound.address bound.ends → BoundedTo rows others bounds place → BoundedTo rows others (with_row bound bounds) (place + 1)
 bounded_more rows others bounds place row bound within is same this h = record { rise = rise-with_row bound bounds h.rise; has = has; least = least } where
   has : (i : ℕ) (d : Row) → i < place + 1 → i < length rows → IsSome (row_at (with_row bound bounds) (block_number (get_or rows i d).address))

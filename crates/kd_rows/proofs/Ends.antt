@@ -9,7 +9,7 @@ least_more : (rows : List Row) (row : Row) → least_of (rows ++ row ∷ []) ≡
 least_more [] row = refl
 least_more (r ∷ rows) row = let h = least_more rows row in omega arith
 
--- the least end of one row more
+-- the least end with one more row
 pub least_next : (rows : List Row) (i : ℕ) (row : Row) (least next : ℕ) → i < length rows → row ≡ get_or rows i row → least ≡ least_of (take i rows) → next ≡ min row.ends least → next ≡ least_of (take (i + 1) rows)
 least_next rows i row least next within is so_far more =
     more ∙ ap (min row.ends) so_far ∙ sym (ap least_of (take_more rows i row within ∙ ap (λ (x : Row). take i rows ++ x ∷ []) (sym is)) ∙ least_more (take i rows) row)

@@ -1,4 +1,4 @@
--- The least address that has no row and is not withheld.
+-- The lowest address that has no row and is not withheld.
 use Rattle.std.proofs.Common.{◌≡◌, ℕ, ◌+◌, ◌-◌, ◌<◌, ◌≤◌, Bool, true, false, ◌||◌, List, length, get_or, refl, sym, ap, ◌∙◌, subst, Option, Some, None, IsSome, is_some, arith, ⊎_elim}
 use Rattle.std.proofs.lemmas.Bool.{cases_lt}
 use Rattle.std.proofs.lemmas.List.{get_or_default}
@@ -12,7 +12,7 @@ use Rattle.kd_rows.proofs.Listed.{row_listed}
 use Rattle.kd_rows.proofs.Places.{apart, is_at, none_at, place_at, read_at}
 use Rattle.kd_rows.proofs.Ranks.{Apart, all_taken, each_taken, rank_grows, rank_place, taken_below}
 
--- a row's address is taken, and a withheld one
+-- the address of a row is taken, and so is a withheld one
 taken_row : (rows : List Row) (bare : List ℕ) (a : ℕ) → IsSome (row_at rows a) → is_taken rows bare a ≡ true
 taken_row rows bare a there = ap (λ (b : Bool). b || is_withheld bare a) there
 
@@ -22,7 +22,7 @@ taken_withheld rows bare a out = by (is_some (row_at rows a)) out where
   by true h = refl
   by false h = h
 
--- the places of an address among rows and among withheld addresses, and those of the first
+-- the indexes of an address among rows and among withheld addresses, and those of the first
 pub record Stands (rows : List Row) (bare : List ℕ) (first start skip middle count : ℕ) (row : Row) : Type 0 where
   pub known : Apart rows bare
   pub start_at : IsPlace rows first start
@@ -37,7 +37,8 @@ pub stand : {rows : List Row} {bare : List ℕ} {first start skip middle count :
 stand rise listed apart start_at skip_at after within here count_at =
     record { known = record { rise = rise; listed = listed; apart = apart }; start_at = start_at; skip_at = skip_at; after = after; within = within; here = here; count_at = count_at }
 
--- a row from the place of first on stands there or above, and as far above as it is later
+-- a row from the index of first on is at first or above it, at least as far above as its index is
+-- later
 pub far : (rows : List Row) (bare : List ℕ) (first start skip middle count : ℕ) (row : Row) → Stands rows bare first start skip middle count row → (first ≤ row.address) × ((middle - start ≤ row.address - first) × (skip ≤ count))
 far rows bare first start skip middle count row s = (low, (steps, more)) where
   low : first ≤ row.address
@@ -57,7 +58,8 @@ counts rows bare first start skip middle count row s = (
   at : IsPlace rows row.address middle
   at = place_at rows row.address middle s.known.rise s.within (λ d. read_at rows middle row d s.within s.here)
 
--- where the row in the middle shows that each address before it is taken, so it is for the rows before
+-- if the row in the middle shows that every address before it is taken, that holds for the rows
+-- before
 pub taken_more : (rows : List Row) (bare : List ℕ) (first start skip middle count : ℕ) (row : Row) → Stands rows bare first start skip middle count row → row.address - first - (middle - start) ≡ count - skip
     → (i : ℕ) (d : Row) → start ≤ i → i < middle + 1 → AreTaken rows bare first (get_or rows i d).address
 taken_more rows bare first start skip middle count row s full i d after before a from to = ⊎_elim
@@ -73,7 +75,7 @@ taken_more rows bare first start skip middle count row s full i d after before a
       high : (get_or rows i d).address ≤ row.address
       high = omega (arith, apart rows s.known.rise i middle d (omega arith) s.within, read_at rows middle row d s.within s.here)
 
--- and where it does not, it is for none of those from it on
+-- and if it does not, it holds for none of the rows from it on
 pub taken_less : (rows : List Row) (bare : List ℕ) (first start skip middle count : ℕ) (row : Row) → Stands rows bare first start skip middle count row → (row.address - first - (middle - start) ≡ count - skip → ⊥)
     → (i : ℕ) (d : Row) → middle ≤ i → i < length rows → AreTaken rows bare first (get_or rows i d).address → ⊥
 taken_less rows bare first start skip middle count row s other i d after within taken =
@@ -90,7 +92,7 @@ taken_less rows bare first start skip middle count row s other i d after within 
       full : taken_below rows bare row.address ≡ taken_below rows bare first + (row.address - first)
       full = all_taken rows bare first (row.address - first) row.address s.known (omega (arith, f.0)) (λ a from before. taken a from (omega (arith, low)))
 
--- the least address that is not withheld behind those that are taken is free
+-- the lowest address that is not withheld after those that are taken is free
 pub outside_free : (rows : List Row) (bare : List ℕ) (first from last start end : ℕ) (found : Option ℕ) → Rise rows → IsTakenEnd rows bare first start end → first ≤ from → ((a : ℕ) → first ≤ a → a < from → is_taken rows bare a ≡ true)
     → ((i : ℕ) (d : Row) → i < end → (get_or rows i d).address < from) → IsFirstGap (address_rows bare) from last found → IsFirstFree rows bare first last found
 outside_free rows bare first from last start end None rise e order before below gap = λ a low high. ⊎_elim

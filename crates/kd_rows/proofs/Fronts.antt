@@ -1,4 +1,4 @@
--- Heads of clients: what they say of the order of keys, and how they are kept.
+-- Heads of clients: what they say about the order of keys, and how they are kept.
 use Rattle.std.proofs.Common.{◌≡◌, ℕ, ◌+◌, ◌*◌, ◌^◌, ◌<◌, ◌≤◌, nat_lt, List, [], ◌∷◌, ◌++◌, length, get_or, set, take, map, zero, suc, refl, sym, ap, ◌∙◌, subst, ⊎_elim, Option, true, false, ◌-◌, arith}
 use Rattle.std.specs.List.{All}
 use Rattle.std.specs.Cmp.Lexicographic.{slice_cmp}
@@ -47,7 +47,7 @@ front_fits n bytes are few =
     let most : 256 ^ n ≤ 256 ^ 7 = pow-le-pow_right {n = 256} (omega arith) {i = n} {j = 7} (omega (arith, few)) in
     omega (arith, small, most)
 
--- one byte more
+-- one more byte
 front_suc : (n : ℕ) (bytes : List ℕ) → front_number (suc n) bytes ≡ front_number n bytes * 256 + get_or bytes n 0
 front_suc zero [] = refl
 front_suc (suc n) [] = refl
@@ -81,7 +81,7 @@ lt-false a b h = grind (arith, nat_tests)
 beside : (x a b : ℕ) → nat_cmp (x + a) (x + b) ≡ nat_cmp a b
 beside x a b = grind (arith, nat_tests)
 
--- where the first bytes of two lists differ as numbers, that is their order
+-- if the first bytes of two lists differ as numbers, those numbers give their order
 pub fronts_decide : (n : ℕ) (c d : List ℕ) → IsByteList c → IsByteList d → (front_number n c ≡ front_number n d → ⊥) → slice_cmp nat_cmp c d ≡ nat_cmp (front_number n c) (front_number n d)
 fronts_decide zero c d here there other = absurd (other refl)
 fronts_decide (suc n) [] [] here there other = absurd (other refl)
@@ -97,26 +97,26 @@ fronts_decide (suc n) (b ∷ c) (e ∷ d) here there other = ⊎_elim
     (cases_lt b e))
     (cases_eq b e)
 
--- so the heads of two clients decide, where they differ
+-- so the heads of two clients decide if they differ
 pub heads_decide : (c d : List ℕ) (h g : ℕ) → IsHead c h → IsHead d g → (h ≡ g → ⊥) → slice_cmp nat_cmp c d ≡ nat_cmp h g
 heads_decide c d h g here there other =
     fronts_decide 8 c d here.bytes there.bytes (λ e. other (here.value ∙ e ∙ sym there.value))
     ∙ ap (λ (x : ℕ). nat_cmp x (front_number 8 d)) (sym here.value) ∙ ap (nat_cmp h) (sym there.value)
 
--- what differs decides, whatever comes behind it
+-- a difference decides, whatever comes after it
 first_decides : (h g : ℕ) (o : Ordering) → (h ≡ g → ⊥) → is_lt (ordering_then (nat_cmp h g) o) ≡ nat_lt h g
 first_decides h g o other = ⊎_elim
     (λ less. ap (λ (p : Ordering). is_lt (ordering_then p o)) (nat_less h g less) ∙ sym (lt-true h g less))
     (λ more. ap (λ (p : Ordering). is_lt (ordering_then p o)) (nat_greater h g (omega (arith, more, other))) ∙ sym (lt-false h g more))
     (cases_lt h g)
 
--- of two keys whose clients have other heads
+-- two keys whose clients have different heads
 pub key_by_head : (rows : List Row) (x h g b : ℕ) (d : List ℕ) → IsHeadAt rows x h → IsHead d g → (h ≡ g → ⊥) → is_lt (key_order (key_by client_of rows x) (d, b)) ≡ nat_lt h g
 key_by_head rows x h g b d here there other =
     ap (λ (o : Option Row). is_lt (key_order (order_in client_of o, x) (d, b))) here.found
     ∙ ap (λ (o : Ordering). is_lt (ordering_then o (nat_cmp x b))) (heads_decide here.row.client d h g here.head_of_row there other) ∙ first_decides h g (nat_cmp x b) other
 
--- the same in the order of age
+-- the same in the age order
 pub age_by_head : (cuts : List ℕ) (rows : List Row) (x h g b group left : ℕ) (d : List ℕ) → IsHeadAt rows x h → IsHead d g → (h ≡ g → ⊥) → is_lt (key_order (key_by (age_of cuts) rows x) (age_key d group left, b)) ≡ nat_lt h g
 age_by_head cuts rows x h g b group left d here there other =
     ap (λ (o : Option Row). is_lt (key_order (order_in (age_of cuts) o, x) (age_key d group left, b))) here.found
@@ -138,7 +138,7 @@ slot_head slots heads n are inside = record {
   value = ap (λ (hs : List ℕ). get_or hs n 0) are.value ∙ get_or-map (λ row. front_number 8 row.client) slots n (row_in [] 0) 0 inside;
 }
 
--- what is read at a place of an index
+-- what is read at an index of one of the indexes
 pub read_head : (slots : List Row) (heads by_address numbers : List ℕ) (i number head : ℕ) → AreHeads slots heads → IsByAddress slots by_address → All (λ n. n < length slots) numbers → i < length numbers → number ≡ get_or numbers i number → head ≡ get_or heads number head → IsHeadAt (rows_in slots by_address) (get_or (addresses_in slots numbers) i 0) head
 read_head slots heads by_address numbers i number head are sorted within inside is read = record {
   row = row_in slots number;
@@ -154,7 +154,7 @@ read_head slots heads by_address numbers i number head are sorted within inside 
   here : number < length heads
   here = omega (arith, low, ap length are.value, length-map slots (λ row. front_number 8 row.client))
 
--- the address that is read at a place
+-- the address that is read at an index
 pub read_address : (slots : List Row) (addresses by_address : List ℕ) (place number address : ℕ) → addresses ≡ row_addresses slots → IsByAddress slots by_address → place < length by_address → number ≡ get_or by_address place number → address ≡ get_or addresses number address → address ≡ (row_in (rows_in slots by_address) place).address
 read_address slots addresses by_address place number address are sorted inside is read =
     read ∙ get_or_default addresses number address 0 here ∙ ap (λ (xs : List ℕ). get_or xs number 0) are ∙ get_or-map (λ row. row.address) slots number (row_in [] 0) 0 low
@@ -168,14 +168,14 @@ read_address slots addresses by_address place number address are sorted inside i
       here : number < length addresses
       here = omega (arith, low, ap length are, length-map slots (λ (row : Row). row.address))
 
--- how many there are
+-- how many heads there are
 pub heads_length : (slots : List Row) (heads : List ℕ) → AreHeads slots heads → length heads ≡ length slots
 heads_length slots heads are = ap length are.value ∙ length-map slots (λ row. front_number 8 row.client)
 
 pub addresses_length : (slots : List Row) → length (row_addresses slots) ≡ length slots
 addresses_length slots = length-map slots (λ (row : Row). row.address)
 
--- a row more
+-- one more row
 pub heads_more : (slots : List Row) (heads : List ℕ) (row : Row) (head : ℕ) → AreHeads slots heads → IsHead row.client head → AreHeads (slots ++ row ∷ []) (heads ++ head ∷ [])
 heads_more slots heads row head are is = record {
   bytes = All-push (λ row. IsByteList row.client) slots row are.bytes is.bytes;
@@ -207,7 +207,7 @@ replaced_stored slots rows addresses heads by_address by_client by_age place num
       aged = λ k d inside. let h = stored.aged k d inside in omega (arith, h, n);
     }
 
--- a row more is passed
+-- one more row is passed
 pub heads_taken : (rows : List Row) (heads : List ℕ) (i head : ℕ) (row : Row) → AreHeads (take i rows) heads → i < length rows → row ≡ get_or rows i row → IsHead row.client head → AreHeads (take (i + 1) rows) (heads ++ head ∷ [])
 heads_taken rows heads i head row are inside is of_row = subst (λ (rs : List Row). AreHeads rs (heads ++ head ∷ [])) (sym (one_taken rows i row inside is)) (heads_more (take i rows) heads row head are of_row)
 

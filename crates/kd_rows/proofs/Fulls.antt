@@ -9,15 +9,15 @@ use Rattle.kd_rows.specs.declared.row.Row.{Row}
 use Rattle.kd_rows.proofs.Places.{is_at, read_at}
 use Rattle.kd_rows.proofs.Sets.{row_at-with_row}
 
--- the address of a row that is there has one
+-- the address of an existing row has a row
 pub has_at : (rows : List Row) (i : ℕ) (e : Row) → Rise rows → i < length rows → e ≡ get_or rows i e → IsSome (row_at rows e.address)
 has_at rows i e rise within is = ap is_some ((is_at rows e.address i rise within (λ d. read_at rows i e d within is)).found e)
 
--- an address that had a row has one after another is set
+-- an address that had a row has one after a row is set
 pub has_after : (row : Row) (rows : List Row) (a : ℕ) → IsSome (row_at rows a) → IsSome (row_at (with_row row rows) a)
 has_after row rows a has = let h = row_at-with_row row rows a in grind (arith, nat_tests)
 
--- the address of the row that is set has one
+-- the address of the row that is set has a row
 pub has_set : (row : Row) (rows : List Row) → IsSome (row_at (with_row row rows) row.address)
 has_set row rows = let h = row_at-with_row row rows row.address in grind (arith, nat_tests)
 

@@ -1,4 +1,4 @@
--- For how long the rows of each state hold.
+-- How long the rows of each state hold.
 use Rattle.std.proofs.Common.{◌≡◌, ℕ, ◌+◌, ◌<◌, ◌≤◌, List, length, get_or, sym, ap, subst, ⊎_elim, ◌∙◌, arith}
 use Rattle.std.specs.List.{All}
 use Rattle.std.proofs.lemmas.Bool.{cases_lt}
@@ -10,7 +10,7 @@ use Rattle.kd_rows.specs.Holds.{AreHolds, IsLonger, hold_of}
 use Rattle.kd_rows.specs.Table.{with_row}
 use Rattle.kd_rows.proofs.Sets.{all-with_row}
 
--- a row that holds no longer than those of its state
+-- a row that holds no longer than its state allows
 abbrev pub IsHeld : Holds → Row → Type 0
 IsHeld holds row = row.ends ≤ row.changed + hold_of holds row.state
 
@@ -21,7 +21,7 @@ longer old new row other more held = omega (arith, held, more.others other.state
 pub held_after : (row : Row) (rows : List Row) (old new : Holds) → AreHolds old rows → IsLonger old row new → AreHolds new (with_row row rows)
 held_after row rows old new held more = all-with_row (IsHeld new) row rows more.own (λ k d within. longer old new row (get_or rows k d) more (held k d within))
 
--- the first rows, and one more
+-- the first rows and one more
 pub held_more : (rows : List Row) (i : ℕ) (row : Row) (old new : Holds) → i < length rows → row ≡ get_or rows i row → IsLonger old row new → ((k : ℕ) (d : Row) → k < i → k < length rows → IsHeld old (get_or rows k d)) → (k : ℕ) (d : Row) → k < i + 1 → k < length rows → IsHeld new (get_or rows k d)
 held_more rows i row old new inside is more held k d low within = ⊎_elim
     (λ l. longer old new row (get_or rows k d) more (held k d l within))

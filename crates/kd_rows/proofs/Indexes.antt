@@ -1,4 +1,4 @@
--- The index after an address is taken or given.
+-- The index after an address is removed or inserted.
 use Rattle.std.proofs.Common.{◌≡◌, ℕ, ◌+◌, ◌-◌, ◌<◌, ◌≤◌, Bool, true, false, ◌||◌, List, [], ◌∷◌, ◌++◌, length, get_or, take, drop, zero, suc, refl, sym, ap, ◌∙◌, subst, Option, Some, None, is_some, ⊎_elim, arith, if◌then◌else◌, ◌==◌, nat_lt, map}
 use Rattle.std.specs.List.{insert, remove}
 use Rattle.std.proofs.lemmas.Bool.{cases_Bool, cases_eq, cases_lt, eqb-true, eq-eqb, ne_eqb, false≢true}
@@ -15,7 +15,7 @@ use Rattle.kd_rows.proofs.Sets.{row_at-with_row}
 join : (g : ℕ → List ℕ × ℕ) (x y u v : ℕ) → u ≡ x → v ≡ y → IsKeyBelow (g x) (g y) → IsKeyBelow (g u) (g v)
 join g x y u v e f h = subst (λ (z : ℕ). IsKeyBelow (g u) (g z)) (sym f) (subst (λ (z : ℕ). IsKeyBelow (g z) (g y)) (sym e) h)
 
--- one place up or down
+-- one index up or down
 up : (index : List ℕ) (place x i : ℕ) → place ≤ length index → place < i → get_or (insert index place x) i 0 ≡ get_or index (i - 1) 0
 up index place x i within after =
     let e : i - 1 + 1 ≡ i = omega arith in
@@ -78,7 +78,7 @@ lists-insert xs place x a =
     lists-append (take place xs) (x ∷ drop place xs) a ∙ turned (lists (take place xs) a) (x == a) (lists (drop place xs) a)
     ∙ ap (λ (b : Bool). (x == a) || b) (sym (lists-append (take place xs) (drop place xs) a) ∙ ap (λ (ys : List ℕ). lists ys a) (take-append-drop place xs))
 
--- the others stay where one is removed
+-- the others stay when one is removed
 lists-remove_other : (xs : List ℕ) (place a : ℕ) → place < length xs → (get_or xs place 0 == a) ≡ false → lists (remove xs place) a ≡ lists xs a
 lists-remove_other xs place a within other =
     lists-append (take place xs) (drop (suc place) xs) a ∙ ap (λ (b : Bool). lists (take place xs) a || b) (sym tail)
@@ -89,7 +89,7 @@ lists-remove_other xs place a within other =
       tail : lists (drop place xs) a ≡ lists (drop (suc place) xs) a
       tail = ap (λ (ys : List ℕ). lists ys a) (drop_more xs place 0 within) ∙ rw other (ap (λ (n : ℕ). lists (drop n xs) a) next)
 
--- and that one does not, since each stands once
+-- and that one does not, because each occurs once
 lists-remove_this : (f : ℕ → List ℕ × ℕ) (xs : List ℕ) (place : ℕ) → Rises f xs → place < length xs → lists (remove xs place) (get_or xs place 0) ≡ false
 lists-remove_this f xs place rising inside = ⊎_elim (λ h. absurd (twice (listed_at (remove xs place) (get_or xs place 0) h))) (λ e. e) (cases_Bool (lists (remove xs place) (get_or xs place 0))) where
   twice : Stands (remove xs place) (get_or xs place 0) → ⊥
@@ -121,7 +121,7 @@ is_there row rows a = ap is_some (row_at-with_row row rows a) ∙ by (row.addres
   by true = refl
   by false = refl
 
--- an address is given to an index of the others
+-- an address is inserted in an index of the others
 given : (of : Row → List ℕ) (rows : List Row) (row : Row) (old new : List ℕ) → Rises (key_by of rows) old → PutsAt (key_by of rows) old (of row, row.address) new → ((a : ℕ) → lists old a ≡ (if row.address == a then false else is_some (row_at rows a))) → IsIndex of (with_row row rows) new
 given of rows row old new rising gives others = subst (IsIndex of (with_row row rows)) (sym gives.2) (record { same = same; rising = rises }) where
   out : lists old row.address ≡ false
@@ -154,7 +154,7 @@ new_index of rows row old new indexed none gives = given of rows row old new ind
 pub rises_taken : (f : ℕ → List ℕ × ℕ) (old : List ℕ) (a : ℕ) (between : List ℕ) → Rises f old → Takes old a between → Rises f between
 rises_taken f old a between rising takes = subst (Rises f) (sym takes.3) (rises_remove f old takes.0 rising takes.1)
 
--- the index after an address goes to another place
+-- the index after an address moves to another place
 pub moved_index : (of : Row → List ℕ) (rows : List Row) (row : Row) (old new : List ℕ) → IsIndex of rows old → Moves (key_by of rows) old (of row, row.address) new → IsIndex of (with_row row rows) new
 moved_index of rows row old new indexed moves = given of rows row moves.0 new (rises_taken (key_by of rows) old row.address moves.0 indexed.rising moves.1) moves.2 others where
   others : (a : ℕ) → lists moves.0 a ≡ (if row.address == a then false else is_some (row_at rows a))
@@ -166,7 +166,7 @@ moved_index of rows row old new indexed moves = given of rows row moves.0 new (r
 rises_along : (f g : ℕ → List ℕ × ℕ) (index : List ℕ) → ((a : ℕ) → g a ≡ f a) → Rises f index → Rises g index
 rises_along f g index agree rising i j order within = subst (λ (l : List ℕ × ℕ). IsKeyBelow (g (get_or index i 0)) l) (sym (agree (get_or index j 0))) (subst (λ (l : List ℕ × ℕ). IsKeyBelow l (f (get_or index j 0))) (sym (agree (get_or index i 0))) (rising i j order within))
 
--- the index after an address is set for the client that it has
+-- the index after a row is set at an address whose client stays the same
 pub same_index : (rows : List Row) (row r : Row) (old : List ℕ) → IsIndex client_of rows old → row_at rows row.address ≡ Some r → r.client ≡ row.client → IsIndex client_of (with_row row rows) old
 same_index rows row r old indexed found client = record {
   same = λ a. indexed.same a ∙ sym (is_there row rows a ∙ there (row.address == a) a refl);
@@ -184,12 +184,12 @@ same_index rows row r old indexed found client = record {
 pub same_of : (of : Row → List ℕ) (rows new_rows : List Row) (index new : List ℕ) → new_rows ≡ rows → new ≡ index → IsIndex of rows index → IsIndex of new_rows new
 same_of of rows new_rows index new same stays indexed = subst (λ (rs : List Row). IsIndex of rs new) (sym same) (subst (IsIndex of rows) (sym stays) indexed)
 
--- rows that are numbered by slots: each slot's row is the one of its address, and there is no other
+-- rows in numbered slots: each slot's row is the one at its address, and there is no other
 pub record Known (rows slots : List Row) : Type 0 where
   pub known : (n : ℕ) → n < length slots → row_at rows (row_in slots n).address ≡ Some (row_in slots n)
   pub only : (a : ℕ) → is_some (row_at rows a) ≡ true → (n : ℕ) × (n < length slots) × ((row_in slots n).address ≡ a)
 
--- the numbers of slots in the order of their keys give the addresses of the rows in that order
+-- the slot numbers in the order of their keys give the addresses of the rows in that order
 pub index_from : (of : Row → List ℕ) (rows slots : List Row) (numbers : List ℕ) → Known rows slots → IsByKey of slots numbers → IsIndex of rows (addresses_in slots numbers)
 index_from of rows slots numbers all numbered = record { same = same; rising = rising } where
   address : ℕ → ℕ

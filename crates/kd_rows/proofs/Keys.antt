@@ -1,4 +1,4 @@
--- The order of keys, and places in the index.
+-- The order of keys, and positions in the index.
 use Rattle.std.proofs.Common.{◌≡◌, ℕ, ◌+◌, ◌<◌, ◌≤◌, Bool, true, false, ◌||◌, ◌==◌, not, List, [], ◌∷◌, zero, suc, length, get_or, refl, sym, ap, ◌∙◌, subst, ◌⊎◌, inl, inr, ⊎_elim, if◌then◌else◌, nat_lt, ◌-◌, Some, is_some, arith}
 use Rattle.std.specs.Cmp.{IsTotalOrder, nat_cmp_total}
 use Rattle.std.specs.Cmp.Lexicographic.{nat_list_cmp_total}
@@ -28,7 +28,7 @@ below_trans k l m = keys_total.trans k l m
 pub not_below_itself : (k : List ℕ × ℕ) → IsKeyBelow k k → ⊥
 not_below_itself k h = let e = tied_itself keys_total k in cc
 
--- of two keys that are not the same one comes first
+-- of two keys that differ, one comes first
 pub below_from : (k l : List ℕ × ℕ) → (k ≡ l → ⊥) → (IsKeyBelow l k → ⊥) → IsKeyBelow k l
 below_from k l other not_above = by (key_order k l) refl where
   by : (o : Ordering) → key_order k l ≡ o → IsKeyBelow k l
@@ -51,7 +51,7 @@ pub not_so : (b : Bool) → not b ≡ true → b ≡ false
 not_so true h = absurd (false≢true h)
 not_so false h = refl
 
--- a half of the index is passed
+-- half of the index is passed
 pub low_more : (key : ℕ → List ℕ × ℕ) (index : List ℕ) (k : List ℕ × ℕ) (middle : ℕ) → Rises key index → middle < length index → IsKeyBelow (key (get_or index middle 0)) k → (i : ℕ) → i < middle + 1 → IsKeyBelow (key (get_or index i 0)) k
 low_more key index k middle rising within here i before = by (cases_eq i middle) where
   by : (i ≡ middle) ⊎ (i ≡ middle → ⊥) → IsKeyBelow (key (get_or index i 0)) k
@@ -68,7 +68,7 @@ high_less key index k middle rising here i after within h = by (cases_eq i middl
 pub read_key : (of : Row → List ℕ) (rows : List Row) (index : List ℕ) (k : List ℕ × ℕ) (middle at : ℕ) (order : List ℕ) (test : Bool) → at ≡ get_or index middle 0 → order ≡ order_in of (row_at rows at) → test ≡ is_lt (key_order (order, at) k) → test ≡ is_lt (key_order (key_by of rows (get_or index middle 0)) k)
 read_key of rows index k middle at order test is from result = result ∙ ap (λ (x : List ℕ). is_lt (key_order (x, at) k)) from ∙ ap (λ (b : ℕ). is_lt (key_order (key_by of rows b) k)) is
 
--- an address that a list has stands in it
+-- an address that a list contains is at some index
 pub record Stands (xs : List ℕ) (a : ℕ) : Type 0 where
   pub place : ℕ
   pub within : place < length xs
@@ -81,7 +81,7 @@ listed_at (x ∷ xs) a h = by (x == a) refl h (listed_at xs a) where
   by true e h rest = record { place = 0; within = omega arith; here = eqb-true x a e }
   by false e h rest = let r = rest h in record { place = suc r.place; within = omega (arith, r.within); here = r.here }
 
--- an address of the index stands at the place of its key
+-- an address of the index is at the index of its key
 pub key_here : (key : ℕ → List ℕ × ℕ) (index : List ℕ) (a place : ℕ) → Rises key index → IsKeyPlace key index (key a) place → lists index a ≡ true → (place < length index) × (get_or index place 0 ≡ a)
 key_here key index a place rising p h = by (listed_at index a h) where
   by : Stands index a → (place < length index) × (get_or index place 0 ≡ a)
@@ -92,7 +92,7 @@ key_here key index a place rising p h = by (listed_at index a h) where
       (cases_eq s.place place))
       (cases_lt s.place place)
 
--- a place among those left where one is taken
+-- an index among the remaining ones after one is removed
 pub place_left : (key : ℕ → List ℕ × ℕ) (index : List ℕ) (k : List ℕ × ℕ) (from place : ℕ) → from < length index → IsKeyPlace key index k place → IsKeyPlace key (remove index from) k (if nat_lt from place then place - 1 else place)
 place_left key index k from place inside p = by (nat_lt from place) refl where
   n : length (remove index from) + 1 ≡ length index
@@ -122,37 +122,37 @@ place_left key index k from place inside p = by (nat_lt from place) refl where
         (cases_lt i from);
   }
 
--- a place that is left is within those that were
+-- a remaining index is within the old ones
 pub left_within : (n from place : ℕ) → from < n → place ≤ n → (if nat_lt from place then place - 1 else place) < n
 left_within n from place inside le = by (nat_lt from place) refl where
   by : (b : Bool) → nat_lt from place ≡ b → (if b then place - 1 else place) < n
   by true e = omega arith
   by false e = let l : place ≤ from = grind (arith, nat_tests) in omega arith
 
--- the address of a row stands at the place of its key
+-- the address of a row is at the index of its key
 pub row_here : (of : Row → List ℕ) (rows : List Row) (index order : List ℕ) (a place from : ℕ) (row : Row) → IsIndex of rows index → IsRowPlace rows a place → row ≡ get_or rows place row → order ≡ of row → IsKeyPlace (key_by of rows) index (order, a) from → (from < length index) × (get_or index from 0 ≡ a)
 row_here of rows index order a place from row indexed at is theirs p = key_here (key_by of rows) index a from indexed.rising (subst (λ (c : List ℕ). IsKeyPlace (key_by of rows) index (c, a) from) (theirs ∙ sym (ap (order_in of) there)) p) (indexed.same a ∙ ap is_some there) where
   there : row_at rows a ≡ Some row
   there = at.found row ∙ ap Some (sym is)
 
--- an address that is taken there, and put at the place of another key, moves
+-- an address that is removed there, and inserted at the index of another key, moves
 pub moved_to : (key : ℕ → List ℕ × ℕ) (index new client : List ℕ) (a from place to : ℕ) → (from < length index) × (get_or index from 0 ≡ a) → IsKeyPlace key index (client, a) place → to ≡ (if nat_lt from place then place - 1 else place) → new ≡ insert (remove index from) to (get_or index from 0) → Moves key index (client, a) new
 moved_to key index new client a from place to here p is put =
     (remove index from, (from, here.0, here.1, refl), (to, subst (IsKeyPlace key (remove index from) (client, a)) (sym is) (place_left key index (client, a) from place here.0 p), put ∙ ap (insert (remove index from) to) here.1))
 
--- the address of a row stands at the place of its age
+-- the address of a row is at the index of its age
 pub age_here : (cuts : List ℕ) (rows : List Row) (ages : List ℕ) (k : List ℕ × ℕ) (a place from : ℕ) (row : Row) → IsIndex (age_of cuts) rows ages → IsRowPlace rows a place → row ≡ get_or rows place row → k ≡ (age_of cuts row, row.address) → IsKeyPlace (age_at cuts rows) ages k from → (from < length ages) × (get_or ages from 0 ≡ a)
 age_here cuts rows ages k a place from row indexed at is key p =
     row_here (age_of cuts) rows ages (age_of cuts row) a place from row indexed at is refl
     (subst (λ (l : List ℕ × ℕ). IsKeyPlace (age_at cuts rows) ages l from) (key ∙ ap (λ (b : ℕ). (age_of cuts row, b)) (ap (λ (r : Row). r.address) is ∙ at.here row)) p)
 
--- what is taken and put back
+-- what is removed and put back
 put_back : (xs : List ℕ) (place : ℕ) → place < length xs → insert (remove xs place) place (get_or xs place 0) ≡ xs
 put_back [] place within = absurd (omega arith)
 put_back (x ∷ xs) zero within = refl
 put_back (x ∷ xs) (suc place) within = ap (λ (ys : List ℕ). x ∷ ys) (put_back xs place (omega arith))
 
--- an address moves to the place that it has, where those beside it stay on both sides
+-- an address moves to the place that it already has, if its neighbours stay on both sides
 pub stays : (key : ℕ → List ℕ × ℕ) (index order : List ℕ) (a place : ℕ) → (place < length index) × (get_or index place 0 ≡ a) → AreBelow key index place (order, a) → AreNotBelow key index (place + 1) (order, a) → Moves key index (order, a) index
 stays key index order a place here below above =
     (remove index place, (place, here.0, here.1, refl), (place, at, sym (ap (insert (remove index place) place) (sym here.1) ∙ put_back index place here.0))) where

@@ -1,4 +1,4 @@
--- Addresses that rise, each once, as rows.
+-- Addresses in ascending order, each once, as rows.
 use Rattle.std.proofs.Common.{◌≡◌, ℕ, ◌+◌, ◌<◌, ◌≤◌, Bool, true, false, ◌&&◌, ◌||◌, not, cond, List, [], ◌∷◌, length, get_or, zero, suc, refl, sym, ap, ◌∙◌, subst, Some, is_some, if◌then◌else◌, ◌==◌, eqb, nat_lt, ⊎_elim, arith}
 use Rattle.std.specs.List.{dedup, dedup_from, filter, remove}
 use Rattle.std.specs.List.Sorted.{IsStrictlyIncreasing}
@@ -11,7 +11,7 @@ use Rattle.kd_rows.specs.Table.{Rise, RiseFrom, row_at}
 use Rattle.kd_rows.specs.Withheld.{is_withheld}
 use Rattle.kd_rows.proofs.Places.{absent_at, from_on, is_at, none_below, read_at, rise_from_steps}
 
--- an address has a row among them where it is one of them
+-- an address has a row among them if it is one of them
 pub row_listed : (xs : List ℕ) (a : ℕ) → is_some (row_at (address_rows xs) a) ≡ is_withheld xs a
 row_listed [] a = refl
 row_listed (x ∷ xs) a = by (x == a) (row_listed xs a) where
@@ -19,7 +19,7 @@ row_listed (x ∷ xs) a = by (x == a) (row_listed xs a) where
   by true h = refl
   by false h = h
 
--- what is read at a place
+-- what is read at an index
 pub address_at : (xs : List ℕ) (i : ℕ) (d : Row) → i < length xs → (get_or (address_rows xs) i d).address ≡ get_or xs i 0
 address_at xs i d within = ap (λ (r : Row). r.address) (get_or-map address_row xs i 0 d within)
 
@@ -37,7 +37,7 @@ rise_increasing xs rise = rise_from_steps 0 (address_rows xs) (λ d within. omeg
       let less = subst (λ (k : ℕ). get_or xs i 0 < get_or xs k 0) next (rise i (omega arith)) in
       omega arith
 
--- where some are left out
+-- if some are left out
 pub rise_filter : (p : ℕ → Bool) (n : ℕ) (xs : List ℕ) → RiseFrom n (address_rows xs) → RiseFrom n (address_rows (filter p xs))
 rise_filter p n [] rise = tt
 rise_filter p n (x ∷ xs) rise = by (p x) (rise_filter p (x + 1) xs rise.1) where
@@ -45,13 +45,13 @@ rise_filter p n (x ∷ xs) rise = by (p x) (rise_filter p (x + 1) xs rise.1) whe
   by true h = (rise.0, h)
   by false h = rise_lower n (x + 1) (address_rows (filter p xs)) (omega (arith, rise.0)) h
 
--- where one is taken out
+-- if one is removed
 pub rise_remove : (n : ℕ) (xs : List ℕ) (place : ℕ) → place < length xs → RiseFrom n (address_rows xs) → RiseFrom n (address_rows (remove xs place))
 rise_remove n [] place within rise = absurd (omega arith)
 rise_remove n (x ∷ xs) zero within rise = rise_lower n (x + 1) (address_rows xs) (omega (arith, rise.0)) rise.1
 rise_remove n (x ∷ xs) (suc place) within rise = (rise.0, rise_remove (x + 1) xs place (omega arith) rise.1)
 
--- addresses that rise from above one do not have it
+-- addresses that ascend from above one do not contain it
 none_listed : (n : ℕ) (xs : List ℕ) (a : ℕ) → RiseFrom n (address_rows xs) → a < n → is_withheld xs a ≡ false
 none_listed n xs a rise low = sym (row_listed xs a) ∙ ap is_some (none_below n (address_rows xs) a rise low)
 
@@ -71,7 +71,7 @@ listed_remove n (x ∷ xs) (suc place) a within rise = by (x == a) (get_or xs pl
   by false true e f h = h
   by false false e f h = h
 
--- where doubles are dropped
+-- if duplicates are dropped
 listed_dedup_from : (k : ℕ) (xs : List ℕ) (a : ℕ) → is_withheld (dedup_from eqb k xs) a ≡ ((k == a) || is_withheld xs a)
 listed_dedup_from k [] a = refl
 listed_dedup_from k (x ∷ xs) a = by (x == k) refl (listed_dedup_from k xs a) (listed_dedup_from x xs a) where
@@ -87,7 +87,7 @@ pub listed_dedup : (xs : List ℕ) (a : ℕ) → is_withheld (dedup eqb xs) a �
 listed_dedup [] a = refl
 listed_dedup (x ∷ xs) a = listed_dedup_from x xs a
 
--- an address is one of them where it stands at its place
+-- an address is one of them if it is at its index
 pub listed_here : (xs : List ℕ) (a place x : ℕ) → Rise (address_rows xs) → IsPlace (address_rows xs) a place → place < length xs → address_row x ≡ get_or (address_rows xs) place (address_row x) → is_withheld xs a ≡ (x == a)
 listed_here xs a place x rise p within is = sym (row_listed xs a) ∙ ⊎_elim
     (λ e. ap is_some ((is_at (address_rows xs) a place rise inside (λ d. read_at (address_rows xs) place (address_row x) d inside is ∙ e)).found (address_row x)) ∙ sym (eq-eqb x a e))
@@ -96,15 +96,15 @@ listed_here xs a place x rise p within is = sym (row_listed xs a) ∙ ⊎_elim
       inside : place < length (address_rows xs)
       inside = omega (arith, length-map xs address_row)
 
--- and is none of them where no more are left there
+-- and is not one of them if there are no more from that index on
 pub listed_past : (xs : List ℕ) (a place : ℕ) → Rise (address_rows xs) → IsPlace (address_rows xs) a place → length xs ≤ place → is_withheld xs a ≡ nat_lt place (length xs)
 listed_past xs a place rise p past = sym (row_listed xs a) ∙ ap is_some (absent_at (address_rows xs) a place rise p (λ d within. absurd (omega (arith, length-map xs address_row)))) ∙ sym (le-ltb place (length xs) past)
 
--- the same, of what is read there
+-- the same for what is read there
 pub listed_at : (xs : List ℕ) (a place : ℕ) → Rise (address_rows xs) → IsPlace (address_rows xs) a place → place < length xs → is_withheld xs a ≡ (get_or xs place 0 == a)
 listed_at xs a place rise p within = listed_here xs a place (get_or xs place 0) rise p within (sym (get_or-map address_row xs place 0 (address_row (get_or xs place 0)) within))
 
--- where an address is none of them, nothing is to be taken out
+-- if an address is not one of them, there is nothing to remove
 pub listed_without : (xs : List ℕ) (address a : ℕ) → is_withheld xs address ≡ false → is_withheld xs a ≡ (not (address == a) && is_withheld xs a)
 listed_without xs address a out = by (address == a) refl where
   by : (b : Bool) → (address == a) ≡ b → is_withheld xs a ≡ (not b && is_withheld xs a)

@@ -21,7 +21,7 @@ use Rattle.kd_rows.proofs.Ages.{age_key_order}
 use Rattle.kd_rows.proofs.Keys.{Stands, listed_at}
 use Rattle.kd_rows.proofs.Newest.{left_of}
 
--- of keys of one client the group comes first
+-- for keys of one client the group comes first
 one_client : (c : List ℕ) (s u t v a b : ℕ) → key_order (age_key c s t, a) (age_key c u v, b) ≡ ordering_then (ordering_then (nat_cmp s u) (nat_cmp t v)) (nat_cmp a b)
 one_client c s u t v a b = age_key_order c c s u t v a b ∙ ap (λ (o : Ordering). ordering_then (ordering_then o (ordering_then (nat_cmp s u) (nat_cmp t v))) (nat_cmp a b)) (tied_itself nat_list_cmp_total c)
 
@@ -43,7 +43,7 @@ below_group c s u t v a b h = by s u t v a b (sym (one_client c s u t v a b) ∙
   by : (s u t v a b : ℕ) → ordering_then (ordering_then (nat_cmp s u) (nat_cmp t v)) (nat_cmp a b) ≡ Less → s ≤ u
   by s u t v a b g = let l : is_lt (ordering_then (ordering_then (nat_cmp s u) (nat_cmp t v)) (nat_cmp a b)) ≡ true = ap is_lt g in grind (arith, nat_tests)
 
--- what stands between two keys of one client is that client's
+-- a key between two keys of one client is that client's
 between_clients : (c d : List ℕ) (s u w t v x a b e : ℕ) → (IsKeyBelow (age_key c s t, a) (age_key d u v, b) → ⊥) → IsKeyBelow (age_key c s t, a) (age_key d w x, e) → c ≡ d
 between_clients c d s u w t v x a b e not_first second = exact_bytes c d (tie (slice_cmp nat_cmp c d) (λ o. not_first (age_key_order c d s u t v a b ∙ o)) (sym (age_key_order c d s w t x a e) ∙ second)) where
   tie : (o : Ordering) → (ordering_then (ordering_then o (ordering_then (nat_cmp s u) (nat_cmp t v))) (nat_cmp a b) ≡ Less → ⊥) → ordering_then (ordering_then o (ordering_then (nat_cmp s w) (nat_cmp t x))) (nat_cmp a e) ≡ Less → o ≡ Equal
@@ -64,12 +64,12 @@ kind_parts client state row h = by (pointwise nat_eq row.client client) refl h w
 kind_from : (client : List ℕ) (state : State) (row : Row) → row.client ≡ client → state_number row.state ≡ state_number state → is_kind client state row ≡ true
 kind_from client state row c s = rw ((bytes_decides row.client client).1 c) (eq-eqb (state_number row.state) (state_number state) s)
 
--- where a search for the zones after one begins
+-- where a search for the later zones begins
 pub record Seek (rows : List Row) (ages cuts client : List ℕ) (state : State) (zone place : ℕ) : Type 0 where
   pub indexed : IsIndex (age_of cuts) rows ages
   pub begins : IsKeyPlace (age_at cuts rows) ages (age_key client (group_number state (zone + 1)) 0, 0) place
 
--- a place is one from which such a search begins
+-- an index from which such a search begins
 pub seek_from : (rows : List Row) (ages cuts client : List ℕ) (state : State) (zone place group : ℕ) (from : Age) → IsIndex (age_of cuts) rows ages → group ≡ group_number state (zone + 1) → IsAgeStart client group None from → IsKeyPlace (age_at cuts rows) ages (key_of_age from) place → Seek rows ages cuts client state zone place
 seek_from rows ages cuts client state zone place group from indexed is start p = record {
   indexed = indexed;
@@ -82,7 +82,7 @@ seek_from rows ages cuts client state zone place group from indexed is start p =
       ∙ (ap (λ (l : ℕ). (age_key client (group_number state (zone + 1)) l, from.address)) start.from.0
       ∙ ap (λ (a : ℕ). (age_key client (group_number state (zone + 1)) 0, a)) start.from.1))
 
--- the key at a place
+-- the key at an index
 key_there : (cuts : List ℕ) (rows : List Row) (ages : List ℕ) (i : ℕ) (row : Row) → row_at rows (get_or ages i 0) ≡ Some row → age_at cuts rows (get_or ages i 0) ≡ (age_key row.client (group_in cuts row) (left_of row), get_or ages i 0)
 key_there cuts rows ages i row there = ap (λ (o : Option Row). (order_in (age_of cuts) o, get_or ages i 0)) there
 
@@ -93,26 +93,26 @@ kind_key cuts rows ages client state i row there is =
     ∙ (ap (λ (c : List ℕ). (age_key c (group_in cuts row) (left_of row), get_or ages i 0)) (kind_parts client state row is).0
     ∙ ap (λ (s : ℕ). (age_key client (s * 4294967296 + zone_in cuts row.address) (left_of row), get_or ages i 0)) (kind_parts client state row is).1)
 
--- a row that is there stands at a place of the index
+-- an existing row is at an index
 stands_at : (cuts : List ℕ) (rows : List Row) (ages : List ℕ) (a : ℕ) (row : Row) → IsIndex (age_of cuts) rows ages → row_at rows a ≡ Some row → (i : ℕ) × (i < length ages) × (row_at rows (get_or ages i 0) ≡ Some row)
 stands_at cuts rows ages a row indexed there = by (listed_at ages a (indexed.same a ∙ ap is_some there)) where
   by : Stands ages a → (i : ℕ) × (i < length ages) × (row_at rows (get_or ages i 0) ≡ Some row)
   by s = (s.place, s.within, subst (λ (x : ℕ). row_at rows x ≡ Some row) (sym s.here) there)
 
--- what stands before the place is of no later zone
+-- no row before the index is in a later zone
 low_zone : (rows : List Row) (ages cuts client : List ℕ) (state : State) (zone place i : ℕ) (row : Row) → Seek rows ages cuts client state zone place → i < place → row_at rows (get_or ages i 0) ≡ Some row → is_kind client state row ≡ true → zone_in cuts row.address ≤ zone
 low_zone rows ages cuts client state zone place i row seek low there is =
     let h = below_start client (group_number state (zone_in cuts row.address)) (group_number state (zone + 1)) (left_of row) (get_or ages i 0)
     (subst (λ (k : List ℕ × ℕ). IsKeyBelow k (age_key client (group_number state (zone + 1)) 0, 0)) (kind_key cuts rows ages client state i row there is) (seek.begins.below i low)) in
     omega arith
 
--- where nothing stands from the place on, no row is of a later zone
+-- if there is nothing from the index on, no row is in a later zone
 pub none_later : (rows : List Row) (ages cuts client : List ℕ) (state : State) (zone place : ℕ) → Seek rows ages cuts client state zone place → length ages ≤ place → IsNextZone rows cuts client state zone None
 none_later rows ages cuts client state zone place seek all a row at is =
     let s = stands_at cuts rows ages a row seek.indexed at in
     low_zone rows ages cuts client state zone place s.0 row seek (let l = s.1 in omega arith) s.2 is
 
--- nor where a row of another client or state stands there
+-- nor if a row of another client or state is there
 pub none_there : (rows : List Row) (ages cuts client : List ℕ) (state : State) (zone place : ℕ) (here : Row) → Seek rows ages cuts client state zone place → place < length ages → row_at rows (get_or ages place 0) ≡ Some here → is_kind client state here ≡ false → IsNextZone rows cuts client state zone None
 none_there rows ages cuts client state zone place here seek within there out a row at is = by (stands_at cuts rows ages a row seek.indexed at) where
   behind : (j : ℕ) → place < j → j < length ages → row_at rows (get_or ages j 0) ≡ Some row → zone_in cuts row.address ≤ zone
@@ -146,7 +146,7 @@ none_there rows ages cuts client state zone place here seek within there out a r
       (λ n. behind s.0 (omega arith) s.1 s.2) (cases_eq s.0 place))
       (cases_lt s.0 place)
 
--- a row of the client in the state that stands there is of the next zone
+-- a row of the client in the state that is there is in the next zone
 pub next_there : (rows : List Row) (ages cuts client : List ℕ) (state : State) (zone place : ℕ) (here : Row) → Seek rows ages cuts client state zone place → place < length ages → row_at rows (get_or ages place 0) ≡ Some here → is_kind client state here ≡ true → IsNextZone rows cuts client state zone (Some (zone_in cuts here.address))
 next_there rows ages cuts client state zone place here seek within there own = (later, between) where
   later : zone < zone_in cuts here.address

@@ -1,4 +1,4 @@
--- The row of a client of the least address from one on stands at the place of its key.
+-- A client's row with the lowest address from one on is at the index of that address's key.
 use Rattle.std.proofs.Common.{◌≡◌, ℕ, ◌<◌, ◌≤◌, true, false, List, length, get_or, sym, ap, ◌∙◌, subst, Some, is_some, ⊎_elim, arith}
 use Rattle.std.specs.Cmp.Lexicographic.{bytes_decides, nat_list_cmp_total, slice_cmp}
 use Rattle.std.specs.Ordering.{nat_cmp, ordering_then}
@@ -13,8 +13,8 @@ use Rattle.kd_rows.specs.Table.{IsNextOf, belongs_to, row_at}
 use Rattle.kd_rows.proofs.Keys.{Stands, listed_at}
 use Rattle.kd_rows.proofs.Owned.{not_again, same_client}
 
--- where a client has a row at an address from first on, one of its addresses stands at the place of
--- first, and none beyond that one
+-- if a client has a row at an address from first on, one of its addresses is at the index of first,
+-- and it is no higher
 pub record Begins (rows : List Row) (index client : List ℕ) (place a : ℕ) : Type 0 where
   pub within : place < length index
   pub owner : client_at rows (get_or index place 0) ≡ client
@@ -53,19 +53,19 @@ begins rows index client first place a row indexed p from there own = by (listed
               least = let h = same_client (client_at rows (get_or index place 0)) client (get_or index place 0) a owner below in omega arith;
             }
 
--- where that is not so, a row from first on is not the client's
+-- if that is not so, a row from first on is not the client's
 pub none_unless : (rows : List Row) (index client : List ℕ) (first place a : ℕ) (row : Row) → IsIndex client_of rows index → IsKeyPlace (key_at rows) index (client, first) place → first ≤ a → row_at rows a ≡ Some row → (Begins rows index client place a → ⊥) → belongs_to client row ≡ false
 none_unless rows index client first place a row indexed p from there not =
     ⊎_elim (λ own. absurd (not (begins rows index client first place a row indexed p from there own))) (λ e. e) (cases_Bool (belongs_to client row))
 
--- of two keys of one client that of the lesser address comes first
+-- of two keys of one client the one with the lower address comes first
 below_same : (c client : List ℕ) (a b : ℕ) → c ≡ client → a < b → IsKeyBelow (c, a) (client, b)
 below_same c client a b e order =
     let tied : slice_cmp nat_cmp c client ≡ Equal = subst (λ (x : List ℕ). slice_cmp nat_cmp c x ≡ Equal) e (tied_itself nat_list_cmp_total c) in
     let less : nat_cmp a b ≡ Less = grind (arith, nat_tests) in
     ap (λ (o : Ordering). ordering_then o (nat_cmp a b)) tied ∙ less
 
--- a row of the client that stands at the place of first is the one of the least address from there on
+-- a row of the client at the index of first is the one with the lowest address from there on
 pub next_there : (rows : List Row) (index client : List ℕ) (first last place : ℕ) (row : Row) → IsIndex client_of rows index → IsKeyPlace (key_at rows) index (client, first) place → place < length index → row.address ≡ get_or index place 0 → row_at rows row.address ≡ Some row → belongs_to client row ≡ true → row.address ≤ last → IsNextOf rows client first last (Some row)
 next_there rows index client first last place row indexed p within here found own to = (found, from, to, own, λ a other after before there. none_unless rows index client first place a other indexed p after there (λ b. let h = b.least in omega arith)) where
   theirs : client_at rows (get_or index place 0) ≡ client

@@ -1,4 +1,4 @@
--- The rows whose addresses are not withheld.
+-- The rows at addresses that are not withheld.
 use Rattle.std.proofs.Common.{◌≡◌, ℕ, ◌+◌, ◌≤◌, Bool, true, false, not, cond, List, [], ◌∷◌, get_or, refl, sym, ap, ◌∙◌, Some, None, if◌then◌else◌, ◌==◌, nat_lt, arith}
 use Rattle.std.specs.List.{All}
 use Rattle.std.proofs.lemmas.Bool.{eqb-true}
@@ -10,12 +10,12 @@ use Rattle.kd_rows.specs.Table.{RiseFrom, row_at, with_row}
 use Rattle.kd_rows.specs.Withheld.{is_withheld}
 use Rattle.kd_rows.proofs.Listed.{rise_lower}
 
--- where no address is withheld, all rows are open
+-- if no address is withheld, all rows are open
 pub all_open : (rows : List Row) → open_rows [] rows ≡ rows
 all_open [] = refl
 all_open (r ∷ rows) = ap (λ (xs : List Row). r ∷ xs) (all_open rows)
 
--- what is read of the open rows
+-- what is read in the open rows
 pub row_open : (withheld : List ℕ) (rows : List Row) (a : ℕ) → row_at (open_rows withheld rows) a ≡ (if is_withheld withheld a then None else row_at rows a)
 row_open withheld [] a = by (is_withheld withheld a) where
   by : (b : Bool) → row_at [] a ≡ (if b then None else row_at [] a)
@@ -32,14 +32,14 @@ row_open withheld (r ∷ rows) a = by (is_withheld withheld r.address) (r.addres
   by false true q e h = rw (e, same false q e) refl
   by false false q e h = rw e h
 
--- an open row stands among all, and is not withheld
+-- an open row is one of all rows, and is not withheld
 pub open_is : (withheld : List ℕ) (rows : List Row) (a : ℕ) (row : Row) → row_at (open_rows withheld rows) a ≡ Some row → (is_withheld withheld a ≡ false) × (row_at rows a ≡ Some row)
 open_is withheld rows a row found = by (is_withheld withheld a) (sym (row_open withheld rows a) ∙ found) where
   by : (b : Bool) → (if b then None else row_at rows a) ≡ Some row → (b ≡ false) × (row_at rows a ≡ Some row)
   by true e = cc
   by false e = (refl, e)
 
--- and the other way round
+-- and vice versa
 pub open_at : (withheld : List ℕ) (rows : List Row) (a : ℕ) → is_withheld withheld a ≡ false → row_at (open_rows withheld rows) a ≡ row_at rows a
 open_at withheld rows a out = row_open withheld rows a ∙ rw out refl
 
@@ -64,7 +64,7 @@ put_first : (row : Row) (rows : List Row) → RiseFrom (row.address + 1) rows �
 put_first row [] rise = refl
 put_first row (r ∷ rows) rise = let h = rise.0 in grind (arith, nat_tests)
 
--- after a row is set that is not withheld, the open rows are those with it
+-- after a row that is not withheld is set, the open rows are the old ones with it set
 pub open_with : (withheld : List ℕ) (n : ℕ) (rows : List Row) (row : Row) → RiseFrom n rows → is_withheld withheld row.address ≡ false → open_rows withheld (with_row row rows) ≡ with_row row (open_rows withheld rows)
 open_with withheld n [] row rise out = rw out refl
 open_with withheld n (r ∷ rows) row rise out =
@@ -80,7 +80,7 @@ open_with withheld n (r ∷ rows) row rise out =
       by false false true below same kind h = rw kind h
       by false false false below same kind h = rw (kind, below, same) (ap (λ (xs : List Row). r ∷ xs) h)
 
--- after one is set that is withheld they are the same
+-- after a row that is withheld is set, they are the same
 pub open_without : (withheld : List ℕ) (rows : List Row) (row : Row) → is_withheld withheld row.address ≡ true → open_rows withheld (with_row row rows) ≡ open_rows withheld rows
 open_without withheld [] row out = rw out refl
 open_without withheld (r ∷ rows) row out =

@@ -99,7 +99,7 @@ addresses_ascend client n (r ∷ rows) rise = by (belongs_to client r) (addresse
   by true h = (rise.0, h)
   by false h = let g = rise.0 in ascends_from n (r.address + 1) (addresses_of client rows) (omega arith) h
 
--- of two keys of one client the lesser address comes first
+-- of two keys of one client the one with the lower address comes first
 pub same_client : (c d : List ℕ) (a b : ℕ) → c ≡ d → IsKeyBelow (c, a) (d, b) → a < b
 same_client c d a b e h = less a b (sym (ap (λ (o : Ordering). ordering_then o (nat_cmp a b)) (subst (λ (x : List ℕ). slice_cmp nat_cmp c x ≡ Equal) e (tied_itself nat_list_cmp_total c))) ∙ h) where
   less : (a b : ℕ) → nat_cmp a b ≡ Less → a < b
@@ -123,7 +123,7 @@ owned_ascend f client n (x ∷ index) rising from =
       )
       by false e onward skipped = skipped
 
--- a filter that once failed fails from there on: it keeps a front
+-- a filter whose test fails at one element fails from there on: it keeps a prefix
 pub kept_none : (p : ℕ → Bool) (xs : List ℕ) → ((i : ℕ) → i < length xs → p (get_or xs i 0) ≡ false) → filter p xs ≡ []
 kept_none p [] out = refl
 kept_none p (x ∷ xs) out =
@@ -149,7 +149,7 @@ past_none p (x ∷ xs) (suc i) front out =
       by true e h = h
       by false e h = rw (kept_none p xs (λ j within. front 0 (suc j) (omega arith) (omega arith) e)) refl
 
--- what fails in front is left out
+-- what fails at the beginning is left out
 pub skipped : (p : ℕ → Bool) (xs : List ℕ) (start : ℕ) → start ≤ length xs → ((i : ℕ) → i < start → p (get_or xs i 0) ≡ false) → filter p xs ≡ filter p (drop start xs)
 skipped p xs zero within out = refl
 skipped p [] (suc start) within out = refl
@@ -172,11 +172,11 @@ not_again c client x from y first second = by (slice_cmp nat_cmp c client) refl 
   by Equal e = exact_bytes c client e
   by Greater e = let h = rw e at second in cc
 
--- before the place of a client's first key stands none of its addresses
+-- before the index of a client's first key there are none of its addresses
 pub none_before : (rows : List Row) (index : List ℕ) (client : List ℕ) (start : ℕ) → IsKeyPlace (key_at rows) index (client, 0) start → (i : ℕ) → i < start → owns rows client (get_or index i 0) ≡ false
 none_before rows index client start p i before = ⊎_elim (λ own. absurd (let h = same_client (client_at rows (get_or index i 0)) client (get_or index i 0) 0 ((bytes_decides (client_at rows (get_or index i 0)) client).0 own) (p.below i before) in omega arith)) (λ e. e) (cases_Bool (owns rows client (get_or index i 0)))
 
--- and from there on, where one is not its, none after is
+-- and from there on, once one is not the client's, none after is
 pub none_behind : (rows : List Row) (index : List ℕ) (client : List ℕ) (start : ℕ) → Rises (key_at rows) index → IsKeyPlace (key_at rows) index (client, 0) start → (i j : ℕ) → start ≤ i → i < j → j < length index → owns rows client (get_or index i 0) ≡ false → owns rows client (get_or index j 0) ≡ false
 none_behind rows index client start rising p i j from order within out = ⊎_elim (λ own. absurd (false≢true (sym out ∙ (bytes_decides (client_at rows (get_or index i 0)) client).1 (same own)))) (λ e. e) (cases_Bool (owns rows client (get_or index j 0))) where
   same : owns rows client (get_or index j 0) ≡ true → client_at rows (get_or index i 0) ≡ client
@@ -185,7 +185,7 @@ none_behind rows index client start rising p i j from order within out = ⊎_eli
       not_again (client_at rows (get_or index i 0)) client (get_or index i 0) 0 (get_or index j 0) (p.above i from (omega arith))
       (subst (λ (c : List ℕ). IsKeyBelow (client_at rows (get_or index i 0), get_or index i 0) (c, get_or index j 0)) theirs (rising i j order within))
 
--- the addresses of a client begin at the place of its first key
+-- the addresses of a client begin at the index of its first key
 pub from_start : (rows : List Row) (index : List ℕ) (client : List ℕ) (start : ℕ) → Rise rows → IsIndex client_of rows index → IsKeyPlace (key_at rows) index (client, 0) start → addresses_of client rows ≡ filter (owns rows client) (drop start index)
 from_start rows index client start rise indexed p =
     addresses_are rows index client rise indexed ∙ skipped (owns rows client) index start p.in_range (none_before rows index client start p)

@@ -1,4 +1,4 @@
--- The rows by their places: what is read at an address, and where one belongs.
+-- The rows by their indexes: what is read at an address, and where one belongs.
 use Rattle.std.proofs.Common.{◌≡◌, ℕ, ◌+◌, ◌-◌, ◌<◌, ◌≤◌, ◌≢◌, List, [], ◌∷◌, length, get_or, zero, suc, refl, sym, ap, ◌∙◌, Some, None, IsSome, is_some, arith, slice_get, ◌⊎◌, inl, inr, ⊎_elim, subst}
 use Rattle.std.specs.List.{All}
 use Rattle.std.proofs.lemmas.Bool.{cases_eq, cases_lt}
@@ -10,7 +10,7 @@ use Rattle.kd_rows.specs.Row.{IsInRange}
 use Rattle.kd_rows.specs.Table.{IsNext, Rise, RiseFrom, row_at}
 use Rattle.kd_rows.specs.Index.{IsRowPlace, IsPlace}
 
--- rows that rise from n on stand there or above
+-- rows that ascend from n on are at n or above
 pub from_on : (n : ℕ) (rows : List Row) → RiseFrom n rows → (i : ℕ) (d : Row) → i < length rows → n + i ≤ (get_or rows i d).address
 from_on n [] rise i d within = absurd (omega arith)
 from_on n (r ∷ rows) rise zero d within = let h = rise.0 in omega arith
@@ -19,7 +19,7 @@ from_on n (r ∷ rows) rise (suc i) d within =
     let g = rise.0 in
     omega arith
 
--- of two rows the later stands as far above as it is later, at least
+-- of two rows the later is at least as far above as its index is later
 pub apart_from : (n : ℕ) (rows : List Row) → RiseFrom n rows → (i j : ℕ) (d : Row) → i ≤ j → j < length rows → (get_or rows i d).address + (j - i) ≤ (get_or rows j d).address
 apart_from n [] rise i j d order within = absurd (omega arith)
 apart_from n (r ∷ rows) rise zero zero d order within = omega arith
@@ -34,15 +34,15 @@ apart_from n (r ∷ rows) rise (suc i) (suc j) d order within =
 pub apart : (rows : List Row) → Rise rows → (i j : ℕ) (d : Row) → i ≤ j → j < length rows → (get_or rows i d).address + (j - i) ≤ (get_or rows j d).address
 apart rows rise i j d order within = apart_from 0 rows rise i j d order within
 
--- what is read at a place, whatever stands in for a place outside
+-- what is read at an index, whatever the default is
 pub same_at : (rows : List Row) (place : ℕ) (d e : Row) → place < length rows → (get_or rows place d).address ≡ (get_or rows place e).address
 same_at rows place d e within = ap (λ (r : Row). r.address) (get_or_default rows place d e within)
 
--- and of a row that was read there
+-- and for a row that was read there
 pub read_at : (rows : List Row) (place : ℕ) (row d : Row) → place < length rows → row ≡ get_or rows place row → (get_or rows place d).address ≡ row.address
 read_at rows place row d within is = same_at rows place d row within ∙ sym (ap (λ (r : Row). r.address) is)
 
--- the row of an address is where it stands, if none before stands there
+-- the row at an address is where the address is, if none before has that address
 pub found_at : (rows : List Row) (place a : ℕ) (d : Row) → place < length rows → ((i : ℕ) → i < place → (get_or rows i d).address < a) → (get_or rows place d).address ≡ a → row_at rows a ≡ Some (get_or rows place d)
 found_at [] place a d within below here = absurd (omega arith)
 found_at (r ∷ rows) zero a d within below here = grind (arith, nat_tests)
@@ -51,7 +51,7 @@ found_at (r ∷ rows) (suc place) a d within below here =
     let g : r.address < a = below 0 (omega arith) in
     grind (arith, nat_tests)
 
--- an address that no row stands at has none
+-- an address that no row has has none
 pub none_at : (rows : List Row) (a : ℕ) → ((i : ℕ) (d : Row) → i < length rows → (get_or rows i d).address ≢ a) → row_at rows a ≡ None
 none_at [] a others = refl
 none_at (r ∷ rows) a others =
@@ -59,7 +59,7 @@ none_at (r ∷ rows) a others =
     let g : r.address ≢ a = others 0 r (omega arith) in
     grind (arith, nat_tests)
 
--- the place of a row is that of its address
+-- the index of a row is that of its address
 pub place_at : (rows : List Row) (a place : ℕ) → Rise rows → place < length rows → ((d : Row) → (get_or rows place d).address ≡ a) → IsPlace rows a place
 place_at rows a place rise within here = record {
   in_range = omega arith;
@@ -67,21 +67,21 @@ place_at rows a place rise within here = record {
   above = λ i d after inside. omega (arith, apart rows rise place i d after inside, here d);
 }
 
--- the search for a place: where the row in the middle stands below an address, so do those before it
+-- the search for an index: if the row in the middle is below an address, so are those before it
 pub below_more : (rows : List Row) (a middle : ℕ) (row : Row) → Rise rows → middle < length rows → row ≡ get_or rows middle row → row.address < a → (i : ℕ) (d : Row) → i < middle + 1 → (get_or rows i d).address < a
 below_more rows a middle row rise within is low i d before =
     let at = read_at rows middle row d within is in
     let h = apart rows rise i middle d (omega arith) within in
     omega arith
 
--- and where it does not, no row from there on does
+-- and if it is not, no row from there on is
 pub above_less : (rows : List Row) (a middle : ℕ) (row : Row) → Rise rows → middle < length rows → row ≡ get_or rows middle row → a ≤ row.address → (i : ℕ) (d : Row) → middle ≤ i → i < length rows → a ≤ (get_or rows i d).address
 above_less rows a middle row rise within is high i d after inside =
     let at = read_at rows middle row d within is in
     let h = apart rows rise middle i d after inside in
     omega arith
 
--- an address has no row if none stands there at its place
+-- an address has no row if none is at its index
 pub absent_at : (rows : List Row) (a place : ℕ) → Rise rows → IsPlace rows a place → ((d : Row) → place < length rows → (get_or rows place d).address ≢ a) → row_at rows a ≡ None
 absent_at rows a place rise p other = none_at rows a by where
   by : (i : ℕ) (d : Row) → i < length rows → (get_or rows i d).address ≢ a
@@ -93,7 +93,7 @@ absent_at rows a place rise p other = none_at rows a by where
         let g = p.above place d (omega arith) (omega arith) in
         omega arith
 
--- a row at its place is found there
+-- a row at its index is found there
 pub is_at : (rows : List Row) (a place : ℕ) → Rise rows → place < length rows → ((d : Row) → (get_or rows place d).address ≡ a) → IsRowPlace rows a place
 is_at rows a place rise within here = record {
   in_range = within;
@@ -102,7 +102,8 @@ is_at rows a place rise within here = record {
   below = λ i d before. (place_at rows a place rise within here).below i d before;
 }
 
--- the search for a gap: where the row in the middle stands as far from `first` as its place, so do those before it
+-- the search for a gap: if the row in the middle is as far from `first` as its index, so are those
+-- before it
 pub run_more : (rows : List Row) (first start middle : ℕ) (e : Row) → Rise rows → IsPlace rows first start → start ≤ middle → middle < length rows → e ≡ get_or rows middle e → e.address - first ≡ middle - start → (i : ℕ) (d : Row) → start ≤ i → i < middle + 1 → (get_or rows i d).address ≡ first + (i - start)
 run_more rows first start middle e rise p order within is run i d after before =
     let at = read_at rows middle e d within is in
@@ -120,7 +121,7 @@ run_less rows first start middle e rise p order within is run i d after before =
     let far : (get_or rows middle d).address - first ≢ middle - start = (λ h. run (ap (λ (x : ℕ). x - first) (sym at) ∙ h)) in
     omega arith
 
--- each address of the run has a row
+-- every address of the run has a row
 pub run_has : (rows : List Row) (first start low : ℕ) → Rise rows → low ≤ length rows → ((i : ℕ) (d : Row) → start ≤ i → i < low → (get_or rows i d).address ≡ first + (i - start)) → (a : ℕ) → first ≤ a → a < first + (low - start) → IsSome (row_at rows a)
 run_has [] first start low rise within run a from before = absurd (omega arith)
 run_has (r ∷ rows) first start low rise within run a from before =
@@ -141,7 +142,7 @@ none_below n (r ∷ rows) a rise before =
     let tail = none_below (r.address + 1) rows a rise.1 (omega arith) in
     grind (arith, nat_tests)
 
--- the row at the place of an address is the next from there on
+-- the row at the index of an address is the next from there on
 pub next_at : (rows : List Row) (a place : ℕ) → Rise rows → IsPlace rows a place → IsNext rows a (slice_get rows place)
 next_at rows a place rise p = by (slice_get_cases rows place).1 where
   by : ((x : Row) × (place < length rows) × (slice_get rows place ≡ Some x) × (get_or rows place x ≡ x)) ⊎ ((length rows ≤ place) × (slice_get rows place ≡ None)) → IsNext rows a (slice_get rows place)
@@ -159,13 +160,13 @@ next_at rows a place rise p = by (slice_get_cases rows place).1 where
     between b from before = none_at rows b (λ i d within e. ⊎_elim (λ l. let g = p.below i d l in omega arith) (λ l. let g = apart rows rise place i d l within in let f = at d in omega arith) (cases_lt i place))
   by (inr h) = subst (IsNext rows a) (sym h.1) (λ b from. none_at rows b (λ i d within e. let g = p.below i d (omega (arith, h.0)) in omega arith))
 
--- rows each of which stands above the one before rise
+-- rows that are each above the one before are in ascending order
 pub rise_from_steps : (n : ℕ) (rows : List Row) → ((d : Row) → 0 < length rows → n ≤ (get_or rows 0 d).address) → ((i j : ℕ) (d : Row) → i + 1 ≡ j → j < length rows → (get_or rows i d).address < (get_or rows j d).address) → RiseFrom n rows
 rise_from_steps n [] first steps = tt
 rise_from_steps n (r ∷ rows) first steps =
     (first r (omega arith), rise_from_steps (r.address + 1) rows (λ d within. let h = steps 0 1 d (omega arith) (omega arith) in omega arith) (λ i j d next within. steps (suc i) (suc j) d (omega arith) (omega arith)))
 
--- what a loop over rows keeps: each one passed is in range, and above the one before
+-- what a loop over rows maintains: each one passed is in range, and above the one before
 pub record Accepted (rows : List Row) (n : ℕ) : Type 0 where
   pub ranges : (k : ℕ) (d : Row) → k < n → IsInRange (get_or rows k d)
   pub steps : (i j : ℕ) (d : Row) → i + 1 ≡ j → j < n → (get_or rows i d).address < (get_or rows j d).address
@@ -174,7 +175,7 @@ pub accepted_all : (rows : List Row) (n : ℕ) → length rows ≤ n → Accepte
 accepted_all rows n all h =
     (rise_from_steps 0 rows (λ d within. omega arith) (λ i j d next within. h.steps i j d next (omega arith)), λ k d within. h.ranges k d (omega arith))
 
--- a row that does not stand above the one before: the rows do not rise
+-- if a row is not above the one before, the rows are not in ascending order
 pub not_above : (rows : List Row) (i : ℕ) (d e : Row) → 0 < i → i < length rows → (get_or rows i d).address ≤ (get_or rows (i - 1) e).address → Rise rows → ⊥
 not_above rows i d e from within le rise =
     let same = same_at rows (i - 1) e d (omega arith) in

@@ -1,4 +1,5 @@
--- How many rows stand below an address; so how many of the addresses from one to another are taken.
+-- How many rows are below an address, and so how many of the addresses from one to another are
+-- taken.
 use Rattle.std.proofs.Common.{◌≡◌, ℕ, ◌+◌, ◌<◌, ◌≤◌, Bool, true, false, ◌||◌, List, [], ◌∷◌, length, zero, suc, refl, sym, ap, ◌∙◌, subst, is_some, if◌then◌else◌, nat_lt, arith, ⊎_elim}
 use Rattle.std.proofs.lemmas.Bool.{cases_eq, cases_lt}
 use Rattle.std.proofs.lemmas.Bool.Decides.{nat_tests}
@@ -10,7 +11,7 @@ use Rattle.kd_rows.specs.Withheld.{is_taken, is_withheld}
 use Rattle.kd_rows.proofs.Listed.{row_listed}
 use Rattle.kd_rows.proofs.Places.{none_below}
 
--- how many rows stand below an address, before the first that does not
+-- how many rows are below an address, before the first that is not
 abbrev pub rank : List Row → ℕ → ℕ
 rank [] a = 0
 rank (row ∷ rows) a = if nat_lt row.address a then rank rows a + 1 else 0
@@ -36,7 +37,7 @@ rank_none : (n : ℕ) (rows : List Row) (a : ℕ) → RiseFrom n rows → a ≤ 
 rank_none n [] a rise le = refl
 rank_none n (r ∷ rows) a rise le = let h = rise.0 in grind (arith, nat_tests)
 
--- one address more
+-- one more address
 rank_step : (n : ℕ) (rows : List Row) (a : ℕ) → RiseFrom n rows → rank rows (a + 1) ≡ rank rows a + one_if (is_some (row_at rows a))
 rank_step n [] a rise = refl
 rank_step n (r ∷ rows) a rise =
@@ -48,7 +49,7 @@ rank_step n (r ∷ rows) a rise =
     (λ l. ⊎_elim (λ e. grind (arith, nat_tests)) (λ ne. grind (arith, nat_tests)) (cases_eq r.address a))
     (cases_lt r.address a)
 
--- how many of the addresses from one on are rows: at most as many as there are
+-- how many of the addresses from one on are rows: at most as many as there are addresses
 pub rank_grows : (rows : List Row) → Rise rows → (first n m : ℕ) → m ≡ first + n → (rank rows first ≤ rank rows m) × (rank rows m ≤ rank rows first + n)
 rank_grows rows rise first zero m e = let h : m ≡ first = omega arith in subst (λ (k : ℕ). (rank rows first ≤ rank rows k) × (rank rows k ≤ rank rows first + 0)) (sym h) (omega arith, omega arith)
 rank_grows rows rise first (suc n) m e =
@@ -62,7 +63,7 @@ rank_grows rows rise first (suc n) m e =
 abbrev pub taken_below : List Row → List ℕ → ℕ → ℕ
 taken_below rows bare a = rank rows a + rank (address_rows bare) a
 
--- one address more: it is taken by one of them, or not
+-- one more address: it is taken by one of them, or not
 taken_step : (rows : List Row) (bare : List ℕ) (a : ℕ) → Rise rows → Rise (address_rows bare) → AreApart rows bare → taken_below rows bare (a + 1) ≡ taken_below rows bare a + one_if (is_taken rows bare a)
 taken_step rows bare a rise listed apart = by (is_some (row_at rows a)) (is_withheld bare a) (apart a) (rank_step 0 rows a rise) (rank_step 0 (address_rows bare) a listed ∙ ap (λ (b : Bool). rank (address_rows bare) a + one_if b) (row_listed bare a)) where
   by : (b t : Bool) → (t ≡ true → b ≡ false) → rank rows (a + 1) ≡ rank rows a + one_if b → rank (address_rows bare) (a + 1) ≡ rank (address_rows bare) a + one_if t → taken_below rows bare (a + 1) ≡ taken_below rows bare a + one_if (b || t)
@@ -85,7 +86,7 @@ taken_grows rows bare first (suc n) m k e =
     let one = at_most_one (is_taken rows bare (first + n)) in
     subst (λ (x : ℕ). taken_below rows bare x ≤ taken_below rows bare first + suc n) same (omega (arith, h, step, one))
 
--- so many addresses are taken as there are: each is
+-- if as many addresses are taken as there are, each is
 pub each_taken : (rows : List Row) (bare : List ℕ) (first n m : ℕ) → Apart rows bare → m ≡ first + n → taken_below rows bare m ≡ taken_below rows bare first + n → (a : ℕ) → first ≤ a → a < m → is_taken rows bare a ≡ true
 each_taken rows bare first zero m k e full a from before = absurd (omega arith)
 each_taken rows bare first (suc n) m k e full a from before =
@@ -103,7 +104,7 @@ each_taken rows bare first (suc n) m k e full a from before =
           (cases_lt a (first + n))
       by false last step rest = absurd (omega (arith, whole, step, taken_grows rows bare first n (first + n) k refl))
 
--- each is taken: so many are as there are
+-- if each is taken, as many are taken as there are
 pub all_taken : (rows : List Row) (bare : List ℕ) (first n m : ℕ) → Apart rows bare → m ≡ first + n → ((a : ℕ) → first ≤ a → a < m → is_taken rows bare a ≡ true) → taken_below rows bare m ≡ taken_below rows bare first + n
 all_taken rows bare first zero m k e each = let h : m ≡ first = omega arith in ap (taken_below rows bare) h ∙ (omega arith)
 all_taken rows bare first (suc n) m k e each =

@@ -27,7 +27,7 @@ inserted_at row (r ∷ rows) (suc place) within below above none =
     let h = inserted_at row rows place (omega arith) (λ i d before. below (suc i) d (omega arith)) (λ i d after inside. above (suc i) d (omega arith) (omega arith)) n in
     grind (arith, nat_tests)
 
--- a row that has no row yet at its address is put in at its place
+-- a row whose address has no row is inserted at its index
 pub inserted : (row : Row) (rows : List Row) (place : ℕ) → IsPlace rows row.address place → row_at rows row.address ≡ None → with_row row rows ≡ insert rows place row
 inserted row rows place p none = inserted_at row rows place p.in_range p.below p.above none
 
@@ -41,7 +41,7 @@ replaced_at row (r ∷ rows) (suc place) within below here =
     let h = replaced_at row rows place (omega arith) (λ i d before. below (suc i) d (omega arith)) here in
     grind (arith, nat_tests)
 
--- a row takes the place of the one at its address
+-- a row replaces the one at its address
 pub replaced : (row : Row) (rows : List Row) (place : ℕ) → IsRowPlace rows row.address place → with_row row rows ≡ set rows place row
 replaced row rows place at = replaced_at row rows place at.in_range at.below at.here
 
@@ -86,7 +86,7 @@ each-with_row P row (r ∷ rows) this others = by (nat_lt row.address r.address)
   by false true rest = (this, others.1)
   by false false rest = (others.0, rest)
 
--- what is true of each row and of one that is set is true of each row after
+-- what is true of each row and of one that is set is true of each row afterwards
 pub all-with_row : (P : Row → Type 0) (row : Row) (rows : List Row) → P row → All P rows → All P (with_row row rows)
 all-with_row P row rows this others = all P (with_row row rows) (each-with_row P row rows this (each P rows others))
 
@@ -98,7 +98,7 @@ latest_early (row ∷ rows) ranged =
     let g : row.changed < 2 ^ 40 = (ranged 0 row (omega arith)).set_at in
     omega arith
 
--- a row that is there changes nothing
+-- setting a row that is already there changes nothing
 pub unchanged_from : (row : Row) (n : ℕ) (rows : List Row) → RiseFrom n rows → row_at rows row.address ≡ Some row → with_row row rows ≡ rows
 unchanged_from row n [] rise there = cc
 unchanged_from row n (r ∷ rows) rise there = by (r.address == row.address) refl there (unchanged_from row (r.address + 1) rows rise.1) (none_below (r.address + 1) rows row.address rise.1) where
@@ -119,7 +119,7 @@ unchanged_from row n (r ∷ rows) rise there = by (r.address == row.address) ref
 read_back : (row : Row) (rows : List Row) → with_row row rows ≡ rows → row_at rows row.address ≡ Some row
 read_back row rows e = sym (ap (λ (xs : List Row). row_at xs row.address) e) ∙ row_at-with_row row rows row.address ∙ rw (eq-eqb row.address row.address refl) refl
 
--- setting a row changes nothing exactly where it is there
+-- setting a row changes nothing exactly when it is already there
 pub unchanged_if : (row r : Row) (rows : List Row) (same : Bool) → Rise rows → row_at rows row.address ≡ Some r → (IsTrue same ↔ (r ≡ row)) → IsTrue same ↔ (with_row row rows ≡ rows)
 unchanged_if row r rows same rise found is =
     (λ h. unchanged_from row 0 rows rise (found ∙ ap Some (is.0 h)), λ e. is.1 (same_Some r row (sym found ∙ read_back row rows e)))

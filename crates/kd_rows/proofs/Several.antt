@@ -8,6 +8,6 @@ pub with_rows_append : (rows more table : List Row) → with_rows (rows ++ more)
 with_rows_append [] more table = refl
 with_rows_append (row ∷ rows) more table = with_rows_append rows more (with_row row table)
 
--- one row set more
+-- one more row set
 pub with_rows_push : (rows : List Row) (row : Row) (table : List Row) → with_rows (rows ++ row ∷ []) table ≡ with_row row (with_rows rows table)
 with_rows_push rows row table = with_rows_append rows (row ∷ []) table

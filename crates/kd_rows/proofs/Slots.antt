@@ -14,7 +14,7 @@ use Rattle.kd_rows.proofs.Keys.{Stands, listed_at}
 use Rattle.kd_rows.proofs.Places.{apart, from_on, is_at}
 use Rattle.kd_rows.proofs.Sets.{all-with_row, inserted, replaced, rise-with_row}
 
--- the row of a slot, whatever stands in for one outside
+-- the row of a slot, whatever the default is
 pub slot_at : (slots : List Row) (n : ℕ) (d : Row) → n < length slots → row_in slots n ≡ get_or slots n d
 slot_at slots n d within = get_or_default slots n (row_in [] 0) d within
 
@@ -22,7 +22,7 @@ slot_at slots n d within = get_or_default slots n (row_in [] 0) d within
 pub row_of_place : (slots : List Row) (numbers : List ℕ) (place : ℕ) (d : Row) → place < length numbers → get_or (rows_in slots numbers) place d ≡ row_in slots (get_or numbers place 0)
 row_of_place slots numbers place d within = get_or-map (row_in slots) numbers place 0 d within
 
--- another slot is read where a row is overwritten elsewhere
+-- another slot is read the same after a row is overwritten elsewhere
 overwritten : (slots : List Row) (n m : ℕ) (row : Row) → (m ≡ n → ⊥) → row_in (set slots n row) m ≡ row_in slots m
 overwritten slots n m row other = get_or-set_other slots n m row (row_in [] 0) other
 
@@ -38,7 +38,7 @@ set_in slots numbers place row sorted within = same_lists _ _ lengths at where
   lengths : length (rows_in after numbers) ≡ length (set (rows_in slots numbers) place row)
   lengths = length-map numbers (row_in after) ∙ sym (length-set (rows_in slots numbers) place row ∙ length-map numbers (row_in slots))
 
-  -- two places of one number have one row, and so one address
+  -- two indexes with one number have one row, and so one address
   one : (k : ℕ) → k < length numbers → get_or numbers k 0 ≡ n → k ≡ place
   one k inside e = ⊎_elim (λ h. h) (λ h. absurd (twice h)) (cases_eq k place) where
     same : (get_or (rows_in slots numbers) k row).address ≡ (get_or (rows_in slots numbers) place row).address
@@ -65,7 +65,7 @@ set_in slots numbers place row sorted within = same_lists _ _ lengths at where
         row_of_place after numbers k d low ∙ overwritten slots n (get_or numbers k 0) row (λ e. other (one k low e)) ∙ sym (row_of_place slots numbers k d low)
         ∙ sym (get_or-set_other (rows_in slots numbers) place k row d other)
 
--- the same, of a place that is that of the row's address
+-- the same at the index of the row's address
 pub replaced_in : (slots : List Row) (numbers : List ℕ) (place : ℕ) (row : Row) → IsByAddress slots numbers → IsRowPlace (rows_in slots numbers) row.address place → rows_in (set slots (get_or numbers place 0) row) numbers ≡ with_row row (rows_in slots numbers)
 replaced_in slots numbers place row sorted at =
     set_in slots numbers place row sorted (omega (arith, at.in_range, length-map numbers (row_in slots))) ∙ sym (replaced row (rows_in slots numbers) place at)
@@ -97,26 +97,26 @@ replaced_now slots rows numbers place number row sorted are is at_place = subst
       low : row.address < 2 ^ 32
       low = subst (λ (a : ℕ). a < 2 ^ 32) (at.here row) (sorted.bounded place row at.in_range)
 
--- a function over a list with one more
+-- a function over a list with one more element
 pub map-insert : {X Y : Type 0} (f : X → Y) (xs : List X) (place : ℕ) (x : X) → map f (insert xs place x) ≡ insert (map f xs) place (f x)
 map-insert f xs place x =
     map-append f (take place xs) (x ∷ drop place xs) ∙ ap (λ ys. ys ++ f x ∷ map f (drop place xs)) (sym (take-map f place xs))
     ∙ ap (λ ys. take place (map f xs) ++ f x ∷ ys) (sym (drop-map f place xs))
 
--- the rows of numbers stay where a slot comes after
+-- the rows with these numbers stay when a slot is added
 kept : (slots : List Row) (numbers : List ℕ) (row : Row) → All (λ n. n < length slots) numbers → rows_in (slots ++ row ∷ []) numbers ≡ rows_in slots numbers
 kept slots [] row within = refl
 kept slots (n ∷ numbers) row within =
     ap (λ (r : Row). r ∷ rows_in (slots ++ row ∷ []) numbers) (get_or_append_left slots (row ∷ []) (row_in [] 0) n (within 0 0 (omega arith)))
     ∙ ap (λ (rs : List Row). row_in slots n ∷ rs) (kept slots numbers row (λ k d inside. within (suc k) d (omega arith)))
 
--- a row in a new slot, with its number at a place, stands at that place
+-- a row in a new slot, with its number at an index, is at that index
 pub insert_in : (slots : List Row) (numbers : List ℕ) (place : ℕ) (row : Row) → IsByAddress slots numbers → rows_in (slots ++ row ∷ []) (insert numbers place (length slots)) ≡ insert (rows_in slots numbers) place row
 insert_in slots numbers place row sorted =
     map-insert (row_in (slots ++ row ∷ [])) numbers place (length slots) ∙ ap (λ (rs : List Row). insert rs place (row_in (slots ++ row ∷ []) (length slots))) (kept slots numbers row sorted.within)
     ∙ ap (insert (rows_in slots numbers) place) (get_or_at slots row [] (row_in [] 0) (length slots) refl)
 
--- the same, of the place of the row's address
+-- the same at the index of the row's address
 pub inserted_in : (slots : List Row) (numbers : List ℕ) (place : ℕ) (row : Row) → IsByAddress slots numbers → IsPlace (rows_in slots numbers) row.address place → row_at (rows_in slots numbers) row.address ≡ None → rows_in (slots ++ row ∷ []) (insert numbers place (length slots)) ≡ with_row row (rows_in slots numbers)
 inserted_in slots numbers place row sorted p none = insert_in slots numbers place row sorted ∙ sym (inserted row (rows_in slots numbers) place p none)
 
@@ -154,7 +154,7 @@ all_remove P (x ∷ xs) (suc place) others (suc k) d within = all_remove P xs pl
 one_more : (n m : ℕ) → ((n == m) || nat_lt m n) ≡ nat_lt m (n + 1)
 one_more n m = grind (arith, nat_tests)
 
--- the invariant after a row comes
+-- the invariant after a row is added
 pub inserted_sorted : (slots : List Row) (numbers : List ℕ) (place : ℕ) (row : Row) → row.address < 2 ^ 32 → IsByAddress slots numbers → IsPlace (rows_in slots numbers) row.address place → row_at (rows_in slots numbers) row.address ≡ None → IsByAddress (slots ++ row ∷ []) (insert numbers place (length slots))
 inserted_sorted slots numbers place row low sorted p none =
     let is = sym (inserted_in slots numbers place row sorted p none) in
@@ -167,7 +167,7 @@ inserted_sorted slots numbers place row low sorted p none =
       bounded = subst (All (λ (r : Row). r.address < 2 ^ 32)) is (all-with_row (λ (r : Row). r.address < 2 ^ 32) row (rows_in slots numbers) low sorted.bounded);
     }
 
--- the rows after one comes, by what was done
+-- the rows after one is added, by what was done
 pub inserted_now : (slots rows new_slots : List Row) (numbers new_numbers : List ℕ) (place number : ℕ) (row : Row) → row.address < 2 ^ 32 → IsByAddress slots numbers → rows_in slots numbers ≡ rows → IsPlace rows row.address place → row_at rows row.address ≡ None → number ≡ length slots → new_slots ≡ slots ++ row ∷ [] → new_numbers ≡ insert numbers place number
     → IsByAddress new_slots new_numbers × (rows_in new_slots new_numbers ≡ with_row row rows)
 inserted_now slots rows new_slots numbers new_numbers place number row low sorted are at_place absent is pushed put = subst
@@ -180,7 +180,7 @@ inserted_now slots rows new_slots numbers new_numbers place number row low sorte
       none : row_at (rows_in slots numbers) row.address ≡ None
       none = subst (λ (rs : List Row). row_at rs row.address ≡ None) (sym are) absent
 
--- the same, of slots whose contents are seen as rows
+-- the same for slots whose contents are seen as rows
 pub replaced_seen : {X : Type 0} (row_of : X → Row) (slots : List X) (rows : List Row) (numbers : List ℕ) (place number : ℕ) (x : X) → IsByAddress (map row_of slots) numbers → rows_in (map row_of slots) numbers ≡ rows → number ≡ get_or numbers place number → IsRowPlace rows (row_of x).address place
     → IsByAddress (map row_of (set slots number x)) numbers × (rows_in (map row_of (set slots number x)) numbers ≡ with_row (row_of x) rows)
 replaced_seen row_of slots rows numbers place number x sorted are is at = subst
@@ -192,7 +192,7 @@ pub inserted_seen : {X : Type 0} (row_of : X → Row) (slots new_slots : List X)
 inserted_seen row_of slots new_slots rows numbers new_numbers place number x low sorted are p none is pushed put =
     inserted_now (map row_of slots) rows (map row_of new_slots) numbers new_numbers place number (row_of x) low sorted are p none (is ∙ sym (length-map slots row_of)) (ap (map row_of) pushed ∙ map-append row_of slots (x ∷ [])) put
 
--- what a loop that numbers rows keeps
+-- what a loop that numbers rows maintains
 pub record AreFirst (rows : List Row) (count : ℕ) (numbers : List ℕ) : Type 0 where
   pub counted : length numbers ≡ count
   pub listed : (n : ℕ) → lists numbers n ≡ nat_lt n count
@@ -200,7 +200,7 @@ pub record AreFirst (rows : List Row) (count : ℕ) (numbers : List ℕ) : Type 
   pub same : rows_in rows numbers ≡ take count rows
   pub bounded : (k : ℕ) (d : Row) → k < count → (get_or rows k d).address < 2 ^ 32
 
--- one row more has its place as number
+-- one more row has its index as number
 pub first_more : (rows : List Row) (i : ℕ) (numbers : List ℕ) (row : Row) (number : ℕ) → AreFirst rows i numbers → i < length rows → row ≡ get_or rows i row → number ≡ i → row.address < 2 ^ 32 → AreFirst rows (i + 1) (numbers ++ number ∷ [])
 first_more rows i numbers row number first inside is at low = record {
   counted = length_push numbers number ∙ ap (λ (m : ℕ). m + 1) first.counted;
@@ -248,7 +248,7 @@ known slots numbers sorted n inside = (is_at (rows_in slots numbers) (row_in slo
   here : (d : Row) → (get_or (rows_in slots numbers) there.place d).address ≡ (row_in slots n).address
   here d = ap (λ (r : Row). r.address) (at d)
 
--- what is read at a place of an index
+-- what is read at an index of one of the indexes
 pub read_indexed : (slots : List Row) (by_address numbers : List ℕ) (i number : ℕ) (row : Row) → IsByAddress slots by_address → All (λ n. n < length slots) numbers → i < length numbers → number ≡ get_or numbers i number → row ≡ get_or slots number row → (row.address ≡ get_or (addresses_in slots numbers) i 0) × (row_at (rows_in slots by_address) row.address ≡ Some row)
 read_indexed slots by_address numbers i number row sorted within inside is read = (
   ap (λ (r : Row). r.address) here ∙ sym (get_or-map (λ n. (row_in slots n).address) numbers i 0 0 inside),
@@ -260,7 +260,7 @@ read_indexed slots by_address numbers i number row sorted within inside is read 
   here : row ≡ row_in slots (get_or numbers i 0)
   here = read ∙ sym (slot_at slots number row (subst (λ (n : ℕ). n < length slots) (sym at) (within i 0 inside))) ∙ ap (row_in slots) at
 
--- a row that is overwritten by one of its address leaves the addresses
+-- overwriting a row with one at the same address leaves the addresses
 pub same_addresses : (slots : List Row) (numbers : List ℕ) (n : ℕ) (row : Row) → n < length slots → row.address ≡ (row_in slots n).address → addresses_in (set slots n row) numbers ≡ addresses_in slots numbers
 same_addresses slots [] n row inside same = refl
 same_addresses slots (m ∷ numbers) n row inside same =
@@ -271,14 +271,14 @@ same_addresses slots (m ∷ numbers) n row inside same =
           (λ other. ap (λ (r : Row). r.address) (overwritten slots n m row other))
           (cases_eq m n)
 
--- the addresses of numbers stay where a slot comes after
+-- the addresses with these numbers stay when a slot is added
 kept_addresses : (slots : List Row) (numbers : List ℕ) (row : Row) → All (λ n. n < length slots) numbers → addresses_in (slots ++ row ∷ []) numbers ≡ addresses_in slots numbers
 kept_addresses slots [] row within = refl
 kept_addresses slots (n ∷ numbers) row within =
     ap (λ (r : Row). r.address ∷ addresses_in (slots ++ row ∷ []) numbers) (get_or_append_left slots (row ∷ []) (row_in [] 0) n (within 0 0 (omega arith)))
     ∙ ap (λ (xs : List ℕ). (row_in slots n).address ∷ xs) (kept_addresses slots numbers row (λ k d inside. within (suc k) d (omega arith)))
 
--- the index after a slot comes
+-- the index after a slot is added
 pub index_more : (slots new_slots : List Row) (numbers new_numbers : List ℕ) (key number : ℕ) (row : Row) → All (λ n. n < length slots) numbers → number ≡ length slots → new_slots ≡ slots ++ row ∷ [] → new_numbers ≡ insert numbers key number → addresses_in new_slots new_numbers ≡ insert (addresses_in slots numbers) key row.address
 index_more slots new_slots numbers new_numbers key number row within is pushed put =
     ap (addresses_in new_slots) (put ∙ ap (insert numbers key) is) ∙ ap (λ (rs : List Row). addresses_in rs (insert numbers key (length slots))) pushed
@@ -291,7 +291,7 @@ within_more slots new_slots numbers new_numbers key number row within is pushed 
     let n = ap length pushed ∙ length_push slots row in
     subst (All (λ m. m < length new_slots)) (sym put) (all_insert (λ m. m < length new_slots) numbers key number (omega (arith, n, is)) (λ k d inside. let h = within k d inside in omega (arith, h, n)))
 
--- a function over a list with one less
+-- a function over a list with one element less
 map-remove : {X Y : Type 0} (f : X → Y) (xs : List X) (place : ℕ) → map f (remove xs place) ≡ remove (map f xs) place
 map-remove f xs place =
     map-append f (take place xs) (drop (suc place) xs) ∙ ap (λ ys. ys ++ map f (drop (suc place) xs)) (sym (take-map f place xs)) ∙ ap (λ ys. take place (map f xs) ++ ys) (sym (drop-map f (suc place) xs))
@@ -313,7 +313,7 @@ within_moved slots numbers between new from to number within inside is taken put
 pub within_by_key : (of : Row → List ℕ) (slots : List Row) (numbers : List ℕ) → IsByKey of slots numbers → All (λ n. n < length slots) numbers
 within_by_key of slots numbers numbered k d inside = subst (λ (n : ℕ). n < length slots) (get_or_default numbers k 0 d inside) (numbered_within of slots numbers numbered k inside)
 
--- the row that is overwritten has the address of the one that comes
+-- the row that is overwritten has the address of the new one
 pub replaced_address : (slots rows : List Row) (by_address : List ℕ) (place number : ℕ) (row : Row) → IsByAddress slots by_address → rows_in slots by_address ≡ rows → number ≡ get_or by_address place number → IsRowPlace rows row.address place → (row_in slots number).address ≡ row.address
 replaced_address slots rows by_address place number row sorted are is at = sym
     (sym (at.here row) ∙ ap (λ (rs : List Row). (get_or rs place row).address) (sym are) ∙ ap (λ (r : Row). r.address) (row_of_place slots by_address place row inside ∙ ap (row_in slots) (sym this))) where
@@ -323,7 +323,7 @@ replaced_address slots rows by_address place number row sorted are is at = sym
       this : number ≡ get_or by_address place 0
       this = is ∙ get_or_default by_address place number 0 inside
 
--- the indexes stay where a row is overwritten
+-- the indexes stay when a row is overwritten
 pub replaced_index : (slots rows : List Row) (by_address numbers : List ℕ) (place number : ℕ) (row : Row) → IsByAddress slots by_address → rows_in slots by_address ≡ rows → number ≡ get_or by_address place number → IsRowPlace rows row.address place → addresses_in (set slots number row) numbers ≡ addresses_in slots numbers
 replaced_index slots rows by_address numbers place number row sorted are is at =
     same_addresses slots numbers number row (subst (λ (n : ℕ). n < length slots) (sym this) (sorted.within place 0 inside)) (sym (replaced_address slots rows by_address place number row sorted are is at)) where

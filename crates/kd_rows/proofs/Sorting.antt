@@ -1,4 +1,4 @@
--- The numbers of rows that rise in address, sorted by key and then by number.
+-- The numbers of rows in ascending order of address, sorted by key and then by number.
 use Rattle.std.proofs.Common.{◌≡◌, ℕ, ◌+◌, ◌-◌, ◌<◌, ◌^◌, Bor, Bool, true, false, ◌&&◌, ◌||◌, not, List, [], ◌∷◌, ◌++◌, length, get_or, map, zero, suc, refl, sym, ap, ◌∙◌, subst, ⊎_elim, arith, ◌==◌, nat_lt}
 use Rattle.std.specs.List.{All, IsDistinct, list_any, range_with_len}
 use Rattle.std.specs.Cmp.Lexicographic.{slice_cmp}
@@ -36,7 +36,7 @@ any_of number (x ∷ keys) n = by (number x == n) (any_of number keys n) where
   by true h = refl
   by false h = h
 
--- each key below the next: below all after
+-- if each key is below the next, it is below all after it
 rises_by_steps : (f : ℕ → List ℕ × ℕ) (xs : List ℕ) → ((k : ℕ) → k + 1 < length xs → IsKeyBelow (f (get_or xs k 0)) (f (get_or xs (k + 1) 0))) → Rises f xs
 rises_by_steps f xs steps i zero order within = absurd (omega arith)
 rises_by_steps f xs steps i (suc j) order within = ⊎_elim
@@ -49,14 +49,14 @@ rises_by_steps f xs steps i (suc j) order within = ⊎_elim
       last : IsKeyBelow (f (get_or xs j 0)) (f (get_or xs (suc j) 0))
       last = subst (λ (n : ℕ). IsKeyBelow (f (get_or xs j 0)) (f (get_or xs n 0))) next (steps j (omega arith))
 
--- a row is at one place alone
+-- a row is at only one index
 pub one : (slots : List Row) → Rise slots → (n m : ℕ) → n < length slots → m < length slots → (row_in slots n).address ≡ (row_in slots m).address → n ≡ m
 one slots rise n m left right same = ⊎_elim
     (λ l. absurd (omega (arith, apart slots rise n m (row_in [] 0) (omega arith) right)))
     (λ l. ⊎_elim (λ e. e) (λ ne. absurd (omega (arith, apart slots rise m n (row_in [] 0) l left))) (cases_eq n m))
     (cases_lt n m)
 
--- one key more
+-- one more key
 pub keys_more : {X : Type 0} (key : X → List ℕ × ℕ) (number : X → ℕ) (of : Row → List ℕ) (slots : List Row) (i : ℕ) (keys : List X) (x : X) → AreKeys key number of slots i keys → number x ≡ i → key x ≡ key_in of slots i → AreKeys key number of slots (i + 1) (keys ++ x ∷ [])
 keys_more key number of slots i keys x are is same_key = record {
   numbers = map-append number keys (x ∷ []) ∙ ap (λ (xs : List ℕ). xs ++ number x ∷ []) are.numbers ∙ ap (λ (n : ℕ). range_with_len 0 i ++ n ∷ []) is ∙ sym (range_more i);
@@ -140,12 +140,12 @@ sorted_numbers {X} key number of slots keys sorted rise are moved order = record
         let next : key (get_or sorted (k + 1) d) ≡ key_in of slots (get_or (map number sorted) (k + 1) 0) = keyed (k + 1) d n ∙ ap (key_in of slots) (sym (get_or-map number sorted (k + 1) d 0 n)) in
         subst (λ (l : List ℕ × ℕ). IsKeyBelow l (key_in of slots (get_or (map number sorted) (k + 1) 0))) this (subst (λ (l : List ℕ × ℕ). IsKeyBelow (key (get_or sorted k d)) l) next (step k d n))
 
--- what is read of a row is what it is ordered by in the order of age
+-- what is read of a row is what it is ordered by in the age order
 pub age_is : (cuts : List ℕ) (client : List ℕ) (group left : ℕ) (row : Row) → client ≡ row.client → group ≡ group_in cuts row → left ≡ 2 ^ 64 - 1 - row.changed → age_key client group left ≡ age_of cuts row
 age_is cuts client group left row theirs kind when =
     ap (λ (c : List ℕ). age_key c group left) theirs ∙ ap (λ (s : ℕ). age_key row.client s left) kind ∙ ap (age_key row.client (group_in cuts row)) when
 
--- keys that are sorted by client, by group and age, by address and by number are so by their keys
+-- keys sorted by client, by group and age, by address and by number are sorted as whole keys
 pub sorted_ages : (keys : List (Bor (List ℕ) × (ℕ × ℕ) × ℕ × ℕ)) → IsSortedBy (λ x y. is_lt (ordering_then (ordering_then (ordering_then (slice_cmp nat_cmp x.0.now y.0.now) (ordering_then (nat_cmp x.1.0 y.1.0) (nat_cmp x.1.1 y.1.1))) (nat_cmp x.2 y.2)) (nat_cmp x.3 y.3))) keys
     → IsSortedBy (λ x y. is_lt (whole_order (age_key x.0.now x.1.0 x.1.1, x.2) x.3 (age_key y.0.now y.1.0 y.1.1, y.2) y.3)) keys
 sorted_ages keys sorted = sorted_alike _ _ (λ x y. ap (λ (o : Ordering). is_lt (ordering_then (ordering_then o (nat_cmp x.2 y.2)) (nat_cmp x.3 y.3))) (age_order x.0.now y.0.now x.1.0 y.1.0 x.1.1 y.1.1)) keys sorted

@@ -1,4 +1,4 @@
--- Tiers: where a number stands in them, and what they are once one was put among them or taken.
+-- Tiers: where a number is in them, and what they are after one is inserted or removed.
 use Rattle.std.proofs.Common.{◌≡◌, ℕ, ◌+◌, ◌-◌, ◌*◌, ◌/◌, ◌%◌, ◌<◌, ◌≤◌, min, zero, suc, List, [], ◌∷◌, ◌++◌, length, get_or, set, take, drop, refl, sym, ap, ◌∙◌, subst, ⊎_elim, Option, None, Some, arith}
 use Rattle.std.specs.List.{All, flat_map, insert, remove}
 use Rattle.std.specs.Option.{option_to_list}
@@ -8,7 +8,7 @@ use Rattle.std.proofs.lemmas.List.Concat.{flat_map-append, get_or-flat_map}
 use Rattle.std.proofs.lemmas.List.Edits.{insert-append_left, insert-append_right, length-insert, length-remove, remove-append_left, remove-append_right}
 use Rattle.kd_rows.specs.Tiers.{AreTiers}
 
--- the lengths of tiers, each of which has as many of n numbers as it can
+-- the lengths of tiers, each as full as it can be with n numbers in all
 abbrev pub Full : {T : Type 0} → (T → List ℕ) → ℕ → List T → Type 0
 Full {T} f n ts = (i : ℕ) (d : T) → i < length ts → length (f (get_or ts i d)) ≡ min 4096 (n - 4096 * i)
 
@@ -16,7 +16,7 @@ Full {T} f n ts = (i : ℕ) (d : T) → i < length ts → length (f (get_or ts i
 full_rest : {T : Type 0} (f : T → List ℕ) (n : ℕ) (t : T) (ts : List T) → Full f n (t ∷ ts) → Full f (n - 4096) ts
 full_rest f n t ts full i d inside = let h = full (suc i) d (omega arith) in omega (arith, h)
 
--- all n numbers stand in the tiers
+-- all n numbers are in the tiers
 pub flat_length : {T : Type 0} (f : T → List ℕ) (n : ℕ) (ts : List T) → Full f n ts → n ≤ 4096 * length ts → length (flat_map f ts) ≡ n
 flat_length f n [] full most = omega (arith, most)
 flat_length f n (t ∷ ts) full most =
@@ -25,7 +25,7 @@ flat_length f n (t ∷ ts) full most =
     let both = length-append (f t) (flat_map f ts) in
     omega (arith, first, rest, both)
 
--- there are no more than the tiers have room for
+-- there are no more numbers than the tiers have room for
 pub flat_most : {T : Type 0} (f : T → List ℕ) (n : ℕ) (ts : List T) → Full f n ts → length (flat_map f ts) ≤ 4096 * length ts
 flat_most f n [] full = omega arith
 flat_most f n (t ∷ ts) full =
@@ -44,7 +44,7 @@ before f n (t ∷ ts) (suc i) full inside reached =
     let both = length-append (f t) (flat_map f (take i ts)) in
     omega (arith, first, rest, both)
 
--- the number at a place
+-- the number at an index
 pub at_place : {T : Type 0} (f : T → List ℕ) (ts : List T) (place : ℕ) (e : T) (d : ℕ) → Full f (length (flat_map f ts)) ts → place < length (flat_map f ts) → get_or (flat_map f ts) place d ≡ get_or (f (get_or ts (place / 4096) e)) (place % 4096) d
 at_place f ts place e d full within =
     let most = flat_most f (length (flat_map f ts)) ts full in
@@ -54,13 +54,13 @@ at_place f ts place e d full within =
     let is : place ≡ length (flat_map f (take (place / 4096) ts)) + place % 4096 = omega (arith, first) in
     ap (λ (i : ℕ). get_or (flat_map f ts) i d) is ∙ get_or-flat_map f ts (place / 4096) (place % 4096) e d inside (omega (arith, long, within))
 
--- the numbers before a tier, of it, and after it
+-- the numbers before a tier, in it, and after it
 pub split : {T : Type 0} (f : T → List ℕ) (ts : List T) (i : ℕ) (d : T) → i < length ts → flat_map f ts ≡ flat_map f (take i ts) ++ (f (get_or ts i d) ++ flat_map f (drop (i + 1) ts))
 split f ts i d inside =
     ap (flat_map f) (sym (take-append-drop i ts)) ∙ flat_map-append f (take i ts) (drop i ts)
     ∙ ap (λ (ys : List _). flat_map f (take i ts) ++ flat_map f ys) (drop_more ts i d inside)
 
--- a tier is exchanged: what stands before it with it, and after it
+-- a tier is exchanged: the numbers up to and including it, and those after it
 pub exchanged : {T : Type 0} (f : T → List ℕ) (ts : List T) (i : ℕ) (t : T) (all new over : List ℕ) → i < length ts → new ≡ f t ++ over → all ≡ flat_map f (take i ts) ++ (new ++ flat_map f (drop (i + 1) ts)) → all ≡ flat_map f (take (i + 1) (set ts i t)) ++ (over ++ flat_map f (drop (i + 1) (set ts i t)))
 exchanged {T} f ts i t all new over inside is same =
     same ∙ ap (λ (ys : List ℕ). a ++ (ys ++ b)) is ∙ ap (λ (ys : List ℕ). a ++ ys) (append_assoc (f t) over b)
@@ -78,7 +78,7 @@ exchanged {T} f ts i t all new over inside is same =
           ap (flat_map f) (take_more_set ts i t inside) ∙ flat_map-append f (take i ts) (t ∷ [])
           ∙ ap (λ (ys : List ℕ). a ++ ys) (append-nil (f t))
 
--- a number is put into the tier of its place
+-- a number is inserted in the tier of its index
 pub begun : {T : Type 0} (f : T → List ℕ) (ts : List T) (place number : ℕ) (d : T) → Full f (length (flat_map f ts)) ts → place ≤ length (flat_map f ts) → place / 4096 < length ts → insert (flat_map f ts) place number ≡ flat_map f (take (place / 4096) ts) ++ (insert (f (get_or ts (place / 4096) d)) (place % 4096) number ++ flat_map f (drop (place / 4096 + 1) ts))
 begun f ts place number d full most inside =
     ap (λ (ys : List ℕ). insert ys place number) (split f ts (place / 4096) d inside)
@@ -97,7 +97,8 @@ begun f ts place number d full most inside =
       first : length (flat_map f (take (place / 4096) ts)) ≡ 4096 * (place / 4096)
       first = before f (length (flat_map f ts)) ts (place / 4096) full (omega (arith, inside)) (omega (arith, most))
 
--- the lengths of tiers once one is exchanged, where those before it have as many of m numbers as they can
+-- the lengths of tiers after one is exchanged, if those before it are as full as they can be with m
+-- numbers
 pub full_before : {T : Type 0} (f : T → List ℕ) (m : ℕ) (ts : List T) (i : ℕ) (t : T) → i < length ts → length (f t) ≡ min 4096 (m - 4096 * i) → ((j : ℕ) (d : T) → j < i → length (f (get_or ts j d)) ≡ min 4096 (m - 4096 * j)) → (j : ℕ) (d : T) → j < i + 1 → length (f (get_or (set ts i t) j d)) ≡ min 4096 (m - 4096 * j)
 full_before f m ts i t inside long below j d under = ⊎_elim
     (λ e. ap (λ (k : ℕ). length (f (get_or (set ts i t) k d))) e ∙ ap (λ (x : _). length (f x)) (get_or-set_same ts i t d inside) ∙ long ∙ ap (λ (k : ℕ). min 4096 (m - 4096 * k)) (sym e))
@@ -110,7 +111,7 @@ full_after f n ts i t above j d over inside =
     let long = length-set ts i t in
     ap (λ (x : _). length (f x)) (get_or-set_other ts i j t d (omega (arith, over))) ∙ above j d (omega (arith, over)) (omega (arith, inside, long))
 
--- room stays where a tier is exchanged for one with room
+-- room stays if a tier is exchanged for one with room
 pub roomy_set : {T : Type 0} (capacity : T → ℕ) (ts : List T) (i : ℕ) (t : T) → 4096 ≤ capacity t → All (λ t. 4096 ≤ capacity t) ts → All (λ t. 4096 ≤ capacity t) (set ts i t)
 roomy_set capacity ts i t room roomy k d inside =
     let long = length-set ts i t in
@@ -119,7 +120,7 @@ roomy_set capacity ts i t room roomy k d inside =
     (λ other. subst (λ (x : _). 4096 ≤ capacity x) (sym (get_or-set_other ts i k t d other)) (roomy k d (omega (arith, inside, long))))
     (cases_eq k i)
 
--- a number is put among others: the tiers up to one have it, and what came out of that one goes on
+-- a number is inserted: the tiers up to one contain it, and what came out of that one goes on
 pub record IsCarried {T : Type 0} (f : T → List ℕ) (capacity : T → ℕ) (old now : List T) (place number i : ℕ) (over : List ℕ) : Type 0 where
   pub inside : i < length now
   pub count : length now ≡ length old
@@ -131,14 +132,14 @@ pub record IsCarried {T : Type 0} (f : T → List ℕ) (capacity : T → ℕ) (o
   pub none : length over ≡ 0 → length (flat_map f old) < 4096 * (i + 1)
   pub roomy : All (λ t. 4096 ≤ capacity t) now
 
--- a tier has as many as it can once one came into it, and what it had no room for came out
+-- a tier is as full as it can be after a number came in, and what it had no room for came out
 grown : {T : Type 0} (f : T → List ℕ) (n i : ℕ) (d t : T) (over : List ℕ) → length (f d) ≡ min 4096 (n - 4096 * i) → 4096 * i ≤ n → length (f t) + length over ≡ length (f d) + 1 → length (f t) ≤ 4096 → (0 < length over → length (f t) ≡ 4096) → length over ≤ 1 → length (f t) ≡ min 4096 (n + 1 - 4096 * i)
 grown f n i d t over was reached long low full one = ⊎_elim
     (λ none. omega (arith, was, none, long, low, reached))
     (λ some. let all = full (omega (arith, some)) in omega (arith, was, all, long, one, some, reached))
     (cases_eq (length over) 0)
 
--- it comes into its tier
+-- the number comes into its tier
 pub carried_first : {T : Type 0} (f : T → List ℕ) (capacity : T → ℕ) (old : List T) (place number : ℕ) (d t : T) (over : List ℕ) → AreTiers f capacity old → place ≤ length (flat_map f old) → length (flat_map f old) < 4096 * length old → d ≡ get_or old (place / 4096) d → insert (f d) (place % 4096) number ≡ f t ++ over → length (f t) + length over ≡ length (f d) + 1 → length (f t) ≤ 4096 → (0 < length over → length (f t) ≡ 4096) → length over ≤ 1 → 4096 ≤ capacity t → IsCarried f capacity old (set old (place / 4096) t) place number (place / 4096) over
 carried_first f capacity old place number d t over are most room read is long low full one roomy =
     let n = length-set old (place / 4096) t in
@@ -174,7 +175,7 @@ carried_more {T} f capacity old now place number i last d t over it inside read 
       roomy = roomy_set capacity now (i + 1) t roomy it.roomy;
     }
 
--- nothing came out of a tier: the number stands among the others
+-- nothing came out of a tier: the number is among the others
 pub carried_all : {T : Type 0} (f : T → List ℕ) (capacity : T → ℕ) (old now : List T) (place number i : ℕ) → place ≤ length (flat_map f old) → IsCarried f capacity old now place number i [] → AreTiers f capacity now × (flat_map f now ≡ insert (flat_map f old) place number)
 carried_all f capacity old now place number i most it = (record { full = full; roomy = it.roomy }, is) where
   is : flat_map f now ≡ insert (flat_map f old) place number
@@ -189,19 +190,20 @@ carried_all f capacity old now place number i most it = (record { full = full; r
       (λ high. let h = it.above j d (omega (arith, high)) inside in let none = it.none refl in omega (arith, h, count, none, high))
       (cases_lt j (i + 1))
 
--- an option has one at most
+-- an option has at most one element
 pub at_most_one : (o : Option ℕ) → length (option_to_list o) ≤ 1
 at_most_one None = omega arith
 at_most_one (Some x) = omega arith
 
--- what is read at a place
+-- what is read at an index
 pub read_at : {T : Type 0} (f : T → List ℕ) (ts : List T) (numbers : List ℕ) (place : ℕ) (t : T) (number : ℕ) → Full f (length (flat_map f ts)) ts → flat_map f ts ≡ numbers → place < length numbers → t ≡ get_or ts (place / 4096) t → number ≡ get_or (f t) (place % 4096) number → number ≡ get_or numbers place number
 read_at f ts numbers place t number full are within tier read =
     let inside : place < length (flat_map f ts) = subst (λ (ns : List ℕ). place < length ns) (sym are) within in
     read ∙ ap (λ (x : _). get_or (f x) (place % 4096) number) tier ∙ sym (at_place f ts place t number full inside)
     ∙ ap (λ (ns : List ℕ). get_or ns place number) are
 
--- a number is taken: the tiers before one have as many as they can but for the last of them, which lacks one
+-- a number is removed: the tiers before one are as full as they can be, except that the last of
+-- them lacks one
 pub record IsDrawn {T : Type 0} (f : T → List ℕ) (capacity : T → ℕ) (old now : List T) (place i : ℕ) : Type 0 where
   pub count : length now ≡ length old
   pub same : flat_map f now ≡ remove (flat_map f old) place
@@ -211,13 +213,13 @@ pub record IsDrawn {T : Type 0} (f : T → List ℕ) (capacity : T → ℕ) (old
   pub roomy : All (λ t. 4096 ≤ capacity t) now
   pub inside : i ≤ length now
 
--- all numbers where a tier is exchanged
+-- all numbers after a tier is exchanged
 pub flat_set : {T : Type 0} (f : T → List ℕ) (ts : List T) (i : ℕ) (t : T) → i < length ts → flat_map f (set ts i t) ≡ flat_map f (take i ts) ++ (f t ++ flat_map f (drop (i + 1) ts))
 flat_set f ts i t inside =
     ap (flat_map f) (set_split ts i t inside) ∙ flat_map-append f (take i ts) (t ∷ drop (suc i) ts)
     ∙ ap (λ (k : ℕ). flat_map f (take i ts) ++ (f t ++ flat_map f (drop k ts))) {x = suc i} {y = i + 1} (omega arith)
 
--- it is taken from its tier
+-- the number is removed from its tier
 pub drawn_first : {T : Type 0} (f : T → List ℕ) (capacity : T → ℕ) (old : List T) (place : ℕ) (d t : T) → AreTiers f capacity old → place < length (flat_map f old) → d ≡ get_or old (place / 4096) d → f t ≡ remove (f d) (place % 4096) → capacity t ≡ capacity d → IsDrawn f capacity old (set old (place / 4096) t) place (place / 4096 + 1)
 drawn_first {T} f capacity old place d t are within read is room =
     record {
@@ -324,7 +326,8 @@ drawn_more {T} f capacity old now place i first d e t s it inside read is room r
           ∙ ap (λ (x : T). flat_map f (take i now) ++ (f x ++ flat_map f (drop (i + 1) now))) low_is
           ∙ sym (split f now i e (omega (arith, inside)))
 
--- there are no tiers left, or an empty one: the numbers stand without the one that was taken
+-- there are no tiers left, or an empty one: the numbers are the old ones without the one that was
+-- removed
 pub drawn_all : {T : Type 0} (f : T → List ℕ) (capacity : T → ℕ) (old now : List T) (place i : ℕ) → place < length (flat_map f old) → IsDrawn f capacity old now place i → length (flat_map f old) ≤ 4096 * i → AreTiers f capacity now
 drawn_all {T} f capacity old now place i within it done = record { full = full; roomy = it.roomy } where
   count : length (flat_map f now) + 1 ≡ length (flat_map f old)
@@ -339,14 +342,14 @@ drawn_all {T} f capacity old now place i within it done = record { full = full; 
       (cases_eq (j + 1) i))
       (cases_lt (j + 1) i)
 
--- a number of its tier is at its place
+-- a number in its tier is at its index
 pub within_tier : {T : Type 0} (f : T → List ℕ) (ts : List T) (place : ℕ) (d : T) → Full f (length (flat_map f ts)) ts → place < length (flat_map f ts) → d ≡ get_or ts (place / 4096) d → place % 4096 < length (f d)
 within_tier f ts place d full within read =
     let most = flat_most f (length (flat_map f ts)) ts full in
     let long = ap (λ (x : _). length (f x)) read ∙ full (place / 4096) d (omega (arith, most, within)) in
     omega (arith, long, within)
 
--- the same, by the number of the tier that gives its first number
+-- the same, by the index of the tier that gives its first number
 pub drawn_next : {T : Type 0} (f : T → List ℕ) (capacity : T → ℕ) (old now : List T) (place i first : ℕ) (d e t s : T) → 0 < i → IsDrawn f capacity old now place i → i < length now → d ≡ get_or now i d → f d ≡ first ∷ f t → capacity t ≡ capacity d → e ≡ get_or (set now i t) (i - 1) e → f s ≡ f e ++ first ∷ [] → capacity s ≡ capacity e → IsDrawn f capacity old (set (set now i t) (i - 1) s) place (i + 1)
 drawn_next f capacity old now place i first d e t s some it inside read is room read_low low room_low = subst
     (λ (k : ℕ). IsDrawn f capacity old now place k → k < length now → d ≡ get_or now k d → e ≡ get_or (set now k t) (i - 1) e → IsDrawn f capacity old (set (set now k t) (i - 1) s) place (k + 1))

@@ -1,4 +1,5 @@
--- The first row that has ended: the rows of a block are looked at one after another, and blocks passed over.
+-- The first row that has ended: the rows of a block are looked at one after another, or the block
+-- is skipped.
 use Rattle.std.proofs.Common.{◌≡◌, ℕ, ◌+◌, ◌*◌, ◌<◌, ◌≤◌, max, min, List, false, length, get_or, Some, None, IsSome, Option, refl, sym, ap, ◌∙◌, subst, arith, ⊎_elim, ◌⊎◌, inl, inr}
 use Rattle.std.specs.List.{All}
 use Rattle.std.proofs.lemmas.Bool.{cases_eq, cases_lt}
@@ -12,19 +13,19 @@ use Rattle.kd_rows.proofs.Bounds.{row_all}
 use Rattle.kd_rows.proofs.Opens.{open_at, open_is}
 use Rattle.kd_rows.proofs.Places.{apart, is_at, none_at, read_at}
 
--- an address stands below the rows from a place on
+-- an address is below the rows from an index on
 abbrev pub IsBelowFrom : List Row → ℕ → ℕ → Type 0
 IsBelowFrom rows a place = (i : ℕ) (d : Row) → place ≤ i → i < length rows → a < (get_or rows i d).address
 
--- none of the open rows from an address on and before a place has ended
+-- none of the open rows from an address on and before an index has ended
 abbrev pub NoneEnded : List ℕ → List Row → ℕ → ℕ → ℕ → Type 0
 NoneEnded withheld rows first moment place = (a : ℕ) (row : Row) → first ≤ a → IsBelowFrom rows a place → row_at (open_rows withheld rows) a ≡ Some row → moment < row.ends
 
--- the row at a place stands where its address is
+-- the row at an index is found at its address
 pub found_here : (rows : List Row) (place : ℕ) (row : Row) → Rise rows → place < length rows → row ≡ get_or rows place row → row_at rows row.address ≡ Some row
 found_here rows place row rise within is = (is_at rows row.address place rise within (λ d. read_at rows place row d within is)).found row ∙ ap Some (sym is)
 
--- an address that stands neither before a place nor from it on has no row
+-- an address that is neither before an index nor from it on has no row
 pub nowhere : (rows : List Row) (a place : ℕ) → ((i : ℕ) (d : Row) → i < place → i < length rows → (get_or rows i d).address < a) → IsBelowFrom rows a place → row_at rows a ≡ None
 nowhere rows a place below above = none_at rows a (λ i d within e. ⊎_elim (λ l. let h = below i d l within in omega arith) (λ l. let h = above i d l within in omega arith) (cases_lt i place))
 
@@ -34,14 +35,14 @@ none_first withheld rows first moment place p a row from above found =
     let there = (open_is withheld rows a row found).1 in
     cc
 
--- an address below that of the row at a place stands below the rows from there on
+-- an address below that of the row at an index is below the rows from there on
 pub below_here : (rows : List Row) (place a : ℕ) (row : Row) → Rise rows → place < length rows → row ≡ get_or rows place row → a < row.address → IsBelowFrom rows a place
 below_here rows place a row rise within is less i d after inside =
     let h = apart rows rise place i d after inside in
     let g = read_at rows place row d within is in
     omega arith
 
--- an address that stands below the rows after a place stands below that place, there, or at no row
+-- an address below the rows after an index is below the row at that index, at it, or at no row
 pub around : (rows : List Row) (place a : ℕ) (row : Row) → Rise rows → place < length rows → row ≡ get_or rows place row → IsBelowFrom rows a (place + 1) → IsBelowFrom rows a place ⊎ ((a ≡ row.address) ⊎ (row_at rows a ≡ None))
 around rows place a row rise within is above = ⊎_elim
     (λ l. inl (below_here rows place a row rise within is l))
@@ -53,7 +54,7 @@ around rows place a row rise within is above = ⊎_elim
           let g = read_at rows place row d within is in
           omega arith
 
--- one row more that has not ended, or is withheld
+-- one more row that has not ended or is withheld
 pub none_step : (withheld : List ℕ) (rows : List Row) (first moment place : ℕ) (row : Row) → Rise rows → place < length rows → row ≡ get_or rows place row → (is_withheld withheld row.address ≡ false → moment < row.ends) → NoneEnded withheld rows first moment place
     → NoneEnded withheld rows first moment (place + 1)
 none_step withheld rows first moment place row rise within is live h a other from above found = by (around rows place a row rise within is above) (open_is withheld rows a other found) where
@@ -81,13 +82,13 @@ none_past withheld rows first last moment place row rise within is past h a othe
 pub none_over : (withheld : List ℕ) (rows : List Row) (first last moment place : ℕ) → length rows ≤ place → NoneEnded withheld rows first moment place → IsNextEnded (open_rows withheld rows) first last moment None
 none_over withheld rows first last moment place all h a other low high found = h a other low (λ i d after inside. absurd (omega arith)) found
 
--- none ends before the moment that all of them end at or after
+-- none ends before the time at or after which all of them end
 pub none_early : (rows : List Row) (first last moment least : ℕ) → All (λ row. least ≤ row.ends) rows → moment < least → IsNextEnded rows first last moment None
 none_early rows first last moment least all early a row from to found =
     let h : least ≤ row.ends = (row_all (λ (r : Row). least ≤ r.ends) rows a row all found).0 in
     omega arith
 
--- none of the rows from an address to another whose blocks stand before a place has ended
+-- none of the rows from an address to another whose blocks are before an index has ended
 abbrev pub NoneOf : List Row → List Row → ℕ → ℕ → ℕ → ℕ → Type 0
 NoneOf rows bounds first last moment place = (a : ℕ) (row : Row) → first ≤ a → a ≤ last → IsBelowFrom bounds (block_number a) place → row_at rows a ≡ Some row → moment < row.ends
 
@@ -109,7 +110,7 @@ blocks_first rows bounds first last moment place b p a row from to above found =
       nothing : None ≡ Some (has_bound rows bounds a row b found).0 → ⊥
       nothing e = cc
 
--- what is left of the search where a block's rows have not ended, from the first address to the last
+-- the rest of the search if a block's rows have not ended, from the first address to the last
 pub blocks_step : (rows bounds : List Row) (first last moment place : ℕ) (bound : Row) → IsBounded rows bounds → place < length bounds → bound ≡ get_or bounds place bound
     → ((a : ℕ) (row : Row) → first ≤ a → a ≤ last → block_number a ≡ bound.address → row_at rows a ≡ Some row → moment < row.ends) → NoneOf rows bounds first last moment place → NoneOf rows bounds first last moment (place + 1)
 blocks_step rows bounds first last moment place bound b within is here h a row from to above found = by (around bounds place (block_number a) bound b.rise within is above) where
@@ -124,7 +125,7 @@ blocks_step rows bounds first last moment place bound b within is here h a row f
   by (inr (inl e)) = here a row from to e found
   by (inr (inr none)) = absurd (nothing has.0 none has.1)
 
--- a block whose bound is after a moment: none of its rows has ended
+-- if a block's bound is after a time, none of its rows has ended
 pub block_live : (rows bounds : List Row) (first last moment place : ℕ) (bound : Row) → IsBounded rows bounds → place < length bounds → bound ≡ get_or bounds place bound → moment < bound.ends
     → (a : ℕ) (row : Row) → first ≤ a → a ≤ last → block_number a ≡ bound.address → row_at rows a ≡ Some row → moment < row.ends
 block_live rows bounds first last moment place bound b within is live a row from to at found =
@@ -133,12 +134,12 @@ block_live rows bounds first last moment place bound b within is live a row from
     let low : bound.ends ≤ row.ends = h.0 (ap block_number h.1) in
     omega arith
 
--- a block whose rows were looked at, where none has ended
+-- a block whose rows were looked at and have not ended
 pub block_none : (rows : List Row) (first last from to moment block : ℕ) → from ≤ max first (block * 64) → min last (block * 64 + 63) ≤ to → IsNextEnded rows from to moment None
     → (a : ℕ) (row : Row) → first ≤ a → a ≤ last → block_number a ≡ block → row_at rows a ≡ Some row → moment < row.ends
 block_none rows first last from to moment block low high none a row f t at found = none a row (omega (arith, at)) (omega (arith, at)) found
 
--- a row of a block that has ended, where none of the blocks before has one
+-- a row of a block that has ended, if none has in the blocks before
 pub block_found : (rows bounds : List Row) (first last from to moment place : ℕ) (bound row : Row) → IsBounded rows bounds → place < length bounds → bound ≡ get_or bounds place bound → from ≡ max first (bound.address * 64) → to ≡ min last (bound.address * 64 + 63)
     → IsNextEnded rows from to moment (Some row) → NoneOf rows bounds first last moment place → IsNextEnded rows first last moment (Some row)
 block_found rows bounds first last from to moment place bound row b within is low high found h = (
@@ -152,7 +153,7 @@ block_found rows bounds first last from to moment place bound row b within is lo
       (cases_lt (block_number a) bound.address),
 )
 
--- the search ends where a block is above that of the last address, or there are no more
+-- the search ends if a block is above that of the last address, or if there are no more
 pub blocks_past : (rows bounds : List Row) (first last moment place : ℕ) (bound : Row) → IsBounded rows bounds → place < length bounds → bound ≡ get_or bounds place bound → block_number last < bound.address → NoneOf rows bounds first last moment place → IsNextEnded rows first last moment None
 blocks_past rows bounds first last moment place bound b within is past h a row from to found = h a row from to (below_here bounds place (block_number a) bound b.rise within is (omega (arith, past))) found
 

@@ -9,7 +9,7 @@ use Rattle.kd_rows.specs.declared.row.Row.{Row}
 use Rattle.kd_rows.specs.declared.row.State.{State}
 use Rattle.kd_rows.proofs.Zoning.{zones_rise}
 
--- what is true of a row that is there by one test is so by another that answers the same
+-- the newest row by one test is the newest by another test with the same results
 pub newest_alike : (rows : List Row) (p r : Row → Bool) (best : Option Row) → ((a : ℕ) (row : Row) → row_at rows a ≡ Some row → r row ≡ p row) → IsNewestRow rows p best → IsNewestRow rows r best
 newest_alike rows p r None same h = λ a row at. same a row at ∙ h a row at
 newest_alike rows p r (Some f) same h = (h.0, same f.address f h.0 ∙ h.1, λ a row at is. h.2 a row at (sym (same a row at) ∙ is))
@@ -34,7 +34,7 @@ or_second : (t u : Bool) → u ≡ true → (t || u) ≡ true
 or_second true u e = refl
 or_second false u e = e
 
--- what is not newer than one that is not newer, or than an older one, is not newer
+-- if x is not newer than y, and y not newer than z, x is not newer than z
 newer_chain : (x y z : Row) → is_newer_row x y ≡ false → is_newer_row y z ≡ false → is_newer_row x z ≡ false
 newer_chain x y z = by x.changed y.changed z.changed x.address y.address z.address where
   by : (l m n a b c : ℕ) → (nat_lt m l || ((l == m) && nat_lt a b)) ≡ false → (nat_lt n m || ((m == n) && nat_lt b c)) ≡ false → (nat_lt n l || ((l == n) && nat_lt a c)) ≡ false
@@ -54,11 +54,11 @@ newest_of_two rows p r each (Some x) (Some y) same h g = by (is_newer_row y x) r
   by true e = (g.0, same y.address y g.0 ∙ or_second (p y) (r y) g.1, λ a row at is. one_of (p row) (r row) (sym (same a row at) ∙ is) (λ k. newer_step row x y (h.2 a row at k) e) (g.2 a row at))
   by false e = (h.0, same x.address x h.0 ∙ or_first (p x) (r x) h.1, λ a row at is. one_of (p row) (r row) (sym (same a row at) ∙ is) (h.2 a row at) (λ k. newer_chain row y x (g.2 a row at k) e))
 
--- those of the zones before one
+-- the rows in the zones before one
 abbrev pub is_aged_below : List ℕ → List ℕ → State → ℕ → ℕ → Option Row → ℕ → Row → Bool
 is_aged_below cuts client state first last before zone row = is_aged client state first last before row && nat_lt (zone_in cuts row.address) zone
 
--- a state and a zone are told apart in the number of a group
+-- the state and the zone can be read from the number of a group
 split : (s t z w : ℕ) → z < 4294967296 → w < 4294967296 → (s * 4294967296 + z == t * 4294967296 + w) ≡ ((s == t) && (z == w))
 split s t z w low high = grind (arith, nat_tests)
 
@@ -87,7 +87,7 @@ aged_kind client state first last before row = by (belongs_to client row) (state
   by true false f l t e g h = absurd (false≢true h)
   by false s f l t e g h = absurd (false≢true h)
 
--- no row is of a zone before the first
+-- no row is in a zone before the first
 pub none_below : (rows : List Row) (cuts client : List ℕ) (state : State) (first last zone : ℕ) (before : Option Row) → zone ≡ zone_in cuts first → IsNewestRow rows (is_aged_below cuts client state first last before zone) None
 none_below rows cuts client state first last zone before is a row at = by (is_aged client state first last before row) refl where
   low : (t : Bool) → first ≤ row.address → nat_lt (zone_in cuts row.address) zone ≡ t → nat_lt (zone_in cuts row.address) zone ≡ false
@@ -97,7 +97,7 @@ none_below rows cuts client state first last zone before is a row at = by (is_ag
   by true e = low (nat_lt (zone_in cuts row.address) zone) (aged_kind client state first last before row e).1 refl
   by false e = refl
 
--- a zone more, and those up to the next in which there are rows
+-- one more zone, and those up to the next in which there are rows
 pub zone_more : (rows : List Row) (cuts client : List ℕ) (state : State) (first last zone next : ℕ) (before best found : Option Row) → zone < 4294967296
     → IsNewestRow rows (is_aged_below cuts client state first last before zone) best → IsNewestRow rows (is_in_group cuts client (group_number state zone) first last before) found
     → IsNextZone rows cuts client state zone (Some next) → IsNewestRow rows (is_aged_below cuts client state first last before next) (newer_of_rows best found)
@@ -117,7 +117,7 @@ zone_more rows cuts client state first last zone next before best found fits h g
       by (is_aged client state first last before row) row refl (λ e. n.1 a row at (aged_kind client state first last before row e).0)
       ∙ ap (λ (t : Bool). is_aged_below cuts client state first last before zone row || t) (sym (grouped_is cuts client state zone first last before row fits))
 
--- all of them, where no row of the client in the state is of a later zone, or the addresses end
+-- all zones, if no row of the client in the state is in a later zone, or the addresses end
 pub all_zones : (rows : List Row) (cuts client : List ℕ) (state : State) (first last zone : ℕ) (before best found : Option Row) → zone < 4294967296
     → IsNewestRow rows (is_aged_below cuts client state first last before zone) best → IsNewestRow rows (is_in_group cuts client (group_number state zone) first last before) found
     → ((a : ℕ) (row : Row) → row_at rows a ≡ Some row → is_kind client state row ≡ true → row.address ≤ last → zone_in cuts row.address ≤ zone)
@@ -135,7 +135,7 @@ all_zones rows cuts client state first last zone before best found fits h g last
       by (is_aged client state first last before row) row refl (λ e. let k = aged_kind client state first last before row e in last_zone a row at k.0 k.2)
       ∙ ap (λ (t : Bool). is_aged_below cuts client state first last before zone row || t) (sym (grouped_is cuts client state zone first last before row fits))
 
--- the zones before one have them all, where the addresses end before it
+-- the zones before one contain all rows, if the addresses end before it
 pub zones_passed : (rows : List Row) (cuts client : List ℕ) (state : State) (first last zone : ℕ) (before best : Option Row) → zone_in cuts last < zone → IsNewestRow rows (is_aged_below cuts client state first last before zone) best → IsNewestRow rows (is_aged client state first last before) best
 zones_passed rows cuts client state first last zone before best over = newest_alike rows (is_aged_below cuts client state first last before zone) (is_aged client state first last before) best each where
   within : (row : Row) → row.address ≤ last → true ≡ nat_lt (zone_in cuts row.address) zone

@@ -9,7 +9,8 @@ above a cut h = grind (arith, nat_tests)
 not_above : (a cut : ℕ) → cut ≤ a → nat_lt a cut ≡ false
 not_above a cut h = grind (arith, nat_tests)
 
--- how many cuts stand up to an address, where those before a place do and those from it on do not
+-- how many cuts are at an address or below it, if those before an index are and those from it on
+-- are not
 pub cuts_at : (cuts : List ℕ) (a n : ℕ) → n ≤ length cuts → ((i : ℕ) → i < n → get_or cuts i 0 ≤ a) → ((i : ℕ) → n ≤ i → i < length cuts → a < get_or cuts i 0) → cuts_to cuts a ≡ n
 cuts_at [] a n within below over = omega arith
 cuts_at (cut ∷ cuts) a zero within below over = rw (above a cut (over 0 (omega arith) (omega arith))) refl
@@ -17,7 +18,7 @@ cuts_at (cut ∷ cuts) a (suc n) within below over =
     let rest : cuts_to cuts a ≡ n = cuts_at cuts a n (omega arith) (λ i less. below (suc i) (omega arith)) (λ i le less. over (suc i) (omega arith) (omega arith)) in
     rw (not_above a cut (below 0 (omega arith))) (omega arith)
 
--- no fewer stand up to a greater address
+-- no fewer are at a higher address or below it
 pub cuts_rise : (cuts : List ℕ) (a b : ℕ) → a ≤ b → cuts_to cuts a ≤ cuts_to cuts b
 cuts_rise [] a b le = omega arith
 cuts_rise (cut ∷ cuts) a b le = by (nat_lt a cut) (nat_lt b cut) refl refl (cuts_rise cuts a b le) where

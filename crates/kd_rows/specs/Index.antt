@@ -1,5 +1,5 @@
--- The index of the table, places in it and among the rows, and slots: words of private contracts
--- and invariants alone.
+-- The indexes of the table, positions in them and among the rows, and slots; used only in private
+-- contracts and invariants.
 use Rattle.std.specs.Prelude.{◌≡◌, ℕ, ◌-◌, ◌<◌, ◌≤◌, ◌^◌, suc, Bool, false, ◌||◌, List, [], ◌∷◌, length, Option, Some, None, is_some, slice_index, slice_index_or, ◌==◌, map, nat_lt, ◌/◌, IsSome, option_map}
 use Rattle.std.specs.List.{All, insert, range_with_len, remove}
 use Rattle.std.specs.Cmp.Lexicographic.{slice_cmp}
@@ -18,7 +18,7 @@ use Rattle.kd_rows.specs.Row.{IsInRange}
 use Rattle.kd_rows.specs.Table.{Rise, row_at, latest_of}
 use Rattle.kd_rows.specs.Zones.{group_in}
 
--- what a row is ordered by before its address, nothing where there is no row
+-- what a row is ordered by before its address, or nothing if there is no row
 abbrev pub order_in : (Row → List ℕ) → Option Row → List ℕ
 order_in of None = []
 order_in of (Some row) = of row
@@ -27,11 +27,11 @@ order_in of (Some row) = of row
 abbrev pub client_of : Row → List ℕ
 client_of row = row.client
 
--- the client of a row, no bytes where there is none
+-- the client of a row, or no bytes if there is no row
 abbrev pub client_in : Option Row → List ℕ
 client_in row = order_in client_of row
 
--- the client that has an address, no bytes where it has no row
+-- the client whose row is at an address, or no bytes if the address has no row
 abbrev pub client_at : List Row → ℕ → List ℕ
 client_at rows a = client_in (row_at rows a)
 
@@ -39,13 +39,13 @@ client_at rows a = client_in (row_at rows a)
 abbrev pub key_order : List ℕ × ℕ → List ℕ × ℕ → Ordering
 key_order k l = ordering_then (slice_cmp nat_cmp k.0 l.0) (nat_cmp k.1 l.1)
 
--- the numbers of a client, a group and an age as one list, in which an end comes before each byte
+-- a client, a group and an age as one list of numbers, in which an end comes before every byte
 abbrev pub age_key : List ℕ → ℕ → ℕ → List ℕ
 age_key [] group age = 0 ∷ group ∷ age ∷ []
 age_key (byte ∷ client) group age = suc byte ∷ age_key client group age
 
--- what a row is ordered by in the order of age: its client, its group (its state and the zone of
--- its address) and how early it was set
+-- what a row is ordered by in the age order: its client, its group (its state and the zone of its
+-- address) and how early it was set
 abbrev pub age_of : List ℕ → Row → List ℕ
 age_of cuts row = age_key row.client (group_in cuts row) (2 ^ 64 - 1 - row.changed)
 
@@ -53,49 +53,50 @@ age_of cuts row = age_key row.client (group_in cuts row) (2 ^ 64 - 1 - row.chang
 abbrev pub IsKeyBelow : List ℕ × ℕ → List ℕ × ℕ → Type 0
 IsKeyBelow k l = key_order k l ≡ Less
 
--- what an address of an index is ordered by
+-- what an address in an index is ordered by
 abbrev pub key_by : (Row → List ℕ) → List Row → ℕ → List ℕ × ℕ
 key_by of rows a = (order_in of (row_at rows a), a)
 
--- the same, of the index by client
+-- the same for the client index
 abbrev pub key_at : List Row → ℕ → List ℕ × ℕ
 key_at rows = key_by client_of rows
 
--- the same, of the index by age
+-- the same for the age index
 abbrev pub age_at : List ℕ → List Row → ℕ → List ℕ × ℕ
 age_at cuts rows = key_by (age_of cuts) rows
 
--- the addresses stand in the order of their keys
+-- the addresses are in the order of their keys
 abbrev pub Rises : (ℕ → List ℕ × ℕ) → List ℕ → Type 0
 Rises key index =
     (i j : ℕ) → i < j → j < length index
     → IsKeyBelow (key (slice_index index i)) (key (slice_index index j))
 
--- a list has an address
+-- a list contains an address
 abbrev pub lists : List ℕ → ℕ → Bool
 lists [] a = false
 lists (x ∷ xs) a = (x == a) || lists xs a
 
--- an index has the addresses of the rows, in the order of their keys
+-- an index has exactly the addresses of the rows, in the order of their keys
 pub record IsIndex (of : Row → List ℕ) (rows : List Row) (index : List ℕ) : Type 0 where
   pub same : (a : ℕ) → lists index a ≡ is_some (row_at rows a)
   pub rising : Rises (key_by of rows) index
 
--- the row of a number, and one that is none past the last
+-- the row with a number, or a row that is none past the last
 abbrev pub row_in : List Row → ℕ → Row
 row_in slots n =
     slice_index_or slots n
     (record { address = 0; client = []; state = Offered; changed = 0; ends = 0 })
 
--- the rows of numbers
+-- the rows with these numbers
 abbrev pub rows_in : List Row → List ℕ → List Row
 rows_in slots numbers = map (row_in slots) numbers
 
--- the addresses of numbers
+-- the addresses of the rows with these numbers
 abbrev pub addresses_in : List Row → List ℕ → List ℕ
 addresses_in slots numbers = map (λ n. (row_in slots n).address) numbers
 
--- each slot has a number among them, and the rows of the numbers rise in address
+-- each slot's number is one of them, and the rows with the numbers are in ascending order of
+-- address
 pub record IsByAddress (slots : List Row) (numbers : List ℕ) : Type 0 where
   pub count : length numbers ≡ length slots
   pub same : (n : ℕ) → lists numbers n ≡ nat_lt n (length slots)
@@ -103,7 +104,7 @@ pub record IsByAddress (slots : List Row) (numbers : List ℕ) : Type 0 where
   pub rise : Rise (rows_in slots numbers)
   pub bounded : All (λ row. row.address < 2 ^ 32) (rows_in slots numbers)
 
--- what is true of slots, the addresses and heads of their rows, and the lists of their numbers in
+-- what is true of slots, the addresses and heads of their rows, and the lists of slot numbers in
 -- the three orders
 pub record IsStored (slots : List Row) (addresses heads by_address by_client by_age : List ℕ)
     : Type 0 where
@@ -113,8 +114,8 @@ pub record IsStored (slots : List Row) (addresses heads by_address by_client by_
   pub within : All (λ n. n < length slots) by_client
   pub aged : All (λ n. n < length slots) by_age
 
--- rows in rising address, their addresses in the order of client and address and in that of age,
--- the cuts between zones, and for how many more rows there is room
+-- rows in ascending order of address, their addresses ordered by client and address and by age, the
+-- cuts between zones, and the number of further rows for which there is room
 pub record Ordered : Type 0 where
   pub rows : List Row
   pub index : List ℕ
@@ -122,57 +123,57 @@ pub record Ordered : Type 0 where
   pub cuts : List ℕ
   pub room : ℕ
 
--- what a number is ordered by
+-- what a slot number is ordered by
 abbrev pub key_in : (Row → List ℕ) → List Row → ℕ → List ℕ × ℕ
 key_in of slots n = (of (row_in slots n), (row_in slots n).address)
 
--- the numbers of the slots, in the order of their keys
+-- the slot numbers, in the order of their keys
 pub record IsByKey (of : Row → List ℕ) (slots : List Row) (numbers : List ℕ) : Type 0 where
   pub same : (n : ℕ) → lists numbers n ≡ nat_lt n (length slots)
   pub rising : Rises (key_in of slots) numbers
 
--- keys with their numbers: the first so many numbers, each with the key of its slot
+-- keys with their numbers: the first `count` numbers, each with the key of its slot
 pub record AreKeys {X : Type 0} (key : X → List ℕ × ℕ) (number : X → ℕ) (of : Row → List ℕ)
     (slots : List Row) (count : ℕ) (keys : List X) : Type 0 where
   pub numbers : map number keys ≡ range_with_len 0 count
   pub keyed : All (λ x. key x ≡ key_in of slots (number x)) keys
 
--- the block of an address, of 64 addresses
+-- the block of an address, which has 64 addresses
 abbrev pub block_number : ℕ → ℕ
 block_number a = a / 64
 
--- a bound as a row: its block for an address, and the bound for an end
+-- a bound as a row: its block is the address, and its bound is the end
 abbrev pub bound_row : Bound → Row
 bound_row bound =
     record { address = bound.block; client = []; state = Offered; changed = 0; ends = bound.least }
 
--- bounds as rows, and for how many more there is room
+-- bounds as rows, and the number of further bounds for which there is room
 pub record Bounds : Type 0 where
   pub rows : List Row
   pub room : ℕ
 
--- the end of the row of an address
+-- the end of the row at an address
 abbrev pub end_at : List Row → ℕ → Option ℕ
 end_at rows a = option_map (λ row. row.ends) (row_at rows a)
 
--- no row of a block ends before a moment
+-- no row of a block ends before a time
 abbrev pub IsBound : List Row → ℕ → ℕ → Type 0
 IsBound rows block least = All (λ row. block_number row.address ≡ block → least ≤ row.ends) rows
 
--- the block of each row has a bound, and each bound is one of its block
+-- each row's block has a bound, and no row of a block ends before its bound
 pub record IsBounded (rows bounds : List Row) : Type 0 where
   pub rise : Rise bounds
   pub has : All (λ row. IsSome (row_at bounds (block_number row.address))) rows
   pub least : (block : ℕ) (bound : Row) → row_at bounds block ≡ Some bound
       → IsBound rows block bound.ends
 
--- what is left of a bound is at most that bound, and at most the end of the row that is set
+-- what remains of a bound is at most that bound, and at most the end of the row that is set
 abbrev pub IsLower : Option ℕ → ℕ → Option ℕ → Type 0
 IsLower held ends None = Unit {0}
 IsLower None ends (Some kept) = ⊥
 IsLower (Some bound) ends (Some kept) = (kept ≤ bound) × (kept ≤ ends)
 
--- a bound is what is left of the one before, or any that is one of the block
+-- a bound is what remains of the old one, or else any bound of the block
 abbrev pub IsNow : List Row → ℕ → Option ℕ → ℕ → Type 0
 IsNow rows block None least = IsBound rows block least
 IsNow rows block (Some kept) least = least ≡ kept
@@ -191,41 +192,41 @@ pub record IsKept (table : Ordered) (latest least : ℕ) (holds : Holds) (bounds
   pub full : AreFull table.rows runs
   pub enough : room ≤ most
 
--- the rows before a place have lesser addresses, and those from it on do not
+-- the rows before an index have lower addresses, and those from it on do not
 pub record IsPlace (rows : List Row) (a place : ℕ) : Type 0 where
   pub in_range : place ≤ length rows
   pub below : (i : ℕ) (d : Row) → i < place → (slice_index_or rows i d).address < a
   pub above : (i : ℕ) (d : Row) → place ≤ i → i < length rows
       → a ≤ (slice_index_or rows i d).address
 
--- a place is that of the row of an address
+-- an index is that of the row at an address
 pub record IsRowPlace (rows : List Row) (a place : ℕ) : Type 0 where
   pub in_range : place < length rows
   pub here : (d : Row) → (slice_index_or rows place d).address ≡ a
   pub found : (d : Row) → row_at rows a ≡ Some (slice_index_or rows place d)
   pub below : (i : ℕ) (d : Row) → i < place → (slice_index_or rows i d).address < a
 
--- the place of the row of an address, or that it has none
+-- the index of the row at an address, or that there is no row
 abbrev pub IsFound : List Row → ℕ → Option ℕ → Type 0
 IsFound rows a None = row_at rows a ≡ None
 IsFound rows a (Some place) = IsRowPlace rows a place
 
--- the addresses before a place have keys below k, and those from it on do not
+-- the addresses before an index have keys below k, and those from it on do not
 pub record IsKeyPlace (key : ℕ → List ℕ × ℕ) (index : List ℕ) (k : List ℕ × ℕ)
     (place : ℕ) : Type 0 where
   pub in_range : place ≤ length index
   pub below : (i : ℕ) → i < place → IsKeyBelow (key (slice_index index i)) k
   pub above : (i : ℕ) → place ≤ i → i < length index → IsKeyBelow (key (slice_index index i)) k → ⊥
 
--- an address is put at the place of its key
+-- an address is inserted at the index of its key
 abbrev pub PutsAt : (ℕ → List ℕ × ℕ) → List ℕ → List ℕ × ℕ → List ℕ → Type 0
 PutsAt key old k new = (place : ℕ) × IsKeyPlace key old k place × (new ≡ insert old place k.1)
 
--- an address is taken from its place
+-- an address is removed from its index
 abbrev pub Takes : List ℕ → ℕ → List ℕ → Type 0
 Takes old a new =
     (place : ℕ) × (place < length old) × (slice_index old place ≡ a) × (new ≡ remove old place)
 
--- an address is taken from its place, and put at that of another key
+-- an address is removed from its index, and inserted at that of another key
 abbrev pub Moves : (ℕ → List ℕ × ℕ) → List ℕ → List ℕ × ℕ → List ℕ → Type 0
 Moves key old k new = (between : List ℕ) × Takes old k.1 between × PutsAt key between k new

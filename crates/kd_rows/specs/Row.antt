@@ -11,8 +11,8 @@ state_number Bound = 2
 state_number Released = 3
 state_number Declined = 4
 
--- the times of a row are such as can be stored: it ends no earlier than it was set, and 2 ^ 31 - 1
--- seconds later at most
+-- the times of a row can be stored: it was set below 2 ^ 40, and ends no earlier than that and at
+-- most 2 ^ 31 - 1 seconds later
 pub record IsInRange (row : Row) : Type 0 where
   pub set_at : row.changed < 2 ^ 40
   pub earliest : row.changed ≤ row.ends

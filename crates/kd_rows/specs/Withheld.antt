@@ -1,15 +1,15 @@
--- The table of leases with addresses that are withheld: each is for one client, and for no other.
+-- The table of leases with withheld addresses: each of these is for one client and no other.
 use Rattle.std.specs.Prelude.{◌≡◌, ℕ, ◌<◌, ◌≤◌, Bool, true, false, ◌||◌, List, Option, Some, None, is_some, ◌==◌}
 use Rattle.std.specs.List.{list_any}
 use Rattle.kd_rows.specs.declared.row.Row.{Row}
 use Rattle.kd_rows.specs.Table.{Table, row_at}
 
--- a table, and the addresses that are withheld
+-- a table and the withheld addresses
 pub record WithheldTable : Type 0 where
   pub table : Table
   pub withheld : List ℕ
 
--- an address is one of those that are withheld
+-- an address is one of the withheld addresses
 abbrev pub is_withheld : List ℕ → ℕ → Bool
 is_withheld withheld a = list_any (λ it. it == a) withheld
 
@@ -17,7 +17,7 @@ is_withheld withheld a = list_any (λ it. it == a) withheld
 abbrev pub is_taken : List Row → List ℕ → ℕ → Bool
 is_taken rows withheld a = is_some (row_at rows a) || is_withheld withheld a
 
--- the least address from first to last that has no row and is not withheld, or that there is none
+-- the lowest address from first to last that has no row and is not withheld, or that there is none
 abbrev pub IsFirstFree : List Row → List ℕ → ℕ → ℕ → Option ℕ → Type 0
 IsFirstFree rows withheld first last None =
     (a : ℕ) → first ≤ a → a ≤ last → is_taken rows withheld a ≡ true
@@ -25,7 +25,7 @@ IsFirstFree rows withheld first last (Some free) =
     (first ≤ free) × (free ≤ last) × (is_taken rows withheld free ≡ false)
     × ((a : ℕ) → first ≤ a → a < free → is_taken rows withheld a ≡ true)
 
--- the row of the least address from first to last that has ended by a moment and is not withheld,
+-- the row with the lowest address from first to last that has ended at a time and is not withheld,
 -- or that there is none
 abbrev pub IsNextOpenEnded : List Row → List ℕ → ℕ → ℕ → ℕ → Option Row → Type 0
 IsNextOpenEnded rows withheld first last moment None =

@@ -11,8 +11,8 @@ use crate::row::{Row, State};
 use crate::sorted::Sorted;
 use crate::zones::group;
 
-// The newest row of a client in a state from `first` to `last`, zone by zone; zones in which it has
-// no row in that state are passed over.
+// Returns the newest row of a client in a state from address `first` to `last`. Goes zone by zone
+// and skips zones in which the client has no row in that state.
 pub(crate) fn newest_in<'a>(
     rows: &'a Sorted,
     client: &[u8],
@@ -48,7 +48,7 @@ pub(crate) fn newest_in<'a>(
     best
 }
 
-// The next zone after one in which a client has a row in a state.
+// Returns the next zone after `zone` in which a client has a row in a state.
 fn next_zone(rows: &Sorted, client: &[u8], state: State, zone: u32) -> Option<u32>
     requires aged { IsIndex (age_of rows.now.cuts) rows.now.rows rows.now.ages }
     ensures { IsNextZone rows.now.rows rows.now.cuts client.now state zone result }
@@ -69,14 +69,14 @@ fn next_zone(rows: &Sorted, client: &[u8], state: State, zone: u32) -> Option<u3
     }
 }
 
-// Whether a row is of a client and in a state.
+// Whether a row belongs to a client and is in a state.
 fn has_kind(row: &Row, client: &[u8], state: State) -> bool
     ensures { result ≡ is_kind client.now state row.now }
 {
     row.client.as_slice() == client && row.state.number() == state.number()
 }
 
-// The newer of two rows, of which each may be missing.
+// Returns the newer of two rows, either of which may be missing.
 fn newer<'a>(found: Option<&'a Row>, other: Option<&'a Row>) -> Option<&'a Row>
     ensures { option_copied result
         ≡ newer_of_rows (option_copied found.entry) (option_copied other.entry) }
@@ -96,7 +96,8 @@ fn newer<'a>(found: Option<&'a Row>, other: Option<&'a Row>) -> Option<&'a Row>
     }
 }
 
-// Of two rows the first is newer: it was set later, or at one moment and it has the lesser address.
+// Whether the first of two rows is newer: it was set later, or at the same time and its address is
+// lower.
 fn is_newer(row: &Row, other: &Row) -> bool
     ensures { result ≡ is_newer_row row.now other.now }
 {

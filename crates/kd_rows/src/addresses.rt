@@ -8,7 +8,7 @@ use crate::find::find;
 use crate::sorted::Sorted;
 use std::alloc::AllocError;
 
-// Addresses in rising order, each once.
+// Returns the addresses in ascending order, each once.
 pub(crate) fn in_order(addresses: Vec<u32>) -> Vec<u32>
     ensures rise { Rise (address_rows result.items) }
     ensures same { (a : ℕ) → is_withheld result.items a ≡ is_withheld addresses.items a }
@@ -19,7 +19,7 @@ pub(crate) fn in_order(addresses: Vec<u32>) -> Vec<u32>
     addresses
 }
 
-// The address at a place.
+// Returns the address at an index.
 pub(crate) fn at(addresses: &[u32], place: usize) -> u32
     requires { place < length addresses.now }
     ensures { address_row result
@@ -28,7 +28,7 @@ pub(crate) fn at(addresses: &[u32], place: usize) -> u32
     addresses[place]
 }
 
-// The place of the first that is this address or above it.
+// Returns the index of the first address that is this one or above it.
 pub(crate) fn place_in(addresses: &[u32], address: u32) -> usize
     requires { Rise (address_rows addresses.now) }
     ensures { IsPlace (address_rows addresses.now) address result }
@@ -55,7 +55,8 @@ pub(crate) fn is_among(addresses: &[u32], address: u32) -> bool
     place < addresses.len() && at(addresses, place) == address
 }
 
-// The least address from `first` to `last` that is none of them, as the first gap among rows.
+// Returns the lowest address from `first` to `last` that is not one of them; this is the first gap
+// among rows at these addresses.
 pub(crate) fn first_outside(addresses: &[u32], first: u32, last: u32) -> Option<u32>
     requires rise { Rise (address_rows addresses.now) }
     requires order { first ≤ last }
@@ -80,7 +81,7 @@ pub(crate) fn first_outside(addresses: &[u32], first: u32, last: u32) -> Option<
     }
 }
 
-// Those of them that have no row.
+// Returns those of the addresses that have no row.
 pub(crate) fn without_rows(addresses: &Vec<u32>, rows: &Sorted) -> Result<Vec<u32>, AllocError>
     requires rise { Rise (address_rows addresses.now.items) }
     requires rows { Rise rows.now.rows }
@@ -97,7 +98,7 @@ pub(crate) fn without_rows(addresses: &Vec<u32>, rows: &Sorted) -> Result<Vec<u3
     Ok(bare)
 }
 
-// Takes an address out, if it is one of them.
+// Removes an address if it is one of them.
 pub(crate) fn take_out(addresses: &mut Vec<u32>, address: u32)
     requires { Rise (address_rows addresses.old.items) }
     ensures rise { Rise (address_rows addresses.new.items) }

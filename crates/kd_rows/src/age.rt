@@ -15,27 +15,27 @@ use crate::row::Row;
 use crate::sorted::Sorted;
 use crate::zones::Zones;
 
-// A place in the order of age: by client, by state and zone, what was set later first, and by
-// address.
+// A position in the age order: by client, then by state and zone, then the row set later first,
+// then by address.
 #[derive(Clone, Copy)]
 pub(crate) struct Age<'a> {
     pub(crate) client: &'a [u8],
     // A state and a zone as one number.
     pub(crate) group: u64,
-    // How many seconds of all time are left after a row was set.
+    // The seconds from the time at which a row was set to the greatest time, 2^64 - 1.
     pub(crate) left: u64,
-    // An address, or the number after the last.
+    // An address, or the number after the last address.
     pub(crate) address: u64,
 }
 
-// How many seconds of all time are left after a moment.
+// Returns the number of seconds from a time to the greatest time, 2^64 - 1.
 pub(crate) fn left_after(moment: u64) -> u64
     ensures { result ≡ 2 ^ 64 - 1 - moment }
 {
     u64::MAX - moment
 }
 
-// Where a row stands in the order of age.
+// Returns a row's position in the age order.
 pub(crate) fn age_in<'a>(zones: &Zones, row: &'a Row) -> Age<'a>
     ensures { key_of_age result ≡ (age_of zones.now row.now, row.now.address) }
 {
@@ -47,7 +47,8 @@ pub(crate) fn age_in<'a>(zones: &Zones, row: &'a Row) -> Age<'a>
     }
 }
 
-// Where the rows of a client and a group begin in the order of age: all, or those after another.
+// Returns the position at which the rows of a client and a group begin in the age order: all of
+// them, or those after another row.
 pub(crate) fn start_of<'a>(client: &'a [u8], group: u64, before: Option<&Row>) -> Age<'a>
     ensures { IsAgeStart client.now group (option_copied before.entry) result }
 {
@@ -67,7 +68,7 @@ pub(crate) fn start_of<'a>(client: &'a [u8], group: u64, before: Option<&Row>) -
     }
 }
 
-// Whether a row comes before a place.
+// Whether a row comes before a position.
 fn comes_before(zones: &Zones, row: &Row, place: &Age) -> bool
     ensures { result
         ≡ is_lt (key_order (age_of zones.now row.now, row.now.address) (key_of_age place.now)) }
@@ -79,7 +80,7 @@ fn comes_before(zones: &Zones, row: &Row, place: &Age) -> bool
     client.then(age).then(address).is_lt()
 }
 
-// Whether the row at a number of the index by age comes before a place, whose client has this head.
+// Whether the `i`-th row of the age index comes before a position whose client has this head.
 fn is_before(rows: &Sorted, i: usize, head: u64, place: &Age) -> bool
     requires place { i < length rows.now.ages }
     requires head { IsHead place.now.client.now head }
@@ -94,7 +95,8 @@ fn is_before(rows: &Sorted, i: usize, head: u64, place: &Age) -> bool
     comes_before(rows.zones(), rows.aged(i), place)
 }
 
-// The number of a place in the index by age: before it stand the addresses whose rows come before.
+// Returns the index of a position in the age index: the rows of the addresses before this index
+// come before the position.
 pub(crate) fn age_place(rows: &Sorted, place: &Age) -> usize
     requires { Rises (age_at rows.now.cuts rows.now.rows) rows.now.ages }
     ensures { IsKeyPlace (age_at rows.now.cuts rows.now.rows) rows.now.ages
@@ -114,7 +116,7 @@ pub(crate) fn age_place(rows: &Sorted, place: &Age) -> usize
     low
 }
 
-// Whether a key stays above those that stand before a place of the index by age.
+// Whether a key comes after the keys before an index of the age index.
 pub(crate) fn is_past_those_before(rows: &Sorted, place: usize, age: &Age) -> bool
     requires rises { Rises (age_at rows.now.cuts rows.now.rows) rows.now.ages }
     requires place { place < length rows.now.ages }
@@ -127,7 +129,7 @@ pub(crate) fn is_past_those_before(rows: &Sorted, place: usize, age: &Age) -> bo
     is_before(rows, place - 1, head_of(age.client), age)
 }
 
-// Whether a key stays below those that stand after a place of the index by age.
+// Whether a key comes before the keys after an index of the age index.
 pub(crate) fn is_before_those_after(rows: &Sorted, place: usize, age: &Age) -> bool
     requires rises { Rises (age_at rows.now.cuts rows.now.rows) rows.now.ages }
     requires place { place < length rows.now.ages }
@@ -140,21 +142,22 @@ pub(crate) fn is_before_those_after(rows: &Sorted, place: usize, age: &Age) -> b
     !is_before(rows, place + 1, head_of(age.client), age)
 }
 
-// Whether a row is of the client and the group of a place.
+// Whether a row belongs to the client and the group of a position.
 fn is_of(zones: &Zones, row: &Row, place: &Age) -> bool
     ensures { result ≡ is_of_place zones.now place.now row.now }
 {
     row.client.as_slice() == place.client && zones.group(row) == place.group
 }
 
-// Whether a row is at an address from `first` to `last`.
+// Whether a row's address is from `first` to `last`.
 fn is_from_to(row: &Row, first: u32, last: u32) -> bool
     ensures { result ≡ is_between first last row.now }
 {
     first <= row.address && row.address <= last
 }
 
-// The newest row from `first` to `last` of those that begin at a place: the first of them there.
+// Returns the newest row from `first` to `last` among the rows that begin at a position: the first
+// of them in that range.
 pub(crate) fn newest_from<'a>(
     rows: &'a Sorted,
     from: &Age,

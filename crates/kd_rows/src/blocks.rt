@@ -9,29 +9,29 @@ use crate::tiered::Tiered;
 use std::alloc::{AllocError, Global};
 use std::marker::Model;
 
-// How many addresses a block has.
+// The number of addresses in a block.
 pub(crate) const BLOCK: u32 = 64;
 
-// The block of an address.
+// Returns the block of an address.
 pub(crate) fn block_of(address: u32) -> u32
     ensures { result ≡ block_number address }
 {
     address / BLOCK
 }
 
-// A block with a moment before which none of its rows ends.
+// A block and a time before which none of its rows ends.
 #[derive(Clone, Copy)]
 pub(crate) struct Bound {
     pub(crate) block: u32,
     pub(crate) least: u64,
 }
 
-// The bounds of the blocks that have rows, in rising order of the blocks. A bound stays in the slot
-// in which it came: where one is put among the others, only the numbers of slots move.
+// The bounds of the blocks that have rows, in ascending order of the blocks. A bound stays in the
+// slot in which it was put: when another is inserted, only the slot numbers move.
 #[derive(Drop)]
 pub(crate) struct Blocks {
     slots: Vec<Bound>,
-    // The numbers of the slots, in rising order of their blocks.
+    // The slot numbers, in ascending order of their blocks.
     order: Tiered,
 }
 
@@ -50,7 +50,7 @@ impl Model for Blocks {
 }
 
 impl Blocks {
-    // No bounds.
+    // Makes an empty list of bounds.
     pub(crate) fn new(alloc: Global) -> Blocks
         ensures { result.rows ≡ [] }
     {
@@ -60,14 +60,14 @@ impl Blocks {
         }
     }
 
-    // How many bounds there are.
+    // Returns the number of bounds.
     pub(crate) fn len(&self) -> usize
         ensures { result ≡ length self.now.rows }
     {
         self.order.len()
     }
 
-    // The bound at a place.
+    // Returns the bound at an index.
     pub(crate) fn at(&self, place: usize) -> Bound
         requires { place < length self.now.rows }
         ensures { bound_row result ≡ slice_index_or self.now.rows place (bound_row result) }
@@ -75,7 +75,7 @@ impl Blocks {
         self.slots[self.order.at(place) as usize]
     }
 
-    // The place of the first bound that is of a block or of one above it.
+    // Returns the index of the first bound that belongs to this block or one above it.
     pub(crate) fn place_of(&self, block: u32) -> usize
         requires { Rise self.now.rows }
         ensures { IsPlace self.now.rows block result }
@@ -93,7 +93,7 @@ impl Blocks {
         low
     }
 
-    // The bound of a block.
+    // Returns the bound of a block.
     pub(crate) fn find(&self, block: u32) -> Option<u64>
         requires { Rise self.now.rows }
         ensures { result ≡ end_at self.now.rows block }
@@ -106,7 +106,7 @@ impl Blocks {
         }
     }
 
-    // For how many more bounds there is room.
+    // Returns the number of further bounds for which there is room.
     pub(crate) fn room(&self) -> usize
         ensures { result ≡ self.now.room }
     {
@@ -114,7 +114,7 @@ impl Blocks {
         slots.min(self.order.room())
     }
 
-    // Makes room for a bound more.
+    // Makes room for one more bound.
     pub(crate) fn reserve(&mut self) -> Result<(), AllocError>
         ensures rows { self.new.rows ≡ self.old.rows }
         ensures room { OnOk result (0 < self.new.room) }
@@ -123,7 +123,7 @@ impl Blocks {
         self.order.reserve()
     }
 
-    // Sets a bound: in place of that of its block, or where its block belongs.
+    // Sets a bound: replaces that of its block, or inserts it where its block belongs.
     pub(crate) fn set(&mut self, bound: Bound)
         requires rise { Rise self.old.rows }
         requires room { row_at self.old.rows bound.block ≡ None → 0 < self.old.room }
@@ -139,7 +139,7 @@ impl Blocks {
         }
     }
 
-    // Sets a bound in place of the one of its block.
+    // Replaces the bound of a block.
     fn replace(&mut self, place: usize, bound: Bound)
         requires { IsRowPlace self.old.rows bound.block place }
         ensures rows { self.new.rows ≡ with_row (bound_row bound) self.old.rows }
@@ -149,7 +149,7 @@ impl Blocks {
         self.slots[number] = bound;
     }
 
-    // Puts a bound where its block, which has none, belongs.
+    // Inserts a bound where its block, which has none, belongs.
     fn insert_bound(&mut self, place: usize, bound: Bound)
         requires place { IsPlace self.old.rows bound.block place }
         requires none { row_at self.old.rows bound.block ≡ None }
@@ -163,7 +163,8 @@ impl Blocks {
     }
 }
 
-// The least end of the rows in the block of an address, the greatest of all moments without rows.
+// Returns a time before which no row in the block of an address ends: the least end of these rows,
+// or the greatest time if there are none.
 pub(crate) fn least_beside(rows: &OpenRows, address: u32) -> u64
     ensures { IsBound rows.now (block_number address) result }
 {
@@ -199,8 +200,8 @@ pub(crate) fn bound_all(blocks: &mut Blocks, rows: &OpenRows) -> Result<(), Allo
     Ok(())
 }
 
-// What is left of a block's bound where a row is set: nothing where the row at the bound goes and
-// the bound may rise.
+// Returns what remains of a block's bound after a row is set: nothing if the replaced row ended at
+// the bound and the new row ends later, so that the bound may rise.
 pub(crate) fn kept_bound(held: Option<u64>, replaced: Option<u64>, ends: u64) -> Option<u64>
     ensures { IsLower held ends result }
 {
@@ -216,7 +217,8 @@ pub(crate) fn kept_bound(held: Option<u64>, replaced: Option<u64>, ends: u64) ->
     }
 }
 
-// The bound of the block of an address: what is left of it, or the least end of its rows.
+// Returns the bound of the block of an address: what remains of the old one, or the least end of
+// its rows.
 pub(crate) fn bound_now(rows: &OpenRows, address: u32, kept: Option<u64>) -> u64
     ensures { IsNow rows.now (block_number address) kept result }
 {

@@ -7,8 +7,8 @@ use crate::blocks::{BLOCK, Blocks, block_of};
 use crate::open_rows::OpenRows;
 use crate::row::Row;
 
-// The row of the least address from `first` to `last` that has ended by a moment; a block in which
-// no row has is passed over.
+// Returns the row with the lowest address from `first` to `last` that has ended at a time. Skips
+// blocks in which no row has ended.
 pub(crate) fn next_ended<'a>(
     rows: &OpenRows<'a>,
     blocks: &Blocks,
@@ -37,7 +37,7 @@ pub(crate) fn next_ended<'a>(
     None
 }
 
-// The same, where each row is looked at.
+// Does the same, but looks at each row.
 fn ended_in<'a>(rows: &OpenRows<'a>, first: u32, last: u32, moment: u64) -> Option<&'a Row>
     ensures { IsNextEnded rows.now first last moment (option_copied result) }
 {

@@ -4,7 +4,7 @@ ghost use Rattle.kd_rows.specs.Table.{IsFirstGap, Rise};
 
 use crate::sorted::Sorted;
 
-// The place of the row of an address.
+// Returns the index of the row at an address.
 pub(crate) fn find(rows: &Sorted, address: u32) -> Option<usize>
     requires { Rise rows.now.rows }
     ensures { IsFound rows.now.rows address result }
@@ -17,8 +17,9 @@ pub(crate) fn find(rows: &Sorted, address: u32) -> Option<usize>
     }
 }
 
-// The least address from `first` to `last` that has no row. From the place of `first` on, the rows
-// stand at `first`, `first + 1` and so on up to the gap, and above such an address from there on.
+// Returns the lowest address from `first` to `last` that has no row. From the index of `first` on,
+// the rows are at `first`, `first + 1` and so on up to the gap, and above those addresses from
+// there on.
 pub(crate) fn gap_in(rows: &Sorted, first: u32, last: u32) -> Option<u32>
     requires rise { Rise rows.now.rows }
     requires order { first ≤ last }

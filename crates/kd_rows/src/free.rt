@@ -7,8 +7,9 @@ ghost use Rattle.kd_rows.specs.Withheld.{IsFirstFree};
 use crate::addresses::{first_outside, place_in};
 use crate::sorted::Sorted;
 
-// The least address from `first` to `last` that has no row and is not withheld. Of the addresses
-// from `first` to a row each is taken where rows and withheld addresses are as many as they.
+// Returns the lowest address from `first` to `last` that has no row and is not withheld. All
+// addresses from `first` to a row are taken if there are as many rows and withheld addresses as
+// addresses.
 pub(crate) fn free_in(rows: &Sorted, bare: &[u32], first: u32, last: u32) -> Option<u32>
     requires rise { Rise rows.now.rows }
     requires bare { Rise (address_rows bare.now) }
@@ -28,7 +29,7 @@ pub(crate) fn free_in(rows: &Sorted, bare: &[u32], first: u32, last: u32) -> Opt
     first_outside(bare, before + 1, last)
 }
 
-// The place behind the last row to which each address from `first` on is taken.
+// Returns the index after the last row up to which every address from `first` on is taken.
 fn taken_end(rows: &Sorted, bare: &[u32], first: u32, start: usize) -> usize
     requires rise { Rise rows.now.rows }
     requires bare { Rise (address_rows bare.now) }

@@ -7,7 +7,7 @@ use crate::sorted::Sorted;
 use std::alloc::{AllocError, Global};
 use std::marker::Model;
 
-// How many runs there are at most.
+// The greatest number of runs.
 const MOST: usize = 64;
 
 // The addresses from one to another.
@@ -17,9 +17,9 @@ pub(crate) struct Run {
     pub(crate) last: u32,
 }
 
-// Runs of addresses that all have rows, so that what is full need not be searched. Rows are never
-// removed, so a run stays true. Where an address comes between two runs they are joined. Not every
-// address that has a row is in one.
+// Runs of addresses that all have rows, so that a search need not look at full ranges. Rows are
+// never removed, so a run stays true. If an address comes between two runs they are joined. Not
+// every address that has a row is in a run.
 #[derive(Drop)]
 pub(crate) struct Full {
     runs: Vec<Run>,
@@ -37,7 +37,7 @@ impl Model for Full {
 }
 
 impl Full {
-    // No runs.
+    // Makes an empty list of runs.
     pub(crate) fn new(alloc: Global) -> Result<Full, AllocError>
         ensures { IfOk result (λ full. full ≡ []) }
     {
@@ -46,7 +46,7 @@ impl Full {
         })
     }
 
-    // The last address of a run that has this one.
+    // Returns the last address of a run that contains this one.
     pub(crate) fn last_from(&self, address: u32) -> Option<u32>
         ensures { (rows : List Row) → AreFull rows self.now
             → IfSome result (λ last. (address ≤ last) × HasAll rows address last) }
@@ -59,7 +59,7 @@ impl Full {
         None
     }
 
-    // An address has a row from now on, where `new`, or has had one.
+    // Records that an address has a row. If `new` is false, it already had one and nothing changes.
     pub(crate) fn add(&mut self, address: u32, new: bool)
         ensures { (rows : List Row) → AreFull rows self.old → IsSome (row_at rows address)
             → AreFull rows self.new }
@@ -72,8 +72,8 @@ impl Full {
         }
     }
 
-    // A run that ends right before an address that has a row has that one too; where another begins
-    // right after it, the two are joined.
+    // Extends a run that ends right before an address that has a row. If another run begins right
+    // after the address, the two are joined.
     fn lengthen(&mut self, place: usize, address: u32)
         requires place { place < length self.old }
         requires ends { (d : Run) → (slice_index_or self.old place d).last + 1 ≡ address }
@@ -88,7 +88,7 @@ impl Full {
         }
     }
 
-    // A run begins at an address that has a row.
+    // Begins a run at an address that has a row.
     fn begin(&mut self, address: u32)
         ensures { (rows : List Row) → AreFull rows self.old → IsSome (row_at rows address)
             → AreFull rows self.new }
@@ -103,7 +103,7 @@ impl Full {
         }
     }
 
-    // The place of a run that ends right before an address.
+    // Returns the index of a run that ends right before an address.
     fn ending_before(&self, address: u32) -> Option<usize>
         ensures { IfSome result (λ place. (place < length self.now)
             × ((d : Run) → (slice_index_or self.now place d).last + 1 ≡ address)) }
@@ -116,7 +116,7 @@ impl Full {
         None
     }
 
-    // The place of a run that begins right after an address.
+    // Returns the index of a run that begins right after an address.
     fn beginning_after(&self, address: u32) -> Option<usize>
         ensures { IfSome result (λ place. (place < length self.now)
             × ((d : Run) → (slice_index_or self.now place d).first ≡ address + 1)) }
@@ -130,7 +130,7 @@ impl Full {
     }
 }
 
-// The runs of the addresses of rows.
+// Returns runs of the addresses of rows.
 #[tactic(auto, using(crate::proofs::Fulls::has_at))]
 pub(crate) fn full_of(alloc: Global, rows: &Sorted) -> Result<Full, AllocError>
     requires { Rise rows.now.rows }

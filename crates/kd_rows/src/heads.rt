@@ -4,8 +4,8 @@ ghost use Rattle.kd_rows.specs.Heads.{AreHeads, IsHead, row_addresses};
 use crate::row::Row;
 use std::alloc::AllocError;
 
-// The head of a client: its first 8 bytes as one number, with zeros behind where there are fewer.
-// Of two clients whose heads differ, the one with the lesser head comes first.
+// Returns the head of a client: its first 8 bytes as one number, filled up with zeros if there are
+// fewer. If two clients have different heads, the one with the lower head comes first.
 pub(crate) fn head_of(client: &[u8]) -> u64
     ensures { IsHead client.now result }
 {
@@ -16,7 +16,7 @@ pub(crate) fn head_of(client: &[u8]) -> u64
     head
 }
 
-// A byte of a client, and 0 behind the last.
+// Returns a byte of a client, or 0 after the last.
 fn byte_at(client: &[u8], i: usize) -> u64
     ensures value { result ≡ slice_index client.now i }
     ensures bound { result < 256 }
@@ -28,7 +28,7 @@ fn byte_at(client: &[u8], i: usize) -> u64
     }
 }
 
-// The heads of the clients of rows.
+// Returns the heads of the clients of rows.
 pub(crate) fn heads_by_slot(rows: &Vec<Row>) -> Result<Vec<u64>, AllocError>
     ensures { IfOk result (λ heads. AreHeads rows.now.items heads.items) }
 {
@@ -40,7 +40,7 @@ pub(crate) fn heads_by_slot(rows: &Vec<Row>) -> Result<Vec<u64>, AllocError>
     Ok(heads)
 }
 
-// The addresses of rows.
+// Returns the addresses of rows.
 pub(crate) fn addresses_by_slot(rows: &Vec<Row>) -> Result<Vec<u32>, AllocError>
     ensures { IfOk result (λ addresses. addresses.items ≡ row_addresses rows.now.items) }
 {

@@ -5,8 +5,7 @@ ghost use Rattle.kd_rows.specs.Row.{IsInRange};
 
 use crate::row::{Row, State};
 
-// For how many seconds, at most, the rows of each state hold from the moment at which they were
-// set.
+// The greatest number of seconds that the rows of each state hold after they were set.
 #[derive(Clone, Copy)]
 pub(crate) struct Holds {
     pub(crate) offered: u64,
@@ -16,7 +15,7 @@ pub(crate) struct Holds {
 }
 
 impl Holds {
-    // For how long the rows of a state hold.
+    // Returns how long the rows of a state hold at most.
     pub(crate) fn of(&self, state: State) -> u64
         ensures { result ≡ hold_of self.now state }
     {
@@ -28,7 +27,7 @@ impl Holds {
         }
     }
 
-    // The same with one row more.
+    // Returns the same with one more row.
     pub(crate) fn with(self, row: &Row) -> Holds
         requires { row.now.changed ≤ row.now.ends }
         ensures { IsLonger self row.now result }
@@ -45,7 +44,7 @@ impl Holds {
     }
 }
 
-// For how long, at most, the rows of each state hold.
+// Returns how long the rows of each state hold at most.
 pub(crate) fn holds_in(rows: &[Row]) -> Holds
     requires { All IsInRange rows.now }
     ensures { AreHolds result rows.now }

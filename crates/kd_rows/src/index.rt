@@ -21,7 +21,7 @@ fn is_below(c: &[u8], a: u32, d: &[u8], b: u32) -> bool
     }
 }
 
-// Whether the key at a place of the index comes before another, whose client has this head.
+// Whether the key at an index of the client index comes before another, whose client has this head.
 fn is_before(rows: &Sorted, i: usize, head: u64, key: (&[u8], u32)) -> bool
     requires place { i < length rows.now.index }
     requires head { IsHead key.0.now head }
@@ -36,7 +36,7 @@ fn is_before(rows: &Sorted, i: usize, head: u64, key: (&[u8], u32)) -> bool
     is_below(row.client.as_slice(), row.address, key.0, key.1)
 }
 
-// The place of a key: before it stand the addresses whose keys come before.
+// Returns the index of a key: the addresses before it have keys that come before.
 pub(crate) fn key_place(rows: &Sorted, client: &[u8], address: u32) -> usize
     requires { Rises (key_at rows.now.rows) rows.now.index }
     ensures { IsKeyPlace (key_at rows.now.rows) rows.now.index (client.now, address) result }
@@ -55,7 +55,7 @@ pub(crate) fn key_place(rows: &Sorted, client: &[u8], address: u32) -> usize
     low
 }
 
-// The address at a place among those of a client, where there are so many.
+// Returns the `i`-th of a client's addresses, if it has that many.
 pub(crate) fn nth_of(rows: &Sorted, client: &[u8], i: usize) -> Option<u32>
     requires rise { Rise rows.now.rows }
     requires indexed { IsIndex client_of rows.now.rows rows.now.index }
@@ -73,8 +73,8 @@ pub(crate) fn nth_of(rows: &Sorted, client: &[u8], i: usize) -> Option<u32>
     }
 }
 
-// The row of a client of the least address from `first` to `last`: it stands at the place of its
-// key, if it has one.
+// Returns the client's row with the lowest address from `first` to `last`. If there is one, it is
+// at the index of the key of `first`.
 pub(crate) fn next_of<'a>(rows: &'a Sorted, client: &[u8], first: u32, last: u64) -> Option<&'a Row>
     requires { IsIndex client_of rows.now.rows rows.now.index }
     ensures { IsNextOf rows.now.rows client.now first last (option_copied result) }

@@ -1,9 +1,9 @@
-//! The table of leases in memory: a row an address, found by address and by client.
+//! The table of leases in memory: one row per address, found by address and by client.
 //!
-//! What this layer promises to the one above: the table is the list of its rows in rising address
-//! (`specs/Table.antt`), each call says what it reads or changes there, and setting a row takes no
-//! memory, which is asked for before. Beside it stands a table with addresses that are withheld
-//! (`specs/Withheld.antt`). Times are in seconds, in the ranges of `specs/Row.antt`.
+//! What this layer promises to the one above: the table is the list of its rows in ascending order
+//! of address (`specs/Table.antt`), each call states what it reads or changes there, and setting a
+//! row takes no memory, because the memory is reserved before. There is also a table with withheld
+//! addresses (`specs/Withheld.antt`). Times are in seconds, in the ranges of `specs/Row.antt`.
 #![tactic(auto)]
 
 mod across;

@@ -8,8 +8,8 @@ use crate::row::Row;
 use crate::zones::Zones;
 use std::alloc::AllocError;
 
-// The number of a row at an address. There is a row for each address at most, so it has 32 bits as
-// the address has.
+// Returns the number of a row at an address. There is at most one row per address, so the number
+// has 32 bits, as the address has.
 pub(crate) fn number_of(slot: usize, address: u32) -> u32
     requires { address < 2 ^ 32 → slot < 2 ^ 32 }
     ensures number { result ≡ slot }
@@ -18,7 +18,7 @@ pub(crate) fn number_of(slot: usize, address: u32) -> u32
     slot as u32
 }
 
-// The numbers of rows that rise in address, in their order.
+// Returns the numbers of rows in ascending order of address, in that order.
 pub(crate) fn numbers_by_address(rows: &Vec<Row>) -> Result<Vec<u32>, AllocError>
     requires { Rise rows.now.items }
     ensures by_address { IfOk result (λ numbers. IsByAddress rows.now.items numbers.items) }
@@ -32,7 +32,7 @@ pub(crate) fn numbers_by_address(rows: &Vec<Row>) -> Result<Vec<u32>, AllocError
     Ok(numbers)
 }
 
-// The key of a row with its number.
+// Returns the key of a row with its number.
 fn key_of(row: &Row, number: usize) -> (&[u8], u32, u32)
     requires { number ≤ row.now.address }
     ensures client { result.0.now ≡ row.now.client }
@@ -46,7 +46,7 @@ fn key_of(row: &Row, number: usize) -> (&[u8], u32, u32)
     )
 }
 
-// The keys of rows, each with the number of its row.
+// Returns the keys of rows, each with the number of its row.
 fn keys_of(rows: &Vec<Row>) -> Result<Vec<(&[u8], u32, u32)>, AllocError>
     requires { Rise rows.now.items }
     ensures { IfOk result
@@ -61,7 +61,7 @@ fn keys_of(rows: &Vec<Row>) -> Result<Vec<(&[u8], u32, u32)>, AllocError>
     Ok(keys)
 }
 
-// The numbers of rows in the order of client and address.
+// Returns the numbers of rows, ordered by client and address.
 pub(crate) fn numbers_by_client(rows: &Vec<Row>) -> Result<Vec<u32>, AllocError>
     requires { Rise rows.now.items }
     ensures { IfOk result (λ numbers. IsByKey client_of rows.now.items numbers.items) }
@@ -76,7 +76,7 @@ pub(crate) fn numbers_by_client(rows: &Vec<Row>) -> Result<Vec<u32>, AllocError>
     Ok(numbers)
 }
 
-// The key of a row in the order of age, with its number.
+// Returns the key of a row in the age order, with its number.
 fn age_with<'a>(zones: &Zones, row: &'a Row, number: usize) -> (&'a [u8], (u64, u64), u32, u32)
     requires { number ≤ row.now.address }
     ensures client { result.0.now ≡ row.now.client }
@@ -93,7 +93,7 @@ fn age_with<'a>(zones: &Zones, row: &'a Row, number: usize) -> (&'a [u8], (u64, 
     )
 }
 
-// The keys of rows in the order of age, each with the number of its row.
+// Returns the keys of rows in the age order, each with the number of its row.
 fn ages_of<'a>(
     zones: &Zones,
     rows: &'a Vec<Row>,
@@ -111,7 +111,7 @@ fn ages_of<'a>(
     Ok(keys)
 }
 
-// The numbers of rows in the order of age.
+// Returns the numbers of rows in the age order.
 pub(crate) fn numbers_by_age(zones: &Zones, rows: &Vec<Row>) -> Result<Vec<u32>, AllocError>
     requires { Rise rows.now.items }
     ensures { IfOk result (λ numbers. IsByKey (age_of zones.now) rows.now.items numbers.items) }

@@ -5,12 +5,12 @@ ghost use Rattle.kd_rows.specs.Table.{Rise};
 use crate::sorted::Sorted;
 use std::marker::Model;
 
-// Rows without those whose addresses are withheld.
+// Rows without those at withheld addresses.
 #[derive(Drop)]
 pub(crate) struct OpenRows<'a> {
     // All rows.
     pub(crate) all: &'a Sorted,
-    // The addresses that are withheld, rising.
+    // The withheld addresses, in ascending order.
     pub(crate) withheld: &'a [u32],
 }
 
@@ -27,7 +27,7 @@ impl<'a> Model for OpenRows<'a> {
 }
 
 impl<'a> OpenRows<'a> {
-    // All of them.
+    // Returns all rows.
     pub(crate) fn all(rows: &'a Sorted) -> OpenRows<'a>
         requires { Rise rows.now.rows }
         ensures { result ≡ rows.now.rows }
@@ -38,7 +38,7 @@ impl<'a> OpenRows<'a> {
         }
     }
 
-    // The rows whose addresses are not withheld.
+    // Returns the rows at addresses that are not withheld.
     pub(crate) fn beside(rows: &'a Sorted, withheld: &'a [u32]) -> OpenRows<'a>
         requires rise { Rise rows.now.rows }
         requires listed { Rise (address_rows withheld.now) }

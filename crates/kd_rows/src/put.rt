@@ -8,7 +8,7 @@ use crate::index::key_place;
 use crate::row::Row;
 use crate::sorted::Sorted;
 
-// Sets a row: in place of the row of its address, or where that address belongs.
+// Sets a row: replaces the row at its address, or inserts it where its address belongs.
 pub(crate) fn put_row(rows: &mut Sorted, row: Row)
     requires rise { Rise rows.old.rows }
     requires indexed { IsIndex client_of rows.old.rows rows.old.index }
@@ -38,7 +38,7 @@ pub(crate) fn put_row(rows: &mut Sorted, row: Row)
     }
 }
 
-// Moves the address of a row to the place of the index by client that it has under another.
+// Moves the address of a row to the place in the client index that it has under another client.
 fn give_client(rows: &mut Sorted, place: usize, client: &[u8], address: u32)
     requires indexed { IsIndex client_of rows.old.rows rows.old.index }
     requires at { IsRowPlace rows.old.rows address place }
@@ -54,8 +54,9 @@ fn give_client(rows: &mut Sorted, place: usize, client: &[u8], address: u32)
     rows.move_key(from, to);
 }
 
-// Moves the address of a row to the place of the index by age that it has as another row. It stays
-// where those beside it still stand on both sides, as that of a client's one row does.
+// Moves the address of a row to the place in the age index that it has with the new row. It stays
+// in place if the new key is still between those of its neighbours, as it is for a client's only
+// row.
 fn give_age(rows: &mut Sorted, place: usize, row: &Row)
     requires aged { IsIndex (age_of rows.old.cuts) rows.old.rows rows.old.ages }
     requires at { IsRowPlace rows.old.rows row.now.address place }
@@ -75,7 +76,7 @@ fn give_age(rows: &mut Sorted, place: usize, row: &Row)
     rows.move_age(from, to);
 }
 
-// The place that is left of another where what stands at one is taken.
+// Returns what an index becomes after the element at `from` is removed.
 fn place_without(from: usize, place: usize) -> usize
     ensures { result ≡ (if nat_lt from place then place - 1 else place) }
 {

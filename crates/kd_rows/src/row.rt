@@ -4,10 +4,10 @@ ghost use Rattle.kd_rows.specs.declared.row.State.{State};
 
 use kd_wire::Bytes;
 
-/// What became of an address that was given.
+/// What became of an address that was offered or leased.
 #[derive(Clone, Copy, PartialEq, Eq)]
 pub enum State {
-    /// Offered to a client, which has not asked for it yet.
+    /// Offered to a client, which has not requested it yet.
     Offered,
     /// Leased to a client.
     Bound,
@@ -18,7 +18,7 @@ pub enum State {
 }
 
 impl State {
-    /// The number by which a state is stored.
+    /// Returns the number by which a state is stored.
     pub fn number(self) -> u8
         ensures { result ≡ state_number self }
     {
@@ -30,7 +30,7 @@ impl State {
         }
     }
 
-    /// The state that a number stands for.
+    /// Returns the state with this number, if there is one.
     pub fn of_number(number: u8) -> Option<State>
         ensures { MatchOption result ((s : State) → state_number s ≢ number)
             (λ s. state_number s ≡ number) }
@@ -48,21 +48,21 @@ impl State {
 /// The lease of an address.
 #[derive(Drop)]
 pub struct Row {
-    /// The address.
+    /// The IPv4 address, as a number in host byte order.
     pub address: u32,
     /// The identity of the client.
     pub client: Bytes,
     /// What became of the address.
     pub state: State,
-    /// The moment at which the row was set, in seconds.
+    /// The time at which the row was set, in seconds.
     pub changed: u64,
-    /// The moment from which the row does not hold, in seconds.
+    /// The time from which the row no longer holds, in seconds.
     pub ends: u64,
 }
 
 impl Row {
-    /// Whether the times are in range: set below 2^40, ended no earlier than that, and 2^31 - 1
-    /// seconds later at most.
+    /// Whether the times are in range: the row was set below 2^40, and ends no earlier than that
+    /// and at most 2^31 - 1 seconds later.
     pub fn is_in_range(&self) -> bool
         ensures { IsTrue result ↔ IsInRange self.now }
     {

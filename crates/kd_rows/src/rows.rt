@@ -19,18 +19,18 @@ use crate::sorted::Sorted;
 use std::alloc::AllocError;
 use std::marker::Model;
 
-/// The table of leases: a row an address, found by address and by client.
+/// The table of leases: one row per address, found by address and by client.
 #[derive(Drop)]
 pub struct Rows {
     rows: Sorted,
     // The bound of each block that has rows.
     blocks: Blocks,
-    // Addresses that all have rows.
+    // Runs of addresses that all have rows.
     full: Full,
     latest: u64,
     least: u64,
     holds: Holds,
-    // For how many new addresses both have room.
+    // A number of new addresses for which both rows and blocks have room.
     room: usize,
 }
 
@@ -48,7 +48,7 @@ impl Model for Rows {
 }
 
 impl Rows {
-    /// Whether rows can be a table: they rise in address, one an address, and are in range.
+    /// Whether rows can form a table: in ascending order of address, one per address, and in range.
     pub fn accepts(rows: &[Row]) -> bool
         ensures { IsTrue result ↔ Rise rows.now × All IsInRange rows.now }
     {
@@ -63,11 +63,11 @@ impl Rows {
         true
     }
 
-    /// The table of rows that rise in address, one an address.
+    /// Makes a table of rows that are in ascending order of address, one per address.
     ///
     /// # Errors
     ///
-    /// There is no memory for the order of the rows.
+    /// There is no memory for the indexes of the rows.
     pub fn new(rows: Vec<Row>) -> Result<Rows, AllocError>
         requires rise { Rise rows.items }
         requires ranges { All IsInRange rows.items }
@@ -78,12 +78,11 @@ impl Rows {
         Rows::with_cuts(rows, cuts)
     }
 
-    /// The same table. Where addresses from `first` to `last` are cut from those beside them, at
-    /// `first` and behind `last`, `newest_of` looks at no row but there.
-    ///
+    /// Makes the same table, with its addresses divided into zones at `cuts`. If there are cuts at
+    /// `first` and right after `last`, `newest_of` steps over no row of the client outside them.
     /// # Errors
     ///
-    /// As of `new`.
+    /// As for `new`.
     pub fn with_cuts(rows: Vec<Row>, cuts: Vec<u32>) -> Result<Rows, AllocError>
         requires rise { Rise rows.items }
         requires ranges { All IsInRange rows.items }
@@ -109,7 +108,7 @@ impl Rows {
         })
     }
 
-    // The rows in rising address.
+    // Returns the rows in ascending order of address.
     pub(crate) fn sorted(&self) -> &Sorted
         ensures rows { result.now.rows ≡ self.now.rows }
         ensures rise { Rise result.now.rows }
@@ -117,14 +116,15 @@ impl Rows {
         &self.rows
     }
 
-    // For how many new addresses, at least, there is room.
+    // Returns the least number of new addresses for which there is room.
     pub(crate) fn room(&self) -> usize
         ensures { result ≡ self.now.room }
     {
         self.room
     }
 
-    /// How many rows there are; they rise in address, and their times are in range.
+    /// Returns the number of rows. They are in ascending order of address, and their times are in
+    /// range.
     pub fn len(&self) -> usize
         ensures len { result ≡ length self.now.rows }
         ensures rise { Rise self.now.rows }
@@ -135,14 +135,14 @@ impl Rows {
         self.rows.len()
     }
 
-    /// The row at an index, in rising address.
+    /// Returns the row at an index, in ascending order of address, if there is one.
     pub fn at(&self, i: usize) -> Option<&Row>
         ensures { option_copied result ≡ slice_get self.now.rows i }
     {
         self.rows.get(i)
     }
 
-    /// The row of an address.
+    /// Returns the row at an address, if there is one.
     pub fn get(&self, address: u32) -> Option<&Row>
         ensures { option_copied result ≡ row_at self.now.rows address }
     {
@@ -152,7 +152,7 @@ impl Rows {
         }
     }
 
-    /// Whether this very row is there, so that to set it would change nothing.
+    /// Whether the table has exactly this row, so that setting it would change nothing.
     pub fn has(&self, row: &Row) -> bool
         ensures { IsTrue result ↔ (with_row row.now self.now.rows ≡ self.now.rows) }
     {
@@ -162,7 +162,7 @@ impl Rows {
         }
     }
 
-    /// The greatest moment at which a row was set, 0 without rows.
+    /// Returns the latest time at which a row was set, or 0 if there are no rows.
     pub fn latest(&self) -> u64
         ensures latest { result ≡ latest_of self.now.rows }
         ensures early { result < 2 ^ 40 }
@@ -170,8 +170,8 @@ impl Rows {
         self.latest
     }
 
-    /// A moment before which no row ends: of the rows at first, and of each that was set, the least
-    /// end.
+    /// Returns a time before which no row ends: the least end of the rows that the table was made
+    /// from and of all that were set since.
     pub fn least_end(&self) -> u64
         ensures least { result ≡ self.now.least }
         ensures bound { All (λ row. result ≤ row.ends) self.now.rows }
@@ -179,22 +179,22 @@ impl Rows {
         self.least
     }
 
-    /// For how many seconds, at most, a row of a state holds from the moment at which it was set:
-    /// of all that were set, also of those that were replaced.
+    /// Returns how many seconds, at most, a row of a state holds after it was set. This counts
+    /// every row that was set, including those that were replaced.
     pub fn longest(&self, state: State) -> u64
         ensures { All (λ row. row.state ≡ state → row.ends ≤ row.changed + result) self.now.rows }
     {
         self.holds.of(state)
     }
 
-    /// The address at an index among those of a client, which rise.
+    /// Returns the address at an index among a client's addresses, which are in ascending order.
     pub fn of_client(&self, client: &[u8], i: usize) -> Option<u32>
         ensures { result ≡ slice_get (addresses_of client.now self.now.rows) i }
     {
         nth_of(&self.rows, client, i)
     }
 
-    /// The least address from `first` to `last` that has no row.
+    /// Returns the lowest address from `first` to `last` that has no row, if there is one.
     #[tactic(auto, using(crate::proofs::Fulls::gap_after))]
     pub fn first_gap(&self, first: u32, last: u32) -> Option<u32>
         requires { first ≤ last }
@@ -210,23 +210,23 @@ impl Rows {
         gap_in(&self.rows, from, last)
     }
 
-    /// The row of the least address that is this one or above it.
+    /// Returns the row with the lowest address that is this one or above it, if there is one.
     pub fn next_from(&self, address: u32) -> Option<&Row>
         ensures { IsNext self.now.rows address (option_copied result) }
     {
         self.at(self.rows.place_of(address))
     }
 
-    /// The row of a client of the least address from `first` to `last`.
+    /// Returns a client's row with the lowest address from `first` to `last`, if there is one.
     pub fn next_of_client(&self, client: &[u8], first: u32, last: u64) -> Option<&Row>
         ensures { IsNextOf self.now.rows client.now first last (option_copied result) }
     {
         next_of(&self.rows, client, first, last)
     }
 
-    /// The newest of a client's rows in a state from `first` to `last`: set last, and of those of
-    /// one moment that of the least address. With `before`, of those that come after it in this
-    /// order.
+    /// Returns the newest of a client's rows in a state from `first` to `last`: the one set last,
+    /// and the lowest address among those set at the same time. With `before`, returns the newest
+    /// of the rows that come after it in this order.
     pub fn newest_of(
         &self,
         client: &[u8],
@@ -242,7 +242,8 @@ impl Rows {
         newest_in(&self.rows, client, state, first, last, before)
     }
 
-    /// The row of the least address from `first` to `last` that has ended by a moment.
+    /// Returns the row with the lowest address from `first` to `last` that has ended at a time, if
+    /// there is one.
     pub fn next_ended(&self, first: u32, last: u32, moment: u64) -> Option<&Row>
         ensures { IsNextEnded self.now.rows first last moment (option_copied result) }
     {
@@ -258,18 +259,19 @@ impl Rows {
         )
     }
 
-    /// Whether a row can be set without memory: its address has one, or there is room for one more.
+    /// Whether a row can be set without taking memory: its address has a row, or there is room for
+    /// one more.
     pub fn spare(&self, row: &Row) -> bool
         ensures { result ≡ room_for_row self.now row.now }
     {
         find(&self.rows, row.address).is_some() || self.room > 0
     }
 
-    /// Makes room, so that a row can be set without memory.
+    /// Makes room so that a row can be set without taking memory.
     ///
     /// # Errors
     ///
-    /// There was no room, and there is no memory for it; the rows stay as they are.
+    /// There was no room, and there is no memory for more; the rows stay as they are.
     pub fn reserve(&mut self, row: &Row) -> Result<(), AllocError>
         ensures rows { self.new.rows ≡ self.old.rows }
         ensures least { self.new.least ≡ self.old.least }
@@ -284,8 +286,8 @@ impl Rows {
         Ok(())
     }
 
-    /// Sets a row: in place of the row of its address, or where that address belongs. No memory is
-    /// taken.
+    /// Sets a row: replaces the row at its address, or inserts it where its address belongs. Takes
+    /// no memory.
     pub fn set(&mut self, row: Row)
         requires spare { room_for_row self.old row ≡ true }
         requires changed { latest_of self.old.rows ≤ row.changed }
@@ -298,7 +300,7 @@ impl Rows {
         self.exchange(row);
     }
 
-    // The same, with the end of the row that was there.
+    // Does the same, and returns the end of the row that was there.
     pub(crate) fn exchange(&mut self, row: Row) -> Option<u64>
         requires spare { room_for_row self.old row ≡ true }
         requires changed { latest_of self.old.rows ≤ row.changed }
@@ -326,7 +328,7 @@ impl Rows {
     }
 }
 
-// The end of the row of an address.
+// Returns the end of the row at an address.
 fn ends_at(rows: &Sorted, address: u32) -> Option<u64>
     requires { Rise rows.now.rows }
     ensures { result ≡ end_at rows.now.rows address }
@@ -337,7 +339,8 @@ fn ends_at(rows: &Sorted, address: u32) -> Option<u64>
     }
 }
 
-// For how many new addresses there is room after a row was set: a new address takes one place.
+// Returns the number of new addresses for which there is room after a row was set: a new address
+// takes one place.
 pub(crate) fn room_after(room: usize, replaced: Option<u64>) -> usize
     ensures { result ≡ room - (if is_some replaced then 0 else 1) }
 {
@@ -358,7 +361,7 @@ fn is_same(a: &Row, b: &Row) -> bool
         && a.client.as_slice() == b.client.as_slice()
 }
 
-// The greatest moment at which a row was set, 0 without rows.
+// Returns the latest time at which a row was set, or 0 if there are no rows.
 fn latest_in(rows: &[Row]) -> u64
     ensures { result ≡ latest_of rows.now }
 {
@@ -369,7 +372,7 @@ fn latest_in(rows: &[Row]) -> u64
     latest
 }
 
-// The least moment at which a row ends, the greatest of all without rows.
+// Returns the earliest time at which a row ends, or the greatest time if there are no rows.
 fn least_in(rows: &[Row]) -> u64
     ensures least { result ≡ least_of rows.now }
     ensures bound { All (λ row. result ≤ row.ends) rows.now }

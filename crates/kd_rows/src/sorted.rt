@@ -13,21 +13,21 @@ use crate::zones::Zones;
 use std::alloc::AllocError;
 use std::marker::Model;
 
-// Rows in rising address, with two indexes of their addresses. A row stays in the slot in which it
-// came: where one is put among the others, only the numbers of slots move.
+// Rows in ascending order of address, with two indexes of their addresses. A row stays in the slot
+// in which it was put: when another is inserted, only the slot numbers move.
 #[derive(Drop)]
 pub(crate) struct Sorted {
     slots: Vec<Row>,
     // The addresses of the rows in the slots.
     addresses: Vec<u32>,
-    // The heads of their clients: a search compares these, and looks at a row only where they are
-    // the same.
+    // The heads of their clients. A search compares these, and looks at a row only if they are
+    // equal.
     heads: Vec<u64>,
-    // The numbers of the slots, in rising address of their rows.
+    // The slot numbers, in ascending order of the rows' addresses.
     by_address: Tiered,
-    // The numbers of the slots, in the order of client and address.
+    // The slot numbers, ordered by client and address.
     by_client: Tiered,
-    // The numbers of the slots, in the order of client, state, zone, falling moment and address.
+    // The slot numbers, ordered by client, state, zone, time (latest first) and address.
     by_age: Tiered,
     zones: Zones,
 }
@@ -54,7 +54,8 @@ impl Model for Sorted {
 }
 
 impl Sorted {
-    // Rows that rise in address, each in the slot of its place, and zones between cuts.
+    // Stores rows that are in ascending order of address, each in the slot of its index, and zones
+    // between cuts.
     pub(crate) fn new(rows: Vec<Row>, cuts: Vec<u32>) -> Result<Sorted, AllocError>
         requires { Rise rows.items }
         ensures rows { IfOk result (λ s. s.rows ≡ rows.items) }
@@ -79,42 +80,42 @@ impl Sorted {
         })
     }
 
-    // How many rows there are.
+    // Returns the number of rows.
     pub(crate) fn len(&self) -> usize
         ensures { result ≡ length self.now.rows }
     {
         self.by_address.len()
     }
 
-    // The addresses have 32 bits, which is all that this says.
+    // Does nothing; its contract states that the addresses have 32 bits.
     pub(crate) fn have_bounds(&self)
         ensures { All (λ row. row.address < 2 ^ 32) self.now.rows }
     {
         let _ = &self.slots;
     }
 
-    // How many addresses the index by client has.
+    // Returns the number of addresses in the client index.
     pub(crate) fn index_len(&self) -> usize
         ensures { result ≡ length self.now.index }
     {
         self.by_client.len()
     }
 
-    // How many addresses the index by age has.
+    // Returns the number of addresses in the age index.
     pub(crate) fn ages_len(&self) -> usize
         ensures { result ≡ length self.now.ages }
     {
         self.by_age.len()
     }
 
-    // The zones of addresses.
+    // Returns the zones of addresses.
     pub(crate) fn zones(&self) -> &Zones
         ensures { result.now ≡ self.now.cuts }
     {
         &self.zones
     }
 
-    // The row at a place.
+    // Returns the row at an index.
     pub(crate) fn row(&self, place: usize) -> &Row
         requires { place < length self.now.rows }
         ensures { result.now ≡ slice_index_or self.now.rows place result.now }
@@ -122,7 +123,7 @@ impl Sorted {
         &self.slots[self.by_address.at(place) as usize]
     }
 
-    // The row of the address at a place of the index by client.
+    // Returns the row of the `i`-th address of the client index.
     pub(crate) fn indexed(&self, i: usize) -> &Row
         requires { i < length self.now.index }
         ensures at { result.now.address ≡ slice_index self.now.index i }
@@ -131,7 +132,7 @@ impl Sorted {
         &self.slots[self.by_client.at(i) as usize]
     }
 
-    // The row of the address at a place of the index by age.
+    // Returns the row of the `i`-th address of the age index.
     pub(crate) fn aged(&self, i: usize) -> &Row
         requires { i < length self.now.ages }
         ensures at { result.now.address ≡ slice_index self.now.ages i }
@@ -140,7 +141,7 @@ impl Sorted {
         &self.slots[self.by_age.at(i) as usize]
     }
 
-    // The address of the row at a place.
+    // Returns the address of the row at an index.
     pub(crate) fn address(&self, place: usize) -> u32
         requires { place < length self.now.rows }
         ensures { result ≡ (row_in self.now.rows place).address }
@@ -148,7 +149,7 @@ impl Sorted {
         self.addresses[self.by_address.at(place) as usize]
     }
 
-    // The head of the client at a place of the index by client.
+    // Returns the head of the `i`-th client of the client index.
     pub(crate) fn indexed_head(&self, i: usize) -> u64
         requires { i < length self.now.index }
         ensures { IsHeadAt self.now.rows (slice_index self.now.index i) result }
@@ -156,7 +157,7 @@ impl Sorted {
         self.heads[self.by_client.at(i) as usize]
     }
 
-    // The head of the client at a place of the index by age.
+    // Returns the head of the `i`-th client of the age index.
     pub(crate) fn aged_head(&self, i: usize) -> u64
         requires { i < length self.now.ages }
         ensures { IsHeadAt self.now.rows (slice_index self.now.ages i) result }
@@ -164,7 +165,7 @@ impl Sorted {
         self.heads[self.by_age.at(i) as usize]
     }
 
-    // The row at a place, or that there are no more.
+    // Returns the row at an index, or `None` if there are no more.
     pub(crate) fn get(&self, place: usize) -> Option<&Row>
         ensures { option_copied result ≡ slice_get self.now.rows place }
     {
@@ -175,7 +176,7 @@ impl Sorted {
         }
     }
 
-    // The place of the first row that stands at an address or above it.
+    // Returns the index of the first row at this address or above it.
     pub(crate) fn place_of(&self, address: u32) -> usize
         ensures { IsPlace self.now.rows address result }
     {
@@ -192,7 +193,7 @@ impl Sorted {
         low
     }
 
-    // For how many more rows there is room.
+    // Returns the number of further rows for which there is room.
     pub(crate) fn room(&self) -> usize
         ensures { result ≡ self.now.room }
     {
@@ -203,7 +204,7 @@ impl Sorted {
         slots.min(self.by_address.room().min(indexes))
     }
 
-    // Makes room for a row more.
+    // Makes room for one more row.
     pub(crate) fn reserve(&mut self) -> Result<(), AllocError>
         ensures rows { self.new.rows ≡ self.old.rows }
         ensures index { self.new.index ≡ self.old.index }
@@ -219,7 +220,7 @@ impl Sorted {
         self.by_age.reserve()
     }
 
-    // Sets a row in place of the one at its address.
+    // Replaces the row at its address.
     pub(crate) fn replace(&mut self, place: usize, row: Row)
         requires { IsRowPlace self.old.rows row.address place }
         ensures rows { self.new.rows ≡ with_row row self.old.rows }
@@ -233,7 +234,7 @@ impl Sorted {
         self.slots[number] = row;
     }
 
-    // Moves the address at a place of the index by client to another, counted without it.
+    // Moves an address of the client index from one index to another, which is counted without it.
     pub(crate) fn move_key(&mut self, from: usize, to: usize)
         requires from { from < length self.old.index }
         requires to { to < length self.old.index }
@@ -248,7 +249,7 @@ impl Sorted {
         self.by_client.put_at(to, number);
     }
 
-    // Moves the address at a place of the index by age to another, counted without it.
+    // Moves an address of the age index from one index to another, which is counted without it.
     pub(crate) fn move_age(&mut self, from: usize, to: usize)
         requires from { from < length self.old.ages }
         requires to { to < length self.old.ages }
@@ -263,7 +264,8 @@ impl Sorted {
         self.by_age.put_at(to, number);
     }
 
-    // Puts a row where its address belongs, and its address at a place of each index.
+    // Inserts a row where its address belongs, and inserts its address at an index of each of the
+    // two indexes.
     pub(crate) fn insert_row(&mut self, key: usize, age: usize, row: Row)
         requires none { row_at self.old.rows row.address ≡ None }
         requires key { key ≤ length self.old.index }

@@ -8,17 +8,17 @@ use std::alloc::{AllocError, Global};
 use std::collections::VecDeque;
 use std::marker::Model;
 
-// For how many numbers a tier has room.
+// The number of numbers for which a tier has room.
 const SIZE: usize = 4096;
 
-// A list of numbers in tiers of one size, of which each has as many as it can. Where a number is
-// put among the others, those after it in its tier make room, and of each full tier the last one
-// goes to the front of the next.
+// A list of numbers in tiers of equal size, each as full as it can be. When a number is inserted,
+// the numbers after it in its tier move up, and the last number of each full tier becomes the first
+// of the next.
 #[derive(Drop)]
 pub(crate) struct Tiered {
     tiers: Vec<VecDeque<u32>>,
     len: usize,
-    // For how many more numbers there is room.
+    // The number of further numbers for which there is room.
     room: usize,
 }
 
@@ -35,7 +35,7 @@ impl Model for Tiered {
 }
 
 impl Tiered {
-    // No numbers.
+    // Makes an empty list.
     pub(crate) fn new(alloc: Global) -> Tiered
         ensures { result.numbers ≡ [] }
     {
@@ -46,7 +46,7 @@ impl Tiered {
         }
     }
 
-    // These numbers.
+    // Makes a list of these numbers.
     pub(crate) fn of(alloc: Global, numbers: &[u32]) -> Result<Tiered, AllocError>
         ensures { IfOk result (λ tiered. tiered.numbers ≡ numbers.now) }
     {
@@ -59,14 +59,14 @@ impl Tiered {
         Ok(tiered)
     }
 
-    // How many numbers there are.
+    // Returns how many numbers there are.
     pub(crate) fn len(&self) -> usize
         ensures { result ≡ length self.now.numbers }
     {
         self.len
     }
 
-    // The number at a place.
+    // Returns the number at an index.
     pub(crate) fn at(&self, place: usize) -> u32
         requires { place < length self.now.numbers }
         ensures { result ≡ slice_index_or self.now.numbers place result }
@@ -74,14 +74,14 @@ impl Tiered {
         self.tiers[place / SIZE][place % SIZE]
     }
 
-    // For how many more numbers there is room.
+    // Returns how many further numbers there is room for.
     pub(crate) fn room(&self) -> usize
         ensures { result ≡ self.now.room }
     {
         self.room
     }
 
-    // Makes room for a number more.
+    // Makes room for one more number.
     pub(crate) fn reserve(&mut self) -> Result<(), AllocError>
         ensures numbers { self.new.numbers ≡ self.old.numbers }
         ensures room { OnOk result (0 < self.new.room) }
@@ -98,7 +98,7 @@ impl Tiered {
         Ok(())
     }
 
-    // Puts a number at a place.
+    // Inserts a number at an index.
     pub(crate) fn put_at(&mut self, place: usize, number: u32)
         requires place { place ≤ length self.old.numbers }
         requires room { 0 < self.old.room }
@@ -110,7 +110,7 @@ impl Tiered {
         self.room -= 1;
     }
 
-    // Takes the number at a place.
+    // Removes the number at an index and returns it.
     pub(crate) fn take_at(&mut self, place: usize) -> u32
         requires { place < length self.old.numbers }
         ensures value { result ≡ slice_index_or self.old.numbers place result }
@@ -124,7 +124,7 @@ impl Tiered {
     }
 }
 
-// Puts a number at a place of tiers with room for one more.
+// Inserts a number at an index of tiers that have room for one more.
 fn put_among(tiers: &mut Vec<VecDeque<u32>>, place: usize, number: u32)
     requires tiers { AreTiers deque_items deque_capacity tiers.old.items }
     requires place { place ≤ length (flat_map deque_items tiers.old.items) }
@@ -142,7 +142,7 @@ fn put_among(tiers: &mut Vec<VecDeque<u32>>, place: usize, number: u32)
     }
 }
 
-// Takes the number at a place of tiers.
+// Removes the number at an index of tiers and returns it.
 fn take_among(tiers: &mut Vec<VecDeque<u32>>, place: usize) -> u32
     requires tiers { AreTiers deque_items deque_capacity tiers.old.items }
     requires place { place < length (flat_map deque_items tiers.old.items) }
@@ -166,7 +166,8 @@ fn take_among(tiers: &mut Vec<VecDeque<u32>>, place: usize) -> u32
     number
 }
 
-// Puts a number at a place of a tier; where the tier is full, its last number comes out.
+// Inserts a number at an index of a tier. If the tier is full, removes its last number and returns
+// it.
 fn put(tier: &mut VecDeque<u32>, place: usize, number: u32) -> Option<u32>
     requires room { 4096 ≤ deque_capacity tier.old }
     requires len { length tier.old.items ≤ 4096 }
@@ -186,7 +187,7 @@ fn put(tier: &mut VecDeque<u32>, place: usize, number: u32) -> Option<u32>
     }
 }
 
-// Takes the last number of a full tier.
+// Removes the last number of a full tier and returns it.
 fn last_of_full(tier: &mut VecDeque<u32>) -> Option<u32>
     requires { length tier.old.items ≤ 4096 }
     ensures items { tier.old.items ≡ tier.new.items ++ option_to_list result }
@@ -201,7 +202,8 @@ fn last_of_full(tier: &mut VecDeque<u32>) -> Option<u32>
     }
 }
 
-// Puts a number at the front of a tier; where the tier is full, its last number comes out.
+// Inserts a number as the first of a tier. If the tier is full, removes its last number and returns
+// it.
 fn push(tier: &mut VecDeque<u32>, number: u32) -> Option<u32>
     requires room { 4096 ≤ deque_capacity tier.old }
     requires len { length tier.old.items ≤ 4096 }
@@ -217,7 +219,7 @@ fn push(tier: &mut VecDeque<u32>, number: u32) -> Option<u32>
     over
 }
 
-// Takes the number at a place of a tier.
+// Removes the number at an index of a tier and returns it.
 fn take(tier: &mut VecDeque<u32>, place: usize) -> u32
     requires { place < length tier.old.items }
     ensures value { result ≡ slice_index_or tier.old.items place result }

@@ -14,17 +14,17 @@ use crate::rows::{Rows, room_after};
 use std::alloc::AllocError;
 use std::marker::Model;
 
-/// A table of leases with addresses that are withheld: each is for one client, and for no other.
+/// A table of leases with withheld addresses: each of these is for one client and no other.
 #[derive(Drop)]
 pub struct Withheld {
     rows: Rows,
-    // The addresses that are withheld, rising.
+    // The withheld addresses, in ascending order.
     list: Vec<u32>,
-    // Those of them that have no row, rising.
+    // Those of them that have no row, in ascending order.
     bare: Vec<u32>,
-    // The bound of each block that has rows, of those that are not withheld.
+    // The bound of each block that has rows at addresses that are not withheld.
     others: Blocks,
-    // For how many new addresses rows and bounds have both room.
+    // A number of new addresses for which both rows and bounds have room.
     room: usize,
 }
 
@@ -43,11 +43,11 @@ impl Model for Withheld {
 }
 
 impl Withheld {
-    /// A table with addresses that are withheld. They may come in any order, and one several times.
+    /// Makes a table with withheld addresses. They may come in any order, and more than once.
     ///
     /// # Errors
     ///
-    /// There is no memory for those without a row, or for the bounds of the rows.
+    /// There is no memory for the withheld addresses without a row, or for the bounds of the rows.
     pub fn new(rows: Rows, withheld: Vec<u32>) -> Result<Withheld, AllocError>
         ensures rows { IfOk result (λ t. t.table.rows ≡ rows.rows) }
         ensures least { IfOk result (λ t. t.table.least ≡ rows.least) }
@@ -71,7 +71,7 @@ impl Withheld {
         })
     }
 
-    /// The rows alone, which may have more room.
+    /// Returns the table of rows by itself, which may have more room.
     pub fn rows(&self) -> &Rows
         ensures rows { result.now.rows ≡ self.now.table.rows }
         ensures least { result.now.least ≡ self.now.table.least }
@@ -80,7 +80,8 @@ impl Withheld {
         &self.rows
     }
 
-    /// The least address from `first` to `last` that has no row and is not withheld.
+    /// Returns the lowest address from `first` to `last` that has no row and is not withheld, if
+    /// there is one.
     pub fn first_free(&self, first: u32, last: u32) -> Option<u32>
         requires { first ≤ last }
         ensures { IsFirstFree self.now.table.rows self.now.withheld first last result }
@@ -93,8 +94,8 @@ impl Withheld {
         }
     }
 
-    /// The row of the least address from `first` to `last` that has ended by a moment, in seconds,
-    /// and is not withheld.
+    /// Returns the row with the lowest address from `first` to `last` that has ended at a time, in
+    /// seconds, and is not withheld, if there is one.
     pub fn next_ended(&self, first: u32, last: u32, moment: u64) -> Option<&Row>
         ensures { IsNextOpenEnded self.now.table.rows self.now.withheld first last moment
             (option_copied result) }
@@ -106,18 +107,19 @@ impl Withheld {
         next_ended(&rows, &self.others, first, last, moment)
     }
 
-    /// Whether a row can be set without memory: its address has one, or there is room for one more.
+    /// Whether a row can be set without taking memory: its address has a row, or there is room for
+    /// one more.
     pub fn spare(&self, row: &Row) -> bool
         ensures { result ≡ room_for_row self.now.table row.now }
     {
         self.rows.get(row.address).is_some() || self.room > 0
     }
 
-    /// Makes room, so that a row can be set without memory.
+    /// Makes room so that a row can be set without taking memory.
     ///
     /// # Errors
     ///
-    /// There was no room, and there is no memory for it; the rows stay as they are.
+    /// There was no room, and there is no memory for more; the rows stay as they are.
     pub fn reserve(&mut self, row: &Row) -> Result<(), AllocError>
         ensures rows { self.new.table.rows ≡ self.old.table.rows }
         ensures least { self.new.table.least ≡ self.old.table.least }
@@ -133,8 +135,8 @@ impl Withheld {
         Ok(())
     }
 
-    /// Sets a row: in place of the row of its address, or where that address belongs. No memory is
-    /// taken.
+    /// Sets a row: replaces the row at its address, or inserts it where its address belongs. Takes
+    /// no memory.
     pub fn set(&mut self, row: Row)
         requires spare { room_for_row self.old.table row ≡ true }
         requires changed { latest_of self.old.table.rows ≤ row.changed }

@@ -8,7 +8,7 @@ use std::marker::Model;
 // Zones of addresses, each from one cut to the next.
 #[derive(Drop)]
 pub(crate) struct Zones {
-    // They rise.
+    // In ascending order.
     cuts: Vec<u32>,
 }
 
@@ -24,7 +24,7 @@ impl Model for Zones {
 }
 
 impl Zones {
-    // The zones between cuts, which may come in any order.
+    // Makes the zones between cuts, which may come in any order.
     pub(crate) fn between(cuts: Vec<u32>) -> Zones
         ensures { IsPermutation cuts.items result }
     {
@@ -33,7 +33,7 @@ impl Zones {
         Zones { cuts }
     }
 
-    // The zone of an address.
+    // Returns the zone of an address.
     pub(crate) fn of(&self, address: u32) -> u32
         ensures { result ≡ zone_in self.now address }
     {
@@ -50,7 +50,7 @@ impl Zones {
         low.min(0xffff_ffff) as u32
     }
 
-    // The group of a row.
+    // Returns the group of a row.
     pub(crate) fn group(&self, row: &Row) -> u64
         ensures { result ≡ group_in self.now row.now }
     {
@@ -58,7 +58,7 @@ impl Zones {
     }
 }
 
-// A state and a zone as one number.
+// Returns a state and a zone as one number.
 pub(crate) fn group(state: State, zone: u32) -> u64
     ensures { result ≡ group_number state zone }
 {
