@@ -7,8 +7,8 @@ use Rattle.kd_rows.specs.Table.{Rise}
 use Rattle.kd_rows.specs.declared.row.Row.{Row}
 
 module _ {S : Type 0} (g : Ghosts S) where
-  -- rows that were read from a store: they rise and are in range, and where the store's disk is clean
-  -- they are the table at which it stands, and a crash leaves that table
+  -- rows that were read from a store: they are in ascending order and in range, and if the store's
+  -- disk is clean they are the table that it is at, and a crash leaves that table
   pub record AreRead (store : S) (rows : List Row) : Type 0 where
     pub rise : Rise rows
     pub ranges : All IsInRange rows

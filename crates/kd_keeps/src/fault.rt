@@ -5,32 +5,32 @@ ghost use Rattle.kd_keeps.specs.Fault.{store_fault_number};
 use std::fmt;
 use thiserror::Error;
 
-/// Why a database does not answer, by the names of SQLite's result codes.
+/// Why a call to a database failed, named after SQLite's result codes.
 #[derive(Clone, Copy, PartialEq, Eq)]
 pub enum Cause {
     /// There is no memory.
     OutOfMemory,
-    /// The disk can not be read or written.
+    /// The disk cannot be read or written.
     SystemIoFailure,
     /// The disk is full.
     DiskFull,
-    /// The database would grow over its greatest size.
+    /// The database would exceed its greatest size.
     TooBig,
     /// The file is damaged.
     DatabaseCorrupt,
-    /// An earlier failure of the disk has closed the database.
+    /// The database cannot be used, as when an earlier failure of the disk has closed it.
     Closed,
     /// The database refuses the statement.
     Refused,
 }
 
-/// Why a store does not answer.
+/// Why a call to a store failed.
 #[derive(Clone, Copy, PartialEq, Eq, Error)]
 pub enum StoreFault {
     /// The database has a table `lease` that is not ours, or a row that is out of range.
     #[error("Schema")]
     Schema,
-    /// The database does not answer. The cause is not printed.
+    /// A call to the database failed, for this cause. The cause is not printed.
     #[error("Sql")]
     Sql(Cause),
 }
@@ -42,7 +42,7 @@ impl fmt::Debug for StoreFault {
 }
 
 impl StoreFault {
-    /// The fault's number: 80 or 81.
+    /// Returns the fault's number: 80 or 81.
     pub fn number(self) -> u8
         ensures { result ≡ store_fault_number self }
     {
@@ -53,7 +53,7 @@ impl StoreFault {
     }
 }
 
-/// The fault with which a call has failed, if it has.
+/// Returns the fault with which a call failed, if it failed.
 pub fn fault_in<T>(answer: &Result<T, StoreFault>) -> Option<StoreFault>
     ensures { result ≡ result_err answer.now }
 {

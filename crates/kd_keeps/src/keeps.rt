@@ -1,7 +1,7 @@
 use crate::fault::StoreFault;
 use kd_rows::Row;
 
-/// A store that keeps the table of leases: rows one an address, in rising address.
+/// A store that keeps the table of leases: one row per address, in ascending order of address.
 pub trait Keeps {
     ghost use Rattle.std.specs.Prelude.{◌≡◌, IfOk, List, Option, false, is_some};
     ghost use Rattle.std.specs.List.{All};
@@ -12,10 +12,10 @@ pub trait Keeps {
     ghost use Rattle.kd_rows.specs.Table.{Rise, with_row, with_rows};
     ghost use Rattle.kd_rows.specs.declared.row.Row.{Row as LeaseRow};
 
-    /// The store stands at this table: it is open, and what it has committed is that table.
+    /// The store is at this table: it is open, and the table is what it has committed.
     ghost stands: { Self → List LeaseRow → Type 0 };
 
-    /// No call so far has met a disk that does not do what it says.
+    /// In no call so far has the disk failed to do what it says.
     ghost has_clean_disk: { Self → Type 0 };
 
     /// A crash leaves one of these two tables, and no other.
@@ -24,16 +24,16 @@ pub trait Keeps {
     /// No failure of the disk has closed the store.
     ghost is_open: { Self → Type 0 };
 
-    /// The fault with which a call has failed, if one has: the store is to be closed then, and
-    /// opened again.
+    /// The fault with which a call failed, if one has. The store must then be closed and opened
+    /// again.
     ghost fault: { Self → Option StoreFault };
 
-    /// Sets a row, in place of the row of its address or as a new one, and commits it.
+    /// Sets a row, which replaces the row at its address or is added, and commits it.
     ///
     /// # Errors
     ///
-    /// The store has failed; it holds the table from before or the one with the row. While it is
-    /// still open it holds the one from before.
+    /// The store has failed. It has the table from before the call or the one with the row; while
+    /// it is still open, it has the one from before.
     fn put(&mut self, row: &Row) -> Result<(), StoreFault>
         requires ready { is_some (fault self.old) ≡ false }
         requires range { IsInRange row.now }
@@ -43,12 +43,12 @@ pub trait Keeps {
             table (with_row row.now table) result }
         ensures failed { fault self.new ≡ result_err result };
 
-    /// Sets rows in their order, each as `put` does, and commits them together.
+    /// Sets rows in the given order, each as `put` does, and commits them together.
     ///
     /// # Errors
     ///
-    /// The store has failed; it holds the table from before or the one with all rows. While it is
-    /// still open it holds the one from before.
+    /// The store has failed. It has the table from before the call or the one with all rows; while
+    /// it is still open, it has the one from before.
     fn put_all(&mut self, rows: &[Row]) -> Result<(), StoreFault>
         requires ready { is_some (fault self.old) ≡ false }
         requires ranges { All IsInRange rows.now }
@@ -58,11 +58,11 @@ pub trait Keeps {
             table (with_rows rows.now table) result }
         ensures failed { fault self.new ≡ result_err result };
 
-    /// All rows, in rising address, one an address, each in its ranges.
+    /// Returns all rows, in ascending order of address, one per address, each in its ranges.
     ///
     /// # Errors
     ///
-    /// The store has failed; it holds the table from before.
+    /// The store has failed; it has the table from before the call.
     fn rows(&mut self) -> Result<Vec<Row>, StoreFault>
         requires ready { is_some (fault self.old) ≡ false }
         ensures clean { has_clean_disk self.new → has_clean_disk self.old }
@@ -74,7 +74,7 @@ pub trait Keeps {
             → MovesTable (stands self.new) (leaves self.new) (is_open self.new) table table result }
         ensures failed { fault self.new ≡ result_err result };
 
-    /// Whether a call has failed.
+    /// Returns whether a call has failed.
     fn failed(&self) -> bool
         ensures { result ≡ is_some (fault self.now) };
 }

@@ -1,11 +1,12 @@
-//! What a server asks of the store that keeps its leases, and how a store can fail.
+//! What a server needs from the store that keeps its leases, and how a store can fail.
 //!
-//! What this layer promises to the one above: a store that meets the trait `Keeps` stands at a
-//! table of leases, sets one row a call, says what a crash may leave, and with which fault it has
-//! failed (`specs/Moves.antt`). Clauses on tables hold where the disk is clean at the end of a
-//! call; the disk was clean then at every call before it, so that a day of many calls has this one
-//! premise. `specs/Reading.antt` says what rows are that were read from a store, `specs/Fault.antt`
-//! has the numbers of the faults. `Volatile` is the store that keeps no row.
+//! What this layer promises to the one above: a store that implements the trait `Keeps` is at a
+//! table of leases, sets rows in calls that each commit once, and states what a crash may leave and
+//! with which fault it has failed (`specs/Moves.antt`). Clauses about tables hold if the disk is
+//! clean at the end of a call. The disk was then clean at every call before it as well, so a day of
+//! many calls has this one premise. `specs/Reading.antt` says what holds of rows that were read
+//! from a store, and `specs/Fault.antt` has the numbers of the faults. `Volatile` is the store that
+//! keeps no rows.
 #![tactic(auto)]
 
 mod fault;

@@ -5,8 +5,8 @@ use crate::keeps::Keeps;
 use kd_rows::Row;
 use std::alloc::Global;
 
-/// A store for a server whose leases are in its own rows alone and end with it: it keeps no row. So
-/// it can be asked for its rows only while none was put.
+/// A store that keeps no rows, for a server whose leases are only in its memory and end with it.
+/// Its rows can therefore be read only while none has been put.
 #[derive(Drop)]
 pub struct Volatile {
     alloc: Global,
@@ -15,7 +15,7 @@ pub struct Volatile {
 }
 
 impl Volatile {
-    /// A new one, at the empty table.
+    /// Makes a new store, at the empty table.
     pub fn new(alloc: Global) -> Volatile
         ensures new { result.is_new ≡ true }
         ensures fault { result.fault ≡ None }
