@@ -1,4 +1,4 @@
--- What rows that are set in one transaction leave of a connection that stands at a table.
+-- What is true of a connection at a table after rows are set in one transaction.
 use Rattle.std.proofs.Common.{◌≡◌, inl, inr, ℕ, suc, ◌+◌, ◌<◌, false, List, [], ◌∷◌, ◌++◌, length, take, drop, get_or, Ok, Err, IsTrue, refl, sym, ap, subst, ◌∙◌, arith}
 use Rattle.std.proofs.Math.Seq.{drop-cons}
 use Rattle.std.proofs.lemmas.Bool.{both_ways}
@@ -24,17 +24,17 @@ use Rattle.kd_store.proofs.Puts.{does}
 use Rattle.kd_store.proofs.States.{Settles, left_of}
 use Rattle.kd_store.proofs.Texts.{put_is, put_plain}
 
--- what holds of a connection holds of the same one, once it is given back
+-- what holds of a connection holds of the same one after it is given back
 pub given_back : {S : Type 0} (P : Held S → Type 0) (end new : Held S) → P end → end ≡ new → P new
 given_back P end new h same = subst P same h
 
 -- ---- the rows at an index
 
--- some rows and the next
+-- some rows and the next one
 pub one_more : (rows : List Row) (i : ℕ) (row : Row) → i < length rows → row ≡ get_or rows i row → take (i + 1) rows ≡ take i rows ++ row ∷ []
 one_more rows i row within is = take_more rows i row within ∙ ap (λ (r : Row). take i rows ++ r ∷ []) (sym is)
 
--- the rows before an index, the one there, and those after it
+-- the rows before an index, the one at it, and those after it
 pub parted : (rows : List Row) (i : ℕ) (row : Row) → i < length rows → row ≡ get_or rows i row → rows ≡ take i rows ++ row ∷ drop (suc i) rows
 parted rows i row within is =
     sym (take-append-drop i rows) ∙ ap (λ (l : List Row). take i rows ++ l) (drop-cons rows i row within ∙ ap (λ (r : Row). r ∷ drop (suc i) rows) (sym is))

@@ -123,7 +123,7 @@ module _ (old made : State) (count : ℕ) (ready : old.in_transaction ≡ false)
   made_settled : made.committed ≡ made.now
   made_settled = elim (made_any old made count ran) [ inl same ↦ same.0.committed_is ∙ sym (settled same.0.was_open) ∙ sym same.0.now_is | inr w ↦ rw ready at w.shown.committed_is ]
 
-  -- also where the table was made and then not read
+  -- also if the table was made and then not read
   pub stays : (new : State) → Rests made new → IsTrue new.is_open → (new.now ≡ old.now) ⊎ AddsOurs old.now new.now
   stays new rests is_open = subst (λ (d : Database). (d ≡ old.now) ⊎ AddsOurs old.now d) (sym (now rests)) made_stays
     where

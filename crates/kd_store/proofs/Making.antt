@@ -20,7 +20,7 @@ use Rattle.kd_store.proofs.Texts.{make_is, make_again, make_plain, again_plain}
 use Rattle.kd_store.proofs.Puts.{went, same_value}
 use Rattle.kd_store.proofs.States.{IsReady, Rests, after_error}
 
--- the text makes our schema of none, and an empty table
+-- if there is no schema, the text makes ours, and an empty table
 made_of : (old : State) (after : Database) (text : List ℕ) (tally : Tally) → text ≡ make_text → old.now.schema ≡ no_schema → Does old.step_limit (mode_of old) [] old.now text None CreateTable (Ok (tally, after))
     → (after.schema ≡ lease_schema) × (after.trees 0 ≡ [])
 made_of old after text tally same has does =
@@ -72,7 +72,7 @@ makes_found old new count table ready live settled (inr there) ran =
     let it = again old new count ready (ours old table live there.0 there.1) live settled ran in
     record { is_open = it.0.is_open; ready = it.0.ready; schema = it.0.schema; holds = subst (λ (d : Database). Holds d.trees table) (sym it.1.0.now_is) there.1; settled = it.0.settled }
 
--- a statement that failed leaves what was found
+-- after a statement that failed, the same table is found
 finds_same : (old new : State) (table : List Row) → Finds old table → new.now ≡ old.now → IsTrue new.is_open → Finds new table
 finds_same old new table (inl none) same is_open = inl (ap (λ (d : Database). d.schema) same ∙ none.0, none.1)
 finds_same old new table (inr there) same is_open = inr (is_open, subst (λ (d : Database). Holds d.trees table) (sym same) there.1)

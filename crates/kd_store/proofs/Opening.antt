@@ -1,4 +1,4 @@
--- What a connection is, once a store was opened over it or was not.
+-- What a connection is after a store was opened over it, or was not.
 use Rattle.std.proofs.Common.{◌≡◌, inl, inr, ℕ, false, List, [], Ok, Err, refl, subst, arith}
 use Rattle.std.proofs.Math.Logic.{⊎_elim}
 use Rattle.sqlite.specs.declared.error.Error.{Error}
@@ -21,7 +21,7 @@ use Rattle.kd_store.proofs.Reading.{finds_table, read_leaves, reads_table, unrea
 use Rattle.kd_store.proofs.States.{Settles, after_error, leaves_one, same_back, stands_rests, stands_same}
 use Rattle.kd_store.proofs.Streaming.{shown_same}
 
--- the rows that were read are those of the table at which a connection stands
+-- the rows that were read are those of the table that a connection is at
 pub rows_are : (made new : State) (rows table : List Row) → Settles new → AreShown made new rows → Rise rows → Stands new table → (rows ≡ table) × Leaves new table table
 rows_are made new rows table law shown rise h =
     let before = stands_same new made table h (same_back made new (shown_same made new rows shown)) in

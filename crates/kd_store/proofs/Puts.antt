@@ -63,7 +63,7 @@ cast_is row =
     (ap₂ (λ (a : Value) (b : Columns). a ∷ b) (cast_int (pos (state_number row.state)))
     (ap₂ (λ (a b : Value). a ∷ b ∷ []) (cast_int (pos row.changed)) (cast_int (pos row.ends)))))
 
--- ---- the rows of an address
+-- ---- the rows at an address
 
 -- two rowids are one number
 same_number : (m n : ℕ) → is_true (binary (Compare Eq Binary) (Int (pos m)) (Int (pos n))) ≡ (m == n)
@@ -98,7 +98,7 @@ met row r key h =
 
 -- ---- the update in place
 
--- what the update reads: the parameters, the rowid that is there, and the new row
+-- what the update reads: the parameters, the existing rowid, and the new row
 abbrev given : Row → Columns
 given row =
     Int (pos row.address) ∷ Bytes row.client ∷ Int (pos (state_number row.state)) ∷ Int (pos row.changed) ∷ Int (pos row.ends)
@@ -137,7 +137,7 @@ none_of f [] x e h = absurd h
 none_of f (y ∷ ys) x e (inl same) = rw same (first_none (f y) _ e)
 none_of f (y ∷ ys) x e (inr h) = none_of f ys x (second_none (f y) _ e) h
 
--- the update finds rows, and each is the new one under the rowid that was there
+-- the update finds rows, and each becomes the new one under its old rowid
 pub updates_to : (row : Row) (db : Trees) (rows : List Columns) → AllByRecursion IsKeyed (db 0) → IsAnswer update db (given row) rows → AllByRecursion (λ x. x ≡ Int (pos row.address) ∷ stored row) rows × (length rows ≡ length (flat_map (steps row) (db 0)))
 updates_to row db rows keys a =
     let staged : a.staged ≡ flat_map (steps row) (db 0) = a.grouped in
@@ -151,13 +151,13 @@ updates_to row db rows keys a =
 
 -- ---- the rows that the statement writes
 
--- a rowid is taken where its row has been put
+-- a rowid is taken if its row has been put
 taken_put : (row : Row) (rows : List Columns) → is_taken rows (stored row) ≡ false → is_taken (put_row (stored row) rows) (stored row) ≡ true
 taken_put row rows free =
     let there : is_eq (value_cmp (Int (pos row.address)) (Int (pos row.address))) ≡ true = ap is_eq (number_of row.address row.address) ∙ grind (arith, nat_tests) in
     list_any-IsPermutation (λ r. is_eq (value_cmp (rowid r) (Int (pos row.address)))) _ _ (one_more (stored row) rows free) ∙ ap (λ b. b || is_taken rows (stored row)) there
 
--- the rows that are left where none has the rowid
+-- the remaining rows if none has the rowid
 none_gone : (id : ℤ) (rows : List Columns) → list_any (has_rowid id) rows ≡ false → without_rowid id rows ≡ rows
 none_gone id [] free = refl
 none_gone id (r ∷ rows) free = by (has_rowid id r) free (none_gone id rows) where
@@ -165,7 +165,7 @@ none_gone id (r ∷ rows) free = by (has_rowid id r) free (none_gone id rows) wh
   by true free more = absurd (true≢false free)
   by false free more = ap (λ l. r ∷ l) (more free)
 
--- the edit that takes these rowids out and puts one row in
+-- the edit that removes these rowids and puts one row
 abbrev pub edit : List ℤ → Columns → Edit
 edit gone new = record { table = lease; gone = gone; news = new ∷ [] }
 

@@ -41,7 +41,7 @@ read_shows db rows reads =
     let kept : map (λ (o : Output). o.1) a.kept ≡ map columns_in (db.trees 0) = ap (map (λ (o : Output). o.1)) (a.distinct ∙ ap (map (output select)) a.grouped) ∙ all_shown (db.trees 0) in
     subst (IsPermutation (map columns_in (db.trees 0))) (sym a.shown) (subst (λ l. IsPermutation l (map (λ (o : Output). o.1) a.ordered)) kept same)
 
--- rows that are read from the trees, and rise, are what the trees list
+-- rows that are read from the trees, in ascending order, are what the trees list
 pub lists_read : (db : Database) (found : List Columns) (rows : List Row) → effect.Reads (Select selects names) db [] found → map columns_of rows ≡ map first_five found → Rise rows → Lists db.trees rows
 lists_read db found rows reads are rise = record {
   rise = rise;
@@ -50,19 +50,19 @@ lists_read db found rows reads are rise = record {
       (subst (IsPermutation (map first_five found)) (five_of_shown (db.trees 0)) (IsPermutation-sym _ _ (IsPermutation-map first_five _ _ (read_shows db found reads))));
 }
 
--- what is read where the connection stands at a table is that table
+-- what is read from a connection at a table is that table
 pub reads_table : (old new : State) (rows table : List Row) → Stands old table → AreShown old new rows → Rise rows → rows ≡ table
 reads_table old new rows table h is rise =
     let reads = reads_as rows_text [] old new lease_schema h.schema _ rows_is rows_plain rows_unlisted is.0 is.1 in
     one_table old.now.trees rows table (lists_read old.now is.0 rows reads is.2 rise) h.holds.1
 
--- where the connection is ready, what is read is the table at which it stands
+-- if the connection is ready, what is read is the table that it is at
 pub finds_table : (old new : State) (rows : List Row) → IsReady old → AreShown old new rows → Rise rows → Stands old rows
 finds_table old new rows h is rise =
     let reads = reads_as rows_text [] old new lease_schema h.schema _ rows_is rows_plain rows_unlisted is.0 is.1 in
     record { is_open = h.is_open; ready = h.ready; schema = h.schema; holds = (h.sound, lists_read old.now is.0 rows reads is.2 rise); settled = h.settled }
 
--- where rows are not read the connection stands as before, or has gone back to its last commit
+-- if rows are not read, the connection is as before, or has gone back to its last commit
 pub unread_rests : (old new : State) (fault : StoreFault) → AreUnread old new fault → Rests old new
 unread_rests old new fault (inl h) = after_query_error old new rows_text [] h.0 h.2
 unread_rests old new fault (inr h) = inl h.0
@@ -72,7 +72,7 @@ pub read_leaves : (old new : State) (table : List Row) → Settles old → HasCl
 read_leaves old new table law clean h survives db may = elim (survives.crash clean db may) [ inl before ↦ inl (left_of old table law h db before) | inr none ↦ absurd none ]
 
 module _ {V : Type 0} (items : V → List Row) (old new : State) (table : List Row) (law : Settles old) (after : Settles new) (clean : HasCleanDisk new) (h : Stands old table) (survives : Survives old new (λ _. ⊥)) where
-  -- a reading leaves a connection at the table at which it stood
+  -- a read leaves a connection at the table that it was at
   pub reading_moves : (r : Result V StoreFault) → ReadsTable items old new r → MovesTable (Stands new) (Leaves new) (IsTrue new.is_open) table table r
   reading_moves (Ok v) is =
       let stands = stands_same old new table h (shown_same old new (items v) is) in

@@ -80,7 +80,7 @@ unfolding same_rows
 rows_same [] = refl
 rows_same (x ∷ xs) = let rest = rows_same xs in let client = bytes_same x.client in grind (arith, nat_tests)
 
--- of two tables, one that is there
+-- one of two tables, if it is known to be one of them
 one_of : (found before after : List Row) → ∥ (found ≡ before) ⊎ (found ≡ after) ∥₁ → (found ≡ before) ⊎ (found ≡ after)
 one_of found before after some = by (same_rows found before) refl (same_rows found after) refl where
   other : (table : List Row) → same_rows found table ≡ false → found ≡ table → ⊥
@@ -104,6 +104,6 @@ reopens g h it before after numbered one image may opened is finds_in =
           one_of found before after (∥∥₁_map left (λ db. ⊎_elim (λ was. inl (found_held _ found before is.0 is.1 finds was)) (λ now. inr (found_held _ found after is.0 is.1 finds now)) (one _ db))),
     )
 
--- a connection stands at one table only
+-- a connection is at only one table
 pub stands_once : (s : State) (table other : List Row) → Stands s table → Stands s other → table ≡ other
 stands_once s table other a b = one_table s.now.trees table other a.holds.1 b.holds.1

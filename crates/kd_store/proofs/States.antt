@@ -1,4 +1,4 @@
--- What a call leaves of a connection that stands at a table.
+-- What is true of a connection at a table after a call.
 use Rattle.std.proofs.Common.{◌≡◌, ◌⊎◌, inl, inr, ℕ, false, List, Some, None, Option, Ok, Err, IsTrue, sym, ap, subst, ◌∙◌, append-nil}
 use Rattle.std.proofs.lemmas.Bool.{cases_Bool}
 use Rattle.sqlite_value.specs.Order.{Row as Columns}
@@ -19,14 +19,14 @@ use Rattle.kd_store.specs.Stands.{Holds, Stands, Leaves}
 use Rattle.kd_store.proofs.Texts.{put_is, put_plain}
 use Rattle.kd_store.proofs.Puts.{does}
 
--- while it is open a crash leaves what is committed
+-- while the connection is open, a crash leaves what is committed
 abbrev pub Settles : State → Type 0
 Settles s = (db : Trees) → IsTrue s.is_open → s.may_leave db → db ≡ s.committed.trees
 
 pub left_of : (s : State) (table : List Row) → Settles s → Stands s table → (db : Trees) → s.may_leave db → Holds db table
 left_of s table law h db may = subst (λ trees. Holds trees table) (sym (law db h.is_open may ∙ ap (λ (d : Database). d.trees) h.settled)) h.holds
 
--- where it stands at a table, a crash leaves that table alone
+-- if it is at a table, a crash leaves only that table
 pub leaves_one : (s : State) (table : List Row) → Settles s → Stands s table → Leaves s table table
 leaves_one s table law h db may = inl (left_of s table law h db may)
 
@@ -49,7 +49,7 @@ stands_same old new table h u = record {
   settled = u.0.committed_is ∙ h.settled ∙ sym u.0.now_is;
 }
 
--- what has not changed since had not before
+-- if nothing has changed forwards, nothing has changed backwards
 pub same_back : (old new : State) → IsUnchanged old new → IsUnchanged new old
 same_back old new u = (
   record { was_open = u.0.is_open; is_open = u.0.was_open; now_is = sym u.0.now_is; committed_is = sym u.0.committed_is; mode = sym u.0.mode },

@@ -1,4 +1,4 @@
--- Rows that rise, and rows that begin no table of leases.
+-- Rows in ascending order, and rows that are not the beginning of any table of leases.
 use Rattle.std.proofs.Common.{◌≡◌, ◌⊎◌, inl, inr, ℕ, ℤ, pos, ◌+◌, ◌^◌, ◌<◌, ◌≤◌, List, [], ◌∷◌, ◌++◌, length, map, refl, sym, ap₂, subst, ◌∙◌, arith}
 use Rattle.std.proofs.lemmas.List.{map_push}
 use Rattle.std.proofs.lemmas.List.Elements.{All-head, All-tail}
@@ -33,7 +33,7 @@ rise_end : (n : ℕ) (rows : List Row) (row : Row) → RiseFrom n (rows ++ row �
 rise_end n [] row rise = rise.0
 rise_end n (y ∷ rows) row rise = rise_end (y.address + 1) rows row rise.1
 
--- as many rows as are below that address, at most
+-- there are at most as many rows as addresses below that one
 pub length_end : (n : ℕ) (rows : List Row) → RiseFrom n rows → n + length rows ≤ end_of n rows
 length_end n [] rise = omega arith
 length_end n (y ∷ rows) rise =
@@ -56,11 +56,11 @@ no_last [] shown none (row ∷ table) all are = none row (All-head IsLease row t
 no_last (y ∷ given) shown none [] all are = absurd cc
 no_last (y ∷ given) shown none (row ∷ table) all are = no_last given shown none table (All-tail IsLease row table all) cc
 
--- no table has the columns of no lease
+-- no table has columns that are not those of any lease
 pub strange_row : (given : List Columns) (shown : Columns) → IsNoRow shown → IsStrange (given ++ shown ∷ [])
 strange_row given shown none table rise all = no_last given shown none table all
 
--- nor a row after one of its own address or of a later one
+-- nor a row after a row at its own address or a higher one
 pub strange_order : (rows : List Row) (row : Row) (given : List Columns) (shown : Columns) → map columns_of rows ≡ map first_five given → columns_of row ≡ first_five shown → row.address < end_of 0 rows
     → IsStrange (given ++ shown ∷ [])
 strange_order rows row given shown were is low table rise all are =

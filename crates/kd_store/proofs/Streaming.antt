@@ -101,12 +101,12 @@ no_commit old db h = rows_only_read old.now.schema (subst Returns (sym h.1.is) h
 pub rows_survive : (old new : State) → Survives old new (CommitsShowing rows_text [] old) → Survives old new (λ _. ⊥)
 rows_survive old new = survives_weaker old new _ _ (λ _ db h. no_commit old db h)
 
--- and begins with nothing given
+-- and it begins with nothing given
 pub rows_begun : {S : Type 0} (g : Ghosts S) (old new : Held S) → HasBegun g rows_text [] old new → HasGiven g rows_text [] new [] × IsUnchanged (state g old) (state g new)
 rows_begun g old new (inl h) = h
 rows_begun g old new (inr h) = absurd (rows_only_read old.schema h.0)
 
--- ---- what it shows after calls that changed nothing, it shows of the connection as it was before them
+-- ---- what it shows after calls that changed nothing, it also shows of the connection before them
 
 module _ (old mid new : State) (same : IsUnchanged old mid) where
   abbrev since : (c : Compiled) → IsStatement mid rows_text [] c → IsStatement old rows_text [] c
@@ -148,7 +148,8 @@ module _ (old mid new : State) (same : IsUnchanged old mid) where
     all_since items (Err fault) (inl h) = inl (h.0, h.1, fails_to_query_since h.0 h.2)
     all_since items (Err fault) (inr h) = inr (unchanged_then old mid new same h.0, elim h.1 [ inl memory ↦ inl memory | inr strange ↦ inr (strange.0, strange.1, begins_since strange.1 strange.2, strange.3) ])
 
--- rows that it gives first, of which nothing has changed since, and that begin no table of leases
+-- rows that it gives first, since which nothing has changed, and that are not the beginning of any
+-- table of leases
 pub strange_since : {S : Type 0} (g : Ghosts S) (old new : Held S) (given : List Columns) → IsUnchanged (state g old) (state g new) → HasGiven g rows_text [] new given → IsStrange given
     → AreUnread (state g old) (state g new) faults.Schema
 strange_since g old new given same has strange = inr (same, inr (refl, given, begins_since (state g old) (state g new) (state g new) same given (given_begin g rows_text [] new given has), strange))
@@ -164,7 +165,7 @@ next_unread g old mid new given fault same counts limit (inr h) =
       | inr strange ↦ subst (AreUnread (state g old) (state g new)) (sym strange.0) (strange_since g old new (given ++ h.0 ∷ []) still h.2 (strange_row given h.0 strange.1))
     ]
 
--- the answer of the query changes nothing
+-- reading the query's rows changes nothing
 pub shown_same : (old new : State) (rows : List Row) → AreShown old new rows → IsUnchanged old new
 unfolding Shown
 shown_same old new rows h =

@@ -1,4 +1,4 @@
--- Lists of rows in rising address, and the columns by which they are stored.
+-- Lists of rows in ascending order of address, and the columns by which they are stored.
 use Rattle.std.proofs.Common.{◌^◌, ◌≡◌, ℕ, ◌+◌, ◌<◌, ◌≤◌, pos, Bool, true, false, not, List, [], ◌∷◌, map, refl, sym, ap, ap₂, subst, subst₂, ◌∙◌, arith, if◌then◌else◌, ◌==◌, nat_lt, Ordering, Less, Equal, Greater, nat_cmp, true≢false}
 use Rattle.std.specs.Prelude.{IsPermutation, filter}
 use Rattle.std.specs.Ordering.{is_eq, match_ordering}
@@ -20,7 +20,7 @@ use Rattle.kd_rows.specs.Table.{RiseFrom, with_row}
 use Rattle.kd_store.specs.Lease.{columns_of}
 use Rattle.kd_store.specs.Stands.{columns_in, Lists}
 
--- two heads change places
+-- the first two elements change places
 swapped : {X : Type 0} (x y : X) (xs : List X) → IsPermutation (x ∷ y ∷ xs) (y ∷ x ∷ xs)
 swapped x y xs = IsPermutation-middle (x ∷ []) y xs
 
@@ -42,14 +42,14 @@ rise_from-with_row row n (r ∷ rows) le rise = by (nat_lt row.address r.address
   by false true below same rest = (le, subst (λ (a : ℕ). RiseFrom (a + 1) rows) (eqb-true r.address row.address same) rise.1)
   by false false below same rest = let h : r.address + 1 ≤ row.address = grind (arith, nat_tests) in (rise.0, rest h rise.1)
 
--- rows above an address are kept where it is left out
+-- rows above an address stay when that address is left out
 kept_above : (a n : ℕ) (rows : List Row) → a < n → RiseFrom n rows → without_rowid (pos a) (map columns_of rows) ≡ map columns_of rows
 kept_above a n [] lt rise = refl
 kept_above a n (row ∷ rows) lt rise =
     let other : not (has_rowid (pos a) (columns_of row)) ≡ true = rw at_address (grind (arith, nat_tests, rise.0)) in
     rw (other, kept_above a (row.address + 1) rows (omega (arith, rise.0)) rise.1) refl
 
--- the rows with one set are that row, and those that have another address
+-- the rows after one is set are that row and those at other addresses
 pub set_of : (row : Row) (n : ℕ) (rows : List Row) → RiseFrom n rows → IsPermutation (map columns_of (with_row row rows)) (columns_of row ∷ without_rowid (pos row.address) (map columns_of rows))
 set_of row n [] rise = IsPermutation-refl _
 set_of row n (r ∷ rows) rise = by (nat_lt row.address r.address) (r.address == row.address) refl refl (set_of row (r.address + 1) rows rise.1) where
@@ -73,7 +73,7 @@ set_of row n (r ∷ rows) rise = by (nat_lt row.address r.address) (r.address ==
 abbrev pub stored : Row → Columns
 stored row = Int (pos row.address) ∷ Null ∷ Bytes row.client ∷ Int (pos (state_number row.state)) ∷ Int (pos row.changed) ∷ Int (pos row.ends) ∷ []
 
--- a row whose rowid none has is one more
+-- a row whose rowid is not taken is one more
 pub one_more : (new : Columns) (rows : List Columns) → is_taken rows new ≡ false → IsPermutation (put_row new rows) (new ∷ rows)
 one_more new [] free = IsPermutation-refl _
 one_more new (r ∷ rows) free = by (value_cmp (rowid r) (rowid new)) refl (one_more new rows) where
@@ -87,7 +87,8 @@ one_more new (r ∷ rows) free = by (value_cmp (rowid r) (rowid new)) refl (one_
 shown_without : (a : ℕ) (rows : List Columns) → map columns_in (without_rowid (pos a) rows) ≡ without_rowid (pos a) (map columns_in rows)
 shown_without a rows = sym (filter-map (λ r. not (has_rowid (pos a) r)) columns_in rows)
 
--- where no row has its rowid a row is put among those of other rowids, the trees list the table with it
+-- if a row is put among those of other rowids, and none has its rowid, the trees list the table
+-- with it
 pub lists_put : (old new : Trees) (row : Row) (table : List Row) (rest : List Columns) → Lists old table → rest ≡ without_rowid (pos row.address) (old 0) → is_taken rest (stored row) ≡ false → new 0 ≡ put_row (stored row) rest → Lists new (with_row row table)
 lists_put old new row table rest h left free is = record {
   rise = rise_from-with_row row 0 table (omega arith) h.rise;
@@ -141,7 +142,7 @@ none_above a n (row ∷ rows) lt rise =
     let other : has_rowid (pos a) (columns_of row) ≡ false = rw at_address (grind (arith, nat_tests, rise.0)) in
     rw (other, none_above a (row.address + 1) rows (omega (arith, rise.0)) rise.1) refl
 
--- without its first row a rising table is the rest
+-- without its first row, a table in ascending order is the rest
 without_first : (row : Row) (rows : List Row) → RiseFrom (row.address + 1) rows → without_rowid (pos row.address) (map columns_of (row ∷ rows)) ≡ map columns_of rows
 without_first row rows rise =
     let it : has_rowid (pos row.address) (columns_of row) ≡ true = at_address row.address row ∙ grind (arith, nat_tests) in
@@ -159,7 +160,7 @@ not_below x y xs ys m up over same lt =
     let fewer = subst₂ IsPermutation (without_first x xs up) (kept_above x.address y.address (y ∷ ys) lt (omega arith, over.1)) kept in
     omega (arith, length_permutation _ _ fewer, length_permutation _ _ same)
 
--- a table has one rising order
+-- a table has only one ascending order
 pub one_order : (n m : ℕ) (xs ys : List Row) → RiseFrom n xs → RiseFrom m ys → IsPermutation (map columns_of xs) (map columns_of ys) → xs ≡ ys
 one_order n m [] [] up over same = refl
 one_order n m [] (y ∷ ys) up over same = absurd (omega (arith, length_permutation _ _ same))
@@ -174,7 +175,7 @@ one_order n m (x ∷ xs) (y ∷ ys) up over same =
     let tail = subst₂ IsPermutation (without_first x xs up.1) (ap (λ (a : ℕ). without_rowid (pos a) (map columns_of (y ∷ ys))) at ∙ without_first y ys over.1) (IsPermutation-filter (λ r. not (has_rowid (pos x.address) r)) _ _ same) in
     ap₂ (λ a b. a ∷ b) (row_once x y cc) (one_order (x.address + 1) (y.address + 1) xs ys up.1 over.1 tail)
 
--- trees list one table
+-- trees list only one table
 pub one_table : (trees : Trees) (a b : List Row) → Lists trees a → Lists trees b → a ≡ b
 one_table trees a b h k = one_order 0 0 a b h.rise k.rise (IsPermutation-trans _ _ _ h.same (IsPermutation-sym _ _ k.same))
 

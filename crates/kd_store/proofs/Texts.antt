@@ -20,7 +20,7 @@ use Rattle.kd_store.specs.Lease.{make_text, put_text, rows_text, lease, lease_sc
 abbrev pub terms : List Term
 terms = col 0 0 ∷ lit Null ∷ col 0 1 ∷ col 0 2 ∷ col 0 3 ∷ col 0 4 ∷ []
 
--- the rows that are there and have the address: the rowid to let go, and the row in its place
+-- the existing rows with the address: the rowid to remove, and the row that replaces it
 abbrev pub update : Query
 update = record {
   from = inner 0 end;

@@ -1,4 +1,4 @@
--- Rows that are set in one transaction: each by its statement, and one commit.
+-- Rows that are set in one transaction: each by its statement, with one commit.
 use Rattle.std.specs.Prelude.{◌≡◌, ◌⊎◌, ℕ, true, List, [], ◌∷◌, ◌++◌, Ok, Err, IsTrue}
 use Rattle.sqlite.specs.Held.{Held, state}
 use Rattle.sqlite.specs.State.{ExecutesInside, IsRolledBack}
@@ -10,11 +10,11 @@ use Rattle.sqlite_trees.specs.declared.store.Store.{Ghosts}
 use Rattle.kd_rows.specs.declared.row.Row.{Row}
 use Rattle.kd_store.specs.Lease.{columns_of, put_text}
 
--- a connection as it is when a transaction has begun on it
+-- a connection after a transaction has begun on it
 abbrev pub begun : {S : Type 0} → Held S → Held S
 begun conn = record conn { in_transaction = true }
 
--- within a transaction rows are set, one after another, each by its statement
+-- within a transaction rows are set one after another, each by its statement
 abbrev pub SetsEach : {S : Type 0} → Ghosts S → List Row → Held S → Held S → Type 0
 SetsEach g [] old new = new ≡ old
 SetsEach {S} g (row ∷ rows) old new =
@@ -22,7 +22,7 @@ SetsEach {S} g (row ∷ rows) old new =
     × ExecutesInside 0 put_text (columns_of row) (state g old) (state g mid) (Ok count)
     × SetsEach g rows mid new
 
--- within a transaction the first of some rows are set, and the statement of the next is refused
+-- within a transaction the first of some rows are set, and the statement for the next is refused
 pub record StopsAt {S : Type 0} (g : Ghosts S) (rows : List Row) (old new : Held S)
     (error : Error) : Type 0 where
   pub done : List Row
@@ -33,8 +33,8 @@ pub record StopsAt {S : Type 0} (g : Ghosts S) (rows : List Row) (old new : Held
   pub set : SetsEach g done old mid
   pub refused : ExecutesInside 0 put_text (columns_of row) (state g mid) (state g new) (Err error)
 
--- rows are not set together: the connection was in a transaction already; or one began, and in it a
--- statement was refused and it was rolled back, or all rows were set and its commit failed
+-- rows are not set together: the connection was already in a transaction, or one began and either a
+-- statement in it was refused and it was rolled back, or all rows were set and its commit failed
 abbrev pub FailsTogether : {S : Type 0} → Ghosts S → List Row → Held S → Held S → Error → Type 0
 FailsTogether {S} g rows old new error =
     (IsTrue old.in_transaction × (error ≡ SqliteFailure TransactionState) × (new ≡ old))

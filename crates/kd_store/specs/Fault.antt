@@ -1,4 +1,4 @@
--- Why a store does not answer: which error of the database has which fault.
+-- Why a call to a store fails: which error of the database gives which fault.
 use Rattle.std.specs.Prelude.{◌≡◌, ◌⊎◌, ℕ, ◌^◌, ◌<◌, List, [], ◌∷◌, map, Err}
 use Rattle.std.specs.List.{All}
 use Rattle.sqlite.specs.Order.{Row as Columns, column}
@@ -18,7 +18,8 @@ use Rattle.kd_rows.specs.Table.{Rise}
 use Rattle.kd_store.specs.Batch.{FailsTogether}
 use Rattle.kd_store.specs.Lease.{columns_of, rows_text}
 
--- the cause of an error: memory, disk, size and damage keep their names, all else is a refusal
+-- the cause of an error: memory, disk, size, damage and a closed database keep their names,
+-- everything else is a refusal
 abbrev pub cause_of : Error → Cause
 cause_of (SqliteFailure code.OutOfMemory) = cause.OutOfMemory
 cause_of (SqliteFailure code.SystemIoFailure) = cause.SystemIoFailure
@@ -28,13 +29,13 @@ cause_of (SqliteFailure code.Closed) = cause.Closed
 cause_of (SqliteFailure code.TooBig) = cause.TooBig
 cause_of _ = cause.Refused
 
--- the fault of a reading that has this cause: a table that is damaged or refused is none of ours
+-- the fault of a read that failed for this cause: a table that is damaged or refused is not ours
 abbrev pub fault_of_cause : Cause → StoreFault
 fault_of_cause cause.DatabaseCorrupt = Schema
 fault_of_cause cause.Refused = Schema
 fault_of_cause other = Sql other
 
--- the fault of a reading that is refused with this error
+-- the fault of a read that is refused with this error
 abbrev pub reading_fault : Error → StoreFault
 reading_fault error = fault_of_cause (cause_of error)
 
@@ -43,8 +44,8 @@ abbrev pub RefusesWith : List ℕ → Columns → State → State → StoreFault
 RefusesWith sql params old new fault =
     (error : Error) × (fault ≡ Sql (cause_of error)) × Executes sql params old new (Err error)
 
--- rows were not set together, and the fault has the cause of the error with which a statement within
--- the transaction was refused, or the commit failed
+-- rows were not set together, and the fault has the cause of the error with which the transaction
+-- did not begin, a statement in it was refused, or its commit failed
 abbrev pub RefusesAllWith : {S : Type 0} → Ghosts S → List Row → Held S → Held S → StoreFault → Type 0
 RefusesAllWith g rows old new fault =
     (error : Error) × (fault ≡ Sql (cause_of error)) × FailsTogether g rows old new error
@@ -57,14 +58,15 @@ first_five c = column c 0 ∷ column c 1 ∷ column c 2 ∷ column c 3 ∷ colum
 abbrev pub IsLease : Row → Type 0
 IsLease row = (row.address < 2 ^ 32) × IsInRange row
 
--- rows that are shown and begin no table of leases
+-- rows that are shown and are not the beginning of any table of leases
 abbrev pub IsStrange : List Columns → Type 0
 IsStrange shown =
     (table : List Row) → Rise table → All IsLease table
     → ¬ (map columns_of table ≡ map first_five shown)
 
--- rows were not read: the query was refused with the error of this fault, or nothing has changed and
--- there was no memory for them, or those that the query shows first begin no table of leases
+-- rows were not read: the query was refused with the error of this fault, or nothing has changed
+-- and there was no memory for them, or the rows that the query shows first are not the beginning of
+-- any table of leases
 abbrev pub AreUnread : State → State → StoreFault → Type 0
 AreUnread old new fault =
     ((error : Error) × (fault ≡ reading_fault error) × FailsToQuery rows_text [] old new error)

@@ -10,7 +10,7 @@ pub record Kept (S : Type 0) : Type 0 where
   pub conn : Held S
   pub fault : Option StoreFault
 
--- the same as a pair, by which the toolchain stores it
+-- the same as a pair, as the toolchain stores it
 abbrev pub kept_code : {S : Type 0} → Coded S → Coded (Kept S)
 kept_code {S} store =
     code_by (Held S × Option StoreFault) (coded× (held_code store) (coded_option fault.the_row.coded))

@@ -12,8 +12,8 @@ use Rattle.kd_rows.specs.declared.row.Row.{Row}
 use Rattle.kd_store.specs.Lease.{lease_schema}
 use Rattle.kd_store.specs.Stands.{Holds, Finds, Stands}
 
--- a connection that is opened on what a crash left of a file, of which it leaves one of two tables,
--- has our schema, and the table that it finds is one of those two
+-- if a crash leaves of a file one of two tables, a connection that is opened on what it left has
+-- our schema, and the table that it finds is one of those two
 abbrev pub Reopens : {D E : Type 0} → Ghosts D → Ghosts E → Type 0
 Reopens {D} {E} g h =
     (it : FileStore D g) (before after : List Row) → IsTrue (files.view it).is_numbered
@@ -24,7 +24,7 @@ Reopens {D} {E} g h =
     × ((found : List Row) → Finds (file_state opened) found → (found ≡ before)
     ⊎ (found ≡ after))
 
--- a connection stands at one table only
+-- a connection is at only one table
 abbrev pub StandsOnce : {E : Type 0} → Ghosts E → Type 0
 StandsOnce {E} h =
     (conn : Held (FileStore E h)) (table other : List Row)

@@ -11,17 +11,17 @@ use Rattle.sqlite.specs.Compile.{table_defined_by}
 use Rattle.kd_rows.specs.declared.row.Row.{Row}
 use Rattle.kd_rows.specs.Row.{state_number}
 
--- makes the table where there is none
+-- makes the table if there is none
 abbrev pub make_text : List ℕ
 make_text =
     codes "CREATE TABLE IF NOT EXISTS lease (address INTEGER PRIMARY KEY CHECK (address BETWEEN 0 AND 4294967295), client BLOB NOT NULL, state INTEGER NOT NULL CHECK (state BETWEEN 1 AND 4), changed INTEGER NOT NULL CHECK (changed BETWEEN 0 AND 1099511627775), ends INTEGER NOT NULL CHECK (ends BETWEEN changed AND changed + 2147483647)) STRICT"
 
--- sets a row, in place of the one of its address or as a new one
+-- sets a row: replaces the row at its address, or adds it
 abbrev pub put_text : List ℕ
 put_text =
     codes "INSERT INTO lease (address, client, state, changed, ends) VALUES (?1, ?2, ?3, ?4, ?5) ON CONFLICT (address) DO UPDATE SET client = excluded.client, state = excluded.state, changed = excluded.changed, ends = excluded.ends"
 
--- all rows, in rising address
+-- all rows, in ascending order of address
 abbrev pub rows_text : List ℕ
 rows_text = codes "SELECT address, client, state, changed, ends FROM lease ORDER BY address"
 
@@ -30,7 +30,7 @@ abbrev pub checks_of : {E : Type 0} → Result Table E → List Term
 checks_of (Ok table) = table.checks
 checks_of (Err e) = []
 
--- the ranges, as the text gives them
+-- the ranges that the text gives
 abbrev pub lease_checks : List Term
 lease_checks = checks_of (table_defined_by make_text)
 
@@ -94,7 +94,7 @@ lease = record {
   is_counted = false;
 }
 
--- the schema with the table of leases alone
+-- the schema with only the table of leases
 abbrev pub lease_schema : Schema
 lease_schema = record { tables = lease ∷ []; indexes = []; views = [] }
 

@@ -1,4 +1,4 @@
--- Rows that are set in one transaction, which is committed: words of private contracts alone.
+-- Rows that are set in one transaction, which is committed; used only in private contracts.
 use Rattle.std.specs.Prelude.{◌≡◌, List}
 use Rattle.sqlite.specs.Held.{Held, state}
 use Rattle.sqlite.specs.State.{Commits}

@@ -18,7 +18,7 @@ use kd_keeps::StoreFault;
 use kd_rows::Row;
 use sqlite::{Alter, Connection, Error, ErrorCode, Transaction, params};
 
-// The statement that sets a row, within a transaction.
+// Runs the statement that sets a row, within a transaction.
 fn execute_inside<S: Alter>(tx: &mut Transaction<'_, S>, row: &Row) -> Result<usize, Error>
     requires { IsInRange row.now }
     ensures same_reference { tx.new.conn.ghost_name ≡ tx.old.conn.ghost_name }
@@ -38,7 +38,7 @@ fn execute_inside<S: Alter>(tx: &mut Transaction<'_, S>, row: &Row) -> Result<us
     )
 }
 
-// Sets rows in their order, within a transaction, up to the first that is refused.
+// Sets rows in the given order, within a transaction, up to the first that is refused.
 fn put_each<S: Alter>(tx: &mut Transaction<'_, S>, rows: &[Row]) -> Result<(), Error>
     requires { All IsInRange rows.now }
     ensures same_reference { tx.new.conn.ghost_name ≡ tx.old.conn.ghost_name }
@@ -82,7 +82,7 @@ fn execute_all<S: Alter>(conn: &mut Connection<S>, rows: &[Row]) -> Result<(), E
     }
 }
 
-// Sets rows, in one transaction and one commit.
+// Sets rows in one transaction with one commit.
 pub(crate) fn put_all<S: Alter>(conn: &mut Connection<S>, rows: &[Row]) -> Result<(), StoreFault>
     requires { All IsInRange rows.now }
     ensures clean { HasCleanDisk (state S.Store conn.new) → HasCleanDisk (state S.Store conn.old) }

@@ -12,7 +12,7 @@ use kd_rows::{Row, State};
 use kd_wire::Bytes;
 use sqlite::types::FromSql;
 
-// The value of a column.
+// Returns the value of a column.
 fn column_at<T: FromSql>(columns: &sqlite::Row, at: usize) -> Result<T, StoreFault>
     ensures value { IfOk result (λ value. T.FromSql.reads_as (column columns.now at) value) }
     ensures fault { IfErr result (λ fault. (fault ≡ StoreFault.Sql Cause.OutOfMemory)
@@ -25,7 +25,7 @@ fn column_at<T: FromSql>(columns: &sqlite::Row, at: usize) -> Result<T, StoreFau
     }
 }
 
-// The state that a number stands for.
+// Returns the state with this number.
 fn state_of(number: u32) -> Result<State, StoreFault>
     ensures value { IfOk result (λ state. number ≡ state_number state) }
     ensures fault { IfErr result (λ fault. (fault ≡ StoreFault.Schema)
@@ -41,7 +41,7 @@ fn state_of(number: u32) -> Result<State, StoreFault>
     }
 }
 
-// The row that the columns spell, where it is in range.
+// Returns the row that the columns describe, if it is in range.
 pub(crate) fn decode(columns: &sqlite::Row) -> Result<Row, StoreFault>
     ensures columns { IfOk result (λ row. columns_of row ≡ first_five columns.now) }
     ensures range { IfOk result IsLease }

@@ -7,7 +7,7 @@ use sqlite::{Error, ErrorCode};
 // There is no memory for the rows.
 pub(crate) const NO_MEMORY: StoreFault = StoreFault::Sql(Cause::OutOfMemory);
 
-// Why the database has refused a statement.
+// Returns the cause for which the database refused a statement.
 pub(crate) fn cause_of_error(error: Error) -> Cause
     ensures { result ≡ cause_of error }
 {
@@ -25,7 +25,7 @@ pub(crate) fn cause_of_error(error: Error) -> Cause
     }
 }
 
-// What a reading says that was refused: a table that is damaged or refused is none of ours.
+// Returns the fault of a read that was refused: a table that is damaged or refused is not ours.
 pub(crate) fn fault_of_reading(error: Error) -> StoreFault
     ensures { result ≡ fault_of_cause (cause_of error) }
 {

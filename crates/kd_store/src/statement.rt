@@ -28,9 +28,8 @@ pub(crate) const PUT: &str =
 
 const ROWS: &str = "SELECT address, client, state, changed, ends FROM lease ORDER BY address";
 
-// Makes the table where there is none. The two questions before it tell what the connection keeps
-// true of itself: the database obeys its schema, and what it shows outside a transaction is
-// committed.
+// Makes the table if there is none. The two queries before it establish what is always true of the
+// connection: the database obeys its schema, and what it shows outside a transaction is committed.
 pub(crate) fn make<S: Alter>(conn: &mut Connection<S>) -> Result<usize, Error>
     requires { (state S.Store conn.old).in_transaction ≡ false }
     ensures live { IsLive (state S.Store conn.old) }
@@ -45,7 +44,7 @@ pub(crate) fn make<S: Alter>(conn: &mut Connection<S>) -> Result<usize, Error>
     conn.execute(MAKE, &[])
 }
 
-// A number as SQL has it, where an integer has a sign.
+// Returns a number as a signed integer, as SQL has it.
 pub(crate) fn with_sign(n: u64) -> i64
     requires { n < 2 ^ 63 }
     ensures { result ≡ pos n }
@@ -53,7 +52,7 @@ pub(crate) fn with_sign(n: u64) -> i64
     n as i64
 }
 
-// The statement that sets a row, with its parameters.
+// Runs the statement that sets a row, with its parameters.
 fn execute_put<S: Alter>(conn: &mut Connection<S>, row: &Row) -> Result<usize, Error>
     requires { IsInRange row.now }
     ensures runs { HasCleanDisk (state S.Store conn.new)
@@ -89,7 +88,7 @@ pub(crate) fn put<S: Alter>(conn: &mut Connection<S>, row: &Row) -> Result<(), S
     }
 }
 
-// The next row that the query shows, or none at its end.
+// Returns the next row that the query shows, or `None` at its end.
 fn next<S: Alter>(shown: &mut Rows<'_, S>) -> Result<Option<Row>, StoreFault>
     ensures same_reference { shown.new.conn.ghost_name ≡ shown.old.conn.ghost_name }
     ensures survives { Survives (state S.Store shown.old.conn.now)
@@ -111,7 +110,7 @@ fn next<S: Alter>(shown: &mut Rows<'_, S>) -> Result<Option<Row>, StoreFault>
     }
 }
 
-// The rows that the query shows, where they rise in address and are in range.
+// Returns the rows that the query shows, if they are in ascending order of address and in range.
 fn gather<S: Alter>(alloc: Global, shown: &mut Rows<'_, S>) -> Result<Vec<Row>, StoreFault>
     ensures same_reference { shown.new.conn.ghost_name ≡ shown.old.conn.ghost_name }
     ensures survives { Survives (state S.Store shown.old.conn.now)
@@ -144,7 +143,7 @@ fn gather<S: Alter>(alloc: Global, shown: &mut Rows<'_, S>) -> Result<Vec<Row>, 
     Err(StoreFault::Schema)
 }
 
-// All rows, in rising address.
+// Returns all rows, in ascending order of address.
 pub(crate) fn read<S: Alter>(
     alloc: Global,
     conn: &mut Connection<S>,

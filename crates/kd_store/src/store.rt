@@ -22,8 +22,9 @@ use sqlite::{Alter, Connection};
 use std::alloc::Global;
 use std::marker::Model;
 
-/// The table of leases in a database, over its connection. A store has to be closed. In a contract
-/// it is a record: `conn`, what the connection shows, and `fault`, with which it has failed.
+/// The table of leases in a database, over its connection. A store must be closed. In a contract it
+/// is a record: `conn` is what the connection shows, and `fault` is the fault with which it has
+/// failed.
 pub struct Store<S: Alter> {
     conn: Connection<S>,
     fault: Option<StoreFault>,
@@ -41,15 +42,15 @@ impl<S: Alter> Model for Store<S> {
 }
 
 impl<S: Alter> Store<S> {
-    /// The store over a connection, at the table that its database holds. Where there is no table
-    /// yet an empty one is made, and a table that is there is never made anew.
+    /// Opens a store over a connection, at the table that its database holds. Makes an empty table
+    /// if there is none; a table that exists is never made again.
     ///
     /// # Errors
     ///
-    /// `Schema`: the database has a table `lease` that can not be read as ours, or a row that is out
-    /// of range. `Sql`: it does not answer, or refuses to make the table. The connection comes back;
-    /// while it is open it finds the table that it found before. A table that was not there may have
-    /// been made.
+    /// `Schema`: the database has a table `lease` that cannot be read as ours, or a row that is out
+    /// of range. `Sql`: a call to it failed, or it refuses to make the table. The connection is
+    /// returned; while it is open it finds the table that it found before. A table that did not
+    /// exist may have been made.
     pub fn open(alloc: Global, conn: Connection<S>) -> Result<Store<S>, (StoreFault, Connection<S>)>
         requires ready { (state S.Store conn).in_transaction ≡ false }
         ensures opened { IfOk result (λ store. (store.fault ≡ None)
@@ -60,7 +61,7 @@ impl<S: Alter> Store<S> {
         Ok(store)
     }
 
-    /// The same, with the rows of the table, which is read once.
+    /// Does the same, and returns the rows of the table, which is read once.
     ///
     /// # Errors
     ///
@@ -91,7 +92,7 @@ impl<S: Alter> Store<S> {
         }
     }
 
-    /// The connection, given back. A store that has failed is closed, and opened again.
+    /// Returns the connection. A store that has failed is closed and opened again.
     pub fn close(self) -> Connection<S>
         ensures { result ≡ self.conn }
     {
