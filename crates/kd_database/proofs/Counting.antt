@@ -1,4 +1,4 @@
--- How far the frames reach that a start takes of a log, and why there is no count of them.
+-- How far the frames reach that a start takes of a log, and why they are not counted.
 use Rattle.std.proofs.Common.{◌≡◌, ◌≤◌, ◌<◌, ◌+◌, ℕ, zero, suc, List, length, inl, inr, ap, sym, subst, refl, nat_lt, arith}
 use Rattle.std.proofs.lemmas.Bool.Decides.{nat_tests}
 use Rattle.sqlite_disk.specs.Disk.{MoreFaults}
@@ -23,13 +23,13 @@ frames_within size log zero named replays =
 frames_within size log (suc k) named (inl ignored) = absurd (named.0 ignored.0)
 frames_within size log (suc k) named (inr taken) = omega (arith, (taken.0.valid k (omega arith)).within, frames_len-suc size k)
 
--- so the place behind the frames whose pages a start gives is in the log
+-- so the offset after the frames whose pages a start gives is in the log
 pub end_within : (size page_size frames : ℕ) (log seen numbers : List ℕ) → page_size ≡ size → seen ≡ log → frames ≡ length numbers → IsLogFor size log → AreFramesOf size seen numbers → frame_at page_size frames ≤ length log
 end_within size page_size frames log seen numbers size_is seen_is frames_is named given =
     let taken : Replays size log frames = subst (Replays size log) (sym frames_is) (subst (λ it. Replays size it (length numbers)) seen_is given.0) in
     subst (λ it. frame_at it frames ≤ length log) (sym size_is) (frames_within size log frames named taken)
 
--- a file of bytes of which no call was refused is one still after it was read
+-- a file of bytes of which no call was refused is still one after it was read
 pub none_refused : (old new : ReadOnly) → old.refused ≡ 0 → OnlyReads ghosts old new → new.refused ≡ 0
 none_refused old new fresh reads =
     let same : nat_lt 0 new.refused ≡ nat_lt 0 old.refused = ap (λ rotten. rotten 0 0) reads.rot in
@@ -44,7 +44,7 @@ refused : (size : ℕ) (log : List ℕ) (error : Error) (cause : Cause) → (err
 refused size log error cause damaged long (inl none) = subst (IsNotCounted log size) (sym (damaged none.0)) none.1
 refused size log error cause damaged long (inr full) = subst (IsNotCounted log size) (sym (long full.0)) full.1
 
--- a log whose frames are not given by a file of bytes is not counted, for the cause that names why
+-- a log whose frames a file of bytes does not give is not counted, for the cause that names why
 pub not_counted : (size : ℕ) (log : List ℕ) (error : Error) (cause : Cause) (old new : ReadOnly)
     → (error ≡ errors.OutOfMemory → cause ≡ causes.OutOfMemory)
     → (error ≡ errors.Corrupt → cause ≡ causes.DatabaseCorrupt)

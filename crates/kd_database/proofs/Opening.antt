@@ -1,4 +1,4 @@
--- Where a store of leases stands that is opened.
+-- Which table a store of leases is at that is opened.
 use Rattle.std.proofs.Common.{◌≡◌, inl, inr, false, ℕ, List, [], length, Result, Ok, Err, IfOk, refl, sym, ap, subst, ◌∙◌, arith}
 use Rattle.sqlite_disk.specs.declared.Disk.{Ghosts}
 use Rattle.sqlite_wal.specs.Recovery.{Image}
@@ -29,7 +29,7 @@ use Rattle.kd_database.specs.Staging.{AreRowsOver}
 use Rattle.kd_database.specs.Stores.{IsOpenedOn, IsStoreIn, StandsAsHeld, StandsNew}
 use Rattle.kd_database.specs.Stops.{Restarts}
 
--- over a new database in memory a store stands at the empty table
+-- over a new database in memory a store is at the empty table
 pub at_none : (opened conn : Held MemStore) → IsEmpty (state over_memory opened) → OpensAt (state over_memory opened) (state over_memory conn) → Stands (state over_memory conn) []
 at_none opened conn empty opens = opens.stands (memory_is_clean conn) [] (inl (empty.2, refl))
 
@@ -38,12 +38,12 @@ ok_both (Ok x) P Q R f p q = f x p q
 ok_both (Err e) P Q R f p q = tt
 
 module _ {E : Type 0} {h : Ghosts E} (image : Image) where
-  -- what an opening by a path says of its connection
+  -- what opening by a path says of its connection
   pub opened_on : (opened : Held (FileStore E h)) → (HasCleanDisk (file_state opened) → IsOpened opened) → (HasCleanDisk (file_state opened) → FindsIn image (file_state opened))
       → (HasCleanDisk (file_state opened) → IsBlankAs false image → (files.view opened.store).has_sums ≡ false) → IsOpenedOn image opened
   opened_on opened is_opened found sums = record { is_opened = is_opened; found = found; plain = λ clean none. sums clean (inl (ap length none)) }
 
-  -- a store in files stands at the table that they held
+  -- a store in files is at the table that they held
   pub as_held : (store : Kept (FileStore E h)) → IsStoreIn image store → StandsAsHeld image store
   as_held store is clean db table held holds =
       let before = is.opens.clean clean in
@@ -51,7 +51,7 @@ module _ {E : Type 0} {h : Ghosts E} (image : Image) where
       let same : (file_state is.opened).now.trees ≡ db = ap (λ (d : Database). d.trees) opens.clean ∙ (is.on.found before).holds db held in
       is.opens.stands clean table (inr (opens.is_open, subst (λ (t : Trees). Holds t table) (sym same) holds))
 
-  -- and where there was no byte, at the empty one
+  -- and if there were no bytes, at the empty one
   pub as_new : (store : Kept (FileStore E h)) → IsStoreIn image store → StandsNew image store
   as_new store is clean none =
       let before = is.opens.clean clean in
@@ -83,12 +83,13 @@ held_rows k image rows always clean stands over =
 pub same_image : (a b c d : List ℕ) → a ≡ b → c ≡ d → bytes_image a c ≡ bytes_image b d
 same_image a b c d e f = rw (e, f) refl
 
--- what an opening of files finds is what they held
+-- what opening files finds is what they held
 pub found_in : {D : Type 0} {g : Ghosts D} (files : Files D) (opened : Held (FileStore D g)) → (HasCleanDisk (file_state opened) → Finds files opened)
     → HasCleanDisk (file_state opened) → FindsIn (image_of g files) (file_state opened)
 found_in files opened finds clean = let it = finds clean in record { holds = it.holds; reads = it.reads }
 
--- one on what a crash left of other files stands at one table, which is one of any two that it could leave
+-- a store on what a crash left of other files is at one table, which is one of any two that the
+-- crash could leave
 pub restarts : {D E : Type 0} (g : Ghosts D) (h : Ghosts E) → Reopens g h → Restarts g h
 restarts g h reopens conn before after leaves image crash store is clean =
     let opens = is.opens.clean clean in

@@ -10,8 +10,8 @@ use Rattle.kd_store.specs.Stands.{Holds}
 abbrev pub bytes_image : List ℕ → List ℕ → Image
 bytes_image log db = record { log = log; db = db }
 
--- rows are the leases in a database and its log: those of the table that they hold, and none where
--- the database has no byte
+-- rows are the leases in a database and its log: those of the table that they hold, and none if the
+-- database has no bytes
 pub record AreRowsIn (image : Image) (rows : List Row) : Type 0 where
   pub held : (db : Trees) (table : List Row) → HoldsDatabase image db → Holds db table
       → rows ≡ table

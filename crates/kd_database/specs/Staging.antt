@@ -1,4 +1,4 @@
--- Words of private contracts alone: the rows of a store over files, whatever their disk.
+-- The rows of a store over files, whatever their disk; used only in private contracts.
 use Rattle.std.specs.Prelude.{List}
 use Rattle.sqlite_disk.specs.declared.Disk.{Ghosts as Disks}
 use Rattle.sqlite_wal.specs.Recovery.{Image}

@@ -1,5 +1,5 @@
--- What a store of leases leaves in files that is let go or killed, and where one stands that is
--- opened on that.
+-- What a store of leases leaves in files when it is closed or killed, and which table a store is at
+-- that is opened on that.
 use Rattle.std.specs.Prelude.{◌≡◌, ◌⊎◌, List, IsTrue}
 use Rattle.sqlite_disk.specs.declared.Disk.{Ghosts}
 use Rattle.sqlite_wal.specs.Recovery.{Image}
@@ -14,7 +14,7 @@ use Rattle.kd_store.specs.Kept.{Kept}
 use Rattle.kd_store.specs.Stands.{Leaves, Stands}
 use Rattle.kd_database.specs.Stores.{IsStoreIn}
 
--- what lies below a connection: a crash leaves nothing of it that it does not leave of the
+-- what lies below a connection: a crash leaves nothing of it that it does not also leave of the
 -- connection
 pub record LiesBelow {D : Type 0} {g : Ghosts D} (conn : Held (FileStore D g))
     (it : FileStore D g) : Type 0 where
@@ -28,7 +28,7 @@ pub record IsCrashOf {D : Type 0} {g : Ghosts D} (conn : Held (FileStore D g))
   pub below : LiesBelow conn it
   pub may : (files.state it).may_leave image
 
--- a store stands at one table, which is one of any two that a crash could leave of a connection
+-- a store is at one table, which is one of any two that a crash could leave of a connection
 abbrev pub StandsWhereLeft : {D E : Type 0} {g : Ghosts D} {h : Ghosts E}
     → Held (FileStore D g) → Kept (FileStore E h) → Type 0
 StandsWhereLeft conn store =
@@ -36,7 +36,7 @@ StandsWhereLeft conn store =
     × ((before after : List Row) → Leaves (file_state conn) before after → (found ≡ before)
     ⊎ (found ≡ after))
 
--- so does one in files that are what a crash left of it
+-- if files are what a crash left of a connection, a store in them is at such a table
 abbrev pub Restarts : {D E : Type 0} → Ghosts D → Ghosts E → Type 0
 Restarts {D} {E} g h =
     (conn : Held (FileStore D g)) (before after : List Row)

@@ -1,4 +1,4 @@
--- Where a store of leases stands that is opened in files, and why one is not opened.
+-- Which table a store of leases is at that is opened in files, and why none is opened.
 use Rattle.std.specs.Prelude.{◌≡◌, ◌⊎◌, false, List, [], IsTrue}
 use Rattle.sqlite_disk.specs.declared.Disk.{Ghosts}
 use Rattle.sqlite_wal.specs.Recovery.{Image}
@@ -23,23 +23,23 @@ use Rattle.kd_store.specs.Kept.{Kept}
 use Rattle.kd_store.specs.Opening.{GivesBack, OpensAt}
 use Rattle.kd_store.specs.Stands.{Holds, Stands}
 
--- a file and a log without a byte
+-- a file and a log without bytes
 abbrev pub no_bytes : Image
 no_bytes = record { log = []; db = [] }
 
--- a store stands at the table of the database that files held
+-- a store is at the table of the database that files held
 abbrev pub StandsAsHeld : {D : Type 0} {g : Ghosts D} → Image → Kept (FileStore D g) → Type 0
 StandsAsHeld image store =
     HasCleanDisk (file_state store.conn) → (db : Trees) (table : List Row) → HoldsDatabase image db
     → Holds db table → Stands (file_state store.conn) table
 
--- where the file had no byte yet, a store stands at the empty table
+-- if the file had no bytes yet, a store is at the empty table
 abbrev pub StandsNew : {D : Type 0} {g : Ghosts D} → Image → Kept (FileStore D g) → Type 0
 StandsNew image store =
     HasCleanDisk (file_state store.conn) → image.db ≡ [] → Stands (file_state store.conn) []
 
--- a connection was opened on what files held: where their disk gave back what was written, it is
--- open and finds that, and the pages of a new file have no sums
+-- a connection was opened on what files held: if their disk returned what was written, it is open
+-- and finds that, and the pages of a new file have no checksums
 pub record IsOpenedOn {D : Type 0} {g : Ghosts D} (image : Image)
     (opened : Held (FileStore D g)) : Type 0 where
   pub is_opened : HasCleanDisk (file_state opened) → IsOpened opened
@@ -54,15 +54,16 @@ pub record IsStoreIn {D : Type 0} {g : Ghosts D} (image : Image)
   pub on : IsOpenedOn image opened
   pub opens : OpensAt (file_state opened) (file_state store.conn)
 
--- the cause of an error with which files are not opened: what is no database is damaged, and what
--- is not opened at all, or open elsewhere, can not be read
+-- the cause of an error with which files are not opened: a file that is not a database counts as
+-- damaged, and one that cannot be opened, or is open elsewhere, cannot be read
 abbrev pub opening_cause : Error → Cause
 opening_cause (SqliteFailure NotADatabase) = cause.DatabaseCorrupt
 opening_cause (SqliteFailure CannotOpen) = cause.SystemIoFailure
 opening_cause (SqliteFailure DatabaseBusy) = cause.SystemIoFailure
 opening_cause error = cause_of error
 
--- why there is no store: the files were not opened, or there was none over the connection to them
+-- why there is no store: the files were not opened, or no store was opened over the connection to
+-- them
 abbrev pub IsNoStoreIn : {D : Type 0} → Ghosts D → Image → StoreFault → Type 0
 IsNoStoreIn {D} g image fault =
     ((error : Error) × IsTrue (is_open_error error) × (fault ≡ Sql (opening_cause error)))

@@ -8,21 +8,21 @@ use Rattle.kd_keeps.specs.declared.fault.Cause.TheVariants.{DatabaseCorrupt, Out
 use Rattle.kd_keeps.specs.declared.fault.StoreFault.{StoreFault}
 use Rattle.kd_keeps.specs.declared.fault.StoreFault.TheVariants.{Schema, Sql}
 
--- at a place of a log begins a frame of this same log: it has the salts of the log's header
+-- a frame of this same log begins at an offset: it has the salts of the log's header
 pub record IsOwnFrame (log : List ℕ) (at : ℕ) : Type 0 where
   pub within : at + 24 ≤ length log
   pub salts : part log (at + 8) 8 ≡ part log 16 8
 
--- the place behind the last frame that a start takes of a log with pages of this size
+-- the offset after the last frame that a start takes of a log with pages of this size
 abbrev pub IsEndOfFrames : List ℕ → ℕ → ℕ → Type 0
 IsEndOfFrames log size at = (k : ℕ) × Replays size log k × (at ≡ frame_at size k)
 
--- a file is no log, or its header names no size of a page
+-- a file is not a log, or its header names no valid page size
 abbrev pub IsNoSizedLog : List ℕ → Type 0
 IsNoSizedLog log = ¬ IsIgnored log → ¬ IsPageSize (be32 log 8)
 
--- how many bytes of a log a start leaves out from a frame of this same log on, if there is one where
--- the frames end that it takes
+-- how many bytes of a log a start leaves out from a frame of this same log on, if there is one at
+-- the end of the frames that it takes
 abbrev pub AreLeftOut : List ℕ → Option ℕ → Type 0
 AreLeftOut log None =
     IsNoSizedLog log ⊎ ((size at : ℕ) × IsEndOfFrames log size at × (¬ IsOwnFrame log at))
@@ -31,7 +31,7 @@ AreLeftOut log (Some count) =
     × (count ≡ length log - at)
 
 -- why the frames of a log with pages of this size are not counted: memory runs out, a start takes
--- no number of them, or 32 bits do not number them
+-- no number of them, or there are too many for 32 bits
 abbrev pub IsNotCounted : List ℕ → ℕ → Cause → Type 0
 IsNotCounted log size OutOfMemory = ⊤
 IsNotCounted log size DatabaseCorrupt = (k : ℕ) → ¬ Replays size log k

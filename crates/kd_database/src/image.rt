@@ -20,13 +20,13 @@ use sqlite::{Alter, Connection, FileStore, Files, Options};
 use sqlite_disk::{Disk, Memory};
 use std::alloc::Global;
 
-/// The leases in the bytes of a database and of its log: the rows that a store finds which is opened
-/// on them in memory, in rising address. An empty database has none.
+/// Returns the leases in the bytes of a database and of its log, in ascending order of address: the
+/// rows that a store finds when it is opened on these bytes in memory. An empty database has none.
 ///
 /// # Errors
 ///
-/// Those of `store_in_file`: `Sql` where the bytes are no database or memory runs out, and `Schema`
-/// where its table `lease` is not ours or has a row that is out of range.
+/// Those of `store_in_file`: `Sql` if the bytes are not a database or memory runs out, and `Schema`
+/// if its table `lease` is not ours or has a row that is out of range.
 pub fn rows_in_bytes(alloc: Global, log: &[u8], db: &[u8]) -> Result<Vec<Row>, StoreFault>
     ensures held { IfOk result (λ rows. AreRowsIn (bytes_image log.now db.now) rows.items) }
     ensures rise { IfOk result (λ rows. Rise rows.items) }
@@ -45,7 +45,7 @@ pub fn rows_in_bytes(alloc: Global, log: &[u8], db: &[u8]) -> Result<Vec<Row>, S
     rows_on(alloc, Files { log, db })
 }
 
-// A file in memory with these bytes.
+// Returns a file in memory with these bytes.
 pub(crate) fn file_of(alloc: Global, bytes: &[u8]) -> Result<Memory, StoreFault>
     ensures bytes { IfOk result (λ file. memory_bytes file ≡ bytes.now) }
     ensures usable { IfOk result (λ file. IsTrue (memory_is_usable file)) }
@@ -58,7 +58,7 @@ pub(crate) fn file_of(alloc: Global, bytes: &[u8]) -> Result<Memory, StoreFault>
     }
 }
 
-// The rows of the store that is opened on these files.
+// Returns the rows of the store that is opened on these files.
 fn rows_on<D: Disk + Drop>(alloc: Global, files: Files<D>) -> Result<Vec<Row>, StoreFault>
     requires log { IsTrue (D.Disk.is_usable files.log) }
     requires db { IsTrue (D.Disk.is_usable files.db) }
@@ -72,7 +72,7 @@ fn rows_on<D: Disk + Drop>(alloc: Global, files: Files<D>) -> Result<Vec<Row>, S
     }
 }
 
-// The rows of the store over a connection, which is let go.
+// Returns the rows of the store over a connection, which is then dropped.
 fn rows_over<S: Alter + Drop>(alloc: Global, conn: Connection<S>) -> Result<Vec<Row>, StoreFault>
     ensures read { IfOk result (λ rows. (store : Kept S)
         × OpensAt (state S.Store conn) (state S.Store store.conn)

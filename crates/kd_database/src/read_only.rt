@@ -1,4 +1,4 @@
-//! Bytes that are there already, as a disk that can only be read.
+//! Existing bytes as a disk that can only be read.
 ghost use Rattle.std.specs.Prelude.{◌≡◌, ◌+◌, ◌<◌, ◌≤◌, true, false, nat_lt, length, take, drop, refl, IsErr, OnErr, OnOk};
 ghost use Rattle.sqlite_disk.specs.Disk.{CountsFault};
 ghost use Rattle.sqlite_disk.specs.Refusal.{finds_no_room};
@@ -6,11 +6,11 @@ ghost use Rattle.sqlite_disk.specs.Refusal.{finds_no_room};
 use sqlite_disk::{Disk, Tally};
 use std::io;
 
-/// Bytes as a file: each write is refused, and each tested read after that too.
+/// Bytes as a file. Every write is refused, and after that every checked read as well.
 #[derive(Drop)]
 pub(crate) struct ReadOnly<'a> {
     bytes: &'a [u8],
-    // How many calls were refused.
+    // The number of calls that were refused.
     refused: u64,
 }
 
@@ -93,7 +93,7 @@ impl<'a> Disk for ReadOnly<'a> {
     }
 }
 
-// The bytes from a place on, as many as the buffer takes.
+// Copies the bytes from an offset on, as many as the buffer holds.
 fn copy_at(bytes: &[u8], at: usize, buf: &mut [u8]) -> io::Result<()>
     ensures copied { OnOk result (buf.new ≡ take (length buf.old) (drop at bytes.now)) }
     ensures within { OnOk result (at + length buf.old ≤ length bytes.now) }
@@ -106,7 +106,7 @@ fn copy_at(bytes: &[u8], at: usize, buf: &mut [u8]) -> io::Result<()>
     Ok(())
 }
 
-// The answer to a call that would change the file, which is counted.
+// Returns the error of a call that would change the file, and counts the call.
 fn refuse(refused: &mut u64) -> io::Result<()>
     ensures err { IsErr result }
     ensures kind { finds_no_room result ≡ false }

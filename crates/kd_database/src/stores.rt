@@ -23,7 +23,7 @@ pub type InFile = FileStore<File>;
 /// What leases in memory are kept in.
 pub type InMemory = MemStore;
 
-/// A new store of leases in memory, at the empty table.
+/// Makes a store of leases in memory, at the empty table.
 ///
 /// # Errors
 ///
@@ -41,14 +41,14 @@ pub fn store_in_memory(alloc: Global) -> Result<Opened<Store<InMemory>>, StoreFa
     }
 }
 
-/// The store of leases in the file at a path, a database of SQLite. One that is not there is made,
-/// for this user alone. This is `store_from` for a program: what a clause says of a file's bytes, it
-/// says here of an empty one, and there of any.
+/// Opens the store of leases in the file at a path, an SQLite database. If there is no file, makes
+/// one that only this user can read and write. This is `store_from` for a program: its clauses
+/// speak of a file without bytes, where those of `store_from` speak of any bytes.
 ///
 /// # Errors
 ///
-/// `Sql` where the file is not opened or does not answer, and `Schema` where its table `lease` is
-/// not ours or has a row that is out of range.
+/// `Sql` if the file cannot be opened or a call to the database fails, and `Schema` if its table
+/// `lease` is not ours or has a row that is out of range.
 pub fn store_in_file(rt: &HostRuntime, path: &str) -> Result<Opened<Store<InFile>>, StoreFault>
     ensures fault { IfOk result (λ it. it.store.fault ≡ None) }
     ensures held { IfOk result (λ it. StandsAsHeld no_bytes it.store) }
@@ -59,8 +59,8 @@ pub fn store_in_file(rt: &HostRuntime, path: &str) -> Result<Opened<Store<InFile
     store_from(rt, path, Unknown)
 }
 
-/// The same, for any bytes of the file and of its log, for which the start stands. That these are
-/// the files at the path no clause says.
+/// Does the same for any bytes of the file and of its log, for which `start` stands. No clause says
+/// that these are the files at the path.
 ///
 /// # Errors
 ///
@@ -85,11 +85,12 @@ pub fn store_from<F: Start>(
     }
 }
 
-/// The store over a connection, in no transaction, at the table that its database holds.
+/// Opens the store over a connection that is in no transaction, at the table that its database
+/// holds.
 ///
 /// # Errors
 ///
-/// As for a file; `Sql` with `Closed` where the connection is in a transaction.
+/// As for a file, and `Sql` with `Closed` if the connection is in a transaction.
 pub fn store_over<S: Alter + Drop>(
     alloc: Global,
     conn: Connection<S>,
@@ -111,8 +112,9 @@ pub fn store_over<S: Alter + Drop>(
     }
 }
 
-// Makes the file where there is none, for this user alone; the log gets the rights of its file. What
-// stands in the way is found again when the file is opened. These two names are no files there.
+// Makes the file if there is none, for this user only; the log gets the permissions of its file.
+// Anything that prevents this is met again when the file is opened. The two kinds of name that are
+// left out are not files there.
 fn make_file(rt: &HostRuntime, path: &str) {
     if path != ":memory:" && !path.starts_with("file:") {
         let _made = OpenOptions::new()
@@ -123,7 +125,7 @@ fn make_file(rt: &HostRuntime, path: &str) {
     }
 }
 
-// Why a file is not opened.
+// Returns why a file could not be opened.
 pub(crate) fn cause_of(error: Error) -> Cause
     ensures { result ≡ opening_cause error }
 {

@@ -9,27 +9,27 @@ use sqlite_disk::Files;
 use sqlite_wal::{Error, PageSize, probe_frames, probe_page_size};
 use std::alloc::Global;
 
-// The bytes of a log's header, and of a frame's.
+// The lengths in bytes of a log's header and of a frame's.
 const LOG_HEADER: usize = 32;
 
 const FRAME_HEADER: usize = 24;
 
-// Where the salts are in a log's header, and in a frame's.
+// The offsets of the salts in a log's header and in a frame's.
 const SALTS_OF_LOG: usize = 16;
 
 const SALTS_OF_FRAME: usize = 8;
 
 const SALTS: usize = 8;
 
-/// How many bytes of a log a start leaves out, where a frame of this same log begins behind the last
-/// one that it takes: that frame, or one behind it, was damaged. What a stop in the midst of a
-/// commit leaves, and the frames of a log before this one, are none of these, and of a log whose
-/// header is damaged nothing is said (SQLite's file format, section 4).
+/// Returns the number of bytes of a log that a start leaves out, if a frame of this same log begins
+/// after the last one that the start takes: that frame, or a later one, was damaged. This counts
+/// neither what a stop in the middle of a commit leaves nor the frames of an earlier log, and it
+/// says nothing of a log whose header is damaged (SQLite's file format, section 4).
 ///
 /// # Errors
 ///
-/// `Sql`, and only where the header is that of a log: memory runs out, a start refuses the log, or
-/// it has more frames than 32 bits number.
+/// `Sql`, and only if the header is that of a log: memory runs out, a start refuses the log, or it
+/// has more frames than 32 bits can number.
 pub fn left_out(alloc: Global, log: &[u8]) -> Result<Option<usize>, StoreFault>
     ensures counted { IfOk result (AreLeftOut log.now) }
     ensures refused { IfErr result (IsNoCount log.now) }
@@ -45,7 +45,7 @@ pub fn left_out(alloc: Global, log: &[u8]) -> Result<Option<usize>, StoreFault>
     }
 }
 
-// The same of a log with pages of this size.
+// Does the same for a log with pages of this size.
 fn left_out_of(alloc: Global, log: &[u8], size: PageSize) -> Result<Option<usize>, StoreFault>
     requires named { IsLogFor (bytes_of size) log.now }
     ensures counted { IfOk result (AreLeftOut log.now) }
@@ -63,7 +63,7 @@ fn left_out_of(alloc: Global, log: &[u8], size: PageSize) -> Result<Option<usize
     }
 }
 
-// The place behind so many frames of a log.
+// Returns the offset after this many frames of a log.
 #[tactic(auto, unfolding(sqlite_wal::specs::Recovery::frames_len))]
 fn frames_end(frames: usize, page_size: usize) -> usize
     requires size { page_size ≤ 65536 }
@@ -73,7 +73,7 @@ fn frames_end(frames: usize, page_size: usize) -> usize
     LOG_HEADER + frames * (FRAME_HEADER + page_size)
 }
 
-// A frame of this same log begins at a place.
+// Whether a frame of this same log begins at an offset.
 fn is_own_frame(log: &[u8], at: usize) -> bool
     ensures own { IsTrue result → IsOwnFrame log.now at }
     ensures other { result ≡ false → ¬ IsOwnFrame log.now at }
@@ -85,7 +85,7 @@ fn is_own_frame(log: &[u8], at: usize) -> bool
     salts == &log[SALTS_OF_LOG..SALTS_OF_LOG + SALTS]
 }
 
-// Why a log is not read; a file that only gives its bytes has no failures of its own.
+// Returns why a log could not be read. A file that only gives its bytes has no failures of its own.
 fn cause_of(error: Error) -> Cause
     ensures memory { error ≡ Error.OutOfMemory → result ≡ Cause.OutOfMemory }
     ensures damaged { error ≡ Error.Corrupt → result ≡ Cause.DatabaseCorrupt }

@@ -3,7 +3,7 @@ use Rattle.std.specs.Cmp.Lexicographic.{bytes_decides, pointwise}
 use Rattle.sqlite_wal.specs.Format.{part}
 use Rattle.kd_database.proofs.tail.is_own_frame.Goals as goal
 
--- eight bytes from a place on, as they are cut
+-- eight bytes from an offset on, as they are cut
 cut : (log : List ℕ) (at : ℕ) → take (at + 8 + 8 - (at + 8)) (drop (at + 8) log) ≡ part log (at + 8) 8
 unfolding part
 cut log at = let eight : at + 8 + 8 - (at + 8) ≡ 8 = omega arith in ap (λ n. take n (drop (at + 8) log)) eight
