@@ -7,7 +7,7 @@ use Rattle.kd_expr.specs.Reading.{and_then}
 use Rattle.kd_expr.proofs.Options.{none_is, if_some}
 use Rattle.kd_expr.proofs.Spans.{each_front, front_behind, front_word, behind_word, both_of_two}
 
--- what a second answer came from
+-- what a second result came from
 pub record Came {A B : Type 0} (o : Option A) (f : A → Option B) (b : B) : Type 0 where
   pub first : A
   pub is : o ≡ Some first
@@ -17,7 +17,7 @@ pub came_from : {A B : Type 0} (o : Option A) (f : A → Option B) (b : B) → a
 came_from None f b e = none_is e
 came_from (Some a) f b e = record { first = a; is = refl; gives = e }
 
--- a part is read
+-- reads a part
 pub record ReadsPart (text : List ℕ) (value : ℕ) (rest : List ℕ) : Type 0 where
   pub digits : List ℕ
   pub is : text ≡ digits ++ rest
@@ -100,11 +100,11 @@ unfolding address_read
 address_complete _ _ (four s t u v {a = a} {b = b} {c = c} {d = d} p q r w) =
     rw (part_complete s a (46 ∷ (t ++ 46 ∷ (u ++ 46 ∷ v))) p refl, next_complete t b (46 ∷ (u ++ 46 ∷ v)) q refl, next_complete u c (46 ∷ v) r refl, last_part v d w) refl
 
--- what is answered is an address of the text
+-- what is returned is an address of the text
 pub read_found : (text : List ℕ) (answer : Option (List ℕ)) → answer ≡ address_read text → IfSome answer (λ a. IsAddress text a)
 read_found text None e = tt
 read_found text (Some a) e = address_sound text a (sym e)
 
--- an address of the text is what is answered
+-- an address of the text is what is returned
 pub read_only : (text : List ℕ) (answer : Option (List ℕ)) → answer ≡ address_read text → (a : List ℕ) → IsAddress text a → answer ≡ Some a
 read_only text answer e a h = e ∙ address_complete text a h

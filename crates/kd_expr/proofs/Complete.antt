@@ -7,7 +7,7 @@ use Rattle.kd_expr.specs.Reading.{Reader, Deeper, on_ok, seq, either, one, done,
 use Rattle.kd_expr.specs.declared.fault.SyntaxFault.{SyntaxFault}
 use Rattle.kd_expr.specs.Tree.{Tree, Member, Group, IfElse, Substring}
 
--- the reader answers with this, and leaves the rest
+-- the reader gives this, and leaves the rest
 abbrev pub Answers : {A : Type 0} → Result (A × List Lexeme) SyntaxFault → A → List Lexeme → Type 0
 Answers {A} o a rest = ◌≡◌ {A = Result (A × List Lexeme) SyntaxFault} o (Ok (a, rest))
 
@@ -19,7 +19,7 @@ Finds {A} test ts a rest = ◌≡◌ {A = Option (A × List Lexeme)} (one test t
 abbrev pub Misses : {A : Type 0} → (Lexeme → Option A) → List Lexeme → Type 0
 Misses {A} test ts = ◌≡◌ {A = Option (A × List Lexeme)} (one test ts) None
 
--- a chain's loop stands after the tokens, with this in hand
+-- a chain's loop is after the tokens, with this in hand
 pub record InHand (r : Reader Tree) (next : Lexeme → Option ℕ) (operand : Reader Tree) (join : Tree → Tree → Tree) (end : ℕ) (ts rest : List Lexeme) (t : Tree) : Type 0 where
   pub count : ℕ
   pub enough : length rest ≤ count
@@ -41,7 +41,7 @@ joined_more : (next : Lexeme → Option ℕ) (operand : Reader Tree) (join : Tre
 unfolding operands_joined
 joined_more next operand join k a b x o end ws rest e f = rw (e, f) refl
 
--- a chain stands where a further operand is refused
+-- a chain at which a further operand is refused
 pub joined_fails : (next : Lexeme → Option ℕ) (operand : Reader Tree) (join : Tree → Tree → Tree) (k : ℕ) (a : Tree) (o end : ℕ) (ts ws : List Lexeme) (fault : SyntaxFault) → 1 ≤ k → Finds next ts o ws → ◌≡◌ {A = Result (Tree × List Lexeme) SyntaxFault} (operand end ws) (Err fault) → ◌≡◌ {A = Result (Tree × List Lexeme) SyntaxFault} (operands_joined next operand join k a end ts) (Err fault)
 unfolding operands_joined
 joined_fails next operand join zero a o end ts ws fault least e f = absurd (omega (arith, least))
@@ -70,7 +70,7 @@ pub record Stops (rest : List Lexeme) : Type 0 where
   pub no_and : Misses (word_at (codes "and")) rest
   pub no_or : Misses (word_at (codes "or")) rest
 
--- a whole expression's loop stands after it, where nothing of an operand follows
+-- a whole expression's loop is after it, if nothing of an operand follows
 pub record ReadsAny (n : ℕ) (us : List Lexeme) (t : Tree) : Type 0 where
   pub reads : (end : ℕ) (rest : List Lexeme) → StopsCompare rest → Misses (word_at (codes "and")) rest → InHand (or_at (reading.below n)) (word_at (codes "or")) (and_at (reading.below n)) or_of end (us ++ rest) rest t
 
@@ -83,7 +83,7 @@ Complete compare_level n us t = (end : ℕ) (rest : List Lexeme) → StopsCompar
 Complete sum_level n us t = (end : ℕ) (rest : List Lexeme) → InHand (sum_at (reading.below n)) (sign_at 43) (primary_at (reading.below n)) sum_of end (us ++ rest) rest t × Misses (word_at (codes "not")) (us ++ rest)
 Complete primary_level n us t = (end : ℕ) (rest : List Lexeme) → Answers (primary_at (reading.below n) end (us ++ rest)) t rest × Misses (word_at (codes "not")) (us ++ rest)
 
--- a whole expression is read where nothing of it follows
+-- a whole expression is read if nothing of it follows
 pub any_complete : {n : ℕ} {us : List Lexeme} {t : Tree} → ReadsAny n us t → (end : ℕ) (rest : List Lexeme) → Stops rest → Answers (or_at (reading.below n) end (us ++ rest)) t rest
 any_complete h end rest s = hand_ends (h.reads end rest s.compare s.no_and) s.no_or
 

@@ -1,6 +1,6 @@
--- What a reader of tokens comes to: what it gives has the fact; where it refuses a token, those before
--- begin something that has it, and what follows the token does not matter. One lemma for each way of
--- putting readers together.
+-- What a reader of tokens comes to: what it gives has the fact; if it refuses a token, those before
+-- begin something that has it, and what follows the token does not matter. One lemma for each way
+-- of combining readers.
 use Rattle.std.proofs.Common.{◌≡◌, ℕ, zero, suc, ◌≤◌, false, Option, Some, None, Result, Ok, Err, List, [], ◌∷◌, ◌++◌, length, refl, sym, ◌∙◌, ap, subst, append_assoc, append-nil, arith, length-append}
 use Rattle.kd_expr.specs.FirstFault.{IsNesting, token_place, is_bad, IsLike, itself, another_number, another_below_zero, an_option}
 use Rattle.kd_expr.specs.Lexical.{Lexeme, StringAt, HexAt, AddressAt, NumberAt, MinusAt, NameAt, SignAt, BadAt}
@@ -13,12 +13,12 @@ use Rattle.kd_expr.specs.declared.fault.SyntaxFault.TheVariants as faults
 use Rattle.kd_expr.proofs.Complete.{joined_ends}
 use Rattle.kd_expr.proofs.Sound.{OneOf, is_one, Looks, ends, other, found, looks}
 
--- tokens that may stand in place of those that are left: the first is like the first
+-- tokens that may replace the remaining ones: the first is like the first
 pub data Follows (R : Lexeme → Lexeme → Type 0) : List Lexeme → List Lexeme → Type 0 where
   nothing : Follows R [] []
   token : {x y : Lexeme} (ts us : List Lexeme) → R x y → Follows R (x ∷ ts) (y ∷ us)
 
--- the tokens that have the same fault at the place of one, where so many more may be nested
+-- the tokens that have the same fault in place of one, where k more may be nested
 abbrev pub Stays : ℕ → SyntaxFault → Lexeme → Lexeme → Type 0
 Stays j (faults.Expected at) x y = IsLike x y
 Stays j (faults.TooNested at) x y = (j ≡ 0) × (x ≡ y)
@@ -42,7 +42,7 @@ likes j faults.Memory x y e = same_like e
 abbrev pub Begins : {A : Type 0} → (List Lexeme → A → Type 0) → List Lexeme → Type 0
 Begins {A} P us = (more : List Lexeme) × (a : A) × P (us ++ more) a
 
--- the fault of the first of the tokens that are left, after the tokens in front
+-- the fault of the first of the remaining tokens, after those before
 pub data Refused (B : List Lexeme → Type 0) (end : ℕ) (front : List Lexeme) : List Lexeme → SyntaxFault → Type 0 where
   at_end : Refused B end front [] (faults.Expected end)
   bad : (at : ℕ) (ts : List Lexeme) → Refused B end front (BadAt at ∷ ts) (faults.BadToken at)
@@ -52,7 +52,7 @@ pub data Refused (B : List Lexeme → Type 0) (end : ℕ) (front : List Lexeme) 
   unknown : (at code : ℕ) (name known : List ℕ) (ts : List Lexeme) → code_by_name known ≡ Some code → B (front ++ NameAt at known ∷ []) → Refused B end front (NameAt at name ∷ ts) (faults.UnknownName at)
   nested : (x : Lexeme) (ts : List Lexeme) → IsNesting x → B (front ++ x ∷ []) → Refused B end front (x ∷ ts) (faults.TooNested (token_place x))
 
--- the same fault, where more is known of what begins so
+-- the same fault, if more is known of what begins so
 pub refused_map : {B C : List Lexeme → Type 0} {end : ℕ} (front longer : List Lexeme) {left : List Lexeme} {fault : SyntaxFault} → ((us : List Lexeme) → B (front ++ us) → C (longer ++ us)) → Refused B end front left fault → Refused C end longer left fault
 refused_map front longer h at_end = at_end
 refused_map front longer h (bad at ts) = bad at ts
@@ -73,8 +73,8 @@ refusal_is B end (NameAt at s) ts = unexpected (NameAt at s) ts refl
 refusal_is B end (SignAt at s) ts = unexpected (SignAt at s) ts refl
 refusal_is B end (BadAt at) ts = bad at ts
 
--- something is read: a front has the fact, and is read so before a token like the next, at any deeper
--- nesting too
+-- something is read: a prefix has the fact, and is read so before a token like the next, at any
+-- deeper nesting as well
 pub record Read {A : Type 0} (P : List Lexeme → A → Type 0) (s : ℕ → Reader A) (end : ℕ) (ts : List Lexeme) (a : A) (rest : List Lexeme) : Type 0 where
   pub front : List Lexeme
   pub is : ts ≡ front ++ rest
@@ -90,12 +90,12 @@ pub record Stopped {A : Type 0} (P : List Lexeme → A → Type 0) (s : ℕ → 
   pub refused : Refused (Begins P) end front left fault
   pub again : (j : ℕ) (us : List Lexeme) → Follows (Stays j fault) left us → ◌≡◌ {A = Result (A × List Lexeme) SyntaxFault} (s j end (front ++ us)) (Err fault)
 
--- what an answer comes to
+-- what a result comes to
 abbrev pub Comes : {A : Type 0} → (List Lexeme → A → Type 0) → (ℕ → Reader A) → ℕ → List Lexeme → Result (A × List Lexeme) SyntaxFault → Type 0
 Comes P s end ts (Ok x) = Read P s end ts x.0 x.1
 Comes P s end ts (Err fault) = Stopped P s end ts fault
 
--- what a reader, and those where more may be nested, come to on so many tokens
+-- what a reader, and those where more may be nested, come to on at most k tokens
 pub record GoodTo {A : Type 0} (k : ℕ) (P : List Lexeme → A → Type 0) (r : Reader A) (s : ℕ → Reader A) : Type 0 where
   pub some : Begins P []
   pub each : (end : ℕ) (ts : List Lexeme) → length ts ≤ k → Comes P s end ts (r end ts)
@@ -104,16 +104,16 @@ pub record GoodTo {A : Type 0} (k : ℕ) (P : List Lexeme → A → Type 0) (r :
 abbrev pub Good : {A : Type 0} → (List Lexeme → A → Type 0) → Reader A → (ℕ → Reader A) → Type 0
 Good P r s = (k : ℕ) → GoodTo k P r s
 
--- of a reader that is good
+-- a good reader comes to this
 pub comes : {A : Type 0} (P : List Lexeme → A → Type 0) (r : Reader A) (s : ℕ → Reader A) → Good P r s → (end : ℕ) (ts : List Lexeme) → Comes P s end ts (r end ts)
 comes P r s g end ts = (g (length ts)).each end ts (omega arith)
 
--- a front is not longer than the tokens
+-- what remains is not longer than the tokens
 pub rest_shorter : (front rest ts : List Lexeme) → ts ≡ front ++ rest → length rest ≤ length ts
 rest_shorter front rest ts is =
     let size : length ts ≡ length (front ++ rest) = ap (λ v. length v) is in omega (arith, size, length-append {A = Lexeme} front rest)
 
--- readers that answer as good ones
+-- readers that give the same as good ones
 same_comes : {A : Type 0} (P : List Lexeme → A → Type 0) (r s : ℕ → Reader A) → ((j end : ℕ) (ts : List Lexeme) → r j end ts ≡ s j end ts) → (end : ℕ) (ts : List Lexeme) (answer : Result (A × List Lexeme) SyntaxFault) → Comes P s end ts answer → Comes P r end ts answer
 same_comes P r s same end ts (Ok x) c = record {
   front = c.front;
@@ -142,14 +142,14 @@ done_good P x h k = record {
   each = λ end ts fits. record { front = []; is = refl; holds = h; again = λ j us fo. refl };
 }
 
--- what follows a front and begins so
+-- what follows a prefix and begins so
 begins_after : {B : Type 0} (P : List Lexeme → B → Type 0) (front us : List Lexeme) → Begins (λ ws b. P (front ++ ws) b) us → Begins P (front ++ us)
 begins_after P front us b = (b.0, b.1, subst (λ v. P v b.1) (sym (append_assoc front us b.0)) b.2)
 
 begins_longer : {B : Type 0} (P : List Lexeme → B → Type 0) (front inner us : List Lexeme) → Begins (λ ws b. P (front ++ ws) b) (inner ++ us) → Begins P ((front ++ inner) ++ us)
 begins_longer P front inner us b = subst (λ v. Begins P v) (sym (append_assoc front inner us)) (begins_after P front (inner ++ us) b)
 
--- the first token is like the first where more is in front
+-- the first token is like the first even if more comes before
 follows_more : (R : Lexeme → Lexeme → Type 0) → ((x y : Lexeme) → R x y → IsLike x y) → (front left us : List Lexeme) → Follows R left us → Follows IsLike (front ++ left) (front ++ us)
 follows_more R h (x ∷ front) left us fo = token (front ++ left) (front ++ us) itself
 follows_more R h [] _ _ nothing = nothing
@@ -213,16 +213,16 @@ first_is e = cc
 no_first : {C : Type 0} {x : Lexeme} {ts : List Lexeme} → ◌≡◌ {A = List Lexeme} (x ∷ ts) [] → C
 no_first e = absurd (cc)
 
--- nothing follows nothing
+-- only nothing follows nothing
 follows_nothing : (R : Lexeme → Lexeme → Type 0) (us : List Lexeme) → Follows R [] us → us ≡ []
 follows_nothing R _ nothing = refl
 
--- where nothing is there, nothing is in front
+-- if there is nothing, nothing comes before
 both_empty : (R : Lexeme → Lexeme → Type 0) (front left us : List Lexeme) → [] ≡ front ++ left → Follows R left us → front ++ us ≡ []
 both_empty R (x ∷ front) left us is fo = no_first (sym is)
 both_empty R [] left us is fo = follows_nothing R us (subst (λ v. Follows R v us) (sym is) fo)
 
--- tokens begin with one that is so related to another
+-- tokens begin with one that is related so to another
 pub record StartsWith (R : Lexeme → Lexeme → Type 0) (x : Lexeme) (us : List Lexeme) : Type 0 where
   pub first : Lexeme
   pub more : List Lexeme
@@ -237,7 +237,7 @@ starts R h x ts (y ∷ front) left us is fo = record { first = x; more = front +
 starts R h x ts [] _ _ is nothing = no_first is
 starts R h x ts [] _ _ is (token {x = z} {y = y} vs us l) = record { first = y; more = us; like = subst (λ v. IsLike v y) (sym (first_is is)) (h z y l); is = refl }
 
--- readers that answer as others after a token like this
+-- readers that give the same as others after a token like this
 pub head_same : {A : Type 0} (P : List Lexeme → A → Type 0) (r s : ℕ → Reader A) (x : Lexeme) (end : ℕ) (ts : List Lexeme) → ((j : ℕ) (y : Lexeme) (us : List Lexeme) → IsLike x y → r j end (y ∷ us) ≡ s j end (y ∷ us)) → (answer : Result (A × List Lexeme) SyntaxFault) → Comes P s end (x ∷ ts) answer → Comes P r end (x ∷ ts) answer
 head_same {A} P r s x end ts same (Ok y) c = record {
   front = c.front;
@@ -258,7 +258,7 @@ head_same {A} P r s x end ts same (Err fault) c = record {
       ap (λ v. r j end v) at.is ∙ (same j at.first at.more at.like ∙ (ap (λ v. s j end v) (sym at.is) ∙ c.again j us fo));
 }
 
--- readers that go on as others after this token
+-- readers that go on as others do after this token
 pub goes_on : {B : Type 0} (P : List Lexeme → B → Type 0) (r s : ℕ → Reader B) (x : Lexeme) (end : ℕ) (ts : List Lexeme) → ((j : ℕ) (us : List Lexeme) → r j end (x ∷ us) ≡ s j end us) → (answer : Result (B × List Lexeme) SyntaxFault) → Comes (λ ws b. P (x ∷ ws) b) s end ts answer → Comes P r end (x ∷ ts) answer
 goes_on P r s x end ts same (Ok y) c = record {
   front = x ∷ c.front;
@@ -286,11 +286,11 @@ stops_at {B} P r x end ts fault begins refused h = record {
   again = λ j us fo. let at = starts_so (Stays j fault) x ts us fo in ap (λ v. r j end v) at.is ∙ h j at.first at.more at.like;
 }
 
--- readers that read this token alone
+-- readers that read only this token
 pub reads_one : {B : Type 0} (P : List Lexeme → B → Type 0) (r : ℕ → Reader B) (x : Lexeme) (end : ℕ) (ts : List Lexeme) (b : B) → P (x ∷ []) b → ((j : ℕ) (us : List Lexeme) → ◌≡◌ {A = Result (B × List Lexeme) SyntaxFault} (r j end (x ∷ us)) (Ok (b, us))) → Read P r end (x ∷ ts) b ts
 reads_one P r x end ts b holds h = record { front = x ∷ []; is = refl; holds = holds; again = λ j us fo. h j us }
 
--- nothing is left at the end
+-- at the end nothing remains
 pub at_the_end : {B : Type 0} (P : List Lexeme → B → Type 0) (r : ℕ → Reader B) (end : ℕ) → Begins P [] → ((j : ℕ) → ◌≡◌ {A = Result (B × List Lexeme) SyntaxFault} (r j end []) (Err (faults.Expected end))) → Stopped P r end [] (faults.Expected end)
 at_the_end {B} P r end begins e = record {
   front = [];
@@ -301,7 +301,7 @@ at_the_end {B} P r end begins e = record {
   again = λ j us fo. ap (λ v. r j end v) (follows_nothing IsLike us fo) ∙ e j;
 }
 
--- readers that answer as others at the end
+-- readers that give the same as others at the end
 end_same : {A : Type 0} (P : List Lexeme → A → Type 0) (r s : ℕ → Reader A) (end : ℕ) → ((j : ℕ) → r j end [] ≡ s j end []) → (answer : Result (A × List Lexeme) SyntaxFault) → Comes P s end [] answer → Comes P r end [] answer
 end_same P r s end same (Ok y) c = record {
   front = c.front;
@@ -324,14 +324,14 @@ one_misses test x us e = rw e refl
 one_finds : {A : Type 0} (test : Lexeme → Option A) (x : Lexeme) (us : List Lexeme) (a : A) → test x ≡ Some a → ◌≡◌ {A = Option (A × List Lexeme)} (one test (x ∷ us)) (Some (a, us))
 one_finds test x us a e = rw e refl
 
--- what an `either` answers after this token
+-- what an `either` gives after this token
 pub either_found : {A B : Type 0} (test : Lexeme → Option A) (f : A → Reader B) (rival : Reader B) (x : Lexeme) (a : A) (end : ℕ) → test x ≡ Some a → (us : List Lexeme) → either test f rival end (x ∷ us) ≡ f a end us
 either_found test f rival x a end e us = ap (λ o. or_else o (λ y. f y.0 end y.1) (rival end (x ∷ us))) (one_finds test x us a e)
 
 pub either_missed : {A B : Type 0} (test : Lexeme → Option A) (f : A → Reader B) (rival : Reader B) (x : Lexeme) (end : ℕ) → test x ≡ None → (us : List Lexeme) → either test f rival end (x ∷ us) ≡ rival end (x ∷ us)
 either_missed test f rival x end e us = ap (λ o. or_else o (λ y. f y.0 end y.1) (rival end (x ∷ us))) (one_misses test x us e)
 
--- a test does not tell a token that it does not let through from one like it
+-- a test does not distinguish a token that it does not accept from one like it
 abbrev pub IsBlind : {A : Type 0} → (Lexeme → Option A) → Type 0
 IsBlind test = (x y : Lexeme) → IsLike x y → test x ≡ None → test y ≡ None
 
@@ -352,7 +352,7 @@ either_good P test f rival fs rivals blind h g k =
     (λ end x a e ts fits. goes_on P (λ j. either test (fs j) (rivals j)) (λ j. fs j a) x end ts (λ j us. either_found test (fs j) (rivals j) x a end e us) (f a end ts) (comes (λ ws b. P (x ∷ ws) b) (f a) (λ j. fs j a) (h x a e) end ts))
     (g k)
 
--- a token that is not let through is refused as one that stays for it
+-- a token that is not accepted is refused in the same way as one that may replace it
 abbrev pub IsSteady : {A : Type 0} → (Lexeme → Option A) → (Lexeme → SyntaxFault) → Type 0
 IsSteady test refusal = (j : ℕ) (x y : Lexeme) → test x ≡ None → Stays j (refusal x) x y → (test y ≡ None) × (refusal y ≡ refusal x)
 
@@ -366,7 +366,7 @@ refusal_like _ _ another_number = refl
 refusal_like _ _ another_below_zero = refl
 refusal_like _ _ (an_option code e) = refl
 
--- where no token has a fault of its own
+-- if no token has a fault of its own
 pub plain_steady : {A : Type 0} (test : Lexeme → Option A) → IsBlind test → IsSteady test refusal_of
 plain_steady test blind j x y e stays = let l = likes j (refusal_of x) x y stays in (blind x y l e, refusal_like x y l)
 
@@ -376,7 +376,7 @@ wanted_each test refusal steady some h end _ _ (other x ts e) = stops_at (OneOf 
     (λ j y us l. let s = steady j x y e l in ap (λ o. or_else o (λ z. Ok z) (Err (refusal y))) (one_misses test y us s.0) ∙ ap (λ v. Err v) s.1)
 wanted_each test refusal steady some h end _ _ (found x ts a e) = reads_one (OneOf test) (λ j. wanted test refusal) x end ts a (is_one x e) (λ j us. ap (λ o. or_else o (λ y. Ok y) (Err (refusal x))) (one_finds test x us a e))
 
--- one token that has to stand there, where this one could, and each refusal is that of its token
+-- one token that must come next, if this one could, and each refusal is that of its token
 pub wanted_good : {A : Type 0} (test : Lexeme → Option A) (refusal : Lexeme → SyntaxFault) → IsSteady test refusal → (x : Lexeme) (a : A) → test x ≡ Some a → ((end : ℕ) (x : Lexeme) (ts : List Lexeme) → Refused (Begins (OneOf test)) end [] (x ∷ ts) (refusal x)) → Good (OneOf test) (wanted test refusal) (λ j. wanted test refusal)
 wanted_good test refusal steady x a e h k = record {
   some = (x ∷ [], a, is_one x e);
@@ -413,7 +413,7 @@ weaker_good_to {A} k P Q r s w g = record {
 pub weaker_good : {A : Type 0} (P Q : List Lexeme → A → Type 0) (r : Reader A) (s : ℕ → Reader A) → ((us : List Lexeme) (a : A) → P us a → Q us a) → Good P r s → Good Q r s
 weaker_good P Q r s w g k = weaker_good_to k P Q r s w (g k)
 
--- what is left after an operand is not longer
+-- what remains after an operand is not longer
 short : {A : Type 0} (Q : List Lexeme → A → Type 0) (r : Reader A) (s : ℕ → Reader A) → Good Q r s → (end : ℕ) (ts : List Lexeme) (a : A) (rest : List Lexeme) → ◌≡◌ {A = Result (A × List Lexeme) SyntaxFault} (r end ts) (Ok (a, rest)) → length rest ≤ length ts
 short {A} Q r s g end ts a rest e =
     let c : Read Q s end ts a rest = subst (λ (v : Result (A × List Lexeme) SyntaxFault). Comes Q s end ts v) e (comes Q r s g end ts) in

@@ -1,4 +1,4 @@
--- The fault that is answered is the first of the text.
+-- The fault that is returned is the first of the text.
 use Rattle.std.proofs.Common.{◌≡◌, ◌≢◌, ◌⊎◌, inl, inr, ℕ, ◌≤◌, Result, Ok, Err, List, [], ◌∷◌, ◌++◌, length, refl, sym, ◌∙◌, ap, subst, append_assoc, append-nil, arith}
 use Rattle.kd_expr.specs.Faults.{outer_fault}
 use Rattle.kd_expr.specs.FirstFault.{token_place, IsLike, BeginsSome, BeginsNoneWithin, BeginsNever, bad_token, unexpected, too_large, too_low, unknown, nested, IsFaultAfter, IsTextFault}
@@ -19,7 +19,7 @@ use Rattle.kd_expr.proofs.Options.{err_is, fault_is}
 use Rattle.kd_expr.proofs.Texts.{tokens_sound}
 use Rattle.kd_expr.proofs.Viable.{raised, more_nested, more_is, any_good}
 
--- the tree of all tokens, where so many may be nested
+-- the tree of all tokens, where n more may be nested
 abbrev whole_in : ℕ → ℕ → List Lexeme → Result Tree SyntaxFault
 whole_in n end ts = on_ok (or_at (below n) end ts) (λ x. all_read x.0 x.1)
 
@@ -48,11 +48,11 @@ follows_like : (j : ℕ) (fault : SyntaxFault) (ts us : List Lexeme) → Follows
 follows_like j fault _ _ nothing = nothing
 follows_like j fault _ _ (token {x = x} {y = y} ts us l) = token ts us (likes j fault x y l)
 
--- the first token that is left is refused, whatever follows it
+-- the first remaining token is refused, whatever follows it
 left_again : (tree : Tree) (x : Lexeme) (rest us : List Lexeme) (fault : SyntaxFault) → Follows IsLike (x ∷ rest) us → refusal_of x ≡ fault → ◌≡◌ {A = Result Tree SyntaxFault} (all_read tree us) (Err fault)
 left_again tree _ rest _ fault (token {x = x} {y = y} ts us l) is = ap (λ v. Err v) (refusal_like x y l ∙ is)
 
--- what is left after an expression is refused
+-- what remains after an expression is refused
 left_over : (end : ℕ) (ts : List Lexeme) (fault : SyntaxFault) (tree : Tree) (rest : List Lexeme) (c : faulty.Read (Spells or_level 65) (λ j. or_at (below (more_nested 64 j))) end ts tree rest) → ◌≡◌ {A = Result Tree SyntaxFault} (all_read tree rest) (Err fault) → Refuses end ts fault
 left_over end ts fault tree [] c e = no_fault e
 left_over end ts fault tree (x ∷ rest) c e =
@@ -132,7 +132,7 @@ first_of text fault e =
       is = fault_after (length text) r.before r.left fault r.refused r.again;
     }
 
--- the fault that is answered, unless memory ran out
+-- the fault that is returned, unless memory ran out
 pub first_fault : (text : List ℕ) (fault : SyntaxFault) → (fault ≢ faults.Memory → ◌≡◌ {A = Result Tree SyntaxFault} (whole_at (length text) (tokens_from (length text) 0 text)) (Err fault)) → (outer_fault fault ≡ outside.Memory) ⊎ ((outer_fault fault ≡ outside.TooLong) ⊎ IsTextFault text (outer_fault fault))
 first_fault text faults.Memory h = inl refl
 first_fault text (faults.BadToken at) h = inr (inr (first_of text (faults.BadToken at) (h (λ e. cc))))

@@ -1,4 +1,5 @@
--- A word that is cut off the front of bytes is one of the definition, and each word is cut off so.
+-- A word that is cut off the beginning of bytes is one of the definition, and each word is cut off
+-- so.
 use Rattle.std.proofs.Common.{◌≡◌, ℕ, ◌≤◌, Bool, true, false, ◌&&◌, ◌==◌, nat_le, List, [], ◌∷◌, ◌++◌, length, refl, sym, ◌∙◌, ap, subst, append_assoc, arith, if◌then◌else◌, Option, Some, None, eqb-true, leb-true}
 use Rattle.kd_expr.specs.Address.{a_digit, Each, decimal}
 use Rattle.kd_expr.specs.Lexical.{Lexeme, StringAt, HexAt, AddressAt, NumberAt, MinusAt, NameAt, SignAt, a_letter, is_hex_digit, a_sign, is_x, in_string, in_run, in_name, WordEnds, Word, string_word, hex_word, address_word, number_word, minus_word, name_word, sign_word, equal_word}
@@ -8,13 +9,13 @@ use Rattle.kd_expr.proofs.Addresses.{came_from, address_sound}
 use Rattle.kd_expr.proofs.Options.{some_is, none_is, some_pair, if_some}
 use Rattle.kd_expr.proofs.Spans.{each_front, ends_behind, front_behind, all_pass_is, both_of_two}
 
--- a word stands at the front
+-- a word begins the bytes
 pub record IsCut (at : ℕ) (bytes : List ℕ) (x : Lexeme) (rest : List ℕ) : Type 0 where
   pub word : List ℕ
   pub is : bytes ≡ word ++ rest
   pub spelled : Word at word rest x
 
--- an answer is this one
+-- a result is this one
 abbrev Cuts : Option (Lexeme × List ℕ) → Lexeme → List ℕ → Type 0
 Cuts o x rest = ◌≡◌ {A = Option (Lexeme × List ℕ)} o (Some (x, rest))
 
@@ -66,7 +67,7 @@ hex_made : (at x : ℕ) (digits rest : List ℕ) → is_x x ≡ true → 1 ≤ l
 hex_made at x [] rest p some each e = absurd (omega (arith, some))
 hex_made at x (d ∷ ds) rest p some each e = hex_word p each e
 
--- the token of a run that is no number
+-- the token of a run that is not a number
 other_sound : (at : ℕ) (run rest : List ℕ) (x : Lexeme) → WordEnds in_run rest → or_else (digits_after_0x run) (λ digits. Some (HexAt at digits)) (and_then (address_read run) (λ a. Some (AddressAt at a))) ≡ Some x → Word at run rest x
 other_sound at run rest x h e =
     let there : (o : Option (List ℕ)) → digits_after_0x run ≡ o → or_else o (λ digits. Some (HexAt at digits)) (and_then (address_read run) (λ a. Some (AddressAt at a))) ≡ Some x → Word at run rest x
@@ -90,7 +91,7 @@ run_token_sound at d ds rest x h e =
     ] in
     there (all_pass a_digit (d ∷ ds)) refl e
 
--- a run at the front of bytes that begin with a digit
+-- a run that begins bytes whose first is a digit
 run_sound : (at b : ℕ) (bytes : List ℕ) (x : Lexeme) (rest : List ℕ) → a_digit b ≡ true → Cuts (run_cut at (b ∷ bytes)) x rest → IsCut at (b ∷ bytes) x rest
 unfolding run_cut
 run_sound at b bytes x rest digit e =

@@ -1,4 +1,4 @@
--- Decimal numbers: a number does not fall as digits follow it.
+-- Decimal numbers: a number does not get smaller when digits follow it.
 use Rattle.std.proofs.Common.{◌≡◌, ℕ, suc, ◌+◌, ◌*◌, ◌-◌, ◌<◌, ◌≤◌, ◌^◌, List, [], ◌∷◌, length, drop, get_or, Option, Some, None, if◌then◌else◌, nat_lt, refl, sym, ◌∙◌, ap, subst, arith, le-ltb, drop-cons}
 use Rattle.kd_expr.specs.Address.{decimal, decimal_behind}
 

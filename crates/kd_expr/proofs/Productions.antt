@@ -1,4 +1,4 @@
--- What the grammar allows, the reader of tokens gives: one lemma a production, and all of them.
+-- What the grammar allows, the reader of tokens gives: one lemma per production, and all of them.
 use Rattle.std.proofs.Common.{◌≡◌, ℕ, suc, ◌≤◌, ◌<◌, ◌^◌, ℤ, Option, Some, List, [], ◌∷◌, ◌++◌, length, refl, sym, subst, append_assoc, codes}
 use Rattle.kd_expr.specs.Grammar.{Spells, Level, or_one, or_more, and_one, and_more, not_none, negated, compare_one, equal, sum_one, sum_more, string, hexadecimal, address, number, group, option_hex, option_exists, relay_hex, relay_exists, field, packet_length, member, substring, concat, ifelse, hexstring, lcase, ucase, uint32totext, IsOptionCode, IsSigned, IsLength, hex_bytes}
 use Rattle.kd_expr.specs.Lexical.{Lexeme, StringAt, HexAt, AddressAt, NumberAt, NameAt, SignAt}

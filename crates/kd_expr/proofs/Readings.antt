@@ -30,21 +30,21 @@ bracketed_sound code refusal =
     sign_sound _ 91 _ (λ l. seq_one_sound _ code refusal _ (λ x c is. sign_sound _ 93 _ (λ r. sign_sound _ 46 _ (λ d.
     seq_one_sound _ suffix_of refusal_of _ (λ y b has. done_sound _ (c, b) (in_brackets l r d x y is (suffix_is y b has)))))))
 
--- spelled one nesting deeper
+-- formed one nesting level deeper
 pub data Inner : Level → ℕ → List Lexeme → Tree → Type 0 where
   inner : {l : Level} {n : ℕ} {us : List Lexeme} {t : Tree} → Spells l n us t → Inner l (suc n) us t
 
--- a class's name, one nesting deeper
+-- a class's name, one nesting level deeper
 pub data InnerName : ℕ → List Lexeme → List ℕ → Type 0 where
   inner_name : {n at : ℕ} {s : List ℕ} → 1 ≤ length s → length s ≤ 255 → InnerName (suc n) (StringAt at s ∷ []) s
 
--- the readers one nesting deeper are sound
+-- the readers one nesting level deeper are sound
 pub record DeeperIsSound (m : ℕ) (deeper : Deeper) : Type 0 where
   pub any : (at : ℕ) → IsSound (Inner or_level m) (deeper.any at)
   pub operand : (at : ℕ) → IsSound (Inner not_level m) (deeper.operand at)
   pub name : (at : ℕ) → IsSound (InnerName m) (deeper.name at)
 
--- what may stand after a name at a place
+-- what may follow a name at a place
 abbrev Behind : ℕ → ℕ → List ℕ → List Lexeme → Tree → Type 0
 Behind m at name us t = Spells primary_level m (NameAt at name ∷ us) t
 
@@ -94,7 +94,7 @@ packet_sound m at = sign_sound _ 46 _ (λ d. word_sound _ (codes "len") _ (λ e.
 member_from : (m at o : ℕ) (name : List ℕ) (us : List Lexeme) → InnerName m us name → IsSound (λ ws t. Behind m at (codes "member") (SignAt o 40 ∷ (us ++ ws)) t) (seq (sign_here 41) (λ _. done (Member at name)))
 member_from m at o _ _ (inner_name least most) = sign_sound _ 41 _ (λ c. done_sound _ _ (member least most))
 
--- the productions whose operands are nested one deeper
+-- the productions whose operands are nested one level deeper
 group_made : {m at : ℕ} (c : ℕ) {us : List Lexeme} {a : Tree} → Inner or_level m us a → Spells primary_level m (SignAt at 40 ∷ (us ++ SignAt c 41 ∷ [])) (Group at a)
 group_made c (inner s) = group c s
 
@@ -294,7 +294,7 @@ name_from n _ _ (class_is least most) = inner_name least most
 name_made : (n : ℕ) (us : List Lexeme) (s : List ℕ) → OneOf class_name us s → InnerName (suc n) us s
 name_made n _ s (is_one x e) = name_from n x s (class_name_is x s e)
 
--- the readers one nesting deeper are sound at each nesting
+-- the readers one nesting level deeper are sound at each nesting
 pub below_sound : (m : ℕ) → DeeperIsSound m (below m)
 unfolding below
 below_sound zero = record { any = λ at end ts a rest e. err_is e; operand = λ at end ts a rest e. err_is e; name = λ at end ts a rest e. err_is e }

@@ -1,4 +1,4 @@
--- What the reader of tokens gives, the grammar allows: one lemma for each way of putting readers together.
+-- What the reader of tokens gives, the grammar allows: one lemma for each way of combining readers.
 use Rattle.std.proofs.Common.{◌≡◌, ℕ, zero, suc, Option, Some, None, Result, Ok, Err, List, [], ◌∷◌, ◌++◌, length, refl, sym, ◌∙◌, ap, subst, append_assoc, append-nil}
 use Rattle.kd_expr.specs.Lexical.{Lexeme}
 use Rattle.kd_expr.specs.Reading.{Reader, and_then, or_else, on_ok, done, seq, either, one, wanted, operands_joined, chain}
@@ -7,7 +7,7 @@ use Rattle.kd_expr.specs.declared.fault.SyntaxFault.{SyntaxFault}
 use Rattle.kd_expr.specs.Tree.{Tree}
 use Rattle.kd_expr.proofs.Options.{ok_pair, err_is}
 
--- a front of the tokens has the fact, and the rest is left
+-- a prefix of the tokens has the fact, and the rest remains
 pub record Takes (fact : List Lexeme → Type 0) (ts rest : List Lexeme) : Type 0 where
   pub front : List Lexeme
   pub is : ts ≡ front ++ rest
@@ -17,11 +17,11 @@ pub record Takes (fact : List Lexeme → Type 0) (ts rest : List Lexeme) : Type 
 abbrev pub IsSound : {A : Type 0} → (List Lexeme → A → Type 0) → Reader A → Type 0
 IsSound {A} P r = (end : ℕ) (ts : List Lexeme) (a : A) (rest : List Lexeme) → ◌≡◌ {A = Result (A × List Lexeme) SyntaxFault} (r end ts) (Ok (a, rest)) → Takes (λ us. P us a) ts rest
 
--- a reader that answers as a sound one
+-- a reader that gives the same as a sound one
 pub same_sound : {A : Type 0} (P : List Lexeme → A → Type 0) (r s : Reader A) → ((end : ℕ) (ts : List Lexeme) → r end ts ≡ s end ts) → IsSound P s → IsSound P r
 same_sound P r s same h end ts a rest e = h end ts a rest (sym (same end ts) ∙ e)
 
--- two makings in turn
+-- two results made one after another
 pub on_ok_twice : {A B C : Type 0} (o : Result A SyntaxFault) (f : A → Result B SyntaxFault) (g : B → Result C SyntaxFault) → on_ok (on_ok o f) g ≡ on_ok o (λ a. on_ok (f a) g)
 on_ok_twice (Err fault) f g = refl
 on_ok_twice (Ok a) f g = refl
@@ -31,7 +31,7 @@ done_sound P x h end ts a rest e =
     let both = ok_pair e in
     record { front = []; is = both.1; holds = subst (λ b. P [] b) both.0 h }
 
--- the facts of two fronts, one after another
+-- the facts of two prefixes, one after another
 pub takes_more : (P Q : List Lexeme → Type 0) (ts left rest : List Lexeme) (t : Takes Q ts left) → Takes (λ ws. P (t.front ++ ws)) left rest → Takes P ts rest
 takes_more P Q ts left rest t u = record {
   front = t.front ++ u.front;
@@ -48,7 +48,7 @@ seq_sound {A} {B} Q P r f q h end ts b rest e =
     ] in
     at (r end ts) refl e
 
--- one token that a test of its kind lets through
+-- one token that a test of its kind accepts
 pub data OneOf {A : Type 0} (test : Lexeme → Option A) : List Lexeme → A → Type 0 where
   is_one : (x : Lexeme) {a : A} → test x ≡ Some a → OneOf test (x ∷ []) a
 

@@ -1,4 +1,4 @@
--- The bytes at the front that pass a test, and what follows them.
+-- The first bytes that pass a test, and what follows them.
 use Rattle.std.proofs.Common.{◌≡◌, ℕ, ◌+◌, Bool, true, false, cond, ◌||◌, ◌&&◌, List, [], ◌∷◌, ◌++◌, take, drop, refl, ap, if◌then◌else◌, one-add}
 use Rattle.std.specs.List.{prefix_len}
 use Rattle.kd_expr.specs.Address.{Each}

@@ -1,4 +1,4 @@
--- The tokens of a text are those of the definition, and so is the tree that they spell.
+-- The tokens of a text are those of the definition, and so is the tree that they form.
 use Rattle.std.proofs.Common.{◌≡◌, ℕ, zero, suc, ◌+◌, ◌-◌, ◌≤◌, ◌<◌, Bool, true, false, List, [], ◌∷◌, ◌++◌, length, refl, sym, ◌∙◌, ap, subst, append-nil, append_assoc, arith, length-append, if◌then◌else◌, Option, Some, None, Result, Ok, Err}
 use Rattle.kd_expr.specs.Grammar.{Spells, or_level, Parses}
 use Rattle.kd_expr.specs.Lexical.{Lexeme, BadAt, a_blank, Word, NoWord, Scans, finished, blank, token, bad}
@@ -14,7 +14,7 @@ use Rattle.kd_expr.proofs.Productions.{complete}
 use Rattle.kd_expr.proofs.Readings.{any_sound}
 use Rattle.kd_expr.proofs.Words.{cut_complete, word_starts}
 
--- what is left behind a word is shorter
+-- what remains after a word is shorter
 pub cut_shorter : (at : ℕ) (bytes : List ℕ) (x : Lexeme) (rest : List ℕ) → ◌≡◌ {A = Option (Lexeme × List ℕ)} (cut at bytes) (Some (x, rest)) → length rest < length bytes
 cut_shorter at bytes x rest e =
     let c = cut_sound at bytes x rest e in
@@ -34,11 +34,11 @@ abbrev after_cut : ℕ → ℕ → List ℕ → Option (Lexeme × List ℕ) → 
 after_cut k at bytes None = BadAt at ∷ []
 after_cut k at bytes (Some x) = x.0 ∷ tokens_from k (at + (length bytes - length x.1)) x.1
 
--- where nothing is cut off, no word begins
+-- if nothing is cut off, no word begins
 no_word : (at : ℕ) (bytes : List ℕ) → cut at bytes ≡ None → NoWord at bytes
 no_word at bytes e word rest x is w = none_is (sym e ∙ (ap (λ v. cut at v) is ∙ cut_complete w))
 
--- where no word begins, nothing is cut off
+-- if no word begins, nothing is cut off
 nothing_cut : (at : ℕ) (bytes : List ℕ) → NoWord at bytes → cut at bytes ≡ None
 nothing_cut at bytes none =
     let here : (o : Option (Lexeme × List ℕ)) → cut at bytes ≡ o → o ≡ None
@@ -107,7 +107,7 @@ tokens_complete (blank {at = at} {b = b} {bytes = bytes} is s) k h = blank_scann
 tokens_complete (token {at = at} word rest {x = x} {ts = ts} w s) k h = token_scanned k at word rest x ts w h (tokens_complete s)
 tokens_complete (bad {at = at} {b = b} {bytes = bytes} solid none) k h = bad_scanned k at b bytes solid (nothing_cut at (b ∷ bytes) none) h
 
--- what comes of a reader's answer
+-- what comes of a reader's result
 record Came {A B : Type 0} (o : Result A SyntaxFault) (f : A → Result B SyntaxFault) (b : B) : Type 0 where
   first : A
   is : o ≡ Ok first
@@ -121,7 +121,7 @@ no_tokens_left : (t u : Tree) (left : List Lexeme) → all_read t left ≡ Ok u 
 no_tokens_left t u [] e = (refl, ok_is e)
 no_tokens_left t u (x ∷ left) e = err_is e
 
--- a tree that is read of all tokens is one that they spell
+-- a tree that is read from all tokens is one that they form
 pub whole_sound : (end : ℕ) (ts : List Lexeme) (t : Tree) → whole_at end ts ≡ Ok t → Spells or_level 64 ts t
 unfolding whole_at
 whole_sound end ts t e =
@@ -131,7 +131,7 @@ whole_sound end ts t e =
     let all : ts ≡ takes.front = takes.is ∙ (ap (λ v. takes.front ++ v) last.0 ∙ append-nil takes.front) in
     subst (λ v. Spells or_level 64 v t) (sym all) (subst (λ v. Spells or_level 64 takes.front v) last.1 takes.holds)
 
--- a tree that tokens spell is read of them
+-- a tree that tokens form is read from them
 pub whole_complete : (end : ℕ) (ts : List Lexeme) (t : Tree) → Spells or_level 64 ts t → whole_at end ts ≡ Ok t
 unfolding whole_at
 whole_complete end ts t s =
@@ -150,7 +150,7 @@ parse_sound text t short e =
 pub parse_complete : (text : List ℕ) (t : Tree) → Parses text t → whole_at (length text) (tokens_from (length text) 0 text) ≡ Ok t
 parse_complete text t p = ap (λ v. whole_at (length text) v) (tokens_complete p.scanned (length text) (omega arith)) ∙ whole_complete (length text) p.tokens t p.spelled
 
--- tokens and the bytes that are left have all tokens
+-- the tokens so far and those of the remaining bytes are all tokens
 abbrev pub Left : List Lexeme → ℕ → List ℕ → List Lexeme → Type 0
 Left done at rest all = (k : ℕ) × (length rest ≤ k) × (done ++ tokens_from k at rest ≡ all)
 

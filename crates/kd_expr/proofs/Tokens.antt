@@ -1,4 +1,4 @@
--- What the tests of one token let through, in the grammar's words.
+-- What the tests of one token accept, in the grammar's terms.
 use Rattle.std.proofs.Common.{◌≡◌, ℕ, ◌≤◌, ◌<◌, ◌^◌, ℤ, Bool, true, false, Option, Some, None, List, length, refl, sym, ◌∙◌, ap, subst, codes, bytes_eq, if◌then◌else◌, nat_lt, nat_le, ◌&&◌, ◌==◌, eqb-true, ltb-true, leb-true}
 use Rattle.kd_expr.specs.Grammar.{IsOptionCode, code_number, code_name, IsSigned, plain, below, IsLength, counted, whole}
 use Rattle.kd_expr.specs.Lexical.{Lexeme, StringAt, NumberAt, MinusAt, NameAt, SignAt}
@@ -49,7 +49,7 @@ suffix_is (NameAt at name) b e =
     at_hex (bytes_eq name (codes "hex")) refl e
 suffix_is _ b e = none_is e
 
--- the name of a part of a message
+-- the name of a message field
 pub data IsPartName : Lexeme → Field → Type 0 where
   part_name : {at : ℕ} {name : List ℕ} {part : Field} → field_by_name name ≡ Some part → IsPartName (NameAt at name) part
 

@@ -1,4 +1,5 @@
--- What the readers of forms refuse: the tokens before begin an expression, however deep it is nested.
+-- What the readers of forms refuse: the tokens before begin an expression, however deep it is
+-- nested.
 use Rattle.std.proofs.Common.{◌≡◌, ◌⊎◌, inl, inr, ℕ, zero, suc, ◌+◌, ◌≤◌, ◌^◌, pos, Bool, true, false, Option, Some, None, Result, Ok, Err, List, [], ◌∷◌, ◌++◌, refl, sym, ◌∙◌, ap, subst, append-nil, codes, bytes_eq, if◌then◌else◌, nat_lt, ltb-true, arith, eq-eqb}
 use Rattle.kd_expr.specs.FirstFault.{bracket, negation, token_place, IsLike, itself, another_number, another_below_zero, an_option}
 use Rattle.kd_expr.specs.Grammar.{Spells, Level, or_level, and_level, not_level, compare_level, sum_level, primary_level, or_one, or_more, and_one, and_more, not_none, negated, compare_one, equal, sum_one, sum_more, string, hexadecimal, address, number, group, option_hex, option_exists, relay_hex, relay_exists, field, packet_length, member, substring, concat, ifelse, hexstring, lcase, ucase, uint32totext}
@@ -17,7 +18,7 @@ use Rattle.kd_expr.proofs.Sound.{OneOf, is_one, on_ok_twice, IsSound}
 use Rattle.kd_expr.proofs.Tokens.{sign_is, word_is, option_code_is, relay_code_is, IsRelayCode, relay_number, hex, exists, suffix_is, IsPartName, part_name, field_of_is, signed_is, length_is, IsClassName, class_is, class_name_is}
 use Rattle.std.proofs.lemmas.Slice.Eq.{bytes_eq-Decides}
 
--- what is spelled may be nested deeper
+-- what is formed may be nested deeper
 pub raised : {l : Level} {n : ℕ} {us : List Lexeme} {t : Tree} (m : ℕ) → n ≤ m → Spells l n us t → Spells l m us t
 raised m h (or_one s) = or_one (raised m h s)
 raised m h (or_more o s r) = or_more o (raised m h s) (raised m h r)
@@ -66,11 +67,11 @@ plain_literal n = not_none (compare_one (sum_one string))
 literal : (n : ℕ) → Spells or_level n (StringAt 0 [] ∷ []) (Literal 0 [])
 literal n = or_one (and_one (plain_literal n))
 
--- what follows a name, where so many may be nested within
+-- what follows a name, where n more may be nested inside
 abbrev After : ℕ → ℕ → List ℕ → List Lexeme → Tree → Type 0
 After nest at name us t = Spells primary_level (suc nest) (NameAt at name ∷ us) t
 
--- the name of an option is no other name
+-- the name of an option is not another name
 not_named : (known w : List ℕ) (code : ℕ) → code_by_name known ≡ Some code → code_by_name w ≡ None → bytes_eq known w ≡ false
 not_named known w code e unlisted =
     let by : (v : Bool) → bytes_eq known w ≡ v → v ≡ false
@@ -80,7 +81,7 @@ not_named known w code e unlisted =
     ] in
     by (bytes_eq known w) refl
 
--- tokens like one that a test does not let through
+-- tokens like one that a test does not accept
 sign_blind : (b : ℕ) → IsBlind (sign_at b)
 sign_blind b _ _ itself e = e
 sign_blind b _ _ another_number e = refl
@@ -99,7 +100,7 @@ class_blind _ _ another_number e = refl
 class_blind _ _ another_below_zero e = refl
 class_blind _ _ (an_option code is) e = refl
 
--- names that no option has
+-- names that are not option names
 no_and : code_by_name (codes "and") ≡ None
 unfolding code_by_name
 no_and = refl
@@ -127,7 +128,7 @@ suffix_blind _ _ another_number e = refl
 suffix_blind _ _ another_below_zero e = refl
 suffix_blind _ _ (an_option {known = known} code is) e = rw (not_named known (codes "hex") code is refl, not_named known (codes "exists") code is refl) refl
 
--- an option's name is that of no field
+-- an option's name is not a field's
 no_field : (known : List ℕ) (code : ℕ) → code_by_name known ≡ Some code → field_by_name known ≡ None
 unfolding code_by_name field_by_name
 no_field known code is =
@@ -139,7 +140,7 @@ field_blind _ _ another_number e = refl
 field_blind _ _ another_below_zero e = refl
 field_blind _ _ (an_option {known = known} code is) e = no_field known code is
 
--- the tests of one token: which could stand, and how each is refused
+-- the tests of one token: which could come there, and how each is refused
 at_front : {B : Type 0} (P : List Lexeme → B → Type 0) (r : Reader B) (rs : ℕ → Reader B) {x y : Lexeme} → x ≡ y → Good (λ ws b. P (y ∷ ws) b) r rs → Good (λ ws b. P (x ∷ ws) b) r rs
 at_front P r rs e h = let F : Lexeme → Type 0 = λ z. Good (λ ws b. P (z ∷ ws) b) r rs in subst F (sym e) h
 
@@ -169,12 +170,12 @@ class_good = wanted_good class_name refusal_of (plain_steady class_name class_bl
 not_false : {C : Type 0} → ◌≡◌ {A = Bool} true false → C
 not_false e = absurd (cc)
 
--- a number without a sign
+-- a number without a minus sign
 abbrev is_number : Lexeme → Bool
 is_number (NumberAt at k) = true
 is_number x = false
 
--- a number without a sign, or a name
+-- a number without a minus sign, or a name
 abbrev is_named_or_number : Lexeme → Bool
 is_named_or_number (NumberAt at k) = true
 is_named_or_number (NameAt at s) = true
@@ -345,19 +346,19 @@ packet_good : (nest : ℕ) → (at : ℕ) → Good (After nest at (codes "pkt"))
 unfolding packet_at
 packet_good nest at = sign_good _ 46 _ _ (λ d. len_good _ _ _ (λ e. done_good _ _ packet_length))
 
--- no deeper nesting is left
+-- no deeper nesting remains
 record IsClosed (d : Deeper) : Type 0 where
   any : (at end : ℕ) (ts : List Lexeme) → d.any at end ts ≡ Err (faults.TooNested at)
   operand : (at end : ℕ) (ts : List Lexeme) → d.operand at end ts ≡ Err (faults.TooNested at)
   name : (at end : ℕ) (ts : List Lexeme) → d.name at end ts ≡ Err (faults.TooNested at)
 
--- the readers one nesting deeper are good
+-- the readers one nesting level deeper are good
 record IsOpen (nest : ℕ) (d : Deeper) (ds : ℕ → Deeper) : Type 0 where
   any : (at : ℕ) → Good (Spells or_level nest) (d.any at) (λ j. (ds j).any at)
   operand : (at : ℕ) → Good (Spells not_level nest) (d.operand at) (λ j. (ds j).operand at)
   name : (at : ℕ) → Good (OneOf class_name) (d.name at) (λ j. (ds j).name at)
 
--- one of both, of readers and of those where so many more may be nested
+-- one of both, of readers and of those where more may be nested
 abbrev Nests : ℕ → Deeper → (ℕ → Deeper) → Type 0
 Nests nest d ds = (IsClosed d × ((j : ℕ) → j ≡ 0 → IsClosed (ds j))) ⊎ IsOpen nest d ds
 
@@ -392,12 +393,12 @@ closed_good {B} P f fs refuses others some k =
       each = λ end ts fits. each_of P (seq (sign_here 40) f) rs (λ end. at_the_end P rs end begins (λ j. refl)) (λ x end ts. first x end ts (sign_at 40 x) refl) end ts;
     }
 
--- answers that go on alike
+-- results that go on alike
 on_ok_same : {A B : Type 0} (answer : Result A SyntaxFault) (f g : A → Result B SyntaxFault) → ((a : A) → f a ≡ g a) → on_ok answer f ≡ on_ok answer g
 on_ok_same (Err fault) f g h = refl
 on_ok_same (Ok a) f g h = h a
 
--- after the bracket, an operand one nesting deeper
+-- after the bracket, an operand one nesting level deeper
 enters : (nest : ℕ) → {B : Type 0} (d : Deeper) (ds : ℕ → Deeper) → Nests nest d ds → (P : List Lexeme → B → Type 0) (g : ℕ → Tree → Reader B) (gs : ℕ → ℕ → Tree → Reader B) → ((o : ℕ) → Begins P (SignAt o 40 ∷ [])) → (((o : ℕ) → Good (Spells or_level nest) (d.any o) (λ j. (ds j).any o)) → (o : ℕ) (a : Tree) (us : List Lexeme) → Spells or_level nest us a → Good (λ ws b. P (SignAt o 40 ∷ (us ++ ws)) b) (g o a) (λ j. gs j o a)) → Good P (seq (sign_here 40) (λ o. seq (d.any o) (g o))) (λ j. seq (sign_here 40) (λ o. seq ((ds j).any o) (gs j o)))
 enters nest d ds (inl closed) P g gs some h =
     closed_good P (λ o. seq (d.any o) (g o)) (λ j o. seq ((ds j).any o) (gs j o)) (λ at end ts. ap (λ (v : Result (Tree × List Lexeme) SyntaxFault). on_ok v (λ x. g at x.0 end x.1)) (closed.0.any at end ts))
@@ -493,7 +494,7 @@ named_by nest rs at name s ss g same end ts = goes_on (Spells primary_level (suc
 begins_primary : (nest : ℕ) → Begins (Spells primary_level (suc nest)) []
 begins_primary nest = (StringAt 0 [] ∷ [], Literal 0 [], string)
 
--- readers that do not take the names of options
+-- readers that do not accept the names of options
 abbrev TakesNone : (ℕ → Reader Tree) → ℕ → Type 0
 TakesNone rs at = (j end code : ℕ) (known : List ℕ) (us : List Lexeme) → code_by_name known ≡ Some code → ◌≡◌ {A = Result (Tree × List Lexeme) SyntaxFault} (rs j end (NameAt at known ∷ us)) (Err (faults.Expected at))
 
@@ -570,7 +571,7 @@ unfolding primary_at
 number_comes nest d ds at k end ts true e = reads_one (Spells primary_level (suc nest)) (λ j. primary_at (ds j)) (NumberAt at k) end ts (Int at k) (number (ltb-true k (2 ^ 32) e)) (λ j us. rw e refl)
 number_comes nest d ds at k end ts false e = stops_at (Spells primary_level (suc nest)) (λ j. primary_at (ds j)) (NumberAt at k) end ts (faults.NumberTooLarge at) (begins_primary nest) (too_large at k 0 ts ([], Int at 0, number (ltb-true 0 (2 ^ 32) refl))) (λ j y us l. subst (λ v. ◌≡◌ {A = Result (Tree × List Lexeme) SyntaxFault} (primary_at (ds j) end (v ∷ us)) (Err (faults.NumberTooLarge at))) l (rw e refl))
 
--- a number below zero at a place
+-- a negative number at a place
 data IsMinusAt (at : ℕ) : Lexeme → Type 0 where
   minus_there : (k : ℕ) → IsMinusAt at (MinusAt at k)
 
@@ -681,7 +682,7 @@ module _ (nest : ℕ) (d : Deeper) (ds : ℕ → Deeper) (g : Nests nest d ds) (
       chain_good (Spells or_level (suc nest)) (Spells and_level (suc nest)) (word_at (codes "or")) (and_at d) (λ j. and_at (ds j)) or_of (word_blind (codes "or") no_or) and_good (λ j. sound_short _ (and_at (ds j)) (and_sound (ms j) (ds j) (ss j)))
       (λ us a h. or_one h) (word_joins nest (codes "or") or_level and_level or_of (λ o us vs a c p q. or_more o p q))
 
--- so many more may be nested
+-- n more levels may be nested than j
 abbrev pub more_nested : ℕ → ℕ → ℕ
 more_nested zero j = j
 more_nested (suc n) j = suc (more_nested n j)
@@ -694,7 +695,7 @@ closed_below : IsClosed (below 0)
 unfolding below
 closed_below = record { any = λ at end ts. refl; operand = λ at end ts. refl; name = λ at end ts. refl }
 
--- the readers one nesting deeper, at each nesting
+-- the readers one nesting level deeper, at each nesting
 below_good : (m : ℕ) → Nests m (below m) (λ j. below (more_nested m j))
 unfolding below
 below_good zero = inl (closed_below, λ j none. subst (λ v. IsClosed (below v)) (sym none) closed_below)

@@ -1,4 +1,4 @@
--- Each word of the definition is cut off the front of bytes.
+-- Each word of the definition is cut off the beginning of bytes.
 use Rattle.std.proofs.Common.{◌≡◌, ℕ, ◌≤◌, Bool, true, false, ◌==◌, List, [], ◌∷◌, ◌++◌, length, refl, append_assoc, arith, Option, Some, None, le-leb}
 use Rattle.std.proofs.lemmas.Bool.Decides.{nat_tests}
 use Rattle.kd_expr.specs.Address.{a_digit, Each, decimal, IsPart, IsAddress, four}
@@ -8,7 +8,7 @@ use Rattle.kd_expr.proofs.Addresses.{address_complete}
 use Rattle.kd_expr.proofs.Lexed.{digit_in_run}
 use Rattle.kd_expr.proofs.Spans.{front_word, behind_word, all_pass_each, each_weaker, second_fails}
 
--- an answer is this one
+-- a result is this one
 abbrev Cuts : Option (Lexeme × List ℕ) → Lexeme → List ℕ → Type 0
 Cuts o x rest = ◌≡◌ {A = Option (Lexeme × List ℕ)} o (Some (x, rest))
 
@@ -133,7 +133,7 @@ cut_complete (name_word {at = at} {c = c} {cs = cs} {rest = rest} h each ends) =
 cut_complete (sign_word {at = at} {b = b} {rest = rest} h) = sign_complete at b rest h
 cut_complete (equal_word {at = at} {rest = rest}) = equal_complete at rest
 
--- the first byte of a word is there, and no blank
+-- the first byte of a word is there, and is not a blank
 pub record Starts (word : List ℕ) : Type 0 where
   pub first : ℕ
   pub others : List ℕ

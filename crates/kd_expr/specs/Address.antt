@@ -1,5 +1,5 @@
 -- IPv4 addresses as texts (Kea Administrator Reference Manual, chapter Client Classification): four
--- decimal numbers with dots between them. That leading zeros may stand is this project's choice.
+-- decimal numbers with dots between them. It is this project's choice to allow leading zeros.
 use Rattle.std.specs.Prelude.{◌≡◌, ℕ, ◌+◌, ◌*◌, ◌-◌, ◌≤◌, Bool, true, ◌&&◌, nat_le, List, [], ◌∷◌, ◌++◌, length}
 
 -- the digits 0 to 9
@@ -11,12 +11,12 @@ abbrev pub Each : (ℕ → Bool) → List ℕ → Type 0
 Each p [] = Unit {0}
 Each p (b ∷ bytes) = (p b ≡ true) × Each p bytes
 
--- the number of decimal digits that stand after digits of this number
+-- the number that decimal digits give after digits that give n
 abbrev pub decimal_behind : ℕ → List ℕ → ℕ
 decimal_behind n [] = n
 decimal_behind n (d ∷ digits) = decimal_behind (10 * n + (d - 48)) digits
 
--- the number of decimal digits
+-- the number that decimal digits give
 abbrev pub decimal : List ℕ → ℕ
 decimal digits = decimal_behind 0 digits
 

@@ -1,5 +1,5 @@
--- Which fault a text has that is no expression, and where. Some expression begins with the tokens
--- before the fault's place, and none with those and the token there.
+-- Which fault a text that is not an expression has, and where. Some expression begins with the
+-- tokens before the fault's place, and none with those and the token there.
 use Rattle.std.specs.Prelude.{◌≡◌, ℕ, Bool, true, false, List, [], ◌∷◌, ◌++◌, length, codes, Some}
 use Rattle.kd_expr.specs.Grammar.{Spells, or_level, OpenAt}
 use Rattle.kd_expr.specs.Lexical.{Lexeme, StringAt, HexAt, AddressAt, NumberAt, MinusAt, NameAt, SignAt, BadAt, Scans}
@@ -24,12 +24,12 @@ abbrev pub is_bad : Lexeme → Bool
 is_bad (BadAt at) = true
 is_bad token = false
 
--- some expression begins with these tokens; it may be nested one deeper than a text's, since the
--- name of a form may stand at the deepest nesting, and the bracket after it may not
+-- some expression begins with these tokens; it may be nested one level deeper than a text's,
+-- because the name of a form may come at the deepest nesting while the bracket after it may not
 abbrev pub BeginsSome : List Lexeme → Type 0
 BeginsSome ts = (more : List Lexeme) × (tree : Tree) × Spells or_level 65 (ts ++ more) tree
 
--- no expression that is nested at most so deep begins with these tokens
+-- no expression that is nested at most n deep begins with these tokens
 abbrev pub BeginsNoneWithin : ℕ → List Lexeme → Type 0
 BeginsNoneWithin n ts = (more : List Lexeme) (tree : Tree) → Spells or_level n (ts ++ more) tree → ⊥
 
@@ -70,13 +70,13 @@ pub data IsTokenFault (before : List Lexeme) : Lexeme → ExprFault → Type 0 w
   nested : {x : Lexeme} → IsNesting x → BeginsNoneWithin 64 (before ++ x ∷ [])
       → BeginsSome (before ++ x ∷ []) → IsTokenFault before x (faults.TooNested (token_place x))
 
--- the fault of the tokens that are left after these, where the text ends at a place
+-- the fault of the remaining tokens after these, if the text ends at a place
 abbrev pub IsFaultAfter : List Lexeme → List Lexeme → ℕ → ExprFault → Type 0
 IsFaultAfter before [] end fault =
     ((n : ℕ) (tree : Tree) → Spells or_level n before tree → ⊥) × (fault ≡ faults.Expected end)
 IsFaultAfter before (x ∷ after) end fault = IsTokenFault before x fault
 
--- the first fault of a text that is no expression
+-- the first fault of a text that is not an expression
 pub record IsTextFault (text : List ℕ) (fault : ExprFault) : Type 0 where
   pub tokens : List Lexeme
   pub scanned : Scans 0 text tokens

@@ -1,6 +1,6 @@
 -- The grammar of class tests (Kea Administrator Reference Manual, chapter Client Classification):
--- which tokens spell which tree. `or`, `and` and `+` group to the left; ranges and the nesting are
--- part of it.
+-- which tokens form which tree. `or`, `and` and `+` group to the left; number ranges and the limit
+-- on nesting are part of the grammar.
 use Rattle.std.specs.Prelude.{◌≡◌, ℕ, zero, suc, ◌+◌, ◌*◌, ◌-◌, ◌%◌, ◌^◌, ◌<◌, ◌≤◌, ℤ, pos, negsuc, ◌==◌, ◌&&◌, nat_le, List, [], ◌∷◌, ◌++◌, length, codes, Option, Some, None, if◌then◌else◌}
 use Rattle.kd_expr.specs.Lexical.{Lexeme, StringAt, HexAt, AddressAt, NumberAt, MinusAt, NameAt, SignAt, Scans}
 use Rattle.kd_expr.specs.Names.{code_by_name, field_by_name}
@@ -48,13 +48,13 @@ hex_digit_value d =
     else if nat_le 97 d && nat_le d 102 then d - 87
     else 0
 
--- the bytes of an even number of hexadecimal digits, two a byte
+-- the bytes of an even number of hexadecimal digits, two digits per byte
 abbrev pub hex_pairs : List ℕ → List ℕ
 hex_pairs [] = []
 hex_pairs (d ∷ []) = []
 hex_pairs (d ∷ e ∷ digits) = (16 * hex_digit_value d + hex_digit_value e) ∷ hex_pairs digits
 
--- the bytes of hexadecimal digits: an odd number of them gets a 0 in front
+-- the bytes of hexadecimal digits, after a leading 0 if their number is odd
 abbrev pub hex_bytes : List ℕ → List ℕ
 hex_bytes digits = if length digits % 2 == 1 then hex_pairs (48 ∷ digits) else hex_pairs digits
 
@@ -64,17 +64,17 @@ pub data IsOptionCode : Lexeme → ℕ → Type 0 where
   code_name : {at code : ℕ} {name : List ℕ} → code_by_name name ≡ Some code
       → IsOptionCode (NameAt at name) code
 
--- the number below zero by this much
+-- the negative number -n
 abbrev pub minus : ℕ → ℤ
 minus zero = pos 0
 minus (suc n) = negsuc n
 
--- a number of 32 bits, which may have a minus in front
+-- a 32-bit number, which may have a minus sign before it
 pub data IsSigned : Lexeme → ℤ → Type 0 where
   plain : {at n : ℕ} → n < 2 ^ 31 → IsSigned (NumberAt at n) (pos n)
   below : {at n : ℕ} → n ≤ 2 ^ 31 → IsSigned (MinusAt at n) (minus n)
 
--- the length of a part: such a number, or `all`
+-- the length of a substring: a number as above, or `all`
 pub data IsLength : Lexeme → Option ℤ → Type 0 where
   counted : {x : Lexeme} {n : ℤ} → IsSigned x n → IsLength x (Some n)
   whole : {at : ℕ} → IsLength (NameAt at (codes "all")) None
@@ -88,7 +88,7 @@ pub data Level : Type 0 where
   sum_level : Level
   primary_level : Level
 
--- these tokens spell this tree at a level, where so many brackets and `not`s may still be nested
+-- these tokens form this tree at a level, where n more brackets and `not`s may be nested
 pub data Spells : Level → ℕ → List Lexeme → Tree → Type 0 where
   or_one : {n : ℕ} {ts : List Lexeme} {t : Tree} → Spells and_level n ts t → Spells or_level n ts t
   or_more : {n : ℕ} (o : ℕ) {us vs : List Lexeme} {a b : Tree} → Spells or_level n us a
@@ -176,15 +176,15 @@ pub data Spells : Level → ℕ → List Lexeme → Tree → Type 0 where
       → Spells primary_level (suc n)
       (NameAt at (codes "uint32totext") ∷ OpenAt o ∷ (us ++ CloseAt c ∷ [])) (IntToText at a)
 
--- a text of at most 4,096 bytes spells a tree: its words are tokens that spell it, nested at most
--- 64 deep
+-- a text of at most 4,096 bytes is the text of a tree: its words are tokens that form the tree,
+-- nested at most 64 deep
 pub record Parses (text : List ℕ) (t : Tree) : Type 0 where
   pub short : length text ≤ 4096
   pub tokens : List Lexeme
   pub scanned : Scans 0 text tokens
   pub spelled : Spells or_level 64 tokens t
 
--- some text spells the tree
+-- some text has this tree
 pub record HasText (t : Tree) : Type 0 where
   pub text : List ℕ
   pub parses : Parses text t

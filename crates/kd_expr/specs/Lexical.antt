@@ -1,6 +1,6 @@
 -- The words of a class test (Kea Administrator Reference Manual, chapter Client Classification):
--- which bytes spell which token, and how blanks and words make up a text. Bytes are ASCII codes,
--- and a word is the longest that stands at its place.
+-- which bytes form which token, and how blanks and words make up a text. Bytes are ASCII codes, and
+-- a word is the longest that begins at its place.
 use Rattle.std.specs.Prelude.{◌≡◌, ℕ, ◌+◌, Bool, true, false, not, ◌&&◌, ◌||◌, ◌==◌, nat_le, List, [], ◌∷◌, ◌++◌, length}
 use Rattle.kd_expr.specs.Address.{a_digit, Each, decimal, IsAddress}
 
@@ -19,7 +19,7 @@ pub data Lexeme : Type 0 where
 abbrev pub a_blank : ℕ → Bool
 a_blank b = b == 32 || b == 9 || b == 13 || b == 10
 
--- a letter of ASCII
+-- an ASCII letter
 abbrev pub a_letter : ℕ → Bool
 a_letter b = (nat_le 65 b && nat_le b 90) || (nat_le 97 b && nat_le b 122)
 
@@ -47,12 +47,12 @@ a_sign b = b == 40 || b == 41 || b == 43 || b == 44 || b == 46 || b == 91 || b =
 abbrev pub is_x : ℕ → Bool
 is_x b = b == 120 || b == 88
 
--- a word ends here: what follows it, if anything, is no byte of it
+-- a word ends here: what follows it, if anything, cannot be part of it
 abbrev pub WordEnds : (ℕ → Bool) → List ℕ → Type 0
 WordEnds p [] = Unit {0}
 WordEnds p (b ∷ bytes) = p b ≡ false
 
--- a word: its place, its bytes, what follows them, and the token that they spell
+-- a word: its place, its bytes, what follows them, and the token that they form
 pub data Word : ℕ → List ℕ → List ℕ → Lexeme → Type 0 where
   string_word : {at : ℕ} {s rest : List ℕ} → Each in_string s
       → Word at (39 ∷ (s ++ 39 ∷ [])) rest (StringAt at s)

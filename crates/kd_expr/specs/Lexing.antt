@@ -1,7 +1,7 @@
--- The lexer, computed: which word stands at the front of bytes, and which tokens a text has. Proofs
--- tie it to the definition of words. Of it public contracts cite `address_read`, the address that a
--- text spells: by the clauses of `read_address` it is the one of `IsAddress` (`Address.antt`), where
--- there is one, and none else. kd_config says by `behind_of` what follows blanks.
+-- The lexer, computed: which word bytes begin with, and which tokens a text has. Proofs tie it to
+-- the definition of words. Public contracts cite only `address_read` of it, the address that a text
+-- gives: by the clauses of `read_address` this is the one of `IsAddress` (`Address.antt`) if there
+-- is one, and otherwise there is none. kd_config uses `behind_of` to say what follows blanks.
 use Rattle.std.specs.Prelude.{ℕ, zero, suc, ◌+◌, ◌-◌, Bool, true, false, ◌&&◌, ◌==◌, nat_le, List, [], ◌∷◌, length, Option, Some, None, if◌then◌else◌}
 use Rattle.kd_expr.specs.Address.{a_digit, decimal}
 use Rattle.kd_expr.specs.Lexical.{Lexeme, StringAt, HexAt, AddressAt, NumberAt, MinusAt, NameAt, SignAt, BadAt, a_blank, a_letter, is_hex_digit, a_sign, is_x, in_string, in_run, in_name}
@@ -17,17 +17,17 @@ class_test classes.InRun = in_run
 class_test classes.InName = in_name
 class_test classes.InString = in_string
 
--- the bytes at the front that pass a test
+-- the first bytes that pass a test
 abbrev pub front_of : (ℕ → Bool) → List ℕ → List ℕ
 front_of p [] = []
 front_of p (b ∷ bytes) = if p b then b ∷ front_of p bytes else []
 
--- what follows the bytes at the front that pass a test
+-- what follows the first bytes that pass a test
 abbrev pub behind_of : (ℕ → Bool) → List ℕ → List ℕ
 behind_of p [] = []
 behind_of p (b ∷ bytes) = if p b then behind_of p bytes else b ∷ bytes
 
--- nothing is left
+-- there are no bytes
 abbrev pub is_empty : List ℕ → Bool
 is_empty [] = true
 is_empty (b ∷ bytes) = false
@@ -36,7 +36,7 @@ is_empty (b ∷ bytes) = false
 abbrev pub all_pass : (ℕ → Bool) → List ℕ → Bool
 all_pass p bytes = is_empty (behind_of p bytes)
 
--- the number of the digits at the front, as a part of an address, and what follows
+-- the number of the first digits, as a part of an address, and what follows
 unfoldable pub part_at_front : List ℕ → Option (ℕ × List ℕ)
 part_at_front text =
     if nat_le 1 (length (front_of a_digit text)) && nat_le (length (front_of a_digit text)) 3
@@ -77,7 +77,7 @@ unfoldable pub run_cut : ℕ → List ℕ → Option (Lexeme × List ℕ)
 run_cut at bytes =
     and_then (token_of_run at (front_of in_run bytes)) (λ x. Some (x, behind_of in_run bytes))
 
--- a string of these bytes, where an apostrophe follows them
+-- a string of these bytes, if an apostrophe follows them
 abbrev pub closed : ℕ → List ℕ → List ℕ → Option (Lexeme × List ℕ)
 closed at s [] = None
 closed at s (b ∷ rest) = if b == 39 then Some (StringAt at s, rest) else None
@@ -86,17 +86,17 @@ closed at s (b ∷ rest) = if b == 39 then Some (StringAt at s, rest) else None
 unfoldable pub string_cut : ℕ → List ℕ → Option (Lexeme × List ℕ)
 string_cut at bytes = closed at (front_of in_string bytes) (behind_of in_string bytes)
 
--- the token of a run after a minus
+-- the token of a run after a minus sign
 abbrev pub minus_token : ℕ → List ℕ → Option Lexeme
 minus_token at run =
     if nat_le 1 (length run) && all_pass a_digit run then Some (MinusAt at (decimal run)) else None
 
--- a number after its minus, and what follows it
+-- a number after its minus sign, and what follows it
 unfoldable pub minus_cut : ℕ → List ℕ → Option (Lexeme × List ℕ)
 minus_cut at bytes =
     and_then (minus_token at (front_of in_run bytes)) (λ x. Some (x, behind_of in_run bytes))
 
--- a name, of which the first letter is known, and what follows it
+-- a name whose first byte is known to be a letter, and what follows it
 unfoldable pub name_cut : ℕ → List ℕ → Option (Lexeme × List ℕ)
 name_cut at bytes = Some (NameAt at (front_of in_name bytes), behind_of in_name bytes)
 
@@ -105,7 +105,7 @@ unfoldable pub equal_cut : ℕ → List ℕ → Option (Lexeme × List ℕ)
 equal_cut at [] = None
 equal_cut at (b ∷ rest) = if b == 61 then Some (SignAt at 61, rest) else None
 
--- the word at the front of bytes, and what follows it
+-- the word that bytes begin with, and what follows it
 unfoldable pub cut : ℕ → List ℕ → Option (Lexeme × List ℕ)
 cut at [] = None
 cut at (b ∷ bytes) =
@@ -117,7 +117,8 @@ cut at (b ∷ bytes) =
     else if a_sign b then Some (SignAt at b, bytes)
     else None
 
--- the tokens of bytes, at most k bytes and words further; the last is bad where no word stands
+-- the tokens of bytes, in at most k blanks and words; the last is bad if no word begins at its
+-- place
 unfoldable pub tokens_from : ℕ → ℕ → List ℕ → List Lexeme
 tokens_from k at [] = []
 tokens_from zero at (b ∷ bytes) = []

@@ -4,7 +4,7 @@ use Rattle.std.specs.Prelude.{ℕ, List, codes, bytes_eq, Option, Some, None, if
 use Rattle.kd_wire.specs.declared.field.Field.{Field}
 use Rattle.kd_wire.specs.declared.field.Field.TheVariants.{Mac, Hlen, Htype, Ciaddr, Giaddr, Yiaddr, Siaddr, MessageType, Transaction}
 
--- the code of the option that a name stands for
+-- the code of the option with this name
 unfoldable pub code_by_name : List ℕ → Option ℕ
 code_by_name name =
     if bytes_eq name (codes "subnet-mask") then Some 1
@@ -24,7 +24,7 @@ code_by_name name =
     else if bytes_eq name (codes "dhcp-agent-options") then Some 82
     else None
 
--- the part of a message that a name behind `pkt4.` stands for
+-- the message field with this name after `pkt4.`
 unfoldable pub field_by_name : List ℕ → Option Field
 field_by_name name =
     if bytes_eq name (codes "mac") then Some Mac

@@ -1,5 +1,5 @@
--- The reader of tokens, computed: which tree stands at the front of tokens, and what is left after
--- it, or the fault. Proofs tie it to the grammar; no public contract cites it.
+-- The reader of tokens, computed: which tree tokens begin with and what remains after it, or the
+-- fault. Proofs tie it to the grammar; no public contract cites it.
 use Rattle.std.specs.Prelude.{ℕ, zero, suc, ◌^◌, ℤ, pos, Bool, true, false, ◌&&◌, ◌==◌, nat_lt, nat_le, List, [], ◌∷◌, length, codes, bytes_eq, Option, Some, None, Result, Ok, Err, if◌then◌else◌}
 use Rattle.kd_expr.specs.Grammar.{hex_bytes, minus}
 use Rattle.kd_expr.specs.Lexical.{Lexeme, StringAt, HexAt, AddressAt, NumberAt, MinusAt, NameAt, SignAt, BadAt}
@@ -11,16 +11,16 @@ use Rattle.kd_wire.specs.declared.field.Field.TheVariants.{Length}
 use Rattle.kd_expr.specs.declared.fault.SyntaxFault.{SyntaxFault}
 use Rattle.kd_expr.specs.declared.fault.SyntaxFault.TheVariants as faults
 
--- what stands at the front of tokens, and what is left, or the fault; where the text ends is known
+-- what tokens begin with and what remains, or the fault; the end of the text is known
 abbrev pub Reader : Type 0 → Type 0
 Reader A = ℕ → List Lexeme → Result (A × List Lexeme) SyntaxFault
 
--- the second, made from what the first gives
+-- the second, made from what the first gives, if it gives anything
 abbrev pub and_then : {A B : Type 0} → Option A → (A → Option B) → Option B
 and_then None f = None
 and_then (Some a) f = f a
 
--- the second, made from what the first gives, or another
+-- the second, made from what the first gives, or another if it gives nothing
 abbrev pub or_else : {A B : Type 0} → Option A → (A → B) → B → B
 or_else None f other = other
 or_else (Some a) f other = f a
@@ -31,7 +31,7 @@ abbrev pub on_ok : {A B : Type 0} → Result A SyntaxFault → (A → Result B S
 on_ok (Err fault) f = Err fault
 on_ok (Ok a) f = f a
 
--- nothing is read
+-- reads nothing
 abbrev pub done : {A : Type 0} → A → Reader A
 done a end ts = Ok (a, ts)
 
@@ -39,16 +39,16 @@ done a end ts = Ok (a, ts)
 abbrev pub seq : {A B : Type 0} → Reader A → (A → Reader B) → Reader B
 seq r f end ts = on_ok (r end ts) (λ x. f x.0 end x.1)
 
--- the first token, where it is of a kind
+-- the first token, if it is of a kind
 abbrev pub one : {A : Type 0} → (Lexeme → Option A) → List Lexeme → Option (A × List Lexeme)
 one f [] = None
 one f (x ∷ ts) = and_then (f x) (λ a. Some (a, ts))
 
--- one token of a kind and what is made from it, or else the other
+-- one token of a kind and what is made from it, or otherwise the other
 abbrev pub either : {A B : Type 0} → (Lexeme → Option A) → (A → Reader B) → Reader B → Reader B
 either test f other end ts = or_else (one test ts) (λ x. f x.0 end x.1) (other end ts)
 
--- one token of a kind, which has to stand there
+-- one token of a kind, which must come next
 abbrev pub wanted : {A : Type 0} → (Lexeme → Option A) → (Lexeme → SyntaxFault) → Reader A
 wanted test refusal end ts = or_else (one test ts) (λ x. Ok x) (Err (refused_at refusal ts end))
 
@@ -81,7 +81,7 @@ abbrev pub code_of_relay : Lexeme → Option ℕ
 code_of_relay (NumberAt at n) = if nat_lt n 256 then Some n else None
 code_of_relay _ = None
 
--- whether `exists` stands there, or `hex`
+-- whether `exists` comes there, or `hex`
 abbrev pub suffix_of : Lexeme → Option Bool
 suffix_of (NameAt at name) =
     if bytes_eq name (codes "hex") then Some false
@@ -89,18 +89,18 @@ suffix_of (NameAt at name) =
     else None
 suffix_of _ = None
 
--- the part of a message that a name stands for
+-- the message field that a name means
 abbrev pub field_of : Lexeme → Option Field
 field_of (NameAt at name) = field_by_name name
 field_of _ = None
 
--- a number of 32 bits, which may have a minus in front
+-- a 32-bit number, which may have a minus sign before it
 abbrev pub signed : Lexeme → Option ℤ
 signed (NumberAt at n) = if nat_lt n (2 ^ 31) then Some (pos n) else None
 signed (MinusAt at n) = if nat_le n (2 ^ 31) then Some (minus n) else None
 signed _ = None
 
--- the length of a part
+-- the length of a substring
 abbrev pub length_of_part : Lexeme → Option (Option ℤ)
 length_of_part (NumberAt at n) = if nat_lt n (2 ^ 31) then Some (Some (pos n)) else None
 length_of_part (MinusAt at n) = if nat_le n (2 ^ 31) then Some (Some (minus n)) else None
@@ -112,44 +112,44 @@ abbrev pub class_name : Lexeme → Option (List ℕ)
 class_name (StringAt at s) = if nat_le 1 (length s) && nat_le (length s) 255 then Some s else None
 class_name _ = None
 
--- the readers one nesting deeper, after the bracket or `not` at a place: of a whole expression, of
--- an operand of `not`, and of a class's name
+-- the readers one nesting level deeper, after the bracket or `not` at a place: of a whole
+-- expression, of an operand of `not`, and of a class's name
 pub record Deeper : Type 0 where
   pub any : ℕ → Reader Tree
   pub operand : ℕ → Reader Tree
   pub name : ℕ → Reader (List ℕ)
 
--- what stands behind `option` or `relay4`: the code in brackets, and whether `exists` follows
+-- what follows `option` or `relay4`: the code in brackets, and whether `exists` follows
 abbrev pub bracketed : (Lexeme → Option ℕ) → (Lexeme → SyntaxFault) → Reader (ℕ × Bool)
 bracketed code refusal =
     seq (sign_here 91) (λ _. seq (wanted code refusal)
     (λ c. seq (sign_here 93) (λ _. seq (sign_here 46) (λ _. seq (wanted suffix_of refusal_of)
     (λ exists. done (c, exists))))))
 
--- what stands behind `option`
+-- what follows `option`
 unfoldable pub option_at : ℕ → Reader Tree
 option_at at =
     seq (bracketed code_of_option option_refusal)
     (λ c. done (if c.1 then OptionExists at c.0 else OptionValue at c.0))
 
--- what stands behind `relay4`
+-- what follows `relay4`
 unfoldable pub relay_at : ℕ → Reader Tree
 relay_at at =
     seq (bracketed code_of_relay code_refusal)
     (λ c. done (if c.1 then RelayExists at c.0 else RelayValue at c.0))
 
--- what stands behind `pkt4`
+-- what follows `pkt4`
 unfoldable pub field_after : ℕ → Reader Tree
 field_after at =
     seq (sign_here 46)
     (λ _. seq (wanted field_of refusal_of) (λ part. done (FieldValue at part)))
 
--- what stands behind `pkt`
+-- what follows `pkt`
 unfoldable pub packet_at : ℕ → Reader Tree
 packet_at at =
     seq (sign_here 46) (λ _. seq (word_here (codes "len")) (λ _. done (FieldValue at Length)))
 
--- what stands behind `member`
+-- what follows `member`
 unfoldable pub member_at : Deeper → ℕ → Reader Tree
 member_at deeper at =
     seq (sign_here 40)
@@ -176,14 +176,14 @@ operands_in_brackets deeper =
     seq (sign_here 40) (λ bracket. seq (operand_then deeper bracket 44)
     (λ a. seq (operand_then deeper bracket 41) (λ b. done (a, b))))
 
--- what stands behind `ifelse`
+-- what follows `ifelse`
 unfoldable pub ifelse_at : Deeper → ℕ → Reader Tree
 ifelse_at deeper at =
     seq (sign_here 40) (λ bracket. seq (operand_then deeper bracket 44)
     (λ t. seq (operand_then deeper bracket 44)
     (λ a. seq (operand_then deeper bracket 41) (λ b. done (IfElse at t a b)))))
 
--- what stands behind `substring`
+-- what follows `substring`
 unfoldable pub substring_after : Deeper → ℕ → Reader Tree
 substring_after deeper at =
     seq (sign_here 40) (λ bracket. seq (operand_then deeper bracket 44)
@@ -191,7 +191,7 @@ substring_after deeper at =
     (λ start. seq (sign_here 44) (λ _. seq (wanted length_of_part signed_refusal)
     (λ len. seq (sign_here 41) (λ _. done (Substring at a start len)))))))
 
--- what stands after the name of a form with operands
+-- what follows the name of a form with operands
 unfoldable pub form_at : Deeper → ℕ → List ℕ → Reader Tree
 form_at deeper at name =
     if bytes_eq name (codes "substring") then substring_after deeper at
@@ -208,7 +208,7 @@ form_at deeper at name =
     (λ a. done (IntToText at a))
     else (λ end ts. Err (faults.Expected at))
 
--- what stands after a name
+-- what follows a name
 unfoldable pub named_at : Deeper → ℕ → List ℕ → Reader Tree
 named_at deeper at name =
     if bytes_eq name (codes "option") then option_at at
@@ -218,7 +218,7 @@ named_at deeper at name =
     else if bytes_eq name (codes "member") then member_at deeper at
     else form_at deeper at name
 
--- a primary: a literal, a number, a group, or what a name begins
+-- a primary: a literal, a number, a group, or what begins with a name
 unfoldable pub primary_at : Deeper → Reader Tree
 primary_at deeper end [] = Err (faults.Expected end)
 primary_at deeper end (StringAt at s ∷ ts) = Ok (Literal at s, ts)
@@ -244,15 +244,15 @@ unfoldable pub chain : (Lexeme → Option ℕ) → Reader Tree → (Tree → Tre
 chain next operand join end ts =
     on_ok (operand end ts) (λ a. operands_joined next operand join (length a.1) a.0 end a.1)
 
--- the left operand's place is the node's
+-- a sum at the place of its left operand
 abbrev pub sum_of : Tree → Tree → Tree
 sum_of a b = Concat (at_of a) a b
 
--- the left operand's place is the node's
+-- a conjunction at the place of its left operand
 abbrev pub and_of : Tree → Tree → Tree
 and_of a b = And (at_of a) a b
 
--- the left operand's place is the node's
+-- a disjunction at the place of its left operand
 abbrev pub or_of : Tree → Tree → Tree
 or_of a b = Or (at_of a) a b
 
@@ -260,7 +260,7 @@ or_of a b = Or (at_of a) a b
 unfoldable pub sum_at : Deeper → Reader Tree
 sum_at deeper = chain (sign_at 43) (primary_at deeper) sum_of
 
--- a comparison, or a sum alone
+-- a comparison, or just a sum
 unfoldable pub compare_at : Deeper → Reader Tree
 compare_at deeper =
     seq (sum_at deeper) (λ a. either (sign_at 61)
@@ -280,7 +280,7 @@ and_at deeper = chain (word_at (codes "and")) (not_at deeper) and_of
 unfoldable pub or_at : Deeper → Reader Tree
 or_at deeper = chain (word_at (codes "or")) (and_at deeper) or_of
 
--- the readers one nesting deeper, where n more may be nested
+-- the readers one nesting level deeper, where n more may be nested
 unfoldable pub below : ℕ → Deeper
 below zero = record {
   any = λ at end ts. Err (faults.TooNested at);
@@ -293,7 +293,7 @@ below (suc n) = record {
   name = λ at. wanted class_name refusal_of;
 }
 
--- a tree that is read, where nothing is left
+-- a tree that was read, if no tokens remain
 abbrev pub all_read : Tree → List Lexeme → Result Tree SyntaxFault
 all_read tree [] = Ok tree
 all_read tree (x ∷ ts) = Err (refusal_of x)

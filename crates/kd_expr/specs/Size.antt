@@ -1,8 +1,8 @@
--- How many nodes an expression has.
+-- The number of nodes in an expression.
 use Rattle.std.specs.Prelude.{ℕ, ◌+◌}
 use Rattle.kd_expr.specs.Tree.{Tree, Literal, Int, OptionValue, RelayValue, FieldValue, OptionExists, RelayExists, Member, Equal, Not, And, Or, Group, Concat, IfElse, Substring, HexString, Lower, Upper, IntToText}
 
--- how many nodes a tree has; the numbers of a substring are none
+-- the number of nodes in a tree; the numbers of a substring are not nodes
 abbrev pub node_count : Tree → ℕ
 node_count (Literal at bytes) = 1
 node_count (Int at value) = 1

@@ -1,6 +1,7 @@
 -- The types of class tests (Kea Administrator Reference Manual, chapter Client Classification): the
 -- type of an expression, or its first fault. Operands are taken from left to right; each is typed
--- wholly and then checked against what is wanted, where a number stands for its four bytes.
+-- completely and then checked against the type that is needed. A number may stand for its four
+-- bytes.
 use Rattle.std.specs.Prelude.{ℕ, Result, Ok, Err}
 use Rattle.kd_expr.specs.Tree.{Tree, Literal, Int, OptionValue, RelayValue, FieldValue, OptionExists, RelayExists, Member, Equal, Not, And, Or, Group, Concat, IfElse, Substring, HexString, Lower, Upper, IntToText, at_of}
 use Rattle.kd_expr.specs.declared.fault.TypeFault.{TypeFault}
@@ -10,7 +11,7 @@ use Rattle.kd_wire.specs.declared.field.Field.TheVariants as fields
 use Rattle.kd_expr.specs.declared.typing.ValueType.{ValueType}
 use Rattle.kd_expr.specs.declared.typing.ValueType.TheVariants as types
 
--- the type of a part of a message
+-- the type of a message field
 abbrev pub field_type : Field → ValueType
 field_type fields.Mac = types.Bytes
 field_type fields.Hlen = types.Int
@@ -23,28 +24,28 @@ field_type fields.MessageType = types.Int
 field_type fields.Transaction = types.Int
 field_type fields.Length = types.Int
 
--- an operand at a place, of this type, has to be a truth value
+-- an operand at a place, of this type, must be a truth value
 abbrev pub want_bool : ℕ → Result ValueType TypeFault → Result (Unit {0}) TypeFault
 want_bool at (Ok types.Bool) = Ok tt
 want_bool at (Ok types.Int) = Err (WantsBool at)
 want_bool at (Ok types.Bytes) = Err (WantsBool at)
 want_bool at (Err fault) = Err fault
 
--- an operand at a place, of this type, has to be a byte string, for which a number may stand
+-- an operand at a place, of this type, must be a byte string; a number may stand for one
 abbrev pub want_bytes : ℕ → Result ValueType TypeFault → Result (Unit {0}) TypeFault
 want_bytes at (Ok types.Bool) = Err (WantsBytes at)
 want_bytes at (Ok types.Int) = Ok tt
 want_bytes at (Ok types.Bytes) = Ok tt
 want_bytes at (Err fault) = Err fault
 
--- an operand at a place, of this type, has to be a number
+-- an operand at a place, of this type, must be a number
 abbrev pub want_int : ℕ → Result ValueType TypeFault → Result (Unit {0}) TypeFault
 want_int at (Ok types.Bool) = Err (WantsInt at)
 want_int at (Ok types.Int) = Ok tt
 want_int at (Ok types.Bytes) = Err (WantsInt at)
 want_int at (Err fault) = Err fault
 
--- the first fault, or else the second answer
+-- the first fault, or otherwise the second result
 abbrev pub andthen : {A : Type 0} → Result (Unit {0}) TypeFault → Result A TypeFault
     → Result A TypeFault
 andthen (Ok done) answer = answer

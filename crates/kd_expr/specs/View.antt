@@ -1,4 +1,4 @@
--- What contracts see of nodes and tokens: the tree and the lexemes without memory.
+-- What contracts see of nodes and tokens: the tree and the lexemes, without memory.
 use Rattle.std.specs.Prelude.{ℕ, List, [], ◌∷◌, map}
 use Rattle.kd_expr.specs.Address.{decimal}
 use Rattle.kd_expr.specs.Lexical.{Lexeme, StringAt, HexAt, AddressAt, NumberAt, MinusAt, NameAt, SignAt, BadAt}
@@ -34,7 +34,7 @@ tree_of (nodes.Lower' at p a) = Lower at (tree_of a)
 tree_of (nodes.Upper' at p a) = Upper at (tree_of a)
 tree_of (nodes.IntToText' at p a) = IntToText at (tree_of a)
 
--- the byte of a sign, the first of the two of an equality
+-- the byte of a sign; of an equality, one of its two equal bytes
 abbrev pub sign_byte : Sign → ℕ
 sign_byte signs.Open = 40
 sign_byte signs.Close = 41

@@ -5,8 +5,8 @@ ghost use Rattle.kd_expr.specs.Lexing.{part_at_front, part_after_dot, address_re
 use crate::class::{Class, split};
 use crate::number::number;
 
-/// The four bytes of an IPv4 address in decimal numbers with dots between them. Leading zeros may
-/// stand, as long as a number has at most three digits.
+/// Reads the four bytes of an IPv4 address, written as decimal numbers with dots between them.
+/// Leading zeros are allowed, as long as a number has at most three digits.
 pub fn read_address(text: &[u8]) -> Option<[u8; 4]>
     ensures found { IfSome result (λ address. IsAddress text.now address) }
     ensures only { (address : List ℕ) → IsAddress text.now address → result ≡ Some address }
@@ -15,7 +15,7 @@ pub fn read_address(text: &[u8]) -> Option<[u8; 4]>
     address_of(text)
 }
 
-// The four parts of an address.
+// Reads the four parts of an address.
 #[tactic(auto, unfolding(crate::specs::Lexing::address_read))]
 pub(crate) fn address_of(text: &[u8]) -> Option<[u8; 4]>
     ensures { result ≡ address_read text.now }
@@ -30,7 +30,7 @@ pub(crate) fn address_of(text: &[u8]) -> Option<[u8; 4]>
     }
 }
 
-// The part after a dot.
+// Reads a dot and the part after it.
 #[tactic(auto, unfolding(crate::specs::Lexing::part_after_dot))]
 fn next_part(text: &[u8]) -> Option<(u8, &[u8])>
     ensures { option_map (λ x. (x.0, x.1.now)) result ≡ part_after_dot text.now }
@@ -41,7 +41,7 @@ fn next_part(text: &[u8]) -> Option<(u8, &[u8])>
     }
 }
 
-// The part at the front, and what follows it.
+// Reads the part at the beginning, and returns it with what follows it.
 #[tactic(auto, unfolding(crate::specs::Lexing::part_at_front))]
 fn part(text: &[u8]) -> Option<(u8, &[u8])>
     ensures { option_map (λ x. (x.0, x.1.now)) result ≡ part_at_front text.now }

@@ -7,7 +7,7 @@ ghost use Rattle.kd_expr.specs.View.{sign_byte};
 
 use crate::token::Sign;
 
-// A class of bytes that words are made of.
+// A class of bytes that words consist of.
 #[derive(Clone, Copy)]
 pub(crate) enum Class {
     Digit,
@@ -30,28 +30,28 @@ fn is_of(class: Class, b: u8) -> bool
     }
 }
 
-// A digit 0 to 9.
+// Whether a byte is a digit 0 to 9.
 pub(crate) fn is_digit(b: u8) -> bool
     ensures { result ≡ a_digit b }
 {
     b'0' <= b && b <= b'9'
 }
 
-// A letter of ASCII.
+// Whether a byte is an ASCII letter.
 pub(crate) fn is_letter(b: u8) -> bool
     ensures { result ≡ a_letter b }
 {
     (b'A' <= b && b <= b'Z') || (b'a' <= b && b <= b'z')
 }
 
-// A space, tab, carriage return or line feed.
+// Whether a byte is a space, tab, carriage return or line feed.
 pub(crate) fn is_blank(b: u8) -> bool
     ensures { result ≡ a_blank b }
 {
     b == b' ' || b == b'\t' || b == b'\r' || b == b'\n'
 }
 
-// The sign of one byte: a bracket, comma, dot or plus.
+// Returns the sign of one byte: a bracket, comma, dot or plus.
 pub(crate) fn sign_of(b: u8) -> Option<Sign>
     ensures { MatchOption result (a_sign b ≡ false) (λ s. (a_sign b ≡ true) × (sign_byte s ≡ b)) }
 {
@@ -67,7 +67,7 @@ pub(crate) fn sign_of(b: u8) -> Option<Sign>
     }
 }
 
-// How many bytes at the front are of the class.
+// Returns how many of the first bytes are of the class.
 fn count_of(class: Class, bytes: &[u8]) -> usize
     ensures count { result ≡ prefix_len (class_test class) bytes.now }
     ensures within { result ≤ length bytes.now }
@@ -75,7 +75,7 @@ fn count_of(class: Class, bytes: &[u8]) -> usize
     bytes.iter().take_while(|b| is_of(class, **b)).count()
 }
 
-// The bytes at the front that are of the class, and what follows them.
+// Returns the first bytes that are of the class, and what follows them.
 pub(crate) fn split(class: Class, bytes: &[u8]) -> (&[u8], &[u8])
     ensures front { result.0.now ≡ front_of (class_test class) bytes.now }
     ensures behind { result.1.now ≡ behind_of (class_test class) bytes.now }

@@ -9,7 +9,7 @@ use crate::node::Node;
 use crate::typing::{bool_operand, count};
 use std::marker::Model;
 
-/// An expression that some text spells. It comes from `read` alone.
+/// An expression that is the tree of some text. Only `read` makes one.
 #[derive(Drop)]
 pub struct Expr {
     tree: Node,
@@ -56,7 +56,7 @@ impl Model for Typed {
     ghost invariant = { λ e. HasText (tree_of e.tree) × (type_of (tree_of e.tree) ≡ Ok Bool) };
 }
 
-// The expression of a text.
+// Returns the expression of a text.
 pub(crate) fn expr_of(tree: Node, text: &[u8]) -> Expr
     requires { Parses text.now (tree_of tree) }
     ensures { result ≡ tree }
@@ -65,11 +65,11 @@ pub(crate) fn expr_of(tree: Node, text: &[u8]) -> Expr
     Expr { tree }
 }
 
-/// The expression as a class test. No memory is taken.
+/// Checks that an expression is a class test, and returns it as one. Takes no memory.
 ///
 /// # Errors
 ///
-/// The first fault of its type, and the expression.
+/// The first fault of its type, together with the expression.
 pub fn type_of(expr: Expr) -> Result<Typed, (TypeFault, Expr)>
     ensures exact { MatchResult result
         (λ typed. (test_type (tree_of expr) ≡ Ok tt) × (typed ≡ expr))
@@ -85,7 +85,7 @@ impl Typed {
     ghost use Rattle.kd_expr.specs.Typing.{type_of};
     ghost use Rattle.kd_expr.specs.declared.typing.ValueType.TheVariants.{Bool};
 
-    /// The expression's tree.
+    /// Returns the expression's tree.
     pub fn tree(&self) -> &Node
         ensures same { result.now ≡ self.now }
         ensures text { HasText (tree_of self.now) }
@@ -94,7 +94,7 @@ impl Typed {
         &self.tree
     }
 
-    /// How many nodes the tree has; the numbers of a substring are none.
+    /// Returns the number of nodes in the tree; the numbers of a substring are not nodes.
     pub fn nodes(&self) -> u32
         ensures { result ≡ node_count (tree_of self.now) }
     {

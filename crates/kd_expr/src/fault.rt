@@ -8,19 +8,19 @@ use std::alloc::{AllocError, AllocFailed};
 use std::fmt;
 use thiserror::Error;
 
-/// Why a text is no expression. A place is the offset of a token's first byte.
+/// Why a text is not an expression. A place is the offset of a token's first byte.
 #[derive(Clone, Copy, PartialEq, Eq, Error)]
 pub enum ExprFault {
     /// No token begins at this place.
     #[error("BadToken {0}")]
     BadToken(usize),
-    /// Another token has to stand at this place, or the text may not end here.
+    /// Another token is needed at this place, or the text must not end here.
     #[error("Expected {0}")]
     Expected(usize),
     /// The number at this place is out of its range.
     #[error("NumberTooLarge {0}")]
     NumberTooLarge(usize),
-    /// The bracket or `not` at this place nests deeper than 64.
+    /// The bracket or `not` at this place is nested deeper than 64.
     #[error("TooNested {0}")]
     TooNested(usize),
     /// The text has more than 4,096 bytes.
@@ -41,7 +41,7 @@ impl fmt::Debug for ExprFault {
 }
 
 impl ExprFault {
-    /// The fault's number: 20 to 25, or 91 for want of memory.
+    /// Returns the fault's number: 20 to 25, or 91 if out of memory.
     pub fn number(self) -> u8
         ensures { result ≡ expr_fault_number self }
     {
@@ -57,16 +57,16 @@ impl ExprFault {
     }
 }
 
-/// Why an expression is no class test. A place is the offset of an operand's first byte.
+/// Why an expression is not a class test. A place is the offset of an operand's first byte.
 #[derive(Clone, Copy, PartialEq, Eq, Error)]
 pub enum TypeFault {
-    /// A truth value has to stand at this place.
+    /// A truth value is needed at this place.
     #[error("WantsBool {0}")]
     WantsBool(usize),
-    /// A byte string, or a number that stands for its four bytes, has to stand at this place.
+    /// A byte string, or a number that stands for its four bytes, is needed at this place.
     #[error("WantsBytes {0}")]
     WantsBytes(usize),
-    /// A number has to stand at this place.
+    /// A number is needed at this place.
     #[error("WantsInt {0}")]
     WantsInt(usize),
 }
@@ -78,7 +78,7 @@ impl fmt::Debug for TypeFault {
 }
 
 impl TypeFault {
-    /// The fault's number, 26 to 28.
+    /// Returns the fault's number, 26 to 28.
     pub fn number(self) -> u8
         ensures { result ≡ type_fault_number self }
     {
@@ -90,7 +90,7 @@ impl TypeFault {
     }
 }
 
-// Why tokens are no expression: a fault of the text that is not its length.
+// Why tokens are not an expression: any fault of a text but its length.
 #[derive(Clone, Copy)]
 pub(crate) enum SyntaxFault {
     BadToken(usize),
@@ -121,7 +121,7 @@ impl From<AllocFailed<Node>> for SyntaxFault {
     }
 }
 
-// The fault as the caller sees it.
+// Returns the fault as the caller sees it.
 pub(crate) fn seen_outside(fault: SyntaxFault) -> ExprFault
     ensures same { result ≡ outer_fault fault }
     ensures never_long { result ≢ faults.TooLong }

@@ -10,7 +10,7 @@ use crate::parser::{Source, any_deeper};
 use crate::take::expect_sign;
 use crate::token::{Sign, Token};
 
-// What the name at a place begins, of which the tokens after the name are given.
+// Reads what begins with the name at a place. `tokens` are those after the name.
 #[cycle(parser)]
 #[tactic(auto, unfolding(crate::specs::Reading::named_at))]
 pub(crate) fn named_of<'t, 'a>(
@@ -39,7 +39,7 @@ pub(crate) fn named_of<'t, 'a>(
     }
 }
 
-// A form with operands.
+// Reads a form with operands.
 #[cycle(parser)]
 #[tactic(auto, unfolding(crate::specs::Reading::form_at))]
 fn form_of<'t, 'a>(
@@ -84,7 +84,7 @@ fn form_of<'t, 'a>(
     }
 }
 
-// An operand after the bracket at this place, and the sign that has to follow it.
+// Reads an operand after the bracket at this place, and the sign that must follow it.
 #[cycle(parser)]
 #[tactic(auto, unfolding(crate::specs::Reading::operand_then))]
 pub(crate) fn operand_before<'t, 'a>(
@@ -103,7 +103,7 @@ pub(crate) fn operand_before<'t, 'a>(
     Ok((Box::new(source.alloc, operand)?, rest))
 }
 
-// An operand in brackets.
+// Reads an operand in brackets.
 #[cycle(parser)]
 #[tactic(auto, unfolding(crate::specs::Reading::operand_in_brackets))]
 fn one_operand<'t, 'a>(
@@ -119,7 +119,7 @@ fn one_operand<'t, 'a>(
     operand_before(source, rest, depth, open, Sign::Close)
 }
 
-// Two operands in brackets.
+// Reads two operands in brackets.
 #[cycle(parser)]
 #[tactic(auto, unfolding(crate::specs::Reading::operands_in_brackets))]
 fn two_operands<'t, 'a>(
@@ -137,7 +137,7 @@ fn two_operands<'t, 'a>(
     Ok((first, second, rest))
 }
 
-// What stands behind `ifelse`.
+// Reads what follows `ifelse`.
 #[cycle(parser)]
 #[tactic(auto, unfolding(crate::specs::Reading::ifelse_at))]
 fn ifelse_of<'t, 'a>(
@@ -157,7 +157,7 @@ fn ifelse_of<'t, 'a>(
     Ok((Node::IfElse { at, test, yes, no }, rest))
 }
 
-// What stands behind `substring`.
+// Reads what follows `substring`.
 #[cycle(parser)]
 #[tactic(auto, unfolding(crate::specs::Reading::substring_after))]
 fn substring_of<'t, 'a>(

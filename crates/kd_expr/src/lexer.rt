@@ -7,7 +7,8 @@ use crate::class::{Class, all_of, is_blank, is_digit, is_letter, sign_of, split}
 use crate::token::{Kind, Sign, Token};
 use std::alloc::{AllocError, Global};
 
-// The tokens of a text. The last is bad where no word stands, and nothing after it is looked at.
+// Returns the tokens of a text. If no word begins at some place, the last token is a bad one there,
+// and nothing after it is looked at.
 pub(crate) fn tokens_of<'a>(alloc: Global, text: &'a [u8]) -> Result<Vec<Token<'a>>, AllocError>
     ensures { IfOk result
         (λ tokens. lexemes tokens.items ≡ tokens_from (length text.now) 0 text.now) }
@@ -39,7 +40,7 @@ pub(crate) fn tokens_of<'a>(alloc: Global, text: &'a [u8]) -> Result<Vec<Token<'
     Ok(tokens)
 }
 
-// The word at the front, and what follows it.
+// Reads the first word, and returns its token with what follows it.
 #[tactic(auto, unfolding(crate::specs::Lexing::cut))]
 fn word_at<'a>(at: usize, bytes: &'a [u8]) -> Option<(Token<'a>, &'a [u8])>
     ensures { option_map (λ x. (lexeme_of x.0, x.1.now)) result ≡ cut at bytes.now }
@@ -70,7 +71,7 @@ fn word_at<'a>(at: usize, bytes: &'a [u8]) -> Option<(Token<'a>, &'a [u8])>
     }
 }
 
-// A string, after its apostrophe.
+// Reads a string after its apostrophe.
 #[tactic(auto, unfolding(crate::specs::Lexing::string_cut))]
 fn string_at<'a>(at: usize, bytes: &'a [u8]) -> Option<(Token<'a>, &'a [u8])>
     ensures { option_map (λ x. (lexeme_of x.0, x.1.now)) result ≡ string_cut at bytes.now }
@@ -88,7 +89,7 @@ fn string_at<'a>(at: usize, bytes: &'a [u8]) -> Option<(Token<'a>, &'a [u8])>
     }
 }
 
-// A run of digits, letters and dots.
+// Reads a run of digits, letters and dots.
 #[tactic(auto, unfolding(crate::specs::Lexing::run_cut))]
 fn run_at<'a>(at: usize, bytes: &'a [u8]) -> Option<(Token<'a>, &'a [u8])>
     ensures { option_map (λ x. (lexeme_of x.0, x.1.now)) result ≡ run_cut at bytes.now }
@@ -98,7 +99,7 @@ fn run_at<'a>(at: usize, bytes: &'a [u8]) -> Option<(Token<'a>, &'a [u8])>
     Some((token, rest))
 }
 
-// The token of a run: a number, hexadecimal digits or an address.
+// Returns the token of a run: a number, hexadecimal digits or an address.
 #[tactic(auto, unfolding(crate::specs::Lexing::token_of_run))]
 fn run_token<'a>(at: usize, run: &'a [u8]) -> Option<Token<'a>>
     ensures { option_map (λ x. lexeme_of x) result ≡ token_of_run at run.now }
@@ -122,7 +123,7 @@ fn run_token<'a>(at: usize, run: &'a [u8]) -> Option<Token<'a>>
     })
 }
 
-// The digits after a hexadecimal prefix.
+// Returns the digits after a hexadecimal prefix.
 #[tactic(auto, unfolding(crate::specs::Lexing::digits_after_0x))]
 fn hex_digits(run: &[u8]) -> Option<&[u8]>
     ensures { option_copied result ≡ digits_after_0x run.now }
@@ -141,7 +142,7 @@ fn hex_digits(run: &[u8]) -> Option<&[u8]>
     }
 }
 
-// A number, after its minus.
+// Reads a number after its minus sign.
 #[tactic(auto, unfolding(crate::specs::Lexing::minus_cut))]
 fn minus_at<'a>(at: usize, bytes: &'a [u8]) -> Option<(Token<'a>, &'a [u8])>
     ensures { option_map (λ x. (lexeme_of x.0, x.1.now)) result ≡ minus_cut at bytes.now }
@@ -160,7 +161,7 @@ fn minus_at<'a>(at: usize, bytes: &'a [u8]) -> Option<(Token<'a>, &'a [u8])>
     }
 }
 
-// A name, of which the first letter is known.
+// Reads a name whose first byte is known to be a letter.
 #[tactic(auto, unfolding(crate::specs::Lexing::name_cut))]
 fn name_at<'a>(at: usize, bytes: &'a [u8]) -> Option<(Token<'a>, &'a [u8])>
     ensures { option_map (λ x. (lexeme_of x.0, x.1.now)) result ≡ name_cut at bytes.now }
@@ -175,7 +176,7 @@ fn name_at<'a>(at: usize, bytes: &'a [u8]) -> Option<(Token<'a>, &'a [u8])>
     ))
 }
 
-// An equality sign, after its first byte.
+// Reads an equality sign after its first byte.
 #[tactic(auto, unfolding(crate::specs::Lexing::equal_cut))]
 fn equal_at<'a>(at: usize, bytes: &'a [u8]) -> Option<(Token<'a>, &'a [u8])>
     ensures { option_map (λ x. (lexeme_of x.0, x.1.now)) result ≡ equal_cut at bytes.now }

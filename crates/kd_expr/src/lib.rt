@@ -1,11 +1,11 @@
 //! Class tests in Kea's language (Kea Administrator Reference Manual, chapter Client
 //! Classification), from text to typed tree.
 //!
-//! What this layer promises to the one above: `read` answers the tree of a text exactly where the
+//! What this layer promises to the one above: `read` returns the tree of a text exactly if the
 //! grammar gives it one (`specs/Lexical.antt` has the words, `specs/Grammar.antt` the productions),
-//! `TooLong` exactly where the text has more than 4,096 bytes, and else the first fault
-//! (`specs/FirstFault.antt`); `type_of` answers the type's first fault with its place, or the same
-//! expression as one of type Bool (`specs/Typing.antt`).
+//! `TooLong` exactly if the text has more than 4,096 bytes, and otherwise the first fault
+//! (`specs/FirstFault.antt`), unless memory runs out. `type_of` returns the first type fault with
+//! its place, or the same expression as one of type Bool (`specs/Typing.antt`).
 //! Trees hold their children in boxes, so contracts speak of the tree without memory that a node is
 //! seen as (`specs/Tree.antt`, `specs/View.antt`).
 #![tactic(auto)]

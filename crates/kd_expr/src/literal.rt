@@ -4,14 +4,15 @@ ghost use Rattle.kd_expr.specs.Grammar.{hex_digit_value, hex_pairs, hex_bytes};
 use kd_wire::Bytes;
 use std::alloc::{AllocError, Global};
 
-// A copy of these bytes.
+// Returns a copy of these bytes.
 pub(crate) fn bytes_of(alloc: Global, bytes: &[u8]) -> Result<Bytes, AllocError>
     ensures { IfOk result (λ copy. copy ≡ bytes.now) }
 {
     Ok(Bytes::own(Vec::from_slice(alloc, bytes)?))
 }
 
-// The bytes of hexadecimal digits: two digits a byte, and a 0 in front of an odd number of them.
+// Returns the bytes of hexadecimal digits, two digits per byte, after a leading 0 if their number
+// is odd.
 pub(crate) fn hex_bytes_of(alloc: Global, digits: &[u8]) -> Result<Bytes, AllocError>
     ensures { IfOk result (λ bytes. bytes ≡ hex_bytes digits.now) }
 {
@@ -26,7 +27,7 @@ pub(crate) fn hex_bytes_of(alloc: Global, digits: &[u8]) -> Result<Bytes, AllocE
     Ok(Bytes::own(bytes))
 }
 
-// Adds the bytes of an even number of hexadecimal digits.
+// Appends the bytes of an even number of hexadecimal digits.
 fn push_pairs(bytes: &mut Vec<u8>, digits: &[u8]) -> Result<(), AllocError>
     ensures { OnOk result (bytes.new.items ≡ bytes.old.items ++ hex_pairs digits.now) }
 {
@@ -38,7 +39,7 @@ fn push_pairs(bytes: &mut Vec<u8>, digits: &[u8]) -> Result<(), AllocError>
     Ok(())
 }
 
-// The value of a hexadecimal digit, and 0 for another byte.
+// Returns the value of a hexadecimal digit, or 0 for any other byte.
 fn hex_digit(d: u8) -> u8
     ensures value { result ≡ hex_digit_value d }
     ensures small { result < 16 }

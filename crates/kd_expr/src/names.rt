@@ -14,7 +14,7 @@ use crate::take::{expect_sign, expect_word, unexpected};
 use crate::token::{Kind, Sign, Token};
 use kd_wire::Field;
 
-// What stands behind `option`.
+// Reads what follows `option`.
 #[tactic(auto, unfolding(crate::specs::Reading::option_at))]
 pub(crate) fn option_of<'t, 'a>(
     source: Source,
@@ -37,7 +37,7 @@ pub(crate) fn option_of<'t, 'a>(
     }
 }
 
-// What stands behind `relay4`.
+// Reads what follows `relay4`.
 #[tactic(auto, unfolding(crate::specs::Reading::relay_at))]
 pub(crate) fn relay_of<'t, 'a>(
     source: Source,
@@ -60,7 +60,7 @@ pub(crate) fn relay_of<'t, 'a>(
     }
 }
 
-// What stands behind `pkt4`.
+// Reads what follows `pkt4`.
 #[tactic(auto, unfolding(crate::specs::Reading::field_after))]
 pub(crate) fn field_of<'t, 'a>(
     source: Source,
@@ -76,7 +76,7 @@ pub(crate) fn field_of<'t, 'a>(
     Ok((Node::Field { at, field }, rest))
 }
 
-// What stands behind `pkt`.
+// Reads what follows `pkt`.
 #[tactic(auto, unfolding(crate::specs::Reading::packet_at))]
 pub(crate) fn packet_of<'t, 'a>(
     source: Source,
@@ -98,7 +98,7 @@ pub(crate) fn packet_of<'t, 'a>(
     ))
 }
 
-// What stands behind `member`.
+// Reads what follows `member`.
 #[tactic(auto, unfolding(crate::specs::Reading::member_at))]
 pub(crate) fn member_of<'t, 'a>(
     source: Source,
@@ -117,7 +117,7 @@ pub(crate) fn member_of<'t, 'a>(
     Ok((Node::Member { at, name }, rest))
 }
 
-// A class's name of 1 to 255 bytes, after the bracket at this place.
+// Reads a class's name of 1 to 255 bytes, after the bracket at this place.
 #[tactic(auto, unfolding(crate::specs::Reading::below))]
 fn name_deeper<'t, 'a>(
     tokens: &'t [Token<'a>],
@@ -142,7 +142,7 @@ fn name_deeper<'t, 'a>(
     }
 }
 
-// The code of an option, by number or by name.
+// Reads the code of an option, given by number or by name.
 fn option_code<'t, 'a>(
     tokens: &'t [Token<'a>],
     end: usize,
@@ -168,7 +168,7 @@ fn option_code<'t, 'a>(
     }
 }
 
-// The code of a sub-option.
+// Reads the code of a sub-option.
 fn relay_code<'t, 'a>(
     tokens: &'t [Token<'a>],
     end: usize,
@@ -190,7 +190,7 @@ fn relay_code<'t, 'a>(
     }
 }
 
-// Whether `exists` stands there, or `hex`.
+// Reads `exists` (true) or `hex` (false).
 fn suffix<'t, 'a>(
     tokens: &'t [Token<'a>],
     end: usize,
@@ -210,7 +210,7 @@ fn suffix<'t, 'a>(
     }
 }
 
-// The part of a message that a name stands for.
+// Reads the name of a message field.
 fn field<'t, 'a>(
     tokens: &'t [Token<'a>],
     end: usize,
@@ -232,7 +232,7 @@ fn field<'t, 'a>(
     }
 }
 
-// A number of 32 bits, which may have a minus in front.
+// Reads a 32-bit number, which may have a minus sign before it.
 pub(crate) fn signed_of<'t, 'a>(
     tokens: &'t [Token<'a>],
     end: usize,
@@ -259,7 +259,7 @@ pub(crate) fn signed_of<'t, 'a>(
     }
 }
 
-// The length of a part: such a number, or `all`.
+// Reads the length of a substring: a number as above, or `all`.
 pub(crate) fn length_of<'t, 'a>(
     tokens: &'t [Token<'a>],
     end: usize,
@@ -282,7 +282,7 @@ pub(crate) fn length_of<'t, 'a>(
     }
 }
 
-// The code of the option that a name stands for.
+// Returns the code of the option with this name.
 #[tactic(auto, unfolding(crate::specs::Names::code_by_name))]
 fn code_named(name: &[u8]) -> Option<u8>
     ensures { result ≡ code_by_name name.now }
@@ -322,7 +322,7 @@ fn code_named(name: &[u8]) -> Option<u8>
     }
 }
 
-// The part of a message that a name behind `pkt4.` stands for.
+// Returns the message field with this name after `pkt4.`.
 #[tactic(auto, unfolding(crate::specs::Names::field_by_name))]
 fn field_named(name: &[u8]) -> Option<Field>
     ensures { result ≡ field_by_name name.now }

@@ -4,10 +4,10 @@ ghost use Rattle.kd_expr.specs.View.{tree_of};
 
 use kd_wire::{Bytes, Field};
 
-/// A node of an expression. Its place `at` is the offset of its first byte in the text.
+/// A node of an expression. `at` is the offset of its first byte in the text.
 #[derive(Drop)]
 pub enum Node {
-    /// A string, hexadecimal digits or an IPv4 address: a byte string.
+    /// A byte string: a string, hexadecimal digits or an IPv4 address.
     Literal {
         at: usize,
         bytes: Bytes,
@@ -88,7 +88,7 @@ pub enum Node {
         yes: Box<Node>,
         no: Box<Node>,
     },
-    /// `substring(operand, start, length)`; no length is `all`.
+    /// `substring(operand, start, length)`; `None` as the length is `all`.
     Substring {
         at: usize,
         operand: Box<Node>,
@@ -119,7 +119,7 @@ pub enum Node {
 }
 
 impl Node {
-    /// The offset of the node's first byte.
+    /// Returns the offset of the node's first byte.
     pub fn at(&self) -> usize
         ensures { result ≡ at_of (tree_of self.now) }
     {

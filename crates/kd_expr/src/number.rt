@@ -1,7 +1,7 @@
 ghost use Rattle.std.specs.Prelude.{◌≡◌, ◌^◌, if◌then◌else◌, nat_lt, Some, None};
 ghost use Rattle.kd_expr.specs.Address.{decimal};
 
-// The number of decimal digits, where it has 32 bits.
+// Returns the number that decimal digits give, if it fits in 32 bits.
 pub(crate) fn number(digits: &[u8]) -> Option<u32>
     ensures { result ≡ (if nat_lt (decimal digits.now) (2 ^ 32) then Some
         (decimal digits.now) else None) }

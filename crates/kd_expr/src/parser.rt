@@ -22,7 +22,7 @@ pub(crate) struct Source {
     pub(crate) end: usize,
 }
 
-// Two operands in boxes, and the place of the first.
+// Puts two operands in boxes, and returns them with the place of the first.
 fn boxed(
     alloc: Global,
     left: Node,
@@ -37,7 +37,7 @@ fn boxed(
     Ok((at, left, Box::new(alloc, right)?))
 }
 
-// A disjunction of two operands.
+// Makes a disjunction of two operands.
 fn disjunction(alloc: Global, left: Node, right: Node) -> Result<Node, SyntaxFault>
     ensures { MatchResult result
         (λ node. tree_of node ≡ reading.or_of (tree_of left) (tree_of right))
@@ -47,7 +47,7 @@ fn disjunction(alloc: Global, left: Node, right: Node) -> Result<Node, SyntaxFau
     Ok(Node::Or { at, left, right })
 }
 
-// A conjunction of two operands.
+// Makes a conjunction of two operands.
 fn conjunction(alloc: Global, left: Node, right: Node) -> Result<Node, SyntaxFault>
     ensures { MatchResult result
         (λ node. tree_of node ≡ reading.and_of (tree_of left) (tree_of right))
@@ -57,7 +57,7 @@ fn conjunction(alloc: Global, left: Node, right: Node) -> Result<Node, SyntaxFau
     Ok(Node::And { at, left, right })
 }
 
-// A sum of two operands.
+// Makes a concatenation of two operands.
 fn concatenation(alloc: Global, left: Node, right: Node) -> Result<Node, SyntaxFault>
     ensures { MatchResult result
         (λ node. tree_of node ≡ reading.sum_of (tree_of left) (tree_of right))
@@ -67,7 +67,7 @@ fn concatenation(alloc: Global, left: Node, right: Node) -> Result<Node, SyntaxF
     Ok(Node::Concat { at, left, right })
 }
 
-// A comparison of two operands.
+// Makes a comparison of two operands.
 fn equality(alloc: Global, left: Node, right: Node) -> Result<Node, SyntaxFault>
     ensures { MatchResult result
         (λ node. tree_of node ≡ Equal (at_of (tree_of left)) (tree_of left) (tree_of right))
@@ -77,7 +77,7 @@ fn equality(alloc: Global, left: Node, right: Node) -> Result<Node, SyntaxFault>
     Ok(Node::Equal { at, left, right })
 }
 
-// The negation at a place of an operand.
+// Makes the negation of an operand, at this place.
 fn negation(alloc: Global, at: usize, operand: Node) -> Result<Node, SyntaxFault>
     ensures { MatchResult result (λ node. tree_of node ≡ Not at (tree_of operand))
         (λ fault. fault ≡ faults.Memory) }
@@ -86,7 +86,8 @@ fn negation(alloc: Global, at: usize, operand: Node) -> Result<Node, SyntaxFault
     Ok(Node::Not { at, operand })
 }
 
-// A disjunction, which is any expression, where `depth` more brackets and `not`s may be nested.
+// Reads a disjunction, which is any expression. `depth` is how many more brackets and `not`s may be
+// nested.
 #[cycle(parser)]
 #[tactic(auto, unfolding(crate::specs::Reading::or_at, crate::specs::Reading::chain, crate::specs::Reading::operands_joined))]
 pub(crate) fn or_of<'t, 'a>(
@@ -107,7 +108,7 @@ pub(crate) fn or_of<'t, 'a>(
     Ok((first, rest))
 }
 
-// A conjunction.
+// Reads a conjunction.
 #[cycle(parser)]
 #[tactic(auto, unfolding(crate::specs::Reading::and_at, crate::specs::Reading::chain, crate::specs::Reading::operands_joined))]
 fn and_of<'t, 'a>(
@@ -128,7 +129,7 @@ fn and_of<'t, 'a>(
     Ok((first, rest))
 }
 
-// A negation, or a comparison.
+// Reads a negation or a comparison.
 #[cycle(parser)]
 #[tactic(auto, unfolding(crate::specs::Reading::not_at))]
 fn not_of<'t, 'a>(
@@ -149,7 +150,7 @@ fn not_of<'t, 'a>(
     }
 }
 
-// A comparison, or a sum alone.
+// Reads a comparison, or just a sum.
 #[cycle(parser)]
 #[tactic(auto, unfolding(crate::specs::Reading::compare_at))]
 fn compare_of<'t, 'a>(
@@ -171,7 +172,7 @@ fn compare_of<'t, 'a>(
     }
 }
 
-// A sum of byte strings.
+// Reads a sum of byte strings.
 #[cycle(parser)]
 #[tactic(auto, unfolding(crate::specs::Reading::sum_at, crate::specs::Reading::chain, crate::specs::Reading::operands_joined))]
 fn sum_of<'t, 'a>(
@@ -192,7 +193,7 @@ fn sum_of<'t, 'a>(
     Ok((first, rest))
 }
 
-// A literal, a number, a group, or what a name begins.
+// Reads a literal, a number, a group, or what begins with a name.
 #[cycle(parser)]
 #[tactic(auto, unfolding(crate::specs::Reading::primary_at))]
 fn primary_of<'t, 'a>(
@@ -231,7 +232,7 @@ fn primary_of<'t, 'a>(
     }
 }
 
-// An expression in brackets.
+// Reads an expression in brackets.
 #[cycle(parser)]
 #[tactic(auto, unfolding(crate::specs::Reading::group_at))]
 fn group_of<'t, 'a>(
@@ -248,7 +249,7 @@ fn group_of<'t, 'a>(
     Ok((Node::Group { at, operand }, rest))
 }
 
-// An expression after the bracket at this place, which nests it one deeper.
+// Reads an expression after the bracket at this place, which nests it one level deeper.
 #[cycle(parser)]
 #[tactic(auto, unfolding(crate::specs::Reading::below))]
 pub(crate) fn any_deeper<'t, 'a>(
@@ -267,7 +268,7 @@ pub(crate) fn any_deeper<'t, 'a>(
     or_of(source, tokens, depth - 1)
 }
 
-// The operand of the `not` at this place, which nests it one deeper.
+// Reads the operand of the `not` at this place, which nests it one level deeper.
 #[cycle(parser)]
 #[tactic(auto, unfolding(crate::specs::Reading::below))]
 fn operand_deeper<'t, 'a>(

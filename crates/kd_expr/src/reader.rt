@@ -20,15 +20,14 @@ const LONGEST_TEXT: usize = 4096;
 
 const DEEPEST_NESTING: u8 = 64;
 
-/// The expression that a text of at most 4,096 bytes spells. Memory is taken for its tokens and its
-/// tree.
+/// Reads a text of at most 4,096 bytes as an expression. Takes memory for its tokens and its tree.
 ///
 /// # Errors
 ///
-/// `TooLong`; otherwise the fault of the first token with which the text so far begins no
-/// expression, or of the end: `BadToken`; `NumberTooLarge` or `UnknownName` where another number or
-/// an option's name could stand there; `TooNested` of a bracket or `not`; else `Expected`. Or
-/// `Memory` in place of any of these but `TooLong`.
+/// `TooLong`. Otherwise the fault is at the first token that, with the text before it, does not
+/// begin any expression, or at the end of the text: `BadToken`; `NumberTooLarge` or `UnknownName`
+/// if another number or the name of an option could come there; `TooNested` at a bracket or `not`;
+/// and `Expected` in all other cases. `Memory` may come in place of any of these except `TooLong`.
 pub fn read(alloc: Global, text: &[u8]) -> Result<Expr, ExprFault>
     ensures found { IfOk result (λ expr. Parses text.now (tree_of expr)) }
     ensures only { (tree : Tree) → Parses text.now tree
@@ -46,7 +45,7 @@ pub fn read(alloc: Global, text: &[u8]) -> Result<Expr, ExprFault>
     }
 }
 
-// The tree that all tokens of a text spell.
+// Returns the tree of all tokens of a text.
 #[tactic(auto, unfolding(crate::specs::Reading::whole_at))]
 fn node_in(alloc: Global, text: &[u8]) -> Result<Node, SyntaxFault>
     ensures { ReadsAs tree_of result

@@ -11,8 +11,8 @@ use crate::number::number;
 use crate::token::{Kind, Sign, Token};
 use kd_wire::Field;
 
-// The fault of the first token, which cannot stand there; at the end of the text where none is
-// left.
+// Returns the fault of the first token, which must not come there, or of the end of the text if
+// there are no tokens.
 pub(crate) fn unexpected(tokens: &[Token<'_>], end: usize) -> SyntaxFault
     ensures fault { result ≢ faults.Memory }
     ensures exact { result ≡ unexpected_at (lexemes tokens.now) end }
@@ -27,7 +27,7 @@ pub(crate) fn unexpected(tokens: &[Token<'_>], end: usize) -> SyntaxFault
     }
 }
 
-// The place of this sign, and what follows it.
+// Takes this sign, and returns its place and the remaining tokens.
 pub(crate) fn sign<'t, 'a>(
     tokens: &'t [Token<'a>],
     wanted: Sign,
@@ -46,7 +46,7 @@ pub(crate) fn sign<'t, 'a>(
     }
 }
 
-// The place of this keyword, and what follows it.
+// Takes this keyword, and returns its place and the remaining tokens.
 pub(crate) fn word<'t, 'a>(
     tokens: &'t [Token<'a>],
     wanted: &[u8],
@@ -65,7 +65,7 @@ pub(crate) fn word<'t, 'a>(
     }
 }
 
-// This sign, which has to stand there.
+// Takes this sign, which must come next.
 pub(crate) fn expect_sign<'t, 'a>(
     tokens: &'t [Token<'a>],
     wanted: Sign,
@@ -81,7 +81,7 @@ pub(crate) fn expect_sign<'t, 'a>(
     }
 }
 
-// This keyword, which has to stand there.
+// Takes this keyword, which must come next.
 pub(crate) fn expect_word<'t, 'a>(
     tokens: &'t [Token<'a>],
     wanted: &[u8],

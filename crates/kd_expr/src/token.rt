@@ -23,7 +23,7 @@ pub(crate) enum Sign {
 }
 
 impl Sign {
-    // The sign's byte, the first of the two of `==`.
+    // Returns the sign's byte; of `==`, one of its two equal bytes.
     pub(crate) fn byte(self) -> u8
         ensures { result ≡ sign_byte self }
     {
@@ -40,14 +40,14 @@ impl Sign {
     }
 }
 
-// A word of a text with the offset of its first byte.
+// A word of a text, with the offset of its first byte.
 #[derive(Clone, Copy)]
 pub(crate) struct Token<'a> {
     pub(crate) at: usize,
     pub(crate) kind: Kind<'a>,
 }
 
-// What a word is, with what it holds.
+// What kind of word it is, with what it holds.
 #[derive(Clone, Copy)]
 pub(crate) enum Kind<'a> {
     // The bytes between two apostrophes.
@@ -58,7 +58,7 @@ pub(crate) enum Kind<'a> {
     Address(u8, u8, u8, u8),
     // Decimal digits.
     Number(&'a [u8]),
-    // Decimal digits after a minus.
+    // Decimal digits after a minus sign.
     Minus(&'a [u8]),
     Name(&'a [u8]),
     Sign(Sign),

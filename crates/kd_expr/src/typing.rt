@@ -8,18 +8,18 @@ use crate::fault::TypeFault;
 use crate::node::Node;
 use kd_wire::Field;
 
-/// What an expression stands for.
+/// The type of an expression's value.
 #[derive(Clone, Copy, PartialEq, Eq)]
 pub enum ValueType {
     /// A truth value.
     Bool,
-    /// A number of 32 bits.
+    /// A 32-bit number.
     Int,
     /// A byte string.
     Bytes,
 }
 
-// The type of an expression, or its first fault.
+// Returns the type of an expression, or its first fault.
 #[cycle(typing)]
 pub(crate) fn type_of_node(node: &Node) -> Result<ValueType, TypeFault>
     ensures { result ≡ type_of (tree_of node.now) }
@@ -78,7 +78,7 @@ pub(crate) fn type_of_node(node: &Node) -> Result<ValueType, TypeFault>
     }
 }
 
-// An operand that has to be a truth value.
+// Checks an operand that must be a truth value.
 #[cycle(typing)]
 pub(crate) fn bool_operand(node: &Node) -> Result<(), TypeFault>
     ensures { result ≡ want_bool (at_of (tree_of node.now)) (type_of (tree_of node.now)) }
@@ -89,7 +89,7 @@ pub(crate) fn bool_operand(node: &Node) -> Result<(), TypeFault>
     }
 }
 
-// An operand that has to be a byte string, for which a number may stand.
+// Checks an operand that must be a byte string; a number may stand for one.
 #[cycle(typing)]
 fn bytes_operand(node: &Node) -> Result<(), TypeFault>
     ensures { result ≡ want_bytes (at_of (tree_of node.now)) (type_of (tree_of node.now)) }
@@ -100,7 +100,7 @@ fn bytes_operand(node: &Node) -> Result<(), TypeFault>
     }
 }
 
-// An operand that has to be a number.
+// Checks an operand that must be a number.
 #[cycle(typing)]
 fn int_operand(node: &Node) -> Result<(), TypeFault>
     ensures { result ≡ want_int (at_of (tree_of node.now)) (type_of (tree_of node.now)) }
@@ -111,7 +111,7 @@ fn int_operand(node: &Node) -> Result<(), TypeFault>
     }
 }
 
-// The type of a part of a message.
+// Returns the type of a message field.
 fn type_of_field(field: Field) -> ValueType
     ensures { result ≡ field_type field }
 {
@@ -123,7 +123,7 @@ fn type_of_field(field: Field) -> ValueType
     }
 }
 
-// How many nodes an expression has.
+// Returns the number of nodes in an expression.
 pub(crate) fn count(node: &Node) -> u32
     requires { node_count (tree_of node.now) < 2 ^ 32 }
     ensures { result ≡ node_count (tree_of node.now) }
