@@ -1,4 +1,4 @@
--- What a file's definition spells is read again.
+-- What a file's definition gives is read again.
 use Rattle.std.proofs.Common.{◌≡◌, ℕ, suc, ◌+◌, ◌*◌, ◌^◌, ◌<◌, ◌≤◌, false, List, [], ◌∷◌, ◌++◌, length, Option, Some, None, Result, Ok, refl, sym, ap, ◌∙◌, append_assoc, length-append, arith}
 use Rattle.std.specs.Prelude.{ℤ, nat_lt, ◌==◌}
 use Rattle.std.specs.Int.{w32, cast_unsigned}
@@ -21,13 +21,13 @@ use Rattle.kd_wire.specs.Field.{field_number}
 use Rattle.kd_token.specs.declared.fault.FileFault.{FileFault}
 use Rattle.kd_token.specs.Reading.{◌>>=◌, Rest, rest, already, many_at, bytes_next, number_next, limited_at, signed_at, magic_at, version_at, name_at, names_at, long_at, field_numbered, field_at, count_after, count_at, substring_at, branch_at, skip_at, plain_token, operands_at, token_at, tokens_at, all_names_at, all_tokens_at, fields_at, file_end, file_at, program_at}
 
--- bytes that stand in front
+-- bytes that come first
 bytes_again : (w : List ℕ) (n : ℕ) (bytes after : List ℕ) → length bytes ≡ n → bytes_next n (rest w (bytes ++ after)) ≡ Ok (bytes, rest w after)
 bytes_again w n bytes after len =
     let long : nat_lt (length (bytes ++ after)) n ≡ false = le-ltb _ _ (omega (arith, length-append bytes after)) in
     rw (long, take_at bytes after n len, drop_at bytes after n len) refl
 
--- a number whose bytes stand in front
+-- a number whose bytes come first
 pub number_again : (w : List ℕ) (n x : ℕ) (bytes after : List ℕ) → length bytes ≡ n → big_number n bytes ≡ x → number_next n (rest w (bytes ++ after)) ≡ Ok (x, rest w after)
 number_again w n x bytes after len is =
     let long : nat_lt (length (bytes ++ after)) n ≡ false = le-ltb _ _ (omega (arith, length-append bytes after)) in
@@ -111,7 +111,7 @@ skip_again w versions.Two behind at skip after few is =
     let less : nat_lt behind skip ≡ false = le-ltb _ _ is in
     rw (two_again w skip after (omega (arith, few, is)), less) refl
 
--- a token is read where its operands are
+-- a token is read if its operands are
 behind_opcode : (w : List ℕ) (version : Version) (behind opcode : ℕ) (bytes : List ℕ) (read : Result (Token × Rest) FileFault) → ((at : ℕ) → operands_at version behind opcode at (rest w bytes) ≡ read) → token_at version behind (rest w (opcode ∷ bytes)) ≡ read
 unfolding token_at
 behind_opcode w version behind opcode bytes read e = rw (one_again w opcode bytes) (e _)
@@ -193,12 +193,12 @@ file_again w p has =
 pub program_again : (p : Code) → HasFile p → program_at (file_bytes p) ≡ Ok p
 program_again p has = rw (file_again (file_bytes p) p has) refl
 
--- the byte string of a file's token has a length of two bytes
+-- the byte string of a file's token has a 2-byte length
 pub token_short : (version : Version) (behind : ℕ) (token : Token) → IsToken version behind token → IsShort token
 token_short version behind (tokens.PushBytes bytes) is = is
 token_short version behind token is = tt
 
--- the same of each token in a row
+-- the same for each token of a list
 pub are_short : (version : Version) (list : List Token) → AreTokens version list → AllByRecursion IsShort list
 are_short version [] all = tt
 are_short version (token ∷ list) all = (token_short version (length list) token all.0, are_short version list all.1)

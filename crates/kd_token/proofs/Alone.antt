@@ -1,4 +1,4 @@
--- Bytes have one first fault: files whose bytes are the same so far have the same field next.
+-- Bytes have only one first fault: files with the same bytes so far have the same field next.
 use Rattle.std.proofs.Common.{◌≡◌, ℕ, ◌+◌, ◌^◌, ◌<◌, ◌≤◌, ◌==◌, List, [], ◌∷◌, ◌++◌, length, get_or, Option, Some, None, refl, sym, ap, subst, ◌∙◌, append_assoc, length-append, arith, inl, inr, if◌then◌else◌}
 use Rattle.std.specs.Prelude.{ℤ, ◌⊎◌, take, drop}
 use Rattle.std.specs.List.{flat_map}
@@ -17,11 +17,12 @@ use Rattle.kd_token.specs.Laws.{HaveOneFault}
 use Rattle.kd_token.proofs.Read.{parts_spelled}
 use Rattle.kd_token.proofs.Told.{spelled_both}
 
--- two fields are as long and have the same faults
+-- two fields have the same length and the same faults
 abbrev Alike : Part → Part → Type 0
 Alike a b = (length a.bytes ≡ length b.bytes) × (a.cut ≡ b.cut) × (a.wrong ≡ b.wrong)
 
--- fields that stand first in two rows are alike, and where they have the same bytes, so are the rows after them
+-- the first fields of two lists are alike, and if they have the same bytes, so are the lists after
+-- them
 abbrev AreTwins : List Part → List Part → Type 0
 AreTwins [] [] = Unit {0}
 AreTwins (a ∷ r) (b ∷ s) = Alike a b × (a.bytes ≡ b.bytes → AreTwins r s)
@@ -163,7 +164,8 @@ later_twins p q f g = ((refl, refl, refl), λ v. ((refl, refl, refl), λ s. ((re
 file_twins : (p q : Code) → HasFile p → HasFile q → AreTwins (parts p) (parts q)
 file_twins p q f g = ((refl, refl, refl), λ e. later_twins p q f g)
 
--- the bytes of two rows' first fields in front of the same bytes
+-- if the first fields of two lists have the same length and the same bytes follow, they are the
+-- same
 front_same : (p q x y : List ℕ) → length p ≡ length q → p ++ x ≡ q ++ y → p ≡ q
 front_same p q x y len e = sym (take_at p x (length p) refl) ∙ ap (take (length p)) e ∙ take_at q y (length p) (sym len)
 
@@ -177,11 +179,12 @@ module _ (a b : Part) (r s : List Part) (x y : List ℕ) (len : length a.bytes �
   tail_same : bytes_of_parts r ++ x ≡ bytes_of_parts s ++ y
   tail_same = append_cancel_left b.bytes (bytes_of_parts r ++ x) (bytes_of_parts s ++ y) (ap (λ l. l ++ (bytes_of_parts r ++ x)) (sym head_same) ∙ split)
 
--- the number of bytes of a row
+-- the number of bytes of a list
 abbrev size : List Part → ℕ
 size r = length (bytes_of_parts r)
 
--- of two places in bytes at which fields come next, either they are one, or one is past the other's field
+-- of two places in bytes at which fields come next, either they are the same, or one is past the
+-- other's field
 abbrev ArePlaces : List Part → Part → List Part → Part → Type 0
 ArePlaces r n s m = ((size r ≡ size s) × Alike n m) ⊎ ((size r + length n.bytes ≤ size s) ⊎ (size s + length m.bytes ≤ size r))
 
@@ -214,7 +217,7 @@ within (a ∷ r) (b ∷ s) m u x y h e =
     let l = h.0.0 in
     omega (arith, le, l, length-append a.bytes (bytes_of_parts r), length-append b.bytes (bytes_of_parts s))
 
--- two whole files in front of the same bytes are as long
+-- two whole files before the same bytes have the same length
 as_long : (r s : List Part) (x y : List ℕ) → AreTwins r s → bytes_of_parts r ++ x ≡ bytes_of_parts s ++ y → size r ≡ size s
 as_long [] [] x y h e = refl
 as_long [] (b ∷ s) x y h e = absurd h
@@ -230,7 +233,7 @@ IsNextFault w at next f =
     ((length w < at + length next.bytes) × (f ≡ next.cut at))
     ⊎ ((at + length next.bytes ≤ length w) × BeginsNone (take (at + length next.bytes) w) × (f ≡ next.wrong at))
 
--- a file goes on past the field, or ends within these bytes after it
+-- a file continues past the field, or ends within these bytes after it
 no_fault : (w : List ℕ) (at : ℕ) (next : Part) (f : FileFault) (m : ℕ) (more : List ℕ) (p : Code) → at + length next.bytes ≤ m → m ≤ length w → take m w ++ more ≡ file_bytes p → HasFile p → IsNextFault w at next f → ⊥
 no_fault w at next f m more p le few e has (inl h) = let l = h.0 in omega (arith, l, le, few)
 no_fault w at next f m more p le few e has (inr h) = h.1 p (drop k (take m w) ++ more) (record {
@@ -251,7 +254,7 @@ front_of w at next c = ap (λ l. l ++ drop at w) (sym c.same) ∙ take-append-dr
 place_of_next : (w : List ℕ) (at : ℕ) (next : Part) (c : ComesNext w at next) → at ≡ size c.before
 place_of_next w at next c = sym (length-take-le at w c.within) ∙ ap length c.same
 
--- two such faults are one
+-- two such faults are the same
 one_next : (w : List ℕ) (i j : ℕ) (n m : Part) (f g : FileFault) → ComesNext w i n → ComesNext w j m → IsNextFault w i n f → IsNextFault w j m g → f ≡ g
 one_next w i j n m f g c d h k = by (places c.before n c.after d.before m d.after (drop i w) (drop j w) twins (front_of w i n c ∙ sym (front_of w j m d))) where
   twins : AreTwins (c.before ++ n ∷ c.after) (d.before ++ m ∷ d.after)
@@ -295,7 +298,7 @@ no_next w i j p n f is less c h = no_fault w j n f i [] p le (omega (arith, less
       let fits = within (parts p) c.before n c.after (drop i w) (drop j w) twins (file_front w i p is ∙ sym (front_of w j n c)) in
       omega (arith, fits, place_of_next w j n c, file_size w i p is (omega (arith, less)))
 
--- two ends of whole files are one
+-- two ends of whole files are the same
 one_end : (w : List ℕ) (i j : ℕ) (p q : Code) → IsFileOf (take i w) p → IsFileOf (take j w) q → i < length w → j < length w → i ≡ j
 one_end w i j p q is other less few =
     let e = as_long (parts p) (parts q) (drop i w) (drop j w) (file_twins p q is.limits other.limits) (file_front w i p is ∙ sym (file_front w j q other)) in
@@ -310,7 +313,7 @@ sorted w f (inl h) = inl (h.0, h.1, h.2, inl (h.3, h.4))
 sorted w f (inr (inl h)) = inl (h.0, h.1, h.2, inr (h.3, h.4, h.5))
 sorted w f (inr (inr h)) = inr h
 
--- bytes have one first fault
+-- bytes have only one first fault
 pub one_fault : HaveOneFault
 one_fault w f g h k = by (sorted w f h) (sorted w g k) where
   by : IsOneOf w f → IsOneOf w g → f ≡ g

@@ -44,7 +44,7 @@ arrived_least q (Joined s n) (Some x) b c = by_met (met s q.shape) (met_least x.
   by_met None d = absurd d
   by_met (Some t) d = (d, omega (arith, b.1, c.1))
 
--- what an entry covers it covers after a point arrived
+-- what an entry covers, it still covers after a point arrived
 arrived_keeps : (r : Point) (e : Entry) (q : Point) → IsCoveredBy e q → IsCoveredBy (arrived r e) q
 arrived_keeps r Unreached q c = absurd c
 arrived_keeps r Clash q c = tt

@@ -10,7 +10,7 @@ use Rattle.kd_token.specs.declared.token.Token.TheVariants as tokens
 use Rattle.kd_wire.specs.Steps.{◌>>=◌}
 use Rattle.kd_token.specs.Shape.{CoversKind, Covers, bytes_taken, bool_taken, int_taken, field_kind, bound_of_substring, bound_of_hex, gives}
 
--- where the first is there, the second is, and the relation holds of the two
+-- if the first is present, so is the second, and the relation holds of the two
 abbrev pub Down : {A B : Type 0} → (A → B → Type 0) → Option A → Option B → Type 0
 Down R None u = Unit {0}
 Down R (Some x) None = ⊥
@@ -83,7 +83,8 @@ hex_down (suc n) (suc m) a b le less =
     let two : suc n - 1 ≡ n = omega arith in
     rw (no_m, no_n, one, two) (omega (arith, most, fewer))
 
--- a token that takes what it wants from a shape takes it from a smaller one too, and gives no more
+-- a token that takes what it needs from a shape also takes it from a smaller one, and leaves no
+-- more
 pub gives_down : (names : ℕ) (token : Token) (r s : List Kind) → Covers r s → Down Covers (gives names token r) (gives names token s)
 unfolding gives
 gives_down names (tokens.PushBytes bytes) r s c = (omega arith, c)

@@ -21,12 +21,12 @@ above_here p n entries k a s =
     let here : IsSoundAt p a n = s n (omega arith) in
     k.least a (λ i less. s i (omega (arith, less))) n (omega arith) here.start (λ i less. here.enter i)
 
--- ways that bring different shapes meet
+-- paths that bring different shapes meet
 pub clash_fault : (p : Code) (n : ℕ) (entries : ℕ → Entry) → IsPassed p n entries → n ≤ length p.tokens → entries n ≡ Clash → IsFaultAt p n
 clash_fault p n entries k le is =
     (le, (k.some, k.sound), λ a s. let P : Entry → Type 0 = λ e. IsBelow e (a n) in let none : ⊥ = subst P is (above_here p n entries k a s) in none)
 
--- a token cannot take what it wants, or gives more than is declared
+-- a token cannot take what it needs, or leaves more than is declared
 pub leave_fault : (p : Code) (n : ℕ) (entries : ℕ → Entry) (s : List Kind) (c : ℕ) (token : Token) → IsPassed p n entries → n ≤ length p.tokens → entries n ≡ Joined s c → slice_get p.tokens n ≡ Some token
     → MatchOption (flows (length p.names) token n (record { shape = s; count = c })) (Unit {0}) (λ fs. AllByRecursion (IsWithin p) fs → ⊥) → IsFaultAt p n
 leave_fault p n entries s c token k le is at not = (le, (k.some, k.sound), refute) where
@@ -49,7 +49,7 @@ leave_fault p n entries s c token k le is at not = (le, (k.some, k.sound), refut
       let Q : Option Token → Type 0 = λ t. MatchOption (leaving (length p.names) t n (a n)) ⊥ (AllByRecursion (IsWithin p)) in
       by (a n) (subst P is (above_here p n entries k a sound)) (subst Q at here.leave)
 
--- what a fault at a place means is not accepted
+-- a program with a fault at a place is not accepted
 pub fault_refuses : (p : Code) (at : ℕ) → IsFaultAt p at → Accepts p → ⊥
 fault_refuses p at f a = f.2 a.0 (λ j less. a.1 j (omega (arith, less, f.0)))
 
@@ -59,7 +59,7 @@ steps_refuse p f a = f.1 a.0 a.1 a.2
 pub finish_refuses : (p : Code) → IsNoFinish p → Accepts p → ⊥
 finish_refuses p f a = f.1 a.0 a.1 a.2 a.3
 
--- an accepted program has no fault but want of memory
+-- an accepted program has no fault but out of memory
 pub memory_alone : (p : Code) (fault : VerifyFault) → IsVerifyFault p fault → Accepts p → fault ≡ faults.Memory
 memory_alone p (faults.Short at) f a = absurd (fault_refuses p at f a)
 memory_alone p (faults.Kind at) f a = absurd (fault_refuses p at f a)
@@ -74,7 +74,7 @@ memory_alone p faults.Memory f a = refl
 fault_unsound : (p : Code) (at : ℕ) → IsFaultAt p at → (a : Assignment) → IsSoundThroughout p a → ⊥
 fault_unsound p at f a s = f.2 a (λ j less. s j (omega (arith, less, f.0)))
 
--- where all places can be sound and not in time, the fault is Steps
+-- if all places can be sound but not in time, the fault is Steps
 pub steps_alone : (p : Code) (fault : VerifyFault) → IsVerifyFault p fault → IsTooManySteps p → IsInPlaceOf faults.Steps fault
 steps_alone p (faults.Short at) f s = absurd (fault_unsound p at f s.0.0 s.0.1)
 steps_alone p (faults.Kind at) f s = absurd (fault_unsound p at f s.0.0 s.0.1)
@@ -85,7 +85,7 @@ steps_alone p faults.Steps f s = inl refl
 steps_alone p faults.Finish f s = absurd (s.1 f.0.0 f.0.1 f.0.2)
 steps_alone p faults.Memory f s = inr refl
 
--- where the one truth value alone is wanting, the fault is Finish
+-- if only the one truth value is missing, the fault is Finish
 pub finish_alone : (p : Code) (fault : VerifyFault) → IsVerifyFault p fault → IsNoFinish p → IsInPlaceOf faults.Finish fault
 finish_alone p (faults.Short at) f s = absurd (fault_unsound p at f s.0.0 s.0.1)
 finish_alone p (faults.Kind at) f s = absurd (fault_unsound p at f s.0.0 s.0.1)
@@ -96,7 +96,7 @@ finish_alone p faults.Steps f s = absurd (f.1 s.0.0 s.0.1 s.0.2)
 finish_alone p faults.Finish f s = inl refl
 finish_alone p faults.Memory f s = inr refl
 
--- the first place that cannot be sound is one
+-- there is only one first place that cannot be sound
 same_place : (p : Code) (m n : ℕ) → IsFaultAt p m → IsFaultAt p n → Some m ≡ Some n
 same_place p m n f g = by (cases_lt m n) (cases_lt n m) where
   by : (m < n) ⊎ (n ≤ m) → (n < m) ⊎ (m ≤ n) → Some m ≡ Some n
@@ -104,7 +104,7 @@ same_place p m n f g = by (cases_lt m n) (cases_lt n m) where
   by (inr le) (inl less) = absurd (g.2 f.1.0 (λ j below. f.1.1 j (omega (arith, less, below))))
   by (inr le) (inr ge) = let e : m ≡ n = omega (arith, le, ge) in ap Some e
 
--- where a place is the first that cannot be sound, the fault names it
+-- if a place is the first that cannot be sound, the fault reports it
 pub place_alone : (p : Code) (at : ℕ) (fault : VerifyFault) → IsVerifyFault p fault → IsFaultAt p at → IsPlaceOf at fault
 place_alone p at (faults.Short m) f g = inl (same_place p m at f g)
 place_alone p at (faults.Kind m) f g = inl (same_place p m at f g)

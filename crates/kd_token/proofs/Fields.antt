@@ -1,4 +1,4 @@
--- The readers of a token file, told in its fields.
+-- The readers of a token file, in terms of its fields.
 use Rattle.std.proofs.Common.{◌≡◌, ℕ, ℤ, zero, suc, ◌^◌, ◌<◌, ◌≤◌, Bool, true, false, List, [], ◌∷◌, length, Option, Some, None, refl, sym, ap, subst, ◌∙◌, arith, inl, inr}
 use Rattle.std.specs.Prelude.{◌==◌, nat_lt, drop, replicate, if◌then◌else◌}
 use Rattle.std.specs.List.{flat_map, AllByRecursion}
@@ -160,7 +160,7 @@ count_told = field_told 1 (λ x. x ∷ []) (λ x. x < 256) one_form faults.Opera
   by x false e true f = subst (Outcome (λ y. y ∷ []) faults.Operand (λ at mode. count_after at mode) count_parts IsCount) (sym (eqb-true x 0 f)) (inr (λ at. makes_told Some signed_at (λ z. free (signed_bytes z) ∷ []) (FitsSigned w32) (λ c. drop 1 (count_parts c)) (Is 0) signed_told (λ z g. refl) (λ z g. (refl, g))))
   by x false e false f = inl (λ at r. rw (e, f) refl)
 
--- what is left of a token's fields after this opcode
+-- what remains of a token's fields after this opcode
 abbrev Opened : Version → ℕ → ℕ → Token → Type 0
 Opened version behind opcode = Follows token_parts (IsToken version behind) (part_with faults.Opcode (opcode ∷ []) ∷ []) (λ t. drop 1 (token_parts t))
 
@@ -180,7 +180,7 @@ branch_told behind = field_told 2 (big_bytes 2) (λ x. x < 2 ^ 16) two_form faul
       text : ℕ → List Part
       text d = operand (big_bytes 2 d) ∷ []
 
--- the rows of the operands' table
+-- the rows of the table of operands
 abbrev OfOpcode : Version → ℕ → ℕ → Type 0
 OfOpcode version behind opcode = Outcome (λ x. x ∷ []) faults.Opcode (λ at o. operands_at version behind o at) token_parts (IsToken version behind) opcode
 
@@ -284,7 +284,7 @@ unfolding operands_at plain_token
 row_23 versions.One behind = inl (λ at r. refl)
 row_23 versions.Two behind = inr (λ at. makes_told tokens.BranchTrueElsePop (branch_at behind) (λ d. operand (big_bytes 2 d) ∷ []) (λ d. d ≤ behind) (λ t. drop 1 (token_parts t)) (Opened versions.Two behind 0x23) (branch_told behind) (λ d g. refl) (λ d g. (refl, g)))
 
--- a number of these, or none of them
+-- one of these numbers, or none of them
 abbrev IsNone : ℕ → List ℕ → Type 0
 IsNone n [] = Unit {0}
 IsNone n (k ∷ ks) = ((n == k) ≡ false) × IsNone n ks

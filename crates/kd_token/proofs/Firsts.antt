@@ -1,4 +1,4 @@
--- The fault that the pass names at a place is the one there.
+-- The fault that the pass reports at a place is the one there.
 use Rattle.std.proofs.Common.{◌≡◌, ℕ, Option, Some, None, List, refl, sym, subst, arith, inl, inr}
 use Rattle.std.specs.Prelude.{slice_get, Result, Ok, Err, IfErr, MatchOption, MatchResult}
 use Rattle.kd_token.specs.declared.fault.VerifyFault.{VerifyFault}
@@ -31,14 +31,14 @@ least_there p n entries s c k is = record {
   by None b = b
   by (Some q) b = b.0
 
--- no shape can stand where ways bring different ones
+-- no shape is possible where paths bring different ones
 clash_there : (p : Code) (n : ℕ) (entries : ℕ → Entry) → IsPassed p n entries → entries n ≡ Clash → IsClash p n
 clash_there p n entries k is a sound entered =
     let P : Entry → Type 0 = λ e. IsBelow e (a n) in
     let none : ⊥ = subst P is (above p n entries k a sound entered) in
     none
 
--- the fault where ways bring different shapes
+-- the fault where paths bring different shapes
 pub clash_right : (p : Code) (n : ℕ) (t : List Entry) → IsAt p n t → entry_at t n ≡ Clash → IsRightFault p (faults.Kind n)
 clash_right p n t at is = inl (clash_there p n (entry_at t) at.passed is, refl)
 
@@ -50,7 +50,7 @@ token_right p n s c token t (Err e) at is there place fault =
     let P : Option ℕ → Type 0 = λ o. MatchOption o (Unit {0}) (IsFaultThere p e) in
     subst P (sym place) (inr (token, s, there, least_there p n (entry_at t) s c at.passed is, fault))
 
--- a fault with its place and more has its place
+-- a fault known to have this place, among other things, has this place
 pub place_there : {A : Type 0} (P : A → Type 0) (Q : Type 0) (n : ℕ) (r : Result A VerifyFault) → MatchResult r P (λ e. (place_of e ≡ Some n) × Q) → IfErr r (λ e. place_of e ≡ Some n)
 place_there P Q n (Ok a) m = tt
 place_there P Q n (Err e) m = m.0

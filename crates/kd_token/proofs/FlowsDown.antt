@@ -1,4 +1,5 @@
--- From a point below another the flows are below the other's, and within what is declared where those are.
+-- From a point below another, the flows are below the other's, and within what is declared if those
+-- are.
 use Rattle.std.proofs.Common.{◌≡◌, ℕ, ◌+◌, ◌≤◌, List, [], ◌∷◌, length, Some, refl, arith}
 use Rattle.std.specs.List.{AllByRecursion}
 use Rattle.kd_token.specs.declared.shape.Kind.{Kind}
@@ -15,7 +16,7 @@ use Rattle.kd_token.proofs.Down.{Down, bind_down, bool_down, gives_down}
 abbrev pub FlowBelow : Flow → Flow → Type 0
 FlowBelow f g = (f.to ≡ g.to) × Covers f.point.shape g.point.shape × (g.point.count ≤ f.point.count)
 
--- the same of each flow in a row
+-- the same for each flow of a list
 abbrev pub EachBelow : List Flow → List Flow → Type 0
 EachBelow [] [] = Unit {0}
 EachBelow [] (g ∷ gs) = ⊥

@@ -1,4 +1,5 @@
--- A token leaves what it does not take: below the value that it gives nothing is longer than before.
+-- A token leaves what it does not take: below the value that it pushes nothing is longer than
+-- before.
 use Rattle.std.proofs.Common.{◌≡◌, ℕ, ◌≤◌, Bool, true, false, List, [], ◌∷◌, drop, length, Option, Some, None, refl, sym, subst, arith}
 use Rattle.std.specs.Prelude.{nat_lt, if◌then◌else◌, MatchOption}
 use Rattle.kd_token.specs.declared.shape.Kind.{Kind}
@@ -10,7 +11,7 @@ use Rattle.kd_wire.specs.Steps.{◌>>=◌}
 use Rattle.kd_token.specs.Table.{IsRoomFor}
 use Rattle.kd_token.specs.Shape.{AreShort, IsShortKind, bytes_taken, bool_taken, int_taken, gives}
 
--- what holds of a result, where there is one
+-- what holds of a result, if there is one
 abbrev pub Keeps : {A : Type 0} → (A → Type 0) → Option A → Type 0
 Keeps P o = MatchOption o (Unit {0}) P
 

@@ -1,4 +1,4 @@
--- Items read one after another: what a loop keeps while it reads them.
+-- Items read one after another: what a loop maintains while it reads them.
 use Rattle.std.proofs.Common.{◌≡◌, ℕ, suc, ◌+◌, ◌-◌, ◌<◌, ◌≤◌, List, [], ◌∷◌, ◌++◌, length, Result, Ok, Err, refl, sym, ap, ◌∙◌, append_assoc, subst, arith}
 use Rattle.std.proofs.lemmas.List.{append-nil}
 use Rattle.std.specs.List.{flat_map, AllByRecursion}
@@ -13,7 +13,7 @@ use Rattle.kd_token.specs.Reading.{IsReadFault, ReadStep, Rest, unless_faulty, m
 abbrev pub with_front : {X : Type 0} → List X → Result (List X × Rest) FileFault → Result (List X × Rest) FileFault
 with_front front read = unless_faulty read (λ x. Ok (front ++ x.0, x.1))
 
--- the same fault comes where what is read next has it
+-- the same fault comes if the next part has it
 pub refused : {A B : Type 0} (fault : FileFault) (read : Result A FileFault) (next : Result B FileFault) → (read ≡ Err fault → next ≡ Err fault) → IsReadFault fault read → IsReadFault fault next
 refused faults.Magic read next f e = f e
 refused faults.Version read next f e = f e
@@ -28,7 +28,7 @@ regroup : {X : Type 0} (front : List X) (x : X) (read : Result (List X × Rest) 
 regroup front x (Err fault) = refl
 regroup front x (Ok xs) = ap (λ ys. Ok (ys, xs.1)) (sym (append_assoc front (x ∷ []) xs.0))
 
--- one item more
+-- one more item
 pub goes_on : {X : Type 0} (item : ℕ → ReadStep X) (front : List X) (count i : ℕ) (r : Rest) (x : X) (after : Rest) (total : Result (List X × Rest) FileFault) → i < count → item (count - (i + 1)) r ≡ Ok (x, after)
     → with_front front (many_at item (count - i) r) ≡ total → with_front (front ++ x ∷ []) (many_at item (count - (i + 1)) after) ≡ total
 unfolding many_at
@@ -53,7 +53,7 @@ is_done item front count i r total most so_far =
     let one : with_front front (many_at item (count - i) r) ≡ Ok (front, r) = rw k (ap (λ xs. Ok (xs, r)) (append-nil front)) in
     sym so_far ∙ one
 
--- what is spelled so far, with one item more
+-- the bytes so far, with one more item
 pub spelled_more : {X : Type 0} (text : X → List ℕ) (front : List X) (x : X) (whole bytes after : List ℕ) → whole ≡ flat_map text front ++ bytes → bytes ≡ text x ++ after → whole ≡ flat_map text (front ++ x ∷ []) ++ after
 spelled_more text front x whole bytes after so_far one = so_far ∙ ap (λ b. flat_map text front ++ b) one ∙ again text front x after where
   again : {X : Type 0} (text : X → List ℕ) (front : List X) (x : X) (after : List ℕ) → flat_map text front ++ (text x ++ after) ≡ flat_map text (front ++ x ∷ []) ++ after
@@ -66,7 +66,7 @@ pub all_more : {X : Type 0} (P : X → Type 0) (front : List X) (x : X) → AllB
 all_more P [] x all one = (one, tt)
 all_more P (y ∷ front) x all one = (all.0, all_more P front x all.1 one)
 
--- tokens in a row with so many more after them
+-- tokens of a list with this many more after them
 abbrev pub AreFirst : Version → ℕ → List Token → Type 0
 AreFirst version behind [] = Unit {0}
 AreFirst version behind (token ∷ tokens) = IsToken version (length tokens + behind) token × AreFirst version behind tokens

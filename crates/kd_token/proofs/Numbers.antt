@@ -1,4 +1,4 @@
--- Numbers in network order: bytes give a number that gives the bytes again, and the other way round.
+-- Numbers in network byte order: bytes give a number that gives the bytes again, and vice versa.
 use Rattle.std.proofs.Common.{◌≡◌, ℕ, ◌^◌, ◌<◌, List, length, get_or, sym, ap, arith}
 use Rattle.std.specs.Int.{w32, cast_signed}
 use Rattle.std.proofs.lemmas.Int.{of_z-to_z}

@@ -35,13 +35,13 @@ from_lowest (k ∷ r) (l ∷ s) a b same =
     rw (last_first k r a, last_first l s b)
     (from_lowest r s (k ∷ a) (l ∷ b) (omega (arith, same)) ∙ swapped (met_of_kinds k l) (met a b) (met_onto r s))
 
--- shapes as high as each other are met from their lowest kinds on
+-- shapes of the same height are met from their lowest kinds on
 pub met_from_lowest : (r s : List Kind) → length r ≡ length s → met (reverse r) (reverse s) ≡ met_onto r s []
 met_from_lowest r s same =
     let e : met (reverse r ++ []) (reverse s ++ []) ≡ met_onto r s [] = from_lowest r s [] [] same in
     rw (sym (append-nil (reverse r)), sym (append-nil (reverse s))) e
 
--- shapes of another height do not meet
+-- shapes of different heights do not meet
 pub unequal : (r s : List Kind) → (length r ≡ length s → ⊥) → met r s ≡ None
 unequal [] [] other = absurd (other refl)
 unequal [] (l ∷ s) other = refl
@@ -51,7 +51,7 @@ unequal (k ∷ r) (l ∷ s) other = rw (unequal r s (λ e. other (ap suc e))) (n
   no None = refl
   no (Some m) = refl
 
--- one kind more is met
+-- one more kind is met
 pub meets_on : (i : ℕ) (r s t : List Kind) (d m : Kind) → i < length r → length r ≡ length s
     → met_of_kinds (get_or r i d) (get_or s i d) ≡ Some m
     → met_onto (drop i r) (drop i s) t ≡ met_onto (drop (i + 1) (set r i m)) (drop (i + 1) s) (m ∷ t)

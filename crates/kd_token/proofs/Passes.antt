@@ -1,4 +1,4 @@
--- One step of the pass keeps what the pass keeps.
+-- One step of the pass preserves what the pass maintains.
 use Rattle.std.proofs.Common.{◌≡◌, ℕ, ◌+◌, ◌<◌, ◌≤◌, true, List, [], ◌∷◌, length, Option, Some, None, refl, sym, ap, subst, ◌∙◌, arith, inl, inr}
 use Rattle.std.specs.Prelude.{◌⊎◌, ◌==◌, slice_get, MatchOption}
 use Rattle.std.specs.List.{AllByRecursion}
@@ -18,7 +18,7 @@ use Rattle.kd_token.proofs.Arrivals.{covers_trans, spread_least, spread_keeps, s
 pub changed_there : (a : Assignment) (n : ℕ) (x : Option Point) → changed a n x n ≡ x
 changed_there a n x = let same : (n == n) ≡ true = eq-eqb n n refl in rw same refl
 
--- what holds of each flow of a row, where one fact gives the other
+-- what holds of each flow of a list, if one fact gives the other
 pub all_map : (P Q : Flow → Type 0) (o : Option (List Flow)) → ((f : Flow) → P f → Q f) → MatchOption o (Unit {0}) (AllByRecursion P) → MatchOption o (Unit {0}) (AllByRecursion Q)
 all_map P Q None h a = tt
 all_map P Q (Some fs) h a = each fs a where
@@ -44,7 +44,7 @@ each_covered j y (g ∷ gs) [] b a = absurd b
 each_covered j y (g ∷ gs) (f ∷ fs) b a =
     (λ e. covered_below y g.point f.point (a.0 (b.0.0 ∙ e)) b.0.1 b.0.2, each_covered j y gs fs b.1 a.1)
 
--- an assignment that is above a point where it leaves brings at least what the point brings
+-- an assignment that is above a point from which it leaves brings at least what the point brings
 above_covers : (names : ℕ) (t : Option Token) (i j : ℕ) (e : Entry) (x y z : Option Point) (fs : List Flow) → IsPoint e x → IsBelow e y → leaving names t i x ≡ Some fs → MatchOption (leaving names t i y) ⊥ (λ gs. Unit {0})
     → MatchOption (leaving names t i y) (Unit {0}) (AllByRecursion (λ f. f.to ≡ j → IsCovered z f.point)) → AllByRecursion (λ f. f.to ≡ j → IsCovered z f.point) fs
 above_covers names t i j Clash x y z fs is below at leaves arrive = absurd is
@@ -73,7 +73,7 @@ above_covers names (Some token) i j (Joined s c) x (Some y) z fs is below at lea
       by None l a d = absurd l
       by (Some gs) l a d = each_covered j z gs fs d a
 
--- an assignment that leaves a place leaves it somehow
+-- an assignment that leaves a place leaves it in some way
 some_leave : (P : List Flow → Type 0) (o : Option (List Flow)) → MatchOption o ⊥ P → MatchOption o ⊥ (λ gs. Unit {0})
 some_leave P None l = absurd l
 some_leave P (Some gs) l = tt
@@ -104,7 +104,8 @@ entered_on p n entries x k is = record { start = begins; enter = λ i. enters i 
       let given : x ≡ Some origin = subst Q (k.first e) (subst P e is) in
       there ∙ given
 
--- the assignment goes on to the point that has arrived, where its flows are within what is declared
+-- the assignment is extended by the point that has arrived, if its flows are within what is
+-- declared
 pub sound_on : (p : Code) (n : ℕ) (entries : ℕ → Entry) (x : Option Point) (fs : List Flow) (k : IsPassed p n entries) → IsPoint (entries n) x → leaving (length p.names) (slice_get p.tokens n) n x ≡ Some fs → AllByRecursion (IsWithin p) fs → AreSound p (changed k.some n x) (n + 1)
 sound_on p n entries x fs k is at within = sound where
   some : Assignment
@@ -133,7 +134,7 @@ sound_on p n entries x fs k is at within = sound where
   sound : AreSound p some (n + 1)
   sound j less = sound_by j less (cases_lt j n)
 
--- the pass goes on where the flows of the point that has arrived are within what is declared
+-- the pass goes on if the flows of the point that has arrived are within what is declared
 pub passed_on : (p : Code) (n : ℕ) (entries : ℕ → Entry) (x : Option Point) (fs : List Flow) → IsPassed p n entries → IsPoint (entries n) x → leaving (length p.names) (slice_get p.tokens n) n x ≡ Some fs → AllByRecursion (IsWithin p) fs → IsPassed p (n + 1) (spread fs entries)
 passed_on p n entries x fs k is at within = record {
   least = least;
@@ -172,7 +173,7 @@ passed_on p n entries x fs k is at within = record {
       let so_far : IsBelow (entries j) (a j) = k.least a earlier j (omega (arith, le)) start (λ i less. arrive i (omega (arith, less))) in
       spread_least fs entries j (a j) so_far (above_covers (length p.names) (slice_get p.tokens n) n j (entries n) x (a n) (a j) fs is below at (some_leave (AllByRecursion (IsWithin p)) (out p a n) here.leave) (arrive n (omega arith)))
 
--- the pass begins with the origin alone
+-- the pass begins with only the origin
 pub passed_none : (p : Code) (entries : ℕ → Entry) → entries 0 ≡ Joined [] 0 → ((j : ℕ) → 0 < j → entries j ≡ Unreached) → IsPassed p 0 entries
 passed_none p entries zero_is others = record {
   least = least;

@@ -13,7 +13,7 @@ use Rattle.kd_wire.specs.Steps.{◌>>=◌}
 use Rattle.kd_token.specs.Shape.{gives, bool_taken}
 use Rattle.kd_token.specs.Accepts.{Point, Flow, Assignment, flow_to, way_of, flows_by, leaving, out, IsCovered, IsWithin, IsSoundAt, AreSound}
 
--- each flow goes beyond this place
+-- every flow goes beyond this place
 abbrev AreBeyond : ℕ → List Flow → Type 0
 AreBeyond i fs = AllByRecursion (λ f. i < f.to) fs
 
@@ -38,7 +38,7 @@ leaving_beyond names t i None = tt
 leaving_beyond names None i (Some q) = tt
 leaving_beyond names (Some token) i (Some q) = beyond_by (way_of token) names token i q
 
--- so nothing arrives from a place that is not before
+-- so nothing arrives from a place that is not before it
 pub none_back : (P : Point → Type 0) (j i : ℕ) (o : Option (List Flow)) → j ≤ i → MatchOption o (Unit {0}) (AreBeyond i) → MatchOption o (Unit {0}) (AllByRecursion (λ f. f.to ≡ j → P f.point))
 none_back P j i None le b = tt
 none_back P j i (Some fs) le b = each fs b where

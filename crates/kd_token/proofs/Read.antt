@@ -1,4 +1,4 @@
--- What a file's bytes are read as, and which fault comes where they are no file.
+-- What a file's bytes are read as, and which fault comes if they are not a file.
 use Rattle.std.proofs.Common.{◌≡◌, ℕ, ◌+◌, ◌<◌, ◌≤◌, Bool, true, false, List, [], ◌∷◌, ◌++◌, length, Some, None, Result, Ok, Err, refl, sym, ap, subst, ◌∙◌, append_assoc, length-append, arith, inl, inr}
 use Rattle.std.specs.Prelude.{◌⊎◌, ◌==◌, not, nat_lt, take, drop, MatchResult, IfErr}
 use Rattle.std.specs.List.{flat_map}
@@ -18,7 +18,7 @@ use Rattle.kd_token.proofs.Again.{magic_again, number_again, program_again}
 use Rattle.kd_token.proofs.Told.{past, spelled_both, bytes_front, bytes_after, Read, Stop, IsAt, Tells}
 use Rattle.kd_token.proofs.Fields.{fields_told}
 
--- a fault where something is read is want of memory
+-- if something can be read, the only fault is out of memory
 only_memory : (fault : FileFault) (p : Code) → IsReadFault fault (Ok p) → fault ≡ faults.Memory
 only_memory faults.Memory p e = refl
 only_memory faults.Magic p e = absurd cc
@@ -32,7 +32,7 @@ only_memory faults.Limit p e = absurd cc
 same : (r : Result Code FileFault) (p q : Code) → r ≡ Ok p → r ≡ Ok q → p ≡ q
 same r p q e f = cc
 
--- a program whose file the bytes are is what is read
+-- if the bytes are a program's file, that program is what is read
 pub is_only : (bytes : List ℕ) (r : Result Code FileFault) → ReaderGives (λ p. p) r (program_at bytes) → (p : Code) → IsFileOf bytes p → MatchResult r (λ found. found ≡ p) (λ fault. fault ≡ faults.Memory)
 is_only bytes (Ok q) gives p is = same (program_at bytes) q p gives (ap program_at is.spelled ∙ program_again p is.limits)
 is_only bytes (Err fault) gives p is =
@@ -45,7 +45,7 @@ err_same r f g d e = cc
 no_both : (r : Result Code FileFault) (p : Code) (f : FileFault) → r ≡ Ok p → r ≡ Err f → ⊥
 no_both r p f d e = cc
 
--- bytes with which the reading fails, whatever stands after them, begin no file
+-- bytes on which reading fails, whatever follows them, begin no file
 begins_none : (bytes : List ℕ) (f : FileFault) → ((more : List ℕ) → program_at (bytes ++ more) ≡ Err f) → BeginsNone bytes
 begins_none bytes f fails p more is = no_both (program_at (bytes ++ more)) p f (ap program_at is.spelled ∙ program_again p is.limits) (fails more)
 
@@ -92,7 +92,7 @@ parts_spelled p =
     let front : List ℕ → List ℕ = λ b. bytes_of_parts (magic ∷ part_with (λ at. faults.Version) (version_number p.version ∷ []) ∷ part_with (λ at. faults.Limit) (big_bytes 2 p.steps) ∷ part_with (λ at. faults.Limit) (p.depth ∷ []) ∷ part_with faults.Cut (big_bytes 2 p.bound) ∷ part_with (λ at. faults.Limit) (length p.names ∷ []) ∷ []) ++ b in
     ap front (spelled_both (flat_map name_parts p.names) tail ∙ ap (λ b. b ++ bytes_of_parts tail) names ∙ ap (λ b. flat_map name_bytes p.names ++ (big_bytes 2 (length p.tokens) ++ b)) list)
 
--- the magic number is wanting, or stands in front
+-- the magic number is missing, or comes first
 abbrev LacksMagic : List ℕ → Type 0
 LacksMagic bytes =
     (magic_at (rest bytes bytes) ≡ Err faults.Magic)
@@ -136,7 +136,7 @@ abbrev ended : Result (Code × Rest) FileFault → Result Code FileFault
 ended got =
     unless_faulty {A = Code × Rest} {B = Code} (unless_faulty {A = Code × Rest} {B = Code × Rest} got (λ p. unless_faulty {A = Unit {0} × Rest} {B = Code × Rest} (file_end p.1) (λ e. Ok (p.0, e.1)))) (λ x. Ok x.0)
 
--- the end, and what is left there
+-- the end, and what remains there
 end_empty : (w : List ℕ) → file_end (rest w []) ≡ Ok (tt, rest w [])
 unfolding file_end
 end_empty w = refl
@@ -268,7 +268,7 @@ first_fault bytes f h e = by (magic_known bytes h) where
       let late : AreBytes has.0 = bytes_after m has.0 (subst AreBytes has.1 h) in
       subst (λ b. IsFileFault b f) (sym has.1) (after_magic m refl magic_again has.0 f late (ap program_at (sym has.1) ∙ e))
 
--- a fault that is answered is the first one of the bytes, unless memory ran out
+-- a fault that is returned is the first one of the bytes, unless memory ran out
 pub is_first : (bytes : List ℕ) (r : Result Code FileFault) → AreBytes bytes → ReaderGives (λ p. p) r (program_at bytes) → IfErr r (λ fault. (fault ≡ faults.Memory) ⊎ IsFileFault bytes fault)
 is_first bytes (Ok q) h gives = tt
 is_first bytes (Err faults.Memory) h gives = inl refl

@@ -1,4 +1,5 @@
--- Each token of a program stands in it: its operands fit, and each way from it leads on, at most to the end.
+-- Every token of a program fits in it: its operands fit, and each flow from it leads on, at most to
+-- the end.
 use Rattle.std.proofs.Common.{ℕ, ◌+◌, ◌≤◌, List, [], ◌∷◌, length, Option, Some, None, arith}
 use Rattle.std.specs.Prelude.{MatchOption}
 use Rattle.std.specs.List.{AllByRecursion}
@@ -14,7 +15,7 @@ use Rattle.kd_token.specs.declared.way.Way.TheVariants as routes
 use Rattle.kd_token.proofs.Tidy.{is_token, reach_within}
 use Rattle.kd_wire.specs.Steps.{◌>>=◌}
 
--- flows lead on from place i, at most so far
+-- flows lead on from place i, at most this far
 abbrev LeadOn : ℕ → ℕ → Option (List Flow) → Type 0
 LeadOn i most o = MatchOption o (Unit {0}) (AllByRecursion (λ f. (i + 1 ≤ f.to) × (f.to ≤ most)))
 
@@ -33,7 +34,7 @@ lead_on (routes.Keep stays skip) names token i most q le = two (bool_taken q.sha
   two None = tt
   two (Some r) = ((omega arith, omega (arith, le)), ((omega arith, omega (arith, le)), tt))
 
--- each token of a program that has a file
+-- every token of a program that has a file
 pub tokens_stand : TokensStand
 tokens_stand p file i token there =
     let told = is_token p i token file there in

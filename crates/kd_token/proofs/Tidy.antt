@@ -45,7 +45,7 @@ met_room most (k ∷ r) (l ∷ s) a b = both (met_of_kinds k l) (met r s) (kind_
   both (Some m) None c d = tt
   both (Some m) (Some t) c d = (ap suc d.0, (c, d.1))
 
--- a flow has room, and brings at most so many steps
+-- a flow is within what is declared, and has at most n steps
 abbrev pub IsTidyFlow : Code → ℕ → Flow → Type 0
 IsTidyFlow p n f = IsRoomFor p f.point.shape × (f.point.count ≤ n)
 
@@ -71,7 +71,7 @@ tidy_more p n Unreached t = tt
 tidy_more p n Clash t = tt
 tidy_more p n (Joined s c) t = (t.0, omega (arith, t.1))
 
--- the flows of a point have one step more
+-- the flows of a point have one more step
 abbrev Counts : ℕ → List Flow → Type 0
 Counts c fs = AllByRecursion (λ f. f.point.count ≡ c) fs
 
@@ -99,7 +99,7 @@ flows_tidy p token i n q fs le is within =
       each [] w c = tt
       each (f ∷ fs) w c = ((w.0, omega (arith, c.0, le)), each fs w.1 c.1)
 
--- the first flow leads on, at most so far
+-- the first flow leads on, at most this far
 abbrev LeadsOn : ℕ → ℕ → List Flow → Type 0
 LeadsOn i most [] = ⊥
 LeadsOn i most (f ∷ fs) = (i < f.to) × (f.to ≤ most)
@@ -122,7 +122,7 @@ leads_by (routes.Keep stays skip) names token i q = two (bool_taken q.shape) whe
 covered_reached : (e : Entry) (q : Point) → IsCoveredBy e q → e ≡ Unreached → ⊥
 covered_reached e q c is = let P : Entry → Type 0 = λ f. IsCoveredBy f q in let none : ⊥ = subst P is c in none
 
--- where the flows of a token lead a place is reached
+-- a place to which the flows of a token lead is reached
 pub flows_reach : (names : ℕ) (token : Token) (i most : ℕ) (q : Point) (fs : List Flow) (entries : ℕ → Entry) → i + 1 + skip_of (way_of token) ≤ most → flows names token i q ≡ Some fs
     → (j : ℕ) × (i + 1 ≤ j) × (j ≤ most) × (spread fs entries j ≡ Unreached → ⊥)
 flows_reach names token i most q fs entries le is =
@@ -154,7 +154,7 @@ token_at version (token ∷ list) (suc i) d all less =
     let behind = rest.1 in
     (rest.0, omega (arith, behind), rest.2)
 
--- a token of a program has what its file can say, with so many tokens after it
+-- a token of a program is what its file can say, with the tokens after it
 pub is_token : (p : Code) (i : ℕ) (token : Token) → HasFile p → slice_get p.tokens i ≡ Some token → (behind : ℕ) × (i + 1 + behind ≡ length p.tokens) × IsToken p.version behind token
 is_token p i token file is =
     let less : i < length p.tokens = slice_get_within p.tokens i token is in

@@ -1,4 +1,4 @@
--- What readers take and refuse, told in the fields of a file.
+-- What readers take and refuse, in terms of the fields of a file.
 use Rattle.std.proofs.Common.{◌≡◌, ℕ, pos, zero, suc, ◌+◌, ◌*◌, ◌^◌, ◌%◌, ◌<◌, ◌≤◌, Bool, true, false, List, [], ◌∷◌, ◌++◌, length, Option, Some, None, Result, Ok, Err, refl, sym, ap, subst, ◌∙◌, append_assoc, length-append, arith, inl, inr}
 use Rattle.std.specs.Prelude.{◌⊎◌, nat_lt, take, drop, replicate, if◌then◌else◌}
 use Rattle.std.specs.List.{flat_map}
@@ -18,7 +18,7 @@ use Rattle.kd_token.specs.FirstFault.{Part, part_with, free, limited, bytes_of_p
 use Rattle.kd_token.proofs.Again.{number_again}
 use Rattle.kd_token.proofs.Numbers.{AreBytes, two_bytes, four_bytes, signed_back}
 
--- these bytes are left after those
+-- these bytes remain after those
 abbrev pub past : List ℕ → List ℕ → Rest
 past before left = rest (before ++ left) left
 
@@ -37,7 +37,7 @@ pub bytes_after : (a b : List ℕ) → AreBytes (a ++ b) → AreBytes b
 bytes_after [] b h = h
 bytes_after (x ∷ a) b h = bytes_after a b (λ j. h (suc j))
 
--- what is read is spelled by these fields, whatever stands after them
+-- what is read has these fields, whatever comes after them
 pub record Read {X : Type 0} (r : ReadStep X) (text : X → List Part) (Good : X → Type 0) (w left : List ℕ) (x : X × Rest) : Type 0 where
   pub good : Good x.0
   pub after : List ℕ
@@ -71,7 +71,7 @@ Tells r text Good w left (Err f) = Stop r text Good w left f
 abbrev pub Told : {X : Type 0} → ReadStep X → (X → List Part) → (X → Type 0) → Type 0
 Told r text Good = (w left : List ℕ) → AreBytes left → Tells r text Good w left (r (past w left))
 
--- what is so far read, and what is told of what comes next
+-- what was read so far, and what is known of what comes next
 abbrev pub Follows : {Y : Type 0} → (Y → List Part) → (Y → Type 0) → List Part → (Y → List Part) → Y → Type 0
 Follows tY GY front t2 y = (tY y ≡ front ++ t2 y) × GY y
 
@@ -180,7 +180,7 @@ tells_same f r text Good w left same (Err e) u = record {
   at (inl g) = inl g
   at (inr g) = inr (g.0, g.1, λ more. same (bytes_of_parts u.before ++ (take (length u.field.bytes) u.behind ++ more)) ∙ g.2 more)
 
--- told of more
+-- a weaker fact
 pub weaker : {X : Type 0} (r : ReadStep X) (text : X → List Part) (G H : X → Type 0) → ((x : X) → G x → H x) → Told r text G → Told r text H
 weaker {X} r text G H f told w left bytes = by (r (past w left)) (told w left bytes) where
   by : (got : Result (X × Rest) FileFault) → Tells r text G w left got → Tells r text H w left got
@@ -220,7 +220,7 @@ makes_told {X} {Y} view r t G tY GY one text good =
     (λ x g. gives_told (view x) (λ y. []) (Follows tY GY (t x) (λ y. [])) refl (text x g ∙ sym (append-nil (t x)), good x g))
     (λ x g. (view x, (text x g ∙ sym (append-nil (t x)), good x g)))
 
--- how a number is spelled
+-- the bytes of a number
 pub record IsForm (n : ℕ) (spell : ℕ → List ℕ) (Fits : ℕ → Type 0) : Type 0 where
   pub len : (x : ℕ) → length (spell x) ≡ n
   pub number : (x : ℕ) → Fits x → big_number n (spell x) ≡ x
@@ -413,7 +413,7 @@ limited_told n spell Fits form most =
 pub at_place : {Y : Type 0} (n : ℕ) (next : ℕ → ℕ → ReadStep Y) (w l : List ℕ) → (here >>= λ at. number_next n >>= λ x. next at x) (past w l) ≡ (number_next n >>= next (length w)) (past w l)
 at_place n next w l = ap (λ at. (number_next n >>= next at) (past w l)) (place_is w l)
 
--- so many items
+-- this many items
 abbrev pub Row : {X : Type 0} → (ℕ → X → Type 0) → ℕ → List X → Type 0
 Row Good zero l = l ≡ []
 Row {X} Good (suc n) l = (x : X) × (xs : List X) × (l ≡ x ∷ xs) × Good n x × Row Good n xs

@@ -1,4 +1,4 @@
--- One place of the table is visited: what the table keeps holds at the next place.
+-- One place of the table is visited: what the table maintains holds at the next place.
 use Rattle.std.proofs.Common.{◌≡◌, ℕ, zero, suc, ◌++◌, ◌+◌, ◌<◌, ◌≤◌, Bool, true, false, List, [], ◌∷◌, length, Option, Some, None, refl, sym, ap, subst, ◌∙◌, arith, inl, inr}
 use Rattle.std.specs.Prelude.{◌⊎◌, ◌==◌, if◌then◌else◌, slice_get, get_or, Result, Ok, Err, MatchOption, MatchResult}
 use Rattle.std.specs.List.{AllByRecursion}
@@ -20,7 +20,7 @@ use Rattle.kd_token.proofs.Passes.{all_map, changed_there, passed_none, passed_o
 use Rattle.kd_token.proofs.Ends.{above_here, clash_fault, leave_fault}
 use Rattle.kd_token.proofs.Tidy.{spread_tidy, tidy_more, flows_tidy, flows_reach, reach_within}
 
--- flows arrive at a place by what is there alone
+-- what flows bring to a place depends only on what is there
 spread_same : (fs : List Flow) (e g : ℕ → Entry) (j : ℕ) → e j ≡ g j → spread fs e j ≡ spread fs g j
 spread_same [] e g j is = is
 spread_same (f ∷ fs) e g j is = spread_same fs (λ k. if k == f.to then arrived f.point (e k) else e k) (λ k. if k == f.to then arrived f.point (g k) else g k) j (by_test (j == f.to)) where
@@ -28,7 +28,7 @@ spread_same (f ∷ fs) e g j is = spread_same fs (λ k. if k == f.to then arrive
   by_test true = ap (arrived f.point) is
   by_test false = is
 
--- the pass looks at the places ahead alone
+-- the pass looks only at the places from there on
 passed_same : (p : Code) (n : ℕ) (e g : ℕ → Entry) → IsPassed p n e → ((j : ℕ) → n ≤ j → e j ≡ g j) → IsPassed p n g
 passed_same p n e g k same = record {
   least = λ a s j le start arrive. let P : Entry → Type 0 = λ f. IsBelow f (a j) in subst P (same j le) (k.least a s j le start arrive);
@@ -38,7 +38,7 @@ passed_same p n e g k same = record {
   first = λ z. let le : n ≤ 0 = omega (arith, z) in sym (same 0 le) ∙ k.first z;
 }
 
--- a place that no way reaches is visited
+-- a place that no path reaches is visited
 pub visited_none : (p : Code) (n : ℕ) (t u : List Entry) → IsAt p n t → entry_at t n ≡ Unreached → length u ≡ length t → ((j : ℕ) → n + 1 ≤ j → entry_at u j ≡ entry_at t j) → IsAt p (n + 1) u
 visited_none p n t u at is size same = record {
   size = size ∙ at.size;
@@ -106,11 +106,11 @@ pub refused : (p : Code) (n : ℕ) (s : List Kind) (c : ℕ) (token : Token) (t 
     → place_of fault ≡ Some n → MatchOption (flows (length p.names) token n (point s c)) (Unit {0}) (λ fs. AllByRecursion (IsWithin p) fs → ⊥) → IsVerifyFault p fault
 refused p n s c token t fault at is there le place not = placed p n fault place (leave_fault p n (entry_at t) s c token at.passed le is there not)
 
--- ways that bring different shapes
+-- paths that bring different shapes
 pub clashed : (p : Code) (n : ℕ) (t : List Entry) → IsAt p n t → entry_at t n ≡ Clash → n ≤ length p.tokens → IsFaultAt p n
 clashed p n t at is le = clash_fault p n (entry_at t) at.passed le is
 
--- the table of the origin alone
+-- the table with only the origin
 pub begins : (p : Code) (t : List Entry) → length t ≡ length p.tokens + 1 → entry_at t 0 ≡ Joined [] 0 → ((j : ℕ) → 0 < j → entry_at t j ≡ Unreached) → IsAt p 0 t
 begins p t size zero_is others = record {
   size = size;
@@ -187,7 +187,7 @@ entry_is [] i e less is = absurd (omega (arith, less))
 entry_is (x ∷ t) zero e less is = sym is
 entry_is (x ∷ t) (suc i) e less is = entry_is t i e (omega (arith, less)) is
 
--- a visit, by what passing its token answers
+-- a visit, by the result of passing its token
 pub visited_by : {A : Type 0} (p : Code) (n : ℕ) (s : List Kind) (c : ℕ) (token : Token) (t v u : List Entry) (r : Result A VerifyFault) → HasFile p → IsAt p n t → entry_at t n ≡ Joined s c → slice_get p.tokens n ≡ Some token → n ≤ length p.tokens → length u ≡ length t
     → ((j : ℕ) → n + 1 ≤ j → entry_at v j ≡ entry_at t j)
     → MatchResult r (λ _. MatchOption (flows (length p.names) token n (point s c)) ⊥ (λ fs. AllByRecursion (IsWithin p) fs × ((j : ℕ) → entry_at u j ≡ spread fs (entry_at v) j)))

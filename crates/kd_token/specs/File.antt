@@ -1,5 +1,5 @@
--- Token files (our own format): a program, and the bytes that spell it, field by field, all numbers
--- in network order.
+-- Token files (our own format): a program and the bytes of its file, field by field, with all
+-- numbers in network byte order.
 use Rattle.std.specs.Prelude.{◌≡◌, ℕ, ℤ, ◌^◌, ◌<◌, ◌≤◌, List, [], ◌∷◌, ◌++◌, length, Option, Some, None}
 use Rattle.std.specs.Int.{w32, cast_unsigned}
 use Rattle.std.specs.Int.RustNames.{FitsSigned}
@@ -11,7 +11,7 @@ use Rattle.kd_token.specs.declared.token.Version.{Version}
 use Rattle.kd_token.specs.declared.token.Version.TheVariants as versions
 use Rattle.kd_wire.specs.Field.{field_number}
 
--- what contracts see of a program; its bound is the declared greatest length of a value
+-- what contracts see of a program; `bound` is the declared greatest length of a value
 pub record Code : Type 0 where
   pub version : Version
   pub steps : ℕ
@@ -36,7 +36,7 @@ abbrev pub version_number : Version → ℕ
 version_number versions.One = 1
 version_number versions.Two = 2
 
--- a byte string after its length of two bytes
+-- a byte string after its 2-byte length
 abbrev pub long_bytes : List ℕ → List ℕ
 long_bytes bytes = big_bytes 2 (length bytes) ++ bytes
 
@@ -80,18 +80,18 @@ token_bytes (tokens.BranchTrueElsePop skip) = 0x23 ∷ big_bytes 2 skip
 abbrev pub name_bytes : List ℕ → List ℕ
 name_bytes name = length name ∷ name
 
--- what stands before the names: the magic number K4TK, the version, the declared steps, depth and
+-- what comes before the names: the magic number K4TK, the version, the declared steps, depth and
 -- length
 abbrev pub head_bytes : Version → ℕ → ℕ → ℕ → List ℕ
 head_bytes version steps depth bound =
     big_bytes 4 0x4b34544b ++ version_number version ∷ [] ++ big_bytes 2 steps ++ depth ∷ []
     ++ big_bytes 2 bound
 
--- the names after their number
+-- the number of names, and then the names
 abbrev pub names_bytes : List (List ℕ) → List ℕ
 names_bytes names = length names ∷ flat_map name_bytes names
 
--- the tokens after their number
+-- the number of tokens, and then the tokens
 abbrev pub tokens_bytes : List Token → List ℕ
 tokens_bytes tokens = big_bytes 2 (length tokens) ++ flat_map token_bytes tokens
 
@@ -104,22 +104,22 @@ file_bytes p =
 abbrev pub IsName : List ℕ → Type 0
 IsName name = (1 ≤ length name) × (length name ≤ 255)
 
--- a substring's number of bytes is there and fits four bytes, or all are meant
+-- a substring's number of bytes fits in four bytes, or all bytes are meant
 abbrev pub IsCount : Option ℤ → Type 0
 IsCount (Some count) = FitsSigned w32 count
 IsCount None = Unit {0}
 
--- a branch skips at most the tokens after it; version 1 has none
+-- a branch skips no more tokens than come after it; version 1 has no branches
 abbrev pub IsBranch : Version → ℕ → ℕ → Type 0
 IsBranch versions.One behind skip = ⊥
 IsBranch versions.Two behind skip = skip ≤ behind
 
--- a byte string has a length of two bytes
+-- a byte string has a 2-byte length
 abbrev pub IsShort : Token → Type 0
 IsShort (tokens.PushBytes bytes) = length bytes < 2 ^ 16
 IsShort token = Unit {0}
 
--- what a file of this version can say of a token with so many tokens after it: its operands fit
+-- what a file of this version can say of a token with `behind` tokens after it: its operands fit
 -- their bytes
 abbrev pub IsToken : Version → ℕ → Token → Type 0
 IsToken version behind (tokens.PushBytes bytes) = length bytes < 2 ^ 16
@@ -131,7 +131,7 @@ IsToken version behind (tokens.BranchFalseElsePop skip) = IsBranch version behin
 IsToken version behind (tokens.BranchTrueElsePop skip) = IsBranch version behind skip
 IsToken version behind token = Unit {0}
 
--- the same of each token in a row
+-- the same for each token of a list
 abbrev pub AreTokens : Version → List Token → Type 0
 AreTokens version [] = Unit {0}
 AreTokens version (token ∷ tokens) =

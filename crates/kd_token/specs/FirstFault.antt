@@ -1,6 +1,6 @@
--- Which fault bytes have that are no token file, and where. A file is a row of fields. The bytes
--- before the place of a fault are the first fields of a file; with the next field they are those of
--- none.
+-- Which fault bytes have that are not a token file, and where. A file is a list of fields. The
+-- bytes before the place of a fault are the first fields of a file; together with the next field
+-- they begin no file.
 use Rattle.std.specs.Prelude.{◌≡◌, ◌⊎◌, ◌<◌, ◌≤◌, ◌+◌, ℕ, ℤ, List, [], ◌∷◌, ◌++◌, length, take, Option, Some, None}
 use Rattle.std.specs.List.{flat_map}
 use Rattle.byteorder.specs.Endian.{big_bytes}
@@ -11,14 +11,14 @@ use Rattle.kd_token.specs.declared.token.Token.TheVariants as tokens
 use Rattle.kd_token.specs.File.{Code, HasFile, IsFileOf, signed_bytes, token_bytes, version_number}
 use Rattle.kd_wire.specs.Field.{field_number}
 
--- a field of a file: its bytes, the fault where the file ends within it, and the fault where bytes
--- stand there that no file has; each by the place of its first byte
+-- a field of a file: its bytes, the fault if the file ends within it, and the fault if it has bytes
+-- that no file has there; both faults depend on the place of its first byte
 pub record Part : Type 0 where
   pub bytes : List ℕ
   pub cut : ℕ → FileFault
   pub wrong : ℕ → FileFault
 
--- these bytes, with this fault where others stand there
+-- a field with these bytes, and with this fault if others are there
 abbrev pub part_with : (ℕ → FileFault) → List ℕ → Part
 part_with wrong bytes = record { bytes = bytes; cut = faults.Cut; wrong = wrong }
 
@@ -30,11 +30,11 @@ free bytes = part_with faults.Cut bytes
 abbrev pub limited : List ℕ → Part
 limited bytes = part_with (λ at. faults.Limit) bytes
 
--- an operand that not all bytes can be
+-- an operand that cannot be all bytes
 abbrev pub operand : List ℕ → Part
 operand bytes = part_with faults.Operand bytes
 
--- the magic number; where the file ends within it, it is wanting too
+-- the magic number; if the file ends within it, the fault is also that of a wrong one
 abbrev pub magic : Part
 magic = record {
   bytes = big_bytes 4 0x4b34544b;
@@ -88,7 +88,7 @@ parts p = magic ∷ later_parts p
 abbrev pub bytes_of_parts : List Part → List ℕ
 bytes_of_parts row = flat_map (λ one. one.bytes) row
 
--- the bytes before a place are the first fields of a file, in which this field comes next
+-- the bytes before a place are the first fields of a file in which this field comes next
 pub record ComesNext (bytes : List ℕ) (at : ℕ) (next : Part) : Type 0 where
   pub file : Code
   pub limits : HasFile file
@@ -108,19 +108,19 @@ IsCutFault bytes fault =
     (at : ℕ) × (next : Part) × ComesNext bytes at next × (length bytes < at + length next.bytes)
     × (fault ≡ next.cut at)
 
--- the field that comes next has bytes with which no file goes on
+-- the field that comes next has bytes with which no file continues
 abbrev pub IsWrongFault : List ℕ → FileFault → Type 0
 IsWrongFault bytes fault =
     (at : ℕ) × (next : Part) × ComesNext bytes at next × (at + length next.bytes ≤ length bytes)
     × BeginsNone (take (at + length next.bytes) bytes) × (fault ≡ next.wrong at)
 
--- bytes stand after a file
+-- bytes follow a file
 abbrev pub IsRestFault : List ℕ → FileFault → Type 0
 IsRestFault bytes fault =
     (at : ℕ) × (p : Code) × IsFileOf (take at bytes) p × (at < length bytes)
     × (fault ≡ faults.Rest at)
 
--- the first fault of bytes that are no file
+-- the first fault of bytes that are not a file
 abbrev pub IsFileFault : List ℕ → FileFault → Type 0
 IsFileFault bytes fault =
     IsCutFault bytes fault ⊎ (IsWrongFault bytes fault ⊎ IsRestFault bytes fault)

@@ -1,4 +1,4 @@
--- The least shape that covers two shapes, where ways meet.
+-- The least shape that covers two shapes, for places where paths meet.
 use Rattle.std.specs.Prelude.{max, List, [], ◌∷◌, Option, Some, None}
 use Rattle.kd_token.specs.declared.shape.Kind.{Kind}
 use Rattle.kd_token.specs.declared.shape.Kind.TheVariants as kinds

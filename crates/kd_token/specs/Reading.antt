@@ -1,6 +1,6 @@
--- Token files read from left to right, computed: the fields one after another, and beside each
--- field the fault that comes where it is not as it must be. The first fault ends the reading. Proofs
--- tie these functions to the definition of a file and of its first fault; no public contract cites
+-- Token files read from left to right, computed: the fields one after another, with the fault of
+-- each field if it is not as it must be. The first fault ends the reading. Proofs tie these
+-- functions to the definition of a file and of its first fault; no public contract cites them.
 -- them.
 use Rattle.std.specs.Prelude.{◌≡◌, ◌≤◌, ◌-◌, ℕ, ℤ, zero, suc, nat_lt, not, Bool, List, [], ◌∷◌, length, take, drop, Option, Some, None, Result, Ok, Err, if◌then◌else◌, ◌==◌}
 use Rattle.std.specs.Int.{w32, cast_signed}
@@ -15,27 +15,27 @@ use Rattle.kd_token.specs.declared.token.Version.{Version}
 use Rattle.kd_token.specs.declared.token.Version.TheVariants as versions
 use Rattle.kd_token.specs.File.{Code, code}
 
--- the very fault that comes, or want of memory, which may come at any file
+-- exactly the fault that comes, or out of memory, which may come for any file
 abbrev pub IsReadFault : {A : Type 0} → FileFault → Result A FileFault → Type 0
 IsReadFault faults.Memory read = Unit {0}
 IsReadFault fault read = read ≡ Err fault
 
--- what a function answered, seen so, is what is read, or it is the fault that comes; or memory ran
--- out
+-- what a function returned, as it is seen, is what is read, or it is the fault that comes, or
+-- memory ran out
 abbrev pub ReaderGives : {X A : Type 0} → (X → A) → Result X FileFault → Result A FileFault → Type 0
 ReaderGives view (Ok x) read = read ≡ Ok (view x)
 ReaderGives view (Err fault) read = IsReadFault fault read
 
--- a file that is read in part: the whole, and what is left of it
+-- a file that is partly read: the whole, and the remaining bytes
 pub record Rest : Type 0 where
   pub whole : List ℕ
   pub left : List ℕ
 
--- these bytes are left of the whole
+-- these bytes remain of the whole
 abbrev pub rest : List ℕ → List ℕ → Rest
 rest whole left = record { whole = whole; left = left }
 
--- the bytes left are the last of the whole
+-- the remaining bytes are the last of the whole
 pub record IsRest (r : Rest) : Type 0 where
   pub within : length r.left ≤ length r.whole
   pub last : drop (length r.whole - length r.left) r.whole ≡ r.left
@@ -44,26 +44,26 @@ pub record IsRest (r : Rest) : Type 0 where
 abbrev pub place_in : Rest → ℕ
 place_in r = length r.whole - length r.left
 
--- what is read from a place on, and what is left after it, or the first fault
+-- what is read from a place on, and what remains after it, or the first fault
 abbrev pub ReadStep : Type 0 → Type 0
 ReadStep X = Rest → Result (X × Rest) FileFault
 
--- where nothing is wrong, go on
+-- goes on if nothing is wrong
 abbrev pub unless_faulty : {A B : Type 0} → Result A FileFault → (A → Result B FileFault)
     → Result B FileFault
 unless_faulty (Ok x) next = next x
 unless_faulty (Err fault) next = Err fault
 
 infixl 10 ◌>>=◌
--- this, and after it the next
+-- one step, and then the next
 abbrev pub ◌>>=◌ : {X Y : Type 0} → ReadStep X → (X → ReadStep Y) → ReadStep Y
 (field >>= next) r = unless_faulty (field r) (λ x. next x.0 x.1)
 
--- this, with no byte
+-- this value, without reading a byte
 abbrev pub already : {X : Type 0} → X → ReadStep X
 already x r = Ok (x, r)
 
--- this of what is read
+-- a value made from what is read
 abbrev pub makes : {X Y : Type 0} → (X → Y) → ReadStep X → ReadStep Y
 makes view field r = unless_faulty (field r) (λ x. Ok (view x.0, x.1))
 
@@ -71,41 +71,41 @@ makes view field r = unless_faulty (field r) (λ x. Ok (view x.0, x.1))
 abbrev pub here : ReadStep ℕ
 here r = Ok (place_in r, r)
 
--- how many bytes are left
+-- how many bytes remain
 abbrev pub bytes_left : ReadStep ℕ
 bytes_left r = Ok (length r.left, r)
 
--- this fault, where something is wrong
+-- this fault if something is wrong
 abbrev pub fault_where : Bool → FileFault → ReadStep (Unit {0})
 fault_where wrong fault r = if wrong then Err fault else Ok (tt, r)
 
--- what is known, or else this fault
+-- a known value, or otherwise this fault
 abbrev pub known_or : {X : Type 0} → FileFault → Option X → ReadStep X
 known_or fault (Some x) r = Ok (x, r)
 known_or fault None r = Err fault
 
--- the next n bytes, a field
+-- the next n bytes as a field
 abbrev pub bytes_next : ℕ → ReadStep (List ℕ)
 bytes_next n r =
     if nat_lt (length r.left) n then Err (faults.Cut (place_in r))
     else Ok (take n r.left, rest r.whole (drop n r.left))
 
--- a number of n bytes
+-- an n-byte number
 abbrev pub number_next : ℕ → ReadStep ℕ
 number_next n = makes (big_number n) (bytes_next n)
 
--- a number of n bytes that is at most this
+-- an n-byte number that is at most `most`
 unfoldable pub limited_at : ℕ → ℕ → ReadStep ℕ
 limited_at n most = do
   number ← number_next n
   _ ← fault_where (nat_lt most number) faults.Limit
   already number
 
--- a signed number of four bytes
+-- a signed 4-byte number
 abbrev pub signed_at : ReadStep ℤ
 signed_at = makes (cast_signed w32) (number_next 4)
 
--- so many items, each read with so many after it
+-- a number of items, each read with the number of items after it
 unfoldable pub many_at : {X : Type 0} → (ℕ → ReadStep X) → ℕ → ReadStep (List X)
 many_at item zero = already []
 many_at item (suc n) = do
@@ -113,7 +113,7 @@ many_at item (suc n) = do
   others ← many_at item n
   already (first ∷ others)
 
--- the magic number; where the file ends within it, it is wanting too
+-- the magic number; if the file ends within it, the fault is also Magic
 unfoldable pub magic_at : ReadStep (Unit {0})
 magic_at = do
   left ← bytes_left
@@ -140,23 +140,23 @@ name_at = do
   _ ← fault_where (size == 0) (faults.Operand at)
   bytes_next size
 
--- so many names
+-- `count` names
 abbrev pub names_at : ℕ → ReadStep (List (List ℕ))
 names_at count = many_at (λ behind. name_at) count
 
--- the names after their number
+-- the number of names, and then the names
 unfoldable pub all_names_at : ReadStep (List (List ℕ))
 all_names_at = do
   count ← limited_at 1 64
   names_at count
 
--- a byte string after its length of two bytes
+-- a byte string after its 2-byte length
 unfoldable pub long_at : ReadStep (List ℕ)
 long_at = do
   size ← number_next 2
   bytes_next size
 
--- the field of a number
+-- the field with a number
 unfoldable pub field_numbered : ℕ → Option Field
 field_numbered number =
     if number == 0 then Some fields.Mac
@@ -178,7 +178,7 @@ field_at = do
   number ← number_next 1
   known_or (faults.Operand at) (field_numbered number)
 
--- how many bytes a substring has: after a mode of 0 a number, after a mode of 1 all
+-- how many bytes a substring has: a number after a mode of 0, all after a mode of 1
 unfoldable pub count_after : ℕ → ℕ → ReadStep (Option ℤ)
 count_after at mode r =
     if mode == 1 then Ok (None, r)
@@ -199,7 +199,7 @@ substring_at = do
   count ← count_at
   already (tokens.Substring start count)
 
--- how many tokens a branch skips, at most so many
+-- how many tokens a branch skips, at most `behind`
 unfoldable pub branch_at : ℕ → ReadStep ℕ
 branch_at behind = do
   at ← here
@@ -207,12 +207,12 @@ branch_at behind = do
   _ ← fault_where (nat_lt behind skip) (faults.Operand at)
   already skip
 
--- the same, where the version has branches; else there is no such opcode
+-- the same if the version has branches; otherwise there is no such opcode
 abbrev pub skip_at : Version → ℕ → ℕ → ReadStep ℕ
 skip_at versions.One behind opcode_at r = Err (faults.Opcode opcode_at)
 skip_at versions.Two behind opcode_at r = branch_at behind r
 
--- the token without operands of an opcode
+-- the token of an opcode without operands
 unfoldable pub plain_token : ℕ → Option Token
 plain_token opcode =
     if opcode == 0x09 then Some tokens.Equal
@@ -228,7 +228,7 @@ plain_token opcode =
     else if opcode == 0x14 then Some tokens.IntBytes
     else None
 
--- the operands of an opcode that stands at a place, and so its token, with so many tokens after it
+-- the operands of an opcode at a place, and so its token, with `behind` tokens after it
 unfoldable pub operands_at : Version → ℕ → ℕ → ℕ → ReadStep Token
 operands_at version behind opcode at r =
     if opcode == 0x01 then makes tokens.PushBytes long_at r
@@ -246,18 +246,18 @@ operands_at version behind opcode at r =
     else if opcode == 0x23 then makes tokens.BranchTrueElsePop (skip_at version behind at) r
     else known_or (faults.Opcode at) (plain_token opcode) r
 
--- a token, with so many tokens after it
+-- a token with `behind` tokens after it
 unfoldable pub token_at : Version → ℕ → ReadStep Token
 token_at version behind = do
   at ← here
   opcode ← number_next 1
   operands_at version behind opcode at
 
--- so many tokens
+-- `count` tokens
 abbrev pub tokens_at : Version → ℕ → ReadStep (List Token)
 tokens_at version count = many_at (token_at version) count
 
--- the tokens after their number
+-- the number of tokens, and then the tokens
 unfoldable pub all_tokens_at : Version → ReadStep (List Token)
 all_tokens_at version = do
   count ← limited_at 2 1024

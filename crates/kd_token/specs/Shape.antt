@@ -1,5 +1,5 @@
 -- Shapes of a stack (our own format): a kind for each value, the top first; which shape covers
--- another, and what a token makes of a shape.
+-- another, and how a token changes a shape.
 use Rattle.std.specs.Prelude.{ℕ, ℤ, ◌+◌, ◌-◌, ◌*◌, ◌≤◌, min, max, nat_lt, List, [], ◌∷◌, length, Option, Some, None, if◌then◌else◌, ◌==◌}
 use Rattle.std.specs.Int.RustNames.{unsigned_abs}
 use Rattle.kd_token.specs.declared.shape.Kind.{Kind}
@@ -10,7 +10,7 @@ use Rattle.kd_token.specs.declared.token.Token.{Token}
 use Rattle.kd_token.specs.declared.token.Token.TheVariants as tokens
 use Rattle.kd_wire.specs.Steps.{◌>>=◌}
 
--- a kind covers another: it is the same, and no length is less
+-- a kind covers another: it is the same kind, and its length is no less
 abbrev pub CoversKind : Kind → Kind → Type 0
 CoversKind kinds.Bool kinds.Bool = Unit {0}
 CoversKind kinds.Int kinds.Int = Unit {0}
@@ -22,7 +22,7 @@ CoversKind kinds.Int (kinds.Bytes n) = ⊥
 CoversKind (kinds.Bytes most) kinds.Bool = ⊥
 CoversKind (kinds.Bytes most) kinds.Int = ⊥
 
--- a shape covers another: kind by kind, and neither has more
+-- a shape covers another kind by kind, and they have the same number of values
 abbrev pub Covers : List Kind → List Kind → Type 0
 Covers [] [] = Unit {0}
 Covers [] (k ∷ s) = ⊥
@@ -74,18 +74,18 @@ field_kind fields.MessageType = kinds.Int
 field_kind fields.Transaction = kinds.Int
 field_kind fields.Length = kinds.Int
 
--- how long a substring of at most n bytes is
+-- the greatest length of a substring of at most n bytes
 abbrev pub bound_of_substring : ℕ → Option ℤ → ℕ
 bound_of_substring n None = n
 bound_of_substring n (Some count) = min n (unsigned_abs count)
 
--- how long the hexadecimal text of at most n bytes is, with separators of at most m bytes between
--- them
+-- the greatest length of the hexadecimal text of at most n bytes, with separators of at most m
+-- bytes between them
 abbrev pub bound_of_hex : ℕ → ℕ → ℕ
 bound_of_hex n m = if n == 0 then 0 else 2 * n + (n - 1) * m
 
--- what a token that goes on makes of a shape, where it can take what it wants; `names` is how many
--- names the program has. A branch does not go on: what it leaves is its flows' (`flows_by`)
+-- what a token that goes on makes of a shape, if it can take what it needs; `names` is the number
+-- of names in the program. For branches see their flows (`flows_by`)
 unfoldable pub gives : ℕ → Token → List Kind → Option (List Kind)
 gives names (tokens.PushBytes bytes) s = Some (kinds.Bytes (length bytes) ∷ s)
 gives names (tokens.PushInt number) s = Some (kinds.Int ∷ s)

@@ -27,7 +27,7 @@ skip_of (routes.Skip skip) = skip
 skip_of (routes.Fork skip) = skip
 skip_of (routes.Keep stays skip) = skip
 
--- what a token gives is within what the program declares
+-- what a token leaves is within what the program declares
 abbrev pub IsRoomFor : Code → List Kind → Type 0
 IsRoomFor p s = (length s ≤ p.depth) × AreShort p.bound s
 
@@ -42,7 +42,7 @@ arrived q Unreached = Joined q.shape q.count
 arrived q Clash = Clash
 arrived q (Joined s c) = joined_by (met s q.shape) (max c q.count)
 
--- what has arrived at each place after these flows too
+-- what has arrived at each place after these flows as well
 abbrev pub spread : List Flow → (ℕ → Entry) → ℕ → Entry
 spread [] entries j = entries j
 spread (f ∷ fs) entries j =
@@ -54,20 +54,21 @@ IsBelow Unreached x = Unit {0}
 IsBelow Clash x = ⊥
 IsBelow (Joined s c) x = IsCovered x (record { shape = s; count = c })
 
--- a point is covered by an entry; a clash covers each
+-- a point is covered by an entry; a clash covers every point
 abbrev pub IsCoveredBy : Entry → Point → Type 0
 IsCoveredBy Unreached q = ⊥
 IsCoveredBy Clash q = Unit {0}
 IsCoveredBy (Joined s c) q = IsCovered (Some (record { shape = s; count = c })) q
 
--- each flow from before place n to place j satisfies this
+-- each flow from a place before n to place j satisfies this
 abbrev pub Arrives : Code → Assignment → ℕ → ℕ → (Point → Type 0) → Type 0
 Arrives p a n j P =
     (i : ℕ) → i < n → MatchOption (out p a i) (Unit {0})
     (AllByRecursion (λ f. f.to ≡ j → P f.point))
 
--- what the pass keeps at place n: every assignment that is sound before n is above what has
--- arrived; one is sound before n whose flows all arrived; at the first place the origin has arrived
+-- what the pass maintains at place n: every assignment that is sound before n is above what has
+-- arrived; some assignment is sound before n, and all its flows have arrived; at the first place
+-- the origin has arrived
 pub record IsPassed (p : Code) (n : ℕ) (entries : ℕ → Entry) : Type 0 where
   pub least : (a : Assignment) → AreSound p a n → (j : ℕ) → n ≤ j → (j ≡ 0 → a j ≡ Some origin)
       → Arrives p a n j (IsCovered (a j)) → IsBelow (entries j) (a j)
@@ -82,14 +83,14 @@ IsPoint Unreached x = x ≡ None
 IsPoint Clash x = ⊥
 IsPoint (Joined s c) x = x ≡ Some (record { shape = s; count = c })
 
--- an entry has room in what is declared, and brings at most so many steps
+-- an entry is within what is declared, and has at most n steps
 abbrev pub IsTidy : Code → ℕ → Entry → Type 0
 IsTidy p n Unreached = Unit {0}
 IsTidy p n Clash = Unit {0}
 IsTidy p n (Joined s c) = IsRoomFor p s × (c ≤ n)
 
--- what the table keeps at place n: the pass is there; the entries ahead are tidy; one of them is
--- reached
+-- what the table maintains at place n: the pass is there, the entries from there on are tidy, and
+-- one of them is reached
 pub record IsAt (p : Code) (n : ℕ) (table : List Entry) : Type 0 where
   pub size : length table ≡ length p.tokens + 1
   pub passed : IsPassed p n (entry_at table)

@@ -5,7 +5,7 @@ use std::alloc::{AllocError, AllocFailed};
 use std::fmt;
 use thiserror::Error;
 
-/// Why bytes are no token file: the first fault from left to right. Places are offsets from the
+/// Why bytes are not a token file: the first fault from left to right. Places are offsets from the
 /// file's first byte.
 #[derive(Clone, Copy, PartialEq, Eq, Error)]
 pub enum FileFault {
@@ -15,21 +15,22 @@ pub enum FileFault {
     /// The version byte is neither 1 nor 2.
     #[error("Version")]
     Version,
-    /// The file ends within a field; the offset of that field's first byte.
+    /// The file ends within a field; the number is the offset of that field's first byte.
     #[error("Cut {0}")]
     Cut(usize),
-    /// No token of the file's version has this opcode; its offset.
+    /// No token of the file's version has this opcode; the number is its offset.
     #[error("Opcode {0}")]
     Opcode(usize),
-    /// A name's length is 0, a field's number is above 9, a substring's mode above 1, or a branch
-    /// goes beyond the end of the program; the offset of the operand's first byte.
+    /// A name's length is 0, a field's number is above 9, a substring's mode is above 1, or a
+    /// branch goes beyond the end of the program; the number is the offset of the operand's first
+    /// byte.
     #[error("Operand {0}")]
     Operand(usize),
-    /// Bytes stand after the last token; the offset of the first.
+    /// Bytes follow the last token; the number is the offset of the first of them.
     #[error("Rest {0}")]
     Rest(usize),
     /// The declared steps, the declared depth, the number of names or the number of tokens is over
-    /// its limit: 1,024, 64, 64 and 1,024.
+    /// its limit: 1,024, 64, 64 or 1,024.
     #[error("Limit")]
     Limit,
     /// There is no memory for the program.
@@ -44,7 +45,7 @@ impl fmt::Debug for FileFault {
 }
 
 impl FileFault {
-    /// The fault's number: 30 to 36, or 91 for want of memory.
+    /// Returns the fault's number: 30 to 36, or 91 if out of memory.
     pub fn number(self) -> u8
         ensures { result ≡ file_fault_number self }
     {
@@ -85,25 +86,25 @@ impl<T: Drop> From<AllocFailed<T>> for FileFault {
 /// tokens from 0; the number of tokens itself is the end.
 #[derive(Clone, Copy, PartialEq, Eq, Error)]
 pub enum VerifyFault {
-    /// A token wants more values than the stack has.
+    /// A token needs more values than the stack has.
     #[error("Short {0}")]
     Short(usize),
-    /// A token wants a value of another kind, or two ways that meet there bring different shapes.
+    /// A token needs a value of another kind, or two paths that meet there bring different shapes.
     #[error("Kind {0}")]
     Kind(usize),
-    /// The stack is deeper than the declared depth after this token.
+    /// After this token the stack is deeper than the declared depth.
     #[error("Deep {0}")]
     Deep(usize),
-    /// A byte string may be longer than the declared length after this token.
+    /// After this token a byte string may be longer than the declared length.
     #[error("Long {0}")]
     Long(usize),
-    /// The longest way through the program has more steps than it declares.
+    /// The longest path through the program has more steps than it declares.
     #[error("Steps")]
     Steps,
     /// The program does not end with one truth value.
     #[error("Finish")]
     Finish,
-    /// A token names a name that the program does not have.
+    /// A token refers to a name that the program does not have.
     #[error("Name {0}")]
     Name(usize),
     /// There is no memory for the table of shapes.
@@ -118,7 +119,7 @@ impl fmt::Debug for VerifyFault {
 }
 
 impl VerifyFault {
-    /// The fault's number: 40 to 46, or 91 for want of memory.
+    /// Returns the fault's number: 40 to 46, or 91 if out of memory.
     pub fn number(self) -> u8
         ensures { result ≡ verify_fault_number self }
     {

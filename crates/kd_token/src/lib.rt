@@ -1,18 +1,18 @@
 //! Token files of class tests: the tokens, a program and its file, in both versions, and the
 //! verifier (our own format).
 //!
-//! What this layer promises to the one above: `Program::read` answers the program that a file's
-//! bytes spell, exactly where they spell one, and `Program::write` gives those bytes
-//! (`specs/File.antt`). A program has one spelling, and a file one program. Of other bytes it
-//! answers the first fault, at its place (`specs/FirstFault.antt`). `verify` accepts a
-//! program exactly where there is an assignment of shapes to its places that holds along each way
-//! through it (`specs/Shape.antt`, `specs/Accepts.antt`), and names the first place that no
-//! assignment can make sound.
+//! What this layer promises to the one above: `Program::read` returns the program of a file exactly
+//! if the bytes are the file of one, and `Program::write` returns these bytes (`specs/File.antt`).
+//! A program has one file, and a file one program. For other bytes `Program::read` returns the
+//! first fault with its place (`specs/FirstFault.antt`). Either may run out of memory. `verify`
+//! accepts a program exactly if some assignment of shapes to its places holds along every path
+//! through it (`specs/Shape.antt`, `specs/Accepts.antt`), and otherwise reports the first place
+//! that no assignment can make sound.
 //!
 //! `specs/Reading.antt` and `proofs/` tie the reader to the fields of a file (`proofs/Told.antt`,
-//! `proofs/Fields.antt`), and `specs/Table.antt` and `proofs/` the one pass of `verify` to
+//! `proofs/Fields.antt`). `specs/Table.antt` and `proofs/` tie the single pass of `verify` to
 //! assignments: one step of it (`proofs/Passes.antt`), one place of the table
-//! (`proofs/Visits.antt`), its end (`proofs/Ends.antt`).
+//! (`proofs/Visits.antt`), and its end (`proofs/Ends.antt`).
 #![tactic(auto)]
 
 mod fault;

@@ -14,8 +14,8 @@ use kd_wire::Bytes;
 use std::alloc::{AllocError, Global};
 use std::marker::Model;
 
-/// A program of tokens, within the limits of a token file: at most 1,024 declared steps and 1,024
-/// tokens, a declared depth of at most 64, and at most 64 names.
+/// A program of tokens within the limits of a token file: at most 1,024 declared steps, 1,024
+/// tokens and 64 names, and a declared depth of at most 64.
 #[derive(Drop)]
 pub struct Program {
     version: Version,
@@ -37,11 +37,12 @@ impl Model for Program {
 }
 
 impl Program {
-    /// The program of a token file. Takes memory for its names, its tokens and their byte strings.
+    /// Reads the program of a token file. Takes memory for its names, its tokens and their byte
+    /// strings.
     ///
     /// # Errors
     ///
-    /// The first fault from left to right, or `Memory` in place of any later answer.
+    /// The first fault from left to right, or `Memory` in place of any later result.
     pub fn read(alloc: Global, bytes: &[u8]) -> Result<Program, FileFault>
         ensures found { IfOk result (λ p. IsFileOf bytes.now p) }
         ensures only { (p : Code) → IsFileOf bytes.now p
@@ -52,7 +53,7 @@ impl Program {
         whole(alloc, bytes)
     }
 
-    /// The program of these parts, the declared ones first. Takes no memory.
+    /// Makes a program of these parts, the declared ones first. Takes no memory.
     pub fn new(
         version: Version,
         steps: u16,
@@ -74,7 +75,7 @@ impl Program {
         }
     }
 
-    /// The bytes of the program's file.
+    /// Returns the bytes of the program's file.
     ///
     /// # Errors
     ///
@@ -89,35 +90,35 @@ impl Program {
         Ok(out)
     }
 
-    /// The version of its file.
+    /// Returns the version of its file.
     pub fn version(&self) -> Version
         ensures { result ≡ self.now.version }
     {
         self.version
     }
 
-    /// The declared steps, at most 1,024.
+    /// Returns the declared steps, at most 1,024.
     pub fn steps(&self) -> u16
         ensures { result ≡ self.now.steps }
     {
         self.steps
     }
 
-    /// The declared depth, at most 64.
+    /// Returns the declared depth, at most 64.
     pub fn depth(&self) -> u8
         ensures { result ≡ self.now.depth }
     {
         self.depth
     }
 
-    /// The declared greatest length of a value.
+    /// Returns the declared greatest length of a value.
     pub fn length(&self) -> u16
         ensures { result ≡ self.now.bound }
     {
         self.bound
     }
 
-    /// The name at an index.
+    /// Returns the name at an index, if there is one.
     pub fn name_at(&self, index: usize) -> Option<&[u8]>
         ensures { option_copied result ≡ slice_get self.now.names index }
     {
@@ -127,14 +128,14 @@ impl Program {
         }
     }
 
-    // How many names the program has.
+    // Returns the number of names in the program.
     pub(crate) fn names(&self) -> usize
         ensures { result ≡ length self.now.names }
     {
         self.names.len()
     }
 
-    /// The tokens, in order.
+    /// Returns the tokens, in order.
     pub fn tokens(&self) -> &[Token]
         ensures tokens { result.now ≡ self.now.tokens }
         ensures limits { HasFile self.now }
@@ -143,7 +144,7 @@ impl Program {
     }
 }
 
-// The program that the whole of the bytes spells.
+// Reads the program whose file is all of the bytes.
 #[tactic(auto, unfolding(crate::specs::Reading::file_at, crate::specs::Reading::fields_at, crate::specs::Reading::file_end))]
 fn whole(alloc: Global, bytes: &[u8]) -> Result<Program, FileFault>
     ensures read { ReaderGives (λ p. p) result (program_at bytes.now) }
@@ -170,7 +171,7 @@ fn whole(alloc: Global, bytes: &[u8]) -> Result<Program, FileFault>
     })
 }
 
-// Writes what stands before the names.
+// Writes what comes before the names.
 fn put_head(
     out: &mut Vec<u8>,
     version: Version,
@@ -187,7 +188,7 @@ fn put_head(
     put_u16(out, bound)
 }
 
-// Writes the names after their number.
+// Writes the number of names, and then the names.
 fn put_names(out: &mut Vec<u8>, names: &[Bytes]) -> Result<(), AllocError>
     requires few { length names.now ≤ 64 }
     requires each { AllByRecursion IsName names.now }
@@ -200,7 +201,7 @@ fn put_names(out: &mut Vec<u8>, names: &[Bytes]) -> Result<(), AllocError>
     Ok(())
 }
 
-// Writes the tokens after their number.
+// Writes the number of tokens, and then the tokens.
 fn put_tokens(out: &mut Vec<u8>, tokens: &[Token]) -> Result<(), AllocError>
     requires few { length tokens.now ≤ 1024 }
     requires each { AllByRecursion IsShort tokens.now }

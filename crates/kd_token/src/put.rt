@@ -7,14 +7,14 @@ use byteorder::{BigEndian, ByteOrder};
 use kd_wire::Bytes;
 use std::alloc::AllocError;
 
-// Writes a byte at the end.
+// Appends a byte.
 fn put(out: &mut Vec<u8>, byte: u8) -> Result<(), AllocError>
     ensures { OnOk result (out.new.items ≡ out.old.items ++ (byte ∷ [])) }
 {
     Ok(out.push(byte)?)
 }
 
-// Writes a number of two bytes at the end.
+// Appends a 2-byte number.
 pub(crate) fn put_u16(out: &mut Vec<u8>, number: u16) -> Result<(), AllocError>
     ensures { OnOk result (out.new.items ≡ out.old.items ++ big_bytes 2 number) }
 {
@@ -23,7 +23,7 @@ pub(crate) fn put_u16(out: &mut Vec<u8>, number: u16) -> Result<(), AllocError>
     out.extend_from_slice(&bytes)
 }
 
-// Writes a number of four bytes at the end.
+// Appends a 4-byte number.
 pub(crate) fn put_u32(out: &mut Vec<u8>, number: u32) -> Result<(), AllocError>
     ensures { OnOk result (out.new.items ≡ out.old.items ++ big_bytes 4 number) }
 {
@@ -32,14 +32,14 @@ pub(crate) fn put_u32(out: &mut Vec<u8>, number: u32) -> Result<(), AllocError>
     out.extend_from_slice(&bytes)
 }
 
-// Writes a signed number of four bytes at the end.
+// Appends a signed 4-byte number.
 fn put_i32(out: &mut Vec<u8>, number: i32) -> Result<(), AllocError>
     ensures { OnOk result (out.new.items ≡ out.old.items ++ signed_bytes number) }
 {
     put_u32(out, number.cast_unsigned())
 }
 
-// Writes a name after its length.
+// Appends a name's length and the name.
 pub(crate) fn put_name(out: &mut Vec<u8>, name: &Bytes) -> Result<(), AllocError>
     requires { length name.now < 256 }
     ensures { OnOk result (out.new.items ≡ out.old.items ++ name_bytes name.now) }
@@ -49,7 +49,7 @@ pub(crate) fn put_name(out: &mut Vec<u8>, name: &Bytes) -> Result<(), AllocError
     out.extend_from_slice(name)
 }
 
-// Writes an opcode and a byte string after its length.
+// Appends the length of a byte string and the byte string.
 fn put_long(out: &mut Vec<u8>, bytes: &Bytes) -> Result<(), AllocError>
     requires { length bytes.now < 2 ^ 16 }
     ensures { OnOk result (out.new.items ≡ out.old.items ++ long_bytes bytes.now) }
@@ -59,7 +59,7 @@ fn put_long(out: &mut Vec<u8>, bytes: &Bytes) -> Result<(), AllocError>
     out.extend_from_slice(bytes)
 }
 
-// Writes how many bytes a substring has.
+// Appends how many bytes a substring has.
 fn put_count(out: &mut Vec<u8>, count: Option<i32>) -> Result<(), AllocError>
     ensures { OnOk result (out.new.items ≡ out.old.items ++ count_bytes count) }
 {
@@ -72,7 +72,7 @@ fn put_count(out: &mut Vec<u8>, count: Option<i32>) -> Result<(), AllocError>
     }
 }
 
-// Writes a byte and the bytes of a number of two bytes.
+// Appends an opcode and a 2-byte number.
 fn put_skip(out: &mut Vec<u8>, opcode: u8, skip: u16) -> Result<(), AllocError>
     ensures { OnOk result (out.new.items ≡ out.old.items ++ (opcode ∷ big_bytes 2 skip)) }
 {
@@ -80,14 +80,14 @@ fn put_skip(out: &mut Vec<u8>, opcode: u8, skip: u16) -> Result<(), AllocError>
     put_u16(out, skip)
 }
 
-// Writes an opcode and an operand of one byte.
+// Appends an opcode and a 1-byte operand.
 fn put_pair(out: &mut Vec<u8>, opcode: u8, operand: u8) -> Result<(), AllocError>
     ensures { OnOk result (out.new.items ≡ out.old.items ++ (opcode ∷ operand ∷ [])) }
 {
     out.extend_from_slice(&[opcode, operand])
 }
 
-// Writes a token: its opcode and its operands.
+// Appends a token: its opcode and its operands.
 pub(crate) fn put_token(out: &mut Vec<u8>, token: &Token) -> Result<(), AllocError>
     requires { IsShort token.now }
     ensures { OnOk result (out.new.items ≡ out.old.items ++ token_bytes token.now) }

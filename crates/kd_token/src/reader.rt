@@ -9,7 +9,7 @@ use crate::fault::FileFault;
 use byteorder::{BigEndian, ByteOrder};
 use std::marker::Model;
 
-// What is left of a file that is read from left to right.
+// The rest of a file that is read from left to right.
 #[derive(Drop)]
 pub(crate) struct Reader<'a> {
     whole: &'a [u8],
@@ -36,7 +36,7 @@ impl<'a> Reader<'a> {
         }
     }
 
-    // The offset of the next byte.
+    // Returns the offset of the next byte.
     pub(crate) fn at(&self) -> usize
         ensures place { result ≡ place_in self.now }
         ensures rest { drop result self.now.whole ≡ self.now.left }
@@ -44,14 +44,14 @@ impl<'a> Reader<'a> {
         self.whole.len() - self.left.len()
     }
 
-    // The number of bytes left.
+    // Returns the number of remaining bytes.
     pub(crate) fn len(&self) -> usize
         ensures { result ≡ length self.now.left }
     {
         self.left.len()
     }
 
-    // The next n bytes, a field of their own.
+    // Reads the next n bytes as one field.
     pub(crate) fn take(&mut self, n: usize) -> Result<&'a [u8], FileFault>
         ensures read { ReaderGives (λ b. (b.now, self.new)) result (bytes_next n self.old) }
         ensures found { IfOk result
@@ -86,7 +86,7 @@ impl<'a> Reader<'a> {
         Ok(u32_of(self.take(4)?))
     }
 
-    // A signed number of four bytes.
+    // Reads a signed 4-byte number.
     #[tactic(auto, using(crate::proofs::Numbers::signed_back))]
     pub(crate) fn i32(&mut self) -> Result<i32, FileFault>
         ensures read { ReaderGives (λ n. (n, self.new)) result (signed_at self.old) }
@@ -96,7 +96,7 @@ impl<'a> Reader<'a> {
         Ok(self.u32()?.cast_signed())
     }
 
-    // A number of one byte that is at most this.
+    // Reads a 1-byte number that is at most `most`.
     #[tactic(auto, unfolding(crate::specs::Reading::limited_at))]
     pub(crate) fn u8_to(&mut self, most: u8) -> Result<u8, FileFault>
         ensures read { ReaderGives (λ n. (n, self.new)) result (limited_at 1 most self.old) }
@@ -109,7 +109,7 @@ impl<'a> Reader<'a> {
         Ok(number)
     }
 
-    // A number of two bytes that is at most this.
+    // Reads a 2-byte number that is at most `most`.
     #[tactic(auto, unfolding(crate::specs::Reading::limited_at))]
     pub(crate) fn u16_to(&mut self, most: u16) -> Result<u16, FileFault>
         ensures read { ReaderGives (λ n. (n, self.new)) result (limited_at 2 most self.old) }
@@ -124,7 +124,7 @@ impl<'a> Reader<'a> {
     }
 }
 
-// The number of two bytes.
+// Returns the number of two bytes.
 fn u16_of(bytes: &[u8]) -> u16
     requires { length bytes.now ≡ 2 }
     ensures number { result ≡ big_number 2 bytes.now }
@@ -133,7 +133,7 @@ fn u16_of(bytes: &[u8]) -> u16
     BigEndian::read_u16(bytes)
 }
 
-// The number of four bytes.
+// Returns the number of four bytes.
 fn u32_of(bytes: &[u8]) -> u32
     requires { length bytes.now ≡ 4 }
     ensures number { result ≡ big_number 4 bytes.now }

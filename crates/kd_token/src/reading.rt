@@ -20,7 +20,7 @@ const MOST_NAMES: u8 = 64;
 
 const MOST_TOKENS: u16 = 1024;
 
-// Passes the magic number.
+// Reads the magic number.
 #[tactic(auto, unfolding(crate::specs::Reading::magic_at))]
 pub(crate) fn magic(reader: &mut Reader<'_>) -> Result<(), FileFault>
     ensures read { ReaderGives (λ _. (tt, reader.new)) result (magic_at reader.old) }
@@ -32,7 +32,7 @@ pub(crate) fn magic(reader: &mut Reader<'_>) -> Result<(), FileFault>
     Ok(())
 }
 
-// The version of a version byte.
+// Reads the version byte.
 #[tactic(auto, unfolding(crate::specs::Reading::version_at))]
 pub(crate) fn version(reader: &mut Reader<'_>) -> Result<Version, FileFault>
     ensures read { ReaderGives (λ v. (v, reader.new)) result (version_at reader.old) }
@@ -45,7 +45,7 @@ pub(crate) fn version(reader: &mut Reader<'_>) -> Result<Version, FileFault>
     }
 }
 
-// A name after its length.
+// Reads a name's length and the name.
 #[tactic(auto, unfolding(crate::specs::Reading::name_at))]
 fn name(alloc: Global, reader: &mut Reader<'_>) -> Result<Bytes, FileFault>
     ensures read { ReaderGives (λ b. (b, reader.new)) result (name_at reader.old) }
@@ -61,7 +61,7 @@ fn name(alloc: Global, reader: &mut Reader<'_>) -> Result<Bytes, FileFault>
     Ok(Bytes::own(Vec::from_slice(alloc, name)?))
 }
 
-// So many names.
+// Reads `count` names.
 fn names_of(alloc: Global, reader: &mut Reader<'_>, count: u8) -> Result<Vec<Bytes>, FileFault>
     ensures read { ReaderGives (λ v. (v.items, reader.new)) result
         (names_at count reader.old) }
@@ -77,7 +77,7 @@ fn names_of(alloc: Global, reader: &mut Reader<'_>, count: u8) -> Result<Vec<Byt
     Ok(names)
 }
 
-// The names after their number.
+// Reads the number of names, and then the names.
 #[tactic(auto, unfolding(crate::specs::Reading::all_names_at))]
 pub(crate) fn names(alloc: Global, reader: &mut Reader<'_>) -> Result<Vec<Bytes>, FileFault>
     ensures read { ReaderGives (λ v. (v.items, reader.new)) result
@@ -90,7 +90,7 @@ pub(crate) fn names(alloc: Global, reader: &mut Reader<'_>) -> Result<Vec<Bytes>
     names_of(alloc, reader, count)
 }
 
-// A byte string after its length of two bytes.
+// Reads the 2-byte length of a byte string and the byte string.
 #[tactic(auto, unfolding(crate::specs::Reading::long_at))]
 fn long(alloc: Global, reader: &mut Reader<'_>) -> Result<Bytes, FileFault>
     ensures read { ReaderGives (λ b. (b, reader.new)) result (long_at reader.old) }
@@ -102,7 +102,7 @@ fn long(alloc: Global, reader: &mut Reader<'_>) -> Result<Bytes, FileFault>
     Ok(Bytes::own(Vec::from_slice(alloc, bytes)?))
 }
 
-// The field of a number.
+// Returns the field with this number.
 #[tactic(auto, unfolding(crate::specs::Reading::field_numbered))]
 fn field_of(number: u8) -> Option<Field>
     ensures read { result ≡ field_numbered number }
@@ -123,7 +123,7 @@ fn field_of(number: u8) -> Option<Field>
     }
 }
 
-// A field.
+// Reads a field's number.
 #[tactic(auto, unfolding(crate::specs::Reading::field_at))]
 fn field(reader: &mut Reader<'_>) -> Result<Field, FileFault>
     ensures read { ReaderGives (λ f. (f, reader.new)) result (field_at reader.old) }
@@ -137,7 +137,7 @@ fn field(reader: &mut Reader<'_>) -> Result<Field, FileFault>
     }
 }
 
-// How many bytes a substring has.
+// Reads how many bytes a substring has.
 #[tactic(auto, unfolding(crate::specs::Reading::count_at, crate::specs::Reading::count_after))]
 fn count(reader: &mut Reader<'_>) -> Result<Option<i32>, FileFault>
     ensures read { ReaderGives (λ n. (n, reader.new)) result (count_at reader.old) }
@@ -152,7 +152,7 @@ fn count(reader: &mut Reader<'_>) -> Result<Option<i32>, FileFault>
     }
 }
 
-// A substring's start and number of bytes.
+// Reads a substring's start and number of bytes.
 #[tactic(auto, unfolding(crate::specs::Reading::substring_at))]
 fn substring(reader: &mut Reader<'_>) -> Result<Token, FileFault>
     ensures read { ReaderGives (λ t. (t, reader.new)) result (substring_at reader.old) }
@@ -164,7 +164,7 @@ fn substring(reader: &mut Reader<'_>) -> Result<Token, FileFault>
     Ok(Token::Substring(start, count))
 }
 
-// How many tokens a branch skips; `opcode_at` is the place of its opcode.
+// Reads how many tokens a branch skips; `opcode_at` is the place of its opcode.
 #[tactic(auto, unfolding(crate::specs::Reading::branch_at))]
 fn skip(
     reader: &mut Reader<'_>,
@@ -190,7 +190,7 @@ fn skip(
     }
 }
 
-// The token without operands of an opcode.
+// Returns the token with this opcode, if it is one without operands.
 #[tactic(auto, unfolding(crate::specs::Reading::plain_token))]
 fn plain_of(opcode: u8) -> Option<Token>
     ensures read { result ≡ plain_token opcode }
@@ -213,7 +213,8 @@ fn plain_of(opcode: u8) -> Option<Token>
     }
 }
 
-// The operands of an opcode that stands at `at`, and so its token, with so many tokens after it.
+// Reads the operands of an opcode at the offset `at`, and returns its token. `behind` tokens come
+// after it.
 #[tactic(auto, unfolding(crate::specs::Reading::operands_at))]
 fn operands(
     alloc: Global,
@@ -250,7 +251,7 @@ fn operands(
     }
 }
 
-// A token, with so many tokens after it.
+// Reads a token that has `behind` tokens after it.
 #[tactic(auto, unfolding(crate::specs::Reading::token_at))]
 fn token(
     alloc: Global,
@@ -268,7 +269,7 @@ fn token(
     operands(alloc, reader, version, behind, opcode, at)
 }
 
-// So many tokens.
+// Reads `count` tokens.
 fn tokens_of(
     alloc: Global,
     reader: &mut Reader<'_>,
@@ -289,7 +290,7 @@ fn tokens_of(
     Ok(tokens)
 }
 
-// The tokens after their number.
+// Reads the number of tokens, and then the tokens.
 #[tactic(auto, unfolding(crate::specs::Reading::all_tokens_at))]
 pub(crate) fn tokens(
     alloc: Global,

@@ -15,14 +15,14 @@ pub enum Kind {
     /// A truth value.
     #[default]
     Bool,
-    /// A number of four bytes.
+    /// A 4-byte number.
     Int,
-    /// A byte string of at most so many bytes.
+    /// A byte string of at most this many bytes.
     Bytes(u32),
 }
 
-// The shape of a stack: one kind more than the greatest depth, so that a value is pushed before the
-// depth is judged.
+// The shape of a stack. It has room for one kind more than the greatest depth, so that a value can
+// be pushed before the depth is checked.
 #[derive(Drop)]
 pub(crate) struct Shape {
     kinds: ArrayVec<Kind, 65>,
@@ -73,14 +73,14 @@ impl Shape {
         matches!(self.kinds.as_slice(), [Kind::Bool])
     }
 
-    // The kind on top.
+    // Returns the kind on top, if there is one.
     pub(crate) fn top(&self) -> Option<Kind>
         ensures { MatchOption result (self.now ≡ []) (λ k. self.now ≡ k ∷ drop 1 self.now) }
     {
         self.kinds.as_slice().last().copied()
     }
 
-    // The same shape once more.
+    // Returns a copy of the shape.
     pub(crate) fn copy(&self) -> Shape
         ensures { result ≡ self.now }
     {
@@ -91,7 +91,7 @@ impl Shape {
         }
     }
 
-    // Meets another shape: becomes the least one that covers both, where there is one.
+    // Meets another shape: becomes the least shape that covers both, if there is one.
     pub(crate) fn meet(&mut self, other: &Shape) -> Option<()>
         ensures met { MatchOption result (met self.old other.now ≡ None)
             (λ _. met self.old other.now ≡ Some self.new) }
@@ -103,7 +103,7 @@ impl Shape {
         meet_kinds(self.kinds.as_mut_slice(), other.kinds.as_slice())
     }
 
-    // The bound of the byte string on top, which is taken.
+    // Takes the byte string on top and returns its bound.
     fn take_bytes(&mut self) -> Option<u32>
         ensures { MatchOption result (bytes_taken self.old ≡ None)
             (λ n. bytes_taken self.old ≡ Some (n, self.new)) }
@@ -114,7 +114,7 @@ impl Shape {
         }
     }
 
-    // The truth value on top is taken.
+    // Takes the truth value on top.
     pub(crate) fn take_bool(&mut self) -> Option<()>
         ensures taken { MatchOption result (bool_taken self.old ≡ None)
             (λ _. bool_taken self.old ≡ Some self.new) }
@@ -126,7 +126,7 @@ impl Shape {
         }
     }
 
-    // The number on top is taken.
+    // Takes the number on top.
     fn take_int(&mut self) -> Option<()>
         ensures { MatchOption result (int_taken self.old ≡ None)
             (λ _. int_taken self.old ≡ Some self.new) }
@@ -137,7 +137,8 @@ impl Shape {
         }
     }
 
-    // What a token that goes on makes of the shape, or nothing where it cannot take what it wants.
+    // Changes the shape as a token that goes on does, or returns `None` if the token cannot take
+    // what it needs.
     #[tactic(auto, unfolding(crate::specs::Shape::gives))]
     pub(crate) fn pass(&mut self, token: &Token, names: usize) -> Option<()>
         requires few { length self.old ≤ 64 }
@@ -209,7 +210,7 @@ impl Shape {
     }
 }
 
-// Whether a kind is no byte string that may be longer than this.
+// Whether a kind is not a byte string that may be longer than `most`.
 pub(crate) fn is_short(kind: Kind, most: u32) -> bool
     ensures { IsTrue result ↔ IsShortKind most kind }
 {
@@ -219,7 +220,7 @@ pub(crate) fn is_short(kind: Kind, most: u32) -> bool
     }
 }
 
-// Meets as many other kinds, each with its own.
+// Meets each kind with the other at its index.
 fn meet_kinds(known: &mut [Kind], others: &[Kind]) -> Option<()>
     requires same { length known.old ≡ length others.now }
     ensures length { length known.new ≡ length known.old }
@@ -232,7 +233,7 @@ fn meet_kinds(known: &mut [Kind], others: &[Kind]) -> Option<()>
     Some(())
 }
 
-// The least kind that covers both, where there is one.
+// Returns the least kind that covers both, if there is one.
 fn met_kind(first: Kind, second: Kind) -> Option<Kind>
     ensures { result ≡ met_of_kinds first second }
 {
@@ -244,7 +245,7 @@ fn met_kind(first: Kind, second: Kind) -> Option<Kind>
     }
 }
 
-// The kind of a field.
+// Returns the kind of a field.
 fn kind_of(field: Field) -> Kind
     ensures { result ≡ field_kind field }
 {
@@ -257,7 +258,7 @@ fn kind_of(field: Field) -> Kind
     }
 }
 
-// How long a substring of at most n bytes is.
+// Returns the greatest length of a substring of at most n bytes.
 fn bound_of(n: u32, count: Option<i32>) -> u32
     ensures { result ≡ bound_of_substring n count }
 {
@@ -267,7 +268,8 @@ fn bound_of(n: u32, count: Option<i32>) -> u32
     }
 }
 
-// How long the hexadecimal text of at most n bytes is, with separators of at most m bytes.
+// Returns the greatest length of the hexadecimal text of at most n bytes, with separators of at
+// most m bytes.
 fn hex_bound(n: u32, m: u32) -> u32
     requires bytes { n ≤ 65535 }
     requires separator { m ≤ 65535 }

@@ -3,7 +3,7 @@ ghost use Rattle.kd_token.specs.Table.{arrived, entry_at, point};
 
 use crate::shape::Shape;
 
-// What has arrived at a place: nothing, a shape with a greatest count of steps, or shapes that do
+// What has arrived at a place: nothing, a shape with the greatest count of steps, or shapes that do
 // not meet.
 #[derive(Drop)]
 pub(crate) enum Entry {
@@ -13,7 +13,7 @@ pub(crate) enum Entry {
 }
 
 impl Entry {
-    // A shape arrives after so many steps.
+    // Adds a shape that arrives after `count` steps.
     fn arrive(&mut self, shape: Shape, count: u32)
         requires few { length shape ≤ 64 }
         ensures { self.new ≡ arrived (point shape count) self.old }
@@ -29,7 +29,7 @@ impl Entry {
     }
 }
 
-// A shape arrives at a place of the table after so many steps.
+// Adds a shape that arrives at a place of the table after `count` steps.
 pub(crate) fn arrive(table: &mut [Entry], to: usize, shape: Shape, count: u32)
     requires within { to < length table.old }
     requires few { length shape ≤ 64 }

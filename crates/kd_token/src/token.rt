@@ -13,7 +13,7 @@ pub enum Version {
 }
 
 impl Version {
-    /// The version byte of the file, 1 or 2.
+    /// Returns the version byte of the file, 1 or 2.
     pub fn number(self) -> u8
         ensures { result ≡ version_number self }
     {
@@ -24,24 +24,24 @@ impl Version {
     }
 }
 
-/// One token of a program: what it takes from the top of the stack, and what it gives.
+/// A token of a program: what it takes from the top of the stack, and what it pushes.
 #[derive(Drop)]
 pub enum Token {
     /// Pushes these bytes, at most 65,535.
     PushBytes(Bytes),
     /// Pushes this number.
     PushInt(u32),
-    /// Pushes the joined value of the option of this code, the empty string where it is absent.
+    /// Pushes the joined value of the option with this code, or the empty string if it is absent.
     PushOption(u8),
-    /// Pushes the relay's sub-option of this code, the empty string where it is absent.
+    /// Pushes the relay's sub-option with this code, or the empty string if it is absent.
     PushRelay(u8),
     /// Pushes a field of the message.
     PushField(Field),
-    /// Pushes whether the option of this code is present.
+    /// Pushes whether the option with this code is present.
     OptionExists(u8),
-    /// Pushes whether the relay's sub-option of this code is present.
+    /// Pushes whether the relay's sub-option with this code is present.
     RelayExists(u8),
-    /// Pushes whether the program's name of this index is held.
+    /// Pushes whether the program's name at this index is held.
     Member(u8),
     /// Takes two byte strings; pushes whether they are equal.
     Equal,
@@ -51,17 +51,17 @@ pub enum Token {
     And,
     /// Takes two truth values; pushes whether one of them is true.
     Or,
-    /// Takes a truth value and two byte strings above it; pushes the lower one where it is true,
-    /// else the upper one.
+    /// Takes a truth value and two byte strings above it; pushes the lower one if it is true,
+    /// otherwise the upper one.
     IfElse,
-    /// Takes a byte string; pushes its bytes from this start, so many of them, or all where there
-    /// is no number. A negative start counts from the end, a negative number goes towards the
-    /// front.
+    /// Takes a byte string; pushes its bytes from this start on: this number of them, or all if the
+    /// number is `None`. A negative start counts from the end, and a negative number counts towards
+    /// the beginning.
     Substring(i32, Option<i32>),
     /// Takes two byte strings; pushes the lower one followed by the upper one.
     Concat,
-    /// Takes a byte string and a separator above it; pushes two hexadecimal digits for each byte,
-    /// with the separator between bytes.
+    /// Takes a byte string and a separator above it; pushes two hexadecimal digits per byte, with
+    /// the separator between bytes.
     HexString,
     /// Takes a byte string; pushes it with its ASCII letters in lower case.
     Lower,
@@ -69,14 +69,14 @@ pub enum Token {
     Upper,
     /// Takes a number; pushes its decimal digits.
     IntToText,
-    /// Takes a number; pushes its 4 bytes in network order.
+    /// Takes a number; pushes its 4 bytes in network byte order.
     IntBytes,
-    /// Skips so many tokens.
+    /// Skips this many tokens.
     Branch(u16),
-    /// Takes a truth value; skips so many tokens where it is false.
+    /// Takes a truth value; skips this many tokens if it is false.
     PopBranchFalse(u16),
-    /// Skips so many tokens where a false is on top, which stays; else takes the true.
+    /// Skips this many tokens if a false is on top, which stays; otherwise takes the true.
     BranchFalseElsePop(u16),
-    /// Skips so many tokens where a true is on top, which stays; else takes the false.
+    /// Skips this many tokens if a true is on top, which stays; otherwise takes the false.
     BranchTrueElsePop(u16),
 }

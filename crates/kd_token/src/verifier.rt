@@ -18,9 +18,9 @@ use std::alloc::{AllocError, Global};
 use std::marker::Model;
 use std::mem;
 
-/// A program that the verifier has accepted: along each way through it each token finds what it
-/// wants, no stack is deeper and no value longer than the program declares, and it ends in the
-/// declared steps with one truth value.
+/// A program that the verifier has accepted. On every path through it each token finds the values
+/// it needs, no stack is deeper and no value longer than the program declares, and it ends within
+/// the declared steps with one truth value.
 #[derive(Drop)]
 pub struct Verified {
     program: Program,
@@ -38,7 +38,7 @@ impl Model for Verified {
 }
 
 impl Verified {
-    /// The program that was verified.
+    /// Returns the program that was verified.
     pub fn program(&self) -> &Program
         ensures program { result.now ≡ self.now }
         ensures accepted { Accepts self.now }
@@ -47,14 +47,14 @@ impl Verified {
     }
 }
 
-/// Verifies a program in one pass over its tokens. Takes memory for a table of one entry for each
+/// Verifies a program in one pass over its tokens. Takes memory for a table with one entry per
 /// token and one for the end, under 600 bytes each.
 ///
 /// # Errors
 ///
-/// The first fault in the order of the tokens, with the program: at the place where two ways bring
-/// different shapes, or at the token that cannot take what it wants or gives more than is declared;
-/// then `Steps`, then `Finish`. `Memory` where there is none for the table.
+/// The first fault in the order of the tokens, with the program: at the place where two paths bring
+/// different shapes, or at the token that cannot take what it needs or leaves more than is
+/// declared; then `Steps`, then `Finish`. `Memory` if there is none for the table.
 pub fn verify(alloc: Global, program: Program) -> Result<Verified, (VerifyFault, Program)>
     ensures accepted { IfOk result (λ v. v ≡ program) }
     ensures refused { IfErr result (λ e. (e.1 ≡ program) × IsVerifyFault program e.0) }
@@ -73,7 +73,7 @@ pub fn verify(alloc: Global, program: Program) -> Result<Verified, (VerifyFault,
     }
 }
 
-// Whether the program is accepted.
+// Checks whether the program is accepted.
 fn check(alloc: Global, program: &Program) -> Result<(), VerifyFault>
     ensures judged { MatchResult result (λ _. Accepts program.now)
         (λ fault. IsVerifyFault program.now fault) }
@@ -84,7 +84,7 @@ fn check(alloc: Global, program: &Program) -> Result<(), VerifyFault>
     finish(&table, program)
 }
 
-// Room for the entries of so many tokens and of the end, and for no more.
+// Takes room for exactly the entries of the tokens and of the end.
 fn room_for(alloc: Global, tokens: usize) -> Result<Vec<Entry>, AllocError>
     requires few { tokens ≤ 1024 }
     ensures empty { IfOk result (λ t. t.items ≡ []) }
@@ -93,8 +93,8 @@ fn room_for(alloc: Global, tokens: usize) -> Result<Vec<Entry>, AllocError>
     Vec::with_capacity(alloc, tokens + 1)
 }
 
-// The table before the first of so many tokens: the empty stack is there, and nothing has arrived
-// beyond.
+// Makes the table before the first token: the empty stack is at the first place, and nothing has
+// arrived beyond it.
 fn begin(alloc: Global, tokens: usize) -> Result<Vec<Entry>, AllocError>
     requires few { tokens ≤ 1024 }
     ensures length { IfOk result (λ t. length t.items ≡ tokens + 1) }
@@ -109,7 +109,7 @@ fn begin(alloc: Global, tokens: usize) -> Result<Vec<Entry>, AllocError>
     Ok(table)
 }
 
-// All tokens are passed.
+// Passes over all tokens.
 fn pass(table: &mut [Entry], program: &Program) -> Result<(), VerifyFault>
     requires { IsAt program.now 0 table.old }
     ensures passed { MatchResult result
@@ -123,7 +123,7 @@ fn pass(table: &mut [Entry], program: &Program) -> Result<(), VerifyFault>
     Ok(())
 }
 
-// The place of a token is passed.
+// Passes over the token at a place.
 fn visit(
     table: &mut [Entry],
     at: usize,
@@ -144,7 +144,7 @@ fn visit(
     }
 }
 
-// What has arrived at the end is one truth value, in the declared steps.
+// Checks that what has arrived at the end is one truth value, within the declared steps.
 fn finish(table: &[Entry], program: &Program) -> Result<(), VerifyFault>
     requires limits { HasFile program.now }
     requires passed { IsAt program.now (length program.now.tokens) table.now }
@@ -168,7 +168,7 @@ fn finish(table: &[Entry], program: &Program) -> Result<(), VerifyFault>
     }
 }
 
-// How many values a token takes.
+// Returns the number of values that a token takes.
 fn takes(token: &Token) -> usize
     ensures { result ≡ taken_count token.now }
 {
@@ -196,7 +196,7 @@ fn takes(token: &Token) -> usize
     }
 }
 
-// Why a token cannot take what it wants from a stack of so many values.
+// Returns why a token cannot take what it needs from a stack of `values` values.
 fn misfit(token: &Token, values: usize, at: usize) -> VerifyFault
     ensures place { place_of result ≡ Some at }
     ensures exact { result ≡ misfit_of token.now values at }
@@ -208,7 +208,7 @@ fn misfit(token: &Token, values: usize, at: usize) -> VerifyFault
     }
 }
 
-// A token that goes on makes of the shape what it gives, within what the program declares.
+// Changes the shape as a token that goes on does, and checks it against what the program declares.
 fn advance(
     shape: &mut Shape,
     token: &Token,
@@ -242,7 +242,7 @@ fn advance(
     }
 }
 
-// A token is passed: what it gives arrives where it leads.
+// Passes over a token: what it leaves arrives where the token leads.
 fn settle(
     table: &mut [Entry],
     at: usize,
@@ -290,7 +290,7 @@ fn settle(
     Ok(())
 }
 
-// The truth value on top is taken.
+// Takes the truth value on top.
 fn below(shape: &mut Shape, token: &Token, at: usize) -> Result<(), VerifyFault>
     ensures taken { MatchResult result (λ _. shape.old ≡ Bool ∷ shape.new)
         (λ e. (place_of e ≡ Some at) × (bool_taken shape.old ≡ None)) }
