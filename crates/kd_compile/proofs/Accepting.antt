@@ -1,4 +1,5 @@
--- The program of a class test is accepted: each of its places is reached, by a stack whose shape is known.
+-- The program of a class test is accepted: each of its places is reached, with a stack of a known
+-- shape.
 use Rattle.std.proofs.Common.{◌≡◌, ℕ, ◌+◌, ◌≤◌, ◌<◌, max, Bool, true, false, List, [], ◌∷◌, ◌++◌, length, Option, Some, None, refl, sym, subst, arith, inl, inr}
 use Rattle.std.specs.Prelude.{◌⊎◌, ℤ, if◌then◌else◌, slice_get, MatchOption, Ok}
 use Rattle.std.specs.List.{AllByRecursion}
@@ -28,11 +29,11 @@ use Rattle.kd_token.specs.declared.shape.Kind.TheVariants as kinds
 use Rattle.kd_token.specs.declared.token.Token.{Token}
 use Rattle.kd_token.specs.declared.token.Token.TheVariants as tokens
 
--- the point before the token after an operand where a byte string is wanted
+-- the point before the token after an operand where a byte string is needed
 abbrev bytes_points : Tree → List Kind → ℕ → List Point
 bytes_points t s c = if number_tree t then point (kind_of t ∷ s) (c + step_count t) ∷ [] else []
 
--- the point after an operand where a byte string is wanted
+-- the point after an operand where a byte string is needed
 abbrev behind : Tree → List Kind → ℕ → Point
 behind t s c = point (kinds.Bytes (bound t) ∷ s) (c + (step_count t + four_more t))
 
@@ -102,11 +103,12 @@ part_short n parts.MessageType le = tt
 part_short n parts.Transaction le = tt
 part_short n parts.Length le = tt
 
--- a tree's tokens are a piece wherever they begin with room: they leave the tree's value on top
+-- a tree's tokens are a piece wherever they begin with enough room: they leave the tree's value on
+-- top
 abbrev HasPieces : Code → Tree → Type 0
 HasPieces p t = (s : List Kind) (c : ℕ) → AreShort p.bound s → length s + stack_depth t ≤ p.depth → Piece p (point s c) (code_of p.names t) (points_of t s c) (point (kind_of t ∷ s) (c + step_count t))
 
--- a piece that ends with a value of this kind, and the four bytes of a number where one is wanted
+-- a piece that ends with a value of this kind, and the four bytes of a number where they are needed
 in_four : (p : Code) (q : Point) (ts : List Token) (qs : List Point) (b : Bool) (k : Kind) (n c : ℕ) (s : List Kind) → ((b ≡ true) × (k ≡ kinds.Int) × (n ≡ 4)) ⊎ ((b ≡ false) × (k ≡ kinds.Bytes n)) → n ≤ p.bound → Piece p q ts qs (point (k ∷ s) c)
     → Piece p q (ts ++ (if b then tokens.IntBytes ∷ [] else [])) (qs ++ (if b then point (k ∷ s) c ∷ [] else [])) (point (kinds.Bytes n ∷ s) (c + (if b then 1 else 0)))
 unfolding gives
@@ -125,7 +127,7 @@ in_four p q ts qs false k n c s (inr h) le piece =
 in_four p q ts qs true k n c s (inr h) le piece = absurd (let e = h.0 in cc)
 in_four p q ts qs false k n c s (inl h) le piece = absurd (let e = h.0 in cc)
 
--- an operand where a byte string is wanted
+-- an operand where a byte string is needed
 operand_piece : (p : Code) (t : Tree) → IsBytes t → greatest t ≤ p.bound → HasPieces p t → (s : List Kind) (c : ℕ) → AreShort p.bound s → length s + stack_depth t ≤ p.depth
     → Piece p (point s c) (operand p.names t) (points_of t s c ++ bytes_points t s c) (behind t s c)
 operand_piece p t is g pieces s c short deep =
@@ -143,8 +145,8 @@ truth_piece p t is pieces s c short deep =
     let K : Kind → Type 0 = λ k. Piece p (point s c) (code_of p.names t) (points_of t s c) (point (k ∷ s) (c + step_count t)) in
     subst K is (pieces s c short deep)
 
--- a token takes these kinds from the top and leaves one: it goes on where there is room and the next place
--- covers that
+-- a token takes these kinds from the top and leaves one: it goes on if there is room and the next
+-- place covers that
 abbrev Takes : Code → Token → List Kind → Kind → Type 0
 Takes p token taken k = (s : List Kind) (c : ℕ) (a : Assignment) (i : ℕ) → IsRoomFor p (k ∷ s) → IsCovered (a (i + 1)) (point (k ∷ s) (c + 1)) → GoesOn p a i token (point (taken ++ s) c)
 
@@ -208,7 +210,7 @@ keep_piece p a b token is_a is_b goes pieces_a pieces_b s c short deep =
     goes s d f i (first.room, kept) ((omega (arith, few), short), next)) in
     piece_counted p (point s c) _ _ (kinds.Bool ∷ s) (d + 1 + step_count b) (c + (step_count a + 1 + step_count b)) (omega arith) (piece_then p (point s c) (point (kinds.Bool ∷ s) d) _ _ _ _ _ first branch)
 
--- the first of two ways, and the branch over the second
+-- the first of two arms, and the branch over the second
 arm_piece : (p : Code) (a b : Tree) → IsBytes a → IsBytes b → greatest a ≤ p.bound → greatest b ≤ p.bound → HasPieces p a → HasPieces p b → (s : List Kind) (c : ℕ) → AreShort p.bound s → length s + max (stack_depth a) (stack_depth b) ≤ p.depth
     → Piece p (point s c) (operand p.names a ++ tokens.Branch (size b + four_more b) ∷ operand p.names b) (points_of a s c ++ bytes_points a s c ++ behind a s c ∷ (points_of b s c ++ bytes_points b s c))
     (point (kinds.Bytes (max (bound a) (bound b)) ∷ s) (c + max (step_count a + four_more a + 1) (step_count b + four_more b)))
@@ -226,7 +228,7 @@ arm_piece p a b is_a is_b g h pieces_a pieces_b s c short deep =
     ((first.room, past), tt)) in
     piece_then p (point s c) (behind a s c) end_point _ _ _ _ first branch
 
--- a truth value, a branch to the second way, and the two ways
+-- a truth value, a branch to the second arm, and the two arms
 choice_piece : (p : Code) (at : ℕ) (t a b : Tree) → IsTruth t → IsBytes a → IsBytes b → greatest a ≤ p.bound → greatest b ≤ p.bound
     → ((s : List Kind) (c : ℕ) (f : Assignment) (i : ℕ) → Goes p f (record { to = i + 1 + (size a + four_more a + 1); point = point s (c + 1) }) → Goes p f (record { to = i + 1; point = point s (c + 1) }) → GoesOn p f i (tokens.PopBranchFalse (size a + four_more a + 1)) (point (kinds.Bool ∷ s) c))
     → HasPieces p t → HasPieces p a → HasPieces p b → HasPieces p (IfElse at t a b)
@@ -260,7 +262,7 @@ leaf_piece p token k short_k takes s c short deep =
     let room : IsRoomFor p (k ∷ s) = (omega (arith, deep), (short_k, short)) in
     piece_last p (point s c) token (point (k ∷ s) (c + 1)) room (λ f i end. takes s c f i room end)
 
--- a name that has its place is asked for
+-- a name that has its index is asked for
 member_takes : (p : Code) (name : List ℕ) → slice_get p.names (index_of name p.names) ≡ Some name → Takes p (tokens.Member (index_of name p.names)) [] kinds.Bool
 unfolding gives
 member_takes p name is s c f i room end =
@@ -269,7 +271,7 @@ member_takes p name is s c f i room end =
     let P : Bool → Type 0 = λ b. MatchOption ((if b then Some (kinds.Bool ∷ s) else None) >>= λ t. Some (flow_to (i + 1) (point s c) t ∷ [])) ⊥ (AllByRecursion (Goes p f)) in
     subst P (sym there) ((room, end), tt)
 
--- the tokens of each tree whose operands are of the wanted types are so
+-- so are the tokens of every tree whose operands have the types that are needed
 piece_of : (p : Code) (t : Tree) → IsWell t → Knows p.names t → greatest t ≤ p.bound → HasPieces p t
 unfolding gives
 piece_of p (Literal at bytes) w k g = leaf_piece p (tokens.PushBytes bytes) (kinds.Bytes (length bytes)) g (λ s c f i room end. ((room, end), tt))
@@ -300,12 +302,12 @@ piece_of p (Lower at a) w k g = one_piece p a tokens.Lower (kinds.Bytes (bound a
 piece_of p (Upper at a) w k g = one_piece p a tokens.Upper (kinds.Bytes (bound a)) w.0 g (omega (arith, bound_le a, g)) (λ s c f i room end. ((room, end), tt)) (piece_of p a w.1 k g)
 piece_of p (IntToText at a) w k g = bare_piece p a tokens.IntToText kinds.Int (kinds.Bytes 10) w.0.kind (omega (arith, g)) (λ s c f i room end. ((room, end), tt)) (piece_of p a w.1 k (omega (arith, g)))
 
--- each flow of a place that leads on is within what is declared
+-- every flow of a place that leads on is within what is declared
 all_within : (p : Code) (a : Assignment) (fs : List Flow) → AllByRecursion (Goes p a) fs → AllByRecursion (IsWithin p) fs
 all_within p a [] all = tt
 all_within p a (f ∷ fs) all = (all.0.0, all_within p a fs all.1)
 
--- and covered where it leads
+-- and it is covered where it leads
 all_covered : (p : Code) (a : Assignment) (j : ℕ) (fs : List Flow) → AllByRecursion (Goes p a) fs → AllByRecursion (λ f. f.to ≡ j → IsCovered (a j) f.point) fs
 all_covered p a j [] all = tt
 all_covered p a j (f ∷ fs) all = (λ e. let P : ℕ → Type 0 = λ n. IsCovered (a n) f.point in subst P e all.0.1, all_covered p a j fs all.1)
@@ -336,7 +338,7 @@ leads_sound p a first leads j = record {
   leave = leaves p a (out p a j) (leads j);
 }
 
--- the program of a class test is accepted, also where it is over a limit
+-- the program of a class test is accepted, even if it is over a limit
 pub accepted : (t : Tree) → type_of t ≡ Ok types.Bool → Accepts (program_for t)
 accepted t typed =
     let p = program_for t in

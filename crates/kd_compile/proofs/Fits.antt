@@ -21,7 +21,7 @@ use Rattle.kd_token.specs.declared.token.Token.TheVariants as tokens
 use Rattle.kd_token.specs.declared.token.Version.{Version}
 use Rattle.kd_token.specs.declared.token.Version.TheVariants as versions
 
--- the tokens of an operand where a byte string is wanted
+-- the tokens of an operand where a byte string is needed
 abbrev pub operand : List (List ℕ) → Tree → List Token
 operand names t = code_of names t ++ in_bytes t
 
@@ -55,11 +55,11 @@ code_length names (Lower at a) = omega (arith, length-append {A = Token}, code_l
 code_length names (Upper at a) = omega (arith, length-append {A = Token}, code_length names a, in_bytes_length a)
 code_length names (IntToText at a) = omega (arith, length-append {A = Token}, code_length names a)
 
--- an operand has the four bytes of a number for a token more
+-- an operand has one more token for the four bytes of a number
 pub operand_length : (names : List (List ℕ)) (t : Tree) → length (operand names t) ≡ size t + four_more t
 operand_length names t = omega (arith, length-append {A = Token}, code_length names t, in_bytes_length t)
 
--- tokens that fit a file in front of others that do
+-- tokens that fit in a file before others that do
 abbrev Adds : Version → List Token → Type 0
 Adds version list = (rest : List Token) → AreTokens version rest → AreTokens version (list ++ rest)
 
@@ -68,7 +68,7 @@ adds_both version first second a b rest r =
     let P : List Token → Type 0 = AreTokens version in
     subst P (sym (append_assoc first second rest)) (a (second ++ rest) (b rest r))
 
--- a branch over tokens that are there
+-- a branch over existing tokens
 branch_fits : (version : Version) (behind skip : ℕ) → version ≡ versions.Two → skip ≤ behind → IsBranch version behind skip
 branch_fits version behind skip two le = let P : Version → Type 0 = λ v. IsBranch v behind skip in subst P (sym two) le
 
@@ -146,7 +146,7 @@ adds_code version names (Lower at a) w g r = adds_one version names a tokens.Low
 adds_code version names (Upper at a) w g r = adds_one version names a tokens.Upper (adds_code version names a w g r) (λ n. tt)
 adds_code version names (IntToText at a) w g r = adds_bare version names a tokens.IntToText (adds_code version names a w (omega (arith, g)) r) (λ n. tt)
 
--- the tokens of a tree fit a file
+-- the tokens of a tree fit in a file
 are_tokens : (t : Tree) → greatest t ≤ 65535 → HasRanges t → AreTokens (version_for t) (code_of (names t) t)
 are_tokens t g r =
     let P : List Token → Type 0 = AreTokens (version_for t) in

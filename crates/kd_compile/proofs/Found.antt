@@ -1,4 +1,4 @@
--- The place of a name that the search finds.
+-- The index of a name that the search finds.
 use Rattle.std.proofs.Common.{◌≡◌, ℕ, suc, ◌≤◌, ◌+◌, Bool, true, false, List, [], ◌∷◌, length, refl, sym, arith}
 use Rattle.std.specs.Prelude.{nat_lt, cond, Some, None, if◌then◌else◌}
 use Rattle.std.specs.List.{position, position_or_len}
@@ -21,7 +21,7 @@ place_is name names = is_position_or_len (index_of name) (same name) refl (λ x 
   by true n = refl
   by false n = omega arith
 
--- the first place where the name stands, or else how many names there are
+-- the first index of the name, or otherwise how many names there are
 pub found_place : (name : List ℕ) (names : List (List ℕ)) → unwrap_or (position (same name) names) (length names) ≡ index_of name names
 found_place name names = by (nat_lt (position_or_len (same name) names) (length names)) refl where
   by : (b : Bool) → nat_lt (position_or_len (same name) names) (length names) ≡ b → unwrap_or (cond b (Some (position_or_len (same name) names)) None) (length names) ≡ index_of name names

@@ -1,4 +1,4 @@
--- The tokens of an expression make its value, wherever they stand and whatever values are below.
+-- The tokens of an expression make its value, wherever they are and whatever values are below.
 use Rattle.std.proofs.Common.{◌≡◌, ℕ, ◌+◌, Bool, true, false, List, [], ◌∷◌, ◌++◌, length, length-append, Option, Some, refl, sym, ap, subst, arith, inl, inr}
 use Rattle.std.specs.Prelude.{◌⊎◌, ◌&&◌, ◌||◌, if◌then◌else◌, slice_get}
 use Rattle.std.proofs.lemmas.List.{append_assoc}
@@ -87,7 +87,7 @@ four_bytes p w (Text bytes) s e = absurd (cc)
 same_bytes : (p : Code) (w : World) (v : Val) (s : List Val) → v ≡ Text (bytes_in v) → Makes p w [] (v ∷ s) (Text (bytes_in v) ∷ s)
 same_bytes p w v s e = let P : Val → Type 0 = λ x. Makes p w [] (v ∷ s) (x ∷ s) in subst P e (makes_none p w (v ∷ s))
 
--- a truth value that stays where it decides
+-- a truth value that stays if it decides
 and_makes : (p : Code) (w : World) (xs ys : List Token) (s : List Val) (a b : Bool) (skip : ℕ) → skip ≡ length ys → Makes p w xs s (Truth a ∷ s) → Makes p w ys s (Truth b ∷ s)
     → Makes p w (xs ++ tokens.BranchFalseElsePop skip ∷ ys) s (Truth (a && b) ∷ s)
 and_makes p w xs ys s true b skip e first second =
@@ -176,7 +176,7 @@ member_moves p m held name e s i =
     let F : Option (List ℕ) → Option (ℕ × List Val) = λ o. o >>= (λ x. Some (Truth (is_held x held) ∷ s)) >>= λ t. Some (i + 1, t) in
     ap F e
 
--- the tokens of an expression whose operands are of the wanted types make its value
+-- the tokens of an expression whose operands have the types that are needed make its value
 pub tree_makes : (p : Code) (m : Seen) (held : List (List ℕ)) (t : Tree) → IsWell t → Knows p.names t → (s : List Val) → Makes p (world p m held) (code_of p.names t) s (value m held t ∷ s)
 unfolding rule
 tree_makes p m held (Literal at bytes) well known s = push_makes p (here p m held) (tokens.PushBytes bytes) _ (λ s i. refl) s

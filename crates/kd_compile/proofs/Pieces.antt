@@ -1,5 +1,5 @@
--- Pieces of a program: tokens, the points before them and the point after them, so that each way from a
--- place of the piece leads to a place that knows what it brings.
+-- Pieces of a program: tokens, the points before them and the point after them, so that each path
+-- from a place of the piece leads to a place that knows what it brings.
 use Rattle.std.proofs.Common.{◌≡◌, ℕ, suc, ◌+◌, ◌≤◌, ◌<◌, List, [], ◌∷◌, ◌++◌, length, Option, Some, None, refl, sym, subst, arith, length-append, inl, inr}
 use Rattle.std.specs.Prelude.{◌⊎◌, slice_get, MatchOption}
 use Rattle.std.specs.List.{AllByRecursion}
@@ -27,7 +27,7 @@ pub covered_sooner : (o : Option Point) (s : List Kind) (m n : ℕ) → n ≤ m 
 covered_sooner None s m n le c = absurd c
 covered_sooner (Some z) s m n le c = (c.0, omega (arith, c.1, le))
 
--- and one with a shorter byte string on top too
+-- and also one with a shorter byte string on top
 pub covered_shorter : (o : Option Point) (a b : ℕ) (s : List Kind) (m n : ℕ) → b ≤ a → n ≤ m → IsCovered o (point (kinds.Bytes a ∷ s) m) → IsCovered o (point (kinds.Bytes b ∷ s) n)
 covered_shorter None a b s m n short le c = absurd c
 covered_shorter (Some z) a b s m n short le c = (by z.shape c.0, omega (arith, c.1, le)) where
@@ -45,7 +45,7 @@ known_covered o x e = let P : Option Point → Type 0 = λ v. IsCovered v x in s
 abbrev pub Goes : Code → Assignment → Flow → Type 0
 Goes p a f = IsWithin p f × IsCovered (a f.to) f.point
 
--- a place where each flow goes so, and its token can take what it wants
+-- a place whose token can take what it needs, and whose flows all go so
 abbrev pub Leads : Code → Assignment → ℕ → Type 0
 Leads p a j = MatchOption (out p a j) ⊥ (AllByRecursion (Goes p a))
 
@@ -59,7 +59,8 @@ leads_here p a i token q is known goes =
     let Q : Option Point → Type 0 = λ o. MatchOption (leaving (length p.names) (Some token) i o) ⊥ (AllByRecursion (Goes p a)) in
     subst P (sym is) (subst Q (sym known) goes)
 
--- tokens, the points before them, and the point after them: from the first point on, wherever they stand
+-- tokens, the points before them, and the point after them: from the first point on, wherever they
+-- are
 pub record Piece (p : Code) (q : Point) (ts : List Token) (qs : List Point) (x : Point) : Type 0 where
   pub size : length qs ≡ length ts
   pub room : IsRoomFor p x.shape
@@ -78,7 +79,7 @@ piece_last p q token x room step = record {
       subst P here (leads_here p a i token q ts.0 qs.0 (step a i end));
 }
 
--- one token more in front of a piece
+-- one more token before a piece
 pub piece_front : (p : Code) (q : Point) (token : Token) (z x : Point) (ts : List Token) (qs : List Point) → Piece p z ts qs x
     → ((a : Assignment) (i : ℕ) → HasAt a (i + 1) qs → IsCovered (a (i + 1 + length ts)) x → GoesOn p a i token q) → Piece p q (token ∷ ts) (q ∷ qs) x
 piece_front p q token z x ts qs piece step = record {
@@ -116,7 +117,7 @@ piece_then p q x y ts us qs rs piece next = record {
       by (cases_lt j (i + length ts));
 }
 
--- the same piece before another point, where what covers that covers the piece's own
+-- the same piece before another point, if what covers that also covers the piece's own
 pub piece_over : (p : Code) (q x y : Point) (ts : List Token) (qs : List Point) → IsRoomFor p y.shape → ((o : Option Point) → IsCovered o y → IsCovered o x) → Piece p q ts qs x → Piece p q ts qs y
 piece_over p q x y ts qs room over piece = record {
   size = piece.size;

@@ -1,4 +1,4 @@
--- Each name that a class test asks for has its place among the names of its program.
+-- Each name that a class test asks for has an index among the names of its program.
 use Rattle.std.proofs.Common.{◌≡◌, ℕ, suc, Bool, true, false, List, [], ◌∷◌, ◌++◌, Some, refl, sym, ap, subst, ◌∙◌}
 use Rattle.std.specs.Prelude.{◌||◌, if◌then◌else◌, slice_get}
 use Rattle.std.specs.Cmp.Lexicographic.{same_text}
@@ -10,11 +10,11 @@ use Rattle.kd_expr.specs.Tree.{Tree, Literal, Int, OptionValue, RelayValue, Fiel
 use Rattle.kd_machine.specs.Held.{with_name}
 use Rattle.kd_machine.specs.Parts.{same, is_held}
 
--- a name stands at its place
+-- a name is at its index
 abbrev pub IsPlaced : List (List ℕ) → List ℕ → Type 0
 IsPlaced names name = slice_get names (index_of name names) ≡ Some name
 
--- each name that a tree asks for stands at its place
+-- each name that a tree asks for is at its index
 abbrev pub Knows : List (List ℕ) → Tree → Type 0
 Knows names (Literal at bytes) = Unit {0}
 Knows names (Int at n) = Unit {0}
@@ -37,7 +37,7 @@ Knows names (Lower at a) = Knows names a
 Knows names (Upper at a) = Knows names a
 Knows names (IntToText at a) = Knows names a
 
--- a name keeps its place when more names come after
+-- a name keeps its index when more names come after
 placed_on : (name : List ℕ) (names more : List (List ℕ)) → IsPlaced names name → IsPlaced (names ++ more) name
 placed_on name [] more e = absurd (cc)
 placed_on name (x ∷ names) more e = by (same name x) (placed_on name names more) e where
@@ -45,7 +45,7 @@ placed_on name (x ∷ names) more e = by (same name x) (placed_on name names mor
   by true later e = e
   by false later e = later e
 
--- a name that is among names stands at its place
+-- a name that is one of a list of names is at its index
 placed_among : (name : List ℕ) (names : List (List ℕ)) → is_held name names ≡ true → IsPlaced names name
 placed_among name [] e = absurd (cc)
 placed_among name (x ∷ names) e = by (same name x) refl (placed_among name names) e where
@@ -53,7 +53,7 @@ placed_among name (x ∷ names) e = by (same name x) refl (placed_among name nam
   by true told later e = ap Some (sym (same_text name x (sym told)))
   by false told later e = later e
 
--- a name that is not stands at its place after them
+-- a name that is not is at its index after them
 placed_behind : (name : List ℕ) (names : List (List ℕ)) → is_held name names ≡ false → IsPlaced (names ++ name ∷ []) name
 placed_behind name [] e = by (same name name) (nat_list_eq_equiv.refl name) where
   by : (b : Bool) → b ≡ true → slice_get (name ∷ []) (if b then 0 else 1) ≡ Some name
@@ -131,7 +131,7 @@ knows_behind (Lower at a) names more k = knows_behind a names more k
 knows_behind (Upper at a) names more k = knows_behind a names more k
 knows_behind (IntToText at a) names more k = knows_behind a names more k
 
--- what a tree knows it knows with those names too that another asks for after it
+-- what a tree knows, it also knows with the names that another tree asks for after it
 knows_on : (t u : Tree) (names : List (List ℕ)) → Knows names t → Knows (names_after names u) t
 knows_on t u names k =
     let more = begins_after u names in
@@ -161,6 +161,6 @@ knows_after (Lower at a) names = knows_after a names
 knows_after (Upper at a) names = knows_after a names
 knows_after (IntToText at a) names = knows_after a names
 
--- the names of a tree have each that it asks for
+-- the names of a tree include each that it asks for
 pub names_known : (t : Tree) → Knows (names t) t
 names_known t = knows_after t []

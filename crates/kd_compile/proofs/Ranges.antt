@@ -1,4 +1,5 @@
--- The numbers of a class test that has a text: what its nodes hold, and how many tokens its program has.
+-- The numbers of a class test that has a text: what its nodes hold, and how many tokens its program
+-- has.
 use Rattle.std.proofs.Common.{ℕ, zero, suc, ◌+◌, ◌*◌, ◌≤◌, ◌<◌, ◌^◌, Bool, true, false, List, ◌∷◌, ◌++◌, length, Option, arith, length-append}
 use Rattle.std.specs.Prelude.{ℤ, if◌then◌else◌}
 use Rattle.std.specs.Int.{w32}
@@ -119,7 +120,7 @@ size_le (uint32totext c s) = omega (arith, length-append {A = Lexeme}, size_le s
 address_some : {text a : List ℕ} → IsAddress text a → 1 ≤ length text
 address_some (four s t u v p q r w) = let some = p.some in omega (arith, some, length-append s (46 ∷ (t ++ 46 ∷ (u ++ 46 ∷ v))))
 
--- a word has a byte
+-- a word has at least one byte
 word_some : {at : ℕ} {word rest : List ℕ} {x : Lexeme} → Word at word rest x → 1 ≤ length word
 word_some (string_word h) = omega arith
 word_some (hex_word h each ends) = omega arith

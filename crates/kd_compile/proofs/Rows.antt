@@ -1,8 +1,8 @@
--- A row of items that stands somewhere in a list.
+-- A list of items that occurs somewhere in a list.
 use Rattle.std.proofs.Common.{◌≡◌, ℕ, suc, ◌+◌, List, [], ◌∷◌, ◌++◌, length, Option, Some, refl, subst, arith}
 use Rattle.std.specs.Prelude.{slice_get}
 
--- a row stands in a map from place i on
+-- a list occurs in a map from index i on
 abbrev pub HasAt : {X : Type 0} → (ℕ → Option X) → ℕ → List X → Type 0
 HasAt f i [] = Unit {0}
 HasAt f i (x ∷ xs) = (f i ≡ Some x) × HasAt f (i + 1) xs
@@ -25,7 +25,7 @@ has_later x list i (y ∷ xs) h =
     let P : ℕ → Type 0 = λ n. slice_get (x ∷ list) n ≡ Some y in
     (subst P next h.0, has_later x list (i + 1) xs h.1)
 
--- a list stands in itself
+-- a list occurs in itself
 pub has_itself : {X : Type 0} (list : List X) → HasAt (slice_get list) 0 list
 has_itself [] = tt
 has_itself (x ∷ list) = (refl, has_later x list 0 list (has_itself list))

@@ -1,5 +1,5 @@
--- What the type of a class test says of its nodes: each operand is of the type that is wanted, and the kind
--- of its value on a stack is known.
+-- What the type of a class test says of its nodes: each operand has the type that is needed, and
+-- the kind of its value on a stack is known.
 use Rattle.std.proofs.Common.{◌≡◌, ℕ, ◌+◌, true, false, length, refl, subst, inl, inr}
 use Rattle.std.specs.Prelude.{◌⊎◌, max, Result, Ok, Err}
 use Rattle.kd_compile.specs.Measures.{number_tree, bound}
@@ -62,7 +62,7 @@ HasType types.Bytes t = IsText t
 abbrev pub IsBytes : Tree → Type 0
 IsBytes t = IsNumber t ⊎ IsText t
 
--- each operand is of the type that is wanted
+-- each operand has the type that is needed
 abbrev pub IsWell : Tree → Type 0
 IsWell (Literal at bytes) = Unit {0}
 IsWell (Int at n) = Unit {0}
@@ -89,12 +89,12 @@ IsWell (IntToText at a) = IsNumber a × IsWell a
 abbrev Told : Tree → Type 0
 Told t = (ty : ValueType) → type_of t ≡ Ok ty → HasType ty t × IsWell t
 
--- where a row of answers ends well, the first does, and the rest
+-- if a sequence of results ends well, the first does, and the rest
 and_both : {A : Type 0} (first : Result (Unit {0}) TypeFault) (rest : Result A TypeFault) (x : A) → andthen first rest ≡ Ok x → (first ≡ Ok tt) × (rest ≡ Ok x)
 and_both (Ok tt) rest x e = (refl, e)
 and_both (Err fault) rest x e = absurd (cc)
 
--- a type as an answer
+-- a type as a result
 abbrev answer : ValueType → Result ValueType TypeFault
 answer x = Ok x
 
@@ -158,7 +158,7 @@ two_bytes a b first second x ty e =
     let rest = one_bytes b second (Ok x) ty start.0 in
     (rest.0, (start.1, rest.1))
 
--- a tree with a type is what the type says, and each operand is of the type that is wanted
+-- a tree with a type is what the type says, and each operand has the type that is needed
 pub well_of : (t : Tree) (ty : ValueType) → type_of t ≡ Ok ty → HasType ty t × IsWell t
 well_of (Literal at bytes) ty e = (same_type ty types.Bytes _ e (record { text = refl; kind = refl }), tt)
 well_of (Int at n) ty e = (same_type ty types.Int _ e (record { number = refl; kind = refl; size = refl }), tt)

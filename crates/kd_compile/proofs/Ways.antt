@@ -1,4 +1,4 @@
--- Runs through a part of a program: what the tokens that stand in a row make of the values before them.
+-- Runs through a part of a program: what tokens one after another make of the values before them.
 use Rattle.std.proofs.Common.{◌≡◌, ℕ, zero, suc, ◌+◌, max, List, [], ◌∷◌, ◌++◌, length, length-append, Some, refl, sym, subst, arith}
 use Rattle.std.specs.Prelude.{slice_get}
 use Rattle.kd_compile.proofs.Rows.{HasAt, has_front, has_back}
@@ -24,14 +24,15 @@ comes_by (suc n) p w i j k s t u d l c g =
     let before = comes_by n p w i j g.0 s t g.1 g.2 g.3 c g.4 in
     (suc before.0, max before.1 (length u), max before.2 (longest u), (g.0, g.1, before.1, before.2, before.3, g.5, refl, refl))
 
--- one way after another
+-- one run after another
 pub comes_on : (p : Code) (w : World) (i j k : ℕ) (s t u : List Val) → Comes p w i s j t → Comes p w j t k u → Comes p w i s k u
 comes_on p w i j k s t u a b = comes_by b.0 p w i j k s t u b.1 b.2 a b.3
 
 comes_to : (p : Code) (w : World) (i j k : ℕ) (s t : List Val) → j ≡ k → Comes p w i s j t → Comes p w i s k t
 comes_to p w i j k s t e c = let P : ℕ → Type 0 = λ x. Comes p w i s x t in subst P e c
 
--- wherever these tokens stand, a program comes from before them with some values after them with others
+-- wherever these tokens are, a program comes from the place before them with some values to the
+-- place after them with others
 abbrev pub Makes : Code → World → List Token → List Val → List Val → Type 0
 Makes p w xs s t = (i : ℕ) → HasAt (slice_get p.tokens) i xs → Comes p w i s (i + length xs) t
 
@@ -64,6 +65,6 @@ module _ (p : Code) (w : World) where
   pub makes_next : (x : Token) (xs : List Token) (s t u : List Val) → ((i : ℕ) → moves w x i s ≡ Some (i + 1, t)) → Makes p w xs t u → Makes p w (x ∷ xs) s u
   makes_next x xs s t u moved b = makes_both (x ∷ []) xs s t u (makes_one x s t moved) b
 
-  -- a token that leads over all that stand after it
+  -- a token that leads over all the tokens after it
   pub makes_past : (x : Token) (xs : List Token) (s t : List Val) → ((i : ℕ) → moves w x i s ≡ Some (i + 1 + length xs, t)) → Makes p w (x ∷ xs) s t
   makes_past x xs s t moved i h = comes_to p w i (i + 1 + length xs) (i + suc (length xs)) s t (omega arith) (comes_step p w i s (i + 1 + length xs) t (x, h.0, moved i))

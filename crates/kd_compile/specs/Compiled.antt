@@ -1,5 +1,5 @@
--- What a compiled program owes to its class test: its measures, that it is accepted, and its
--- meaning.
+-- What a compiled program has to do with its class test: it has its measures, is accepted, and
+-- keeps its meaning.
 use Rattle.std.specs.Prelude.{◌≡◌, ℕ, nat_lt, if◌then◌else◌, List, length, Option, Some, None}
 use Rattle.kd_compile.specs.Measures.{token_count, step_count, stack_depth, greatest, names, branching}
 use Rattle.kd_compile.specs.Value.{truth}
@@ -31,12 +31,12 @@ first_over t =
     else if nat_lt 64 (length (names t)) then Some faults.TooManyNames
     else None
 
--- the version of a program: the second where it has branches
+-- the version of a program: version 2 if it has branches
 abbrev pub version_for : Tree → Version
 version_for t = if branching t then versions.Two else versions.One
 
--- a program has the measures of an expression: it declares its steps, its depth and its greatest
--- bound
+-- a program has the measures of an expression: its version, tokens and names, and it declares its
+-- steps, its depth and its greatest bound
 pub record HasMeasures (t : Tree) (p : Code) : Type 0 where
   pub version : p.version ≡ version_for t
   pub tokens : length p.tokens ≡ token_count t

@@ -1,6 +1,6 @@
 -- The measures of a class test, by recursion on its tree: how many tokens its program has, how many
 -- of them run at most, how many values are on the stack at most, how long its byte strings are at
--- most, and which names it asks for. The numbers have no greatest one.
+-- most, and which names it asks for. These numbers have no upper limit.
 use Rattle.std.specs.Prelude.{ℕ, ◌+◌, max, Bool, true, false, ◌||◌, if◌then◌else◌, List, [], length}
 use Rattle.kd_expr.specs.Tree.{Tree, Literal, Int, OptionValue, RelayValue, FieldValue, OptionExists, RelayExists, Member, Equal, Not, And, Or, Group, Concat, IfElse, Substring, HexString, Lower, Upper, IntToText}
 use Rattle.kd_wire.specs.declared.field.Field.{Field}
@@ -8,7 +8,7 @@ use Rattle.kd_wire.specs.declared.field.Field.TheVariants as fields
 use Rattle.kd_machine.specs.Held.{with_name}
 use Rattle.kd_token.specs.Shape.{bound_of_hex, bound_of_substring}
 
--- whether a part of a message is a number
+-- whether a message field is a number
 abbrev pub number_part : Field → Bool
 number_part fields.Mac = false
 number_part fields.Hlen = true
@@ -27,11 +27,12 @@ number_tree (Int at n) = true
 number_tree (FieldValue at field) = number_part field
 number_tree t = false
 
--- one token more where an operand is a number and a byte string is wanted: its four bytes
+-- one more token if an operand is a number where a byte string is needed: the token of its four
+-- bytes
 abbrev pub four_more : Tree → ℕ
 four_more t = if number_tree t then 1 else 0
 
--- how many tokens its program has; `and` and `or` have a branch, `ifelse` has two
+-- how many tokens its program has; `and` and `or` have one branch, `ifelse` has two
 abbrev pub token_count : Tree → ℕ
 token_count (Literal at bytes) = 1
 token_count (Int at n) = 1
@@ -55,7 +56,7 @@ token_count (Lower at a) = token_count a + four_more a + 1
 token_count (Upper at a) = token_count a + four_more a + 1
 token_count (IntToText at a) = token_count a + 1
 
--- how many tokens run at most: the longest way through its program
+-- how many tokens run at most: the longest path through its program
 abbrev pub step_count : Tree → ℕ
 step_count (Literal at bytes) = 1
 step_count (Int at n) = 1
@@ -102,7 +103,7 @@ stack_depth (Lower at a) = stack_depth a
 stack_depth (Upper at a) = stack_depth a
 stack_depth (IntToText at a) = stack_depth a
 
--- how long the byte string of a part of a message is at most; that of a number is its four bytes
+-- how long the byte string of a message field is at most; for a number it is its four bytes
 abbrev pub bound_of_part : Field → ℕ
 bound_of_part fields.Mac = 16
 bound_of_part field = 4
@@ -130,7 +131,7 @@ bound (Lower at a) = bound a
 bound (Upper at a) = bound a
 bound (IntToText at a) = 10
 
--- the greatest bound of an expression's byte strings, those on the way included
+-- the greatest bound of an expression's byte strings, including those on the way
 abbrev pub greatest : Tree → ℕ
 greatest (Equal at a b) = max (greatest a) (greatest b)
 greatest (Not at a) = greatest a

@@ -1,7 +1,7 @@
 -- The tokens of a class test, by recursion on its tree: operands from left to right, then the
--- node's own token; the four bytes after a number where a byte string is wanted; `and`, `or` and
--- `ifelse` by branches over what they may skip. A compiled program is this one; proofs tie it to
--- the expression's value and measures.
+-- node's own token; after a number, the token of its four bytes where a byte string is needed;
+-- `and`, `or` and `ifelse` use branches over what they may skip. A compiled program is exactly this
+-- one; proofs tie it to the expression's value and measures.
 use Rattle.std.specs.Prelude.{ℕ, suc, ◌+◌, if◌then◌else◌, List, [], ◌∷◌, ◌++◌}
 use Rattle.kd_expr.specs.Tree.{Tree, Literal, Int, OptionValue, RelayValue, FieldValue, OptionExists, RelayExists, Member, Equal, Not, And, Or, Group, Concat, IfElse, Substring, HexString, Lower, Upper, IntToText}
 use Rattle.kd_machine.specs.Parts.{same}
@@ -12,12 +12,12 @@ use Rattle.kd_compile.specs.Compiled.{version_for}
 use Rattle.kd_compile.specs.Measures.{number_tree, four_more, step_count, stack_depth, greatest, names}
 use Rattle.kd_compile.specs.Measures.{token_count as size}
 
--- the place of a name among names; their number where it is not there
+-- the index of a name in a list of names, or their number if it is not there
 abbrev pub index_of : List ℕ → List (List ℕ) → ℕ
 index_of name [] = 0
 index_of name (x ∷ names) = if same name x then 0 else suc (index_of name names)
 
--- the token after an operand where a byte string is wanted
+-- the token after an operand where a byte string is needed, if it is a number
 abbrev pub in_bytes : Tree → List Token
 in_bytes t = if number_tree t then tokens.IntBytes ∷ [] else []
 
@@ -51,7 +51,7 @@ code_of names (Lower at a) = code_of names a ++ in_bytes a ++ tokens.Lower ∷ [
 code_of names (Upper at a) = code_of names a ++ in_bytes a ++ tokens.Upper ∷ []
 code_of names (IntToText at a) = code_of names a ++ tokens.IntToText ∷ []
 
--- the program of an expression: its tokens, and its measures as what it declares
+-- the program of an expression: its tokens, with its measures as what it declares
 abbrev pub program_for : Tree → Code
 program_for t =
     code (version_for t) (step_count t) (stack_depth t) (greatest t) (names t) (code_of (names t) t)

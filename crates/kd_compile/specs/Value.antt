@@ -1,6 +1,6 @@
 -- The value of a class test (Kea Administrator Reference Manual, chapter Client Classification), by
--- recursion on its tree: a truth value, a number, or a byte string. Where a byte string is wanted,
--- a number stands for its four bytes in network order.
+-- recursion on its tree: a truth value, a number, or a byte string. Where a byte string is needed,
+-- a number stands for its four bytes in network byte order.
 use Rattle.std.specs.Prelude.{ℕ, Bool, false, not, ◌&&◌, ◌||◌, is_some, nat_eq, if◌then◌else◌, List, [], ◌++◌, map, Option}
 use Rattle.std.specs.Char.{to_ascii_lowercase, to_ascii_uppercase}
 use Rattle.std.specs.Fmt.{decimal}
@@ -14,30 +14,30 @@ use Rattle.kd_machine.specs.Strings.{substring, hex_of}
 use Rattle.kd_machine.specs.Val.{Val, Truth, Number, Text}
 use Rattle.kd_machine.specs.Parts.{same, is_held, or_empty, value_of_field}
 
--- a truth value
+-- the truth value that a value is, or else false
 abbrev pub truth_in : Val → Bool
 truth_in (Truth b) = b
 truth_in (Number n) = false
 truth_in (Text bytes) = false
 
--- a number
+-- the number that a value is, or else 0
 abbrev pub number_in : Val → ℕ
 number_in (Number n) = n
 number_in (Truth b) = 0
 number_in (Text bytes) = 0
 
--- a byte string, or the four bytes of a number
+-- the byte string that a value is, or the four bytes of a number
 abbrev pub bytes_in : Val → List ℕ
 bytes_in (Text bytes) = bytes
 bytes_in (Number n) = big_bytes 4 n
 bytes_in (Truth b) = []
 
--- a sub-option of a message's relay information, where it is present (kd_options
+-- a sub-option of a message's relay information, if it is present (kd_options
 -- `laws::relay_list_is_standard`)
 abbrev pub relay_value : Seen → ℕ → Option (List ℕ)
 relay_value m code = lookup (nat_eq code) (relay_list m.options)
 
--- the value of an expression over a message, with these names of classes held
+-- the value of an expression over a message, with these class names held
 abbrev pub value : Seen → List (List ℕ) → Tree → Val
 value m held (Literal at bytes) = Text bytes
 value m held (Int at n) = Number n
@@ -63,6 +63,6 @@ value m held (Lower at a) = Text (map to_ascii_lowercase (bytes_in (value m held
 value m held (Upper at a) = Text (map to_ascii_uppercase (bytes_in (value m held a)))
 value m held (IntToText at a) = Text (decimal (number_in (value m held a)))
 
--- the truth value of a class test over a message, with these names of classes held
+-- the truth value of a class test over a message, with these class names held
 abbrev pub truth : Seen → List (List ℕ) → Tree → Bool
 truth m held t = truth_in (value m held t)

@@ -18,14 +18,14 @@ use kd_token::{Program, Verified, VerifyFault, Version, verify};
 use kd_wire::Bytes;
 use std::alloc::{AllocError, Global};
 
-/// The program of a class test. It is accepted, and its run over every message and every list of
-/// held names ends with the expression's value.
+/// Compiles a class test into a verified program. Its run over every message and every list of held
+/// names ends with the expression's value.
 ///
 /// # Errors
 ///
 /// The first limit that the program would be over: `TooManyTokens` (1,024), `TooDeep` (64),
-/// `TooLong` (65,535 bytes), `TooManyNames` (64). `Memory` where there is none for the program, in
-/// place of any other answer.
+/// `TooLong` (65,535 bytes), `TooManyNames` (64). `Memory`, in place of any other result, if there
+/// is none for the program.
 pub fn compile(alloc: Global, typed: &Typed) -> Result<Verified, CompileFault>
     ensures measured { IfOk result (λ v. HasMeasures (tree_of typed.now) v) }
     ensures accepted { IfOk result (λ v. Accepts v) }
@@ -50,7 +50,7 @@ pub fn compile(alloc: Global, typed: &Typed) -> Result<Verified, CompileFault>
         return Err(CompileFault::TooManyNames);
     }
     let program = program_of(alloc, tree, bound as u16, names)?;
-    // That an accepted program has a run over every message, and one only.
+    // These laws say that an accepted program has a run over every message, and only one.
     kd_machine::laws::accepted_ends();
     kd_machine::laws::one_end();
     match verify(alloc, program) {
@@ -62,7 +62,7 @@ pub fn compile(alloc: Global, typed: &Typed) -> Result<Verified, CompileFault>
     }
 }
 
-// The program of an expression that is over no limit.
+// Makes the program of an expression that is over no limit.
 fn program_of(
     alloc: Global,
     tree: &Node,
@@ -89,7 +89,7 @@ fn program_of(
     ))
 }
 
-// The version of an expression's program: the second where it has branches.
+// Returns the version of an expression's program: version 2 if it has branches.
 fn version_of(tree: &Node) -> Version
     ensures { result ≡ version_for (tree_of tree.now) }
 {

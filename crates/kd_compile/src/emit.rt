@@ -12,14 +12,14 @@ use kd_token::Token;
 use kd_wire::Bytes;
 use std::alloc::{AllocError, Global};
 
-// The place of a name among names.
+// Returns the index of a name in a list of names, if it is there.
 fn find(name: &[u8], names: &[Bytes]) -> Option<usize>
     ensures { result ≡ position (λ other. same name.now other) names.now }
 {
     names.iter().position(|other| name == other.as_slice())
 }
 
-// The place of a name among names, their number where it is not there.
+// Returns the index of a name in a list of names, or their number if it is not there.
 fn place(name: &[u8], names: &[Bytes]) -> usize
     ensures at { result ≡ index_of name.now names.now }
     ensures within { result ≤ length names.now }
@@ -27,21 +27,21 @@ fn place(name: &[u8], names: &[Bytes]) -> usize
     find(name, names).unwrap_or(names.len())
 }
 
-// Whether a name is among names.
+// Whether a name is one of a list of names.
 fn is_among(name: &[u8], names: &[Bytes]) -> bool
     ensures { result ≡ is_held name.now names.now }
 {
     names.iter().any(|other| name == other.as_slice())
 }
 
-// A copy of bytes.
+// Returns a copy of bytes.
 fn copy(alloc: Global, bytes: &[u8]) -> Result<Bytes, AllocError>
     ensures { IfOk result (λ b. b ≡ bytes.now) }
 {
     Ok(Bytes::own(Vec::from_slice(alloc, bytes)?))
 }
 
-// One name more; a name that is there stays once.
+// Adds a name, unless it is already there.
 fn put_name(alloc: Global, name: &[u8], names: &mut Vec<Bytes>) -> Result<(), AllocError>
     ensures { OnOk result (names.new.items ≡ with_name name.now names.old.items) }
 {
@@ -51,7 +51,7 @@ fn put_name(alloc: Global, name: &[u8], names: &mut Vec<Bytes>) -> Result<(), Al
     Ok(())
 }
 
-// Names, and then those that an expression asks for.
+// Adds the names that an expression asks for.
 fn put_names(alloc: Global, node: &Node, names: &mut Vec<Bytes>) -> Result<(), AllocError>
     ensures { OnOk result (names.new.items ≡ names_after names.old.items (tree_of node.now)) }
 {
@@ -93,7 +93,7 @@ fn put_names(alloc: Global, node: &Node, names: &mut Vec<Bytes>) -> Result<(), A
     }
 }
 
-// The names that an expression asks for.
+// Returns the names that an expression asks for.
 pub(crate) fn member_names(alloc: Global, node: &Node) -> Result<Vec<Bytes>, AllocError>
     ensures { IfOk result (λ list. list.items ≡ names (tree_of node.now)) }
 {
@@ -102,14 +102,14 @@ pub(crate) fn member_names(alloc: Global, node: &Node) -> Result<Vec<Bytes>, All
     Ok(names)
 }
 
-// One token at the end.
+// Appends a token.
 fn put(out: &mut Vec<Token>, token: Token) -> Result<(), AllocError>
     ensures { OnOk result (out.new.items ≡ out.old.items ++ (token ∷ [])) }
 {
     Ok(out.push(token)?)
 }
 
-// The tokens of an operand where a byte string is wanted.
+// Appends the tokens of an operand where a byte string is needed.
 #[cycle(code)]
 fn put_bytes(
     alloc: Global,
@@ -131,7 +131,7 @@ fn put_bytes(
     }
 }
 
-// The tokens of an expression, with the names of its program.
+// Appends the tokens of an expression. `names` are the names of its program.
 #[cycle(code)]
 pub(crate) fn put_code(
     alloc: Global,

@@ -5,7 +5,7 @@ use std::alloc::{AllocError, AllocFailed};
 use std::fmt;
 use thiserror::Error;
 
-/// Why a class test is not compiled: the first limit that its program would be over.
+/// Why a class test cannot be compiled: the first limit that its program would be over.
 #[derive(Clone, Copy, PartialEq, Eq, Error)]
 pub enum CompileFault {
     /// It would have more than 1,024 tokens.
@@ -32,7 +32,7 @@ impl fmt::Debug for CompileFault {
 }
 
 impl CompileFault {
-    /// The fault's number: 51 to 54, or 91 for want of memory.
+    /// Returns the fault's number: 51 to 54, or 91 if out of memory.
     pub fn number(self) -> u8
         ensures { result ≡ compile_fault_number self }
     {

@@ -6,17 +6,17 @@ ghost use Rattle.kd_token.specs.Shape.{bound_of_hex, bound_of_substring};
 use kd_expr::Node;
 use kd_wire::Field;
 
-// Above every length that a program can declare; greater ones count as this.
+// One more than the greatest length that a program can declare; all greater lengths count as this.
 const MOST: usize = 65_536;
 
-// How long an expression's byte string is at most, and the longest one on the way.
+// The greatest length of an expression's byte string, and of any byte string on the way to it.
 #[derive(Clone, Copy)]
 pub(crate) struct Longest {
     pub(crate) own: usize,
     pub(crate) greatest: usize,
 }
 
-// Of the byte string of a part of a message.
+// Returns the greatest length of the byte string of a message field.
 fn part_bound(field: Field) -> usize
     ensures { result ≡ bound_of_part field }
 {
@@ -34,7 +34,8 @@ fn part_bound(field: Field) -> usize
     }
 }
 
-// Of the hexadecimal text of so many bytes with separators of so many bytes.
+// Returns the greatest length of the hexadecimal text of this many bytes with separators of this
+// length, or `MOST` if it is greater.
 fn hex_bound(bytes: usize, separator: usize) -> usize
     requires { (bytes ≤ 65536) × (separator ≤ 65536) }
     ensures { result ≡ min (bound_of_hex bytes separator) 65536 }
@@ -46,7 +47,7 @@ fn hex_bound(bytes: usize, separator: usize) -> usize
     }
 }
 
-// Of a part of so many bytes.
+// Returns the greatest length of a substring of this many bytes.
 fn substring_bound(bytes: usize, length: Option<i32>) -> usize
     ensures { result ≡ bound_of_substring bytes length }
 {
@@ -56,7 +57,7 @@ fn substring_bound(bytes: usize, length: Option<i32>) -> usize
     }
 }
 
-// Of a byte string that stands by itself.
+// Returns the lengths of a byte string that is not made from others.
 fn alone(length: usize) -> Longest
     ensures own { result.own ≡ min length 65536 }
     ensures greatest { result.greatest ≡ min length 65536 }
@@ -68,7 +69,7 @@ fn alone(length: usize) -> Longest
     }
 }
 
-// The lengths of an expression, where they are under 65,536.
+// Returns the lengths of an expression, each at most `MOST`.
 pub(crate) fn lengths(node: &Node) -> Longest
     ensures own { result.own ≡ min (bound (tree_of node.now)) 65536 }
     ensures greatest { result.greatest ≡ min (greatest (tree_of node.now)) 65536 }
@@ -131,7 +132,7 @@ pub(crate) fn lengths(node: &Node) -> Longest
     }
 }
 
-// Of a byte string that is made of two.
+// Returns the lengths of a byte string that is made from two.
 fn over(own: usize, left: Longest, right: Longest) -> Longest
     ensures own { result.own ≡ own }
     ensures greatest { result.greatest ≡ max own (max left.greatest right.greatest) }

@@ -5,7 +5,7 @@ ghost use Rattle.kd_expr.specs.View.{tree_of};
 use kd_expr::Node;
 use kd_wire::Field;
 
-// Whether a part of a message is a number.
+// Whether a message field is a number.
 fn is_number_part(field: Field) -> bool
     ensures { result ≡ number_part field }
 {
@@ -27,14 +27,14 @@ pub(crate) fn is_number(node: &Node) -> bool
     }
 }
 
-// One where an operand is a number: the token of its four bytes.
+// Returns 1 if an operand is a number, for the token of its four bytes, otherwise 0.
 pub(crate) fn four(node: &Node) -> u32
     ensures { result ≡ four_more (tree_of node.now) }
 {
     if is_number(node) { 1 } else { 0 }
 }
 
-// How many tokens an expression's program has.
+// Returns the number of tokens in an expression's program.
 pub(crate) fn tokens(node: &Node) -> u32
     requires { token_count (tree_of node.now) < 2 ^ 32 }
     ensures { result ≡ token_count (tree_of node.now) }
@@ -70,7 +70,7 @@ pub(crate) fn tokens(node: &Node) -> u32
     }
 }
 
-// How many tokens run at most.
+// Returns the greatest number of tokens that run.
 pub(crate) fn steps(node: &Node) -> u32
     requires { step_count (tree_of node.now) < 2 ^ 32 }
     ensures { result ≡ step_count (tree_of node.now) }
@@ -106,7 +106,7 @@ pub(crate) fn steps(node: &Node) -> u32
     }
 }
 
-// How many values are on the stack at most.
+// Returns the greatest number of values on the stack.
 pub(crate) fn depth(node: &Node) -> u32
     requires { stack_depth (tree_of node.now) < 2 ^ 32 }
     ensures { result ≡ stack_depth (tree_of node.now) }
