@@ -1,4 +1,4 @@
--- A look-up in lists of definitions, one after another.
+-- A lookup in lists of definitions, one after another.
 use Rattle.std.proofs.Common.{◌≡◌, ◌∙◌, ℕ, refl, sym, ap, ap₂, List, ◌++◌, Option, Some, None, option_map}
 use Rattle.std.specs.Prelude.{◌==◌, find}
 use Rattle.std.specs.Option.{option_or}
@@ -10,7 +10,7 @@ or_mapped : {A B : Type 0} (f : A → B) (x y : Option A) → option_map f (opti
 or_mapped f None y = refl
 or_mapped f (Some a) y = refl
 
--- what the first list has for a code, or else the second
+-- what the first list has for a code, or otherwise the second
 in_both : (a b : List Definition) (code : ℕ) → option_or (definition_in a code) (definition_in b code) ≡ definition_in (a ++ b) code
 in_both a b code =
     sym (ap (option_map (λ d. (d.1, d.2))) (find-append (λ d. d.0 == code) a b)

@@ -1,4 +1,4 @@
--- The options with a name: those of RFC 2132 and some of later standards, named as in Kea's standard
+-- The options with names: those of RFC 2132 and some of later standards, named as in Kea's standard
 -- option definitions, each with its code and the type of its value.
 use Rattle.std.specs.Prelude.{ℕ, ◌==◌, List, [], ◌∷◌, ◌++◌, Option, codes, find, option_map}
 use Rattle.kd_names.specs.declared.kind.Kind.{Kind}
@@ -30,7 +30,7 @@ vendor_extensions =
     ∷ (17, codes "root-path", Text)
     ∷ (18, codes "extensions-path", Text) ∷ []
 
--- the parameters of the IP layer, for a host and for an interface (RFC 2132 sections 4 and 5)
+-- the parameters of the IP layer, per host and per interface (RFC 2132 sections 4 and 5)
 abbrev pub ip_parameters : List Definition
 ip_parameters =
     (19, codes "ip-forwarding", Flag)
@@ -122,6 +122,6 @@ definitions = vendor_extensions ++ ip_parameters ++ link_parameters ++ services 
 abbrev pub definition_in : List Definition → ℕ → Option (List ℕ × Kind)
 definition_in list code = option_map (λ d. (d.1, d.2)) (find (λ d. d.0 == code) list)
 
--- the name of an option and the type of its value, where it has a name
+-- the name of an option and the type of its value, if it has a name
 abbrev pub definition_of : ℕ → Option (List ℕ × Kind)
 definition_of = definition_in definitions

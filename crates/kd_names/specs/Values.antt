@@ -1,4 +1,5 @@
--- The values of options as text, by their types (RFC 2132), and the line of an option that has a name.
+-- The values of options as text, by their types (RFC 2132), and the line of an option that has a
+-- name.
 use Rattle.std.specs.Prelude.{ℕ, ◌+◌, ◌-◌, ◌*◌, ◌^◌, ◌%◌, ◌==◌, ◌&&◌, Bool, false, if◌then◌else◌, nat_le, nat_lt}
 use Rattle.std.specs.Prelude.{List, [], ◌∷◌, ◌++◌, Option, Some, None, codes, decimal, length}
 use Rattle.std.specs.List.{flat_map}
@@ -9,7 +10,7 @@ use Rattle.kd_names.specs.declared.kind.Kind.TheVariants.{Address, Addresses, Pa
 
 -- ---- the form of a value
 
--- groups of so many bytes, one at least
+-- one or more groups of `size` bytes
 abbrev pub is_grouped : ℕ → List ℕ → Bool
 is_grouped size value = nat_lt 0 (length value) && length value % size == 0
 
@@ -36,7 +37,7 @@ fits_kind Bytes value = nat_lt 0 (length value)
 
 -- ---- addresses and numbers
 
--- what stands between two addresses or numbers
+-- what comes between two addresses or numbers
 abbrev pub comma : List ℕ
 comma = codes ", "
 
@@ -45,27 +46,27 @@ abbrev pub dotted_text : ℕ → ℕ → ℕ → ℕ → List ℕ
 dotted_text a b c d =
     decimal a ++ codes "." ++ decimal b ++ codes "." ++ decimal c ++ codes "." ++ decimal d
 
--- the addresses of bytes, each behind a comma
+-- the addresses in bytes, each after a comma
 unfoldable pub addresses_behind : List ℕ → List ℕ
 addresses_behind (a ∷ b ∷ c ∷ d ∷ rest) = comma ++ dotted_text a b c d ++ addresses_behind rest
 addresses_behind other = []
 
--- the addresses of bytes, with commas between them
+-- the addresses in bytes, with commas between them
 unfoldable pub addresses_text : List ℕ → List ℕ
 addresses_text (a ∷ b ∷ c ∷ d ∷ rest) = dotted_text a b c d ++ addresses_behind rest
 addresses_text other = []
 
--- the numbers of two bytes each, each behind a comma
+-- 2-byte numbers, each after a comma
 unfoldable pub shorts_behind : List ℕ → List ℕ
 shorts_behind (a ∷ b ∷ rest) = comma ++ decimal (a * 256 + b) ++ shorts_behind rest
 shorts_behind other = []
 
--- the numbers of two bytes each, with commas between them
+-- 2-byte numbers, with commas between them
 unfoldable pub shorts_text : List ℕ → List ℕ
 shorts_text (a ∷ b ∷ rest) = decimal (a * 256 + b) ++ shorts_behind rest
 shorts_text other = []
 
--- a byte's number, behind a comma
+-- a byte's number, after a comma
 abbrev pub code_behind : ℕ → List ℕ
 code_behind code = comma ++ decimal code
 
@@ -74,24 +75,24 @@ unfoldable pub codes_text : List ℕ → List ℕ
 codes_text [] = []
 codes_text (code ∷ rest) = decimal code ++ flat_map code_behind rest
 
--- the number of one, two or four bytes, the highest first
+-- the number of one, two or four bytes, highest byte first
 unfoldable pub number_of_bytes : List ℕ → ℕ
 number_of_bytes (a ∷ []) = a
 number_of_bytes (a ∷ b ∷ []) = a * 256 + b
 number_of_bytes (a ∷ b ∷ c ∷ d ∷ []) = ((a * 256 + b) * 256 + c) * 256 + d
 number_of_bytes other = 0
 
--- a number of four bytes in two's complement
+-- a 4-byte number in two's complement
 unfoldable pub signed_text : ℕ → List ℕ
 signed_text n = if nat_lt n (2 ^ 31) then decimal n else codes "-" ++ decimal (2 ^ 32 - n)
 
--- ---- flags, types of messages and text
+-- ---- flags, message types and text
 
 -- a flag
 abbrev pub flag_text : ℕ → List ℕ
 flag_text flag = if flag == 0 then codes "false" else codes "true"
 
--- the name of a type of message (RFC 2132 section 9.6)
+-- the name of a message type (RFC 2132 section 9.6)
 unfoldable pub type_name : ℕ → List ℕ
 type_name number =
     if number == 1 then codes "DISCOVER"
@@ -103,12 +104,12 @@ type_name number =
     else (if number == 7 then codes "RELEASE"
     else codes "INFORM"))))))
 
--- a type of message: its number and its name
+-- a message type: its number and its name
 abbrev pub message_type_text : ℕ → List ℕ
 message_type_text number = decimal number ++ codes " " ++ type_name number
 
--- a byte of text: a quotation mark and a backslash behind a backslash, any other that prints as it
--- is, and the rest as `\x` and two hexadecimal digits
+-- a byte of text: a quotation mark and a backslash after a backslash, any other printable byte as
+-- it is, and the rest as `\x` and two hexadecimal digits
 unfoldable pub sign_text : ℕ → List ℕ
 sign_text b =
     if b == 34 then codes "\\\""
@@ -122,7 +123,7 @@ quoted_text value = codes "\"" ++ flat_map sign_text value ++ codes "\""
 
 -- ---- the line
 
--- a value by its type
+-- a value as its type is written
 abbrev pub text_by_kind : Kind → List ℕ → List ℕ
 text_by_kind Address value = addresses_text value
 text_by_kind Addresses value = addresses_text value
@@ -143,13 +144,13 @@ unfoldable pub named_value : List ℕ → Kind → List ℕ → List ℕ
 named_value name kind value =
     codes "  " ++ name ++ codes " " ++ text_by_kind kind value ++ codes "\n"
 
--- the line of a value of an option with this name and type, where the value has the form of the type
+-- the line of an option with this name and type, if the value has the form of the type
 abbrev pub line_by : Option (List ℕ × Kind) → List ℕ → List ℕ
 line_by None value = []
 line_by (Some definition) value =
     if fits_kind definition.1 value then named_value definition.0 definition.1 value else []
 
 -- the line of an option that has a name and a value of the form of its type, with its line feed;
--- none of any other
+-- nothing for any other option
 abbrev pub named_text : ℕ → List ℕ → List ℕ
 named_text code value = line_by (definition_of code) value

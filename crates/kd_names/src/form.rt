@@ -24,7 +24,7 @@ pub(crate) fn is_well_formed(kind: Kind, value: &[u8]) -> bool
     }
 }
 
-// Whether a value is groups of so many bytes, one at least.
+// Whether a value consists of one or more groups of `size` bytes.
 fn has_groups(value: &[u8], size: usize) -> bool
     requires { 0 < size }
     ensures { result ≡ is_grouped size value.now }
@@ -32,7 +32,7 @@ fn has_groups(value: &[u8], size: usize) -> bool
     !value.is_empty() && value.len() % size == 0
 }
 
-// Whether a value is one byte, from the least to the most.
+// Whether a value is one byte from `least` to `most`.
 fn is_byte(value: &[u8], least: u8, most: u8) -> bool
     ensures { result ≡ is_byte_within least most value.now }
 {

@@ -3,28 +3,28 @@
 pub enum Kind {
     /// One IPv4 address.
     Address,
-    /// One IPv4 address or more.
+    /// One or more IPv4 addresses.
     Addresses,
-    /// One pair of IPv4 addresses or more.
+    /// One or more pairs of IPv4 addresses.
     Pairs,
     /// A flag: one byte, 0 or 1.
     Flag,
-    /// A number of one byte.
+    /// A 1-byte number.
     Byte,
-    /// A number of two bytes.
+    /// A 2-byte number.
     Short,
-    /// A number of four bytes.
+    /// A 4-byte number.
     Long,
-    /// A number of four bytes in two's complement.
+    /// A 4-byte number in two's complement.
     Signed,
-    /// One number of two bytes or more.
+    /// One or more 2-byte numbers.
     Shorts,
-    /// One code of an option or more.
+    /// One or more option codes.
     Codes,
-    /// The type of a message.
+    /// A message type.
     MessageType,
     /// Text.
     Text,
-    /// Bytes without a plainer form.
+    /// Bytes that have no simpler form.
     Bytes,
 }

@@ -1,8 +1,8 @@
 //! The names of options, and their values as text.
 //!
-//! What this layer promises to the one above: `put_named` adds the line of an option that has a
+//! What this layer promises to the one above: `put_named` appends the line of an option that has a
 //! name (`specs/Table.antt`) and a value of the form of its type, and that line is the one of
-//! `specs/Values.antt`, byte for byte; for any other option it adds nothing.
+//! `specs/Values.antt`, byte for byte. For any other option it appends nothing.
 #![tactic(auto)]
 
 mod form;

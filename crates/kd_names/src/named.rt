@@ -8,8 +8,8 @@ use crate::table::definition;
 use crate::text::{put_bytes, put_flag, put_message_type, put_quoted};
 use std::alloc::{AllocError, Global};
 
-/// Adds the line of an option that has a name and a value of the form of its type: two spaces, the
-/// name, a space, the value and a line feed. For any other option nothing is added.
+/// Appends the line of an option that has a name and a value of the form of its type: two spaces,
+/// the name, a space, the value and a line feed. For any other option it appends nothing.
 ///
 /// # Errors
 ///
@@ -30,7 +30,7 @@ pub fn put_named(alloc: Global, out: &mut String, code: u8, value: &[u8]) -> Res
     }
 }
 
-// A name and a value of its type.
+// Appends the line of a name and a value of its type.
 #[tactic(auto, unfolding(crate::specs::Values::named_value))]
 fn put_line(
     alloc: Global,
@@ -49,7 +49,7 @@ fn put_line(
     out.push_str("\n")
 }
 
-// A value by its type.
+// Appends a value as its type is written.
 fn put_value(alloc: Global, out: &mut String, kind: Kind, value: &[u8]) -> Result<(), AllocError>
     ensures { OnOk result
         (string_bytes out.new ≡ string_bytes out.old ++ text_by_kind kind value.now) }

@@ -6,10 +6,10 @@ ghost use Rattle.kd_names.specs.Values.{number_of_bytes, shorts_behind, shorts_t
 use std::alloc::AllocError;
 use std::fmt::Write;
 
-// The first number that is below zero in two's complement.
+// The first number that is negative in two's complement.
 const FIRST_NEGATIVE: u32 = 0x8000_0000;
 
-// The number of one, two or four bytes, the highest first.
+// Returns the number of one, two or four bytes, highest byte first.
 #[tactic(auto, unfolding(crate::specs::Values::number_of_bytes))]
 pub(crate) fn number(value: &[u8]) -> u32
     ensures { result ≡ number_of_bytes value.now }
@@ -25,14 +25,14 @@ pub(crate) fn number(value: &[u8]) -> u32
     }
 }
 
-// A number in decimal.
+// Appends a number in decimal.
 pub(crate) fn put_number(out: &mut String, number: u32) -> Result<(), AllocError>
     ensures { OnOk result (string_bytes out.new ≡ string_bytes out.old ++ decimal number) }
 {
     write!(out, "{number}")
 }
 
-// A number in two's complement.
+// Appends a number in two's complement, in decimal.
 #[tactic(auto, unfolding(crate::specs::Values::signed_text))]
 pub(crate) fn put_signed(out: &mut String, number: u32) -> Result<(), AllocError>
     ensures { OnOk result (string_bytes out.new ≡ string_bytes out.old ++ signed_text number) }
@@ -44,7 +44,7 @@ pub(crate) fn put_signed(out: &mut String, number: u32) -> Result<(), AllocError
     put_number(out, u32::MAX - number + 1)
 }
 
-// The numbers of bytes, with commas between them.
+// Appends the numbers of bytes, with commas between them.
 #[tactic(auto, unfolding(crate::specs::Values::codes_text))]
 pub(crate) fn put_codes(out: &mut String, value: &[u8]) -> Result<(), AllocError>
     ensures { OnOk result (string_bytes out.new ≡ string_bytes out.old ++ codes_text value.now) }
@@ -58,7 +58,7 @@ pub(crate) fn put_codes(out: &mut String, value: &[u8]) -> Result<(), AllocError
     }
 }
 
-// The numbers of bytes, each behind a comma.
+// Appends the numbers of bytes, each after a comma.
 fn put_codes_behind(out: &mut String, value: &[u8]) -> Result<(), AllocError>
     ensures { OnOk result
         (string_bytes out.new ≡ string_bytes out.old ++ flat_map code_behind value.now) }
@@ -70,7 +70,7 @@ fn put_codes_behind(out: &mut String, value: &[u8]) -> Result<(), AllocError>
     Ok(())
 }
 
-// The numbers of two bytes each, with commas between them.
+// Appends 2-byte numbers, with commas between them.
 #[tactic(auto, unfolding(crate::specs::Values::shorts_text))]
 pub(crate) fn put_shorts(out: &mut String, value: &[u8]) -> Result<(), AllocError>
     ensures { OnOk result (string_bytes out.new ≡ string_bytes out.old ++ shorts_text value.now) }
@@ -84,7 +84,7 @@ pub(crate) fn put_shorts(out: &mut String, value: &[u8]) -> Result<(), AllocErro
     }
 }
 
-// The numbers of two bytes each, each behind a comma.
+// Appends 2-byte numbers, each after a comma.
 #[tactic(auto, unfolding(crate::specs::Values::shorts_behind))]
 fn put_shorts_behind(out: &mut String, value: &[u8]) -> Result<(), AllocError>
     ensures { OnOk result (string_bytes out.new ≡ string_bytes out.old ++ shorts_behind value.now) }
@@ -98,7 +98,7 @@ fn put_shorts_behind(out: &mut String, value: &[u8]) -> Result<(), AllocError>
     Ok(())
 }
 
-// The addresses of bytes, with commas between them.
+// Appends the addresses in bytes, with commas between them.
 #[tactic(auto, unfolding(crate::specs::Values::addresses_text))]
 pub(crate) fn put_addresses(out: &mut String, value: &[u8]) -> Result<(), AllocError>
     ensures { OnOk result
@@ -113,7 +113,7 @@ pub(crate) fn put_addresses(out: &mut String, value: &[u8]) -> Result<(), AllocE
     }
 }
 
-// The addresses of bytes, each behind a comma.
+// Appends the addresses in bytes, each after a comma.
 #[tactic(auto, unfolding(crate::specs::Values::addresses_behind))]
 fn put_addresses_behind(out: &mut String, value: &[u8]) -> Result<(), AllocError>
     ensures { OnOk result

@@ -4,7 +4,7 @@ ghost use Rattle.kd_names.specs.Table.{extensions, ip_parameters, later_options,
 
 use crate::kind::Kind;
 
-// The name of an option and the type of its value, where it has a name.
+// Returns the name of an option and the type of its value, if it has a name.
 pub(crate) fn definition(code: u8) -> Option<(&'static str, Kind)>
     ensures { option_map (λ d. (d.0.now, d.1)) result ≡ definition_of code }
 {
@@ -14,7 +14,7 @@ pub(crate) fn definition(code: u8) -> Option<(&'static str, Kind)>
     rest.or(later_option(code))
 }
 
-// One of the vendor extensions of RFC 1497 (RFC 2132 section 3).
+// Looks among the vendor extensions of RFC 1497 (RFC 2132 section 3).
 fn vendor_extension(code: u8) -> Option<(&'static str, Kind)>
     ensures { option_map (λ d. (d.0.now, d.1)) result ≡ definition_in vendor_extensions code }
 {
@@ -41,7 +41,8 @@ fn vendor_extension(code: u8) -> Option<(&'static str, Kind)>
     }
 }
 
-// One of the parameters of the IP layer, for a host and for an interface (RFC 2132 sections 4 and 5).
+// Looks among the parameters of the IP layer, per host and per interface (RFC 2132 sections 4 and
+// 5).
 fn ip_parameter(code: u8) -> Option<(&'static str, Kind)>
     ensures { option_map (λ d. (d.0.now, d.1)) result ≡ definition_in ip_parameters code }
 {
@@ -65,7 +66,7 @@ fn ip_parameter(code: u8) -> Option<(&'static str, Kind)>
     }
 }
 
-// One of the parameters of the link layer and of TCP (RFC 2132 sections 6 and 7).
+// Looks among the parameters of the link layer and of TCP (RFC 2132 sections 6 and 7).
 fn link_parameter(code: u8) -> Option<(&'static str, Kind)>
     ensures { option_map (λ d. (d.0.now, d.1)) result ≡ definition_in link_parameters code }
 {
@@ -80,7 +81,7 @@ fn link_parameter(code: u8) -> Option<(&'static str, Kind)>
     }
 }
 
-// One of the parameters of applications and services (RFC 2132 section 8).
+// Looks among the parameters of applications and services with lower codes (RFC 2132 section 8).
 fn service(code: u8) -> Option<(&'static str, Kind)>
     ensures { option_map (λ d. (d.0.now, d.1)) result ≡ definition_in services code }
 {
@@ -99,7 +100,7 @@ fn service(code: u8) -> Option<(&'static str, Kind)>
     }
 }
 
-// One of the rest of them, whose codes are higher.
+// Looks among the rest of them, whose codes are higher.
 fn more_service(code: u8) -> Option<(&'static str, Kind)>
     ensures { option_map (λ d. (d.0.now, d.1)) result ≡ definition_in more_services code }
 {
@@ -119,7 +120,7 @@ fn more_service(code: u8) -> Option<(&'static str, Kind)>
     }
 }
 
-// One of the extensions of DHCP (RFC 2132 section 9).
+// Looks among the extensions of DHCP (RFC 2132 section 9).
 fn extension(code: u8) -> Option<(&'static str, Kind)>
     ensures { option_map (λ d. (d.0.now, d.1)) result ≡ definition_in extensions code }
 {
@@ -142,7 +143,7 @@ fn extension(code: u8) -> Option<(&'static str, Kind)>
     }
 }
 
-// One of the options of later standards: RFC 4702, RFC 3046, RFC 3397 and RFC 3442.
+// Looks among the options of later standards: RFC 4702, RFC 3046, RFC 3397 and RFC 3442.
 fn later_option(code: u8) -> Option<(&'static str, Kind)>
     ensures { option_map (λ d. (d.0.now, d.1)) result ≡ definition_in later_options code }
 {

@@ -6,7 +6,7 @@ ghost use Rattle.kd_names.specs.Values.{flag_text, message_type_text, quoted_tex
 use std::alloc::{AllocError, Global};
 use std::fmt::Write;
 
-// A flag.
+// Appends a flag.
 pub(crate) fn put_flag(out: &mut String, flag: u32) -> Result<(), AllocError>
     ensures { OnOk result (string_bytes out.new ≡ string_bytes out.old ++ flag_text flag) }
 {
@@ -17,7 +17,7 @@ pub(crate) fn put_flag(out: &mut String, flag: u32) -> Result<(), AllocError>
     }
 }
 
-// A type of message: its number and its name.
+// Appends a message type: its number and its name.
 pub(crate) fn put_message_type(out: &mut String, number: u32) -> Result<(), AllocError>
     ensures { OnOk result
         (string_bytes out.new ≡ string_bytes out.old ++ message_type_text number) }
@@ -26,7 +26,7 @@ pub(crate) fn put_message_type(out: &mut String, number: u32) -> Result<(), Allo
     write!(out, "{number} {name}")
 }
 
-// The name of a type of message.
+// Returns the name of a message type.
 #[tactic(auto, unfolding(crate::specs::Values::type_name))]
 fn message_type(number: u32) -> &'static str
     ensures { result.now ≡ type_name number }
@@ -43,7 +43,7 @@ fn message_type(number: u32) -> &'static str
     }
 }
 
-// Text in quotation marks.
+// Appends text in quotation marks.
 #[tactic(auto, unfolding(crate::specs::Values::quoted_text))]
 pub(crate) fn put_quoted(alloc: Global, out: &mut String, value: &[u8]) -> Result<(), AllocError>
     ensures { OnOk result (string_bytes out.new ≡ string_bytes out.old ++ quoted_text value.now) }
@@ -53,7 +53,7 @@ pub(crate) fn put_quoted(alloc: Global, out: &mut String, value: &[u8]) -> Resul
     out.push_str("\"")
 }
 
-// The bytes of a text.
+// Appends the bytes of a text.
 fn put_signs(alloc: Global, out: &mut String, value: &[u8]) -> Result<(), AllocError>
     ensures { OnOk result
         (string_bytes out.new ≡ string_bytes out.old ++ flat_map sign_text value.now) }
@@ -64,7 +64,7 @@ fn put_signs(alloc: Global, out: &mut String, value: &[u8]) -> Result<(), AllocE
     Ok(())
 }
 
-// A byte of a text.
+// Appends a byte of a text.
 #[tactic(auto, unfolding(crate::specs::Values::sign_text))]
 fn put_sign(alloc: Global, out: &mut String, byte: u8) -> Result<(), AllocError>
     ensures { OnOk result (string_bytes out.new ≡ string_bytes out.old ++ sign_text byte) }
@@ -82,7 +82,7 @@ fn put_sign(alloc: Global, out: &mut String, byte: u8) -> Result<(), AllocError>
     put_bytes(alloc, out, &[byte])
 }
 
-// Bytes in hexadecimal.
+// Appends bytes in hexadecimal.
 pub(crate) fn put_bytes(alloc: Global, out: &mut String, value: &[u8]) -> Result<(), AllocError>
     ensures { OnOk result (string_bytes out.new ≡ string_bytes out.old ++ encode_lower value.now) }
 {
