@@ -1,5 +1,5 @@
--- What a compiled program has to do with its class test: it has its measures, is accepted, and
--- keeps its meaning.
+-- What a compiled program guarantees for its class test: its measures, that it is accepted, and
+-- that it keeps its meaning.
 use Rattle.std.specs.Prelude.{◌≡◌, ℕ, nat_lt, if◌then◌else◌, List, length, Option, Some, None}
 use Rattle.kd_compile.specs.Measures.{token_count, step_count, stack_depth, greatest, names, branching}
 use Rattle.kd_compile.specs.Value.{truth}

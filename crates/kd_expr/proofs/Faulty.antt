@@ -18,7 +18,7 @@ pub data Follows (R : Lexeme → Lexeme → Type 0) : List Lexeme → List Lexem
   nothing : Follows R [] []
   token : {x y : Lexeme} (ts us : List Lexeme) → R x y → Follows R (x ∷ ts) (y ∷ us)
 
--- the tokens that have the same fault in place of one, where k more may be nested
+-- the tokens that have the same fault in place of one, where j more may be nested
 abbrev pub Stays : ℕ → SyntaxFault → Lexeme → Lexeme → Type 0
 Stays j (faults.Expected at) x y = IsLike x y
 Stays j (faults.TooNested at) x y = (j ≡ 0) × (x ≡ y)

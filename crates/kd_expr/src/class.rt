@@ -51,7 +51,7 @@ pub(crate) fn is_blank(b: u8) -> bool
     b == b' ' || b == b'\t' || b == b'\r' || b == b'\n'
 }
 
-// Returns the sign of one byte: a bracket, comma, dot or plus.
+// Returns the sign that is one byte, if the byte is one: a bracket, comma, dot or plus.
 pub(crate) fn sign_of(b: u8) -> Option<Sign>
     ensures { MatchOption result (a_sign b ≡ false) (λ s. (a_sign b ≡ true) × (sign_byte s ≡ b)) }
 {

@@ -27,7 +27,7 @@ pub(crate) fn unexpected(tokens: &[Token<'_>], end: usize) -> SyntaxFault
     }
 }
 
-// Takes this sign, and returns its place and the remaining tokens.
+// Takes this sign if it comes next, and returns its place and the remaining tokens.
 pub(crate) fn sign<'t, 'a>(
     tokens: &'t [Token<'a>],
     wanted: Sign,
@@ -46,7 +46,7 @@ pub(crate) fn sign<'t, 'a>(
     }
 }
 
-// Takes this keyword, and returns its place and the remaining tokens.
+// Takes this keyword if it comes next, and returns its place and the remaining tokens.
 pub(crate) fn word<'t, 'a>(
     tokens: &'t [Token<'a>],
     wanted: &[u8],

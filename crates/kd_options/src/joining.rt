@@ -57,7 +57,7 @@ pub(crate) fn join<'a>(
     Ok(())
 }
 
-// Returns the value of an option.
+// Returns the value of an option, if it is present.
 pub(crate) fn value_in<'m>(options: &'m IndexMap<u8, Value<'_>>, code: u8) -> Option<&'m [u8]>
     ensures { option_copied result ≡ value_of code (entries_of options.now.entries) }
 {
@@ -67,7 +67,7 @@ pub(crate) fn value_in<'m>(options: &'m IndexMap<u8, Value<'_>>, code: u8) -> Op
     }
 }
 
-// Returns the option at an index, in order of first appearance.
+// Returns the option at an index, in order of first appearance, if there is one.
 pub(crate) fn entry_in<'m>(
     options: &'m IndexMap<u8, Value<'_>>,
     index: usize,

@@ -106,7 +106,7 @@ impl<'a> Message<'a> {
         value_in(&self.fields, code)
     }
 
-    /// Returns the option at an index, in order of first appearance.
+    /// Returns the option at an index, in order of first appearance, if there is one.
     pub fn option_at(&self, index: usize) -> Option<(u8, &[u8])>
         ensures value { option_map (λ p. (p.0, p.1.now)) result ≡ slice_get self.now.options index }
         ensures within { IsSome result → index + 1 < 2 ^ 64 }

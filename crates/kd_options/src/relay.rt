@@ -102,7 +102,7 @@ fn sub_options(value: &[u8]) -> SubOptions<'_>
     }
 }
 
-// Returns the first sub-option with a code.
+// Returns the first sub-option with a code, if there is one.
 pub(crate) fn sub_option(value: &[u8], code: u8) -> Option<&[u8]>
     ensures { option_copied result ≡ lookup (nat_eq code) (sub_options_of value.now) }
 {

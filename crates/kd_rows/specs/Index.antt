@@ -81,7 +81,7 @@ pub record IsIndex (of : Row → List ℕ) (rows : List Row) (index : List ℕ) 
   pub same : (a : ℕ) → lists index a ≡ is_some (row_at rows a)
   pub rising : Rises (key_by of rows) index
 
--- the row with a number, or a row that is none past the last
+-- the row with a number, or a default row past the last
 abbrev pub row_in : List Row → ℕ → Row
 row_in slots n =
     slice_index_or slots n

@@ -93,7 +93,7 @@ impl Blocks {
         low
     }
 
-    // Returns the bound of a block.
+    // Returns the bound of a block, if it has one.
     pub(crate) fn find(&self, block: u32) -> Option<u64>
         requires { Rise self.now.rows }
         ensures { result ≡ end_at self.now.rows block }

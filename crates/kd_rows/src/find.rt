@@ -4,7 +4,7 @@ ghost use Rattle.kd_rows.specs.Table.{IsFirstGap, Rise};
 
 use crate::sorted::Sorted;
 
-// Returns the index of the row at an address.
+// Returns the index of the row at an address, if there is one.
 pub(crate) fn find(rows: &Sorted, address: u32) -> Option<usize>
     requires { Rise rows.now.rows }
     ensures { IsFound rows.now.rows address result }

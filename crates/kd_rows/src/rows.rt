@@ -79,7 +79,9 @@ impl Rows {
     }
 
     /// Makes the same table, with its addresses divided into zones at `cuts`. If there are cuts at
-    /// `first` and right after `last`, `newest_of` steps over no row of the client outside them.
+    /// `first` and right after `last`, `newest_of` steps over none of the client's rows outside
+    /// that range.
+    ///
     /// # Errors
     ///
     /// As for `new`.
@@ -328,7 +330,7 @@ impl Rows {
     }
 }
 
-// Returns the end of the row at an address.
+// Returns the end of the row at an address, if there is one.
 fn ends_at(rows: &Sorted, address: u32) -> Option<u64>
     requires { Rise rows.now.rows }
     ensures { result ≡ end_at rows.now.rows address }

@@ -28,7 +28,7 @@ pub(crate) const PUT: &str =
 
 const ROWS: &str = "SELECT address, client, state, changed, ends FROM lease ORDER BY address";
 
-// Makes the table if there is none. The two queries before it establish what is always true of the
+// Makes the table if there is none. The two calls before that establish what is always true of the
 // connection: the database obeys its schema, and what it shows outside a transaction is committed.
 pub(crate) fn make<S: Alter>(conn: &mut Connection<S>) -> Result<usize, Error>
     requires { (state S.Store conn.old).in_transaction ≡ false }

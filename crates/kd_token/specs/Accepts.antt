@@ -119,7 +119,7 @@ IsTooManySteps p =
     ((a : Assignment) × IsSoundThroughout p a)
     × ((a : Assignment) → IsSoundThroughout p a → EndsInTime p a → ⊥)
 
--- all places can be sound with the end in time, but the end is never one truth value
+-- all places can be sound with the end in time, but then the end is never one truth value
 abbrev pub IsNoFinish : Code → Type 0
 IsNoFinish p =
     ((a : Assignment) × IsSoundThroughout p a × EndsInTime p a)

@@ -4,10 +4,10 @@
 //! What this layer promises to the one above: `Program::read` returns the program of a file exactly
 //! if the bytes are the file of one, and `Program::write` returns these bytes (`specs/File.antt`).
 //! A program has one file, and a file one program. For other bytes `Program::read` returns the
-//! first fault with its place (`specs/FirstFault.antt`). Either may run out of memory. `verify`
-//! accepts a program exactly if some assignment of shapes to its places holds along every path
-//! through it (`specs/Shape.antt`, `specs/Accepts.antt`), and otherwise reports the first place
-//! that no assignment can make sound.
+//! first fault with its place (`specs/FirstFault.antt`). `verify` accepts a program exactly if some
+//! assignment of shapes to its places holds along every path through it (`specs/Shape.antt`,
+//! `specs/Accepts.antt`), and otherwise reports the first place that no assignment can make sound.
+//! Each of these functions may also run out of memory.
 //!
 //! `specs/Reading.antt` and `proofs/` tie the reader to the fields of a file (`proofs/Told.antt`,
 //! `proofs/Fields.antt`). `specs/Table.antt` and `proofs/` tie the single pass of `verify` to
