@@ -16,7 +16,7 @@ pub enum Mode {
 pub struct Destination {
     /// How it is sent.
     pub mode: Mode,
-    /// The IPv4 address, as a number in host order.
+    /// The IPv4 address, as a number in host byte order.
     pub address: u32,
     /// The UDP port.
     pub port: u16,

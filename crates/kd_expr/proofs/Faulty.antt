@@ -275,7 +275,7 @@ goes_on P r s x end ts same (Err fault) c = record {
   again = λ j us fo. same j (c.front ++ us) ∙ c.again j us fo;
 }
 
--- readers that refuse this token, and those that stay for it, whatever follows
+-- readers that refuse this token, and those that may replace it, whatever follows
 pub stops_at : {B : Type 0} (P : List Lexeme → B → Type 0) (r : ℕ → Reader B) (x : Lexeme) (end : ℕ) (ts : List Lexeme) (fault : SyntaxFault) → Begins P [] → Refused (Begins P) end [] (x ∷ ts) fault → ((j : ℕ) (y : Lexeme) (us : List Lexeme) → Stays j fault x y → ◌≡◌ {A = Result (B × List Lexeme) SyntaxFault} (r j end (y ∷ us)) (Err fault)) → Stopped P r end (x ∷ ts) fault
 stops_at {B} P r x end ts fault begins refused h = record {
   front = [];

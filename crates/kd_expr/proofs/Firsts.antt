@@ -27,7 +27,7 @@ whole_spelled : (n end : ℕ) (ts : List Lexeme) (t : Tree) → Spells or_level 
 whole_spelled n end ts t s =
     rw (subst (λ v. ◌≡◌ {A = Result (Tree × List Lexeme) SyntaxFault} (or_at (below n) end v) (Ok (t, []))) (append-nil ts) (any_complete (complete s) end [] (record { compare = record { no_plus = refl; no_equal = refl }; no_and = refl; no_or = refl }))) refl
 
--- tokens are refused after some, and so are those that stay, whatever follows
+-- after some tokens the rest is refused, and so is what may replace it, whatever follows
 abbrev Again : ℕ → List Lexeme → List Lexeme → SyntaxFault → Type 0
 Again end before left fault = (j : ℕ) (us : List Lexeme) → Follows (Stays j fault) left us → ◌≡◌ {A = Result Tree SyntaxFault} (whole_in (more_nested 64 j) end (before ++ us)) (Err fault)
 
@@ -88,7 +88,7 @@ refuses end ts fault e =
     ] in
     at (or_at (below 64) end ts) (comes (Spells or_level 65) (or_at (below 64)) (λ j. or_at (below (more_nested 64 j))) (any_good 64) end ts) e
 
--- what begins at the nesting of one more
+-- what begins with one more level of nesting
 some_of : (us : List Lexeme) → Begins (Spells or_level 65) us → BeginsSome us
 some_of us b = b
 

@@ -9,7 +9,7 @@ use Rattle.kd_expr.proofs.Addresses.{came_from, address_sound}
 use Rattle.kd_expr.proofs.Options.{some_is, none_is, some_pair, if_some}
 use Rattle.kd_expr.proofs.Spans.{each_front, ends_behind, front_behind, all_pass_is, both_of_two}
 
--- a word begins the bytes
+-- the bytes begin with a word
 pub record IsCut (at : ℕ) (bytes : List ℕ) (x : Lexeme) (rest : List ℕ) : Type 0 where
   pub word : List ℕ
   pub is : bytes ≡ word ++ rest

@@ -1,4 +1,4 @@
--- The options that items are: their look-ups, and the area that their pieces make.
+-- The options that items are: their lookups, and the area that their pieces make.
 use Rattle.std.proofs.Common.{◌≡◌, ℕ, Bool, true, false, List, [], ◌∷◌, ◌++◌, length, None, refl, sym, ap, ◌∙◌, eq-eqb, eqb-true, ne_eqb}
 use Rattle.std.specs.Prelude.{◌≢◌, map, nat_eq, IfSome, IsSomeAnd}
 use Rattle.std.specs.List.{AllByRecursion, flat_map, range_with_len}

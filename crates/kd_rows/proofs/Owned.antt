@@ -15,7 +15,7 @@ use Rattle.kd_rows.specs.Index.{IsKeyBelow, IsIndex, IsKeyPlace, Rises, client_a
 use Rattle.kd_rows.specs.Table.{Rise, RiseFrom, addresses_of, belongs_to, row_at}
 use Rattle.kd_rows.proofs.Places.{none_below}
 
--- numbers that rise from n on
+-- numbers in ascending order from n on
 abbrev pub Ascends : ℕ → List ℕ → Type 0
 Ascends n [] = Unit {0}
 Ascends n (x ∷ xs) = (n ≤ x) × Ascends (x + 1) xs

@@ -134,7 +134,7 @@ pub run_ends : (rows : List Row) (first start low : ℕ) → IsPlace rows first 
 run_ends rows first start low p order run above = none_at rows (first + (low - start))
     (λ i d within e. ⊎_elim (λ before. let h = p.below i d before in omega arith) (λ after. ⊎_elim (λ inside. let h = run i d after inside in omega arith) (λ beyond. let h = above i d beyond within in omega arith) (cases_lt i low)) (cases_lt i start))
 
--- rows that rise from n on have none below
+-- rows that ascend from n on have none below
 pub none_below : (n : ℕ) (rows : List Row) (a : ℕ) → RiseFrom n rows → a < n → row_at rows a ≡ None
 none_below n [] a rise before = refl
 none_below n (r ∷ rows) a rise before =

@@ -120,7 +120,7 @@ insert_in slots numbers place row sorted =
 pub inserted_in : (slots : List Row) (numbers : List ℕ) (place : ℕ) (row : Row) → IsByAddress slots numbers → IsPlace (rows_in slots numbers) row.address place → row_at (rows_in slots numbers) row.address ≡ None → rows_in (slots ++ row ∷ []) (insert numbers place (length slots)) ≡ with_row row (rows_in slots numbers)
 inserted_in slots numbers place row sorted p none = insert_in slots numbers place row sorted ∙ sym (inserted row (rows_in slots numbers) place p none)
 
--- rows that rise in addresses below 2 ^ 32 are no more than that
+-- there are at most 2 ^ 32 rows in ascending order of address with addresses below 2 ^ 32
 few : (rows : List Row) → Rise rows → All (λ row. row.address < 2 ^ 32) rows → length rows ≤ 2 ^ 32
 few [] rise bounded = omega arith
 few (r ∷ rows) rise bounded =

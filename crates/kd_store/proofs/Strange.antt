@@ -68,7 +68,7 @@ strange_order rows row given shown were is low table rise all are =
     map_push columns_of rows row ∙ ap₂ (λ (a : List Columns) (b : Columns). a ++ b ∷ []) were is ∙ sym (map_push first_five given shown) in
     absurd (omega (arith, rise_end 0 rows row (subst Rise (rows_once table (rows ++ row ∷ []) (are ∙ sym both)) rise)))
 
--- ---- a third column that is no number
+-- ---- a third column that is not a number
 
 there : (shown : Columns) (n : ℤ) → column shown 2 ≡ Int n → 2 < length shown
 there [] n is = absurd cc

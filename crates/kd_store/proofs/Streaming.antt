@@ -30,7 +30,7 @@ use Rattle.kd_store.specs.Fault.{IsStrange, AreUnread}
 use Rattle.kd_store.specs.Statement.{AreShown, GoesOn, ReadsTable}
 use Rattle.kd_store.proofs.Strange.{strange_row}
 
--- ---- whatever the schema is, the query's text is no write
+-- ---- whatever the schema is, the query's text is not a write
 
 abbrev Plan : Type 0
 Plan = List (List ℕ) × (Command × Option Returning)

@@ -24,7 +24,7 @@ use std::marker::Model;
 
 /// The table of leases in a database, over its connection. A store must be closed. In a contract it
 /// is a record: `conn` is what the connection shows, and `fault` is the fault with which it has
-/// failed.
+/// failed, if any.
 pub struct Store<S: Alter> {
     conn: Connection<S>,
     fault: Option<StoreFault>,

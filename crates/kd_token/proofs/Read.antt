@@ -92,7 +92,7 @@ parts_spelled p =
     let front : List ℕ → List ℕ = λ b. bytes_of_parts (magic ∷ part_with (λ at. faults.Version) (version_number p.version ∷ []) ∷ part_with (λ at. faults.Limit) (big_bytes 2 p.steps) ∷ part_with (λ at. faults.Limit) (p.depth ∷ []) ∷ part_with faults.Cut (big_bytes 2 p.bound) ∷ part_with (λ at. faults.Limit) (length p.names ∷ []) ∷ []) ++ b in
     ap front (spelled_both (flat_map name_parts p.names) tail ∙ ap (λ b. b ++ bytes_of_parts tail) names ∙ ap (λ b. flat_map name_bytes p.names ++ (big_bytes 2 (length p.tokens) ++ b)) list)
 
--- the magic number is missing, or comes first
+-- the magic number is missing (`LacksMagic`) or comes first (`HasMagic`)
 abbrev LacksMagic : List ℕ → Type 0
 LacksMagic bytes =
     (magic_at (rest bytes bytes) ≡ Err faults.Magic)

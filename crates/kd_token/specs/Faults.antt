@@ -1,4 +1,4 @@
--- The numbers of the faults of a token file.
+-- The numbers of the faults of reading a token file and of the verifier.
 use Rattle.std.specs.Prelude.{ℕ}
 use Rattle.kd_token.specs.declared.fault.FileFault.{FileFault}
 use Rattle.kd_token.specs.declared.fault.FileFault.TheVariants as faults

@@ -49,7 +49,7 @@ pub enum Token {
     Not,
     /// Takes two truth values; pushes whether both are true.
     And,
-    /// Takes two truth values; pushes whether one of them is true.
+    /// Takes two truth values; pushes whether at least one of them is true.
     Or,
     /// Takes a truth value and two byte strings above it; pushes the lower one if it is true,
     /// otherwise the upper one.
