@@ -90,7 +90,7 @@ top_alone : (t : List Val) (l : ℕ) → longest (drop 1 t) ≤ l → max l (siz
 top_alone [] l le = refl
 top_alone (v ∷ t) l le = omega (arith, le)
 
--- a run goes on by a step whose top alone is looked at
+-- a run goes on by a step when only the top is measured
 pub running_next : (p : Code) (message : Seen) (held : List (List ℕ)) (i n : ℕ) (s : List Val) (d l : ℕ) (token : Token) (j : ℕ) (t : List Val) → TokensStandIn p → HasSizes message → IsRunning p message held i n s d l → slice_get p.tokens i ≡ Some token → moves (world p message held) token i s ≡ Some (j, t)
     → IsRunning p message held j (n + 1) t (max d (length t)) (max l (size_of_top t))
 running_next p message held i n s d l token j t stand sizes run there moved =
@@ -116,7 +116,7 @@ finishes p message held i n s d l run e =
       by None r le = absurd r
       by (Some v) r le = (v.0, n, d, l, r, le, run.depth, run.bound)
 
--- a run that has at most so many places before it ends
+-- a run with at most `fuel` places before it ends
 ends_from : (fuel : ℕ) (p : Code) (message : Seen) (held : List (List ℕ)) (i n : ℕ) (s : List Val) (d l : ℕ) → TokensStandIn p → HasSizes message → length p.tokens ≤ i + fuel → IsRunning p message held i n s d l → EndsWithin p message held
 ends_from zero p message held i n s d l stand sizes le run =
     let place = run.stands.place in
@@ -134,6 +134,6 @@ ends_from (suc fuel) p message held i n s d l stand sizes le run =
       by (inl x) more = steps x.0 x.2 (moves (world p message held) x.0 i s) refl (stands_moves p message held i n s x.0 stand sizes run.stands x.2) (forward_by (way_of x.0) (world p message held) x.0 i s) more
       by (inr past) more = let place = run.stands.place in let here = past.0 in finishes p message held i n s d l run (omega (arith, here, place))
 
--- every accepted program ends, on every message and all held names, within what it declares
+-- every accepted program ends, on every message with any held names, within what it declares
 pub accepted_ends : TokensStand → MessagesHaveSizes → AcceptedEnds
 accepted_ends stand sizes p message held file a is = ends_from (length p.tokens) p message held 0 0 [] 0 0 (stand p file) (sizes message is) (omega arith) (running_first p message held a)

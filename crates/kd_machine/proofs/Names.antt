@@ -4,7 +4,7 @@ use Rattle.std.specs.Prelude.{if◌then◌else◌, ◌||◌}
 use Rattle.std.specs.List.{AllByRecursion, IsDistinct, list_any}
 use Rattle.indexmap.specs.IndexSet.{insert_key}
 
--- what passes among images passes among what they are of
+-- a test passes for some image if and only if it passes for the image of some element
 pub any_image : {A B : Type 0} (f : A → B) (test : B → Bool) (xs : List A) → list_any test (map f xs) ≡ list_any (λ x. test (f x)) xs
 any_image f test [] = refl
 any_image f test (x ∷ xs) = ap (λ b. test (f x) || b) (any_image f test xs)
@@ -28,7 +28,7 @@ apart_map : {A B : Type 0} (f : A → B) (eq : B → B → Bool) (x : A) (xs : L
 apart_map f eq x [] apart = tt
 apart_map f eq x (y ∷ xs) apart = (apart.0, apart_map f eq x xs apart.1)
 
--- the images of elements that differ by them differ
+-- the images of elements are distinct if the elements are distinct by their images
 pub distinct_images : {A B : Type 0} (f : A → B) (eq : B → B → Bool) (xs : List A) → IsDistinct (λ x y. eq (f x) (f y)) xs → IsDistinct eq (map f xs)
 unfolding IsDistinct
 distinct_images f eq [] apart = tt

@@ -21,7 +21,7 @@ step_same p w i s j k t u a b =
     let pair = some_same (j, t) (k, u) moved in
     (ap (λ r. r.0) pair, ap (λ r. r.1) pair)
 
--- what so many steps lead to
+-- the results of the same number of steps are equal
 abbrev Same : ℕ → ℕ → List Val → List Val → ℕ → ℕ → ℕ → ℕ → Type 0
 Same j k t u d e l h = (j ≡ k) × (t ≡ u) × (d ≡ e) × (l ≡ h)
 
@@ -35,7 +35,7 @@ segment_same (suc n) p w i s j k t u d e l h a b =
     let after = step_same p w a.0 a.1 j k t u a.5 there in
     (after.0, after.1, a.6 ∙ ap (λ m. max m (length t)) before.2 ∙ ap (λ v. max b.2 (length v)) after.1 ∙ sym b.6, a.7 ∙ ap (λ m. max m (longest t)) before.3 ∙ ap (λ v. max b.3 (longest v)) after.1 ∙ sym b.7)
 
--- where more steps follow a token stands
+-- a place from which more steps follow has a token
 abbrev GoesOn : Code → World → ℕ → List Val → ℕ → Type 0
 GoesOn p w i s n = (j : ℕ) × (t : List Val) × (d : ℕ) × (l : ℕ) × Segment p w i s n j t d l × ((token : Token) × (slice_get p.tokens j ≡ Some token))
 

@@ -1,4 +1,4 @@
--- Below the top a step leaves no value that is longer than before.
+-- A step leaves no value below the top that is longer than any before.
 use Rattle.std.proofs.Common.{ℕ, ◌+◌, ◌≤◌, Bool, true, false, List, [], ◌∷◌, drop, Option, Some, None, arith}
 use Rattle.std.specs.Bool.{beq}
 use Rattle.std.specs.Prelude.{if◌then◌else◌, slice_get, MatchOption}
@@ -22,7 +22,7 @@ bind_keeps : {A B : Type 0} (P : A → Type 0) (Q : B → Type 0) (o : Option A)
 bind_keeps P Q None f k h = tt
 bind_keeps P Q (Some x) f k h = h x k
 
--- what is below a value that is taken
+-- the stack below a value that is popped
 abbrev Rest : {A : Type 0} → ℕ → A × List Val → Type 0
 Rest most x = longest x.1 ≤ most
 
@@ -111,6 +111,6 @@ rest_by (routes.Keep stays skip) most w token i s le = two (take_truth s) (truth
     by true = k
     by false = below_rest most t k
 
--- a step leaves nothing longer below the top than what was there
+-- a step leaves nothing below the top that is longer than the values before it
 pub moves_rest : (most : ℕ) (w : World) (token : Token) (i : ℕ) (s : List Val) → longest s ≤ most → MatchOption (moves w token i s) (Unit {0}) (λ r. longest (drop 1 r.1) ≤ most)
 moves_rest most w token i s le = rest_by (way_of token) most w token i s le

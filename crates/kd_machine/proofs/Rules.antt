@@ -1,5 +1,5 @@
--- A token that takes what it wants from a shape takes it from values that fit, and what it gives fits what
--- it gives to the shape.
+-- If values fit a shape, a token that can run on the shape can run on the values, and its result on
+-- the values fits its result on the shape.
 use Rattle.std.proofs.Common.{◌≡◌, ℕ, ℤ, zero, suc, ◌+◌, ◌-◌, ◌*◌, ◌^◌, ◌<◌, ◌≤◌, min, max, Bool, true, false, List, [], ◌∷◌, ◌++◌, length, take, drop, Option, Some, None, refl, sym, subst, mul_comm, arith}
 use Rattle.std.proofs.Math.Nat.{mul-le-mul_left}
 use Rattle.std.specs.Prelude.{nat_lt, if◌then◌else◌, ◌==◌, slice_get, unsigned_abs, IfSome, IsSomeAnd}
@@ -31,7 +31,7 @@ use Rattle.kd_machine.specs.Parts.{is_held, or_empty, type_in, value_of_field}
 use Rattle.kd_machine.specs.Run.{rule}
 use Rattle.kd_machine.specs.Fits.{FitsKind, Fits}
 
--- where the first is there, the second is, and the relation holds of the two
+-- if the first is there, so is the second, and the relation holds between the two
 abbrev pub Down : {A B : Type 0} → (A → B → Type 0) → Option A → Option B → Type 0
 Down R None u = Unit {0}
 Down R (Some x) None = ⊥
@@ -81,12 +81,12 @@ number_fits (kinds.Int ∷ r) (Text bytes ∷ s) f = absurd f.0
 number_fits (kinds.Bytes n ∷ r) s f = tt
 number_fits (kinds.Bool ∷ r) s f = tt
 
--- a value that may be absent is short where it is there
+-- a value that may be absent is short if it is short when it is there
 empty_short : (most : ℕ) (o : Option (List ℕ)) → IfSome o (λ value. length value ≤ most) → length (or_empty o) ≤ most
 empty_short most None h = omega arith
 empty_short most (Some value) h = h
 
--- a part is no longer than the whole, and than the number asked for
+-- a substring is no longer than the whole, nor than the number of bytes asked for
 part_short : (count : Option ℤ) (b : ℕ) (bytes : List ℕ) (n : ℕ) → length bytes ≤ n → length (part count b bytes) ≤ bound_of_substring n count
 part_short None b bytes n le = let e = length-drop b bytes in omega (arith, e, le)
 part_short (Some z) b bytes n le = by (is_negative z) where
@@ -129,7 +129,7 @@ hex_short separator (b ∷ bytes) (suc n) m le less =
     let one : suc n - 1 ≡ n = omega arith in
     rw (no, one) (omega (arith, left, right, turned, back, rest, fewer))
 
--- the number of a message's type is of one byte
+-- the number of a message's type is one byte
 type_short : (o : Option (List ℕ)) → IsSomeAnd o IsType → type_in o < 2 ^ 32
 type_short None h = omega arith
 type_short (Some []) h = omega arith
@@ -163,7 +163,7 @@ choice_short : (b : Bool) (x y : List ℕ) (n m : ℕ) → length x ≤ n → le
 choice_short true x y n m le less = omega (arith, le)
 choice_short false x y n m le less = omega (arith, less)
 
--- what a token gives to values fits what it gives to a shape that they fit
+-- what a token makes of values fits what it makes of a shape that they fit
 pub rule_fits : (w : World) (version : Version) (behind : ℕ) (token : Token) (r : List Kind) (s : List Val) → HasSizes w.message → IsToken version behind token → Fits r s → Down Fits (gives (length w.names) token r) (rule w token s)
 unfolding gives rule
 rule_fits w version behind (tokens.PushBytes bytes) r s sizes token f = (omega arith, f)

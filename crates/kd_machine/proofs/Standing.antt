@@ -1,5 +1,5 @@
--- What stands at a place of an accepted program stands at the next one after a step, and at the end is one
--- truth value.
+-- The stack at a place of an accepted program still fits at the next place after a step, and at the
+-- end it is one truth value.
 use Rattle.std.proofs.Common.{◌≡◌, ℕ, suc, ◌+◌, ◌<◌, ◌≤◌, Bool, true, false, List, [], ◌∷◌, length, Option, Some, None, refl, ap, subst, ◌∙◌, arith}
 use Rattle.std.specs.Bool.{beq}
 use Rattle.std.specs.Prelude.{if◌then◌else◌, slice_get, MatchOption}
@@ -67,7 +67,7 @@ fits_longest most (k ∷ r) (v ∷ s) a f =
     let rest = fits_longest most r s a.1 f.1 in
     omega (arith, top, rest)
 
--- at the first place stand no values
+-- at the first place the stack is empty
 pub stands_first : (p : Code) → Accepts p → StandsAt p 0 0 []
 stands_first p a = record {
   assigned = a;
@@ -80,7 +80,7 @@ stands_first p a = record {
   long = omega arith;
 }
 
--- a flow from where values stand brings values that fit it to where it leads
+-- a flow from a place brings values that fit it to where it leads
 flow_stands : (p : Code) (a : Accepts p) (n : ℕ) (f : Flow) (t : List Val) → f.to ≤ length p.tokens → n + 1 ≤ f.point.count → IsCovered (a.0 f.to) f.point → IsWithin p f → Fits f.point.shape t → StandsAt p f.to (n + 1) t
 flow_stands p a n f t place le covered within fits = by (a.0 f.to) refl covered where
   by : (o : Option Point) → a.0 f.to ≡ o → IsCovered o f.point → StandsAt p f.to (n + 1) t
@@ -110,7 +110,7 @@ module _ (p : Code) (w : World) (a : Accepts p) (i n : ℕ) (token : Token) (x :
   abbrev Stays : Option (List Flow) → Type 0
   Stays o = MatchOption o (Unit {0}) (AllByRecursion (λ f. (i + 1 ≤ f.to) × (f.to ≤ length p.tokens)))
 
-  -- what stands after the step
+  -- the stack after the step
   abbrev Moved : Option (ℕ × List Val) → Type 0
   Moved o = MatchOption o ⊥ (λ r. StandsAt p r.0 (n + 1) r.1)
 
@@ -141,7 +141,7 @@ module _ (p : Code) (w : World) (a : Accepts p) (i n : ℕ) (token : Token) (x :
   moved_by (routes.Fork skip) stays d l e = moved_fork skip (bool_taken x.shape) (take_truth s) stays (truth_fits x.shape s fits) l e
   moved_by (routes.Keep kept skip) stays d l e = moved_keep kept skip (bool_taken x.shape) (take_truth s) stays (truth_fits x.shape s fits) l e
 
--- a step goes on from where values stand
+-- a step leads from a place with a fitting stack to another
 pub stands_moves : (p : Code) (message : Seen) (held : List (List ℕ)) (i n : ℕ) (s : List Val) (token : Token) → TokensStandIn p → HasSizes message → StandsAt p i n s → slice_get p.tokens i ≡ Some token → MatchOption (moves (world p message held) token i s) ⊥ (λ r. StandsAt p r.0 (n + 1) r.1)
 stands_moves p message held i n s token stand sizes st there =
     let names : ℕ = length p.names in
@@ -155,7 +155,7 @@ stands_moves p message held i n s token stand sizes st there =
     (subst L here (a.1 i (omega (arith, less))).leave)
     (λ j le. let E : Option (List Flow) → Type 0 = λ o. MatchOption o (Unit {0}) (AllByRecursion (λ f. f.to ≡ j → IsCovered (a.0 j) f.point)) in subst E here ((a.1 j (omega (arith, le))).enter i))
 
--- at the end stands one truth value, in the declared steps
+-- at the end the stack is one truth value, within the declared steps
 pub stands_end : (p : Code) (n : ℕ) (s : List Val) → StandsAt p (length p.tokens) n s → (n ≤ p.steps) × MatchOption (take_truth s) ⊥ (λ r. s ≡ Truth r.0 ∷ [])
 stands_end p n s st =
     let a = st.assigned in

@@ -1,5 +1,5 @@
--- A value list fits a shape: the kinds agree place by place, no byte string is longer, and numbers
--- have four bytes.
+-- A stack fits a shape: the kinds agree place by place, no byte string is longer than the shape
+-- allows, and numbers fit in four bytes.
 use Rattle.std.specs.Prelude.{◌≡◌, ℕ, ◌^◌, ◌<◌, ◌≤◌, List, [], ◌∷◌, length, Some}
 use Rattle.kd_token.specs.Accepts.{Accepts, Point}
 use Rattle.kd_token.specs.File.{Code}
@@ -29,8 +29,8 @@ Fits [] (v ∷ s) = ⊥
 Fits (k ∷ r) [] = ⊥
 Fits (k ∷ r) (v ∷ s) = FitsKind k v × Fits r s
 
--- what stands at place i of an accepted program after n steps: values that fit what an assignment
--- knows there, within what the program declares
+-- the values at place i of an accepted program after n steps: they fit what an assignment knows
+-- there and are within what the program declares
 pub record StandsAt (p : Code) (i : ℕ) (n : ℕ) (s : List Val) : Type 0 where
   pub assigned : Accepts p
   pub point : Point

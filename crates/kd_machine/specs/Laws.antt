@@ -1,4 +1,4 @@
--- What is true of each run, whatever the program, the message and the held names.
+-- What is true of every run, whatever the program, the message and the held names.
 use Rattle.std.specs.Prelude.{◌≡◌, ℕ, Bool, List}
 use Rattle.kd_machine.specs.Run.{EndsWithin, Run}
 use Rattle.kd_options.specs.Message.{IsMessage, Seen}
@@ -12,8 +12,8 @@ AcceptedEnds =
     (p : Code) (message : Seen) (held : List (List ℕ)) → HasFile p → Accepts p → IsMessage message
     → EndsWithin p message held
 
--- a program has one run over a message and a list of held names: one truth value, and the same
--- steps and peaks
+-- all runs of a program over the same message and held names have the same truth value, steps and
+-- peaks
 abbrev pub HasOneEnd : Type 0
 HasOneEnd =
     (p : Code) (message : Seen) (held : List (List ℕ)) (v x : Bool) (n m d e l h : ℕ)

@@ -1,5 +1,5 @@
--- What a class test asks: whether byte strings are equal and a name is held, what stands for an
--- option, and the value of a field of the message.
+-- What a class test asks: whether byte strings are equal, whether a name is held, the value of an
+-- option or the empty string, and the value of a field of the message.
 use Rattle.std.specs.Prelude.{ℕ, nat_eq, Bool, List, [], ◌∷◌, Option, Some, None}
 use Rattle.std.specs.Cmp.Lexicographic.{pointwise}
 use Rattle.std.specs.List.{list_any}
@@ -23,7 +23,7 @@ abbrev pub or_empty : Option (List ℕ) → List ℕ
 or_empty None = []
 or_empty (Some value) = value
 
--- the number of a message type: the one byte of option 53
+-- the number of a message type: the first byte of option 53, 0 if there is none
 abbrev pub type_in : Option (List ℕ) → ℕ
 type_in None = 0
 type_in (Some []) = 0

@@ -1,5 +1,5 @@
--- A step of a program and a run (our own format): one rule for each token, on lists of values
--- without a greatest depth or length.
+-- A step of a program and a run (our own format): one rule for each token, on stacks without a
+-- limit on depth or length.
 use Rattle.std.specs.Prelude.{◌≡◌, ℕ, zero, suc, ◌+◌, ◌≤◌, max, Bool, not, ◌&&◌, ◌||◌, if◌then◌else◌, is_some, List, [], ◌∷◌, ◌++◌, map, length, slice_get, Option, Some, None}
 use Rattle.std.specs.Bool.{beq}
 use Rattle.std.specs.Char.{to_ascii_lowercase, to_ascii_uppercase}
@@ -19,8 +19,8 @@ use Rattle.kd_machine.specs.Strings.{substring, hex_of}
 use Rattle.kd_machine.specs.World.{World, world, option_in, relay_in}
 use Rattle.kd_machine.specs.Parts.{same, is_held, or_empty, value_of_field}
 
--- what a token that goes on makes of the values; none where it cannot take what it wants. A branch
--- does not go on: it moves by its way (`moves_by`)
+-- what a token other than a branch makes of the stack; none if the stack lacks what the token
+-- takes. A branch has no rule: it moves by its way (`moves_by`)
 unfoldable pub rule : World → Token → List Val → Option (List Val)
 rule w (tokens.PushBytes bytes) s = Some (Text bytes ∷ s)
 rule w (tokens.PushInt number) s = Some (Number number ∷ s)
@@ -53,7 +53,7 @@ rule w (tokens.PopBranchFalse skip) s = None
 rule w (tokens.BranchFalseElsePop skip) s = None
 rule w (tokens.BranchTrueElsePop skip) s = None
 
--- where a token leads from place i, and with which values
+-- where a token leads from place i, and with which stack
 abbrev pub moves_by : Way → World → Token → ℕ → List Val → Option (ℕ × List Val)
 moves_by routes.On w token i s = rule w token s >>= λ t. Some (i + 1, t)
 moves_by (routes.Skip skip) w token i s = Some (i + 1 + skip, s)
@@ -63,30 +63,30 @@ moves_by (routes.Keep stays skip) w token i s =
     take_truth s >>= λ b. Some
     (if beq stays b.0 then (i + 1 + skip, Truth b.0 ∷ b.1) else (i + 1, b.1))
 
--- where the token at place i leads, and with which values
+-- where the token at place i leads, and with which stack
 abbrev pub moves : World → Token → ℕ → List Val → Option (ℕ × List Val)
 moves w token i s = moves_by (way_of token) w token i s
 
--- a step: from place i with values s to place j with values t
+-- a step: from place i with stack s to place j with stack t
 abbrev pub Step : Code → World → ℕ → List Val → ℕ → List Val → Type 0
 Step p w i s j t =
     (token : Token) × (slice_get p.tokens i ≡ Some token) × (moves w token i s ≡ Some (j, t))
 
--- n steps from place i with values s to place j with values t; d is the greatest depth on the way
--- and l the length of the longest value
+-- n steps from place i with stack s to place j with stack t; d is the greatest depth on the way and
+-- l the length of the longest value
 abbrev pub Segment : Code → World → ℕ → List Val → ℕ → ℕ → List Val → ℕ → ℕ → Type 0
 Segment p w i s zero j t d l = (j ≡ i) × (t ≡ s) × (d ≡ length s) × (l ≡ longest s)
 Segment p w i s (suc n) k u d l =
     (j : ℕ) × (t : List Val) × (e : ℕ) × (h : ℕ) × Segment p w i s n j t e h × Step p w j t k u
     × (d ≡ max e (length u)) × (l ≡ max h (longest u))
 
--- a run of a program over a message with names held: n steps from its first place and no values to
--- its end and the one truth value v
+-- a run of a program over a message with these names held: n steps from its first place with an
+-- empty stack to its end with the one truth value v
 abbrev pub Run : Code → Seen → List (List ℕ) → Bool → ℕ → ℕ → ℕ → Type 0
 Run p message held v n d l =
     Segment p (world p message held) 0 [] n (length p.tokens) (Truth v ∷ []) d l
 
--- a token that takes no memory
+-- a token that allocates no memory
 abbrev pub IsFree : Token → Type 0
 IsFree tokens.Concat = ⊥
 IsFree tokens.HexString = ⊥
@@ -95,12 +95,12 @@ IsFree tokens.Upper = ⊥
 IsFree tokens.IntToText = ⊥
 IsFree token = Unit {0}
 
--- a run to this value in so many steps and with these peaks, within what a program declares
+-- a run to the value v in n steps with the peaks d and l, within what a program declares
 abbrev pub EndsAs : Code → Seen → List (List ℕ) → Bool → ℕ → ℕ → ℕ → Type 0
 EndsAs p message held v n d l =
     Run p message held v n d l × (n ≤ p.steps) × (d ≤ p.depth) × (l ≤ p.bound)
 
--- a run within what a program declares
+-- some run within what a program declares
 abbrev pub EndsWithin : Code → Seen → List (List ℕ) → Type 0
 EndsWithin p message held =
     (v : Bool) × (n : ℕ) × (d : ℕ) × (l : ℕ) × Run p message held v n d l × (n ≤ p.steps)

@@ -14,13 +14,13 @@ IsText (Truth b) = ⊥
 IsText (Number n) = ⊥
 IsText (Text bytes) = Unit {0}
 
--- the length of a value: that of a byte string, and 0 of what is none
+-- the length of a value: that of a byte string, 0 for any other value
 abbrev pub size : Val → ℕ
 size (Truth b) = 0
 size (Number n) = 0
 size (Text bytes) = length bytes
 
--- the length of the longest value
+-- the length of the longest value, 0 if there is none
 abbrev pub longest : List Val → ℕ
 longest [] = 0
 longest (v ∷ s) = max (size v) (longest s)

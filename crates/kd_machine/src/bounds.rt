@@ -1,7 +1,7 @@
 ghost use Rattle.std.specs.Prelude.{◌≡◌, ℕ, ◌≤◌, List, length, None, Some, slice_range};
 ghost use Rattle.kd_machine.specs.Strings.{start_in, part, substring};
 
-// Where a part begins in a string of so many bytes, if it begins there.
+// Returns where a substring begins in a string of `size` bytes, or nothing if it begins outside.
 fn beginning(start: i32, size: usize) -> Option<usize>
     ensures { result ≡ start_in start size }
 {
@@ -19,7 +19,7 @@ fn beginning(start: i32, size: usize) -> Option<usize>
     }
 }
 
-// From where to where the part from a beginning on goes.
+// Returns the range (start, end) of the substring that begins at `begin`.
 fn ends(count: Option<i32>, begin: usize, size: usize) -> (usize, usize)
     requires { begin ≤ size }
     ensures within { (result.0 ≤ result.1) × (result.1 ≤ size) }
@@ -39,7 +39,7 @@ fn ends(count: Option<i32>, begin: usize, size: usize) -> (usize, usize)
     }
 }
 
-// From where to where a part of a string of so many bytes goes.
+// Returns the range (start, end) of a substring of a string of `size` bytes.
 pub(crate) fn bounds(start: i32, count: Option<i32>, size: usize) -> (usize, usize)
     ensures within { (result.0 ≤ result.1) × (result.1 ≤ size) }
     ensures part { (bytes : List ℕ) → length bytes ≡ size

@@ -8,7 +8,7 @@ use std::fmt;
 /// Why a run has no outcome.
 #[derive(Clone, Copy, PartialEq, Eq)]
 pub enum EvalFault {
-    /// There is no memory for a value.
+    /// There is not enough memory for a value.
     Memory,
 }
 
@@ -34,7 +34,7 @@ impl fmt::Debug for EvalFault {
 impl Error for EvalFault {}
 
 impl EvalFault {
-    /// The fault's number: 91, want of memory.
+    /// The fault's number: 91, out of memory.
     pub fn number(self) -> u8
         ensures { result ≡ eval_fault_number self }
     {
@@ -54,7 +54,7 @@ impl From<AllocError> for EvalFault {
     }
 }
 
-// For callers whose only fault is want of memory.
+// For callers whose only fault is being out of memory.
 impl From<EvalFault> for AllocError {
     fn from(fault: EvalFault) -> AllocError {
         match fault {

@@ -9,7 +9,7 @@ use kd_options::Message;
 use std::alloc::{AllocError, Global};
 use std::marker::Model;
 
-/// The names of the classes that a message is in, each once, in the order in which they joined.
+/// The names of the classes that a message is in, without duplicates, in the order they were added.
 #[derive(Drop)]
 pub struct Held {
     alloc: Global,
@@ -29,12 +29,12 @@ impl Model for Held {
 }
 
 impl Held {
-    /// The names that a message has before any definition: `ALL`, and where option 60 is present
-    /// `VENDOR_CLASS_` followed by its value.
+    /// Returns the names that a message has before any definition: `ALL` and, if option 60 is
+    /// present, `VENDOR_CLASS_` followed by its value.
     ///
     /// # Errors
     ///
-    /// There is no memory for them.
+    /// Out of memory.
     pub fn base(alloc: Global, message: &Message<'_>) -> Result<Held, AllocError>
         ensures { IfOk result (λ h. h ≡ base_names (value_of 60 message.now.options)) }
     {
@@ -51,11 +51,11 @@ impl Held {
         Ok(held)
     }
 
-    /// One name more; nothing changes where it is held already.
+    /// Adds a name; does nothing if it is held already.
     ///
     /// # Errors
     ///
-    /// There is no memory for it; the names stay as they are.
+    /// Out of memory; the names stay as they are.
     pub fn add(&mut self, name: &[u8]) -> Result<(), AllocError>
         ensures added { OnOk result (self.new ≡ with_name name.now self.old) }
         ensures kept { OnErr result (self.new ≡ self.old) }
@@ -67,14 +67,14 @@ impl Held {
         Ok(())
     }
 
-    /// Whether a name is held.
+    /// Reports whether a name is held.
     pub fn contains(&self, name: &[u8]) -> bool
         ensures { result ≡ is_held name.now self.now }
     {
         self.names.contains(name)
     }
 
-    /// The name at an index, in the order in which they joined.
+    /// Returns the name at an index, in the order in which the names were added, if there is one.
     pub fn name_at(&self, index: usize) -> Option<&[u8]>
         ensures at { option_copied result ≡ slice_get self.now index }
         ensures distinct { IsDistinct same self.now }

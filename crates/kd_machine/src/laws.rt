@@ -1,5 +1,5 @@
-//! What is true of each run, whatever the program does: each law is the contract of a function that
-//! does nothing but name the laws it rests on.
+//! What is true of every run, whatever the program does. Each law is the contract of a function
+//! that does nothing but name the laws it rests on.
 ghost use Rattle.kd_machine.specs.Laws.{AcceptedEnds, HasOneEnd};
 
 /// Every accepted program has a run over every message and every list of held names, within the
@@ -11,8 +11,8 @@ pub fn accepted_ends()
     kd_options::laws::messages_have_sizes();
 }
 
-/// A program has one run over a message and a list of held names: its truth value, its steps and
-/// its peaks.
+/// All runs of a program over the same message and held names agree: they have the same truth
+/// value, steps and peaks.
 pub fn one_end()
     ensures { HasOneEnd }
 {}

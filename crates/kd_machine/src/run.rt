@@ -12,7 +12,7 @@ use kd_options::Message;
 use kd_token::{Program, Token, Verified, Way};
 use std::alloc::{AllocError, Global};
 
-/// What a run gave.
+/// The outcome of a run.
 #[derive(Clone, Copy, PartialEq, Eq)]
 pub struct Outcome {
     /// The program's truth value.
@@ -25,12 +25,12 @@ pub struct Outcome {
     pub peak_length: u32,
 }
 
-/// Runs a verified program over a message, with the names of classes that are held. Takes memory
-/// for the values of `Concat`, `HexString`, `Lower`, `Upper` and `IntToText` alone.
+/// Runs a verified program over a message with the class names that are held. Allocates memory only
+/// for the values of `Concat`, `HexString`, `Lower`, `Upper` and `IntToText`.
 ///
 /// # Errors
 ///
-/// `Memory`: there is none for such a value.
+/// `Memory`: there is not enough memory for such a value.
 pub fn eval<'a>(
     alloc: Global,
     verified: &'a Verified,
@@ -45,7 +45,7 @@ pub fn eval<'a>(
     ensures free { AllByRecursion IsFree verified.now.tokens → IsOk result }
 {
     let program = verified.program();
-    // what the bounds of a program are comes with its tokens
+    // The contract of `tokens` states the bounds of a program.
     let _tokens = program.tokens();
     match program.depth() {
         0..=4 => within(alloc, &mut Stack::<4>::new(), verified, message, held),
@@ -54,7 +54,7 @@ pub fn eval<'a>(
     }
 }
 
-// The run of a program on an empty stack with room for its declared depth.
+// Runs a program on an empty stack with room for its declared depth.
 fn within<'a, const ROOM: usize>(
     alloc: Global,
     stack: &mut Stack<'a, ROOM>,
@@ -70,9 +70,9 @@ fn within<'a, const ROOM: usize>(
 {
     let program = verified.program();
     let tokens = program.tokens();
-    // that some datagram reads as the message comes with its length
+    // The contract of `len` states that some datagram reads as the message.
     let _size = message.len();
-    // where tokens lead, and how long the values of a message are
+    // Where tokens lead, and how long the values of a message are.
     kd_token::laws::tokens_stand();
     kd_options::laws::messages_have_sizes();
     let mut at = 0;
@@ -93,7 +93,7 @@ fn within<'a, const ROOM: usize>(
     })
 }
 
-// The token at place `at` is run; where it leads.
+// Runs the token at place `at` and returns the place it leads to.
 fn advance<'a, const ROOM: usize>(
     alloc: Global,
     stack: &mut Stack<'a, ROOM>,

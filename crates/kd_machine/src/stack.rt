@@ -6,7 +6,7 @@ use crate::value::Value;
 use arrayvec::ArrayVec;
 use std::marker::Model;
 
-// The values of a run, the top last.
+// The stack of a run; the top is last.
 #[derive(Drop)]
 pub(crate) struct Stack<'a, const ROOM: usize> {
     values: ArrayVec<Value<'a>, ROOM>,
@@ -39,7 +39,7 @@ impl<'a, const ROOM: usize> Stack<'a, ROOM> {
         self.values.len()
     }
 
-    // The length of the value on top.
+    // The length of the value on top, 0 if the stack is empty.
     #[inline]
     pub(crate) fn top_size(&self) -> usize
         ensures { result ≡ size_of_top self.now }
@@ -83,7 +83,7 @@ impl<'a, const ROOM: usize> Stack<'a, ROOM> {
         }
     }
 
-    // The byte string on top is let go.
+    // Drops the byte string on top.
     #[inline]
     pub(crate) fn drop_text(&mut self)
         requires { IsSome (take_text self.old) }
@@ -92,7 +92,7 @@ impl<'a, const ROOM: usize> Stack<'a, ROOM> {
         self.values.pop();
     }
 
-    // The byte string on top is taken.
+    // Pops the byte string on top.
     #[inline]
     pub(crate) fn pop_text(&mut self) -> Value<'a>
         requires { IsSome (take_text self.old) }
@@ -105,7 +105,7 @@ impl<'a, const ROOM: usize> Stack<'a, ROOM> {
         }
     }
 
-    // The truth value on top is taken.
+    // Pops the truth value on top.
     #[inline]
     pub(crate) fn pop_truth(&mut self) -> bool
         requires { IsSome (take_truth self.old) }
@@ -117,7 +117,7 @@ impl<'a, const ROOM: usize> Stack<'a, ROOM> {
         }
     }
 
-    // The number on top is taken.
+    // Pops the number on top.
     #[inline]
     pub(crate) fn pop_number(&mut self) -> u32
         requires { IsSome (take_number self.old) }

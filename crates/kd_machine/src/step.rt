@@ -35,7 +35,7 @@ fn field_value<'a>(message: &'a Message<'_>, field: Field) -> Value<'a>
     }
 }
 
-// The value of a field is pushed.
+// Pushes the value of a field.
 fn push_field<'a, const ROOM: usize>(
     stack: &mut Stack<'a, ROOM>,
     message: &'a Message<'_>,
@@ -47,7 +47,7 @@ fn push_field<'a, const ROOM: usize>(
     stack.push(field_value(message, field));
 }
 
-// The value of a sub-option is pushed, the empty string where it is absent.
+// Pushes the value of a sub-option, or the empty string if it is absent.
 fn push_relay<'a, const ROOM: usize>(
     stack: &mut Stack<'a, ROOM>,
     message: &'a Message<'_>,
@@ -60,7 +60,7 @@ fn push_relay<'a, const ROOM: usize>(
     stack.push(Value::Slice(message.relay(code).unwrap_or(&[])));
 }
 
-// One token of a program that goes on is run; no branch comes here.
+// Runs one token that is not a branch.
 #[tactic(auto, unfolding(crate::specs::Run::rule))]
 pub(crate) fn step<'a, const ROOM: usize>(
     alloc: Global,

@@ -4,7 +4,7 @@ ghost use Rattle.kd_machine.specs.Strings.{lower_digit, byte_digits, hex_of};
 
 use std::alloc::{AllocError, Global};
 
-// A hexadecimal digit in lower case.
+// Returns a hexadecimal digit in lower case.
 fn digit(n: u8) -> u8
     requires { n < 16 }
     ensures { result ≡ lower_digit n }
@@ -12,14 +12,14 @@ fn digit(n: u8) -> u8
     if n < 10 { b'0' + n } else { b'a' - 10 + n }
 }
 
-// The two digits of a byte.
+// Returns the two hexadecimal digits of a byte.
 fn digits_of(byte: u8) -> [u8; 2]
     ensures { result ≡ byte_digits byte }
 {
     [digit(byte / 16), digit(byte % 16)]
 }
 
-// Two hexadecimal digits for each byte, with a separator between bytes.
+// Returns two hexadecimal digits for each byte, with a separator between bytes.
 pub(crate) fn hex_text(alloc: Global, bytes: &[u8], separator: &[u8]) -> Result<Vec<u8>, AllocError>
     ensures { IfOk result (λ v. v.items ≡ hex_of separator.now bytes.now) }
 {
@@ -32,7 +32,7 @@ pub(crate) fn hex_text(alloc: Global, bytes: &[u8], separator: &[u8]) -> Result<
     Ok(out)
 }
 
-// Two digits for each byte, each after a separator.
+// Appends the two digits of each byte, each pair after a separator.
 fn put_behind(out: &mut Vec<u8>, bytes: &[u8], separator: &[u8]) -> Result<(), AllocError>
     ensures { OnOk result
         (out.new.items ≡ out.old.items
@@ -45,7 +45,7 @@ fn put_behind(out: &mut Vec<u8>, bytes: &[u8], separator: &[u8]) -> Result<(), A
     Ok(())
 }
 
-// Two byte strings, the first one first.
+// Joins two byte strings.
 pub(crate) fn joined(alloc: Global, first: &[u8], second: &[u8]) -> Result<Vec<u8>, AllocError>
     ensures { IfOk result (λ v. v.items ≡ first.now ++ second.now) }
 {
@@ -55,7 +55,7 @@ pub(crate) fn joined(alloc: Global, first: &[u8], second: &[u8]) -> Result<Vec<u
     Ok(out)
 }
 
-// A number's decimal digits.
+// Returns the decimal digits of a number.
 pub(crate) fn decimal_text(alloc: Global, number: u32) -> Result<Vec<u8>, AllocError>
     ensures { IfOk result (λ v. v.items ≡ decimal number) }
 {

@@ -12,7 +12,8 @@ use crate::text::{decimal_text, hex_text, joined};
 use crate::value::Value;
 use std::alloc::{AllocError, Global};
 
-// Of two byte strings the lower one where the truth value below them is true, else the upper one.
+// Pops two byte strings and the truth value below them; pushes the lower string if the truth value
+// is true, else the upper one.
 pub(crate) fn choose<const ROOM: usize>(stack: &mut Stack<'_, ROOM>)
     requires { IsSomeAnd (take_text stack.old)
         (λ b. IsSomeAnd (take_text b.1)
@@ -31,7 +32,7 @@ pub(crate) fn choose<const ROOM: usize>(stack: &mut Stack<'_, ROOM>)
     }
 }
 
-// A part of a byte string.
+// Replaces the byte string on top with a substring of it.
 pub(crate) fn narrow<const ROOM: usize>(stack: &mut Stack<'_, ROOM>, start: i32, count: Option<i32>)
     requires { IsSomeAnd (take_text stack.old) (λ a. length a.1 < ROOM) }
     ensures { MatchOption (take_text stack.old) ⊥
@@ -43,7 +44,7 @@ pub(crate) fn narrow<const ROOM: usize>(stack: &mut Stack<'_, ROOM>, start: i32,
     stack.push(value);
 }
 
-// Two byte strings, one after the other.
+// Replaces the two byte strings on top with their concatenation, the lower one first.
 pub(crate) fn concat<const ROOM: usize>(
     alloc: Global,
     stack: &mut Stack<'_, ROOM>,
@@ -62,7 +63,7 @@ pub(crate) fn concat<const ROOM: usize>(
     Ok(())
 }
 
-// The hexadecimal text of a byte string, with a separator that lies above it.
+// Replaces a byte string, and the separator above it, with the string's hexadecimal text.
 pub(crate) fn hex_string<const ROOM: usize>(
     alloc: Global,
     stack: &mut Stack<'_, ROOM>,
@@ -81,7 +82,7 @@ pub(crate) fn hex_string<const ROOM: usize>(
     Ok(())
 }
 
-// A byte string with its letters in lower case.
+// Changes the letters of the byte string on top to lower case.
 pub(crate) fn lower<const ROOM: usize>(
     alloc: Global,
     stack: &mut Stack<'_, ROOM>,
@@ -97,7 +98,7 @@ pub(crate) fn lower<const ROOM: usize>(
     Ok(())
 }
 
-// A byte string with its letters in upper case.
+// Changes the letters of the byte string on top to upper case.
 pub(crate) fn upper<const ROOM: usize>(
     alloc: Global,
     stack: &mut Stack<'_, ROOM>,
@@ -113,7 +114,7 @@ pub(crate) fn upper<const ROOM: usize>(
     Ok(())
 }
 
-// The decimal digits of a number.
+// Replaces the number on top with its decimal digits.
 pub(crate) fn digits<const ROOM: usize>(
     alloc: Global,
     stack: &mut Stack<'_, ROOM>,
@@ -127,7 +128,7 @@ pub(crate) fn digits<const ROOM: usize>(
     Ok(())
 }
 
-// Whether two byte strings are equal.
+// Replaces the two byte strings on top with whether they are equal.
 pub(crate) fn equal<const ROOM: usize>(stack: &mut Stack<'_, ROOM>)
     requires { IsSomeAnd (take_text stack.old)
         (λ b. IsSomeAnd (take_text b.1) (λ a. length a.1 < ROOM)) }

@@ -5,8 +5,8 @@ ghost use Rattle.kd_machine.specs.Values.{stands_for};
 use std::alloc::{AllocError, Global};
 use std::marker::Model;
 
-// A value on the stack, of three words. A byte string is a part of the message or of the program,
-// four bytes held in place, or bytes of its own behind a pointer.
+// A value on the stack, three machine words long. A byte string is a slice of the message or of the
+// program, four bytes stored in place, or an owned buffer behind a pointer.
 #[derive(Drop)]
 pub(crate) enum Value<'a> {
     Bool(bool),
@@ -16,7 +16,7 @@ pub(crate) enum Value<'a> {
     Owned(Box<Owned>),
 }
 
-// What the unused places of a stack hold.
+// The value in the unused slots of a stack.
 impl<'a> Default for Value<'a> {
     fn default() -> Value<'a> {
         Value::Bool(false)
@@ -24,14 +24,14 @@ impl<'a> Default for Value<'a> {
 }
 
 impl<'a> Value<'a> {
-    // These bytes, as its own.
+    // Makes a byte string that owns these bytes.
     pub(crate) fn owned(alloc: Global, bytes: Vec<u8>) -> Result<Value<'a>, AllocError>
         ensures { IfOk result (λ v. stands_for v ≡ Text bytes.items) }
     {
         Ok(Value::Owned(Box::new(alloc, Owned::new(bytes))?))
     }
 
-    // The byte string.
+    // Returns the bytes of a byte string.
     pub(crate) fn as_slice(&self) -> &[u8]
         requires { IsText (stands_for self.now) }
         ensures { stands_for self.now ≡ Text result.now }
@@ -44,7 +44,7 @@ impl<'a> Value<'a> {
         }
     }
 
-    // The length of a byte string, and 0 of what is none.
+    // Returns the length of a byte string, and 0 for any other value.
     pub(crate) fn len(&self) -> usize
         ensures { result ≡ size (stands_for self.now) }
     {
@@ -56,7 +56,7 @@ impl<'a> Value<'a> {
         }
     }
 
-    // The byte string becomes a part of itself.
+    // Narrows the byte string to a part of itself.
     pub(crate) fn narrow(&mut self, from: usize, to: usize)
         requires text { IsText (stands_for self.old) }
         requires order { from ≤ to }
@@ -73,7 +73,7 @@ impl<'a> Value<'a> {
     }
 }
 
-// A part of four bytes that are held in place.
+// Four bytes stored in place, and the part of them that is the value.
 #[derive(Drop)]
 pub(crate) struct Small {
     bytes: [u8; 4],
@@ -92,7 +92,7 @@ impl Model for Small {
 }
 
 impl Small {
-    // These four bytes.
+    // Makes the value of all four bytes.
     pub(crate) fn new(bytes: [u8; 4]) -> Small
         ensures { result ≡ bytes }
     {
@@ -119,7 +119,7 @@ impl Small {
     }
 }
 
-// A part of bytes of its own.
+// An owned buffer, and the part of it that is the value.
 #[derive(Drop)]
 pub(crate) struct Owned {
     bytes: Vec<u8>,
@@ -138,7 +138,7 @@ impl Model for Owned {
 }
 
 impl Owned {
-    // These bytes.
+    // Makes the value of the whole buffer.
     fn new(bytes: Vec<u8>) -> Owned
         ensures { result ≡ bytes.items }
     {
