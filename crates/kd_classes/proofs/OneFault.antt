@@ -1,4 +1,4 @@
--- Definitions have one first fault, and none where they are in order.
+-- Definitions have at most one first fault, and none if they are in order.
 use Rattle.std.proofs.Common.{◌≡◌, ℕ, ◌<◌, ◌≤◌, Bool, true, false, List, length, take, Some, refl, sym, ap, subst, ◌∙◌, arith, inl, inr}
 use Rattle.std.specs.Prelude.{◌⊎◌, slice_get}
 use Rattle.std.proofs.lemmas.Bool.{cases_lt}
@@ -12,13 +12,13 @@ use Rattle.kd_classes.specs.declared.fault.ClassFault.TheVariants as faults
 both : (b : Bool) → b ≡ true → b ≡ false → ⊥
 both b yes-is no-is = cc
 
--- what is in order is not at fault
+-- a definition that is in order has no fault
 clash : (i : ℕ) (earlier : List ClassDef) (def : ClassDef) (fault : ClassFault) → IsInOrder earlier def → IsFaultOf i earlier def fault → ⊥
 clash i earlier def (faults.Duplicate at) order wrong = both (named_among def.name earlier) wrong.1 order.own
 clash i earlier def (faults.UnknownMember at) order wrong = both (list_all (known_after earlier) (asked def)) order.known wrong.2
 clash i earlier def faults.TooMany order wrong = wrong
 
--- a definition has one fault
+-- a definition has at most one fault
 one_of : (i : ℕ) (earlier : List ClassDef) (def : ClassDef) (f g : ClassFault) → IsFaultOf i earlier def f → IsFaultOf i earlier def g → f ≡ g
 one_of i earlier def (faults.Duplicate a) (faults.Duplicate b) u v = ap faults.Duplicate (u.0 ∙ sym v.0)
 one_of i earlier def (faults.Duplicate a) (faults.UnknownMember b) u v = absurd (both (named_among def.name earlier) u.1 v.1)

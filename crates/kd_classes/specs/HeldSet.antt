@@ -1,5 +1,5 @@
 -- The classes that a message is in (Kea Administrator Reference Manual, chapter Client
--- Classification): each definition is tested in order, over the names held before it.
+-- Classification): definitions are tested in order, each over the names held before it.
 use Rattle.std.specs.Prelude.{◌≡◌, ℕ, Bool, if◌then◌else◌, List, [], ◌∷◌, Option, Some, None}
 use Rattle.kd_classes.specs.declared.definition.ClassDef.{ClassDef}
 use Rattle.kd_machine.specs.Held.{base_names, with_name}
@@ -13,7 +13,7 @@ use Rattle.kd_token.specs.File.{Code, HasFile}
 abbrev pub RunGives : Code → Seen → List (List ℕ) → Bool → Type 0
 RunGives program message held v = (n : ℕ) × (d : ℕ) × (l : ℕ) × Run program message held v n d l
 
--- a name joins those held where its test's run gives true; without a test it does not
+-- a name joins those held if its test is true; without a test it does not
 abbrev pub JoinsBy : Option Code → Seen → List ℕ → List (List ℕ) → List (List ℕ) → Type 0
 JoinsBy None message name held more = more ≡ held
 JoinsBy (Some program) message name held more =
@@ -35,11 +35,11 @@ abbrev pub HeldSet : Seen → List ClassDef → List (List ℕ) → Type 0
 HeldSet message defs names =
     JoinInOrder message defs (base_names (value_of 60 message.options)) names
 
--- a test that is an accepted program, or none
+-- a test is an accepted program, if there is one
 abbrev pub IsAcceptedTest : Option Code → Type 0
 IsAcceptedTest None = Unit {0}
 IsAcceptedTest (Some program) = HasFile program × Accepts program
 
--- a definition's test is an accepted program, where it has one
+-- a definition's test is an accepted program, if it has one
 abbrev pub IsAccepted : ClassDef → Type 0
 IsAccepted def = IsAcceptedTest def.test

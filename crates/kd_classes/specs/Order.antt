@@ -1,5 +1,5 @@
--- Definitions of client classes in order (Kea Administrator Reference Manual, chapter Client
--- Classification): which may stand, and the first fault of those that may not.
+-- Client class definitions in order (Kea Administrator Reference Manual, chapter Client
+-- Classification): which are accepted, and the first fault of those that are not.
 use Rattle.std.specs.Prelude.{◌≡◌, ℕ, ◌<◌, ◌≤◌, nat_eq, Bool, true, false, ◌||◌, List, [], length, take, slice_get, codes, Option, Some, None}
 use Rattle.std.specs.List.{list_all, list_any, starts_with}
 use Rattle.kd_classes.specs.declared.definition.ClassDef.{ClassDef}
@@ -35,17 +35,17 @@ names_of (Some program) = program.names
 abbrev pub asked : ClassDef → List (List ℕ)
 asked def = names_of def.test
 
--- a definition after these has a name of its own and asks for known names alone
+-- a definition after these has a name of its own and asks only for known names
 pub record IsInOrder (earlier : List ClassDef) (def : ClassDef) : Type 0 where
   pub own : named_among def.name earlier ≡ false
   pub known : list_all (known_after earlier) (asked def) ≡ true
 
--- the first so many definitions are in order
+-- the first `count` definitions are in order
 abbrev pub AreInOrderTo : List ClassDef → ℕ → Type 0
 AreInOrderTo defs count =
     (i : ℕ) (def : ClassDef) → i < count → slice_get defs i ≡ Some def → IsInOrder (take i defs) def
 
--- definitions that may stand: at most 256, all in order
+-- definitions that are accepted: at most 256, all in order
 pub record AreInOrder (defs : List ClassDef) : Type 0 where
   pub few : length defs ≤ 256
   pub each : AreInOrderTo defs (length defs)
@@ -65,7 +65,8 @@ pub record IsClassFault (defs : List ClassDef) (i : ℕ) (fault : ClassFault) : 
   pub before : AreInOrderTo defs i
   pub wrong : IsFaultOf i (take i defs) def fault
 
--- the first fault of definitions: they are over 256, or the first that is not in order is at fault
+-- the first fault of definitions: there are more than 256, or it is the fault of the first
+-- definition that is not in order
 abbrev pub IsFirstClassFault : List ClassDef → ClassFault → Type 0
 IsFirstClassFault defs faults.TooMany = 256 < length defs
 IsFirstClassFault defs fault = (length defs ≤ 256) × (i : ℕ) × IsClassFault defs i fault

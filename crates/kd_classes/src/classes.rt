@@ -10,8 +10,8 @@ use kd_options::Message;
 use std::alloc::{AllocError, Global};
 use std::marker::Model;
 
-/// Definitions of classes in order: at most 256, each with a name of its own, each with a test that
-/// asks for known names alone.
+/// Client class definitions in order: at most 256, each with a name of its own and a test that asks
+/// only for known names.
 #[derive(Drop)]
 pub struct Classes {
     definitions: Vec<ClassDef>,
@@ -30,13 +30,13 @@ impl Model for Classes {
 }
 
 impl Classes {
-    /// The classes of these definitions, which it keeps: no memory is taken. On an error the
+    /// Checks these definitions and takes ownership of them; allocates no memory. On an error the
     /// definitions are dropped.
     ///
     /// # Errors
     ///
-    /// `TooMany` over 256 definitions; then the first fault in their order, at one of them
-    /// `Duplicate` before `UnknownMember`.
+    /// `TooMany` for more than 256 definitions; otherwise the first fault in their order, and at
+    /// one definition `Duplicate` before `UnknownMember`.
     pub fn new(definitions: Vec<ClassDef>) -> Result<Classes, ClassFault>
         ensures kept { IfOk result (λ c. c ≡ definitions.items) }
         ensures ordered { IfOk result (λ _. AreInOrder definitions.items) }
@@ -47,13 +47,13 @@ impl Classes {
         Ok(Classes { definitions })
     }
 
-    /// The names of the classes that a message is in: those before any definition, then in order
-    /// each definition's whose test's run over the names held so far ends with true. Takes memory
-    /// for the names and for the values of the runs.
+    /// Returns the names of the classes that a message is in: the names before any definition and
+    /// then, in order, the name of each definition whose test is true over the names held so far.
+    /// Allocates memory for the names and for the values of the runs.
     ///
     /// # Errors
     ///
-    /// There is no memory for them.
+    /// Out of memory.
     pub fn held(&self, alloc: Global, message: &Message<'_>) -> Result<Held, AllocError>
         ensures { IfOk result (λ names. HeldSet message.now self.now names) }
     {
@@ -64,7 +64,7 @@ impl Classes {
         Ok(names)
     }
 
-    /// How many definitions there are, at most 256.
+    /// Returns the number of definitions, at most 256.
     pub fn len(&self) -> usize
         ensures count { result ≡ length self.now }
         ensures ordered { AreInOrder self.now }
@@ -72,7 +72,7 @@ impl Classes {
         self.definitions.len()
     }
 
-    /// The definition at an index.
+    /// Returns the definition at an index, if there is one.
     pub fn def_at(&self, index: usize) -> Option<&ClassDef>
         ensures { option_copied result ≡ slice_get self.now index }
     {
@@ -80,7 +80,7 @@ impl Classes {
     }
 }
 
-// A definition's name joins those held where its test's run ends with true.
+// Adds a definition's name to those held if its test is true.
 fn join(
     alloc: Global,
     definition: &ClassDef,

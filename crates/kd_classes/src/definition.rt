@@ -2,13 +2,13 @@ use crate::option_list::OptionList;
 use kd_token::Verified;
 use kd_wire::Bytes;
 
-/// A definition of a class.
+/// A client class definition.
 #[derive(Drop)]
 pub struct ClassDef {
     /// The class's name.
     pub name: Bytes,
-    /// The program of its test; without one no message is in the class.
+    /// The program of its test; without a test no message is in the class.
     pub test: Option<Verified>,
-    /// The options that the replies to its members have.
+    /// The options that the class gives to the replies to its members.
     pub options: OptionList,
 }

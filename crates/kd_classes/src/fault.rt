@@ -4,14 +4,14 @@ ghost use Rattle.kd_classes.specs.Order.{class_fault_number};
 use std::fmt;
 use thiserror::Error;
 
-/// Why definitions of classes are refused: the first fault in their order. The payload is the index
-/// of the definition.
+/// Why class definitions are refused: the first fault in their order. The payload is the index of
+/// the definition.
 #[derive(Clone, Copy, PartialEq, Eq, Error)]
 pub enum ClassFault {
     /// An earlier definition has the same name.
     #[error("Duplicate {0}")]
     Duplicate(usize),
-    /// The test asks for a name that no earlier definition has, that is not `ALL` and does not
+    /// The test asks for a name that no earlier definition has, that is not `ALL` and that does not
     /// begin with `VENDOR_CLASS_`.
     #[error("UnknownMember {0}")]
     UnknownMember(usize),

@@ -12,13 +12,13 @@ pub fn no_fault()
         → IsFirstClassFault defs fault → ⊥ }
 {}
 
-/// Definitions have one first fault.
+/// Definitions have at most one first fault.
 pub fn one_fault()
     ensures { (defs : List ClassDef) (fault other : ClassFault) → IsFirstClassFault defs fault
         → IsFirstClassFault defs other → fault ≡ other }
 {}
 
-/// Definitions whose tests are accepted programs give every message the names of its classes.
+/// If the tests are accepted programs, every message has the list of names of its classes.
 pub fn accepted_held()
     ensures { (message : Seen) (defs : List ClassDef) → IsMessage message
         → AllByRecursion IsAccepted defs
@@ -27,7 +27,7 @@ pub fn accepted_held()
     kd_machine::laws::accepted_ends();
 }
 
-/// Definitions give a message one list of names.
+/// Definitions give a message at most one list of names.
 pub fn one_held()
     ensures { (message : Seen) (defs : List ClassDef) (names others : List (List ℕ))
         → HeldSet message defs names → HeldSet message defs others

@@ -1,11 +1,11 @@
 use kd_wire::{Bytes, Entries};
 
-/// An option that a class gives to the replies of its members.
+/// An option that a class gives to the replies to its members.
 #[derive(Drop)]
 pub struct OptionData {
     /// The option's code.
     pub code: u8,
-    /// Its whole value, of any length.
+    /// The option's whole value, of any length.
     pub value: Bytes,
 }
 

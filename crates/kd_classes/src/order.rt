@@ -6,33 +6,33 @@ use crate::definition::ClassDef;
 use crate::fault::ClassFault;
 use kd_token::Program;
 
-// Whether one of these definitions has a name.
+// Reports whether one of these definitions has the name.
 fn is_named(name: &[u8], definitions: &[ClassDef]) -> bool
     ensures { result ≡ named_among name.now definitions.now }
 {
     definitions.iter().any(|def| name == def.name.as_slice())
 }
 
-// Whether a name is built in: a message can have it before any definition.
+// Reports whether a name is built in: a message can have it before any definition.
 fn is_built_in(name: &[u8]) -> bool
     ensures { result ≡ built_in name.now }
 {
     name == b"ALL".as_slice() || name.starts_with(b"VENDOR_CLASS_")
 }
 
-// Whether a name is known after these definitions.
+// Reports whether a name is known after these definitions.
 fn is_known(name: &[u8], earlier: &[ClassDef]) -> bool
     ensures { result ≡ known_after earlier.now name.now }
 {
     is_built_in(name) || is_named(name, earlier)
 }
 
-// Whether each name of a program is known after these definitions.
+// Reports whether every name of a program is known after these definitions.
 #[tactic(auto, using(crate::proofs::Left::passes_at, crate::proofs::Left::fails_at, crate::proofs::Left::ends_at))]
 fn are_known(program: &Program, earlier: &[ClassDef]) -> bool
     ensures { result ≡ list_all (known_after earlier.now) program.now.names }
 {
-    // a program has at most 64 names
+    // A program has at most 64 names.
     let _limits = program.tokens();
     'names: for at in 0..64 {
         let Some(name) = program.name_at(at) else {
@@ -45,7 +45,7 @@ fn are_known(program: &Program, earlier: &[ClassDef]) -> bool
     true
 }
 
-// Whether each name that a definition asks for is known after these definitions.
+// Reports whether every name that a definition asks for is known after these definitions.
 fn asks_known(definition: &ClassDef, earlier: &[ClassDef]) -> bool
     ensures { result ≡ list_all (known_after earlier.now) (asked definition.now) }
 {
@@ -55,7 +55,7 @@ fn asks_known(definition: &ClassDef, earlier: &[ClassDef]) -> bool
     }
 }
 
-// The definition at an index is in order.
+// Checks that the definition at an index is in order.
 fn check_at(index: usize, definition: &ClassDef, definitions: &[ClassDef]) -> Result<(), ClassFault>
     requires there { slice_get definitions.now index ≡ Some definition.now }
     ensures { MatchResult result (λ _. IsInOrder (take index definitions.now) definition.now)
@@ -71,7 +71,7 @@ fn check_at(index: usize, definition: &ClassDef, definitions: &[ClassDef]) -> Re
     }
 }
 
-// Whether definitions are in order.
+// Checks that definitions are in order; returns the first fault if they are not.
 pub(crate) fn check(definitions: &[ClassDef]) -> Result<(), ClassFault>
     ensures { MatchResult result (λ _. AreInOrder definitions.now)
         (λ fault. IsFirstClassFault definitions.now fault) }
