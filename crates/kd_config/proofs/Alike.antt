@@ -22,7 +22,7 @@ alike_take (suc i) (a ∷ xs) (b ∷ ys) h = (h.0, alike_take i xs ys h.1)
 or_alike : (x t u : Bool) → t ≡ u → (x || t) ≡ (x || u)
 or_alike x t u e = ap (λ v. x || v) e
 
--- the same names are theirs
+-- they have the same names
 alike_named : (name : List ℕ) (xs ys : List ClassDef) → AskAlike xs ys → named_among name xs ≡ named_among name ys
 alike_named name [] [] h = refl
 alike_named name [] (b ∷ ys) h = absurd h

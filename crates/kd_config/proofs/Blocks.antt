@@ -10,7 +10,7 @@ block_within a s t some below =
     let few : a / s < t = (div-lt_iff_lt-mul {k = s} {x = a} {y = t} some).1 below in
     omega (arith, mul-le-mul_left {m = a / s + 1} {n = t} s (omega arith), mul_comm s t, mul_comm s (a / s + 1))
 
--- so many blocks of a prefix's size make all addresses
+-- the blocks of a prefix's size cover all addresses
 blocks : (length : ℕ) → 2 ^ (32 - (32 - length)) * prefix_size length ≡ 2 ^ 32
 blocks length =
     let whole : (32 - (32 - length)) + (32 - length) ≡ 32 = omega arith in

@@ -1,4 +1,5 @@
--- The places of the first reservations for clients, and the first for one that has a hardware address and may have an identifier.
+-- The places of the first reservations for clients, and the first reservation for a client that has
+-- a hardware address and may have an identifier.
 use Rattle.std.proofs.Common.{◌≡◌, ◌≢◌, ℕ, zero, suc, ◌+◌, ◌-◌, ◌<◌, ◌≤◌, Bool, true, false, ◌||◌, nat_le, List, [], ◌∷◌, ◌++◌, Option, None, Some, refl, sym, ap, ◌∙◌, subst, if◌then◌else◌, length, min, slice_get, arith}
 use Rattle.std.specs.List.{find, position_from}
 use Rattle.std.specs.Map.{lookup}
@@ -41,7 +42,7 @@ first_more test i (y ∷ xs) x = by (test y) (first_more test (i + 1) xs x) wher
   by true h = refl
   by false h = let next : i + 1 + length xs ≡ i + suc (length xs) = omega arith in h ∙ ap (λ n. option_or (position_from test (i + 1) xs) (if test x then Some n else None)) next
 
--- whose bytes are of the kind is asked by them
+-- a client whose bytes are of the kind is the one with these bytes
 pub of_kind : (hardware : Bool) (identity : Identity) (own : List ℕ) → bytes_of_kind hardware identity ≡ Some own → (bytes : List ℕ) → is_client hardware bytes identity ≡ bytes_eq bytes own
 of_kind true (Hardware own) b is bytes = ap (bytes_eq bytes) (same_Some own b is)
 of_kind false (ClientId own) b is bytes = ap (bytes_eq bytes) (same_Some own b is)
@@ -54,7 +55,7 @@ of_other_kind false (ClientId own) is bytes = absurd (none-some own (sym is))
 of_other_kind true (ClientId own) is bytes = refl
 of_other_kind false (Hardware own) is bytes = refl
 
--- a place that is found is none before the start
+-- a place that is found is not before the start
 from_start : {X : Type 0} (test : X → Bool) (i : ℕ) (xs : List X) (k : ℕ) → position_from test i xs ≡ Some k → i ≤ k
 from_start test i [] k is = absurd (none-some k is)
 from_start test i (x ∷ xs) k is = by (test x) is (from_start test (i + 1) xs k) where
@@ -65,7 +66,7 @@ from_start test i (x ∷ xs) k is = by (test x) is (from_start test (i + 1) xs k
 from_before : {X : Type 0} (test : X → Bool) (i : ℕ) (xs : List X) (k : ℕ) → position_from test (i + 1) xs ≡ Some k → i ≤ k
 from_before test i xs k is = let late = from_start test (i + 1) xs k is in omega (arith, late)
 
--- what stands at a place, where there is one
+-- the element at a place, if there is one
 abbrev pub at_place : {X : Type 0} → List X → ℕ → Option ℕ → Option X
 at_place xs i None = None
 at_place xs i (Some k) = slice_get xs (k - i)
@@ -116,7 +117,7 @@ none_passes : {X : Type 0} (i : ℕ) (xs : List X) → position_from (λ x. fals
 none_passes i [] = refl
 none_passes i (x ∷ xs) = none_passes (i + 1) xs
 
--- what is found for bytes, where there are any
+-- what is found for bytes, if there are any
 pub found_places : (hardware : Bool) (found : List ℕ → Option ℕ) (list : List Reservation) → ArePlaces hardware found list → (id : Option (List ℕ))
     → found_if found id ≡ position_from (λ r. is_client_if hardware id r.identity) 0 list
 found_places hardware found list are None = sym (none_passes 0 list)

@@ -1,4 +1,4 @@
--- Clients among their keys, which are borrowed bytes and whether these are a hardware address.
+-- Clients in a list of keys; a key is borrowed bytes and whether they are a hardware address.
 use Rattle.std.proofs.Common.{◌≡◌, ℕ, Bool, true, false, not, ◌&&◌, List, [], ◌∷◌, map, refl, ap, sym, ◌∙◌, Bor}
 use Rattle.std.specs.Prelude.{bytes_eq, ◌||◌}
 use Rattle.std.specs.Bool.{beq}
@@ -13,7 +13,7 @@ same_by true false x y = refl
 same_by false true x y = refl
 same_by false false x y = refl
 
--- a key is among keys where its client is among theirs
+-- a key is in a list if and only if its client is among their clients
 any_client : (key : Bool × Bor (List ℕ)) (ks : List (Bool × Bor (List ℕ))) → list_any (λ y. beq key.0 y.0 && bytes_eq key.1.now y.1.now) ks ≡ list_any (same_identity (client_by key)) (map client_by ks)
 any_client key [] = refl
 any_client key (y ∷ ks) =

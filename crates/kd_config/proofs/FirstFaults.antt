@@ -1,4 +1,4 @@
--- Where the first value stands that breaks a rule, and of which kind its fault is.
+-- The place of the first value that breaks a rule, and the kind of its fault.
 use Rattle.std.proofs.Common.{◌≡◌, ℕ, ◌+◌, ◌<◌, ◌≤◌, Bool, true, false, not, ◌&&◌, nat_le, nat_lt, nat_eq, if◌then◌else◌, List, [], ◌∷◌, ◌++◌, length, get_or, take, drop, codes, Some, None, ap, sym, refl, ◌∙◌, arith, append-nil, append_assoc}
 use Rattle.std.proofs.lemmas.Bool.{and_from, and_left, and_right, le-leb, leb-true, lt-leb, ltb-false, ltb-true}
 use Rattle.std.proofs.lemmas.List.{length-take, take-append-drop, take_all, take_more}
@@ -20,7 +20,7 @@ use Rattle.kd_config.specs.declared.prefix.Prefix.{Prefix}
 use Rattle.kd_config.specs.declared.reservation.Identity.{Identity}
 use Rattle.kd_config.specs.declared.reservation.Reservation.{Reservation}
 
--- the values before a place with the one at the place, and more
+-- the values before a place with the value at the place, and more
 pub one_more_at : {A : Type 0} (xs : List A) (i : ℕ) (x : A) (more : List A) → i < length xs
     → x ≡ get_or xs i x → take (i + 1) xs ++ more ≡ take i xs ++ x ∷ more
 one_more_at {A} xs i x more below is =
@@ -60,13 +60,13 @@ all_false false b c e = refl
 all_false true false c e = refl
 all_false true true c e = absurd (cc)
 
--- reservations at the front have passed: those after them decide
+-- the first reservations have passed; those after them decide
 abbrev pub Decide : Prefix → List ℕ → List Reservation → List ℕ → List Identity → Type 0
 Decide prefix first front earlier clients =
     (more : List Reservation) → may_all_reserve prefix first [] (front ++ more)
     ≡ may_all_reserve prefix earlier clients more
 
--- a reservation that passed: the rest decides
+-- if a reservation passed, the rest decides
 pub inside_passed : (prefix : Prefix) (first earlier : List ℕ) (clients : List Identity)
     (rs : List Reservation) (i : ℕ) (r : Reservation) → i < length rs → r ≡ get_or rs i r
     → Decide prefix first (take i rs) earlier clients
@@ -81,7 +81,7 @@ inside_passed prefix first earlier clients rs i r below is left e more =
     ∙ (ap (λ (b : Bool). b && (is_new clients r.identity && rest)) both.0
     ∙ ap (λ (b : Bool). b && rest) both.1))
 
--- one that did not: it is the first
+-- the reservation that failed is the first
 pub inside_failed : (prefix : Prefix) (path first earlier : List ℕ) (clients : List Identity)
     (rs : List Reservation) (i : ℕ) (r : Reservation) (fault : ConfigFault) → i < length rs
     → r ≡ get_or rs i r → earlier ≡ first ++ reserved (take i rs)
@@ -107,7 +107,7 @@ inside_failed prefix path first earlier clients rs i r fault below is joined lef
       joined;
 }
 
--- and not all may be reserved
+-- then not all may be reserved
 pub not_all_inside : (prefix : Prefix) (first earlier : List ℕ) (clients : List Identity)
     (rs : List Reservation) (i : ℕ) (r : Reservation) → i < length rs → r ≡ get_or rs i r
     → Decide prefix first (take i rs) earlier clients
@@ -129,7 +129,7 @@ all_inside prefix first earlier clients rs i all left =
     ap must (ap (may_all_reserve prefix first [])
     (sym (take_all i rs all) ∙ sym (append-nil (take i rs))) ∙ left [])
 
--- one pool more that passed
+-- one more pool that passed
 pub within_passed : (prefix : Prefix) (pools : List Pool) (apart i : ℕ) (pool : Pool)
     → i < length pools → pool ≡ get_or pools i pool
     → must (lies_within prefix pool && nat_lt i apart) ≡ Some tt
@@ -146,7 +146,7 @@ within_passed prefix pools apart i pool below is e before =
           (ap (lies_within prefix) (sym is) ∙ both.0),
     )
 
--- with one that did not they do not fit
+-- with a pool that failed, the pools do not fit
 with_one : (prefix : Prefix) (pools : List Pool) (apart i : ℕ) (pool : Pool) → i < length pools
     → pool ≡ get_or pools i pool → must (lies_within prefix pool && nat_lt i apart) ≡ None
     → lie_and_fit prefix apart (take (i + 1) pools) ≡ false
@@ -171,7 +171,7 @@ with_one prefix pools apart i pool below is e =
           let both = and_from (lies_within prefix pool) (nat_lt i apart) h k in
           absurd (cc (f, both))
 
--- one that did not: it is the first
+-- the pool that failed is the first
 pub within_failed : (prefix : Prefix) (path : List ℕ) (pools : List Pool) (apart i : ℕ)
     (pool : Pool) (fault : ConfigFault) → i < length pools → i ≤ apart → pool ≡ get_or pools i pool
     → must (lies_within prefix pool && nat_lt i apart) ≡ None
@@ -193,7 +193,7 @@ within_failed prefix path pools apart i pool fault below few is e before kind na
   named = named;
 }
 
--- pools of which the first do not fit do not
+-- pools do not fit if a prefix of them does not fit
 fit_kept : (prefix : Prefix) (pools : List Pool) (apart n : ℕ)
     → lie_and_fit prefix apart (take n pools) ≡ false → lie_and_fit prefix apart pools ≡ false
 fit_kept prefix pools apart n e = by (lie_and_fit prefix apart pools) refl where
@@ -211,7 +211,7 @@ fit_kept prefix pools apart n e = by (lie_and_fit prefix apart pools) refl where
       (le-leb (length (take n pools)) apart (omega (arith, length-take n pools))) front.0 in
       absurd (cc (fits, e))
 
--- and not all fit
+-- then not all fit
 pub not_all_within : (prefix : Prefix) (pools : List Pool) (apart i : ℕ) (pool : Pool)
     → i < length pools → pool ≡ get_or pools i pool
     → must (lies_within prefix pool && nat_lt i apart) ≡ None

@@ -1,4 +1,4 @@
--- Where the first subnet stands that breaks a rule, by which of its values.
+-- The first subnet that breaks a rule, and the value that breaks it.
 use Rattle.std.proofs.Common.{◌≡◌, ℕ, zero, suc, ◌+◌, ◌-◌, ◌<◌, ◌≤◌, Bool, true, false, not, ◌&&◌, nat_le, List, [], ◌∷◌, ◌++◌, length, get_or, take, drop, codes, slice_get, Some, None, ap, sym, refl, subst, ◌∙◌, arith, append-nil, append_assoc, inl, inr}
 use Rattle.std.proofs.lemmas.Bool.{false≢true, le-leb, leb-true, leb-false}
 use Rattle.std.proofs.lemmas.Grind.{flat_map-append}
@@ -23,7 +23,7 @@ use Rattle.kd_config.specs.declared.range.Range.{Range}
 use Rattle.kd_config.specs.declared.reservation.Reservation.{Reservation}
 use Rattle.kd_config.specs.declared.subnet.Subnet.{Subnet}
 
--- the first that fails a test fails any other test that agrees with it on the values at the front
+-- the first value that fails a test also fails any other test that agrees with it on the prefixes
 pools_as : (f g : List Pool → Bool) (path : List ℕ) (prefix : Prefix) (pools : List Pool)
     (fault : ConfigFault) → ((n : ℕ) → f (take n pools) ≡ g (take n pools))
     → PoolFails f path prefix pools fault → PoolFails g path prefix pools fault
@@ -86,7 +86,7 @@ by_pools apart path earlier s pools fault is failed =
     (λ n. ap (λ (b : Bool). nat_le (length (take n s.pools)) apart && b)
     (sym (and_one (list_all (lies_within s.prefix) (take n s.pools))))) h)
 
--- or by its reservations
+-- a subnet fails by its reservations
 pub by_reservations : (apart : ℕ) (path earlier : List ℕ) (s : Subnet) (pools : List Pool)
     (list : List Reservation) (fault : ConfigFault) → pools ≡ s.pools → list ≡ s.reservations
     → must (lie_and_fit s.prefix apart pools) ≡ Some tt
@@ -107,12 +107,12 @@ by_reservations apart path earlier s pools list fault pools_are list_is fits fai
     (λ n. let free = may_all_reserve s.prefix earlier [] (take n s.reservations) in
     sym (ap (λ (b : Bool). b && (inside && free)) both.0 ∙ ap (λ (b : Bool). b && free) both.1)) h)
 
--- subnets at the front have obeyed: those after them decide
+-- the first subnets have obeyed; those after them decide
 abbrev pub AllDecide : ℕ → List Subnet → ℕ → List ℕ → Type 0
 AllDecide apart front left earlier =
     (more : List Subnet) → obey_within apart [] (front ++ more) ≡ obey_within left earlier more
 
--- a subnet that passed: the rest decides
+-- if a subnet passed, the rest decides
 pub subnet_passed : (apart left i : ℕ) (earlier : List ℕ) (subnets : List Subnet) (s : Subnet)
     → i < length subnets → s ≡ get_or subnets i s → AllDecide apart (take i subnets) left earlier
     → must (obeys_within left earlier s) ≡ Some tt
@@ -125,7 +125,7 @@ subnet_passed apart left i earlier subnets s below is decide e more =
     ∙ ap (λ (b : Bool). b && obey_within (left - length s.pools) (earlier ++ reserved s.reservations)
     more) (must_passed (obeys_within left earlier s) e)))
 
--- one that did not: not all obey
+-- if a subnet failed, not all obey
 pub not_all_obey : (apart left i : ℕ) (earlier : List ℕ) (subnets : List Subnet) (s : Subnet)
     → i < length subnets → s ≡ get_or subnets i s → AllDecide apart (take i subnets) left earlier
     → must (obeys_within left earlier s) ≡ None → must (obey_within apart [] subnets) ≡ None
@@ -146,7 +146,7 @@ all_obeyed apart left i earlier subnets all decide =
     ∙ sym (append-nil (take i subnets)))
     ∙ (decide [] ∙ ap (λ (b : Bool). b && true) (le-leb 0 left (omega arith))))
 
--- one subnet more keeps its addresses
+-- the reserved addresses with one subnet more
 pub more_joined : (i : ℕ) (earlier : List ℕ) (subnets : List Subnet) (s : Subnet)
     → i < length subnets → s ≡ get_or subnets i s → earlier ≡ all_reserved (take i subnets)
     → earlier ++ reserved s.reservations ≡ all_reserved (take (i + 1) subnets)
@@ -159,7 +159,7 @@ more_joined i earlier subnets s below is joined =
     ∙ (sym (flat_map-append (λ (x : Subnet). reserved x.reservations) front (s ∷ []))
     ∙ ap all_reserved (sym whole)))
 
--- one subnet after those at the front
+-- one subnet after the first ones
 one_last : (apart left : ℕ) (earlier : List ℕ) (front : List Subnet) (s : Subnet)
     → AllDecide apart front left earlier
     → obeys_within left earlier s ≡ obey_within apart [] (front ++ s ∷ [])
@@ -170,7 +170,7 @@ one_last apart left earlier front s decide =
     ∙ (ap (λ (b : Bool). obeys_within left earlier s && (b && true)) (le-leb 0 n (omega arith))
     ∙ and_one (obeys_within left earlier s))))
 
--- the one that did not is the first
+-- the subnet that failed is the first
 pub subnet_failed : (apart left i : ℕ) (path earlier : List ℕ) (subnets : List Subnet)
     (s : Subnet) (fault : ConfigFault) → i < length subnets → s ≡ get_or subnets i s
     → AllDecide apart (take i subnets) left earlier → earlier ≡ all_reserved (take i subnets)
@@ -192,7 +192,7 @@ subnet_failed apart left i path earlier subnets s fault below is decide joined h
           (λ n. last (with_reservations s (take n s.reservations))) h);
     }
 
--- ranges at the front of ranges that are apart
+-- a prefix of ranges that are apart is apart
 front_apart : (xs ys : List Range) → lie_apart (xs ++ ys) ≡ true → lie_apart xs ≡ true
 front_apart [] ys e = refl
 front_apart (x ∷ xs) ys e =
@@ -205,12 +205,12 @@ taken_apart : (n : ℕ) (rs : List Range) → lie_apart rs ≡ true → lie_apar
 taken_apart n rs e =
     front_apart (take n rs) (drop n rs) (ap lie_apart (take-append-drop n rs) ∙ e)
 
--- how many ranges are apart: the longest front that is
+-- how many ranges are apart: the length of the longest such prefix
 pub record AreApart (apart : ℕ) (ranges : List Range) : Type 0 where
   pub front : lie_apart (take apart ranges) ≡ true
   pub more : apart < length ranges → lie_apart (take (apart + 1) ranges) ≡ false
 
--- a front is apart where it is no longer than that
+-- a prefix is apart if and only if it is no longer than that
 as_many_apart : (apart : ℕ) (xs ys : List Range) → AreApart apart (xs ++ ys)
     → nat_le (length xs) apart ≡ lie_apart xs
 as_many_apart apart xs ys h = by (nat_le (length xs) apart) refl where
@@ -248,7 +248,8 @@ split_by {A} (y ∷ xs) zero x e = (xs, ap (λ (z : A). z ∷ xs) (sym (some_is 
 split_by {A} (y ∷ xs) (suc i) x e =
     let more = split_by xs i x e in (more.0, ap (λ (zs : List A). y ∷ zs) more.1)
 
--- subnets at the front and a last one with pools of the next may stand where they obey the rules
+-- the first subnets and a last one, with pools of the next subnet, are accepted together if and
+-- only if they obey the rules
 stands_as : (apart i : ℕ) (subnets : List Subnet) (s t : Subnet) (rest : List Range)
     → AreApart apart (pool_ranges subnets) → slice_get subnets i ≡ Some s
     → ranges_in t.pools ++ rest ≡ ranges_in s.pools
@@ -267,7 +268,7 @@ stands_as apart i subnets s t rest h at parts =
     ap (λ (b : Bool). b && all_obey [] (front ++ t ∷ []))
     (as_many_apart apart some others (subst (AreApart apart) (sym whole) h))
 
--- the first subnet that does not obey the rules is the first that may not stand
+-- the first subnet that does not obey the rules is the first that is not accepted
 pub may_not_stand : (apart : ℕ) (path : List ℕ) (subnets : List Subnet) (fault : ConfigFault)
     → AreApart apart (pool_ranges subnets) → SubnetsFail (obey_within apart []) path subnets fault
     → SubnetsFail may_stand path subnets fault

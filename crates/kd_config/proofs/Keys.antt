@@ -1,4 +1,4 @@
--- The keys of an object, as they are looked through.
+-- The keys of an object, as they are searched.
 use Rattle.std.proofs.Common.{◌≡◌, ℕ, Bool, true, false, not, cond, ◌&&◌, List, [], ◌∷◌, map, Option, Some, None, refl, inl, inr, ◌⊎◌, ◌∙◌, Bor, string_bytes, String}
 use Rattle.std.specs.Prelude.{is_some}
 use Rattle.std.specs.List.{find, list_all}
@@ -15,12 +15,12 @@ one_of_is : (known : List (Bor (List ℕ))) (key : List ℕ) → is_key (map (λ
 one_of_is [] key = refl
 one_of_is (k ∷ known) key = rw (one_of_is known key) refl
 
--- nothing is found: this is not, and nothing after it is
+-- nothing is found: neither this one nor any after it
 none_here : {A : Type 0} (b : Bool) (x : A) (rest : Option A) → None ≡ cond (not b) (Some x) rest → (b ≡ true) × (None ≡ rest)
 none_here true x rest e = (refl, e)
 none_here false x rest e = absurd (cc)
 
--- something is found: it is this, or stands after it
+-- something is found: this one or one after it
 some_here : {A : Type 0} (b : Bool) (x k : A) (rest : Option A) → Some k ≡ cond (not b) (Some x) rest → (b ≡ false) ⊎ (Some k ≡ rest)
 some_here true x k rest e = inr e
 some_here false x k rest e = inl refl
@@ -34,14 +34,14 @@ one_false true b (inl e) = absurd (cc)
 one_false true b (inr e) = e
 one_false false b e = refl
 
--- no key that is not known: all are known
+-- if no key is unknown, all are known
 all_known : (known : List (Bor (List ℕ))) (entries : List (String Global × Value)) → None ≡ find (λ k. not (is_one_of known (string_bytes k))) (map (λ m. m.0) entries) → are_known (map (λ (k : Bor (List ℕ)). k.now) known) (members_view entries) ≡ true
 all_known known [] e = refl
 all_known known (m ∷ entries) e =
     let h = none_here (is_one_of known (string_bytes m.0)) m.0 (find (λ k. not (is_one_of known (string_bytes k))) (map (λ m. m.0) entries)) e in
     both_true (is_key (map (λ (k : Bor (List ℕ)). k.now) known) (string_bytes m.0)) (are_known (map (λ (k : Bor (List ℕ)). k.now) known) (members_view entries)) (one_of_is known (string_bytes m.0) ∙ h.0) (all_known known entries h.1)
 
--- a key that is not known
+-- one key is not known
 one_unknown : (known : List (Bor (List ℕ))) (entries : List (String Global × Value)) (key : String Global) → Some key ≡ find (λ k. not (is_one_of known (string_bytes k))) (map (λ m. m.0) entries) → are_known (map (λ (k : Bor (List ℕ)). k.now) known) (members_view entries) ≡ false
 one_unknown known [] key e = absurd (cc)
 one_unknown known (m ∷ entries) key e =
@@ -67,7 +67,7 @@ one_missing d (k ∷ required) key e =
     by behind (inl here) = inl here
     by behind (inr later) = inr (behind later)
 
--- what a test of keys comes to
+-- the result of a test of keys
 keys_are : (known required : List (List ℕ)) (d : Data) (members : Option Members) (a b : Bool) → members ≡ as_object d → is_object_of known members ≡ a → list_all (λ key. is_some (get key d)) required ≡ b → must (has_keys known required d) ≡ must (a && b)
 unfolding has_keys
 keys_are known required d members a b e f g = rw (← e, f, g) refl
@@ -82,7 +82,7 @@ pub refused_missing : (known required : List (Bor (List ℕ))) (d : Data) (entri
 refused_missing known required d entries key e f g =
     keys_are (map (λ (k : Bor (List ℕ)). k.now) known) (map (λ (k : Bor (List ℕ)). k.now) required) d (Some (members_view entries)) true false e (all_known known entries f) (one_missing d required key g)
 
--- all keys are as they should be
+-- all keys are as required
 pub accepted : (known required : List (Bor (List ℕ))) (d : Data) (entries : List (String Global × Value)) → Some (members_view entries) ≡ as_object d → None ≡ find (λ k. not (is_one_of known (string_bytes k))) (map (λ m. m.0) entries) → None ≡ find (λ k. not (is_there d k)) required → must (has_keys (map (λ (k : Bor (List ℕ)). k.now) known) (map (λ (k : Bor (List ℕ)). k.now) required) d) ≡ (Some tt)
 accepted known required d entries e f g =
     keys_are (map (λ (k : Bor (List ℕ)). k.now) known) (map (λ (k : Bor (List ℕ)). k.now) required) d (Some (members_view entries)) true true e (all_known known entries f) (all_there d required g)

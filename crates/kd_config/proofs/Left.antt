@@ -11,7 +11,7 @@ use Rattle.serde_json.specs.Events.{items_len}
 use Rattle.serde_json.specs.View.{items_view, view}
 use Rattle.serde_json.specs.declared.value.Value.{Value}
 
--- as many items as values
+-- there are as many items as values
 pub len_is : (values : List Value) → items_len (items_view values) ≡ length values
 len_is [] = refl
 len_is (v ∷ values) = ap suc (len_is values)
@@ -24,11 +24,11 @@ value_at F values i v below is =
     at_drop_more (λ (vs : List Value). F (items_view vs)) values i v below
     ∙ ap (λ (x : Value). F (item (view x) (items_view (drop (i + 1) values)))) (sym is)
 
--- what items mean after entries that were read before them
+-- the entries read so far, and after them what the remaining items describe
 abbrev pub with_read : {A : Type 0} → (Data → Option A) → List A → Items → Option (List A)
 with_read means xs items = option_and_then (λ ys. Some (xs ++ ys)) (all_of means items)
 
--- an entry that is read: the rest decides
+-- if an entry is read, the rest decides
 pub entry_read : {A : Type 0} (means : Data → Option A) (values : List Value) (i : ℕ) (v : Value)
     (xs : List A) (x : A) → i < length values → v ≡ get_or values i v → means (view v) ≡ Some x
     → with_read means xs (items_view (drop i values))
@@ -45,7 +45,7 @@ entry_read {A} means values i v xs x below is e =
       joined None = refl
       joined (Some ys) = ap Some (sym (append_assoc xs (x ∷ []) ys))
 
--- one that is refused: nothing is meant
+-- if an entry is refused, the list describes nothing
 pub entry_refused : {A : Type 0} (means : Data → Option A) (values : List Value) (i : ℕ)
     (v : Value) (xs : List A) → i < length values → v ≡ get_or values i v → means (view v) ≡ None
     → with_read means xs (items_view (drop i values)) ≡ None
@@ -54,7 +54,7 @@ entry_refused {A} means values i v xs below is e =
     ∙ ap (λ (o : Option A). option_and_then (λ ys. Some (xs ++ ys))
     (o >>= λ x. all_of means (items_view (drop (i + 1) values)) >>= λ ys. Some (x ∷ ys))) e
 
--- an option that is read after earlier ones: the rest decides
+-- if an option is read after earlier ones, the rest decides
 pub option_read : (values : List Value) (i : ℕ) (v : Value) (earlier : List OptionData)
     (option : OptionData) → i < length values → v ≡ get_or values i v
     → option_after earlier (view v) ≡ Some option
@@ -65,7 +65,7 @@ option_read values i v earlier option below is e =
     ∙ ap (λ (o : Option OptionData). o >>= λ option. options_behind (earlier ++ option ∷ [])
     (items_view (drop (i + 1) values))) e
 
--- one that is refused: nothing is meant
+-- if an option is refused, the list describes nothing
 pub option_refused : (values : List Value) (i : ℕ) (v : Value) (earlier : List OptionData)
     → i < length values → v ≡ get_or values i v → option_after earlier (view v) ≡ None
     → options_behind earlier (items_view (drop i values)) ≡ None

@@ -1,4 +1,4 @@
--- No definitions of classes are in order.
+-- An empty list of class definitions is in order.
 use Rattle.std.proofs.Common.{ℕ, ◌<◌, [], arith}
 use Rattle.kd_classes.specs.Order.{AreInOrder}
 

@@ -1,4 +1,4 @@
--- Two pools that have one address stand at one place.
+-- Two pools that share an address are at the same place.
 use Rattle.std.proofs.Common.{◌≡◌, ℕ, zero, suc, true, false, List, [], ◌∷◌, ◌++◌, refl, sym, ap, subst, ◌∙◌, arith}
 use Rattle.std.proofs.lemmas.Bool.{false≢true}
 use Rattle.std.proofs.lemmas.Bool.Decides.{nat_tests}
@@ -22,14 +22,14 @@ one_shared r s a h k = grind (arith, nat_tests)
 not_shared : (r s : Range) (a : ℕ) → has r a ≡ true → has s a ≡ true → share_one r s ≡ false → ⊥
 not_shared r s a h k e = false≢true (sym e ∙ one_shared r s a h k)
 
--- none of two lists
+-- a range shares an address with none of two lists
 none_of_both : (r : Range) (xs ys : List Range) → list_any (share_one r) (xs ++ ys) ≡ false
     → (list_any (share_one r) xs ≡ false) × (list_any (share_one r) ys ≡ false)
 none_of_both r xs ys e =
     or_false (list_any (share_one r) xs) (list_any (share_one r) ys)
     (sym (list_any-append (share_one r) xs ys) ∙ e)
 
--- no pool of a subnet shares an address with a range: this one does not
+-- if no pool of a subnet shares an address with a range, then this one does not
 none_of_pools : (r : Range) (pools : List Pool) (j : ℕ) (p : Pool)
     → list_any (share_one r) (ranges_in pools) ≡ false
     → slice_get pools j ≡ Some p → share_one r p.range ≡ false
@@ -41,7 +41,7 @@ none_of_pools r (x ∷ pools) (suc j) p none e =
     let h = or_false (share_one r x.range) (list_any (share_one r) (ranges_in pools)) none in
     none_of_pools r pools j p h.1 e
 
--- no pool of subnets shares an address with a range: this one does not
+-- if no pool of subnets shares an address with a range, then this one does not
 none_of_all : (r : Range) (subnets : List Subnet) (i j : ℕ) (s : Subnet) (p : Pool)
     → list_any (share_one r) (pool_ranges subnets) ≡ false → slice_get subnets i ≡ Some s
     → slice_get s.pools j ≡ Some p → share_one r p.range ≡ false

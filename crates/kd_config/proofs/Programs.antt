@@ -16,14 +16,14 @@ compiled tree typed program same is measured accepted keeps within =
     subst (λ t. IsProgramOf t program) same
     (record { typed = subst (λ t. test_type t ≡ Ok tt) (sym same) is; within = within; compiled = record { measures = measured; accepted = accepted; keeps = keeps } })
 
--- the programs of a text ask for the same names
+-- all programs of a text ask for the same names
 pub same_names : (text : List ℕ) (tree : Tree) (result : Result Code ClassesFault) → ((t : Tree) → Parses text t → tree ≡ t) → IfOk result (λ program. IsProgramOf tree program)
     → IfOk result (λ program. (other : Code) → IsTextTest text other → other.names ≡ program.names)
 same_names text tree (Err fault) only found = tt
 same_names text tree (Ok program) only found =
     λ other h. h.program_of.compiled.measures.names ∙ (ap names (sym (only h.tree h.spelled)) ∙ sym found.compiled.measures.names)
 
--- a tree without a program: its text has none
+-- if a tree has no program, neither has its text
 pub none_of_text : (text : List ℕ) (tree : Tree) (result : Result Code ClassesFault) → ((t : Tree) → Parses text t → tree ≡ t) → IfErr result (λ fault. fault ≢ Memory → (program : Code) → IsProgramOf tree program → ⊥)
     → IfErr result (λ fault. fault ≢ Memory → (program : Code) → IsTextTest text program → ⊥)
 none_of_text text tree (Ok program) only none = tt

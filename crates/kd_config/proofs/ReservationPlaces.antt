@@ -1,4 +1,4 @@
--- Two reservations of one address, or of one subnet for one client, stand at one place.
+-- Two reservations of one address, or of one subnet for one client, are at the same place.
 use Rattle.std.proofs.Common.{◌≡◌, ℕ, zero, suc, Bool, true, false, not, ◌&&◌, List, [], ◌∷◌, ◌++◌, refl, sym, ap, subst, ◌∙◌}
 use Rattle.std.proofs.lemmas.Bool.{eq-eqb, false≢true, not-true}
 use Rattle.std.proofs.lemmas.List.Folds.{list_any-append}
@@ -25,7 +25,7 @@ IsNotOf a earlier = list_any (nat_eq a) earlier ≡ false
 abbrev IsNotAmong : Identity → List Identity → Type 0
 IsNotAmong identity clients = list_any (same_identity identity) clients ≡ false
 
--- what the first of reservations says
+-- what holds of the first reservation
 record First (prefix : Prefix) (earlier : List ℕ) (clients : List Identity) (r : Reservation)
     (rs : List Reservation) : Type 0 where
   address : IsNotOf r.address earlier
@@ -47,7 +47,7 @@ first_of_all prefix earlier clients r rs h =
       later = rest.1;
     }
 
--- neither of those before nor this one
+-- an address that is in neither of two lists
 not_of_both : (a : ℕ) (xs ys : List ℕ) → IsNotOf a (xs ++ ys) → IsNotOf a xs × IsNotOf a ys
 not_of_both a xs ys e = or_false (list_any (nat_eq a) xs) (list_any (nat_eq a) ys)
     (sym (list_any-append (nat_eq a) xs ys) ∙ e)
@@ -58,7 +58,7 @@ not_among_both i xs ys e =
     or_false (list_any (same_identity i) xs) (list_any (same_identity i) ys)
     (sym (list_any-append (same_identity i) xs ys) ∙ e)
 
--- each reservation has an address and a client that are none of the earlier ones
+-- a reservation has an address and a client that are not among the earlier ones
 record IsNewcomer (earlier : List ℕ) (clients : List Identity) (r : Reservation) : Type 0 where
   address : IsNotOf r.address earlier
   client : IsNotAmong r.identity clients
@@ -81,12 +81,12 @@ newcomer prefix earlier clients (x ∷ rs) (suc j) r h e =
       client = (not_among_both r.identity clients (x.identity ∷ []) more.client).0;
     }
 
--- a client is itself
+-- a client is the same as itself
 same_client : (i : Identity) → same_identity i i ≡ true
 same_client (Hardware bytes) = (bytes_eq-Decides bytes bytes).1 refl
 same_client (ClientId bytes) = (bytes_eq-Decides bytes bytes).1 refl
 
--- an address and an equal one that is none of it
+-- an address is equal to another, and not the other: a contradiction
 other_address : (a b : ℕ) → a ≡ b → IsNotOf b (a ∷ []) → ⊥
 other_address a b same e =
     let this : nat_eq b a ≡ false = (or_false (nat_eq b a) false e).0 in
@@ -97,7 +97,7 @@ other_client a b same e =
     let this : same_identity b a ≡ false = (or_false (same_identity b a) false e).0 in
     false≢true (sym (subst (λ (n : Identity). same_identity b n ≡ false) same this) ∙ same_client b)
 
--- the first of reservations and a later one have neither one address nor one client
+-- the first reservation and a later one share neither the address nor the client
 record AreOthers (x r : Reservation) : Type 0 where
   address : x.address ≡ r.address → ⊥
   client : x.identity ≡ r.identity → ⊥
@@ -170,7 +170,7 @@ first_subnet earlier s subnets h =
     h in
     (reserves earlier s both.0, both.1)
 
--- each reserved address is none of the earlier ones
+-- a reserved address is not among the earlier ones
 new_address : (earlier : List ℕ) (subnets : List Subnet) (i j : ℕ) (s : Subnet) (r : Reservation)
     → all_obey earlier subnets ≡ true
     → slice_get subnets i ≡ Some s → slice_get s.reservations j ≡ Some r → IsNotOf r.address earlier
@@ -185,7 +185,7 @@ new_address earlier (x ∷ subnets) (suc i) j s r h e f =
     (not_of_both r.address earlier (reserved x.reservations)
     (new_address (earlier ++ reserved x.reservations) subnets i j s r rules.1 e f)).0
 
--- an address that is none of those reserved is not this one
+-- an address that is not reserved is not that of any reservation
 not_this : (a : ℕ) (rs : List Reservation) (j : ℕ) (r : Reservation) → IsNotOf a (reserved rs)
     → slice_get rs j ≡ Some r → r.address ≡ a → ⊥
 not_this a [] j r none e same = absurd (cc)

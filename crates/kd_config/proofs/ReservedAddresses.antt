@@ -23,7 +23,7 @@ flip a b = cases (eqb_tells a b) (eqb_tells b a) where
   cases (inr f) (inl t) = absurd (f.1 (sym t.1))
   cases (inr f) (inr g) = f.0 ∙ sym g.0
 
--- one address more in the set is found there
+-- one more address in the set is found there
 more_keys : (keys : List ℕ) (b a : ℕ) (found : Bool) → list_any (nat_eq b) keys ≡ found → list_any (nat_eq a) (insert_key nat_eq keys b) ≡ (list_any (nat_eq a) keys || nat_eq b a)
 more_keys keys b a true is = cases (eqb_tells b a) where
   cases : ((nat_eq b a ≡ true) × (b ≡ a)) ⊎ ((nat_eq b a ≡ false) × (b ≢ a)) → list_any (nat_eq a) (insert_key nat_eq keys b) ≡ (list_any (nat_eq a) keys || nat_eq b a)
@@ -33,7 +33,7 @@ more_keys keys b a false is = rw is (list_any-append (nat_eq a) keys (b ∷ []) 
   one : (a b : ℕ) → list_any (nat_eq a) (b ∷ []) ≡ nat_eq b a
   one a b = or-false (nat_eq a b) ∙ flip a b
 
--- a reservation more, whose address joins the set
+-- one more reservation, whose address is added to the set
 pub one_more : (keys : List ℕ) (rs : List Reservation) (r : Reservation) → HasAddresses keys rs → HasAddresses (insert_key nat_eq keys r.address) (rs ++ r ∷ [])
 one_more keys rs r h = λ a.
     more_keys keys r.address a (list_any (nat_eq r.address) keys) refl

@@ -1,4 +1,4 @@
--- The built-in configuration obeys what a configuration obeys.
+-- The built-in configuration is sound.
 use Rattle.std.proofs.Common.{◌≡◌, true, [], refl, arith}
 use Rattle.kd_config.proofs.NoClasses.{none_in_order}
 use Rattle.kd_config.specs.Configuration.{builtin_config, builtin_pool, subnet_built_in, times_built_in}

@@ -1,4 +1,4 @@
--- What a text means obeys what a configuration obeys, object by object.
+-- What a text describes obeys what every configuration obeys, object by object.
 use Rattle.std.proofs.Common.{◌≡◌, ℕ, zero, suc, ◌≤◌, true, not, ◌&&◌, nat_le, ◌==◌, List, [], ◌∷◌, length, codes, Option, Some, None, refl, subst, sym, arith}
 use Rattle.std.specs.List.{AllByRecursion}
 use Rattle.std.specs.Prelude.{option_and_then, option_map}
@@ -50,7 +50,7 @@ pool_sound d pool e =
       options = options_sound (get (codes "option-data") d) options.first options.is;
     })
 
--- bytes that are there
+-- bytes that are present
 meant_bytes : (most : ℕ) (value : Option Data) (bytes : List ℕ) → bytes_if_given 1 most value ≡ Some (Some bytes) → IsFrom 1 most (length bytes)
 meant_bytes most None bytes e = absurd (cc)
 meant_bytes most (Some d) bytes e = by (hex_bytes_in 1 most d) refl e where
@@ -108,7 +108,7 @@ subnet_sound d subnet e =
       options = options_sound (get (codes "option-data") d) options.first options.is;
     })
 
--- what is known of a class as it is written
+-- what holds of a class as the text gives it
 record IsEntry (entry : ClassEntry) : Type 0 where
   name : IsFrom 1 255 (length entry.name)
   options : AreOptions entry.options
@@ -134,7 +134,7 @@ entry_sound d entry e =
       options = options_sound (get (codes "option-data") d) options.first options.is;
     })
 
--- what is known of settings
+-- what holds of settings
 record AreSettings (s : Settings) : Type 0 where
   server : 1 ≤ s.server
   times : AreTimes s.times
@@ -184,7 +184,7 @@ written_sound : (text : List ℕ) (s : Settings) → settings_spelled text ≡ S
 unfolding settings_spelled
 written_sound text s e = let value = came_from (value_spelled text) whole_settings s e in root_sound value.first s value.gives
 
--- the definitions of classes as they are written
+-- the definitions of classes as the text gives them
 classes_sound : (files : List TokenFile) (entries : List ClassEntry) (defs : List ClassDef) → AllByRecursion IsEntry entries
     → AreDefinitions files entries defs → AllByRecursion IsAccepted defs → AllByRecursion IsClass defs
 classes_sound files [] [] h k accepted = tt

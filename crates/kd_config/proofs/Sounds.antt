@@ -1,4 +1,4 @@
--- What a text's values mean obeys what a configuration obeys.
+-- The values that a text describes obey what every configuration obeys.
 use Rattle.std.proofs.Common.{◌≡◌, ℕ, ◌+◌, ◌-◌, ◌*◌, ◌/◌, ◌^◌, ◌<◌, ◌≤◌, Bool, true, false, not, ◌&&◌, nat_le, nat_eq, ◌==◌, nat_lt, List, [], ◌∷◌, ◌++◌, length, codes, Option, Some, None, refl, subst, ap, ◌∙◌, arith, if◌then◌else◌}
 use Rattle.std.proofs.Math.Nat.{mul-div_cancel}
 use Rattle.std.proofs.lemmas.Bool.Decides.{nat_tests}
@@ -81,7 +81,7 @@ code_sound d code e =
     let test = passed_only (not (list_any (nat_eq read.first) own_codes)) read.first code read.gives in
     subst (λ c. IsFrom 1 254 c × (list_any (nat_eq c) own_codes ≡ false)) test.1 (number_sound 1 254 d read.first read.is, not_passed (list_any (nat_eq read.first) own_codes) test.0)
 
--- an option after others is one that may be configured, of another code than theirs
+-- an option after others is one that may be configured, with a code that none of them has
 option_sound : (earlier : List OptionData) (d : Data) (option : OptionData) → option_after earlier d ≡ Some option → IsOption option × (code_among option.code earlier ≡ false)
 unfolding option_after
 option_sound earlier d option e =
@@ -123,7 +123,7 @@ all_behind (o ∷ earlier) option h k = (h.0, all_behind earlier option h.1 k)
 length_behind : (earlier : List OptionData) (option : OptionData) → length (earlier ++ option ∷ []) ≡ length earlier + 1
 length_behind earlier option = length-append earlier (option ∷ [])
 
--- options after others of a number, all of which may be configured
+-- options after `count` others, all of which may be configured
 record AreBehind (count : ℕ) (options : List OptionData) : Type 0 where
   many : length options ≤ count
   each : AllByRecursion IsOption options
@@ -195,7 +195,7 @@ length_small text n e =
     let test = passed_only (nat_le digits.first 32) digits.first n digits.gives in
     subst (λ l. l ≤ 32) test.1 (leb-true digits.first 32 test.0)
 
--- an address without the bits after a length has none
+-- clearing the bits after a length again changes nothing
 cleared_again : (address length : ℕ) → network_address (network_address address length) length ≡ network_address address length
 cleared_again address length = ap (λ n. n * prefix_size length) (mul-div_cancel (address / prefix_size length) (pow_pos (32 - length)))
 

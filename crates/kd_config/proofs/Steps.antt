@@ -1,4 +1,4 @@
--- Sorted ranges of which no two neighbours share an address: no two do.
+-- If no two neighbours of sorted ranges share an address, no two ranges do.
 use Rattle.std.proofs.Common.{◌≡◌, ℕ, ◌+◌, ◌-◌, ◌<◌, ◌≤◌, Bool, true, false, not, ◌&&◌, List, [], ◌∷◌, length, get_or, refl, sym, ◌∙◌, ap, subst, arith}
 use Rattle.std.specs.Prelude.{◌||◌, nat_lt}
 use Rattle.std.specs.List.{IsDistinct, list_any, AllByRecursion}
@@ -64,7 +64,7 @@ permuted xs ys p =
     (λ e. distinct_is xs (IsDistinct-IsPermutation share_one flips ys xs (IsPermutation-sym xs ys p) (is_distinct ys e)))
     (λ e. distinct_is ys (IsDistinct-IsPermutation share_one flips xs ys p (is_distinct xs e)))
 
--- no two neighbours of a sorted list share an address: no two do
+-- if no two neighbours of a sorted list share an address, no two ranges do
 pub steps_apart : (rs : List Range) → IsNonDecreasingBy (λ range. range.first) rs → ((k : ℕ) (d : Range) → k + 1 < length rs → share_one (get_or rs k d) (get_or rs (k + 1) d) ≡ false) → lie_apart rs ≡ true
 steps_apart rs rises steps = distinct_is rs (IsDistinct-from_apart share_one rs pair) where
   pair : (i j : ℕ) (d : Range) → i < j → j < length rs → share_one (get_or rs i d) (get_or rs j d) ≡ false
@@ -75,14 +75,14 @@ steps_apart rs rises steps = distinct_is rs (IsDistinct-from_apart share_one rs 
       (rises i (i + 1) d (omega arith) (omega arith)) (rises (i + 1) j d (omega arith) within) (rises i (j - 1) d (omega arith) (omega arith)) (rises (j - 1) j d (omega arith) within)
       (steps i d (omega arith)) step
 
--- two of a list share an address: not all are apart
+-- if two ranges of a list share an address, not all are apart
 step_shared : (rs : List Range) (i j : ℕ) (d : Range) → i < j → j < length rs → share_one (get_or rs i d) (get_or rs j d) ≡ true → lie_apart rs ≡ false
 step_shared rs i j d below within e = by (lie_apart rs) refl where
   by : (b : Bool) → lie_apart rs ≡ b → b ≡ false
   by true h = let k = apart_from_distinct share_one rs i j d (is_distinct rs h) below within in absurd (cc)
   by false h = refl
 
--- one neighbour more
+-- one more neighbour
 pub more_steps : (rs : List Range) (i : ℕ) (a b : Range) → 1 ≤ i → i < length rs → ((k : ℕ) (d : Range) → k + 1 < i → share_one (get_or rs k d) (get_or rs (k + 1) d) ≡ false)
     → share_one (get_or rs (i - 1) a) (get_or rs i b) ≡ false → (k : ℕ) (d : Range) → k + 1 < i + 1 → share_one (get_or rs k d) (get_or rs (k + 1) d) ≡ false
 more_steps rs i a b some within steps here k d below = by (nat_lt (k + 1) i) refl where
@@ -93,7 +93,7 @@ more_steps rs i a b some within steps here k d below = by (nat_lt (k + 1) i) ref
       let next : k + 1 ≡ i = omega arith in
       rw (next, this, get_or_default rs (i - 1) d a (omega arith), get_or_default rs i d b within) here
 
--- two neighbours share an address: not all are apart
+-- if two neighbours share an address, not all are apart
 pub any_step_shared : (rs : List Range) (i : ℕ) (a b : Range) → 1 ≤ i → i < length rs → share_one (get_or rs (i - 1) a) (get_or rs i b) ≡ true → lie_apart rs ≡ false
 any_step_shared rs i a b some within e =
     step_shared rs (i - 1) i a (omega arith) within (rw (get_or_default rs i a b within) e)

@@ -23,7 +23,7 @@ use Rattle.kd_config.specs.declared.objects.settings.Settings.{Settings}
 use Rattle.kd_config.specs.declared.subnet.Subnet.{Subnet}
 use Rattle.kd_config.specs.declared.token_file.TokenFile.{TokenFile}
 
--- the text spells no settings
+-- the text describes no settings
 pub first_of_settings : (text : List ℕ) (fault : SettingsFault)
     → (fault ≢ settings.Memory → settings_spelled text ≡ None) → IsFaultOfText text (settings_fault fault)
 first_of_settings text settings.Json h = h (λ e. cc)
@@ -32,7 +32,7 @@ first_of_settings text (settings.Unknown path) h = h (λ e. cc)
 first_of_settings text (settings.BadValue path) h = h (λ e. cc)
 first_of_settings text settings.Memory h = tt
 
--- and so none that may stand
+-- then it describes no settings that are accepted
 pub none_accepted : (text : List ℕ) (fault : SettingsFault)
     → (fault ≢ settings.Memory → settings_spelled text ≡ None)
     → settings_fault fault ≢ faults.Memory → accepted_settings text ≡ None
@@ -92,7 +92,7 @@ first_of_rules text s (faults.Class why) e h =
     let n = rule_number s.subnets (faults.Class why) (h (λ k. cc)) in absurd (omega (arith, n.1))
 first_of_rules text s faults.Memory e h = tt
 
--- the settings may stand
+-- the settings are accepted
 pub first_of_classes : (text : List ℕ) (s : Settings) (fault : ClassesFault)
     → accepted_settings text ≡ Some s → IsFaultOfText text (classes_fault fault)
 first_of_classes text s (classes.Expression number why) e = record { settings = s; accepted = e }
@@ -100,7 +100,7 @@ first_of_classes text s (classes.Tokens number why) e = record { settings = s; a
 first_of_classes text s (classes.Class why) e = record { settings = s; accepted = e }
 first_of_classes text s classes.Memory e = tt
 
--- settings whose classes have no definitions that may stand mean no configuration
+-- settings whose classes have no accepted definitions give no configuration
 pub none_configured : (text : List ℕ) (files : List TokenFile) (s : Settings)
     (entries : List ClassEntry) (fault : ClassesFault) → accepted_settings text ≡ Some s
     → entries ≡ s.classes

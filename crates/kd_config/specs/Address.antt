@@ -1,5 +1,5 @@
--- Texts of addresses: an IPv4 address as a number, a prefix `address/length`, and a pool, which is
--- `first - last` or a prefix.
+-- The texts of addresses: an IPv4 address as a number, a prefix `address/length`, and a pool, which
+-- is `first - last` or a prefix.
 use Rattle.std.specs.Prelude.{ℕ, ◌+◌, ◌-◌, ◌*◌, ◌/◌, ◌^◌, Bool, ◌&&◌, ◌==◌, nat_le, nat_lt, if◌then◌else◌, List, [], ◌∷◌, reverse, Option, Some, None, option_map, option_and_then}
 use Rattle.std.specs.Int.{from_be_bytes, w32}
 use Rattle.kd_expr.specs.Address.{a_digit}
@@ -9,21 +9,21 @@ use Rattle.kd_config.specs.declared.prefix.Prefix.{Prefix}
 use Rattle.kd_wire.specs.Steps.{◌>>=◌}
 use Rattle.kd_config.specs.declared.range.Range.{Range}
 
--- the address that a text spells, as a number
+-- the address that a text gives, as a number
 unfoldable pub address_spelled : List ℕ → Option ℕ
 address_spelled text = option_map (from_be_bytes w32) (lexing.address_read text)
 
--- what stands before and after the first of this byte
+-- the texts before and after the first occurrence of a byte
 abbrev pub parts_at : ℕ → List ℕ → Option (List ℕ × List ℕ)
 parts_at b [] = None
 parts_at b (c ∷ text) =
     if c == b then Some ([], text) else option_map (λ x. (c ∷ x.0, x.1)) (parts_at b text)
 
--- a text without the spaces at its front
+-- a text without its leading spaces
 abbrev pub after_spaces : List ℕ → List ℕ
 after_spaces text = behind_of (λ b. b == 32) text
 
--- a text without the spaces at its end
+-- a text without its trailing spaces
 abbrev pub before_spaces : List ℕ → List ℕ
 before_spaces text = reverse (after_spaces (reverse text))
 
@@ -40,20 +40,20 @@ length_spelled text = do
   length ← short_decimal text
   if nat_le length 32 then Some length else None
 
--- how many addresses a prefix of this length has
+-- the number of addresses in a prefix of this length
 abbrev pub prefix_size : ℕ → ℕ
 prefix_size length = 2 ^ (32 - length)
 
--- an address without the bits after a prefix of this length
+-- an address with the bits after a prefix of this length cleared
 abbrev pub network_address : ℕ → ℕ → ℕ
 network_address address length = address / prefix_size length * prefix_size length
 
--- a prefix has this address
+-- an address is in a prefix
 abbrev pub has_address : Prefix → ℕ → Bool
 has_address prefix address =
     nat_le prefix.address address && nat_lt address (prefix.address + prefix_size prefix.length)
 
--- the prefix that a text spells
+-- the prefix that a text gives
 unfoldable pub prefix_spelled : List ℕ → Option Prefix
 prefix_spelled text = do
   parts ← parts_at 47 text
@@ -71,18 +71,18 @@ range_from first last =
 abbrev pub prefix_range : Prefix → Option Range
 prefix_range prefix = range_from prefix.address (prefix.address + (prefix_size prefix.length - 1))
 
--- the addresses between two, with spaces or none at the dash between them
+-- the addresses from one to another, with optional spaces around the dash between them
 unfoldable pub range_of_parts : List ℕ × List ℕ → Option Range
 range_of_parts parts = do
   first ← address_spelled (before_spaces parts.0)
   last ← address_spelled (after_spaces parts.1)
   range_from first last
 
--- what a text without a dash spells, or the parts at its dash
+-- the range of a text without a dash, or of the two parts at its dash
 abbrev pub range_by : List ℕ → Option (List ℕ × List ℕ) → Option Range
 range_by text None = option_and_then prefix_range (prefix_spelled text)
 range_by text (Some parts) = range_of_parts parts
 
--- the addresses that a text of a pool spells
+-- the addresses that the text of a pool gives
 unfoldable pub range_spelled : List ℕ → Option Range
 range_spelled text = range_by text (parts_at 45 text)

@@ -1,15 +1,15 @@
--- Words of private clauses: definitions of classes that differ in nothing which decides whether
--- they may stand.
+-- Helpers of private contracts: class definitions that do not differ in anything that decides
+-- whether they are in order.
 use Rattle.std.specs.Prelude.{◌≡◌, List, [], ◌∷◌}
 use Rattle.kd_classes.specs.Order.{asked}
 use Rattle.kd_classes.specs.declared.definition.ClassDef.{ClassDef}
 
--- two definitions have one name and ask for the same names
+-- two definitions have the same name and ask for the same names
 pub record AsksAlike (a b : ClassDef) : Type 0 where
   pub name : a.name ≡ b.name
   pub asks : asked a ≡ asked b
 
--- so do definitions, one after another
+-- so do two lists of definitions, pairwise
 abbrev pub AskAlike : List ClassDef → List ClassDef → Type 0
 AskAlike [] [] = Unit {0}
 AskAlike [] (b ∷ ys) = ⊥

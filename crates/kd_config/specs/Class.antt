@@ -16,13 +16,13 @@ has_class_keys d =
     has_keys (codes "name" ∷ codes "test" ∷ codes "tokens" ∷ codes "option-data" ∷ [])
     (codes "name" ∷ []) d
 
--- a name of a class: 1 to 255 bytes
+-- the name of a class: 1 to 255 bytes
 unfoldable pub class_name_in : Data → Option (List ℕ)
 class_name_in d = do
   name ← as_str d
   only_if (nat_le 1 (length name) && nat_le (length name) 255) name
 
--- a test as text or by a token file, and not both
+-- a test is given as text or by a token file, but not both
 abbrev pub test_source : Option (List ℕ) → Option (List ℕ) → Option TestSource
 test_source None None = Some Nothing
 test_source (Some text) None = Some (Expression text)
@@ -36,7 +36,7 @@ test_source_in d = do
   file ← text_if_given (get (codes "tokens") d)
   test_source text file
 
--- the class that a value means
+-- the class that a value describes
 unfoldable pub class_of : Data → Option ClassEntry
 class_of d = do
   _ ← must (has_class_keys d)

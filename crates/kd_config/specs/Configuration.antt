@@ -1,4 +1,4 @@
--- A configuration: what a server goes by; and the built-in one.
+-- A server's configuration, and the built-in one.
 use Rattle.std.specs.Prelude.{ℕ, List, [], ◌∷◌, None}
 use Rattle.kd_classes.specs.declared.definition.ClassDef.{ClassDef}
 use Rattle.kd_classes.specs.declared.option_list.OptionData.{OptionData}
@@ -19,11 +19,11 @@ abbrev pub times_built_in : Times
 times_built_in =
     record { lifetime = 3600; renew = 1800; rebind = 3150; offer_hold = 60; decline_hold = 600 }
 
--- its pool, 192.0.2.10 and 192.0.2.11
+-- the pool of the built-in configuration, 192.0.2.10 and 192.0.2.11
 abbrev pub builtin_pool : Pool
 builtin_pool = record { range = record { first = 0xc000020a; last = 0xc000020b }; options = [] }
 
--- its subnet, 192.0.2.0/24
+-- the subnet of the built-in configuration, 192.0.2.0/24
 abbrev pub subnet_built_in : Subnet
 subnet_built_in = record {
   prefix = record { address = 0xc0000200; length = 24 };

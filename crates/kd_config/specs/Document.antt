@@ -1,4 +1,4 @@
--- The text of a configuration: JSON in UTF-8, and the settings that it means.
+-- The text of a configuration: JSON in UTF-8, and the settings that it describes.
 use Rattle.std.specs.Prelude.{ℕ, if◌then◌else◌, List, Option, Some, None}
 use Rattle.std.specs.Str.{is_utf8}
 use Rattle.serde_json.specs.Data.{Data}
@@ -13,11 +13,11 @@ use Rattle.kd_config.specs.declared.objects.settings.Settings.{Settings}
 unfoldable pub value_spelled : List ℕ → Option Data
 value_spelled text = if is_utf8 text then json.read text else None
 
--- the settings that a text means
+-- the settings that a text describes
 unfoldable pub settings_spelled : List ℕ → Option Settings
 settings_spelled text = value_spelled text >>= whole_settings
 
--- the same, where its subnets may stand together
+-- the same, if its subnets obey the rules together
 unfoldable pub accepted_settings : List ℕ → Option Settings
 accepted_settings text = do
   settings ← settings_spelled text

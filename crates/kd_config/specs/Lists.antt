@@ -1,4 +1,4 @@
--- Lists in a JSON text, and what all their values mean.
+-- Lists in a JSON text, and what their values describe.
 use Rattle.std.specs.Prelude.{ℕ, nat_le, List, [], ◌∷◌, Option, Some, None}
 use Rattle.serde_json.specs.Data.{Data, Items, no_items, item}
 use Rattle.serde_json.specs.Events.{items_len}
@@ -6,14 +6,14 @@ use Rattle.serde_json.specs.Find.{as_array}
 use Rattle.kd_wire.specs.Steps.{◌>>=◌}
 use Rattle.kd_config.specs.Steps.{only_if}
 
--- the items of a list of at most so many, none where there is no list
+-- the items of a list, at most `most` of them; no items if there is no value
 abbrev pub items_or_none : ℕ → Option Data → Option Items
 items_or_none most None = Some no_items
 items_or_none most (Some d) = do
   items ← as_array d
   only_if (nat_le (items_len items) most) items
 
--- what items mean, each of them
+-- what the items describe, in order
 abbrev pub all_of : {A : Type 0} → (Data → Option A) → Items → Option (List A)
 all_of means no_items = Some []
 all_of means (item d ds) = do
@@ -21,6 +21,6 @@ all_of means (item d ds) = do
   xs ← all_of means ds
   Some (x ∷ xs)
 
--- what the items of a list of at most so many mean
+-- what the items of a list describe, at most `most` of them
 unfoldable pub list_of : {A : Type 0} → ℕ → (Data → Option A) → Option Data → Option (List A)
 list_of most means value = items_or_none most value >>= all_of means

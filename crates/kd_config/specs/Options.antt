@@ -13,11 +13,11 @@ use Rattle.kd_config.specs.Values.{hex_bytes_in, has_keys, number_within}
 abbrev pub option_keys : List (List ℕ)
 option_keys = codes "code" ∷ codes "data" ∷ codes "csv-format" ∷ []
 
--- a value is an object with the keys of option data, all of them
+-- a value is an object with all the keys of option data and no other
 unfoldable pub has_option_keys : Data → Bool
 has_option_keys d = has_keys option_keys option_keys d
 
--- the codes of the options that the server makes by itself
+-- the codes of the options that the server generates itself
 abbrev pub own_codes : List ℕ
 own_codes = 50 ∷ 51 ∷ 52 ∷ 53 ∷ 54 ∷ 55 ∷ 57 ∷ 58 ∷ 59 ∷ 61 ∷ 82 ∷ []
 
@@ -27,11 +27,11 @@ code_given d = do
   code ← number_within 1 254 d
   only_if (not (list_any (nat_eq code) own_codes)) code
 
--- an option of these has the code
+-- one of these options has the code
 abbrev pub code_among : ℕ → List OptionData → Bool
 code_among code options = list_any (λ option. option.code == code) options
 
--- the option that a value means after the options before it
+-- the option that a value describes; its code must not be among those of earlier options
 unfoldable pub option_after : List OptionData → Data → Option OptionData
 option_after earlier d = do
   _ ← must (has_option_keys d)
@@ -41,13 +41,13 @@ option_after earlier d = do
   is_text ← get (codes "csv-format") d >>= as_bool
   only_if (not is_text) (record { code = code; value = value })
 
--- the options before these items, and those that they mean
+-- earlier options, and after them those that these items describe
 abbrev pub options_behind : List OptionData → Items → Option (List OptionData)
 options_behind earlier no_items = Some earlier
 options_behind earlier (item d ds) = do
   option ← option_after earlier d
   options_behind (earlier ++ option ∷ []) ds
 
--- the options of a list of at most 64, each code once
+-- the options of a list of at most 64, with no code twice
 unfoldable pub option_list_in : Option Data → Option (List OptionData)
 option_list_in value = items_or_none 64 value >>= options_behind []

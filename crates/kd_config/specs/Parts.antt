@@ -1,4 +1,4 @@
--- Words of private clauses: keys that are borrowed texts, clients by borrowed bytes, subnets whose
+-- Helpers of private contracts: keys as borrowed texts, clients as borrowed bytes, subnets whose
 -- pools are apart up to a number, and the faults of parts of a configuration.
 use Rattle.std.specs.Prelude.{ℕ, Bool, ◌&&◌, if◌then◌else◌, List, [], ◌∷◌, ◌++◌, length, bytes_eq, is_some, nat_le}
 use Rattle.std.specs.Borrow.{Bor}
@@ -33,21 +33,21 @@ is_there d key = is_some (get key.now d)
 abbrev pub client_by : Bool × Bor (List ℕ) → Identity
 client_by key = if key.0 then Hardware key.1.now else ClientId key.1.now
 
--- subnets obey the rules after reserved addresses, and have no pool after so many
+-- subnets obey the rules after reserved addresses, and have at most `apart` pools
 abbrev pub obey_within : ℕ → List ℕ → List Subnet → Bool
 obey_within apart earlier subnets =
     nat_le (length (pool_ranges subnets)) apart && all_obey earlier subnets
 
--- pools lie in a prefix, and are no more than so many
+-- pools are within a prefix, and there are at most `apart` of them
 abbrev pub lie_and_fit : Prefix → ℕ → List Pool → Bool
 lie_and_fit prefix apart pools =
     nat_le (length pools) apart && list_all (lies_within prefix) pools
 
--- a subnet obeys its rules after reserved addresses, and has no pool after so many
+-- a subnet obeys its rules after reserved addresses, and has at most `apart` pools
 abbrev pub obeys_within : ℕ → List ℕ → Subnet → Bool
 obeys_within apart earlier subnet = nat_le (length subnet.pools) apart && obeys earlier subnet
 
--- the fault of a configuration whose text spells no settings
+-- the fault of a configuration whose text describes no settings
 abbrev pub settings_fault : SettingsFault → ConfigFault
 settings_fault settings.Json = faults.Json
 settings_fault (settings.Missing path) = faults.Missing path
@@ -62,7 +62,7 @@ classes_fault (classes.Tokens number why) = faults.Tokens number why
 classes_fault (classes.Class why) = faults.Class why
 classes_fault classes.Memory = faults.Memory
 
--- the path of a place: the keys and numbers from the root, each after `/`
+-- the path of a place: the keys and indexes from the root, each after `/`
 abbrev pub path_at : Place → List ℕ
 path_at places.Root = []
 path_at (places.Key' p above key) = path_at above ++ 47 ∷ key.now

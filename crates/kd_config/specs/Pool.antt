@@ -18,7 +18,7 @@ has_pool_keys d = has_keys (codes "pool" ∷ codes "option-data" ∷ []) (codes 
 unfoldable pub pool_range : Data → Option Range
 pool_range d = as_str d >>= range_spelled
 
--- the pool that a value means
+-- the pool that a value describes
 unfoldable pub pool_of : Data → Option Pool
 pool_of d = do
   _ ← must (has_pool_keys d)

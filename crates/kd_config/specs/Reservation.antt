@@ -17,7 +17,7 @@ has_reservation_keys d =
     has_keys (codes "hw-address" ∷ codes "client-id" ∷ codes "ip-address" ∷ [])
     (codes "ip-address" ∷ []) d
 
--- one of the two, and not both
+-- one of the two, but not both
 abbrev pub one_identity : Option (List ℕ) → Option (List ℕ) → Option Identity
 one_identity (Some hardware) None = Some (Hardware hardware)
 one_identity None (Some client) = Some (ClientId client)
@@ -30,7 +30,7 @@ identity_given d = do
   client ← bytes_if_given 1 255 (get (codes "client-id") d)
   one_identity hardware client
 
--- the reservation that a value means
+-- the reservation that a value describes
 unfoldable pub reservation_of : Data → Option Reservation
 reservation_of d = do
   _ ← must (has_reservation_keys d)
@@ -38,39 +38,39 @@ reservation_of d = do
   address ← get (codes "ip-address") d >>= address_given
   Some (record { identity = identity; address = address })
 
--- addresses are those of reservations
+-- these are the addresses of the reservations
 abbrev pub HasAddresses : List ℕ → List Reservation → Type 0
 HasAddresses addresses reservations =
     (a : ℕ) → list_any (nat_eq a) addresses
     ≡ list_any (λ reservation. reservation.address == a) reservations
 
--- a client is the one with these bytes: as a hardware address, or else as an identifier
+-- the client has these bytes: as its hardware address, or else as its identifier
 abbrev pub is_client : Bool → List ℕ → Identity → Bool
 is_client true bytes (Hardware own) = bytes_eq bytes own
 is_client false bytes (ClientId own) = bytes_eq bytes own
 is_client _ _ _ = false
 
--- the same, where there are bytes
+-- the same, if there are bytes
 abbrev pub is_client_if : Bool → Option (List ℕ) → Identity → Bool
 is_client_if hardware None identity = false
 is_client_if hardware (Some bytes) identity = is_client hardware bytes identity
 
--- a client is this one: it has this hardware address, or this identifier, if there is one
+-- the client has this hardware address, or this identifier, if there is one
 abbrev pub identified_by : List ℕ → Option (List ℕ) → Identity → Bool
 identified_by mac id identity = is_client true mac identity || is_client_if false id identity
 
--- what is found for the bytes of a client is the place of its first reservation
+-- the lookup of a client's bytes finds the place of its first reservation
 abbrev pub ArePlaces : Bool → (List ℕ → Option ℕ) → List Reservation → Type 0
 ArePlaces hardware found reservations =
     (bytes : List ℕ) → found bytes
     ≡ position_from (λ reservation. is_client hardware bytes reservation.identity) 0 reservations
 
--- what is found for bytes, where there are any
+-- what is found for bytes, if there are any
 abbrev pub found_if : (List ℕ → Option ℕ) → Option (List ℕ) → Option ℕ
 found_if found None = None
 found_if found (Some bytes) = found bytes
 
--- the bytes of a client, where they are of this kind
+-- the bytes of a client, if they are of this kind
 abbrev pub bytes_of_kind : Bool → Identity → Option (List ℕ)
 bytes_of_kind true (Hardware own) = Some own
 bytes_of_kind false (ClientId own) = Some own

@@ -1,6 +1,6 @@
--- Rules over a whole configuration: pools and reserved addresses lie in their subnet's prefix, no
--- two pools share an address, no address is reserved twice, and no client has two reservations in
--- one subnet.
+-- Rules over a whole configuration: pools and reserved addresses are within their subnet's prefix,
+-- no two pools share an address, no address is reserved twice, and no client has two reservations
+-- in one subnet.
 use Rattle.std.specs.Prelude.{ℕ, Bool, true, false, not, ◌&&◌, nat_eq, bytes_eq, List, [], ◌∷◌, ◌++◌, map}
 use Rattle.std.specs.List.{list_all, list_any}
 use Rattle.kd_config.specs.Address.{has_address}
@@ -13,11 +13,11 @@ use Rattle.kd_config.specs.declared.reservation.Identity.TheVariants.{Hardware, 
 use Rattle.kd_config.specs.declared.reservation.Reservation.{Reservation}
 use Rattle.kd_config.specs.declared.subnet.Subnet.{Subnet}
 
--- a pool lies in a prefix
+-- a pool is within a prefix
 abbrev pub lies_within : Prefix → Pool → Bool
 lies_within prefix pool = has_address prefix pool.range.first && has_address prefix pool.range.last
 
--- the addresses that reservations keep
+-- the addresses of reservations
 abbrev pub reserved : List Reservation → List ℕ
 reserved reservations = map (λ reservation. reservation.address) reservations
 
@@ -27,16 +27,16 @@ same_identity (Hardware a) (Hardware b) = bytes_eq a b
 same_identity (ClientId a) (ClientId b) = bytes_eq a b
 same_identity _ _ = false
 
--- a reservation has an address of the prefix that is none of the earlier ones
+-- a reservation has an address of the prefix that is not one of the earlier ones
 abbrev pub may_reserve : Prefix → List ℕ → Reservation → Bool
 may_reserve prefix earlier reservation =
     has_address prefix reservation.address && not (list_any (nat_eq reservation.address) earlier)
 
--- a client is none of the earlier ones
+-- a client is not one of the earlier ones
 abbrev pub is_new : List Identity → Identity → Bool
 is_new earlier identity = not (list_any (same_identity identity) earlier)
 
--- the reservations of a subnet, after the addresses and the clients that are reserved before them
+-- the rules of a subnet's reservations, after the addresses and the clients reserved before them
 abbrev pub may_all_reserve : Prefix → List ℕ → List Identity → List Reservation → Bool
 may_all_reserve prefix earlier clients [] = true
 may_all_reserve prefix earlier clients (r ∷ rs) =
@@ -44,13 +44,13 @@ may_all_reserve prefix earlier clients (r ∷ rs) =
     && (is_new clients r.identity
     && may_all_reserve prefix (earlier ++ r.address ∷ []) (clients ++ r.identity ∷ []) rs)
 
--- the rules of one subnet, after the addresses that are reserved before it
+-- the rules of one subnet, after the addresses reserved before it
 unfoldable pub obeys : List ℕ → Subnet → Bool
 obeys earlier subnet =
     list_all (lies_within subnet.prefix) subnet.pools
     && may_all_reserve subnet.prefix earlier [] subnet.reservations
 
--- the rules of subnets, one after another
+-- the rules of subnets, in order
 abbrev pub all_obey : List ℕ → List Subnet → Bool
 all_obey earlier [] = true
 all_obey earlier (subnet ∷ subnets) =
@@ -65,6 +65,6 @@ abbrev pub pool_ranges : List Subnet → List Range
 pool_ranges [] = []
 pool_ranges (subnet ∷ subnets) = ranges_in subnet.pools ++ pool_ranges subnets
 
--- subnets that may stand together: they obey the rules, and no two pools share an address
+-- subnets that are accepted together: they obey the rules, and no two pools share an address
 unfoldable pub may_stand : List Subnet → Bool
 may_stand subnets = lie_apart (pool_ranges subnets) && all_obey [] subnets

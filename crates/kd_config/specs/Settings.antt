@@ -27,7 +27,7 @@ has_dhcp4_keys d = has_keys dhcp4_keys (codes "server-address" ∷ []) d
 unfoldable pub has_root_keys : Data → Bool
 has_root_keys d = has_keys (codes "Dhcp4" ∷ []) (codes "Dhcp4" ∷ []) d
 
--- the greatest lease time
+-- the longest lease time, in seconds
 abbrev pub longest_lease : ℕ
 longest_lease = 2147483647
 
@@ -37,7 +37,7 @@ server_given d = do
   address ← address_given d
   only_if (not (address == 0)) address
 
--- the times of leases and of offers: a client renews before it rebinds, and that before the end
+-- the lease and offer times: T1 is at most T2, and T2 at most the lifetime
 unfoldable pub times_given : Data → Option Times
 times_given d = do
   lifetime ← number_if_given 1 longest_lease 7200 (get (codes "valid-lifetime") d)
@@ -48,7 +48,7 @@ times_given d = do
   decline_hold ← number_if_given 1 31536000 86400 (get (codes "decline-hold") d)
   Some (record { lifetime = lifetime; renew = renew; rebind = rebind; offer_hold = offer_hold; decline_hold = decline_hold })
 
--- the settings of a server and times with the lists that the value of `Dhcp4` means
+-- the settings of a server and times with the lists in the value of `Dhcp4`
 unfoldable pub settings_with : ℕ → Times → Data → Option Settings
 settings_with server times d = do
   options ← option_list_in (get (codes "option-data") d)
@@ -56,7 +56,7 @@ settings_with server times d = do
   subnets ← list_of 256 subnet_of (get (codes "subnet4") d)
   Some (record { server = server; times = times; options = options; classes = classes; subnets = subnets })
 
--- the settings that the value of `Dhcp4` means
+-- the settings that the value of `Dhcp4` describes
 unfoldable pub dhcp4_settings : Data → Option Settings
 dhcp4_settings d = do
   _ ← must (has_dhcp4_keys d)
@@ -64,7 +64,7 @@ dhcp4_settings d = do
   times ← times_given d
   settings_with server times d
 
--- the settings that a whole text's value means
+-- the settings that the value of a whole text describes
 unfoldable pub whole_settings : Data → Option Settings
 whole_settings d = do
   _ ← must (has_root_keys d)

@@ -1,5 +1,5 @@
--- What a configuration obeys (our own format): each value is in its range, each list within its
--- limit, and the rules over the whole hold.
+-- What every configuration obeys (our own format): each value is in its range, each list is within
+-- its limit, and the rules over the whole hold.
 use Rattle.std.specs.Prelude.{◌≡◌, ℕ, ◌+◌, ◌-◌, ◌^◌, ◌<◌, ◌≤◌, nat_eq, true, false, List, [], ◌∷◌, length}
 use Rattle.std.specs.List.{AllByRecursion, list_any}
 use Rattle.kd_classes.specs.HeldSet.{IsAccepted}
@@ -19,29 +19,29 @@ use Rattle.kd_config.specs.declared.reservation.Identity.TheVariants.{Hardware, 
 use Rattle.kd_config.specs.declared.subnet.Subnet.{Subnet}
 use Rattle.kd_config.specs.declared.times.Times.{Times}
 
--- a number from the least to the most
+-- a number in the range from `least` to `most`
 pub record IsFrom (least most number : ℕ) : Type 0 where
   pub above : least ≤ number
   pub below : number ≤ most
 
--- an option that may be configured: its code is none of those that the server makes by itself
+-- an option that may be configured: its code is not one that the server generates itself
 pub record IsOption (option : OptionData) : Type 0 where
   pub code : IsFrom 1 254 option.code
   pub free : list_any (nat_eq option.code) own_codes ≡ false
   pub value : length option.value ≤ 1024
 
--- each of these options has a code of its own
+-- no two of these options have the same code
 abbrev pub HaveOwnCodes : List OptionData → Type 0
 HaveOwnCodes [] = Unit {0}
 HaveOwnCodes (option ∷ options) = (code_among option.code options ≡ false) × HaveOwnCodes options
 
--- a list of options
+-- a list of options: at most 64, with no code twice
 pub record AreOptions (options : List OptionData) : Type 0 where
   pub few : length options ≤ 64
   pub each : AllByRecursion IsOption options
   pub own : HaveOwnCodes options
 
--- times of leases and of offers: a client renews before it rebinds, and that before the end
+-- lease and offer times: T1 is at most T2, and T2 at most the lifetime
 pub record AreTimes (times : Times) : Type 0 where
   pub lifetime : IsFrom 1 longest_lease times.lifetime
   pub renew : times.renew ≤ times.rebind
@@ -49,19 +49,20 @@ pub record AreTimes (times : Times) : Type 0 where
   pub offer_hold : IsFrom 1 86400 times.offer_hold
   pub decline_hold : IsFrom 1 31536000 times.decline_hold
 
--- a class: its test is an accepted program, whose names are left to the order of classes
+-- a class: its test is an accepted program; the program's names are checked with the order of
+-- classes
 pub record IsClass (def : ClassDef) : Type 0 where
   pub name : IsFrom 1 255 (length def.name)
   pub test : IsAccepted def
   pub options : AreOptions def.options
 
--- a prefix: its address has no bits after its length, and its addresses end within 32 bits
+-- a prefix: its address has no bits set after its length, and its addresses end within 32 bits
 pub record IsPrefix (prefix : Prefix) : Type 0 where
   pub length : prefix.length ≤ 32
   pub clear : network_address prefix.address prefix.length ≡ prefix.address
   pub within : prefix.address + prefix_size prefix.length ≤ 2 ^ 32
 
--- the addresses of a pool: at least one, at most 65,536
+-- the addresses of a pool: at least 1, at most 65,536
 pub record IsRange (range : Range) : Type 0 where
   pub some : range.first ≤ range.last
   pub few : range.last - range.first < 65536
@@ -86,13 +87,13 @@ pub record IsSubnet (subnet : Subnet) : Type 0 where
       (λ reservation. IsIdentity reservation.identity) subnet.reservations
   pub options : AreOptions subnet.options
 
--- subnets, which may stand together
+-- subnets that are accepted together
 pub record AreSubnets (subnets : List Subnet) : Type 0 where
   pub few : length subnets ≤ 256
   pub each : AllByRecursion IsSubnet subnets
   pub together : may_stand subnets ≡ true
 
--- classes, which are in order
+-- classes that are in order
 pub record AreClasses (defs : List ClassDef) : Type 0 where
   pub each : AllByRecursion IsClass defs
   pub ordered : AreInOrder defs

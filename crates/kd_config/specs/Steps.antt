@@ -1,10 +1,10 @@
--- Steps of a definition that may give nothing.
+-- Steps of a definition that may have no result.
 use Rattle.std.specs.Prelude.{Bool, if◌then◌else◌, Option, Some, None}
 
--- go on only where a test holds
+-- go on only if a test holds
 abbrev pub must : Bool → Option (Unit {0})
 must test = if test then Some tt else None
 
--- a value only where a test holds
+-- a value, only if a test holds
 abbrev pub only_if : {A : Type 0} → Bool → A → Option A
 only_if test a = if test then Some a else None

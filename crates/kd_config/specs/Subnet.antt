@@ -23,7 +23,7 @@ has_subnet_keys d =
 unfoldable pub subnet_prefix : Data → Option Prefix
 subnet_prefix d = as_str d >>= prefix_spelled
 
--- the subnet of a prefix and a class with the lists that a value means
+-- the subnet of a prefix and a class with the lists in a value
 unfoldable pub subnet_with : Prefix → Option (List ℕ) → Data → Option Subnet
 subnet_with prefix class d = do
   pools ← list_of 64 pool_of (get (codes "pools") d)
@@ -31,7 +31,7 @@ subnet_with prefix class d = do
   options ← option_list_in (get (codes "option-data") d)
   Some (record { prefix = prefix; class = class; pools = pools; reservations = reservations; options = options })
 
--- the subnet that a value means; its number is not used
+-- the subnet that a value describes; its `id` is checked but not used
 unfoldable pub subnet_of : Data → Option Subnet
 subnet_of d = do
   _ ← must (has_subnet_keys d)

@@ -13,12 +13,12 @@ use kd_wire::Entries;
 use std::alloc::{AllocError, Global};
 
 impl Config {
-    /// The built-in configuration: the server is 192.0.2.1, its one subnet 192.0.2.0/24 with the
-    /// pool 192.0.2.10 - 192.0.2.11, and a lease lasts an hour.
+    /// Returns the built-in configuration: the server is 192.0.2.1, its only subnet is 192.0.2.0/24
+    /// with the pool 192.0.2.10 - 192.0.2.11, and a lease lasts an hour.
     ///
     /// # Errors
     ///
-    /// There is no memory for it.
+    /// Out of memory.
     #[tactic(auto, using(crate::proofs::SoundBuiltin::builtin_sound))]
     pub fn builtin(alloc: Global) -> Result<Config, AllocError>
         ensures { IfOk result (λ config. config ≡ builtin_config) }
@@ -35,7 +35,7 @@ impl Config {
     }
 }
 
-// The times of the built-in configuration.
+// Returns the times of the built-in configuration.
 fn builtin_times() -> Times
     ensures { result ≡ times_built_in }
 {
@@ -48,7 +48,7 @@ fn builtin_times() -> Times
     }
 }
 
-// The subnet of the built-in configuration.
+// Builds the subnet of the built-in configuration.
 fn builtin_subnet(alloc: Global) -> Result<Subnet, AllocError>
     ensures { IfOk result (λ subnet. subnet ≡ subnet_built_in) }
 {
@@ -72,7 +72,7 @@ fn builtin_subnet(alloc: Global) -> Result<Subnet, AllocError>
     })
 }
 
-// No classes.
+// Returns an empty list of classes.
 #[tactic(auto, using(crate::proofs::NoClasses::none_in_order))]
 fn no_classes(alloc: Global) -> Classes
     ensures { result ≡ [] }

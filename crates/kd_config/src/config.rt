@@ -7,8 +7,8 @@ use kd_classes::{Classes, OptionData, OptionList};
 use kd_wire::Entries;
 use std::marker::Model;
 
-/// A configuration: what a server goes by. Each of its values is in its range, each list within its
-/// limit, and its subnets and its classes may stand (`specs/Sound.antt`).
+/// A server's configuration. Each value is in its range, each list is within its limit, and the
+/// subnets and the classes obey their rules (`specs/Sound.antt`).
 #[derive(Drop)]
 pub struct Config {
     pub(crate) server: u32,
@@ -42,7 +42,7 @@ impl Model for Config {
 }
 
 impl Config {
-    /// The server's address, in host order; never 0.0.0.0.
+    /// Returns the server's address, in host order; never 0.0.0.0.
     pub fn server(&self) -> u32
         ensures same { result ≡ self.now.server }
         ensures sound { IsSound self.now }
@@ -50,7 +50,7 @@ impl Config {
         self.server
     }
 
-    /// The times of leases and of offers, in seconds.
+    /// Returns the lease and offer times, in seconds.
     pub fn times(&self) -> Times
         ensures same { result ≡ self.now.times }
         ensures sound { IsSound self.now }
@@ -58,7 +58,7 @@ impl Config {
         self.times
     }
 
-    /// The options of all replies: at most 64, each code once.
+    /// Returns the options of all replies: at most 64, with no code twice.
     pub fn options(&self) -> &[OptionData]
         ensures same { result.now ≡ self.now.options }
         ensures sound { IsSound self.now }
@@ -66,7 +66,7 @@ impl Config {
         self.options.as_slice()
     }
 
-    /// The classes, in order; at most 256.
+    /// Returns the classes, in order; at most 256.
     pub fn classes(&self) -> &Classes
         ensures same { result.now ≡ self.now.classes }
         ensures sound { IsSound self.now }
@@ -74,8 +74,8 @@ impl Config {
         &self.classes
     }
 
-    /// The subnets, in order; at most 256. Pools and reservations lie in their subnet's prefix, no
-    /// two pools share an address, and no address is reserved twice.
+    /// Returns the subnets, in order; at most 256. Pools and reservations are within their subnet's
+    /// prefix, no two pools share an address, and no address is reserved twice.
     pub fn subnets(&self) -> &[Subnet]
         ensures same { result.now ≡ self.now.subnets }
         ensures sound { IsSound self.now }

@@ -9,16 +9,16 @@ use std::alloc::{AllocError, AllocFailed};
 use std::fmt;
 use thiserror::Error;
 
-/// Why the text of a class's test has no program. It prints as the fault that it holds.
+/// Why the text of a class's test has no program. It prints as the fault it contains.
 #[derive(Clone, Copy, Error)]
 pub enum TestFault {
-    /// The text is no expression.
+    /// The text is not an expression.
     #[error("{0}")]
     Reading(ExprFault),
-    /// The expression is no class test.
+    /// The expression is not a class test.
     #[error("{0}")]
     Typing(TypeFault),
-    /// The class test is over a limit of programs.
+    /// The class test exceeds a limit of programs.
     #[error("{0}")]
     Compiling(CompileFault),
 }
@@ -29,13 +29,13 @@ impl fmt::Debug for TestFault {
     }
 }
 
-/// Why the token file of a class's test has no program. It prints as the fault that it holds.
+/// Why the token file of a class's test has no program. It prints as the fault it contains.
 #[derive(Clone, Copy, Error)]
 pub enum FileTestFault {
     /// No file has the name.
     #[error("Absent")]
     Absent,
-    /// The file's bytes are no token file.
+    /// The file's bytes are not a token file.
     #[error("{0}")]
     File(FileFault),
     /// The file's program is not accepted.
@@ -49,42 +49,43 @@ impl fmt::Debug for FileTestFault {
     }
 }
 
-/// Why a text is no configuration. A path is the keys and list numbers from the root, each after
-/// `/`.
+/// Why a text is not a configuration. A path consists of the keys and list indexes from the root,
+/// each after `/`.
 #[derive(Drop, Error)]
 pub enum ConfigFault {
-    /// The text is no JSON.
+    /// The text is not JSON.
     #[error("Json")]
     Json,
-    /// A key that has to be there is missing; its path.
+    /// A required key is missing; its path.
     #[error("Missing {0}")]
     Missing(String),
-    /// A key is not known; its path, with a control character in the key as `\xHH`.
+    /// A key is not known; its path, with control characters in the key written as `\xHH`.
     #[error("Unknown {0}")]
     Unknown(String),
-    /// A value is of a wrong type or not allowed; its path, `-` where it is the whole text.
+    /// A value has the wrong type or is not allowed; its path, or `-` for the whole text.
     #[error("BadValue {0}")]
     BadValue(String),
-    /// A pool or a reserved address is not in its subnet's prefix; its path.
+    /// A pool or a reserved address is outside its subnet's prefix; its path.
     #[error("PoolOutside {0}")]
     PoolOutside(String),
-    /// A pool has an address of an earlier pool; its path.
+    /// A pool shares an address with an earlier pool; its path.
     #[error("Overlap {0}")]
     Overlap(String),
-    /// A reservation has the address of an earlier one, or the identity of an earlier one of its
-    /// subnet; the path of what is repeated.
+    /// A reservation repeats the address of an earlier one, or the identity of an earlier one in
+    /// its subnet; the path of the repeated value.
     #[error("DuplicateReservation {0}")]
     DuplicateReservation(String),
-    /// The text of a class's test has no program; the number of the class from 0, and why.
+    /// The text of a class's test has no program; the index of the class, counted from 0, and why.
     #[error("Expression {0} {1}")]
     Expression(usize, TestFault),
-    /// The token file of a class's test has no program; the number of the class from 0, and why.
+    /// The token file of a class's test has no program; the index of the class, counted from 0, and
+    /// why.
     #[error("Tokens {0} {1}")]
     Tokens(usize, FileTestFault),
-    /// The classes may not stand: the first fault in their order.
+    /// The classes are refused: the first fault in their order.
     #[error("Class {0}")]
     Class(ClassFault),
-    /// There is no memory for the configuration.
+    /// There is not enough memory for the configuration.
     #[error("Memory")]
     Memory,
 }
@@ -96,7 +97,7 @@ impl fmt::Debug for ConfigFault {
 }
 
 impl ConfigFault {
-    /// The fault's number: 70 to 79, or 91 for want of memory.
+    /// The fault's number: 70 to 79, or 91 for out of memory.
     pub fn number(&self) -> u8
         ensures { result ≡ config_fault_number self.now }
     {

@@ -1,13 +1,14 @@
-//! The configuration: an operator's JSON text, and what a server goes by.
+//! The configuration: reads an operator's JSON text into the settings a server runs with.
 //!
-//! What this layer promises to the one above: `Config::read` answers the configuration that a text
-//! means with token files, exactly where it means one, unless memory runs out
-//! (`specs/Configured.antt`). Its settings are those of `specs/Document.antt`, object by object
-//! down to `specs/Address.antt` and `specs/HexText.antt`, where the subnets obey the rules over the
-//! whole (`specs/Rules.antt`); each test of its classes is a program that its text compiles to or
-//! that its token file spells, and the classes are in order. A fault says what and where. Each
-//! configuration is within all limits and ranges (`specs/Sound.antt`): its readers say so.
-//! `Config::builtin` is the built-in one (`specs/Configuration.antt`).
+//! What this layer promises to the one above: `Config::read` returns the configuration that a text
+//! describes, together with token files, exactly when it describes one, unless memory runs out
+//! (`specs/Configured.antt`). The settings are those of `specs/Document.antt`, object by object
+//! down to `specs/Address.antt` and `specs/HexText.antt`, and the subnets obey the rules over the
+//! whole configuration (`specs/Rules.antt`). Each class test is a program that its text compiles to
+//! or that its token file contains, and the classes are in order. A fault says what is wrong and
+//! where. Every configuration is within all limits and ranges (`specs/Sound.antt`): the contracts
+//! of its accessors say so. `Config::builtin` returns the built-in configuration
+//! (`specs/Configuration.antt`).
 #![tactic(auto)]
 
 mod builtin;

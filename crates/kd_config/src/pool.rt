@@ -15,12 +15,12 @@ use kd_classes::OptionList;
 use serde_json::Value;
 use std::alloc::Global;
 
-/// A pool of a subnet.
+/// An address pool of a subnet.
 #[derive(Drop)]
 pub struct Pool {
-    /// Its addresses.
+    /// The addresses of the pool.
     pub range: Range,
-    /// The options of the replies that give them.
+    /// The options of the replies that assign an address of the pool.
     pub options: OptionList,
 }
 
@@ -38,7 +38,7 @@ impl Entry for Pool {
     }
 }
 
-// The value is an object with the keys of a pool.
+// Checks that the value is an object with the keys of a pool.
 #[tactic(auto, unfolding(crate::specs::Pool::has_pool_keys))]
 fn check_pool(alloc: Global, value: &Value, at: &Place<'_>) -> Result<(), SettingsFault>
     ensures { Means Memory result (must (has_pool_keys (view value.now))) }
@@ -46,7 +46,7 @@ fn check_pool(alloc: Global, value: &Value, at: &Place<'_>) -> Result<(), Settin
     check_keys(alloc, value, at, &["pool", "option-data"], &["pool"])
 }
 
-// The addresses of a pool.
+// Returns the addresses of a pool.
 #[tactic(auto, unfolding(crate::specs::Pool::pool_range))]
 fn range_in(value: &Value) -> Option<Range>
     ensures { result ≡ pool_range (view value.now) }

@@ -3,24 +3,24 @@ ghost use Rattle.kd_config.specs.Address.{network_address, has_address, length_s
 
 use crate::text::address::{address_of, cut_at};
 
-/// The prefix of a subnet: the addresses whose first bits are those of its address.
+/// The prefix of a subnet: the addresses that have the same first `length` bits.
 #[derive(Clone, Copy, PartialEq, Eq)]
 pub struct Prefix {
-    /// Its first address, in host order.
+    /// The first address, in host order.
     pub address: u32,
-    /// How many bits count, 0 to 32.
+    /// The number of bits that are compared, 0 to 32.
     pub length: u8,
 }
 
 impl Prefix {
-    /// How many addresses it has, 1 to 2^32.
+    /// Returns the number of addresses in the prefix, 1 to 2^32.
     pub fn size(self) -> u64
         ensures { result ≡ prefix_size self.length }
     {
         size_of(self.length)
     }
 
-    /// Whether an address, in host order, is one of its own.
+    /// Reports whether an address, in host order, is in the prefix.
     pub fn contains(self, address: u32) -> bool
         ensures { result ≡ has_address self address }
     {
@@ -28,14 +28,14 @@ impl Prefix {
     }
 }
 
-// How many addresses a prefix of this length has.
+// Returns the number of addresses in a prefix of this length.
 fn size_of(length: u8) -> u64
     ensures { result ≡ prefix_size length }
 {
     1 << 32u8.saturating_sub(length)
 }
 
-// An address without the bits after a prefix of this length.
+// Clears the bits of an address that follow a prefix of this length.
 fn cleared(address: u32, length: u8) -> u32
     ensures cleared { result ≡ network_address address length }
     ensures within { result + prefix_size length ≤ 2 ^ 32 }
@@ -44,7 +44,7 @@ fn cleared(address: u32, length: u8) -> u32
     (u64::from(address) / size * size) as u32
 }
 
-// The length of a prefix.
+// Reads the length of a prefix: at most 32.
 #[tactic(auto, unfolding(crate::specs::Address::length_spelled))]
 fn length_of(text: &[u8]) -> Option<u8>
     ensures { result ≡ length_spelled text.now }
@@ -53,7 +53,7 @@ fn length_of(text: &[u8]) -> Option<u8>
     if length <= 32 { Some(length) } else { None }
 }
 
-// The number of one or two decimal digits.
+// Reads a number of one or two decimal digits.
 fn one_or_two_digits(text: &[u8]) -> Option<u8>
     ensures { result ≡ short_decimal text.now }
 {
@@ -66,7 +66,7 @@ fn one_or_two_digits(text: &[u8]) -> Option<u8>
     }
 }
 
-// The prefix that a text spells.
+// Reads a prefix from its text.
 #[tactic(auto, unfolding(crate::specs::Address::prefix_spelled))]
 pub(crate) fn prefix_of(text: &[u8]) -> Option<Prefix>
     ensures spelled { result ≡ prefix_spelled text.now }

@@ -4,17 +4,17 @@ ghost use Rattle.kd_config.specs.Address.{range_from, range_of_parts, range_spel
 use crate::prefix::{Prefix, prefix_of};
 use crate::text::address::{address_of, cut_at, without_first_spaces, without_last_spaces};
 
-/// The addresses of a pool: at least one and at most 65,536, in host order.
+/// The addresses of a pool: at least 1 and at most 65,536, in host order.
 #[derive(Clone, Copy, PartialEq, Eq)]
 pub struct Range {
-    /// The least of them.
+    /// The lowest address.
     pub first: u32,
-    /// The greatest of them.
+    /// The highest address.
     pub last: u32,
 }
 
 impl Range {
-    /// Whether an address, in host order, is one of them.
+    /// Reports whether an address, in host order, is in the range.
     pub fn contains(self, address: u32) -> bool
         ensures { result ≡ (nat_le self.first address && nat_le address self.last) }
     {
@@ -22,7 +22,7 @@ impl Range {
     }
 }
 
-// The addresses from the first to the last.
+// Returns the range from the first to the last address, if it is neither empty nor too long.
 fn between(first: u32, last: u32) -> Option<Range>
     ensures { result ≡ range_from first last }
 {
@@ -33,7 +33,7 @@ fn between(first: u32, last: u32) -> Option<Range>
     }
 }
 
-// The addresses of a prefix.
+// Returns the addresses of a prefix as a range.
 fn range_of_prefix(prefix: Prefix) -> Option<Range>
     requires { prefix.address + prefix_size prefix.length ≤ 2 ^ 32 }
     ensures { result ≡ prefix_range prefix }
@@ -42,7 +42,7 @@ fn range_of_prefix(prefix: Prefix) -> Option<Range>
     between(prefix.address, last as u32)
 }
 
-// The addresses between two.
+// Returns the range between two addresses.
 #[tactic(auto, unfolding(crate::specs::Address::range_of_parts))]
 fn range_between(first: &[u8], last: &[u8]) -> Option<Range>
     ensures { result ≡ range_of_parts (first.now, last.now) }
@@ -52,7 +52,7 @@ fn range_between(first: &[u8], last: &[u8]) -> Option<Range>
     between(first, last)
 }
 
-// The addresses that the text of a pool spells.
+// Reads the addresses of a pool from its text.
 #[tactic(auto, unfolding(crate::specs::Address::range_spelled))]
 pub(crate) fn range_of(text: &[u8]) -> Option<Range>
     ensures { result ≡ range_spelled text.now }

@@ -13,15 +13,15 @@ use crate::token_file::TokenFile;
 use std::alloc::Global;
 
 impl Config {
-    /// The configuration that a text means: JSON in UTF-8 with the settings of the server, where
-    /// the tests of its classes are texts or in token files. Of files with equal names the first
-    /// counts.
+    /// Reads the configuration that a text describes: JSON in UTF-8 with the settings of the
+    /// server. The tests of its classes are texts or in token files. If several files have the same
+    /// name, the first is used.
     ///
     /// # Errors
     ///
-    /// The first fault: `Json`; then from the root on `Missing`, `Unknown` or `BadValue`; then
-    /// subnet by subnet `PoolOutside`, `Overlap` or `DuplicateReservation`; then class by class
-    /// `Expression` or `Tokens`; then `Class`. `Memory` in place of any answer.
+    /// The first fault: `Json`; then, from the root down, `Missing`, `Unknown` or `BadValue`; then,
+    /// subnet by subnet, `PoolOutside`, `Overlap` or `DuplicateReservation`; then, class by class,
+    /// `Expression` or `Tokens`; then `Class`. `Memory` can replace any result.
     pub fn read(alloc: Global, text: &[u8], files: &[TokenFile]) -> Result<Config, ConfigFault>
         ensures found { IfOk result (λ c. IsConfigured text.now files.now c) }
         ensures refused { IfErr result

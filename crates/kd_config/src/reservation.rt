@@ -13,7 +13,7 @@ use kd_wire::Bytes;
 use serde_json::Value;
 use std::alloc::Global;
 
-/// Whose address a reservation is.
+/// The client that a reservation is for.
 #[derive(Drop)]
 pub enum Identity {
     /// The client with this hardware address, 1 to 16 bytes.
@@ -22,7 +22,7 @@ pub enum Identity {
     ClientId(Bytes),
 }
 
-/// An address that is kept for one client.
+/// An address that is reserved for one client.
 #[derive(Drop)]
 pub struct Reservation {
     /// The client.
@@ -45,7 +45,7 @@ impl Entry for Reservation {
     }
 }
 
-// The value is an object with the keys of a reservation.
+// Checks that the value is an object with the keys of a reservation.
 #[tactic(auto, unfolding(crate::specs::Reservation::has_reservation_keys))]
 fn check_reservation(alloc: Global, value: &Value, at: &Place<'_>) -> Result<(), SettingsFault>
     ensures { Means Memory result (must (has_reservation_keys (view value.now))) }
@@ -54,7 +54,7 @@ fn check_reservation(alloc: Global, value: &Value, at: &Place<'_>) -> Result<(),
     check_keys(alloc, value, at, &known, &["ip-address"])
 }
 
-// The client of a reservation.
+// Reads the client of a reservation.
 #[tactic(auto, unfolding(crate::specs::Reservation::identity_given))]
 fn identity_in(alloc: Global, value: &Value, at: &Place<'_>) -> Result<Identity, SettingsFault>
     ensures { Means Memory result (identity_given (view value.now)) }
@@ -64,7 +64,7 @@ fn identity_in(alloc: Global, value: &Value, at: &Place<'_>) -> Result<Identity,
     identity_of(alloc, at, hardware, client)
 }
 
-// One of the two identities, and not both.
+// A reservation has one of the two identities, but not both.
 fn identity_of(
     alloc: Global,
     at: &Place<'_>,

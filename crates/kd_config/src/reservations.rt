@@ -11,16 +11,16 @@ use indexmap::{IndexMap, IndexSet};
 use std::alloc::{AllocError, Global};
 use std::marker::Model;
 
-/// The reservations of a subnet, in the order in which they are written. One of an address, and the
-/// first for a client, are found in a time that does not grow with their number.
+/// The reservations of a subnet, in the order in which they are written. Finding an address, or the
+/// first reservation for a client, takes a time that does not grow with their number.
 #[derive(Drop)]
 pub struct Reservations {
     list: Vec<Reservation>,
-    // Their addresses.
+    // The addresses of the reservations.
     addresses: IndexSet<u32>,
-    // The place of the first for each hardware address.
+    // The index of the first reservation for each hardware address.
     hardware: IndexMap<Vec<u8>, usize>,
-    // The place of the first for each identifier.
+    // The index of the first reservation for each client identifier.
     identifiers: IndexMap<Vec<u8>, usize>,
 }
 
@@ -43,7 +43,7 @@ impl Model for Reservations {
 }
 
 impl Reservations {
-    /// No reservations.
+    /// Makes an empty list.
     pub fn none(alloc: Global) -> Reservations
         ensures { result ≡ [] }
     {
@@ -55,11 +55,11 @@ impl Reservations {
         }
     }
 
-    /// The reservations of a vector, which it keeps.
+    /// Takes ownership of a vector of reservations.
     ///
     /// # Errors
     ///
-    /// There is no memory for their addresses and clients.
+    /// Out of memory for their addresses and clients.
     pub fn own(alloc: Global, list: Vec<Reservation>) -> Result<Reservations, AllocError>
         ensures { IfOk result (λ reservations. reservations ≡ list.items) }
     {
@@ -74,22 +74,22 @@ impl Reservations {
         })
     }
 
-    /// The reservations, borrowed.
+    /// Borrows the reservations as a slice.
     pub fn as_slice(&self) -> &[Reservation]
         ensures { result.now ≡ self.now }
     {
         self.list.as_slice()
     }
 
-    /// One of them is of this address, in host order.
+    /// Reports whether an address, in host order, is reserved.
     pub fn has(&self, address: u32) -> bool
         ensures { result ≡ list_any (λ reservation. reservation.address == address) self.now }
     {
         self.addresses.contains(&address)
     }
 
-    /// The first of them for the client with a hardware address, or with an identifier, if there is
-    /// one.
+    /// Returns the first reservation for the client with a hardware address or an identifier, if
+    /// there is one.
     pub fn of_client(&self, mac: &[u8], id: Option<&[u8]>) -> Option<&Reservation>
         ensures { option_copied result
             ≡ find (λ reservation. identified_by mac.now (option_copied id.entry)
@@ -103,7 +103,7 @@ impl Reservations {
         }
     }
 
-    // The reservation at a place.
+    // Returns the reservation at an index, if there is one.
     fn at(&self, place: usize) -> Option<&Reservation>
         ensures { option_copied result ≡ slice_get self.now place }
     {
@@ -111,7 +111,7 @@ impl Reservations {
     }
 }
 
-// The addresses of reservations.
+// Collects the addresses of reservations.
 fn addresses_of(alloc: Global, list: &[Reservation]) -> Result<IndexSet<u32>, AllocError>
     ensures { IfOk result (λ addresses. HasAddresses (keys addresses) list.now) }
 {
@@ -122,7 +122,7 @@ fn addresses_of(alloc: Global, list: &[Reservation]) -> Result<IndexSet<u32>, Al
     Ok(addresses)
 }
 
-// The lesser of two places, if there are any.
+// Returns the lesser of two indexes, if there are any.
 fn earlier_of(a: Option<usize>, b: Option<usize>) -> Option<usize>
     ensures { result ≡ earlier a b }
 {
@@ -133,7 +133,7 @@ fn earlier_of(a: Option<usize>, b: Option<usize>) -> Option<usize>
     }
 }
 
-// The place of a client, by its bytes.
+// Looks up the index of a client by its bytes.
 fn place_in(places: &IndexMap<Vec<u8>, usize>, bytes: Option<&[u8]>) -> Option<usize>
     ensures { result ≡ found_if (λ bytes. get_by (λ key. bytes_eq bytes key.items) places.now)
         (option_copied bytes.entry) }
@@ -144,8 +144,8 @@ fn place_in(places: &IndexMap<Vec<u8>, usize>, bytes: Option<&[u8]>) -> Option<u
     }
 }
 
-// The place of the first reservation for each client, of those with a hardware address or of those
-// with an identifier.
+// Collects the index of the first reservation for each client, either by hardware address or by
+// identifier.
 fn places_of(
     alloc: Global,
     list: &[Reservation],
@@ -161,7 +161,7 @@ fn places_of(
     Ok(places)
 }
 
-// Puts the place of a client that has none yet, where it is of the kind.
+// Stores the index of a client that has none yet, if the client is of the kind.
 fn put_client(
     alloc: Global,
     places: &mut IndexMap<Vec<u8>, usize>,
@@ -181,7 +181,7 @@ fn put_client(
     Ok(())
 }
 
-// The bytes of a client, where they are a hardware address, or where they are an identifier.
+// Returns the bytes of a client, if they are a hardware address or an identifier as asked.
 fn bytes_of(identity: &Identity, is_hardware: bool) -> Option<&[u8]>
     ensures { option_copied result ≡ bytes_of_kind is_hardware identity.now }
 {
@@ -192,7 +192,7 @@ fn bytes_of(identity: &Identity, is_hardware: bool) -> Option<&[u8]>
     }
 }
 
-// Puts the place of a client that has none yet.
+// Stores the index of a client that has none yet.
 fn put_place(
     alloc: Global,
     places: &mut IndexMap<Vec<u8>, usize>,

@@ -21,9 +21,9 @@ use std::alloc::Global;
 /// A subnet that the server serves.
 #[derive(Drop)]
 pub struct Subnet {
-    /// Its addresses.
+    /// The addresses of the subnet.
     pub prefix: Prefix,
-    /// The class that a client has to be in, if there is one.
+    /// The class that a client must be in, if there is one.
     pub class: Option<Bytes>,
     /// Its pools, at most 64.
     pub pools: Entries<Pool>,
@@ -48,7 +48,7 @@ impl Entry for Subnet {
     }
 }
 
-// The subnet of a prefix and a class with the lists that a value means.
+// Builds the subnet of a prefix and a class with the lists in a value.
 #[tactic(auto, unfolding(crate::specs::Subnet::subnet_with))]
 fn subnet_of_lists(
     alloc: Global,
@@ -72,7 +72,7 @@ fn subnet_of_lists(
     })
 }
 
-// The value is an object with the keys of a subnet.
+// Checks that the value is an object with the keys of a subnet.
 #[tactic(auto, unfolding(crate::specs::Subnet::has_subnet_keys))]
 fn check_subnet(alloc: Global, value: &Value, at: &Place<'_>) -> Result<(), SettingsFault>
     ensures { Means Memory result (must (has_subnet_keys (view value.now))) }
@@ -88,7 +88,7 @@ fn check_subnet(alloc: Global, value: &Value, at: &Place<'_>) -> Result<(), Sett
     check_keys(alloc, value, at, &known, &["subnet"])
 }
 
-// The prefix of a subnet.
+// Reads the prefix of a subnet.
 #[tactic(auto, unfolding(crate::specs::Subnet::subnet_prefix))]
 fn prefix_in(value: &Value) -> Option<Prefix>
     ensures { result ≡ subnet_prefix (view value.now) }

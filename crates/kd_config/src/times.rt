@@ -10,25 +10,25 @@ use crate::rules::place::{Place, bad_value};
 use serde_json::Value;
 use std::alloc::Global;
 
-// The greatest lease time.
+// The longest lease time, in seconds.
 const LONGEST: u32 = 2_147_483_647;
 
-/// The times of leases and of offers, in seconds.
+/// Lease and offer times, in seconds.
 #[derive(Clone, Copy, PartialEq, Eq)]
 pub struct Times {
     /// How long a lease lasts.
     pub lifetime: u32,
-    /// When a client renews its lease, T1 of RFC 2131 section 4.4.5.
+    /// When a client renews its lease: T1 of RFC 2131 section 4.4.5.
     pub renew: u32,
-    /// When a client rebinds its lease, T2 of RFC 2131 section 4.4.5.
+    /// When a client rebinds its lease: T2 of RFC 2131 section 4.4.5.
     pub rebind: u32,
     /// How long an offered address is held.
     pub offer_hold: u32,
-    /// How long a declined address is not given.
+    /// How long a declined address is not assigned.
     pub decline_hold: u32,
 }
 
-// The times of leases and of offers.
+// Reads the lease and offer times.
 #[tactic(auto, unfolding(crate::specs::Settings::times_given))]
 pub(crate) fn times_of(
     alloc: Global,

@@ -3,16 +3,16 @@ ghost use Rattle.kd_config.specs.Configured.{file_by_name};
 
 use kd_wire::Bytes;
 
-/// A token file that the test of a class may name.
+/// A token file that a class's test can name.
 #[derive(Drop)]
 pub struct TokenFile {
-    /// Its name, as a class's key `tokens` gives it.
+    /// Its name, as it appears at the key `tokens` of a class.
     pub name: Bytes,
     /// Its bytes.
     pub bytes: Bytes,
 }
 
-// The bytes of the first of these files with a name.
+// Returns the bytes of the first of these files with a name.
 pub(crate) fn file_named<'a>(name: &[u8], files: &'a [TokenFile]) -> Option<&'a [u8]>
     ensures { option_map (λ bytes. bytes.now) result ≡ file_by_name name.now files.now }
 {

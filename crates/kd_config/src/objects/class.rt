@@ -20,13 +20,13 @@ use std::alloc::Global;
 pub(crate) enum TestSource {
     // There is no test.
     Nothing,
-    // An expression's text.
+    // The text of an expression.
     Expression(Bytes),
     // The name of a token file.
     TokenFile(Bytes),
 }
 
-// A client class as it is written.
+// A client class as the text gives it.
 #[derive(Drop)]
 pub(crate) struct ClassEntry {
     // Its name, 1 to 255 bytes.
@@ -57,7 +57,7 @@ impl Entry for ClassEntry {
     }
 }
 
-// The value is an object with the keys of a class.
+// Checks that the value is an object with the keys of a class.
 #[tactic(auto, unfolding(crate::specs::Class::has_class_keys))]
 fn check_class(alloc: Global, value: &Value, at: &Place<'_>) -> Result<(), SettingsFault>
     ensures { Means Memory result (must (has_class_keys (view value.now))) }
@@ -66,7 +66,7 @@ fn check_class(alloc: Global, value: &Value, at: &Place<'_>) -> Result<(), Setti
     check_keys(alloc, value, at, &known, &["name"])
 }
 
-// A name of a class.
+// Returns the name of a class: 1 to 255 bytes.
 #[tactic(auto, unfolding(crate::specs::Class::class_name_in))]
 fn name_in(value: &Value) -> Option<&[u8]>
     ensures { option_map (λ name. name.now) result ≡ class_name_in (view value.now) }
@@ -79,7 +79,7 @@ fn name_in(value: &Value) -> Option<&[u8]>
     }
 }
 
-// The test that the keys `test` and `tokens` give.
+// Returns the test that the keys `test` and `tokens` give.
 #[tactic(auto, unfolding(crate::specs::Class::test_source_in))]
 fn source_in(alloc: Global, value: &Value, at: &Place<'_>) -> Result<TestSource, SettingsFault>
     ensures { Means Memory result (test_source_in (view value.now)) }
@@ -89,7 +89,7 @@ fn source_in(alloc: Global, value: &Value, at: &Place<'_>) -> Result<TestSource,
     source_of(alloc, at, text, file)
 }
 
-// A test as text or by a token file, and not both.
+// A test is given as text or by a token file, but not both.
 fn source_of(
     alloc: Global,
     at: &Place<'_>,

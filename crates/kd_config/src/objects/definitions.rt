@@ -14,7 +14,7 @@ use crate::token_file::TokenFile;
 use kd_classes::{ClassDef, Classes};
 use std::alloc::Global;
 
-// The classes of entries, where they may stand.
+// Builds the classes of these entries, if their definitions are in order.
 pub(crate) fn classes_in(
     alloc: Global,
     entries: Vec<ClassEntry>,
@@ -34,7 +34,7 @@ pub(crate) fn classes_in(
     }
 }
 
-// The definitions of entries.
+// Builds the definitions of these entries.
 fn definitions_of(
     alloc: Global,
     entries: Vec<ClassEntry>,
@@ -57,7 +57,7 @@ fn definitions_of(
     Ok(definitions)
 }
 
-// The definition of the entry with this number.
+// Builds the definition of the entry with this number.
 fn definition_of(
     alloc: Global,
     number: usize,

@@ -16,7 +16,7 @@ use crate::rules::subnets::check_rules;
 use serde_json::Value;
 use std::alloc::Global;
 
-// The settings that a text means, where its subnets may stand together.
+// Reads the settings that a text describes, if its subnets obey the rules together.
 #[tactic(auto, unfolding(crate::specs::Document::accepted_settings))]
 pub(crate) fn settings_in(alloc: Global, text: &[u8]) -> Result<Settings, ConfigFault>
     ensures meant { Means faults.Memory result (accepted_settings text.now) }
@@ -27,7 +27,7 @@ pub(crate) fn settings_in(alloc: Global, text: &[u8]) -> Result<Settings, Config
     Ok(settings)
 }
 
-// The subnets may stand together.
+// Checks that the subnets obey the rules together.
 fn check_subnets(alloc: Global, settings: &Settings) -> Result<(), ConfigFault>
     ensures checked { Means faults.Memory result (must (may_stand settings.now.subnets)) }
     ensures first { IfErr result (λ fault. fault ≢ faults.Memory
@@ -39,7 +39,7 @@ fn check_subnets(alloc: Global, settings: &Settings) -> Result<(), ConfigFault>
     check_rules(alloc, settings.subnets.as_slice(), &subnets)
 }
 
-// The settings that a text means.
+// Reads the settings that a text describes.
 #[tactic(auto, unfolding(crate::specs::Document::settings_spelled))]
 fn written_settings(alloc: Global, text: &[u8]) -> Result<Settings, SettingsFault>
     ensures { Means Memory result (settings_spelled text.now) }
@@ -48,7 +48,7 @@ fn written_settings(alloc: Global, text: &[u8]) -> Result<Settings, SettingsFaul
     root_of(alloc, &value)
 }
 
-// The value that a text spells.
+// Parses the JSON value of a text.
 #[tactic(auto, using(crate::proofs::Documents::spelled, crate::proofs::Documents::not_spelled))]
 fn value_of(alloc: Global, text: &[u8]) -> Result<Value, SettingsFault>
     ensures { GivesAs Memory view result (value_spelled text.now) }

@@ -4,31 +4,31 @@ use crate::fault::{ConfigFault, FileTestFault, TestFault};
 use kd_classes::ClassFault;
 use std::alloc::{AllocError, AllocFailed};
 
-// Why a text spells no settings.
+// Why a text describes no settings.
 #[derive(Drop)]
 pub(crate) enum SettingsFault {
-    // The text is no JSON.
+    // The text is not JSON.
     Json,
-    // A key that has to be there is missing; its path.
+    // A required key is missing; its path.
     Missing(String),
     // A key is not known; its path.
     Unknown(String),
-    // A value is of a wrong type or not allowed; its path.
+    // A value has the wrong type or is not allowed; its path.
     BadValue(String),
-    // There is no memory for the settings.
+    // There is not enough memory for the settings.
     Memory,
 }
 
-// Why the classes of settings have no definitions that may stand.
+// Why the classes of settings have no definitions that are accepted.
 #[derive(Drop)]
 pub(crate) enum ClassesFault {
-    // The text of a class's test has no program; the number of the class, and why.
+    // The text of a class's test has no program; the index of the class, and why.
     Expression(usize, TestFault),
-    // The token file of a class's test has no program; the number of the class, and why.
+    // The token file of a class's test has no program; the index of the class, and why.
     Tokens(usize, FileTestFault),
-    // The definitions may not stand.
+    // The definitions are refused.
     Class(ClassFault),
-    // There is no memory for the definitions.
+    // There is not enough memory for the definitions.
     Memory,
 }
 

@@ -12,7 +12,7 @@ use kd_wire::Entries;
 use serde_json::Value;
 use std::alloc::Global;
 
-// The values of a list of at most so many at a key, none where the key is not there.
+// Returns the values of a list at a key, at most `most` of them; none if the key is absent.
 #[tactic(auto, using(crate::proofs::Left::len_is))]
 pub(crate) fn list_at<'a>(
     alloc: Global,
@@ -33,17 +33,17 @@ pub(crate) fn list_at<'a>(
     }
 }
 
-// What the values of a list mean, each by itself.
+// What is read from each value of a list on its own.
 pub(crate) trait Entry: Drop + Sized {
-    // What a value means.
+    // What a value describes.
     ghost means: { Data → Option Self };
 
-    // The entry that a value means.
+    // Reads the entry that a value describes.
     fn read(alloc: Global, value: &Value, at: &Place<'_>) -> Result<Self, SettingsFault>
         ensures { Means Memory result (means (view value.now)) };
 }
 
-// The entries of a list of at most so many at a key.
+// Reads the entries of a list at a key, at most `most` of them.
 #[tactic(auto, unfolding(crate::specs::Lists::list_of))]
 pub(crate) fn entries_of<T: Entry>(
     alloc: Global,
@@ -58,7 +58,7 @@ pub(crate) fn entries_of<T: Entry>(
     entries_in(alloc, values, &Place::Key(&*at, key))
 }
 
-// The entries that values mean, one after another.
+// Reads the entries that values describe, in order.
 fn entries_in<T: Entry>(
     alloc: Global,
     values: &[Value],

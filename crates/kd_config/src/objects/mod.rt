@@ -1,5 +1,5 @@
-//! The objects of a configuration, from the document down to a value: their keys, and what they
-//! mean.
+//! The objects of a configuration, from the document down to a single value: their keys, and what
+//! they describe.
 
 mod class;
 pub(crate) mod definitions;

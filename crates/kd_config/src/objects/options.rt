@@ -14,10 +14,10 @@ use kd_classes::{OptionData, OptionList};
 use serde_json::Value;
 use std::alloc::Global;
 
-// The codes of the options that the server makes by itself.
+// The codes of the options that the server generates itself.
 const OWN_CODES: [u8; 11] = [50, 51, 52, 53, 54, 55, 57, 58, 59, 61, 82];
 
-// The options of the list at the key `option-data`, each code once.
+// Reads the options of the list at the key `option-data`, with no code twice.
 #[tactic(auto, unfolding(crate::specs::Options::option_list_in))]
 pub(crate) fn options_of(
     alloc: Global,
@@ -30,7 +30,7 @@ pub(crate) fn options_of(
     options_in(alloc, values, &Place::Key(&*at, "option-data"))
 }
 
-// The options that values mean, each code once.
+// Reads the options that values describe, with no code twice.
 fn options_in(alloc: Global, values: &[Value], at: &Place<'_>) -> Result<OptionList, SettingsFault>
     ensures { Means Memory result (options_behind [] (items_view values.now)) }
 {
@@ -42,7 +42,7 @@ fn options_in(alloc: Global, values: &[Value], at: &Place<'_>) -> Result<OptionL
     Ok(OptionList::own(list))
 }
 
-// The option that a value means after the options before it.
+// Reads the option that a value describes; its code must not be among those of earlier options.
 #[tactic(auto, unfolding(crate::specs::Options::option_after))]
 fn option_behind(
     alloc: Global,
@@ -72,7 +72,7 @@ fn option_behind(
     }
 }
 
-// The value is an object with the keys of option data.
+// Checks that the value is an object with the keys of option data.
 #[tactic(auto, unfolding(crate::specs::Options::has_option_keys))]
 fn check_option(alloc: Global, value: &Value, at: &Place<'_>) -> Result<(), SettingsFault>
     ensures { Means Memory result (must (has_option_keys (view value.now))) }
@@ -81,7 +81,7 @@ fn check_option(alloc: Global, value: &Value, at: &Place<'_>) -> Result<(), Sett
     check_keys(alloc, value, at, &keys, &keys)
 }
 
-// The code of an option that may be configured.
+// Returns the code of an option that may be configured.
 #[tactic(auto, unfolding(crate::specs::Options::code_given))]
 fn code_in(value: &Value) -> Option<u8>
     ensures { result ≡ code_given (view value.now) }
@@ -94,7 +94,7 @@ fn code_in(value: &Value) -> Option<u8>
     }
 }
 
-// An option of these has the code.
+// Reports whether one of these options has the code.
 fn has_code(code: u8, options: &[OptionData]) -> bool
     ensures { result ≡ code_among code options.now }
 {

@@ -21,7 +21,7 @@ use kd_expr::{Expr, ExprFault, Typed};
 use kd_token::{FileFault, Program, Verified, VerifyFault, verify};
 use std::alloc::Global;
 
-// The program of the test of the class with this number, if the class has a test.
+// Returns the program of the test of the class with this number, if the class has a test.
 pub(crate) fn test_of(
     alloc: Global,
     number: usize,
@@ -45,7 +45,7 @@ pub(crate) fn test_of(
     }
 }
 
-// The program of a class test's text.
+// Returns a program of the text of a class test.
 fn program_of(alloc: Global, number: usize, text: &[u8]) -> Result<Verified, ClassesFault>
     ensures found { IfOk result (λ program. IsTextTest text.now program) }
     ensures limits { IfOk result (λ program. HasFile program) }
@@ -60,7 +60,7 @@ fn program_of(alloc: Global, number: usize, text: &[u8]) -> Result<Verified, Cla
     }
 }
 
-// The fault of a text that is not read.
+// Returns the fault of a text that cannot be read.
 fn unread(number: usize, fault: ExprFault) -> ClassesFault
     ensures { result ≢ Memory → fault ≢ reading.Memory }
 {
@@ -70,7 +70,7 @@ fn unread(number: usize, fault: ExprFault) -> ClassesFault
     }
 }
 
-// The program of an expression.
+// Returns a program of an expression.
 fn program_of_expr(alloc: Global, number: usize, expr: Expr) -> Result<Verified, ClassesFault>
     ensures found { IfOk result (λ program. IsProgramOf (tree_of expr) program) }
     ensures limits { IfOk result (λ program. HasFile program) }
@@ -83,7 +83,7 @@ fn program_of_expr(alloc: Global, number: usize, expr: Expr) -> Result<Verified,
     }
 }
 
-// The program of a class test.
+// Returns a program of a class test.
 fn program_of_test(alloc: Global, number: usize, test: &Typed) -> Result<Verified, ClassesFault>
     requires { test_type (tree_of test.now) ≡ Ok tt }
     ensures found { IfOk result (λ program. IsProgramOf (tree_of test.now) program) }
@@ -93,7 +93,7 @@ fn program_of_test(alloc: Global, number: usize, test: &Typed) -> Result<Verifie
 {
     match compile(alloc, test) {
         Ok(program) => {
-            // that the program is within the limits of a file comes with it
+            // The contract of `tokens` states that the program is within the limits of a file.
             let _tokens = program.program().tokens();
             Ok(program)
         }
@@ -101,7 +101,7 @@ fn program_of_test(alloc: Global, number: usize, test: &Typed) -> Result<Verifie
     }
 }
 
-// The fault of a class test that is not compiled.
+// Returns the fault of a class test that cannot be compiled.
 fn uncompiled(number: usize, fault: CompileFault) -> ClassesFault
     ensures { result ≢ Memory → fault ≢ compiling.Memory }
 {
@@ -111,7 +111,7 @@ fn uncompiled(number: usize, fault: CompileFault) -> ClassesFault
     }
 }
 
-// The program of the first token file with a name.
+// Returns the program of the first token file with a name.
 fn program_named(
     alloc: Global,
     number: usize,
@@ -130,7 +130,7 @@ fn program_named(
     }
 }
 
-// The program of a token file's bytes, where it is accepted.
+// Returns the program of a token file's bytes, if it is accepted.
 fn program_in(alloc: Global, number: usize, bytes: &[u8]) -> Result<Verified, ClassesFault>
     ensures found { IfOk result (λ program. IsFileOf bytes.now program × Accepts program) }
     ensures same { IfOk result
@@ -145,7 +145,7 @@ fn program_in(alloc: Global, number: usize, bytes: &[u8]) -> Result<Verified, Cl
     }
 }
 
-// The fault of bytes that are no token file.
+// Returns the fault of bytes that are not a token file.
 fn no_file(number: usize, fault: FileFault) -> ClassesFault
     ensures { result ≢ Memory → fault ≢ file_faults.Memory }
 {
@@ -155,7 +155,7 @@ fn no_file(number: usize, fault: FileFault) -> ClassesFault
     }
 }
 
-// A program that is accepted.
+// Verifies a program; the result is the same program.
 fn verified(alloc: Global, number: usize, program: Program) -> Result<Verified, ClassesFault>
     ensures found { IfOk result (λ verified. verified ≡ program) }
     ensures accepted { IfOk result (λ _. Accepts program) }
@@ -163,7 +163,7 @@ fn verified(alloc: Global, number: usize, program: Program) -> Result<Verified, 
 {
     match verify(alloc, program) {
         Ok(verified) => {
-            // that the program is accepted comes with it
+            // The contract of `program` states that the program is accepted.
             let _program = verified.program();
             Ok(verified)
         }
@@ -171,7 +171,7 @@ fn verified(alloc: Global, number: usize, program: Program) -> Result<Verified, 
     }
 }
 
-// The fault of a program that is not accepted.
+// Returns the fault of a program that is not accepted.
 fn unaccepted(number: usize, fault: VerifyFault) -> ClassesFault
     ensures { result ≢ Memory → fault ≢ verifying.Memory }
 {

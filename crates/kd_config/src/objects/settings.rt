@@ -18,12 +18,12 @@ use kd_wire::Entries;
 use serde_json::Value;
 use std::alloc::Global;
 
-// The settings of a configuration as they are written.
+// The settings of a configuration as the text gives them.
 #[derive(Drop)]
 pub(crate) struct Settings {
     // The address of the server.
     pub(crate) server: u32,
-    // The times of leases and of offers.
+    // The lease and offer times.
     pub(crate) times: Times,
     // The options of all replies.
     pub(crate) options: OptionList,
@@ -33,7 +33,7 @@ pub(crate) struct Settings {
     pub(crate) subnets: Entries<Subnet>,
 }
 
-// The settings that a whole text's value means.
+// Reads the settings that the JSON value of a whole text describes.
 #[tactic(auto, unfolding(crate::specs::Settings::whole_settings))]
 pub(crate) fn root_of(alloc: Global, value: &Value) -> Result<Settings, SettingsFault>
     ensures { Means Memory result (whole_settings (view value.now)) }
@@ -46,7 +46,7 @@ pub(crate) fn root_of(alloc: Global, value: &Value) -> Result<Settings, Settings
     }
 }
 
-// The settings that the value of `Dhcp4` means.
+// Reads the settings that the value of `Dhcp4` describes.
 #[tactic(auto, unfolding(crate::specs::Settings::dhcp4_settings))]
 fn settings_of(alloc: Global, value: &Value, at: &Place<'_>) -> Result<Settings, SettingsFault>
     ensures { Means Memory result (dhcp4_settings (view value.now)) }
@@ -59,7 +59,7 @@ fn settings_of(alloc: Global, value: &Value, at: &Place<'_>) -> Result<Settings,
     settings_of_lists(alloc, value, at, server, times)
 }
 
-// The settings of a server and times with the lists that the value of `Dhcp4` means.
+// Builds the settings of a server and times with the lists in the value of `Dhcp4`.
 #[tactic(auto, unfolding(crate::specs::Settings::settings_with))]
 fn settings_of_lists(
     alloc: Global,
@@ -82,7 +82,7 @@ fn settings_of_lists(
     })
 }
 
-// The value is an object with `Dhcp4` and no other key.
+// Checks that the value is an object with the key `Dhcp4` and no other.
 #[tactic(auto, unfolding(crate::specs::Settings::has_root_keys))]
 fn check_root(alloc: Global, value: &Value, at: &Place<'_>) -> Result<(), SettingsFault>
     ensures { Means Memory result (must (has_root_keys (view value.now))) }
@@ -90,7 +90,7 @@ fn check_root(alloc: Global, value: &Value, at: &Place<'_>) -> Result<(), Settin
     check_keys(alloc, value, at, &["Dhcp4"], &["Dhcp4"])
 }
 
-// The value is an object with the keys of `Dhcp4`.
+// Checks that the value is an object with the keys of `Dhcp4`.
 #[tactic(auto, unfolding(crate::specs::Settings::has_dhcp4_keys))]
 fn check_dhcp4(alloc: Global, value: &Value, at: &Place<'_>) -> Result<(), SettingsFault>
     ensures { Means Memory result (must (has_dhcp4_keys (view value.now))) }
@@ -109,7 +109,7 @@ fn check_dhcp4(alloc: Global, value: &Value, at: &Place<'_>) -> Result<(), Setti
     check_keys(alloc, value, at, &known, &["server-address"])
 }
 
-// The address of the server, which is not 0.0.0.0.
+// Returns the address of the server, which must not be 0.0.0.0.
 #[tactic(auto, unfolding(crate::specs::Settings::server_given))]
 fn server_in(value: &Value) -> Option<u32>
     ensures { result ≡ server_given (view value.now) }

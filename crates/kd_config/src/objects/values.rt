@@ -16,7 +16,7 @@ use kd_wire::Bytes;
 use serde_json::{Map, Value};
 use std::alloc::{AllocError, Global};
 
-// The value is an object with the known keys alone, and with the required ones.
+// Checks that the value is an object with all of the required keys and only known ones.
 #[tactic(auto, unfolding(crate::specs::Values::has_keys))]
 pub(crate) fn check_keys(
     alloc: Global,
@@ -41,7 +41,7 @@ pub(crate) fn check_keys(
     }
 }
 
-// The least key that is not known.
+// Returns the least key that is not known, if there is one.
 fn unknown_key<'a>(members: &'a Map<String, Value>, known: &[&str]) -> Option<&'a String>
     ensures { option_map (λ k. k.now) result
         ≡ find (λ k. not (is_one_of known.now (string_bytes k)))
@@ -50,14 +50,14 @@ fn unknown_key<'a>(members: &'a Map<String, Value>, known: &[&str]) -> Option<&'
     members.keys().find(|key| !is_key(key.as_str(), known))
 }
 
-// A key is one of these.
+// Reports whether a key is one of these.
 fn is_key(key: &str, known: &[&str]) -> bool
     ensures { result ≡ is_one_of known.now key.now }
 {
     known.iter().any(|other| key == *other)
 }
 
-// The first of the required keys that is missing.
+// Returns the first of the required keys that is missing, if there is one.
 fn missing_key<'a>(value: &Value, required: &[&'a str]) -> Option<&'a str>
     ensures { result ≡ find (λ k. not (is_there (view value.now) k)) required.now }
 {
@@ -69,7 +69,7 @@ fn missing_key<'a>(value: &Value, required: &[&'a str]) -> Option<&'a str>
     None
 }
 
-// A whole number in a range.
+// Returns a whole number in the range from `least` to `most`.
 #[tactic(auto, unfolding(crate::specs::Values::number_within))]
 pub(crate) fn number_in(value: &Value, least: u32, most: u32) -> Option<u32>
     ensures spelled { result ≡ number_within least most (view value.now) }
@@ -83,7 +83,7 @@ pub(crate) fn number_in(value: &Value, least: u32, most: u32) -> Option<u32>
     }
 }
 
-// An address.
+// Returns an IPv4 address.
 #[tactic(auto, unfolding(crate::specs::Values::address_given))]
 pub(crate) fn address_in(value: &Value) -> Option<u32>
     ensures { result ≡ address_given (view value.now) }
@@ -91,7 +91,7 @@ pub(crate) fn address_in(value: &Value) -> Option<u32>
     address_of(value.as_str()?.as_bytes())
 }
 
-// The bytes of a hexadecimal text.
+// Returns the bytes of a hexadecimal text, from `least` to `most` of them.
 #[tactic(auto, unfolding(crate::specs::Values::hex_bytes_in))]
 pub(crate) fn bytes_at(
     alloc: Global,
@@ -116,7 +116,7 @@ pub(crate) fn bytes_at(
     }
 }
 
-// The bytes of a hexadecimal text at a key, if the key is there.
+// Returns the bytes of a hexadecimal text at a key, 1 to `most` of them, if the key is present.
 pub(crate) fn bytes_or_none(
     alloc: Global,
     object: &Value,
@@ -132,7 +132,7 @@ pub(crate) fn bytes_or_none(
     }
 }
 
-// The text of a value at a key, if the key is there.
+// Returns the text of the value at a key, if the key is present.
 pub(crate) fn text_or_none(
     alloc: Global,
     object: &Value,
@@ -150,14 +150,14 @@ pub(crate) fn text_or_none(
     }
 }
 
-// A copy of bytes.
+// Copies bytes.
 pub(crate) fn owned(alloc: Global, bytes: &[u8]) -> Result<Bytes, AllocError>
     ensures { IfOk result (λ copy. copy ≡ bytes.now) }
 {
     Ok(Bytes::own(Vec::from_slice(alloc, bytes)?))
 }
 
-// A whole number at a key in a range, or a default where the key is not there.
+// Returns a whole number in a range at a key, or a default if the key is absent.
 pub(crate) fn number_or(
     alloc: Global,
     object: &Value,

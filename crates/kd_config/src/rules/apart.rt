@@ -5,7 +5,7 @@ ghost use Rattle.kd_config.specs.Apart.{lie_apart, share_one};
 use crate::range::Range;
 use std::alloc::{AllocError, Global};
 
-// No two ranges share an address.
+// Reports whether no two ranges share an address.
 pub(crate) fn are_apart(alloc: Global, ranges: &[Range]) -> Result<bool, AllocError>
     ensures { IfOk result (λ apart. apart ≡ lie_apart ranges.now) }
 {
@@ -23,7 +23,7 @@ fn sort(ranges: &mut Vec<Range>) -> Result<(), AllocError>
     Ok(())
 }
 
-// No range of a sorted list shares an address with the next.
+// Reports whether no range of a sorted list shares an address with the next.
 fn are_steps_apart(ranges: &[Range]) -> bool
     requires { IsNonDecreasingBy (λ range. range.first) ranges.now }
     ensures { result ≡ lie_apart ranges.now }
@@ -36,7 +36,7 @@ fn are_steps_apart(ranges: &[Range]) -> bool
     true
 }
 
-// Two ranges share an address: one of them has the first of the other.
+// Reports whether two ranges share an address: one contains the first address of the other.
 fn shares(a: Range, b: Range) -> bool
     ensures { result ≡ share_one a b }
 {

@@ -1,4 +1,4 @@
-//! What must hold over the whole of a configuration, and where a value stands that breaks a rule.
+//! The rules over the whole of a configuration, and the place of a value that breaks one.
 
 mod apart;
 pub(crate) mod place;

@@ -8,7 +8,7 @@ use crate::fault::ConfigFault;
 use crate::objects::faults::SettingsFault;
 use std::alloc::{AllocError, Global};
 
-// Where a value stands in a configuration.
+// The place of a value in a configuration.
 #[derive(Clone, Copy)]
 pub(crate) enum Place<'a> {
     Root,
@@ -16,7 +16,7 @@ pub(crate) enum Place<'a> {
     Item(&'a Place<'a>, usize),
 }
 
-// The fault of a key that is missing in the object at a place.
+// Returns the fault of a key that is missing in the object at a place.
 pub(crate) fn missing(alloc: Global, at: &Place<'_>, key: &str) -> SettingsFault {
     match path_of_key(alloc, at, key) {
         Ok(path) => SettingsFault::Missing(path),
@@ -24,7 +24,7 @@ pub(crate) fn missing(alloc: Global, at: &Place<'_>, key: &str) -> SettingsFault
     }
 }
 
-// The fault of a key that is not known in the object at a place.
+// Returns the fault of an unknown key in the object at a place.
 pub(crate) fn unknown(alloc: Global, at: &Place<'_>, key: &str) -> SettingsFault {
     match path_of_unknown(alloc, at, key) {
         Ok(path) => SettingsFault::Unknown(path),
@@ -32,7 +32,7 @@ pub(crate) fn unknown(alloc: Global, at: &Place<'_>, key: &str) -> SettingsFault
     }
 }
 
-// The fault of a bad value at a key of the object at a place.
+// Returns the fault of a bad value at a key of the object at a place.
 pub(crate) fn bad_value(alloc: Global, at: &Place<'_>, key: &str) -> SettingsFault {
     match path_of_key(alloc, at, key) {
         Ok(path) => SettingsFault::BadValue(path),
@@ -40,7 +40,7 @@ pub(crate) fn bad_value(alloc: Global, at: &Place<'_>, key: &str) -> SettingsFau
     }
 }
 
-// The fault of a bad value at a place.
+// Returns the fault of a bad value at a place.
 pub(crate) fn bad_place(alloc: Global, at: &Place<'_>) -> SettingsFault {
     match path_of(alloc, at) {
         Ok(path) => SettingsFault::BadValue(path),
@@ -48,7 +48,7 @@ pub(crate) fn bad_place(alloc: Global, at: &Place<'_>) -> SettingsFault {
     }
 }
 
-// The fault of an address outside its subnet's prefix.
+// Returns the fault of an address outside its subnet's prefix.
 pub(crate) fn outside(alloc: Global, at: &Place<'_>, key: &str) -> ConfigFault
     ensures kind { result ≢ Memory → config_fault_number result ≡ 74 }
     ensures path { result ≢ Memory
@@ -60,7 +60,7 @@ pub(crate) fn outside(alloc: Global, at: &Place<'_>, key: &str) -> ConfigFault
     }
 }
 
-// The fault of a pool that shares an address with an earlier one.
+// Returns the fault of a pool that shares an address with an earlier one.
 pub(crate) fn overlap(alloc: Global, at: &Place<'_>, key: &str) -> ConfigFault
     ensures kind { result ≢ Memory → config_fault_number result ≡ 75 }
     ensures path { result ≢ Memory
@@ -72,7 +72,7 @@ pub(crate) fn overlap(alloc: Global, at: &Place<'_>, key: &str) -> ConfigFault
     }
 }
 
-// The fault of a reservation that repeats an earlier one.
+// Returns the fault of a reservation that repeats an earlier one.
 pub(crate) fn repeated(alloc: Global, at: &Place<'_>, key: &str) -> ConfigFault
     ensures kind { result ≢ Memory → config_fault_number result ≡ 76 }
     ensures path { result ≢ Memory
@@ -84,7 +84,7 @@ pub(crate) fn repeated(alloc: Global, at: &Place<'_>, key: &str) -> ConfigFault
     }
 }
 
-// The path of a key of the object at a place.
+// Returns the path of a key of the object at a place.
 fn path_of_key(alloc: Global, at: &Place<'_>, key: &str) -> Result<String, AllocError>
     ensures { IfOk result (λ path. string_bytes path ≡ path_below (path_at at.now) key.now) }
 {
@@ -95,7 +95,7 @@ fn path_of_key(alloc: Global, at: &Place<'_>, key: &str) -> Result<String, Alloc
     Ok(path)
 }
 
-// The path of a key that the text gives, on one line.
+// Returns the path of a key that the text gives, on one line.
 fn path_of_unknown(alloc: Global, at: &Place<'_>, key: &str) -> Result<String, AllocError> {
     let mut path = String::new(alloc);
     push_path(alloc, &mut path, at)?;
@@ -106,7 +106,7 @@ fn path_of_unknown(alloc: Global, at: &Place<'_>, key: &str) -> Result<String, A
     Ok(path)
 }
 
-// Writes a character after a text, and a control character as its number.
+// Appends a character to a text; a control character is written as its number.
 fn push_on_one_line(alloc: Global, text: &mut String, c: char) -> Result<(), AllocError> {
     if c.is_ascii_control() {
         let number = format!(in alloc; "\\x{:02x}", u32::from(c))?;
@@ -116,7 +116,7 @@ fn push_on_one_line(alloc: Global, text: &mut String, c: char) -> Result<(), All
     }
 }
 
-// The path of a place: of the root `-`, as of all that is empty.
+// Returns the path of a place; that of the root is `-`.
 fn path_of(alloc: Global, at: &Place<'_>) -> Result<String, AllocError> {
     if let Place::Root = at {
         return String::from_str(alloc, "-");
@@ -126,7 +126,7 @@ fn path_of(alloc: Global, at: &Place<'_>) -> Result<String, AllocError> {
     Ok(path)
 }
 
-// Writes the path of a place after a text.
+// Appends the path of a place to a text.
 fn push_path(alloc: Global, path: &mut String, at: &Place<'_>) -> Result<(), AllocError>
     ensures { OnOk result (string_bytes path.new ≡ string_bytes path.old ++ path_at at.now) }
 {

@@ -17,8 +17,8 @@ use crate::rules::place::{Place, outside, overlap};
 use crate::subnet::Subnet;
 use std::alloc::{AllocError, Global};
 
-// How many ranges stand before the first that shares an address with one of them: all, where none
-// does.
+// Returns the number of ranges before the first that shares an address with an earlier one: all of
+// them if none does.
 #[tactic(auto, using(crate::proofs::Shared::some_ranges))]
 pub(crate) fn first_overlap(alloc: Global, ranges: &[Range]) -> Result<usize, AllocError>
     ensures all { IfOk result (λ number. nat_le (length ranges.now) number ≡ lie_apart ranges.now) }
@@ -42,7 +42,7 @@ pub(crate) fn first_overlap(alloc: Global, ranges: &[Range]) -> Result<usize, Al
     Ok(apart)
 }
 
-// The addresses of all pools, in order.
+// Collects the addresses of all pools, in order.
 pub(crate) fn all_ranges(alloc: Global, subnets: &[Subnet]) -> Result<Vec<Range>, AllocError>
     ensures { IfOk result (λ ranges. ranges.items ≡ pool_ranges subnets.now) }
 {
@@ -53,7 +53,7 @@ pub(crate) fn all_ranges(alloc: Global, subnets: &[Subnet]) -> Result<Vec<Range>
     Ok(ranges)
 }
 
-// Puts the addresses of pools after others.
+// Appends the addresses of pools to others.
 fn push_ranges(ranges: &mut Vec<Range>, pools: &[Pool]) -> Result<(), AllocError>
     ensures { OnOk result (ranges.new.items ≡ ranges.old.items ++ ranges_in pools.now) }
 {
@@ -63,7 +63,7 @@ fn push_ranges(ranges: &mut Vec<Range>, pools: &[Pool]) -> Result<(), AllocError
     Ok(())
 }
 
-// Pools lie in their subnet's prefix, and there are at most so many.
+// Checks that pools are within their subnet's prefix, and that there are at most `apart` of them.
 pub(crate) fn check_pools(
     alloc: Global,
     prefix: Prefix,
@@ -81,7 +81,7 @@ pub(crate) fn check_pools(
     Ok(())
 }
 
-// A pool lies in its subnet's prefix, and shares no address with an earlier one.
+// Checks that a pool is within its subnet's prefix and shares no address with an earlier one.
 fn check_pool(
     alloc: Global,
     prefix: Prefix,
@@ -104,7 +104,7 @@ fn check_pool(
     }
 }
 
-// A pool lies in a prefix.
+// Reports whether a pool is within a prefix.
 fn is_within(prefix: Prefix, pool: &Pool) -> bool
     ensures { result ≡ lies_within prefix pool.now }
 {

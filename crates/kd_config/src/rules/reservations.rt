@@ -16,7 +16,8 @@ use crate::rules::place::{Place, outside, repeated};
 use indexmap::IndexSet;
 use std::alloc::Global;
 
-// Reservations have addresses of their subnet's prefix that no earlier one has.
+// Checks that reservations have addresses in their subnet's prefix and that no address, and no
+// client of the subnet, is reserved twice; adds the addresses to the earlier ones.
 pub(crate) fn check_reservations(
     alloc: Global,
     prefix: Prefix,
@@ -47,7 +48,8 @@ pub(crate) fn check_reservations(
     Ok(())
 }
 
-// A reservation has an address and a client that no earlier one has; they join these.
+// Checks that no earlier reservation has the address or the client of this one, and adds them to
+// the earlier ones.
 #[tactic(auto, using(crate::proofs::FirstFaults::is_inside))]
 fn check_reservation<'a>(
     alloc: Global,
@@ -74,7 +76,8 @@ fn check_reservation<'a>(
     check_client(alloc, &reservation.identity, at, clients)
 }
 
-// A reservation has an address of the prefix that no earlier one has; the address joins them.
+// Checks that a reservation has an address of the prefix that no earlier one has, and adds it to
+// the earlier ones.
 fn check_address(
     alloc: Global,
     prefix: Prefix,
@@ -101,7 +104,7 @@ fn check_address(
     }
 }
 
-// A client is none of the earlier ones; it joins them.
+// Checks that no earlier reservation is for the client, and adds the client to the earlier ones.
 fn check_client<'a>(
     alloc: Global,
     identity: &'a Identity,
@@ -126,7 +129,7 @@ fn check_client<'a>(
     }
 }
 
-// The bytes of a client, and whether they are a hardware address.
+// Returns the bytes of a client, and whether they are a hardware address.
 fn key_of(identity: &Identity) -> (bool, &[u8])
     ensures { client_by result ≡ identity.now }
 {

@@ -15,7 +15,7 @@ use crate::subnet::Subnet;
 use indexmap::IndexSet;
 use std::alloc::Global;
 
-// The subnets may stand together.
+// Checks that the subnets obey the rules together.
 #[tactic(auto, unfolding(crate::specs::Rules::may_stand))]
 pub(crate) fn check_rules(
     alloc: Global,
@@ -31,7 +31,7 @@ pub(crate) fn check_rules(
     check_each(alloc, subnets, apart, at)
 }
 
-// The subnets obey the rules, one after another, and have no pool after so many.
+// Checks that the subnets obey the rules in order, and have at most `apart` pools.
 fn check_each(
     alloc: Global,
     subnets: &[Subnet],
@@ -51,8 +51,8 @@ fn check_each(
     Ok(())
 }
 
-// A subnet obeys its rules and has at most so many pools, of which the rest is left; its addresses
-// join those that are reserved.
+// Checks that a subnet obeys its rules and has at most `apart` pools. Returns how many pools may
+// still follow; the reserved addresses of the subnet are added to the earlier ones.
 #[tactic(auto, unfolding(crate::specs::Rules::obeys))]
 fn check_subnet(
     alloc: Global,

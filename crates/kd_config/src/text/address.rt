@@ -3,7 +3,7 @@ ghost use Rattle.kd_config.specs.Address.{address_spelled, parts_at, after_space
 
 use kd_expr::read_address;
 
-// The address that a text spells.
+// Reads an IPv4 address from its text.
 #[tactic(auto, unfolding(crate::specs::Address::address_spelled))]
 pub(crate) fn address_of(text: &[u8]) -> Option<u32>
     ensures { result ≡ address_spelled text.now }
@@ -14,7 +14,7 @@ pub(crate) fn address_of(text: &[u8]) -> Option<u32>
     }
 }
 
-// What stands before and after the first of this byte.
+// Splits a text at the first occurrence of a byte, if there is one.
 pub(crate) fn cut_at(byte: u8, text: &[u8]) -> Option<(&[u8], &[u8])>
     ensures { option_map (λ x. (x.0.now, x.1.now)) result ≡ parts_at byte text.now }
 {
@@ -26,7 +26,7 @@ pub(crate) fn cut_at(byte: u8, text: &[u8]) -> Option<(&[u8], &[u8])>
     None
 }
 
-// A text without the spaces at its front.
+// Strips leading spaces.
 pub(crate) fn without_first_spaces(text: &[u8]) -> &[u8]
     ensures { result.now ≡ after_spaces text.now }
 {
@@ -37,7 +37,7 @@ pub(crate) fn without_first_spaces(text: &[u8]) -> &[u8]
     left
 }
 
-// A text without the spaces at its end.
+// Strips trailing spaces.
 pub(crate) fn without_last_spaces(text: &[u8]) -> &[u8]
     ensures { result.now ≡ before_spaces text.now }
 {

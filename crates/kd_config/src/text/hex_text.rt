@@ -6,7 +6,7 @@ use hex::FromHexError;
 use kd_wire::Bytes;
 use std::alloc::{AllocError, Global};
 
-// The bytes that a hexadecimal text spells.
+// Returns the bytes of a hexadecimal text, or none if it is not one.
 #[tactic(auto, unfolding(crate::specs::HexText::bytes_spelled))]
 pub(crate) fn bytes_of(alloc: Global, text: &[u8]) -> Result<Option<Bytes>, AllocError>
     ensures { IfOk result (λ bytes. bytes ≡ bytes_spelled text.now) }
@@ -23,7 +23,7 @@ pub(crate) fn bytes_of(alloc: Global, text: &[u8]) -> Result<Option<Bytes>, Allo
     }
 }
 
-// A text without its spaces and colons.
+// Removes spaces and colons from a text.
 fn counted(alloc: Global, text: &[u8]) -> Result<Vec<u8>, AllocError>
     ensures { IfOk result (λ digits. digits.items ≡ filter counts text.now) }
 {
@@ -36,7 +36,7 @@ fn counted(alloc: Global, text: &[u8]) -> Result<Vec<u8>, AllocError>
     Ok(digits)
 }
 
-// Digits without a prefix 0x.
+// Strips a prefix `0x` or `0X` from digits.
 fn without_prefix(text: &[u8]) -> &[u8]
     ensures { result.now ≡ digits_after_prefix text.now }
 {
