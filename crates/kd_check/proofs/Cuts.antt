@@ -1,4 +1,4 @@
--- A text that is no UTF-8, and where a text is cut.
+-- A text that is not UTF-8, and where a text is cut.
 use Rattle.std.proofs.Common.{◌≡◌, ℕ, zero, suc, ◌<◌, ◌≤◌, ◌⊎◌, inl, inr, Bool, true, false, cond, List, length, refl, sym, ap, subst, ◌∙◌, arith}
 use Rattle.std.proofs.Math.Logic.{⊎_elim}
 use Rattle.std.proofs.lemmas.Bool.{cases_order, lt-ltb, le-ltb, le-leb, lt-leb}
@@ -7,20 +7,20 @@ use Rattle.std.specs.Fmt.{is_char_start}
 use Rattle.std.specs.Fmt.Cut.{floor_char_boundary}
 use Rattle.std.specs.Str.{is_utf8, IsUtf8, IsCharBoundary}
 
--- a text that is no UTF-8 fails the test
+-- a text that is not UTF-8 fails the test
 pub not_utf8 : (text : List ℕ) → (IsUtf8 text → ⊥) → is_utf8 text ≡ false
 not_utf8 text none = by (is_utf8 text) (IsUtf8-from_is_utf8 text) where
   by : (b : Bool) → (b ≡ true → IsUtf8 text) → b ≡ false
   by true holds = absurd (none (holds refl))
   by false holds = refl
 
--- of two numbers one is below the other, or not
+-- a number is below another, or not
 below_or : (a b : ℕ) → (a < b) ⊎ (b ≤ a)
 below_or a b = ⊎_elim (λ (e : a ≡ b). inr (omega arith))
     (λ (h : (a < b) ⊎ (b < a)). ⊎_elim (λ (l : a < b). inl l) (λ (g : b < a). inr (omega arith)) h)
     (cases_order a b)
 
--- what holds of a byte at a boundary decides whether a character begins there
+-- a byte begins a character if and only if it is below 128 or at least 192
 starts : (b : ℕ) → (128 ≤ b → 192 ≤ b) → is_char_start b ≡ true
 starts b h = ⊎_elim (λ low. rw (lt-ltb b 128 low) refl)
     (λ high. rw (le-ltb b 128 high, le-leb 192 b (h high)) refl) (below_or b 128)

@@ -15,7 +15,7 @@ use Rattle.kd_token.specs.declared.fault.FileFault.TheVariants as file
 use Rattle.kd_token.specs.declared.fault.VerifyFault.{VerifyFault}
 use Rattle.kd_token.specs.declared.fault.VerifyFault.TheVariants as verifying
 
--- why a text is no expression
+-- why a text is not an expression
 abbrev pub reading_words : ExprFault → List ℕ
 reading_words (reading.BadToken place) = codes "this is no word, number, string or sign of a test"
 reading_words (reading.Expected place) = codes "something else is expected here"
@@ -25,13 +25,13 @@ reading_words reading.TooLong = codes "the test has more than 4096 bytes"
 reading_words (reading.UnknownName place) = codes "no option has this name"
 reading_words reading.Memory = codes "out of memory"
 
--- why an expression is no class test
+-- why an expression is not a class test
 abbrev pub typing_words : TypeFault → List ℕ
 typing_words (typing.WantsBool place) = codes "a condition, true or false, is expected here"
 typing_words (typing.WantsBytes place) = codes "a string is expected here"
 typing_words (typing.WantsInt place) = codes "a number is expected here"
 
--- why a class test is not compiled
+-- why a class test cannot be compiled
 abbrev pub compiling_words : CompileFault → List ℕ
 compiling_words compiling.TooManyTokens = codes "the test compiles to more than 1024 tokens"
 compiling_words compiling.TooDeep = codes "the test needs more than 64 values at once"
@@ -45,7 +45,7 @@ test_words (tests.Reading why) = reading_words why
 test_words (tests.Typing why) = typing_words why
 test_words (tests.Compiling why) = compiling_words why
 
--- the place in the text of a test, if there is one
+-- the place in a text that is not an expression, if the fault names one
 abbrev pub reading_place : ExprFault → Option ℕ
 reading_place (reading.BadToken place) = Some place
 reading_place (reading.Expected place) = Some place
@@ -67,7 +67,7 @@ test_place (tests.Reading why) = reading_place why
 test_place (tests.Typing why) = Some (typing_place why)
 test_place (tests.Compiling why) = None
 
--- why bytes are no token file
+-- why bytes are not a token file
 abbrev pub file_words : FileFault → List ℕ
 file_words file.Magic = codes "it does not begin with K4TK"
 file_words file.Version = codes "its version is neither 1 nor 2"

@@ -13,7 +13,7 @@ use kd_config::{FileTestFault, TestFault};
 use serde_json::Value;
 use std::alloc::{AllocError, Global};
 
-// The lines of the test of the class with a number: why it has no program, and where.
+// Reports why the test of the class with this number has no program, and where.
 pub(crate) fn test_report_in(
     alloc: Global,
     name: &str,
@@ -32,7 +32,7 @@ pub(crate) fn test_report_in(
     Ok(report)
 }
 
-// The line of the token file of the class with a number.
+// Reports what is wrong with the token file of the class with this number.
 pub(crate) fn tokens_line_in(
     alloc: Global,
     name: &str,
@@ -51,7 +51,7 @@ pub(crate) fn tokens_line_in(
     line_about(alloc, name, &title, &words)
 }
 
-// The line of a class that may not stand where it does.
+// Reports that a class is refused, and why.
 pub(crate) fn class_line_in(
     alloc: Global,
     name: &str,
@@ -77,7 +77,7 @@ pub(crate) fn class_line_in(
     }
 }
 
-// The line of what is wrong with the class with a number.
+// Returns the line about the class with this number.
 fn titled_line(
     alloc: Global,
     name: &str,
@@ -93,7 +93,7 @@ fn titled_line(
     line_about(alloc, name, &title, words)
 }
 
-// What the class with a number is called.
+// Returns how the class with this number is called in a report.
 fn title_of_class(alloc: Global, whole: Option<&Value>, number: usize) -> Result<String, AllocError>
     ensures { IfOk result (λ title. string_bytes title
         ≡ class_title (option_map (λ v. view v.now) whole.entry) number) }
@@ -107,7 +107,7 @@ fn title_of_class(alloc: Global, whole: Option<&Value>, number: usize) -> Result
     }
 }
 
-// What the token file of the class with a number is called.
+// Returns how the token file of the class with this number is called in a report.
 fn title_of_file(alloc: Global, whole: Option<&Value>, number: usize) -> Result<String, AllocError>
     ensures { IfOk result (λ title. string_bytes title
         ≡ file_title (class_text (option_map (λ v. view v.now) whole.entry) number (codes "tokens"))) }

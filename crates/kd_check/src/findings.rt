@@ -1,27 +1,27 @@
-//! What a step of a start met, in words that an operator can act on.
+//! The troubles that a step of starting the server can meet, in words that an operator can act on.
 
 ghost use Rattle.std.specs.Prelude.{◌≡◌};
 ghost use Rattle.kd_check.specs.Findings.{file_trouble_words, store_trouble_words, socket_trouble_words};
 
 use std::fmt;
 
-/// Why a file is not read.
+/// Why a file cannot be read.
 #[derive(Clone, Copy, Debug, PartialEq, Eq)]
 pub enum FileTrouble {
     /// No file has the path.
     Absent,
-    /// The account has no right to read the file or to enter a folder of its path.
+    /// The account is not allowed to read the file or to enter a directory of its path.
     Denied,
-    /// The path is that of a folder.
+    /// The path is that of a directory.
     IsFolder,
-    /// The file has more than 16 MiB.
+    /// The file is larger than 16 MiB.
     TooLarge,
     /// Another cause.
     Other,
 }
 
 impl FileTrouble {
-    /// The trouble in words, in ASCII.
+    /// Returns the trouble in words, in ASCII.
     pub fn words(self) -> &'static str
         ensures { result.now ≡ file_trouble_words self }
     {
@@ -47,25 +47,25 @@ impl fmt::Display for FileTrouble {
     }
 }
 
-/// Why a database is not opened.
+/// Why a database cannot be opened.
 #[derive(Clone, Copy, Debug, PartialEq, Eq)]
 pub enum StoreTrouble {
     /// Another process has it open.
     Locked,
     /// It has a table `lease` with other columns.
     Schema,
-    /// Its files are no database, or a damaged one.
+    /// Its files are not a database, or are damaged.
     Damaged,
-    /// The account has no right to read and write its files or to make them.
+    /// The account is not allowed to read, write or create its files.
     Denied,
-    /// The folder that it would be in does not exist.
+    /// The directory that would contain it does not exist.
     NoFolder,
     /// Another cause.
     Other,
 }
 
 impl StoreTrouble {
-    /// The trouble in words, in ASCII.
+    /// Returns the trouble in words, in ASCII.
     pub fn words(self) -> &'static str
         ensures { result.now ≡ store_trouble_words self }
     {
@@ -92,21 +92,21 @@ impl fmt::Display for StoreTrouble {
     }
 }
 
-/// Why a socket is not opened.
+/// Why a socket cannot be opened.
 #[derive(Clone, Copy, Debug, PartialEq, Eq)]
 pub enum SocketTrouble {
-    /// Another process has the port at this address.
+    /// Another process uses the port at this address.
     Taken,
-    /// The account has no right to the port.
+    /// The account is not allowed to use the port.
     Denied,
-    /// No interface of the machine has the address.
+    /// No interface of the machine has this address.
     NoSuchAddress,
     /// Another cause.
     Other,
 }
 
 impl SocketTrouble {
-    /// The trouble in words, in ASCII.
+    /// Returns the trouble in words, in ASCII.
     pub fn words(self) -> &'static str
         ensures { result.now ≡ socket_trouble_words self }
     {

@@ -1,9 +1,9 @@
-//! What is wrong with a configuration or with another step of a start, in words.
+//! Reports in words what is wrong with a configuration or with another step of starting the server.
 //!
-//! What this layer promises to the one above: the report of a text and of the fault that was found
-//! in it is that of `specs/Report.antt`, byte for byte, but for two parts that the JSON reader
-//! chooses: the place where a text stops being JSON, and the digits of a number that is no integer.
-//! The words for the faults are in `specs/Words.antt`, which value of the configuration they are
+//! What this layer promises to the one above: the report of a text and of the fault found in it is
+//! that of `specs/Report.antt`, byte for byte, except for two parts that the JSON reader chooses:
+//! the place where a text stops being JSON, and the digits of a number that is not an integer. The
+//! words for the faults are in `specs/Words.antt`, the value of the configuration that a fault is
 //! about in `specs/Lookup.antt`, the mark under a place in `specs/Mark.antt`, and the words for the
 //! other steps of a start in `specs/Findings.antt`.
 #![tactic(auto)]

@@ -3,7 +3,7 @@ ghost use Rattle.kd_check.specs.Report.{bare_line, said_line, said_of};
 
 use std::alloc::{AllocError, Global};
 
-// What is said of a subject, without a line feed.
+// Returns a statement about a subject, without a line feed.
 pub(crate) fn line_start(
     alloc: Global,
     name: &str,
@@ -20,7 +20,7 @@ pub(crate) fn line_start(
     Ok(line)
 }
 
-// The line of what is said of a subject.
+// Returns a statement about a subject, as a line.
 pub(crate) fn line_about(
     alloc: Global,
     name: &str,
@@ -34,7 +34,7 @@ pub(crate) fn line_about(
     Ok(line)
 }
 
-// The line of what is said of the configuration as a whole.
+// Returns a statement about the configuration as a whole, as a line.
 pub(crate) fn line_of_all(alloc: Global, name: &str, words: &str) -> Result<String, AllocError>
     ensures { IfOk result (λ line. string_bytes line ≡ bare_line name.now words.now) }
 {

@@ -6,7 +6,7 @@ ghost use Rattle.serde_json.specs.View.{view};
 use serde_json::Value;
 use std::alloc::{AllocError, Global};
 
-// The value that a text spells, if it is JSON in UTF-8.
+// Parses the value of a text, if it is JSON in UTF-8.
 #[tactic(auto, using(kd_config::proofs::Documents::spelled, kd_config::proofs::Documents::not_spelled))]
 pub(crate) fn spelled_value(alloc: Global, text: &[u8]) -> Result<Option<Value>, AllocError>
     ensures { IfOk result (λ value. option_map view value ≡ value_spelled text.now) }
@@ -18,7 +18,7 @@ pub(crate) fn spelled_value(alloc: Global, text: &[u8]) -> Result<Option<Value>,
     }
 }
 
-// The value at a path.
+// Returns the value at a path, if there is one.
 pub(crate) fn value_at_path<'a>(whole: Option<&'a Value>, path: &str) -> Option<&'a Value>
     ensures { option_map (λ v. view v.now) result
         ≡ value_under (option_map (λ v. view v.now) whole.entry) path.now }
@@ -29,7 +29,7 @@ pub(crate) fn value_at_path<'a>(whole: Option<&'a Value>, path: &str) -> Option<
     whole?.pointer(path)
 }
 
-// The value at a key of the class with a number.
+// Returns the value at a key of the class with this number, if there is one.
 pub(crate) fn class_member<'a>(
     whole: Option<&'a Value>,
     number: usize,
@@ -43,7 +43,7 @@ pub(crate) fn class_member<'a>(
     classes.get(number)?.get(key)
 }
 
-// The text of the test of the class with a number.
+// Returns the text of the test of the class with this number, if there is one.
 pub(crate) fn test_text(whole: Option<&Value>, number: usize) -> Option<&[u8]>
     ensures { option_map (λ s. s.now) result
         ≡ class_text (option_map (λ v. view v.now) whole.entry) number (codes "test") }

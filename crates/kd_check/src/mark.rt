@@ -6,7 +6,7 @@ use std::alloc::AllocError;
 // The most bytes of a text that are shown.
 const SHOWN: usize = 200;
 
-// The two lines of a text and a place in it, where there are both.
+// Appends the two lines that show a place in a text, if there are both.
 pub(crate) fn put_place(
     out: &mut String,
     text: Option<&[u8]>,
@@ -21,14 +21,14 @@ pub(crate) fn put_place(
     }
 }
 
-// The line with a number of a text, counted from 1, without its line feed.
+// Returns the line of a text with this number, counted from 1, without its line feed.
 pub(crate) fn line_at(text: &[u8], row: usize) -> Option<&[u8]>
     ensures { option_map (λ line. line.now) result ≡ line_numbered text.now row }
 {
     text.split(|byte| *byte == b'\n').nth(row.saturating_sub(1))
 }
 
-// The line of a text around a place, and the line of a mark under the place.
+// Appends the line of a text around a place, and a line with a mark under the place.
 fn put_marked(out: &mut String, text: &[u8], place: usize) -> Result<(), AllocError>
     ensures { OnOk result (string_bytes out.new
         ≡ string_bytes out.old ++ marked_lines text.now place) }
@@ -38,7 +38,7 @@ fn put_marked(out: &mut String, text: &[u8], place: usize) -> Result<(), AllocEr
     put_mark(out, text, place)
 }
 
-// The line of a text around a place.
+// Appends the line of a text around a place.
 #[tactic(auto, unfolding(crate::specs::Mark::part_line))]
 fn put_part(out: &mut String, text: &[u8], place: usize) -> Result<(), AllocError>
     requires { place ≤ length text.now }
@@ -51,7 +51,7 @@ fn put_part(out: &mut String, text: &[u8], place: usize) -> Result<(), AllocErro
     out.push_str("\n")
 }
 
-// The line of the mark under a place.
+// Appends the line with the mark under a place.
 #[tactic(auto, unfolding(crate::specs::Mark::mark_line))]
 fn put_mark(out: &mut String, text: &[u8], place: usize) -> Result<(), AllocError>
     requires { place ≤ length text.now }
@@ -63,7 +63,7 @@ fn put_mark(out: &mut String, text: &[u8], place: usize) -> Result<(), AllocErro
     out.push_str("^\n")
 }
 
-// Where the part of a text begins that is shown for a place.
+// Returns where the part of a text that is shown for a place begins.
 fn first_shown(text: &[u8], place: usize) -> usize
     ensures value { result ≡ shown_from text.now place }
     ensures before { result ≤ place }
@@ -75,7 +75,7 @@ fn first_shown(text: &[u8], place: usize) -> usize
     }
 }
 
-// The first bytes of a text, at most so many.
+// Returns the first `count` bytes of a text, or all if there are fewer.
 fn first_bytes(text: &[u8], count: usize) -> &[u8]
     ensures { result.now ≡ take count text.now }
 {
@@ -86,7 +86,7 @@ fn first_bytes(text: &[u8], count: usize) -> &[u8]
     }
 }
 
-// Bytes as they are shown.
+// Appends bytes as they are shown.
 fn put_shown_bytes(out: &mut String, bytes: &[u8]) -> Result<(), AllocError>
     ensures { OnOk result (string_bytes out.new
         ≡ string_bytes out.old ++ map shown_byte bytes.now) }
@@ -97,7 +97,7 @@ fn put_shown_bytes(out: &mut String, bytes: &[u8]) -> Result<(), AllocError>
     Ok(())
 }
 
-// A byte as it is shown.
+// Returns a byte as it is shown.
 fn in_ascii(byte: u8) -> u8
     ensures value { result ≡ shown_byte byte }
     ensures ascii { result < 128 }
@@ -109,7 +109,7 @@ fn in_ascii(byte: u8) -> u8
     }
 }
 
-// As many spaces as are asked for.
+// Appends `count` spaces.
 fn put_spaces(out: &mut String, count: usize) -> Result<(), AllocError>
     ensures { OnOk result (string_bytes out.new ≡ string_bytes out.old ++ replicate count 32) }
 {

@@ -9,13 +9,13 @@ use crate::value::value_line;
 use kd_config::ConfigFault;
 use std::alloc::{AllocError, Global};
 
-/// What is wrong with the text of a configuration, in words: one or three lines, each with its line
-/// feed. The first begins with the name that the operator gave. A fault that was not found in this
-/// text is reported too, without what is not there.
+/// Reports in words what is wrong with the text of a configuration: one or three lines, each with
+/// its line feed. The first begins with the name that the operator gave. A fault that was not found
+/// in this text is reported too, without the parts that the text does not have.
 ///
 /// # Errors
 ///
-/// There is no memory for the report.
+/// Out of memory.
 pub fn config_report(
     alloc: Global,
     name: &str,

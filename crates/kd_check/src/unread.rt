@@ -8,7 +8,7 @@ use crate::mark::{line_at, put_place};
 use serde_json::{Error, Value};
 use std::alloc::{AllocError, Global};
 
-// The report of a text that is said to be no JSON.
+// Reports a text that was refused as not JSON.
 #[tactic(auto, using(kd_config::proofs::Documents::spelled, kd_config::proofs::Documents::not_spelled))]
 pub(crate) fn json_report_in(alloc: Global, name: &str, text: &[u8]) -> Result<String, AllocError>
     ensures { IfOk result
@@ -21,7 +21,7 @@ pub(crate) fn json_report_in(alloc: Global, name: &str, text: &[u8]) -> Result<S
     }
 }
 
-// The lines of a text that is not JSON: where, why, and that line of the text.
+// Reports a text that is not JSON: where, why, and that line of the text.
 fn unread_report_in(
     alloc: Global,
     name: &str,
@@ -38,14 +38,14 @@ fn unread_report_in(
     Ok(report)
 }
 
-// What a place in a text is called.
+// Returns how a place in a text is called.
 fn title_of_place(alloc: Global, row: usize, column: usize) -> Result<String, AllocError>
     ensures { IfOk result (λ title. string_bytes title ≡ place_title row column) }
 {
     format!(in alloc; "line {row}, column {column}")
 }
 
-// Why a text is not read as JSON.
+// Returns why a text cannot be read as JSON.
 fn why_unread(text: &[u8], cut: bool) -> &'static str
     ensures { result.now ≡ unread_words (is_utf8 text.now) cut }
 {

@@ -11,7 +11,8 @@ use std::alloc::{AllocError, Global};
 // The most bytes of a value that are shown.
 const SHOWN: usize = 64;
 
-// The line of what is wrong with the value at a path, which is shown where there is one.
+// Returns the line about what is wrong with the value at a path; the value is shown if there is
+// one.
 pub(crate) fn value_line(
     alloc: Global,
     name: &str,
@@ -27,7 +28,7 @@ pub(crate) fn value_line(
     ended_with(alloc, line, value_at_path(whole.as_ref(), path))
 }
 
-// The line that is begun, with the value that it is about, if there is one.
+// Ends a line with the value that it is about, if there is one.
 fn ended_with(alloc: Global, mut line: String, value: Option<&Value>) -> Result<String, AllocError>
     ensures { IfOk result (λ whole. IsValueLine (string_bytes line)
         (option_map (λ v. view v.now) value.entry) (string_bytes whole)) }
@@ -39,14 +40,14 @@ fn ended_with(alloc: Global, mut line: String, value: Option<&Value>) -> Result<
     Ok(line)
 }
 
-// What a path is called.
+// Returns how a path is called in a report.
 fn title_of(path: &str) -> &str
     ensures { result.now ≡ path_title path.now }
 {
     if path == "-" { "the whole text" } else { path }
 }
 
-// A value after what is said of it.
+// Appends a value to a statement about it.
 fn put_value(alloc: Global, line: &mut String, value: &Value) -> Result<(), AllocError>
     ensures { OnOk result
         (IsShownAfter (string_bytes line.old) (view value.now) (string_bytes line.new)) }
@@ -56,7 +57,7 @@ fn put_value(alloc: Global, line: &mut String, value: &Value) -> Result<(), Allo
     put_cut(line, json.as_str())
 }
 
-// A text, of which at most 64 bytes are shown.
+// Appends a text; at most 64 bytes of it are shown.
 fn put_cut(line: &mut String, text: &str) -> Result<(), AllocError>
     ensures { OnOk result (string_bytes line.new ≡ string_bytes line.old ++ cut_text text.now) }
 {

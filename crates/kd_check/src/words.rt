@@ -8,7 +8,7 @@ use kd_token::{FileFault, VerifyFault};
 use std::alloc::AllocError;
 use std::fmt::Write;
 
-// Why the text of a test has no program.
+// Says why the text of a test has no program.
 pub(crate) fn words_of_test(fault: TestFault) -> &'static str
     ensures { result.now ≡ test_words fault }
 {
@@ -19,7 +19,7 @@ pub(crate) fn words_of_test(fault: TestFault) -> &'static str
     }
 }
 
-// The place in the text of a test that a fault names, if it names one.
+// Returns the place in the text of a test that a fault names, if it names one.
 pub(crate) fn place_in_test(fault: TestFault) -> Option<usize>
     ensures { result ≡ test_place fault }
 {
@@ -30,7 +30,7 @@ pub(crate) fn place_in_test(fault: TestFault) -> Option<usize>
     }
 }
 
-// Why a text is no expression.
+// Says why a text is not an expression.
 fn words_of_reading(fault: ExprFault) -> &'static str
     ensures { result.now ≡ reading_words fault }
 {
@@ -45,7 +45,7 @@ fn words_of_reading(fault: ExprFault) -> &'static str
     }
 }
 
-// The place in a text that is no expression.
+// Returns the place of a fault in a text that is not an expression, if the fault names one.
 fn place_of_reading(fault: ExprFault) -> Option<usize>
     ensures { result ≡ reading_place fault }
 {
@@ -60,7 +60,7 @@ fn place_of_reading(fault: ExprFault) -> Option<usize>
     }
 }
 
-// Why an expression is no class test.
+// Says why an expression is not a class test.
 fn words_of_typing(fault: TypeFault) -> &'static str
     ensures { result.now ≡ typing_words fault }
 {
@@ -71,7 +71,7 @@ fn words_of_typing(fault: TypeFault) -> &'static str
     }
 }
 
-// The place of an operand of the wrong type.
+// Returns the place of an operand of the wrong type.
 fn place_of_typing(fault: TypeFault) -> usize
     ensures { result ≡ typing_place fault }
 {
@@ -82,7 +82,7 @@ fn place_of_typing(fault: TypeFault) -> usize
     }
 }
 
-// Why a class test is not compiled.
+// Says why a class test cannot be compiled.
 fn words_of_compiling(fault: CompileFault) -> &'static str
     ensures { result.now ≡ compiling_words fault }
 {
@@ -95,7 +95,7 @@ fn words_of_compiling(fault: CompileFault) -> &'static str
     }
 }
 
-// Why a token file has no program.
+// Says why a token file has no program.
 pub(crate) fn put_tokens_words(out: &mut String, fault: FileTestFault) -> Result<(), AllocError>
     ensures { OnOk result (string_bytes out.new ≡ string_bytes out.old ++ tokens_words fault) }
 {
@@ -106,7 +106,7 @@ pub(crate) fn put_tokens_words(out: &mut String, fault: FileTestFault) -> Result
     }
 }
 
-// Why bytes are no token file.
+// Says why bytes are not a token file.
 fn put_file_words(out: &mut String, fault: FileFault) -> Result<(), AllocError>
     ensures { OnOk result (string_bytes out.new ≡ string_bytes out.old ++ file_words fault) }
 {
@@ -125,7 +125,7 @@ fn put_file_words(out: &mut String, fault: FileFault) -> Result<(), AllocError>
     }
 }
 
-// Why a program is not accepted.
+// Says why a program is not accepted.
 fn put_verify_words(out: &mut String, fault: VerifyFault) -> Result<(), AllocError>
     ensures { OnOk result (string_bytes out.new ≡ string_bytes out.old ++ verifying_words fault) }
 {
