@@ -42,7 +42,7 @@ no_or : (t u : Bool) → u ≡ false → (t || u) ≡ t
 no_or false u e = e
 no_or true u e = refl
 
--- one of two is so
+-- one of two holds
 one_of : {A : Type 0} (t u : Bool) → (t || u) ≡ true → (t ≡ true → A) → (u ≡ true → A) → A
 one_of true u h f g = f refl
 one_of false u h f g = g h
@@ -55,18 +55,18 @@ or_second : (t u : Bool) → u ≡ true → (t || u) ≡ true
 or_second true u e = refl
 or_second false u e = e
 
--- what is the newest of some is that of others that are the same
+-- the newest that passes a test is the newest that passes an equal test
 pub newest_alike : (rows : List Row) (p r : ℕ → Bool) (best : Option ℕ) → ((a : ℕ) → r a ≡ p a) → IsNewest rows p best → IsNewest rows r best
 newest_alike rows p r None same h = λ a. same a ∙ h a
 newest_alike rows p r (Some a) same h = (same a ∙ h.0, λ b e. h.1 b (sym (same b) ∙ e))
 
--- what is not newer than one that is not newer is not newer
+-- "not newer than" is transitive
 not_newer_than : (rows : List Row) (x a b : ℕ) → set_later rows x a ≡ false → set_later rows a b ≡ false → set_later rows x b ≡ false
 not_newer_than rows x a b = by (changed_in (row_at rows x)) (changed_in (row_at rows a)) (changed_in (row_at rows b)) where
   by : (l m n : ℕ) → (nat_lt m l || (l == m && nat_lt x a)) ≡ false → (nat_lt n m || (m == n && nat_lt a b)) ≡ false → (nat_lt n l || (l == n && nat_lt x b)) ≡ false
   by l m n h g = grind (arith, nat_tests)
 
--- the newer of the newest of two kinds is the newest of both
+-- the newer of the newest of two kinds is the newest of both kinds
 pub newest_of_both : (rows : List Row) (p r each : ℕ → Bool) (x y : Option ℕ) → ((a : ℕ) → each a ≡ (p a || r a)) → IsNewest rows p x → IsNewest rows r y → IsNewest rows each (newer_found rows x y)
 newest_of_both rows p r each None y same h g = newest_alike rows r each y (λ a. same a ∙ or_no (p a) (r a) (h a)) g
 newest_of_both rows p r each (Some a) None same h g = newest_alike rows p each (Some a) (λ b. same b ∙ no_or (p b) (r b) (g b)) h
@@ -75,7 +75,7 @@ newest_of_both rows p r each (Some a) (Some b) same h g = by (set_later rows b a
   by true e = (same b ∙ or_second (p b) (r b) g.0, λ c f. one_of (p c) (r c) (sym (same c) ∙ f) (λ k. not_newer rows c b a e (h.1 c k)) (g.1 c))
   by false e = (same a ∙ or_first (p a) (r a) h.0, λ c f. one_of (p c) (r c) (sym (same c) ∙ f) (h.1 c) (λ k. not_newer_than rows c b a (g.1 c k) e))
 
--- a row is in one state
+-- a row is in only one state
 pub same_state : (s t : State) → (state_number s == state_number t) ≡ true → s ≡ t
 same_state Offered Offered h = refl
 same_state Offered Bound h = absurd (false≢true h)
@@ -94,7 +94,7 @@ same_state Declined Bound h = absurd (false≢true h)
 same_state Declined Released h = absurd (false≢true h)
 same_state Declined Declined h = refl
 
--- the sought from first to last, by the state of their rows
+-- the sought addresses from first to last, by the state of their rows
 pub by_state : (q : Asking) (sought : Sought) (first last : ℕ) (o b r d : Option ℕ)
     → IsNewest q.rows (sought_in q sought Offered first last) o → IsNewest q.rows (sought_in q sought Bound first last) b
     → IsNewest q.rows (sought_in q sought Released first last) r → IsNewest q.rows (sought_in q sought Declined first last) d
@@ -129,7 +129,7 @@ by_state q sought first last o b r d ho hb hr hd =
       each : (a : ℕ) → sought_within q sought first last a ≡ (held a || given a)
       each a = by (sought_within q sought first last a) (row_at q.rows a) (λ h. sought_is_mine q sought a (both (sought_at q sought a) (is_within first last a) h).0)
 
--- what is sought has a row in one of the states that it can be in
+-- an address that is sought has a row in one of the states that such a row can be in
 in_states : (q : Asking) (sought : Sought) (a : ℕ) (row : Row) → row_at q.rows a ≡ Some row → sought_at q sought a ≡ true → state_sought sought row.state ≡ true
 in_states q (seeks.Own choosing) a row there h =
     let held = (both (held_at q a) (fitting_with choosing.now a) h).0 in
@@ -140,7 +140,7 @@ in_states q seeks.Offer a row there h =
     let its : (live_row q.now row && (belongs_to q.client row && offered_state row.state)) ≡ true = sym (ap (has_such (λ r. live_row q.now r && (belongs_to q.client r && offered_state r.state))) there) ∙ h in
     (both (belongs_to q.client row) (offered_state row.state) (both (live_row q.now row) (belongs_to q.client row && offered_state row.state) its).1).1
 
--- such a row is live, where rows that have not ended are sought
+-- such a row has not ended, if only rows that have not ended are sought
 is_live_at : (q : Asking) (sought : Sought) (a : ℕ) (row : Row) → row_at q.rows a ≡ Some row → live_sought sought ≡ true → sought_at q sought a ≡ true → live_row q.now row ≡ true
 is_live_at q (seeks.Own choosing) a row there live h =
     let held = (both (held_at q a) (fitting_with choosing.now a) h).0 in
@@ -149,7 +149,7 @@ is_live_at q (seeks.Past choosing) a row there live h = absurd (false≢true liv
 is_live_at q seeks.Offer a row there live h =
     (both (live_row q.now row) (belongs_to q.client row && offered_state row.state) (sym (ap (has_such (λ r. live_row q.now r && (belongs_to q.client r && offered_state r.state))) there) ∙ h)).0
 
--- the row of a sought address of a state, from first to last
+-- a sought address from first to last with its row in a state
 record Sighting (q : Asking) (sought : Sought) (state : State) (first last a : ℕ) : Type 0 where
   pub row : Row
   pub there : row_at q.rows a ≡ Some row
@@ -187,17 +187,18 @@ seen q sought state first last a h = by (row_at q.rows a) refl where
     is = found.0;
   }
 
--- a row stands ahead of one that was found, all do where none was
+-- a row comes before the one that was found; if none was found, every row does
 abbrev pub is_ahead : Option Row → Row → Bool
 is_ahead None row = true
 is_ahead (Some found) row = is_newer_row row found
 
--- what was found among a client's rows of a state, from first to last, is there; and none of those ahead of it is sought
+-- what was found among a client's rows of a state, from first to last, is there, and no row before
+-- it is sought
 pub record IsReached (q : Asking) (sought : Sought) (state : State) (first last : ℕ) (found : Option Row) : Type 0 where
   pub there : (row : Row) → found ≡ Some row → (row_at q.rows row.address ≡ Some row) × (is_aged q.client state first last None row ≡ true)
   pub none : (a : ℕ) (row : Row) → row_at q.rows a ≡ Some row → is_aged q.client state first last None row ≡ true → is_ahead found row ≡ true → sought_at q sought a ≡ false
 
--- the newest of all has none ahead of it
+-- no row comes before the newest of all
 pub reached_first : (q : Asking) (sought : Sought) (state : State) (first last : ℕ) (found : Option Row) → IsNewestRow q.rows (is_aged q.client state first last None) found → IsReached q sought state first last found
 reached_first q sought state first last None h = record {
   there = λ row e. absurd (none-some row e);
@@ -208,13 +209,13 @@ reached_first q sought state first last (Some f) h = record {
   none = λ a row at of ahead. absurd (false≢true (sym (h.2 a row at of) ∙ ahead));
 }
 
--- of two rows that are there neither is newer only where they are one
+-- if neither of two rows is newer, they are the same row
 one_row : (rows : List Row) (a : ℕ) (row r : Row) → row_at rows a ≡ Some row → row_at rows r.address ≡ Some r → is_newer_row row r ≡ false → is_newer_row r row ≡ false → a ≡ r.address
 one_row rows a row r at there h g = sym (address_at rows a row at) ∙ same row.changed r.changed row.address r.address h g where
   same : (m n x y : ℕ) → (nat_lt n m || ((m == n) && nat_lt x y)) ≡ false → (nat_lt m n || ((n == m) && nat_lt y x)) ≡ false → x ≡ y
   same m n x y h g = grind (arith, nat_tests)
 
--- a row that is aged comes after another, or not
+-- a row of that age order comes after another, or not
 after_too : (client : List ℕ) (state : State) (first last : ℕ) (r row : Row) → is_aged client state first last None row ≡ true → is_newer_row r row ≡ true → is_aged client state first last (Some r) row ≡ true
 after_too client state first last r row of newer = by (belongs_to client row) (state_number row.state == state_number state) (not (nat_lt row.address first)) (not (nat_lt last row.address)) of where
   by : (t u v w : Bool) → (t && (u && (v && (w && true)))) ≡ true → (t && (u && (v && (w && is_newer_row r row)))) ≡ true
@@ -233,7 +234,7 @@ before_too client state first last r row of = by (belongs_to client row) (state_
   by true false v w h = absurd (false≢true h)
   by false u v w h = absurd (false≢true h)
 
--- a row that stands no later than the one that was reached is not sought, where that one is not
+-- if the row that was reached is not sought, neither is any row that it is not newer than
 none_ahead : (q : Asking) (sought : Sought) (state : State) (first last : ℕ) (r : Row) → IsReached q sought state first last (Some r) → sought_at q sought r.address ≡ false
     → (a : ℕ) (row : Row) → row_at q.rows a ≡ Some row → is_aged q.client state first last None row ≡ true → is_newer_row r row ≡ false → sought_at q sought a ≡ false
 none_ahead q sought state first last r reached not_it a row at of later = by (is_newer_row row r) refl where
@@ -241,7 +242,7 @@ none_ahead q sought state first last r reached not_it a row at of later = by (is
   by true e = reached.none a row at of e
   by false e = ap (sought_at q sought) (one_row q.rows a row r at (reached.there r refl).0 e later) ∙ not_it
 
--- the next one is reached where the one before is not sought
+-- the next row is reached if the one before is not sought
 pub reached_next : (q : Asking) (sought : Sought) (state : State) (first last : ℕ) (r : Row) (found : Option Row) → IsReached q sought state first last (Some r) → sought_at q sought r.address ≡ false
     → IsNewestRow q.rows (is_aged q.client state first last (Some r)) found → IsReached q sought state first last found
 reached_next q sought state first last r found reached not_it next = by found next where
@@ -264,12 +265,12 @@ reached_next q sought state first last r found reached not_it next = by found ne
     no a row at ahead true e = absurd (false≢true (sym (h.2 a row at e) ∙ ahead))
     no a row at ahead false e = e
 
--- how far the search has come: no row, or how new the one is that was reached
+-- how far the search is: no row yet, or how new the row is that was reached
 abbrev pub newness : Option Row → ℕ
 newness None = 0
 newness (Some row) = 1 + (row.changed * 4294967296 + (4294967295 - row.address))
 
--- the next one is older, so the search ends
+-- the next row is older, so the search ends
 pub next_is_older : (q : Asking) (sought : Sought) (state : State) (first last : ℕ) (r : Row) (found : Option Row) → last < 4294967296 → IsReached q sought state first last (Some r)
     → IsNewestRow q.rows (is_aged q.client state first last (Some r)) found → newness found < newness (Some r)
 next_is_older q sought state first last r None bound reached h = omega arith
@@ -293,7 +294,7 @@ next_is_older q sought state first last r (Some f) bound reached h = older f.cha
         lt : (a b : ℕ) → nat_lt a b ≡ true → a < b
         lt a b h = grind (arith, nat_tests)
 
--- what is reached and sought is the newest that is
+-- a row that is reached and sought is the newest that is sought
 pub reached_it : (q : Asking) (sought : Sought) (state : State) (first last : ℕ) (r : Row) → IsReached q sought state first last (Some r) → sought_at q sought r.address ≡ true → IsNewest q.rows (sought_in q sought state first last) (Some r.address)
 reached_it q sought state first last r reached it = (sought_is, newest) where
   there : row_at q.rows r.address ≡ Some r
@@ -328,14 +329,15 @@ reached_it q sought state first last r reached it = (sought_is, newest) where
     by true f = absurd (false≢true (sym (reached.none b s.row s.there s.of f) ∙ s.is))
     by false f = f
 
--- none is sought where none is reached
+-- if no row is reached, none is sought
 pub reached_none : (q : Asking) (sought : Sought) (state : State) (first last : ℕ) → IsReached q sought state first last None → IsNewest q.rows (sought_in q sought state first last) None
 reached_none q sought state first last reached a = by (sought_in q sought state first last a) refl where
   by : (t : Bool) → sought_in q sought state first last a ≡ t → sought_in q sought state first last a ≡ false
   by true e = let s = seen q sought state first last a e in absurd (false≢true (sym (reached.none a s.row s.there s.of refl) ∙ s.is))
   by false e = e
 
--- none of the rows that are no newer than the one that was reached is live, and that one is not sought
+-- if no row that is not newer than the one reached is live, and that one is not sought, none is
+-- sought
 pub reached_ended : (q : Asking) (sought : Sought) (state : State) (first last : ℕ) (r : Row) → IsReached q sought state first last (Some r) → sought_at q sought r.address ≡ false → live_sought sought ≡ true
     → ((a : ℕ) (other : Row) → row_at q.rows a ≡ Some other → other.state ≡ state → other.changed ≤ r.changed → live_row q.now other ≡ false)
     → IsNewest q.rows (sought_in q sought state first last) None
@@ -355,7 +357,7 @@ reached_ended q sought state first last r reached not_it live ended a = by (soug
       state_is : s.row.state ≡ state
       state_is = same_state s.row.state state (both (is_in_state state s.row) _ (both (belongs_to q.client s.row) _ s.of).1).0
 
--- none is sought in a state in which no row that is sought can be
+-- nothing is sought in a state that no sought row can be in
 pub not_in_state : (q : Asking) (sought : Sought) (state : State) (first last : ℕ) → state_sought sought state ≡ false → IsNewest q.rows (sought_in q sought state first last) None
 not_in_state q sought state first last out a = by (sought_in q sought state first last a) refl where
   by : (t : Bool) → sought_in q sought state first last a ≡ t → sought_in q sought state first last a ≡ false
@@ -365,14 +367,14 @@ not_in_state q sought state first last out a = by (sought_in q sought state firs
       let is : s.row.state ≡ state = same_state s.row.state state (both (is_in_state state s.row) _ (both (belongs_to q.client s.row) _ s.of).1).0 in
       absurd (false≢true (sym out ∙ (sym (ap (state_sought sought) is) ∙ in_states q sought a s.row s.there s.is)))
 
--- those that are sought at the address that is reserved for the client, or in the first n pools
+-- the sought addresses that are reserved for the client or are in the first n pools
 abbrev pub sought_up_to : Asking → Sought → Choosing → ℕ → ℕ → Bool
 sought_up_to q sought choosing n a = sought_at q sought a && (same_address choosing.own a || list_any (λ pool. has pool.range a) (take n choosing.subnet.now.pools))
 
 pub no_pool_yet : (q : Asking) (sought : Sought) (choosing : Choosing) (best : Option ℕ) → IsNewest q.rows (reserved_sought q sought choosing.own) best → IsNewest q.rows (sought_up_to q sought choosing 0) best
 no_pool_yet q sought choosing best = newest_alike q.rows (reserved_sought q sought choosing.own) (sought_up_to q sought choosing 0) best (λ a. ap (λ (t : Bool). sought_at q sought a && t) (no_or (same_address choosing.own a) false refl))
 
--- a pool more
+-- one more pool
 pub pool_more : (q : Asking) (sought : Sought) (choosing : Choosing) (n : ℕ) (pool : Pool) (best found : Option ℕ) → n < length choosing.subnet.now.pools → pool ≡ get_or choosing.subnet.now.pools n pool → IsNewest q.rows (sought_up_to q sought choosing n) best
     → IsNewest q.rows (sought_within q sought pool.range.first pool.range.last) found → IsNewest q.rows (sought_up_to q sought choosing (n + 1)) (newer_found q.rows best found)
 pool_more q sought choosing n pool best found less is h g = newest_of_both q.rows (sought_up_to q sought choosing n) (sought_within q sought pool.range.first pool.range.last) (sought_up_to q sought choosing (n + 1)) best found each h g where
@@ -389,7 +391,7 @@ pool_more q sought choosing n pool best found less is h g = newest_of_both q.row
 pub all_pools : (q : Asking) (sought : Sought) (choosing : Choosing) (n : ℕ) (best : Option ℕ) → length choosing.subnet.now.pools ≤ n → IsNewest q.rows (sought_up_to q sought choosing n) best → IsNewest q.rows (sought_for q sought choosing) best
 all_pools q sought choosing n best all = newest_alike q.rows (sought_up_to q sought choosing n) (sought_for q sought choosing) best (λ a. ap (λ (pools : List Pool). sought_at q sought a && (same_address choosing.own a || list_any (λ p. has p.range a) pools)) (sym (take_all n choosing.subnet.now.pools all)))
 
--- what fits is reserved for the client, or in a pool
+-- an address that fits is reserved for the client or in a pool
 fits_somewhere : (choosing : Choosing) (a : ℕ) → fitting_with choosing a ≡ true → (same_address choosing.own a || pooled choosing.subnet.now a) ≡ true
 fits_somewhere choosing a = by (pooled choosing.subnet.now a) (reserved_anywhere choosing.question.now.config.now a) (same_address choosing.own a) where
   by : (t u w : Bool) → ((t && not u) || w) ≡ true → (w || t) ≡ true
@@ -403,14 +405,14 @@ in_subnet choosing t a = by (t a && fitting_with choosing a) (λ h. fits_somewhe
   by true h = h refl
   by false h = refl
 
--- the newest of those that are held or were held in a subnet is the newest of all that are
+-- the newest of those that are held or were held in a subnet is the newest of all
 pub newest_own : (q : Asking) (choosing : Bor Choosing) (best : Option ℕ) → IsNewest q.rows (sought_for q (seeks.Own choosing) choosing.now) best → IsNewest q.rows (sought_at q (seeks.Own choosing)) best
 newest_own q choosing best = newest_alike q.rows (sought_for q (seeks.Own choosing) choosing.now) (sought_at q (seeks.Own choosing)) best (λ a. sym (in_subnet choosing.now (held_at q) a))
 
 pub newest_past : (q : Asking) (choosing : Bor Choosing) (best : Option ℕ) → IsNewest q.rows (sought_for q (seeks.Past choosing) choosing.now) best → IsNewest q.rows (sought_at q (seeks.Past choosing)) best
 newest_past q choosing best = newest_alike q.rows (sought_for q (seeks.Past choosing) choosing.now) (sought_at q (seeks.Past choosing)) best (λ a. sym (in_subnet choosing.now (past_at q) a))
 
--- what is true of all rows is true of that of an address
+-- what holds for all rows holds for the row of an address
 pub all_at : (P : Row → Type 0) (rows : List Row) → All P rows → (a : ℕ) (row : Row) → row_at rows a ≡ Some row → P row
 all_at P [] h a row e = absurd (none-some row e)
 all_at P (r ∷ rows) h a row e = by (r.address == a) e (all_at P rows (λ k d less. h (suc k) d (omega arith)) a row) where
@@ -418,14 +420,15 @@ all_at P (r ∷ rows) h a row e = by (r.address == a) e (all_at P rows (λ k d l
   by true f rest = subst P (same_Some r row f) (h 0 r (omega arith))
   by false f rest = rest f
 
--- no row of a state that was set no later than a moment is live, where that moment and the longest hold are past
+-- no row of a state that was set at or before a time is live, if that time plus the longest hold is
+-- not after now
 pub all_ended : (q : Asking) (state : State) (longest moment : ℕ) → longest + moment ≤ q.now → All (λ row. row.state ≡ state → row.ends ≤ row.changed + longest) q.rows
     → (a : ℕ) (other : Row) → row_at q.rows a ≡ Some other → other.state ≡ state → other.changed ≤ moment → live_row q.now other ≡ false
 all_ended q state longest moment over holds a other at of early = ended q.now other.ends (let l : other.ends ≤ other.changed + longest = all_at (λ row. row.state ≡ state → row.ends ≤ row.changed + longest) q.rows holds a other at of in omega arith) where
   ended : (n e : ℕ) → e ≤ n → nat_lt n e ≡ false
   ended n e le = grind (arith, nat_tests)
 
--- the addresses of rows have 32 bits, so those up to the greatest are all
+-- the addresses of rows have 32 bits, so those up to the greatest are all addresses
 pub newest_of_all_rows : (q : Asking) (sought : Sought) (best : Option ℕ) → All (λ row. row.address < 4294967296) q.rows → IsNewest q.rows (sought_within q sought 0 4294967295) best → IsNewest q.rows (sought_at q sought) best
 newest_of_all_rows q sought best bounded = newest_alike q.rows (sought_within q sought 0 4294967295) (sought_at q sought) best each where
   each : (a : ℕ) → sought_at q sought a ≡ sought_within q sought 0 4294967295 a
@@ -438,7 +441,7 @@ newest_of_all_rows q sought best bounded = newest_alike q.rows (sought_within q 
     by true None e mine = absurd (false≢true (mine refl))
     by true (Some row) e mine = sym (low a (subst (λ (x : ℕ). x < 4294967296) (address_at q.rows a row e) (all_at (λ r. r.address < 4294967296) q.rows bounded a row e)))
 
--- the newest is the first of its rank
+-- the newest address is the first of its rank
 ranked : (q : Asking) (s : Subnet) (r : Rank) (such : ℕ → Bool) (best : Option ℕ) → ((a b : ℕ) → is_before q s r a b ≡ set_later q.rows a b) → ((a : ℕ) → has_rank q s r a ≡ such a) → IsNewest q.rows such best → IsRanked q s r best
 ranked q s r such None before same h = λ a. same a ∙ h a
 ranked q s r such (Some a) before same h = record { ranked = same a ∙ h.0; first = λ b has. before b a ∙ h.1 b (sym (same b) ∙ has) }
@@ -449,7 +452,7 @@ own_ranked choosing best = ranked (asking choosing.now.question.now) choosing.no
 pub past_ranked : (choosing : Bor Choosing) (best : Option ℕ) → IsNewest (asking choosing.now.question.now).rows (sought_at (asking choosing.now.question.now) (seeks.Past choosing)) best → IsRanked (asking choosing.now.question.now) choosing.now.subnet.now past best
 past_ranked choosing best = ranked (asking choosing.now.question.now) choosing.now.subnet.now past (sought_at (asking choosing.now.question.now) (seeks.Past choosing)) best (λ a b. refl) (λ a. sym (past_sought choosing a))
 
--- the address that is reserved for the client, where it is sought
+-- the address that is reserved for the client, if it is sought
 pub reserved_it : (q : Asking) (sought : Sought) (kept : Option ℕ) (a : ℕ) → kept ≡ Some a → sought_at q sought a ≡ true → IsNewest q.rows (reserved_sought q sought kept) (Some a)
 reserved_it q sought kept a is it = (and_true (sought_at q sought a) _ it (ap (λ (o : Option ℕ). same_address o a) is ∙ eq-eqb a a refl), newest) where
   newest : (b : ℕ) → reserved_sought q sought kept b ≡ true → set_later q.rows b a ≡ false

@@ -1,5 +1,5 @@
--- What a message does: the rows that are set were changed now and are in range, a NAK sets none, and no address is
--- given that another client holds.
+-- What a message does: the rows that are set were changed now and are in range, a NAK sets none,
+-- and no address that another client holds is assigned.
 use Rattle.std.proofs.Common.{◌≡◌, ℕ, ◌<◌, ◌^◌, ◌==◌, Bool, true, false, Option, Some, None, IfSome, option_map, sym, ◌∙◌, subst, arith, if◌then◌else◌}
 use Rattle.std.proofs.lemmas.Bool.{false≢true}
 use Rattle.std.proofs.lemmas.Option.{none-some}
@@ -19,12 +19,12 @@ use Rattle.kd_lease.specs.Rules.{Does, GivesUpLease, InSubnet, Informs, IsQuiet,
 use Rattle.kd_lease.specs.declared.plan.PlanKind.TheVariants as kinds
 use Rattle.kd_lease.proofs.Held.{no_rank, not_renewed, not_usable}
 
--- a row is set now, where the configuration's times are in range
+-- a row is set now, if the configuration's times are in range
 pub record IsGood (q : Asking) (row : Row) : Type 0 where
   pub changed : row.changed ≡ q.now
   pub in_range : q.now < 2 ^ 40 → AreTimes q.config.times → IsInRange row
 
--- a reply gives an address
+-- a reply assigns an address
 abbrev pub Gives : Outcome → ℕ → Type 0
 Gives (planned kinds.Offer b options) a = b ≡ a
 Gives (planned kinds.Ack b options) a = b ≡ a
@@ -35,11 +35,11 @@ abbrev pub IsNak : Outcome → Type 0
 IsNak (planned kinds.Nak a options) = Unit {0}
 IsNak other = ⊥
 
--- a reply gives no address that another client holds
+-- a reply assigns no address that another client holds
 abbrev pub IsFair : Asking → Outcome → Type 0
 IsFair q outcome = (a : ℕ) (row : Row) → IsAnothers q a row → Gives outcome a → ⊥
 
--- what may be set beside a reply: good rows, and none beside a NAK; and the reply is fair
+-- what may be set with a reply: good rows, and none with a NAK; and the reply is fair
 pub record IsGuarded (q : Asking) (set : Option Row) (outcome : Outcome) : Type 0 where
   pub good : (row : Row) → set ≡ Some row → IsGood q row
   pub nak : IsNak outcome → set ≡ None

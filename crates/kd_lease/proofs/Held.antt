@@ -1,4 +1,4 @@
--- An address that another client holds has no rank, and is given to nobody else.
+-- An address that another client holds has no rank, and is assigned to no one else.
 use Rattle.std.proofs.Common.{◌≡◌, ℕ, Bool, true, false, not, ◌&&◌, ◌||◌, is_none, ap, sym, ◌∙◌}
 use Rattle.std.proofs.lemmas.Bool.{false≢true}
 use Rattle.kd_config.specs.declared.subnet.Subnet.{Subnet}

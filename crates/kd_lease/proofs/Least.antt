@@ -1,4 +1,5 @@
--- The least open address of a range: the lesser of the one that is reserved for the client and the least that is open to all.
+-- The lowest open address of a range: the lesser of the one that is reserved for the client and the
+-- lowest that is open to all.
 use Rattle.std.proofs.Common.{◌≡◌, ℕ, ◌+◌, ◌<◌, ◌≤◌, min, Bool, true, false, not, ◌&&◌, ◌||◌, Option, Some, None, refl, sym, ◌∙◌, subst, arith, ⊎_elim}
 use Rattle.std.proofs.lemmas.Bool.{cases_eq, cases_lt, false≢true}
 use Rattle.kd_config.specs.Reservation.{earlier}
@@ -6,14 +7,14 @@ use Rattle.kd_config.specs.declared.subnet.Subnet.{Subnet}
 use Rattle.kd_lease.specs.Choice.{Asking, address_reserved, pooled, reserved_anywhere, same_address}
 use Rattle.kd_lease.specs.Seeking.{IsLeast, IsLeastOpen, IsNextUntaken, common_in, is_common_open, is_kept_open, is_open, is_vacant, untaken}
 
--- none is such from the first up to an end
+-- none passes a test from the first up to an end
 abbrev pub NoneUpTo : (ℕ → Bool) → ℕ → ℕ → Type 0
 NoneUpTo such first end = (a : ℕ) → first ≤ a → a < end → such a ≡ false
 
 pub none_at_last : (such : ℕ → Bool) (first last end : ℕ) → last < end → NoneUpTo such first end → IsLeast such first last None
 none_at_last such first last end past before a low high = before a low (omega arith)
 
--- of two kinds
+-- neither of two
 neither : (t u : Bool) → t ≡ false → u ≡ false → (t || u) ≡ false
 neither true u h k = h
 neither false u h k = k
@@ -54,11 +55,11 @@ same_least : (p r : ℕ → Bool) (first last : ℕ) (x : Option ℕ) → ((a : 
 same_least p r first last None same h = λ a low high. same a ∙ h a low high
 same_least p r first last (Some found) same h = (h.0, h.1, same found ∙ h.2, λ a low less. same a ∙ h.3 a low less)
 
--- the lesser of the two is the least that is open
+-- the lesser of the two is the lowest that is open
 pub lesser_open : (q : Asking) (s : Subnet) (new : Bool) (first last : ℕ) (x y : Option ℕ) → IsLeast (is_kept_open q (address_reserved q.message s) new) first last x → IsLeast (is_common_open q s new) first last y → IsLeastOpen q s new first last (earlier x y)
 lesser_open q s new first last x y hx hy = same_least (λ a. is_kept_open q (address_reserved q.message s) new a || is_common_open q s new a) (is_open q s new) first last (earlier x y) (opens q s new) (lesser (is_kept_open q (address_reserved q.message s) new) (is_common_open q s new) first last x y hx hy)
 
--- what is not vacant is not open to all
+-- an address that is not vacant is not open to all
 vacant : (q : Asking) (s : Subnet) (new : Bool) (a : ℕ) → is_vacant q new a ≡ false → is_common_open q s new a ≡ false
 vacant q s new a h = by (untaken q new a) (pooled s a) (not (reserved_anywhere q.config a)) h where
   by : (u p r : Bool) → (u && r) ≡ false → (u && (p && r)) ≡ false

@@ -1,4 +1,4 @@
--- The newest of a client's addresses: they are looked at one after another.
+-- The newest of a client's addresses, which are visited one after another.
 use Rattle.std.proofs.Common.{◌≡◌, Bor, ℕ, suc, ◌+◌, ◌<◌, ◌≤◌, Bool, true, false, ◌&&◌, ◌||◌, ◌==◌, nat_lt, not, List, [], ◌∷◌, length, get_or, map, filter, Option, Some, None, slice_get, refl, sym, ap, subst, ◌∙◌, arith, below_more, ⊎_elim, if◌then◌else◌}
 use Rattle.std.proofs.lemmas.Bool.{eqb-true, false≢true}
 use Rattle.std.proofs.lemmas.Bool.Decides.{nat_tests}
@@ -15,12 +15,12 @@ use Rattle.kd_lease.specs.declared.seeking.Sought.{Sought}
 use Rattle.kd_lease.specs.declared.seeking.Sought.TheVariants as seeks
 use Rattle.kd_config.specs.declared.subnet.Subnet.{Subnet}
 
--- what was found is the newest of the first n addresses that are such
+-- what was found is the newest of those of the first n addresses that pass a test
 abbrev pub IsNewestOf : List Row → (ℕ → Bool) → List ℕ → ℕ → Option ℕ → Type 0
 IsNewestOf rows such xs n None = (k : ℕ) → k < n → such (get_or xs k 0) ≡ false
 IsNewestOf rows such xs n (Some a) = (such a ≡ true) × ((k : ℕ) → k < n → such (get_or xs k 0) ≡ true → set_later rows (get_or xs k 0) a ≡ false)
 
--- one address more
+-- one more address
 abbrev pub better_of : List Row → (ℕ → Bool) → Option ℕ → ℕ → Option ℕ
 better_of rows such None a = if such a then Some a else None
 better_of rows such (Some b) a = if such a && set_later rows a b then Some a else Some b
@@ -30,7 +30,7 @@ not_newer_itself rows a = by (changed_in (row_at rows a)) where
   by : (m : ℕ) → (nat_lt m m || (m == m && nat_lt a a)) ≡ false
   by m = grind (arith, nat_tests)
 
--- what is newer than a newer address is newer
+-- an address that is not newer than b is not newer than any address that is newer than b
 pub not_newer : (rows : List Row) (x a b : ℕ) → set_later rows a b ≡ true → set_later rows x b ≡ false → set_later rows x a ≡ false
 not_newer rows x a b = by (changed_in (row_at rows x)) (changed_in (row_at rows a)) (changed_in (row_at rows b)) where
   by : (l m n : ℕ) → (nat_lt n m || (m == n && nat_lt a b)) ≡ true → (nat_lt n l || (l == n && nat_lt x b)) ≡ false → (nat_lt m l || (l == m && nat_lt x a)) ≡ false
@@ -48,7 +48,7 @@ newest_more rows such xs n (Some b) h = by (such (get_or xs n 0)) (set_later row
   by true false e f = (h.0, below_more (λ k. such (get_or xs k 0) ≡ true → set_later rows (get_or xs k 0) b ≡ false) n h.1 (λ g. f))
   by false u e f = (h.0, below_more (λ k. such (get_or xs k 0) ≡ true → set_later rows (get_or xs k 0) b ≡ false) n h.1 (λ g. absurd (false≢true (sym e ∙ g))))
 
--- an address that a client has a row at stands among the client's
+-- an address at which a client has a row is among the client's addresses
 pub stands : (client : List ℕ) (rows : List Row) (a : ℕ) → has_such (belongs_to client) (row_at rows a) ≡ true → (k : ℕ) × (k < length (addresses_of client rows)) × (get_or (addresses_of client rows) k 0 ≡ a)
 stands client [] a h = absurd (false≢true h)
 stands client (r ∷ rows) a h = by (r.address == a) (belongs_to client r) refl refl h (stands client rows a) where
@@ -60,7 +60,8 @@ stands client (r ∷ rows) a h = by (r.address == a) (belongs_to client r) refl 
   by false true e f h rest = let s = rest h in (suc s.0, let l = s.1 in omega arith, s.2)
   by false false e f h rest = rest h
 
--- the newest of all the client's addresses that are such is the newest of all that are, where those are the client's
+-- the newest of the client's addresses that pass a test is the newest of all that do, if those are
+-- the client's
 pub newest_of_all : (rows : List Row) (such : ℕ → Bool) (client : List ℕ) (n : ℕ) (best : Option ℕ) → ((a : ℕ) → such a ≡ true → has_such (belongs_to client) (row_at rows a) ≡ true)
     → length (addresses_of client rows) ≤ n → IsNewestOf rows such (addresses_of client rows) n best → IsNewest rows such best
 newest_of_all rows such client n None belongs all h = λ a. by a (such a) refl where
@@ -112,7 +113,7 @@ sought_is_mine q seeks.Offer a h = such_is_mine q (λ row. live_row q.now row &&
 pub at_start : (rows : List Row) (such : ℕ → Bool) (xs : List ℕ) → IsNewestOf rows such xs 0 None
 at_start rows such xs k less = absurd (omega arith)
 
--- the code's step is that of the lemmas
+-- the step of the code is that of the lemmas
 pub better_is : (q : Asking) (sought : Sought) (best : Option ℕ) (a : ℕ) → newer_of q sought best a ≡ better_of q.rows (sought_at q sought) best a
 better_is q sought None a = refl
 better_is q sought (Some b) a = refl
@@ -121,28 +122,29 @@ better_is q sought (Some b) a = refl
 fits_same : (choosing : Choosing) (such : ℕ → Bool) (b : ℕ) → (such b && fitting_with choosing b) ≡ (such b && fitting_for (asking choosing.question.now) choosing.subnet.now b)
 fits_same choosing such b = ap (λ (own : Option ℕ). such b && (common_in choosing.question.now.config.now choosing.subnet.now b || same_address own b)) choosing.reserved
 
--- what is sought among those that the client holds, or had, has that rank
+-- an address sought among those that the client holds, or held before, has that rank
 pub own_sought : (choosing : Bor Choosing) (b : ℕ) → sought_at (asking choosing.now.question.now) (seeks.Own choosing) b ≡ has_rank (asking choosing.now.question.now) choosing.now.subnet.now own b
 own_sought choosing = fits_same choosing.now (held_at (asking choosing.now.question.now))
 
 pub past_sought : (choosing : Bor Choosing) (b : ℕ) → sought_at (asking choosing.now.question.now) (seeks.Past choosing) b ≡ has_rank (asking choosing.now.question.now) choosing.now.subnet.now past b
 past_sought choosing = fits_same choosing.now (past_at (asking choosing.now.question.now))
 
--- the same address is better where the same are such
+-- the better address is the same under equal tests
 pub better_same : (rows : List Row) (p r : ℕ → Bool) (best : Option ℕ) (a : ℕ) → p a ≡ r a → better_of rows p best a ≡ better_of rows r best a
 better_same rows p r None a same = ap (λ (t : Bool). if t then Some a else None) same
 better_same rows p r (Some b) a same = ap (λ (t : Bool). if t && set_later rows a b then Some a else Some b) same
 
--- no address stands after the last
+-- there is no address after the last
 pub get_past : (xs : List ℕ) (i : ℕ) → slice_get xs i ≡ None → length xs ≤ i
 get_past xs i h = ⊎_elim (λ (x, less, is, at). absurd (none-some x (sym h ∙ is))) (λ p. p.0) (slice_get_cases xs i).1
 
--- of the first n of a client's addresses, the newest that it holds, and the newest whose row has ended
+-- among the first n of a client's addresses, the newest that it holds, and the newest whose row has
+-- ended
 pub record AreKnown (q : Asking) (s : Subnet) (n : ℕ) (o p : Option ℕ) : Type 0 where
   pub held : IsNewestOf q.rows (has_rank q s own) (addresses_of q.client q.rows) n o
   pub had : IsNewestOf q.rows (has_rank q s past) (addresses_of q.client q.rows) n p
 
--- one address more
+-- one more address
 pub known_more : (q : Asking) (s : Subnet) (n : ℕ) (o p : Option ℕ) (a : ℕ) → AreKnown q s n o p → get_or (addresses_of q.client q.rows) n 0 ≡ a
     → AreKnown q s (n + 1) (better_of q.rows (has_rank q s own) o a) (better_of q.rows (has_rank q s past) p a)
 known_more q s n o p a k here = record {

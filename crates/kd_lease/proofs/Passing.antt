@@ -1,4 +1,5 @@
--- The next address of a table is the next that is untaken: the table passes over no other but reserved ones.
+-- The next address of a table is the next untaken one: the table skips no other addresses but
+-- reserved ones.
 use Rattle.std.proofs.Common.{◌≡◌, ℕ, ◌<◌, ◌≤◌, Bool, true, false, not, ◌&&◌, ◌||◌, List, Option, Some, None, is_none, is_some, option_map, refl, sym, ap, ◌∙◌, arith}
 use Rattle.std.proofs.lemmas.Bool.{false≢true}
 use Rattle.std.proofs.lemmas.Bool.Decides.{nat_tests}
@@ -9,7 +10,7 @@ use Rattle.kd_lease.specs.Choice.{Asking, has_such, live_row, reserved_anywhere}
 use Rattle.kd_lease.specs.Seeking.{IsNextUntaken, is_vacant, untaken}
 use Rattle.kd_lease.specs.Withholding.{WithholdsReserved}
 
--- with a row, or withheld
+-- an address with a row, or withheld
 fresh_taken : (q : Asking) (xs : List ℕ) (a : ℕ) → WithholdsReserved q.config xs → is_taken q.rows xs a ≡ true → is_vacant q true a ≡ false
 fresh_taken q xs a all h = by (row_at q.rows a) (reserved_anywhere q.config a) (ap (λ b. is_some (row_at q.rows a) || b) (sym (all a)) ∙ h) where
   by : (o : Option Row) (r : Bool) → (is_some o || r) ≡ true → (is_none o && not r) ≡ false
@@ -33,7 +34,7 @@ live q row h = grind (arith, nat_tests)
 ended : (q : Asking) (row : Row) → row.ends ≤ q.now → not (live_row q.now row) ≡ true
 ended q row h = grind (arith, nat_tests)
 
--- without a row, or its row has not ended, or it is reserved
+-- an address without a row, or whose row has not ended, or that is reserved
 closed : (q : Asking) (a : ℕ) → ((row : Row) → row_at q.rows a ≡ Some row → reserved_anywhere q.config a ≡ false → q.now < row.ends) → is_vacant q false a ≡ false
 closed q a h = by (row_at q.rows a) (reserved_anywhere q.config a) h where
   drop : (t : Bool) → (t && false) ≡ false

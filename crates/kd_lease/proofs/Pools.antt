@@ -11,7 +11,7 @@ use Rattle.kd_lease.specs.Choice.{Asking, IsFirstOf, has_rank, pooled, is_before
 use Rattle.kd_lease.specs.Ranks.{IsRanked}
 use Rattle.kd_lease.specs.Seeking.{IsLeastOpen, is_open, pool_rank}
 
--- the first pool that has an address
+-- the first pool that contains an address
 pool_at : (pools : List Pool) (a : ℕ) (d : Pool) → pool_place pools a < length pools → has (get_or pools (pool_place pools a) d).range a ≡ true
 pool_at [] a d less = absurd (omega arith)
 pool_at (pool ∷ pools) a d less = by (has pool.range a) refl less (pool_at pools a d) where

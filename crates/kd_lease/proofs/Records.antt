@@ -1,4 +1,5 @@
--- A client's record in a subnet: its row of the least address in the prefix, if it has one there.
+-- A client's record in a subnet: its row with the lowest address in the prefix, if it has one
+-- there.
 use Rattle.std.proofs.Common.{◌≡◌, ℕ, ◌+◌, ◌-◌, ◌<◌, Bool, Bor, true, false, ◌&&◌, Option, Some, None, is_some, ap, ◌∙◌, arith}
 use Rattle.std.specs.Option.{option_copied}
 use Rattle.std.proofs.lemmas.Bool.{false≢true}
@@ -21,7 +22,7 @@ record_there q s last row is (there, from, to, own, first) =
     let positive : 0 < prefix_size s.prefix.length = pow_pos (32 - s.prefix.length) in
     both (client_has q row.address) (has_address s.prefix row.address) (ap (has_such (belongs_to q.client)) there ∙ own) (grind (arith, nat_tests))
 
--- and so is what a search for the first of them gives
+-- and so is what a search for the first of them finds
 pub record_of : (q : Asking) (s : Subnet) (last : ℕ) (found : Option (Bor Row)) → last ≡ s.prefix.address + (prefix_size s.prefix.length - 1) → IsNextOf q.rows q.client s.prefix.address last (option_copied found) → is_some found ≡ true → (b : ℕ) × (is_record q s b ≡ true)
 record_of q s last None is next e = absurd (false≢true e)
 record_of q s last (Some row) is next e = (row.now.address, record_there q s last row.now is next)

@@ -1,4 +1,5 @@
--- A reserved address lies in the prefix of its subnet, so that only the subnets with the address are asked; and whose a reservation is.
+-- A reserved address is in the prefix of its subnet, so only the subnets that contain the address
+-- are searched; and whose a reservation is.
 use Rattle.std.proofs.Common.{◌≡◌, ℕ, Bool, true, false, ◌&&◌, ◌||◌, ◌==◌, nat_eq, not, List, [], ◌∷◌, ◌++◌, refl, sym, ap, ◌∙◌, subst, Option, None, Some, if◌then◌else◌}
 use Rattle.std.specs.List.{find, list_all, list_any}
 use Rattle.std.specs.Str.{bytes_eq}
@@ -27,7 +28,7 @@ right : (t u : Bool) → (t && u) ≡ true → u ≡ true
 right true u h = h
 right false u h = absurd (false≢true h)
 
--- a reserved address lies in the prefix
+-- a reserved address is in the prefix
 within : (prefix : Prefix) (earlier : List ℕ) (clients : List Identity) (rs : List Reservation) (a : ℕ)
     → may_all_reserve prefix earlier clients rs ≡ true → list_any (λ reservation. reservation.address == a) rs ≡ true → has_address prefix a ≡ true
 within prefix earlier clients [] a may has = absurd (false≢true has)
@@ -47,7 +48,7 @@ in_subnet : (earlier : List ℕ) (s : Subnet) (a : ℕ) → obeys earlier s ≡ 
 unfolding obeys
 in_subnet earlier s a h has = within s.prefix earlier [] s.reservations a (right (list_all (lies_within s.prefix) s.pools) (may_all_reserve s.prefix earlier [] s.reservations) h) has
 
--- a subnet has a reservation of an address exactly where its prefix has it too
+-- a subnet has a reservation of an address if and only if its prefix contains the address too
 same_keeps : (earlier : List ℕ) (s : Subnet) (a : ℕ) → obeys earlier s ≡ true → reserved_in a s ≡ reserves a s
 same_keeps earlier s a h = by (has_address s.prefix a) (reserved_in a s) refl refl where
   by : (t u : Bool) → has_address s.prefix a ≡ t → reserved_in a s ≡ u → u ≡ (t && u)
@@ -67,7 +68,7 @@ stands : (subnets : List Subnet) → may_stand subnets ≡ true → all_obey [] 
 unfolding may_stand
 stands subnets h = right (lie_apart (pool_ranges subnets)) (all_obey [] subnets) h
 
--- an address is reserved where a subnet that has it in its prefix has a reservation of it
+-- an address is reserved if a subnet that has it in its prefix has a reservation of it
 pub reserved_where : (config : Configuration) (a : ℕ) → IsSound config → reserved_anywhere config a ≡ list_any (reserves a) config.subnets
 reserved_where config a sound = each_keeps [] config.subnets a (stands config.subnets sound.subnets.together)
 
@@ -90,6 +91,6 @@ find_by m (r ∷ rs) =
     ap (λ (b : Bool). if b then Some r else find (λ r. is_from m r.identity) rs) (from_by m r.identity)
     ∙ ap (λ (o : Option Reservation). if identified_by (mac_of m.header) (value_of 61 m.options) r.identity then Some r else o) (find_by m rs)
 
--- whose a reservation is, is asked by what the message says of its client
+-- whose a reservation is, is decided by what the message says about its client
 pub reservation_by : (m : Seen) (s : Subnet) → client_reservation m s ≡ find (λ r. identified_by (mac_of m.header) (value_of 61 m.options) r.identity) s.reservations
 reservation_by m s = find_by m s.reservations

@@ -1,4 +1,5 @@
--- The rules have one answer: at most one row and one plan stand in each of their relations.
+-- The rules have at most one answer: each of their relations holds for at most one row and one
+-- plan.
 use Rattle.std.proofs.Common.{◌≡◌, ℕ, ◌≤◌, ◌==◌, ◌&&◌, ◌||◌, nat_lt, Bool, true, false, codes, List, [], Option, Some, None, option_map, inl, inr, ◌⊎◌, refl, sym, ap, ◌∙◌, subst, arith, if◌then◌else◌}
 use Rattle.std.proofs.lemmas.Bool.{and_from, and_parts, eqb-true, false≢true}
 use Rattle.std.proofs.lemmas.Bool.Decides.{nat_tests}
@@ -26,20 +27,20 @@ use Rattle.kd_options.specs.declared.kind.MessageType.TheVariants as types
 use Rattle.kd_rows.specs.Table.{row_at}
 use Rattle.kd_rows.specs.declared.row.Row.{Row}
 
--- at most one row and one other thing stand in a relation
+-- a relation holds for at most one row and one other thing
 abbrev One : {B : Type 0} → (Option Row → B → Type 0) → Type 0
 One {B} R = (x u : Option Row) (y v : B) → R x y → R u v → (x ≡ u) × (y ≡ v)
 
--- what is both of two kinds in turn is one
+-- two pairs that are equal to a third are equal
 both_same : {B : Type 0} {x u z : Option Row} {y v w : B} → (x ≡ z) × (y ≡ w) → (u ≡ z) × (v ≡ w) → (x ≡ u) × (y ≡ v)
 both_same h k = (h.0 ∙ sym k.0, h.1 ∙ sym k.1)
 
--- an outcome but for its options
+-- an outcome without its options
 abbrev bare : Outcome → Outcome
 bare (planned kind a options) = planned kind a []
 bare (quiet reason) = quiet reason
 
--- at most one row stands in a relation, and one outcome but for its options
+-- a relation holds for at most one row and one outcome, apart from its options
 abbrev OneBare : (Option Row → Outcome → Type 0) → Type 0
 OneBare R = (x u : Option Row) (y v : Outcome) → R x y → R u v → (x ≡ u) × (bare y ≡ bare v)
 
@@ -69,13 +70,13 @@ one_gives_up : (b : Bool) (row : Row) (done : Reason) → OneBare (GivesUpLease 
 one_gives_up true row done x u y v h k = both_bare h k
 one_gives_up false row done x u y v h k = both_bare h k
 
--- two addresses of which none is newer are one
+-- two addresses are equal if neither is newer
 one_newer : (rows : List Row) (a b : ℕ) → set_later rows a b ≡ false → set_later rows b a ≡ false → a ≡ b
 one_newer rows a b = by (changed_in (row_at rows a)) (changed_in (row_at rows b)) where
   by : (m n : ℕ) → (nat_lt n m || (m == n && nat_lt a b)) ≡ false → (nat_lt m n || (n == m && nat_lt b a)) ≡ false → a ≡ b
   by m n h k = grind (arith, nat_tests)
 
--- two addresses of which none is earlier are one
+-- two addresses are equal if neither is earlier
 one_earlier : (m n a b : ℕ) → (nat_lt m n || (m == n && nat_lt a b)) ≡ false → (nat_lt n m || (n == m && nat_lt b a)) ≡ false → a ≡ b
 one_earlier m n a b h k = grind (arith, nat_tests)
 
@@ -83,7 +84,7 @@ one_same : (o : Option ℕ) (a b : ℕ) → same_address o a ≡ true → same_a
 one_same None a b h k = absurd (false≢true h)
 one_same (Some x) a b h k = sym (eqb-true x a h) ∙ eqb-true x b k
 
--- the first of a rank is one
+-- a rank has one first address
 one_first : (q : Asking) (s : Subnet) (r : Rank) (a b : ℕ) → IsFirstOf q s r a → IsFirstOf q s r b → a ≡ b
 one_first q s reserved a b f g =
     one_same (address_reserved q.message s) a b (and_parts (same_address (address_reserved q.message s) a) (free_for q a) f.ranked).0
@@ -115,7 +116,7 @@ rank_of_place asked = refl
 rank_of_place fresh = refl
 rank_of_place expired = refl
 
--- the choice is one
+-- there is one choice
 one_choice : (q : Asking) (s : Subnet) (a b : ℕ) → Choice q s a → Choice q s b → a ≡ b
 one_choice q s a b c d =
     let less : place c.rank ≤ place d.rank = c.least d.rank b d.first.ranked in
@@ -124,7 +125,7 @@ one_choice q s a b c d =
     let same : c.rank ≡ d.rank = sym (rank_of_place c.rank) ∙ ap rank_at places ∙ rank_of_place d.rank in
     one_first q s d.rank a b (subst (λ (r : Rank). IsFirstOf q s r a) same c.first) d.first
 
--- what a DISCOVER comes to
+-- what a DISCOVER leads to
 record IsOffer (q : Asking) (s : Subnet) (set : Option Row) (plan : Outcome) : Type 0 where
   a : ℕ
   is : bare plan ≡ planned kinds.Offer a []
@@ -155,7 +156,7 @@ one_discover q s x u y v h k = by (discovers q s x y h) (discovers q s u v k) wh
   by (inr f) (inl g) = absurd (no_both g.a g.choice f.none)
   by (inr f) (inr g) = both_bare f.is g.is
 
--- what a REQUEST to this server comes to
+-- what a REQUEST to this server leads to
 abbrev IsAckOf : Asking → ℕ → Option Row → Outcome → Type 0
 IsAckOf q a set plan = (set ≡ Some (leased_row q a)) × (bare plan ≡ planned kinds.Ack a [])
 
@@ -178,7 +179,7 @@ one_select q s a x u y v h k = by (selects q s a x y h) (selects q s a u v k) wh
   by (inr f) (inl g) = absurd (false≢true (sym f.1 ∙ g.1))
   by (inr f) (inr g) = both_same f.0 g.0
 
--- the newest of a kind is one
+-- there is one newest address of a kind
 one_newest : (rows : List Row) (such : ℕ → Bool) (x y : Option ℕ) → IsNewest rows such x → IsNewest rows such y → x ≡ y
 one_newest rows such None None f g = refl
 one_newest rows such None (Some b) f g = absurd (false≢true (sym (f b) ∙ g.0))
@@ -190,7 +191,7 @@ one_other q x u y v h k =
     let same : h.0.0 ≡ k.0.0 = one_newest q.rows (offered_to q) h.0.0 k.0.0 h.0.1 k.0.1 in
     (h.0.2 ∙ ap (option_map (released_row q)) same ∙ sym k.0.2, ap bare (h.1 ∙ sym k.1))
 
--- what a REQUEST that names no server comes to
+-- what a REQUEST that names no server leads to
 record IsRenewal (q : Asking) (s : Subnet) (a : ℕ) (set : Option Row) (plan : Outcome) : Type 0 where
   is : IsAckOf q a set plan
   inside : has_address s.prefix a ≡ true
@@ -243,7 +244,7 @@ one_renew q s a x u y v h k = by (renews q s a x y h) (renews q s a u v k) where
   by (inr (inr f)) (inr (inl g)) = absurd (unknown_not f.inside g.why f.none)
   by (inr (inr f)) (inr (inr g)) = both_bare f.is g.is
 
--- what an INFORM comes to
+-- what an INFORM leads to
 informs : (s : Subnet) (set : Option Row) (plan : Outcome) → Informs s set plan → (set ≡ None) × (bare plan ≡ planned kinds.InformAck 0 [])
 informs s set (planned kinds.Offer a options) h = absurd h
 informs s set (planned kinds.Ack a options) h = absurd h
@@ -266,7 +267,7 @@ one_request q None x u y v h k =
     (λ a. one_in_subnet (serving_subnet q) (λ s. OnRenew q s a) (λ s. one_renew q s a)) x u y v h k
 one_request q (Some server) x u y v h k = one_named q _ x u y v h k
 
--- what a message of a type does is one
+-- what a message of a type does is determined
 one_sets : (q : Asking) (type : MessageType) → OneBare (Sets q type)
 one_sets q types.Discover x u y v h k = one_in_subnet (serving_subnet q) (OnDiscover q) (one_discover q) x u y v h k
 one_sets q types.Offer x u y v h k = both_bare h k
@@ -307,7 +308,7 @@ type_of_number types.Nak = refl
 type_of_number types.Release = refl
 type_of_number types.Inform = refl
 
--- so is what a message does
+-- what a message does is determined
 one_does : (q : Asking) → OneBare (Does q)
 one_does q x u y v h k =
     let same : h.type ≡ k.type = sym (type_of_number h.type) ∙ ap type_at (h.is ∙ sym k.is) ∙ type_of_number k.type in
@@ -343,7 +344,7 @@ one_for_client : (o : Option (List ℕ)) (Done : List ℕ → Option Row → Out
 one_for_client None Done one x u y v h k = both_same h k
 one_for_client (Some client) Done one x u y v h k = one client x u y v h k
 
--- and what is decided for it
+-- what is decided for a message is determined
 pub one_answer : OneAnswer
 one_answer config rows names m now set other got its h k =
     one_unless (server_message m) reasons.NotRequest (ForClient (client_identity m) served)
@@ -352,11 +353,11 @@ one_answer config rows names m now set other got its h k =
       served : List ℕ → Option Row → Outcome → Type 0
       served client = Unless (is_held (codes "DROP") names) reasons.DropClass (AnswersTo (asked_for config rows names m now client))
 
--- a message has one list of names
+-- a message has at most one list of names
 abbrev pub OneHeld : Type 0
 OneHeld = (m : Seen) (defs : List ClassDef) (names others : List (List ℕ)) → HeldSet m defs names → HeldSet m defs others → names ≡ others
 
--- so a table is changed to one
+-- so a table is changed to at most one table
 pub one_change : OneAnswer → OneHeld → OneChange
 one_change answer held config rows m now new other got its h k =
     let names : h.names ≡ k.names = held m config.classes h.names k.names h.held k.held in

@@ -1,4 +1,4 @@
--- The values that options give their codes, and the list that has them.
+-- The values that options give to codes, and the list that has them.
 use Rattle.std.proofs.Common.{◌≡◌, ◌≢◌, ℕ, zero, suc, ◌+◌, ◌<◌, ◌≤◌, ◌==◌, List, [], ◌∷◌, ◌++◌, true, false, nat_eq, if◌then◌else◌, Option, None, Some, refl, sym, subst, ap, ◌∙◌, length, slice_get, slice_index_or, option_map, ◌⊎◌, inl, inr, arith}
 use Rattle.std.specs.List.{find, flat_map, insert, range_with_len}
 use Rattle.std.specs.Option.{option_or}
@@ -51,7 +51,7 @@ value_in-append code options o =
     ∙ map-or (find (λ p. p.code == code) options) (find (λ p. p.code == code) (o ∷ []))
     ∙ ap (λ y. option_or (value_in code options) y) (one o code)
 
--- a code below those of a list has no value there
+-- a code below those of a list has no value in it
 pub none_above : (list : List Coded) (b c : ℕ) → c ≤ b → RiseAbove b list → value_at c list ≡ None
 none_above [] b c low rise = refl
 none_above (x ∷ more) b c low rise =
@@ -83,7 +83,7 @@ none_yet zero (x ∷ more) e b rise at next = rw (is_other x.code e.code (next x
 none_yet (suc place) (x ∷ more) e b rise at next =
     rw (is_other x.code e.code (less_other x.code e.code at.0)) (none_yet place more e x.code rise.1 at.1 next)
 
--- behind one entry the values are those behind it
+-- the values after one more entry at the front
 value_behind : (x : Coded) (k : ℕ) (xs ys : List Coded) → value_at k xs ≡ value_at k ys → value_at k (x ∷ xs) ≡ value_at k (x ∷ ys)
 value_behind x k xs ys same = cases (eqb_tells x.code k) where
   cases : ((nat_eq x.code k ≡ true) × (x.code ≡ k)) ⊎ ((nat_eq x.code k ≡ false) × (x.code ≢ k)) → value_at k (x ∷ xs) ≡ value_at k (x ∷ ys)
@@ -101,7 +101,7 @@ known_behind y k more known = cases (eqb_tells y.code k) where
   cases (inl t) = (y.value.now, rw (t.0) refl)
   cases (inr f) = rw (f.0) known
 
--- the value of a place's entry
+-- the value of the entry at a place
 known_at : (place : ℕ) (list : List Coded) (x : Coded) → slice_get list place ≡ Some x → (v : List ℕ) × (value_at x.code list ≡ Some v)
 known_at place [] x is = absurd (omega (arith, slice_get_within [] place x is))
 known_at zero (y ∷ more) x is = let same : y ≡ x = same_Some y x is in (y.value.now, rw (sym (ap (λ e. e.code) same)) (rw (is_same y.code) refl))
@@ -111,13 +111,13 @@ or-none : (x : Option (List ℕ)) → option_or x None ≡ x
 or-none None = refl
 or-none (Some x) = refl
 
--- an option that changes no code's value
+-- an option that does not change the value of any code
 same_values : (list : List Coded) (options : List OptionData) (o : OptionData) → HasValues list options
     → ((k : ℕ) → IsCode k → option_or (value_in k options) (own_value o k) ≡ value_in k options) → HasValues list (options ++ o ∷ [])
 same_values list options o h same =
     record { rise = h.rise; codes = h.codes; each = λ k is. h.each k is ∙ sym (same k is) ∙ sym (value_in-append k options o) }
 
--- an option whose code is none
+-- an option whose code is not a code of options
 pub put_none : (list : List Coded) (options : List OptionData) (o : OptionData) → ((k : ℕ) → IsCode k → o.code ≢ k) → HasValues list options → HasValues list (options ++ o ∷ [])
 put_none list options o other h =
     same_values list options o h (λ k is. rw (is_other o.code k (other k is)) (or-none (value_in k options)))
@@ -154,7 +154,8 @@ put_new place list e options o code value is at next h =
           let own : own_value o k ≡ None = ap (λ c. if nat_eq c k then Some o.value else None) (sym code) ∙ ap (λ b. if b then Some o.value else None) f.0 in
           other_insert place list e k f.0 ∙ h.each k isk ∙ sym (value_in-append k options o ∙ ap (λ x. option_or (value_in k options) x) own ∙ or-none (value_in k options))
 
--- a function of codes that gives nothing for a code without a value, over codes that follow one another, gives what it gives for the entries
+-- if a function of codes gives nothing for a code without a value, then over consecutive codes it
+-- gives what it gives for the entries
 pub over_entries : {A : Type 0} (give : ℕ → Option (List ℕ) → List A) (f : ℕ → List A) → ((code : ℕ) → give code None ≡ []) → (n a : ℕ) (list : List Coded) → RiseAbove a list
     → HaveCodes list → n + a ≡ 254
     → ((code : ℕ) → a < code → code < 255 → f code ≡ give code (value_at code list)) → flat_map f (range_with_len (a + 1) n) ≡ flat_map (λ e. give e.code (Some e.value.now)) list

@@ -1,4 +1,4 @@
--- The list of the reserved addresses has those that are reserved, and no others.
+-- The list of the reserved addresses has exactly those that are reserved.
 use Rattle.std.proofs.Common.{◌≡◌, ℕ, ◌||◌, ◌==◌, List, [], ◌∷◌, refl, ap, ◌∙◌}
 use Rattle.std.specs.List.{flat_map, list_any}
 use Rattle.std.proofs.lemmas.List.Folds.{list_any-append}

@@ -1,4 +1,4 @@
--- A client's rows by their age: words of private contracts alone.
+-- A client's rows by their age: helpers of private contracts only.
 use Rattle.std.specs.Prelude.{ℕ, Bool, true, false, ◌&&◌, ◌||◌, ◌==◌, nat_le, List, Option, Some, None, if◌then◌else◌}
 use Rattle.kd_rows.specs.Row.{state_number}
 use Rattle.kd_rows.specs.Table.{row_at}
@@ -11,7 +11,7 @@ use Rattle.kd_lease.specs.declared.choosing.Choosing.{Choosing}
 use Rattle.kd_lease.specs.declared.seeking.Sought.{Sought}
 use Rattle.kd_lease.specs.declared.seeking.Sought.TheVariants as seeks
 
--- a state in which a row that is sought can be
+-- whether a row that is sought can be in this state
 abbrev pub state_sought : Sought → State → Bool
 state_sought (seeks.Own choosing) state = holding_state state
 state_sought (seeks.Past choosing) state = true
@@ -29,27 +29,27 @@ is_in_state state row = state_number row.state == state_number state
 abbrev pub sought_within : Asking → Sought → ℕ → ℕ → ℕ → Bool
 sought_within q sought first last a = sought_at q sought a && is_within first last a
 
--- such an address, where its row is in a state
+-- such an address, if its row is in a state
 abbrev pub sought_in : Asking → Sought → State → ℕ → ℕ → ℕ → Bool
 sought_in q sought state first last a =
     has_such (is_in_state state) (row_at q.rows a) && sought_within q sought first last a
 
--- what is sought are rows that have not ended
+-- only rows that have not ended are sought
 abbrev pub live_sought : Sought → Bool
 live_sought (seeks.Own choosing) = true
 live_sought (seeks.Past choosing) = false
 live_sought seeks.Offer = true
 
--- an address that is sought, where it is the one that is reserved for the client
+-- an address is sought and is the one reserved for the client
 abbrev pub reserved_sought : Asking → Sought → Option ℕ → ℕ → Bool
 reserved_sought q sought own a = sought_at q sought a && same_address own a
 
--- an address that is sought, where it is reserved for the client in a subnet or in a pool of it
+-- an address is sought and is reserved for the client in a subnet, or is in a pool of it
 abbrev pub sought_for : Asking → Sought → Choosing → ℕ → Bool
 sought_for q sought choosing a =
     sought_at q sought a && (same_address choosing.own a || pooled choosing.subnet.now a)
 
--- the newer of two addresses, of which each may be missing
+-- the newer of two addresses; either may be missing
 abbrev pub newer_found : List Row → Option ℕ → Option ℕ → Option ℕ
 newer_found rows None other = other
 newer_found rows (Some a) None = Some a

@@ -1,6 +1,6 @@
--- What a message changes (RFC 2131 section 4.3): the row that is set in the table of leases, or
--- none, and what the message gets. The rules say both; a reply whose obligatory options do not fit
--- is not sent, and then no row is set (the choice is ours).
+-- What a message changes (RFC 2131 section 4.3): the row that is set in the table of leases, if
+-- any, and what the message gets. The rules determine both; a reply whose mandatory options do not
+-- fit is not sent, and then no row is set (our choice).
 use Rattle.std.specs.Prelude.{◌≡◌, ℕ, Bool, true, false, List, Option, Some, None, codes}
 use Rattle.kd_classes.specs.HeldSet.{HeldSet}
 use Rattle.kd_config.specs.Configuration.{Configuration}
@@ -18,22 +18,23 @@ use Rattle.kd_lease.specs.ReplyOf.{within_room}
 use Rattle.kd_lease.specs.ReplyOptions.{reply_options}
 use Rattle.kd_lease.specs.Rules.{Does}
 
--- a reply has its options, where there is one
+-- a reply, if there is one, has its options
 abbrev pub HasReplyOptions : Asking → Outcome → Type 0
 HasReplyOptions q (planned kind yiaddr options) = options ≡ reply_options q kind yiaddr
 HasReplyOptions q (quiet reason) = Unit {0}
 
--- the obligatory options fit, where there is a reply
+-- the mandatory options fit, if there is a reply
 abbrev pub fits_in : ℕ → Outcome → Bool
 fits_in room (planned kind yiaddr options) = within_room room options
 fits_in room (quiet reason) = true
 
--- this row is set and this is got, where the reply fits; else nothing is set, and there is no reply
+-- this row is set and this is the result if the reply fits; otherwise no row is set and there is no
+-- reply
 abbrev pub WhereFits : Bool → Option Row → Outcome → Option Row → Outcome → Type 0
 WhereFits true row outcome set got = (set ≡ row) × (got ≡ outcome)
 WhereFits false row outcome set got = (set ≡ None) × (got ≡ quiet reasons.ReplyTooLong)
 
--- what a message does by its rule, and gets
+-- what a message does by its rule, and what it gets
 pub record AnswersTo (q : Asking) (set : Option Row) (got : Outcome) : Type 0 where
   pub row : Option Row
   pub outcome : Outcome
@@ -41,24 +42,24 @@ pub record AnswersTo (q : Asking) (set : Option Row) (got : Outcome) : Type 0 wh
   pub options : HasReplyOptions q outcome
   pub replies : WhereFits (fits_in (reply_room q.message) outcome) row outcome set got
 
--- nothing is done and there is no answer, for this reason, where it applies
+-- if the test holds, nothing is done and there is no reply, for this reason; else what follows
 abbrev pub Unless : Bool → Reason → (Option Row → Outcome → Type 0) → Option Row → Outcome → Type 0
 Unless true reason Done set got = (set ≡ None) × (got ≡ quiet reason)
 Unless false reason Done set got = Done set got
 
--- what is done for a client by its identity; nothing where there is none
+-- what is done for a client by its identity; nothing if it has none
 abbrev pub ForClient : Option (List ℕ) → (List ℕ → Option Row → Outcome → Type 0) → Option Row
     → Outcome → Type 0
 ForClient None Done set got = (set ≡ None) × (got ≡ quiet reasons.NoIdentity)
 ForClient (Some client) Done set got = Done client set got
 
--- what the rules are asked for a client's message over a table
+-- what the rules are applied to for a client's message over a table
 abbrev pub asked_for : Configuration → List Row → List (List ℕ) → Seen → ℕ → List ℕ → Asking
 asked_for config rows names m now client =
     record { config = config; rows = rows; names = names; message = m; client = client; now = now }
 
--- what a message sets and gets whose classes have these names: only clients' messages with an
--- identity are answered, and none of the class DROP
+-- what a message, whose classes have these names, sets and gets: only messages of clients that have
+-- an identity are answered, and none that is in the class DROP
 abbrev pub Decides : Configuration → List Row → List (List ℕ) → Seen → ℕ → Option Row → Outcome
     → Type 0
 Decides config rows names m now set got =
@@ -67,12 +68,12 @@ Decides config rows names m now set got =
     (λ client. Unless (is_held (codes "DROP") names) reasons.DropClass
     (AnswersTo (asked_for config rows names m now client)))) set got
 
--- the rows after one is set, or none
+-- the rows after one is set, or after none is
 abbrev pub after : List Row → Option Row → List Row
 after rows None = rows
 after rows (Some row) = with_row row rows
 
--- a message at a moment changes the table to this one, and gets this, by the classes that it is in
+-- a message at a time changes the table to this one and gets this, by the classes that it is in
 pub record Changes (config : Configuration) (old : List Row) (m : Seen) (now : ℕ) (new : List Row)
     (outcome : Outcome) : Type 0 where
   pub names : List (List ℕ)

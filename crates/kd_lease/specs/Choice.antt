@@ -1,5 +1,5 @@
--- The address that a client is offered (RFC 2131 section 4.3.1): which addresses it may have, what
--- speaks for each of them, and which comes first. Reservations are those of the Kea Administrator
+-- The address that a client is offered (RFC 2131 section 4.3.1): which addresses it may have, the
+-- rank of each of them, and which comes first. Reservations are those of the Kea Administrator
 -- Reference Manual, section Host Reservations in DHCPv4; the order of pools and the use of option
 -- 50 are those of RFC 2131.
 use Rattle.std.specs.Prelude.{◌≡◌, ℕ, ◌+◌, ◌≤◌, Bool, true, false, not, ◌&&◌, ◌||◌, ◌==◌, nat_lt, is_none, List, [], ◌∷◌, Option, Some, None, option_map, if◌then◌else◌}
@@ -20,8 +20,8 @@ use Rattle.kd_rows.specs.declared.row.Row.{Row}
 use Rattle.kd_rows.specs.declared.row.State.{State}
 use Rattle.kd_rows.specs.declared.row.State.TheVariants.{Offered, Bound, Released, Declined}
 
--- what the rules are asked over: a configuration, the rows of leases, the names of the held
--- classes, the message, its client's identity, and the moment
+-- what the rules are applied to: a configuration, the rows of leases, the names of the held
+-- classes, the message, its client's identity, and the time
 pub record Asking : Type 0 where
   pub config : Configuration
   pub rows : List Row
@@ -30,7 +30,7 @@ pub record Asking : Type 0 where
   pub client : List ℕ
   pub now : ℕ
 
--- a value is there, and is these bytes
+-- there is a value, and it is these bytes
 abbrev pub same_value : List ℕ → Option (List ℕ) → Bool
 same_value bytes None = false
 same_value bytes (Some value) = bytes_eq value bytes
@@ -40,7 +40,7 @@ abbrev pub is_from : Seen → Identity → Bool
 is_from m (Hardware bytes) = bytes_eq (mac_of m.header) bytes
 is_from m (ClientId bytes) = same_value bytes (value_of 61 m.options)
 
--- the reservation of a message: the first of the subnet that is for its client
+-- the reservation for a message: the first of the subnet that is for its client
 abbrev pub client_reservation : Seen → Subnet → Option Reservation
 client_reservation m s = find (λ reservation. is_from m reservation.identity) s.reservations
 
@@ -52,27 +52,26 @@ address_reserved m s = option_map (λ reservation. reservation.address) (client_
 abbrev pub reserved_in : ℕ → Subnet → Bool
 reserved_in a s = list_any (λ reservation. reservation.address == a) s.reservations
 
--- a subnet of the configuration has one
+-- a subnet of the configuration has a reservation of this address
 abbrev pub reserved_anywhere : Configuration → ℕ → Bool
 reserved_anywhere config a = list_any (reserved_in a) config.subnets
 
--- an address is there, and is this one
+-- there is an address, and it is this one
 abbrev pub same_address : Option ℕ → ℕ → Bool
 same_address None a = false
 same_address (Some b) a = b == a
 
--- a pool of the subnet has this address
+-- this address is in a pool of the subnet
 abbrev pub pooled : Subnet → ℕ → Bool
 pooled s a = list_any (λ pool. has pool.range a) s.pools
 
--- an address fits: it is in a pool of the subnet and reserved for nobody, or reserved for the
--- client
+-- an address fits: it is in a pool of the subnet and not reserved, or it is reserved for the client
 abbrev pub fitting_for : Asking → Subnet → ℕ → Bool
 fitting_for q s a =
     (pooled s a && not (reserved_anywhere q.config a))
     || same_address (address_reserved q.message s) a
 
--- a row is there, and is such a one
+-- there is a row, and it passes the test
 abbrev pub has_such : (Row → Bool) → Option Row → Bool
 has_such such None = false
 has_such such (Some row) = such row
@@ -92,7 +91,7 @@ holding_state Declined = false
 abbrev pub own_row : Asking → Row → Bool
 own_row q row = belongs_to q.client row && holding_state row.state
 
--- a row that the client holds: its own, live, offered or bound
+-- a row that the client holds: its own, not ended, offered or bound
 abbrev pub held_row : Asking → Row → Bool
 held_row q row = live_row q.now row && own_row q row
 
@@ -100,29 +99,30 @@ held_row q row = live_row q.now row && own_row q row
 abbrev pub past_row : Asking → Row → Bool
 past_row q row = not (live_row q.now row) && belongs_to q.client row
 
--- a row leaves its address free for the client: it has ended, or is the client's, offered or bound
+-- a row leaves its address free for the client: it has ended, or it is the client's own and offered
+-- or bound
 abbrev pub freed_by : Asking → Row → Bool
 freed_by q row = not (live_row q.now row) || own_row q row
 
--- an address is free for the client: it has no row, or one that leaves it free
+-- an address is free for the client: it has no row, or a row that leaves it free
 abbrev pub free_for : Asking → ℕ → Bool
 free_for q a = is_none (row_at q.rows a) || has_such (freed_by q) (row_at q.rows a)
 
--- the client may be given an address: it fits and is free
+-- the client may be assigned an address: it fits and is free
 abbrev pub usable : Asking → Subnet → ℕ → Bool
 usable q s a = fitting_for q s a && free_for q a
 
--- the address that a value of four bytes is
+-- the address in a value of four bytes
 abbrev pub address_of_value : Option (List ℕ) → Option ℕ
 address_of_value (Some (a ∷ b ∷ c ∷ d ∷ [])) = Some (from_be_bytes w32 (a ∷ b ∷ c ∷ d ∷ []))
 address_of_value other = None
 
--- the address that the client asks for, option 50
+-- the address that the client asks for in option 50
 abbrev pub requested_address : Seen → Option ℕ
 requested_address m = address_of_value (value_of 50 m.options)
 
--- what speaks for an address, the strongest first: it is reserved for the client, it is the
--- client's, it was the client's, the client asks for it, nobody had it yet, its row has ended
+-- the ranks of addresses, the strongest first: reserved for the client, the client's own, formerly
+-- the client's, asked for by the client, without a row, with a row that has ended
 pub data Rank : Type 0 where
   reserved : Rank
   own : Rank
@@ -131,7 +131,7 @@ pub data Rank : Type 0 where
   fresh : Rank
   expired : Rank
 
--- the place of each rank
+-- the position of each rank
 abbrev pub place : Rank → ℕ
 place reserved = 1
 place own = 2
@@ -151,33 +151,33 @@ has_rank q s expired a =
     pooled s a && (has_such (λ row. not (live_row q.now row)) (row_at q.rows a)
     && fitting_for q s a)
 
--- the moment at which a row was set, 0 where there is none
+-- the time at which a row was set, 0 if there is none
 abbrev pub changed_in : Option Row → ℕ
 changed_in None = 0
 changed_in (Some row) = row.changed
 
--- of two addresses the first is newer: its row was set later, or at one moment and it is the lesser
--- address
+-- the first of two addresses is newer: its row was set later, or at the same time and it is the
+-- lesser address
 abbrev pub set_later : List Row → ℕ → ℕ → Bool
 set_later rows a b =
     let m = changed_in (row_at rows a) in
     let n = changed_in (row_at rows b) in
     nat_lt n m || (m == n && nat_lt a b)
 
--- the place of the first pool that has an address
+-- the index of the first pool that contains an address
 abbrev pub pool_place : List Pool → ℕ → ℕ
 pool_place [] a = 0
 pool_place (pool ∷ pools) a = if has pool.range a then 0 else pool_place pools a + 1
 
--- of two addresses the first is earlier: in an earlier pool, or in one pool and it is the lesser
--- address
+-- the first of two addresses is earlier: in an earlier pool, or in the same pool and it is the
+-- lesser address
 abbrev pub is_earlier : List Pool → ℕ → ℕ → Bool
 is_earlier pools a b =
     let m = pool_place pools a in
     let n = pool_place pools b in
     nat_lt m n || (m == n && nat_lt a b)
 
--- of two addresses of one rank the first comes before the other
+-- the first of two addresses of a rank comes before the other
 abbrev pub is_before : Asking → Subnet → Rank → ℕ → ℕ → Bool
 is_before q s reserved a b = false
 is_before q s own a b = set_later q.rows a b
@@ -186,12 +186,12 @@ is_before q s asked a b = false
 is_before q s fresh a b = is_earlier s.pools a b
 is_before q s expired a b = is_earlier s.pools a b
 
--- an address is the first of a rank: it has the rank, and none that has it comes before
+-- an address is the first of a rank: it has the rank, and no other that has it comes before
 pub record IsFirstOf (q : Asking) (s : Subnet) (rank : Rank) (a : ℕ) : Type 0 where
   pub ranked : has_rank q s rank a ≡ true
   pub first : (b : ℕ) → has_rank q s rank b ≡ true → is_before q s rank b a ≡ false
 
--- the address for the client: the first of a rank, where none has a rank of a lesser place
+-- the address for the client: the first of its rank, and no address has a stronger rank
 pub record Choice (q : Asking) (s : Subnet) (a : ℕ) : Type 0 where
   pub rank : Rank
   pub first : IsFirstOf q s rank a

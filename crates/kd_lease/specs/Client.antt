@@ -1,11 +1,12 @@
--- What a message says of its client (RFC 2131 sections 2 and 4.2, RFC 2132 sections 9.6, 9.8, 9.10
--- and 9.14): its type, who the client is, which options it asks for, and how long a reply may be.
+-- What a message says about its client (RFC 2131 sections 2 and 4.2, RFC 2132 sections 9.6, 9.8,
+-- 9.10 and 9.14): its type, who the client is, which options it asks for, and how long a reply may
+-- be.
 use Rattle.std.specs.Prelude.{ℕ, ◌+◌, ◌-◌, ◌*◌, max, min, Bool, true, ◌||◌, ◌==◌, List, [], ◌∷◌, Option, Some, None}
 use Rattle.std.specs.List.{list_any}
 use Rattle.kd_options.specs.Joined.{value_of}
 use Rattle.kd_options.specs.Message.{Seen, mac_of}
 
--- the first byte of a value, and 0 where there is none
+-- the first byte of a value, 0 if there is none
 abbrev pub first_byte : Option (List ℕ) → ℕ
 first_byte None = 0
 first_byte (Some []) = 0
@@ -19,24 +20,24 @@ kind_of m = first_byte (value_of 53 m.options)
 abbrev pub server_message : Seen → Bool
 server_message m = m.header.op == 2 || kind_of m == 2 || kind_of m == 5 || kind_of m == 6
 
--- the identity that the hardware gives: 0, the kind of link layer, and the address, where there is
--- one
+-- the identity by the hardware: 0, the hardware type, and the hardware address, if there is one
 abbrev pub identity_by_hardware : ℕ → List ℕ → Option (List ℕ)
 identity_by_hardware htype [] = None
 identity_by_hardware htype (b ∷ mac) = Some (0 ∷ htype ∷ b ∷ mac)
 
--- the identity of a client with this client identifier: 1 and it, where it is there and not empty
+-- the identity of a client with this client identifier: 1 and the identifier, if it is present and
+-- not empty; otherwise the identity by the hardware
 abbrev pub identity_by : Option (List ℕ) → Option (List ℕ) → Option (List ℕ)
 identity_by None hardware = hardware
 identity_by (Some []) hardware = hardware
 identity_by (Some (b ∷ bytes)) hardware = Some (1 ∷ b ∷ bytes)
 
--- who the client is: by option 61, else by its hardware
+-- who the client is: by option 61, otherwise by its hardware
 abbrev pub client_identity : Seen → Option (List ℕ)
 client_identity m =
     identity_by (value_of 61 m.options) (identity_by_hardware m.header.htype (mac_of m.header))
 
--- a code is asked for: it stands in option 55, or that is absent
+-- a code is asked for: option 55 lists it, or is absent
 abbrev pub is_asked_in : ℕ → Option (List ℕ) → Bool
 is_asked_in code None = true
 is_asked_in code (Some list) = list_any (λ c. c == code) list
@@ -45,12 +46,11 @@ is_asked_in code (Some list) = list_any (λ c. c == code) list
 abbrev pub wants_option : ℕ → Seen → Bool
 wants_option code m = is_asked_in code (value_of 55 m.options)
 
--- the greatest message that the client takes: option 57 where it has two bytes, else 576
+-- the longest message that the client accepts: option 57 if it has two bytes, otherwise 576
 abbrev pub greatest_by : Option (List ℕ) → ℕ
 greatest_by (Some (a ∷ b ∷ [])) = a * 256 + b
 greatest_by other = 576
 
--- the room for a reply: what is left of that after the headers of IP and UDP, from 548 to 1472
--- bytes
+-- the room for a reply: that length without the IP and UDP headers, from 548 to 1472 bytes
 abbrev pub reply_room : Seen → ℕ
 reply_room m = min 1472 (max 576 (greatest_by (value_of 57 m.options)) - 28)

@@ -1,4 +1,4 @@
--- What the rules answer for a message over a table, as the code holds it.
+-- What the rules decide for a message over a table, as the code represents it.
 use Rattle.std.specs.Prelude.{◌≡◌, ℕ, Result, Ok, Err, map}
 use Rattle.kd_event.specs.declared.reason.Reason.{Reason}
 use Rattle.kd_options.specs.Message.{Seen}
@@ -13,28 +13,30 @@ use Rattle.kd_lease.specs.declared.plan.Outline.{Outline}
 use Rattle.kd_lease.specs.declared.plan.Plan.{Plan}
 use Rattle.kd_lease.specs.declared.plan.PlanKind.{PlanKind}
 
--- a reply of a kind, with the address that it gives or zero, and its options
+-- a reply of a kind, with the address that it assigns or zero, and its options
 abbrev pub reply_in : Asking → PlanKind → ℕ → Outcome
 reply_in q kind yiaddr = planned kind yiaddr (reply_options q kind yiaddr)
 
--- what a message gets by the outline of its reply, whose options follow from it; or the reason
+-- what a message gets by the outline of its reply, which determines the options; or the reason why
+-- there is none
 abbrev pub outcome_for : Asking → Result Outline Reason → Outcome
 outcome_for q (Ok outline) = reply_in q outline.kind outline.yiaddr
 outcome_for q (Err reason) = quiet reason
 
 -- what a message gets by a plan: the kind of its reply, its address and its options; or the reason
+-- why there is none
 abbrev pub outcome_in : Result Plan Reason → Outcome
 outcome_in (Ok plan) = planned plan.kind plan.yiaddr (map option_of_item plan.reply.items)
 outcome_in (Err reason) = quiet reason
 
--- a plan of a reply to a message: its header and its room are that message's, and its obligatory
--- options fit
+-- a plan is a reply to a message: the header and the room are those for the message, and the
+-- mandatory options fit
 pub record IsReplyTo (m : Seen) (plan : Plan) : Type 0 where
   pub header : plan.reply.header ≡ header_of_reply plan.kind plan.yiaddr m.header
   pub room : plan.room ≡ reply_room m
   pub fits : ItemsFit plan.room plan.reply.items
 
--- an answer to a message
+-- a plan, if there is one, is a reply to the message
 abbrev pub IsAnswerTo : Seen → Result Plan Reason → Type 0
 IsAnswerTo m (Ok plan) = IsReplyTo m plan
 IsAnswerTo m (Err reason) = Unit {0}

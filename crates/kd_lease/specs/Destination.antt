@@ -1,4 +1,4 @@
--- Where a reply goes (RFC 2131 section 4.1): the fields are those of the message, not of the reply.
+-- Where a reply goes (RFC 2131 section 4.1), by the fields of the message, not of the reply.
 use Rattle.std.specs.Prelude.{ℕ, Bool, true, false, not, ◌==◌, nat_le, if◌then◌else◌}
 use Rattle.kd_event.specs.declared.destination.Destination.{Destination}
 use Rattle.kd_event.specs.declared.destination.Mode.TheVariants as modes
@@ -12,12 +12,13 @@ abbrev pub is_nak : PlanKind → Bool
 is_nak kinds.Nak = true
 is_nak other = false
 
--- the leftmost bit of the flags
+-- the leftmost bit of the flags is set
 abbrev pub asks_for_broadcast : Header → Bool
 asks_for_broadcast h = nat_le 0x8000 h.flags
 
--- the destination of a reply: to the relay; a NAK to all; to the address that the client has; to
--- all where the client asks for it; else to its hardware, with its new address
+-- the destination of a reply: to the relay; otherwise a NAK is broadcast; otherwise to the address
+-- that the client has; otherwise by broadcast if the client asks for it; otherwise to its hardware
+-- address, with its new address
 unfoldable pub destination_of : Header → PlanKind → ℕ → Ports → Destination
 destination_of h kind yiaddr ports =
     if not (h.giaddr == 0)

@@ -17,12 +17,12 @@ use Rattle.kd_options.specs.Message.{Seen}
 use Rattle.kd_lease.specs.Client.{wants_option}
 use Rattle.kd_lease.specs.Plan.{ReplyOption}
 
--- the options of a pool, where there is one
+-- the options of a pool, if there is one
 abbrev pub options_in : Option Pool → List OptionData
 options_in None = []
 options_in (Some pool) = pool.options
 
--- the options of the first of the pools that has the address
+-- the options of the first of the pools that contains the address
 abbrev pub options_of_pool : List Pool → ℕ → List OptionData
 options_of_pool pools address = options_in (find (λ pool. has pool.range address) pools)
 
@@ -31,7 +31,7 @@ abbrev pub class_options : List ClassDef → List (List ℕ) → List OptionData
 class_options classes names =
     flat_map (λ class. class.options) (filter (λ class. is_held class.name names) classes)
 
--- the mask of a prefix (RFC 2132 section 3.3): ones, as many as its length, and zeros, in network
+-- the mask of a prefix (RFC 2132 section 3.3): as many ones as its length, then zeros, in network
 -- order
 abbrev pub prefix_mask : Prefix → List ℕ
 prefix_mask prefix = big_bytes 4 (2 ^ 32 - prefix_size prefix.length)
@@ -40,8 +40,8 @@ prefix_mask prefix = big_bytes 4 (2 ^ 32 - prefix_size prefix.length)
 abbrev pub mask_option : Prefix → OptionData
 mask_option prefix = record { code = 1; value = prefix_mask prefix }
 
--- the options given at an address of a subnet to the holder of these names, the first of a code
--- before others
+-- the options given at an address of a subnet to a client in the classes with these names; for each
+-- code, the first in this list takes precedence
 unfoldable pub given : Configuration → Subnet → List (List ℕ) → ℕ → List OptionData
 given config subnet names address =
     options_of_pool subnet.pools address ++ subnet.options ++ class_options config.classes names
@@ -52,11 +52,11 @@ abbrev pub value_in : ℕ → List OptionData → Option (List ℕ)
 value_in code options =
     option_map (λ option. option.value) (find (λ option. option.code == code) options)
 
--- an option that is sent where there is room
+-- an option that is sent if there is room
 abbrev pub optional : ℕ → List ℕ → List ReplyOption
 optional code value = record { code = code; value = value; obligatory = false } ∷ []
 
--- a configured option: it is sent where it has a value and the client asks for it
+-- a configured option: it is sent if it has a value and the client asks for it
 abbrev pub configured : Bool → ℕ → Option (List ℕ) → List ReplyOption
 configured asked code None = []
 configured asked code (Some value) = if asked then optional code value else []
@@ -65,6 +65,6 @@ configured asked code (Some value) = if asked then optional code value else []
 abbrev pub configured_at : Seen → List OptionData → ℕ → List ReplyOption
 configured_at m options code = configured (wants_option code m) code (value_in code options)
 
--- the configured options of the reply to a message, in rising code
+-- the configured options of the reply to a message, in ascending order of code
 unfoldable pub configured_options : Seen → List OptionData → List ReplyOption
 configured_options m options = flat_map (configured_at m options) (range_with_len 1 254)

@@ -1,4 +1,4 @@
--- What is true of the rules over every configuration, table, message and moment.
+-- What is true of the rules for every configuration, table, message and time.
 use Rattle.std.specs.Prelude.{◌≡◌, ℕ, true, false, ◌⊎◌, List, Option, Some, None}
 use Rattle.kd_config.specs.Configuration.{Configuration}
 use Rattle.kd_config.specs.declared.subnet.Subnet.{Subnet}
@@ -13,7 +13,7 @@ use Rattle.kd_lease.specs.Plan.Outcome.{planned}
 use Rattle.kd_lease.specs.Rules.{Sets, renewable}
 use Rattle.kd_lease.specs.declared.plan.PlanKind.TheVariants as kinds
 
--- a row that is set was changed now
+-- a row that is set has the present time as its time of change
 abbrev pub SetsNow : Type 0
 SetsNow =
     (q : Asking) (type : MessageType) (row : Row) (outcome : Outcome)
@@ -25,7 +25,7 @@ NakSetsNone =
     (q : Asking) (type : MessageType) (set : Option Row) (a : ℕ) (options : List ReplyOption)
     → Sets q type set (planned kinds.Nak a options) → set ≡ None
 
--- a row of another client that has not ended, whatever its state
+-- a row that is not the client's and has not ended, whatever its state
 pub record IsAnothers (q : Asking) (a : ℕ) (row : Row) : Type 0 where
   pub there : row_at q.rows a ≡ Some row
   pub live : live_row q.now row ≡ true
@@ -37,7 +37,7 @@ HeldHasNoRank =
     (q : Asking) (s : Subnet) (rank : Rank) (a : ℕ) (row : Row) → IsAnothers q a row
     → has_rank q s rank a ≡ false
 
--- so a client can neither ask for it nor renew it
+-- so the client can neither get it by a REQUEST nor renew it
 abbrev pub HeldIsNotUsable : Type 0
 HeldIsNotUsable =
     (q : Asking) (s : Subnet) (a : ℕ) (row : Row) → IsAnothers q a row
@@ -51,15 +51,15 @@ HeldIsNotGiven =
     → Sets q type set (planned kinds.Offer a options)
     ⊎ Sets q type set (planned kinds.Ack a options) → ⊥
 
--- a message whose classes have these names, at a moment and over a table, sets one row, or none, and
--- gets one thing
+-- a message whose classes have these names, at a time and over a table, sets at most one row and
+-- gets at most one result
 abbrev pub OneAnswer : Type 0
 OneAnswer =
     (config : Configuration) (rows : List Row) (names : List (List ℕ)) (m : Seen) (now : ℕ)
     (set other : Option Row) (got its : Outcome) → Decides config rows names m now set got
     → Decides config rows names m now other its → (set ≡ other) × (got ≡ its)
 
--- so a message at a moment changes a table to one table, and gets one thing
+-- so a message at a time changes a table to at most one table, and gets at most one result
 abbrev pub OneChange : Type 0
 OneChange =
     (config : Configuration) (rows : List Row) (m : Seen) (now : ℕ) (new other : List Row)

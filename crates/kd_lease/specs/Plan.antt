@@ -1,20 +1,20 @@
--- What a message gets: a plan of its reply, or the reason for which it gets none.
+-- What a message gets: a plan of its reply, or the reason why it gets none.
 use Rattle.std.specs.Prelude.{ℕ, Bool, List}
 use Rattle.kd_options.specs.declared.item.Item.{Item}
 use Rattle.kd_lease.specs.declared.plan.PlanKind.{PlanKind}
 use Rattle.kd_event.specs.declared.reason.Reason.{Reason}
 
--- an option of a reply: its code, its value, and whether the reply is not written without it
+-- an option of a reply: its code, its value, and whether the reply must contain it
 pub record ReplyOption : Type 0 where
   pub code : ℕ
   pub value : List ℕ
   pub obligatory : Bool
 
--- the option that an item is
+-- the option of an item
 abbrev pub option_of_item : Item → ReplyOption
 option_of_item item = record { code = item.code; value = item.value; obligatory = item.obligatory }
 
--- what a message gets: a reply of this kind, with the client's new address or zero, and these
+-- what a message gets: a reply of this kind, with the client's new address or zero and these
 -- options; or nothing, for a reason
 pub data Outcome : Type 0 where
   planned : PlanKind → ℕ → List ReplyOption → Outcome

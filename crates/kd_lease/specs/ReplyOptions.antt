@@ -1,6 +1,6 @@
 -- The options of a reply (RFC 2131 section 4.3.1, table 3; RFC 2132 sections 9.2, 9.6, 9.7, 9.11
--- and 9.12; RFC 6842 section 3; RFC 3046 section 2.2): which stand in a reply of each kind, and in
--- which order.
+-- and 9.12; RFC 6842 section 3; RFC 3046 section 2.2): which options a reply of each kind has, and
+-- in which order.
 use Rattle.std.specs.Prelude.{ℕ, List, [], ◌∷◌, ◌++◌, Option, Some, None}
 use Rattle.byteorder.specs.Endian.{big_bytes}
 use Rattle.kd_config.specs.declared.subnet.Subnet.{Subnet}
@@ -27,20 +27,20 @@ lease_times times =
     obligatory 51 (big_bytes 4 times.lifetime) ++ obligatory 58 (big_bytes 4 times.renew)
     ++ obligatory 59 (big_bytes 4 times.rebind)
 
--- the times in a reply: only an address that is given has them
+-- the times in a reply: only a reply that assigns an address has them
 abbrev pub times_in : PlanKind → Times → List ReplyOption
 times_in kinds.Offer times = lease_times times
 times_in kinds.Ack times = lease_times times
 times_in kinds.InformAck times = []
 times_in kinds.Nak times = []
 
--- the configured options at an address of a subnet, where there is one
+-- the configured options at an address of a subnet, if there is a subnet
 abbrev pub configured_in : Asking → Option Subnet → ℕ → List ReplyOption
 configured_in q None address = []
 configured_in q (Some s) address = configured_options q.message (given q.config s q.names address)
 
--- the configured options of a reply: at the address that it gives, or that the client has; a NAK
--- has none
+-- the configured options of a reply: those at the address that it assigns, or at the address that
+-- the client has; a NAK has none
 abbrev pub configured_for : Asking → PlanKind → ℕ → List ReplyOption
 configured_for q kinds.Offer yiaddr = configured_in q (serving_subnet q) yiaddr
 configured_for q kinds.Ack yiaddr = configured_in q (serving_subnet q) yiaddr
@@ -48,7 +48,7 @@ configured_for q kinds.InformAck yiaddr = configured_in q (serving_subnet q) q.m
 configured_for q kinds.Nak yiaddr = []
 
 -- the options of a reply: type and server, the times of a lease, the client identifier as it came,
--- the configured ones, the relay's information as it came
+-- the configured options, the relay agent information as it came
 unfoldable pub reply_options : Asking → PlanKind → ℕ → List ReplyOption
 reply_options q kind yiaddr =
     obligatory 53 (plan_type kind ∷ []) ++ obligatory 54 (big_bytes 4 q.config.server)

@@ -1,5 +1,5 @@
--- Words of private contracts alone: what the rules are asked over as the code holds it, what is
--- sought among a client's addresses and in pools.
+-- Helpers of private contracts only: what the rules are applied to as the code represents it, and
+-- what is searched among a client's addresses and in pools.
 use Rattle.std.specs.Prelude.{◌≡◌, ℕ, ◌<◌, ◌≤◌, Bool, true, false, not, ◌&&◌, ◌||◌, is_none, Option, Some, None, if◌then◌else◌}
 use Rattle.kd_config.specs.Address.{has_address}
 use Rattle.kd_config.specs.Configuration.{Configuration}
@@ -16,11 +16,11 @@ use Rattle.kd_lease.specs.declared.seeking.Sought.TheVariants as seeks
 abbrev pub past_at : Asking → ℕ → Bool
 past_at q a = has_such (past_row q) (row_at q.rows a)
 
--- an address is in a pool of the subnet and reserved for nobody
+-- an address is in a pool of the subnet and not reserved
 abbrev pub common_in : Configuration → Subnet → ℕ → Bool
 common_in config s a = pooled s a && not (reserved_anywhere config a)
 
--- an address fits: it is such, or the one that is reserved for the client
+-- an address fits: as above, or it is the one that is reserved for the client
 abbrev pub fitting_with : Choosing → ℕ → Bool
 fitting_with choosing a =
     common_in choosing.question.now.config.now choosing.subnet.now a || same_address choosing.own a
@@ -31,18 +31,18 @@ sought_at q (seeks.Own choosing) a = held_at q a && fitting_with choosing.now a
 sought_at q (seeks.Past choosing) a = past_at q a && fitting_with choosing.now a
 sought_at q seeks.Offer a = offered_to q a
 
--- the newer of what was found and an address that is sought
+-- the newer of the address found so far and another, if that one is sought
 abbrev pub newer_of : Asking → Sought → Option ℕ → ℕ → Option ℕ
 newer_of q sought None a = if sought_at q sought a then Some a else None
 newer_of q sought (Some b) a =
     if sought_at q sought a && set_later q.rows a b then Some a else Some b
 
--- what is found is the address for the client, or nothing where there is none
+-- what is found is the address for the client, or none if there is none
 abbrev pub IsChosen : Asking → Subnet → Option ℕ → Type 0
 IsChosen q s None = NoChoice q s
 IsChosen q s (Some a) = Choice q s a
 
--- the rank of pools that is looked for: addresses that nobody had yet, or those whose rows have
+-- the rank that pools are searched for: addresses that have no row (`true`), or whose rows have
 -- ended
 abbrev pub pool_rank : Bool → Rank
 pool_rank true = fresh
@@ -52,39 +52,39 @@ pool_rank false = expired
 abbrev pub reserves : ℕ → Subnet → Bool
 reserves a s = has_address s.prefix a && reserved_in a s
 
--- an address has no row (`true`), or one that has ended
+-- an address has no row (`true`), or a row that has ended (`false`)
 abbrev pub untaken : Asking → Bool → ℕ → Bool
 untaken q true a = is_none (row_at q.rows a)
 untaken q false a = has_such (λ row. not (live_row q.now row)) (row_at q.rows a)
 
--- an address, where it is in a pool, has that rank
+-- an address, if it is in a pool, has that rank
 abbrev pub is_open : Asking → Subnet → Bool → ℕ → Bool
 is_open q s new a = untaken q new a && fitting_for q s a
 
--- an address has that rank, where it is in a pool and reserved for nobody
+-- an address has that rank, is in a pool, and is not reserved
 abbrev pub is_common_open : Asking → Subnet → Bool → ℕ → Bool
 is_common_open q s new a = untaken q new a && common_in q.config s a
 
--- an address is the one that is reserved for the client, and open
+-- an address is the one reserved for the client, and open
 abbrev pub is_kept_open : Asking → Option ℕ → Bool → ℕ → Bool
 is_kept_open q own new a = untaken q new a && same_address own a
 
--- the least address from first to last that is such, or that none is
+-- the lowest address from first to last that passes a test, or none if none does
 abbrev pub IsLeast : (ℕ → Bool) → ℕ → ℕ → Option ℕ → Type 0
 IsLeast such first last None = (a : ℕ) → first ≤ a → a ≤ last → such a ≡ false
 IsLeast such first last (Some found) =
     (first ≤ found) × (found ≤ last) × (such found ≡ true)
     × ((a : ℕ) → first ≤ a → a < found → such a ≡ false)
 
--- the least address from first to last that is open, or that none is
+-- the lowest address from first to last that is open, or none if none is
 abbrev pub IsLeastOpen : Asking → Subnet → Bool → ℕ → ℕ → Option ℕ → Type 0
 IsLeastOpen q s new first last found = IsLeast (is_open q s new) first last found
 
--- an address is untaken, and reserved for nobody
+-- an address is untaken and not reserved
 abbrev pub is_vacant : Asking → Bool → ℕ → Bool
 is_vacant q new a = untaken q new a && not (reserved_anywhere q.config a)
 
--- an untaken address from first to last before which none is vacant, or that none is
+-- an untaken address from first to last with no vacant one before it, or none if none is vacant
 abbrev pub IsNextUntaken : Asking → Bool → ℕ → ℕ → Option ℕ → Type 0
 IsNextUntaken q new first last None = (a : ℕ) → first ≤ a → a ≤ last → is_vacant q new a ≡ false
 IsNextUntaken q new first last (Some found) =

@@ -8,18 +8,18 @@ use Rattle.kd_config.specs.declared.subnet.Subnet.{Subnet}
 use Rattle.kd_machine.specs.Parts.{is_held}
 use Rattle.kd_wire.specs.declared.header.Header.{Header}
 
--- where a message comes from: its relay, else the address that its client has, else the server's
--- link
+-- where a message comes from: its relay, or else the address that its client has, or else the
+-- server's address
 abbrev pub message_place : ℕ → Header → ℕ
 message_place server h =
     if not (h.giaddr == 0) then h.giaddr else if not (h.ciaddr == 0) then h.ciaddr else server
 
--- the class that a subnet asks for is held, or it asks for none
+-- the class that a subnet requires is held, or it requires none
 abbrev pub class_admits : Option (List ℕ) → List (List ℕ) → Bool
 class_admits None names = true
 class_admits (Some class) names = is_held class names
 
--- a subnet serves this place and the holder of these names
+-- a subnet serves this place and a client in the classes with these names
 abbrev pub served_by : ℕ → List (List ℕ) → Subnet → Bool
 served_by place names subnet = has_address subnet.prefix place && class_admits subnet.class names
 

@@ -1,4 +1,4 @@
--- What the list of values holds: for the proofs, no promise names it.
+-- What the list of values holds: for proofs only, no promise names it.
 use Rattle.std.specs.Prelude.{◌≡◌, ◌≢◌, ℕ, zero, suc, ◌<◌, ◌≤◌, ◌==◌, List, [], ◌∷◌, Option, Some, option_map, slice_get}
 use Rattle.std.specs.List.{find}
 use Rattle.kd_classes.specs.declared.option_list.OptionData.{OptionData}
@@ -11,18 +11,18 @@ abbrev pub value_at : ℕ → List Coded → Option (List ℕ)
 value_at code list =
     option_map (λ entry. entry.value.now) (find (λ entry. entry.code == code) list)
 
--- the codes of a list rise, each above this one
+-- the codes of a list are in ascending order, all above this one
 abbrev pub RiseAbove : ℕ → List Coded → Type 0
 RiseAbove code [] = Unit {0}
 RiseAbove code (entry ∷ more) = (code < entry.code) × RiseAbove entry.code more
 
--- so many entries at the front of a list have codes below this one, and no others
+-- exactly this many entries at the start of a list have codes below this one
 abbrev pub IsCodePlace : ℕ → List Coded → ℕ → Type 0
 IsCodePlace code [] place = place ≡ 0
 IsCodePlace code (entry ∷ more) zero = code ≤ entry.code
 IsCodePlace code (entry ∷ more) (suc place) = (entry.code < code) × IsCodePlace code more place
 
--- the entry at a place of a list, if there is one, has another code than this one
+-- the entry at a place of a list, if there is one, does not have this code
 abbrev pub HasOtherCode : ℕ → List Coded → ℕ → Type 0
 HasOtherCode code list place =
     (entry : Coded) → slice_get list place ≡ Some entry → entry.code ≢ code
@@ -32,7 +32,7 @@ abbrev pub HaveCodes : List Coded → Type 0
 HaveCodes [] = Unit {0}
 HaveCodes (entry ∷ more) = IsCode entry.code × HaveCodes more
 
--- a list has for each code the value that options give it, in rising code
+-- a list has, for each code, the value that the options give it, in ascending order of code
 pub record HasValues (list : List Coded) (options : List OptionData) : Type 0 where
   pub rise : RiseAbove 0 list
   pub codes : HaveCodes list

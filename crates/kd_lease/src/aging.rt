@@ -12,7 +12,7 @@ use crate::question::Question;
 use crate::seeking::{Sought, is_newer, is_offered, is_sought};
 use kd_rows::{Row, Rows, State};
 
-// The newest of the client's addresses that are sought, found by the age of its rows.
+// Returns the newest of the client's addresses that are sought, in the order of its rows by age.
 pub(crate) fn newest(question: &Question<'_>, sought: &Sought<'_>) -> Option<u32>
     ensures { IsNewest (asking question.now).rows
         (sought_at (asking question.now) sought.now) result }
@@ -21,14 +21,14 @@ pub(crate) fn newest(question: &Question<'_>, sought: &Sought<'_>) -> Option<u32
         Sought::Own(choosing) => newest_in(question, sought, choosing),
         Sought::Past(choosing) => newest_in(question, sought, choosing),
         Sought::Offer => {
-            // Each address has 32 bits, as the length says beside itself.
+            // Every address has 32 bits; the contract of `len` states it.
             let _count = question.rows.len();
             newest_within(question, sought, 0, u32::MAX)
         }
     }
 }
 
-// The newest of those that are reserved for the client in a subnet, or in a pool of it.
+// Returns the newest of those that are reserved for the client in a subnet or are in a pool of it.
 fn newest_in(question: &Question<'_>, sought: &Sought<'_>, choosing: &Choosing<'_>) -> Option<u32>
     ensures { IsNewest (asking question.now).rows
         (sought_for (asking question.now) sought.now choosing.now) result }
@@ -41,7 +41,7 @@ fn newest_in(question: &Question<'_>, sought: &Sought<'_>, choosing: &Choosing<'
     best
 }
 
-// The address that is reserved for the client, where it is sought.
+// Returns the address that is reserved for the client, if it is sought.
 fn newest_reserved(question: &Question<'_>, sought: &Sought<'_>, own: Option<u32>) -> Option<u32>
     ensures { IsNewest (asking question.now).rows
         (reserved_sought (asking question.now) sought.now own) result }
@@ -58,7 +58,7 @@ fn newest_reserved(question: &Question<'_>, sought: &Sought<'_>, own: Option<u32
     }
 }
 
-// The newest of those from `first` to `last`.
+// Returns the newest of those from `first` to `last`.
 fn newest_within(question: &Question<'_>, sought: &Sought<'_>, first: u32, last: u32) -> Option<u32>
     ensures { IsNewest (asking question.now).rows
         (sought_within (asking question.now) sought.now first last) result }
@@ -75,7 +75,7 @@ fn newest_within(question: &Question<'_>, sought: &Sought<'_>, first: u32, last:
     )
 }
 
-// The newest of those from `first` to `last` whose row is in a state.
+// Returns the newest of those from `first` to `last` whose row is in a state.
 fn newest_of(
     question: &Question<'_>,
     sought: &Sought<'_>,
@@ -103,8 +103,8 @@ fn newest_of(
     None
 }
 
-// What is sought are rows that have not ended, and no row in this state that was set no later than
-// this one is such.
+// Reports that the search can stop: only rows that have not ended are sought, and every row in this
+// state that was set no later than this one has ended.
 fn is_over(question: &Question<'_>, sought: &Sought<'_>, state: State, row: &Row) -> bool
     ensures live { IsTrue result → live_sought sought.now ≡ true }
     ensures ended { IsTrue result → (a : ℕ) (other : RowOf)
@@ -120,7 +120,7 @@ fn is_over(question: &Question<'_>, sought: &Sought<'_>, state: State, row: &Row
     }
 }
 
-// What is sought are rows that have not ended.
+// Reports whether only rows that have not ended are sought.
 fn is_live_sought(sought: &Sought<'_>) -> bool
     ensures { result ≡ live_sought sought.now }
 {
@@ -131,7 +131,7 @@ fn is_live_sought(sought: &Sought<'_>) -> bool
     }
 }
 
-// A row that is sought can be in this state.
+// Reports whether a row that is sought can be in this state.
 fn may_have(sought: &Sought<'_>, state: State) -> bool
     ensures { result ≡ state_sought sought.now state }
 {
@@ -142,7 +142,7 @@ fn may_have(sought: &Sought<'_>, state: State) -> bool
     }
 }
 
-// The newer of two addresses, of which each may be missing.
+// Returns the newer of two addresses; either may be missing.
 fn newer(rows: &Rows, found: Option<u32>, other: Option<u32>) -> Option<u32>
     ensures { result ≡ newer_found rows.now.rows found other }
 {

@@ -11,7 +11,8 @@ use crate::question::Question;
 use crate::seeking::newest_known;
 use kd_config::Subnet;
 
-// The address that a client is offered in a subnet (RFC 2131 section 4.3.1).
+// Returns the address that a client is offered in a subnet, if there is one (RFC 2131 section
+// 4.3.1).
 pub(crate) fn choose(question: &Question<'_>, subnet: &Subnet) -> Option<u32>
     ensures { IsChosen (asking question.now) subnet.now result }
 {
@@ -40,7 +41,7 @@ pub(crate) fn choose(question: &Question<'_>, subnet: &Subnet) -> Option<u32>
     pooled(&choosing, false)
 }
 
-// The address that is reserved for the client, where it is free.
+// Returns the address that is reserved for the client, if it is free.
 pub(crate) fn kept(choosing: &Choosing<'_>) -> Option<u32>
     ensures { IsRanked (asking choosing.now.question.now) choosing.now.subnet.now reserved result }
 {
@@ -56,7 +57,7 @@ pub(crate) fn kept(choosing: &Choosing<'_>) -> Option<u32>
     }
 }
 
-// The address that the client asks for, where it may be given it.
+// Returns the address that the client asks for, if it fits and is free.
 pub(crate) fn asked_for(choosing: &Choosing<'_>) -> Option<u32>
     ensures { IsRanked (asking choosing.now.question.now) choosing.now.subnet.now asked result }
 {

@@ -5,11 +5,11 @@ use crate::question::Question;
 use crate::reservation::reserved_address;
 use kd_config::Subnet;
 
-// The choice of an address in a subnet, with the one that is reserved there for the client: it is
-// looked up once a message.
+// The choice of an address in a subnet, with the address that is reserved there for the client; it
+// is looked up once for each message.
 #[derive(Clone, Copy)]
 pub(crate) struct Choosing<'a> {
-    // What the rules are asked over.
+    // What the rules are applied to.
     pub(crate) question: &'a Question<'a>,
     // The subnet.
     pub(crate) subnet: &'a Subnet,
@@ -19,7 +19,7 @@ pub(crate) struct Choosing<'a> {
 }
 
 impl<'a> Choosing<'a> {
-    // The choice for a question in a subnet.
+    // Makes the choice for a question in a subnet.
     pub(crate) fn new(question: &'a Question<'a>, subnet: &'a Subnet) -> Choosing<'a>
         ensures question { result.question.now ≡ question.now }
         ensures subnet { result.subnet.now ≡ subnet.now }

@@ -4,7 +4,7 @@ ghost use Rattle.kd_lease.specs.Client.{wants_option, greatest_by, server_messag
 
 use kd_options::{Message, MessageType};
 
-// The message is one that servers send.
+// Reports whether the message is one that servers send.
 pub(crate) fn is_from_server(message: &Message<'_>) -> bool
     ensures { result ≡ server_message message.now }
 {
@@ -19,8 +19,8 @@ pub(crate) fn is_from_server(message: &Message<'_>) -> bool
     }
 }
 
-/// The message asks for the option with this code: option 55 lists it, or is absent (RFC 2132
-/// section 9.8).
+/// Reports whether the message asks for the option with this code: option 55 lists it, or is absent
+/// (RFC 2132 section 9.8).
 pub fn asks_for(message: &Message<'_>, code: u8) -> bool
     ensures { result ≡ wants_option code message.now }
 {
@@ -30,14 +30,14 @@ pub fn asks_for(message: &Message<'_>, code: u8) -> bool
     }
 }
 
-// The room for the reply, in bytes.
+// Returns the room for the reply, in bytes: 548 to 1472.
 pub(crate) fn room_of(message: &Message<'_>) -> u16
     ensures { result ≡ reply_room message.now }
 {
     (greatest_of(message).max(576) - 28).min(1472)
 }
 
-// The greatest message that the client takes, with the headers of IP and UDP.
+// Returns the longest message that the client accepts, including the IP and UDP headers.
 fn greatest_of(message: &Message<'_>) -> u16
     ensures { result ≡ greatest_by (value_of 57 message.now.options) }
 {

@@ -8,8 +8,8 @@ use kd_config::{Config, Pool};
 use kd_rows::{Row, Rows};
 use std::alloc::{AllocError, Global};
 
-// The table of these rows, cut at the pools of a configuration: so a search for the newest lease of
-// a client in a pool looks at no lease that it has elsewhere.
+// Builds the table of these rows, partitioned at the pools of a configuration, so that a search for
+// the newest lease of a client in a pool does not visit its leases elsewhere.
 pub(crate) fn table_of(alloc: Global, config: &Config, rows: Vec<Row>) -> Result<Rows, AllocError>
     requires rise { Rise rows.items }
     requires ranges { All IsInRange rows.items }
@@ -22,7 +22,7 @@ pub(crate) fn table_of(alloc: Global, config: &Config, rows: Vec<Row>) -> Result
     }
 }
 
-// Where the pools of a configuration begin, and where what is behind them does.
+// Returns the first address of every pool and the address after its last.
 fn cuts(alloc: Global, config: &Config) -> Result<Vec<u32>, AllocError>
     ensures { IfOk result (λ cuts. cuts.items ≡ cuts_of_pools config.now) }
 {
@@ -33,7 +33,7 @@ fn cuts(alloc: Global, config: &Config) -> Result<Vec<u32>, AllocError>
     Ok(cuts)
 }
 
-// The same of the pools of a subnet.
+// Appends the same for the pools of a subnet.
 fn put_cuts(cuts: &mut Vec<u32>, pools: &[Pool]) -> Result<(), AllocError>
     ensures { OnOk result (cuts.new.items ≡ cuts.old.items ++ flat_map cuts_of_pool pools.now) }
 {

@@ -20,13 +20,13 @@ use kd_options::{Message, Reply};
 use kd_rows::{Row, Rows};
 use std::alloc::{AllocError, Global};
 
-/// What a message whose classes have these names changes and gets at a moment, in seconds (RFC 2131
-/// section 4.3): the row that is set in the table, or none, and the reply that is sent, or the
-/// reason for which there is none.
+/// Decides what a message, whose classes have these names, changes and gets at a time in seconds
+/// (RFC 2131 section 4.3): the row to set in the table, if any, and the reply to send, or the
+/// reason why there is none.
 ///
 /// # Errors
 ///
-/// There is no memory for the client's identity, the row or the reply.
+/// Out of memory for the client's identity, the row or the reply.
 pub fn decide(
     alloc: Global,
     config: &Config,
@@ -45,11 +45,11 @@ pub fn decide(
     decide_on(alloc, Ground::of(config, rows), message, names, moment)
 }
 
-/// The same over a ground, which may know the reserved addresses.
+/// Decides the same on a ground, which may know the reserved addresses.
 ///
 /// # Errors
 ///
-/// As of `decide`.
+/// The same as those of `decide`.
 pub fn decide_on(
     alloc: Global,
     over: Ground<'_>,
@@ -77,7 +77,7 @@ pub fn decide_on(
     answer_for(alloc, &question)
 }
 
-// What a client's message changes and gets, by its rule.
+// Decides what a client's message changes and gets, by the rule of its type.
 fn answer_for(alloc: Global, question: &Question<'_>) -> Result<Decision, AllocError>
     requires { question.now.moment < 2 ^ 40 }
     ensures answers { IfOk result
@@ -95,8 +95,8 @@ fn answer_for(alloc: Global, question: &Question<'_>) -> Result<Decision, AllocE
     }
 }
 
-// The reply of an outline, with the row that it sets; neither where its obligatory options do not
-// fit.
+// Builds the reply of an outline, with the row to set; there is neither if the reply's mandatory
+// options do not fit.
 fn replied(
     alloc: Global,
     question: &Question<'_>,

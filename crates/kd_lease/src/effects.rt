@@ -19,13 +19,13 @@ use kd_event::Reason;
 use kd_options::{Message, MessageType};
 use std::alloc::{AllocError, Global};
 
-/// What a message does (RFC 2131 section 4.3): the row of the table that is set, or none, and the
-/// outline of its reply, or the reason for which there is none. The checks that come before its
-/// type are not made here.
+/// Returns the effect of a message (RFC 2131 section 4.3): the row of the table to set, if any, and
+/// the outline of its reply, or the reason why there is none. The checks that come before the
+/// message type are not made here.
 ///
 /// # Errors
 ///
-/// There is no memory for the client's identity in the row.
+/// Out of memory for the client's identity in the row.
 pub fn effect_of(alloc: Global, question: &Question<'_>) -> Result<Verdict<Outline>, AllocError>
     requires { question.now.moment < 2 ^ 40 }
     ensures does { let q = asking question.now in
@@ -37,14 +37,14 @@ pub fn effect_of(alloc: Global, question: &Question<'_>) -> Result<Verdict<Outli
     Ok(verdict)
 }
 
-// The times of a configuration are in their ranges, which is all that this says.
+// States that the times of a configuration are in their ranges; it does nothing else.
 fn have_ranges(config: &Config)
     ensures { AreTimes config.now.times }
 {
     config.times();
 }
 
-// What a message does, by its type.
+// Returns the effect of a message, by its type.
 fn effect_by_type(alloc: Global, question: &Question<'_>) -> Result<Verdict<Outline>, AllocError>
     requires { question.now.moment < 2 ^ 40 }
     ensures { let q = asking question.now in
@@ -62,7 +62,7 @@ fn effect_by_type(alloc: Global, question: &Question<'_>) -> Result<Verdict<Outl
     }
 }
 
-// A DISCOVER (RFC 2131 section 4.3.1).
+// Handles a DISCOVER (RFC 2131 section 4.3.1).
 fn discover(alloc: Global, question: &Question<'_>) -> Result<Verdict<Outline>, AllocError>
     requires { question.now.moment < 2 ^ 40 }
     ensures { let q = asking question.now in
@@ -75,7 +75,7 @@ fn discover(alloc: Global, question: &Question<'_>) -> Result<Verdict<Outline>, 
     }
 }
 
-// A DISCOVER in its subnet.
+// Handles a DISCOVER in its subnet.
 fn discover_in(
     alloc: Global,
     question: &Question<'_>,
@@ -97,7 +97,7 @@ fn discover_in(
     }
 }
 
-// A REQUEST, by the server that it names (RFC 2131 section 4.3.2).
+// Handles a REQUEST, by the server that it names (RFC 2131 section 4.3.2).
 fn request(alloc: Global, question: &Question<'_>) -> Result<Verdict<Outline>, AllocError>
     requires { question.now.moment < 2 ^ 40 }
     ensures { let q = asking question.now in
@@ -116,7 +116,7 @@ fn request(alloc: Global, question: &Question<'_>) -> Result<Verdict<Outline>, A
     }
 }
 
-// A REQUEST to this server for an address (SELECTING).
+// Handles a REQUEST to this server for an address (SELECTING).
 fn select(alloc: Global, question: &Question<'_>) -> Result<Verdict<Outline>, AllocError>
     requires { question.now.moment < 2 ^ 40 }
     ensures { let q = asking question.now in
@@ -133,7 +133,7 @@ fn select(alloc: Global, question: &Question<'_>) -> Result<Verdict<Outline>, Al
     }
 }
 
-// Such a REQUEST in its subnet.
+// Handles such a REQUEST in its subnet.
 fn select_in(
     alloc: Global,
     question: &Question<'_>,
@@ -151,7 +151,7 @@ fn select_in(
     }
 }
 
-// A REQUEST to another server: the newest offer to the client is given back.
+// Handles a REQUEST to another server: the newest offer to the client is released.
 fn other(alloc: Global, question: &Question<'_>) -> Result<Verdict<Outline>, AllocError>
     ensures { let q = asking question.now in
         IfOk result (λ v. OnOther q v.row (outcome_for q v.answer)) }
@@ -165,7 +165,7 @@ fn other(alloc: Global, question: &Question<'_>) -> Result<Verdict<Outline>, All
     }
 }
 
-// A REQUEST that names no server (INIT-REBOOT, RENEWING and REBINDING).
+// Handles a REQUEST that names no server (INIT-REBOOT, RENEWING and REBINDING).
 fn renew(alloc: Global, question: &Question<'_>) -> Result<Verdict<Outline>, AllocError>
     requires { question.now.moment < 2 ^ 40 }
     ensures { let q = asking question.now in
@@ -182,7 +182,7 @@ fn renew(alloc: Global, question: &Question<'_>) -> Result<Verdict<Outline>, All
     }
 }
 
-// Such a REQUEST in its subnet.
+// Handles such a REQUEST in its subnet.
 fn renew_in(
     alloc: Global,
     question: &Question<'_>,
@@ -206,14 +206,15 @@ fn renew_in(
     }
 }
 
-// The client may renew its lease of an address: its row is the client's, and it fits.
+// Reports whether the client may renew its lease of an address: the row is the client's, and the
+// address fits.
 fn may_renew(question: &Question<'_>, subnet: &Subnet, address: u32) -> bool
     ensures { result ≡ renewable (asking question.now) subnet.now address }
 {
     is_client_at(question, address) && fits(question, subnet, address)
 }
 
-// A DECLINE (RFC 2131 section 4.3.3).
+// Handles a DECLINE (RFC 2131 section 4.3.3).
 fn decline(alloc: Global, question: &Question<'_>) -> Result<Verdict<Outline>, AllocError>
     requires { question.now.moment < 2 ^ 40 }
     ensures { let q = asking question.now in
@@ -235,7 +236,7 @@ fn decline(alloc: Global, question: &Question<'_>) -> Result<Verdict<Outline>, A
     }
 }
 
-// A RELEASE (RFC 2131 section 4.3.4).
+// Handles a RELEASE (RFC 2131 section 4.3.4).
 fn release(alloc: Global, question: &Question<'_>) -> Result<Verdict<Outline>, AllocError>
     ensures { let q = asking question.now in
         IfOk result (λ v. OnRelease q v.row (outcome_for q v.answer)) }
@@ -257,7 +258,7 @@ fn release(alloc: Global, question: &Question<'_>) -> Result<Verdict<Outline>, A
     }
 }
 
-// An INFORM (RFC 2131 section 4.3.5).
+// Handles an INFORM (RFC 2131 section 4.3.5).
 fn inform(question: &Question<'_>) -> Verdict<Outline>
     ensures { let q = asking question.now in OnInform q result.row (outcome_for q result.answer) }
 {
@@ -276,7 +277,7 @@ fn inform(question: &Question<'_>) -> Verdict<Outline>
     }
 }
 
-// An address is leased to the client.
+// Leases an address to the client.
 fn lease(
     alloc: Global,
     question: &Question<'_>,
@@ -300,7 +301,7 @@ fn lease(
     })
 }
 
-// A NAK sets no row.
+// Answers with a NAK and sets no row.
 fn nak() -> Verdict<Outline>
     ensures { result
         ≡ record { row = None; answer = Ok (record { kind = kinds.Nak; yiaddr = 0 }) } }
@@ -314,14 +315,14 @@ fn nak() -> Verdict<Outline>
     }
 }
 
-/// The server that a message names, option 54, in host order (RFC 2132 section 9.7).
+/// Returns the server that a message names in option 54, in host order (RFC 2132 section 9.7).
 pub fn server_of(message: &Message<'_>) -> Option<u32>
     ensures { result ≡ named_server message.now }
 {
     address_in(message.option(54))
 }
 
-// A message names another server.
+// Reports whether a message names another server.
 fn names_other(server: u32, named: Option<u32>) -> bool
     ensures { result ≡ other_server server named }
 {
@@ -331,8 +332,8 @@ fn names_other(server: u32, named: Option<u32>) -> bool
     }
 }
 
-/// The address of a REQUEST that names no server, in host order: the one that the client has, else
-/// the one that it asks for (RFC 2131 section 4.3.2).
+/// Returns the address of a REQUEST that names no server, in host order: the address that the
+/// client has, or else the one that it asks for (RFC 2131 section 4.3.2).
 pub fn renewed_of(message: &Message<'_>) -> Option<u32>
     ensures { result ≡ renewed_address message.now }
 {

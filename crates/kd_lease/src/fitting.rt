@@ -12,8 +12,8 @@ use kd_config::{Config, Subnet};
 use kd_options::Message;
 use kd_rows::{Row, State};
 
-/// An address, in host order, fits: it is in a pool of the subnet and reserved for nobody, or
-/// reserved for the client.
+/// Reports whether an address, in host order, fits: it is in a pool of the subnet and not reserved,
+/// or it is reserved for the client.
 pub fn fits(question: &Question<'_>, subnet: &Subnet, address: u32) -> bool
     ensures { result ≡ fitting_for (asking question.now) subnet.now address }
 {
@@ -21,7 +21,7 @@ pub fn fits(question: &Question<'_>, subnet: &Subnet, address: u32) -> bool
         || is_address(reserved_address(question.message, subnet), address)
 }
 
-// The same where the address that is reserved for the client is known.
+// Reports the same when the address that is reserved for the client is already known.
 pub(crate) fn fits_with(choosing: &Choosing<'_>, address: u32) -> bool
     ensures { result ≡ fitting_with choosing.now address }
 {
@@ -29,14 +29,14 @@ pub(crate) fn fits_with(choosing: &Choosing<'_>, address: u32) -> bool
         || is_address(choosing.own, address)
 }
 
-// An address is in a pool of the subnet and reserved for nobody.
+// Reports whether an address is in a pool of the subnet and not reserved.
 pub(crate) fn is_common(config: &Config, subnet: &Subnet, address: u32) -> bool
     ensures { result ≡ common_in config.now subnet.now address }
 {
     in_pools(subnet, address) && !is_reserved(config, address)
 }
 
-/// A pool of the subnet has this address, in host order.
+/// Reports whether an address, in host order, is in a pool of the subnet.
 pub fn in_pools(subnet: &Subnet, address: u32) -> bool
     ensures { result ≡ pooled subnet.now address }
 {
@@ -47,7 +47,7 @@ pub fn in_pools(subnet: &Subnet, address: u32) -> bool
         .any(|pool| pool.range.contains(address))
 }
 
-// An address is there, and is this one.
+// Reports whether there is an address and it is this one.
 pub(crate) fn is_address(found: Option<u32>, address: u32) -> bool
     ensures { result ≡ same_address found address }
 {
@@ -57,15 +57,15 @@ pub(crate) fn is_address(found: Option<u32>, address: u32) -> bool
     }
 }
 
-// The client may be given an address: it fits and is free.
+// Reports whether the client may be assigned an address: it fits and is free.
 pub(crate) fn is_usable(question: &Question<'_>, subnet: &Subnet, address: u32) -> bool
     ensures { result ≡ usable (asking question.now) subnet.now address }
 {
     fits(question, subnet, address) && is_free(question, address)
 }
 
-/// An address, in host order, is free for the client: it has no row, or one that has ended, or that
-/// is the client's, offered or bound.
+/// Reports whether an address, in host order, is free for the client: it has no row, its row has
+/// ended, or its row is the client's own and offered or bound.
 pub fn is_free(question: &Question<'_>, address: u32) -> bool
     ensures { result ≡ free_for (asking question.now) address }
 {
@@ -75,49 +75,50 @@ pub fn is_free(question: &Question<'_>, address: u32) -> bool
     }
 }
 
-// A row leaves its address free for the client: it has ended, or is the client's, offered or bound.
+// Reports whether a row leaves its address free for the client: the row has ended, or it is the
+// client's own and offered or bound.
 fn leaves_free(question: &Question<'_>, row: &Row) -> bool
     ensures { result ≡ freed_by (asking question.now) row.now }
 {
     !is_live(question.moment, row) || is_its(question, row)
 }
 
-// A row that the client holds: its own, live, offered or bound.
+// Reports whether the client holds a row: it is its own, has not ended, and is offered or bound.
 pub(crate) fn is_held_by(question: &Question<'_>, row: &Row) -> bool
     ensures { result ≡ held_row (asking question.now) row.now }
 {
     is_live(question.moment, row) && is_its(question, row)
 }
 
-// The client's own row, which has ended.
+// Reports whether a row is the client's own and has ended.
 pub(crate) fn is_past(question: &Question<'_>, row: &Row) -> bool
     ensures { result ≡ past_row (asking question.now) row.now }
 {
     !is_live(question.moment, row) && is_of(question.client, row)
 }
 
-// The client's own row, offered or bound.
+// Reports whether a row is the client's own and offered or bound.
 fn is_its(question: &Question<'_>, row: &Row) -> bool
     ensures { result ≡ own_row (asking question.now) row.now }
 {
     is_of(question.client, row) && is_holding(row.state)
 }
 
-// A row is this client's.
+// Reports whether a row is this client's.
 pub(crate) fn is_of(client: &[u8], row: &Row) -> bool
     ensures { result ≡ belongs_to client.now row.now }
 {
     row.client.as_slice() == client
 }
 
-// A row has not ended yet.
+// Reports whether a row has not ended yet.
 pub(crate) fn is_live(now: u64, row: &Row) -> bool
     ensures { result ≡ live_row now row.now }
 {
     now < row.ends
 }
 
-// A state in which a client holds an address.
+// Reports whether a client holds an address that is in this state.
 pub(crate) fn is_holding(state: State) -> bool
     ensures { result ≡ holding_state state }
 {
@@ -129,14 +130,14 @@ pub(crate) fn is_holding(state: State) -> bool
     }
 }
 
-/// The address that the client asks for, option 50, in host order (RFC 2132 section 9.1).
+/// Returns the address that the client asks for in option 50, in host order (RFC 2132 section 9.1).
 pub fn requested_of(message: &Message<'_>) -> Option<u32>
     ensures { result ≡ requested_address message.now }
 {
     address_in(message.option(50))
 }
 
-// The address that a value of four bytes is.
+// Returns the address in a value of four bytes.
 pub(crate) fn address_in(value: Option<&[u8]>) -> Option<u32>
     ensures { result ≡ address_of_value (option_copied value.entry) }
 {

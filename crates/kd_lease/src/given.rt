@@ -16,8 +16,8 @@ use kd_machine::Held;
 use kd_options::{Item, Message};
 use std::alloc::{AllocError, Global};
 
-// Puts the options that the configuration gives at an address of a subnet to the holder of these
-// names, as far as the client asks for them, after the others.
+// Appends the options that the configuration gives, at an address of a subnet, to a client in the
+// classes with these names; only those that the client asks for.
 pub(crate) fn put_given(
     alloc: Global,
     list: &mut Vec<Item>,
@@ -40,7 +40,7 @@ pub(crate) fn put_given(
     put_values(alloc, list, message, &values)
 }
 
-// Puts the options of the classes whose names are held after those of others.
+// Appends the options of the classes whose names are held.
 fn put_class_options<'a>(
     values: &mut Values<'a>,
     classes: &'a Classes,
@@ -58,7 +58,7 @@ fn put_class_options<'a>(
     Ok(())
 }
 
-// Puts the options of a class whose name is held after those of others.
+// Appends the options of a class if its name is held.
 fn put_options_of<'a>(
     values: &mut Values<'a>,
     class: &'a ClassDef,
@@ -73,7 +73,8 @@ fn put_options_of<'a>(
     Ok(())
 }
 
-// Puts the options with these values that the client asks for, in rising code.
+// Appends the options with these values that the client asks for, in ascending order of their
+// codes.
 fn put_values(
     alloc: Global,
     list: &mut Vec<Item>,
@@ -91,7 +92,7 @@ fn put_values(
     Ok(())
 }
 
-// Puts a configured option, where the client asks for it.
+// Appends a configured option if the client asks for it.
 fn put_configured(
     alloc: Global,
     list: &mut Vec<Item>,
@@ -112,7 +113,7 @@ fn put_configured(
     }
 }
 
-// The mask of a prefix, in network order (RFC 2132 section 3.3).
+// Returns the mask of a prefix, in network order (RFC 2132 section 3.3).
 fn mask_of(prefix: Prefix) -> [u8; 4]
     ensures { result ≡ prefix_mask prefix }
 {

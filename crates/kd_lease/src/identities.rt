@@ -5,13 +5,13 @@ use kd_options::Message;
 use kd_wire::Bytes;
 use std::alloc::{AllocError, Global};
 
-/// Who the client of a message is (RFC 2131 section 4.2, RFC 2132 section 9.14): 1 and its
-/// identifier where it sends one that is not empty, else 0, the kind of its hardware and its
-/// hardware address; none where it has neither.
+/// Returns the identity of a message's client (RFC 2131 section 4.2, RFC 2132 section 9.14): 1
+/// followed by its client identifier, if it sends one that is not empty; otherwise 0, its hardware
+/// type and its hardware address; none if it has neither.
 ///
 /// # Errors
 ///
-/// There is no memory for the bytes.
+/// Out of memory.
 pub fn identity(alloc: Global, message: &Message<'_>) -> Result<Option<Bytes>, AllocError>
     ensures { IfOk result (λ found. found ≡ client_identity message.now) }
 {
@@ -21,7 +21,7 @@ pub fn identity(alloc: Global, message: &Message<'_>) -> Result<Option<Bytes>, A
     }
 }
 
-// The identity that the hardware gives, where there is an address.
+// Returns the identity by hardware type and address, if there is an address.
 fn hardware_identity(alloc: Global, htype: u8, mac: &[u8]) -> Result<Option<Bytes>, AllocError>
     ensures { IfOk result (λ found. found ≡ identity_by_hardware htype mac.now) }
 {
@@ -31,7 +31,7 @@ fn hardware_identity(alloc: Global, htype: u8, mac: &[u8]) -> Result<Option<Byte
     }
 }
 
-// Bytes, one list after another.
+// Joins two lists of bytes.
 fn joined(alloc: Global, front: &[u8], back: &[u8]) -> Result<Bytes, AllocError>
     ensures { IfOk result (λ bytes. bytes ≡ front.now ++ back.now) }
 {

@@ -11,10 +11,10 @@ use kd_config::Times;
 use kd_options::{Item, Items};
 use std::alloc::{AllocError, Global};
 
-// How many options a reply has, or more: no memory is taken twice for as many.
+// The initial capacity for a reply's options: most replies need no second allocation.
 const USUAL: usize = 12;
 
-// The options of a reply of a kind, which gives an address or none, in their order.
+// Returns the options of a reply of a kind that assigns an address or none, in their order.
 #[tactic(auto, unfolding(crate::specs::ReplyOptions::reply_options))]
 pub(crate) fn reply_items(
     alloc: Global,
@@ -37,7 +37,7 @@ pub(crate) fn reply_items(
     Ok(Items::own(list))
 }
 
-// The message type of a reply (RFC 2132 section 9.6).
+// Returns the message type of a reply (RFC 2132 section 9.6).
 fn reply_type(kind: PlanKind) -> u8
     ensures { result ≡ plan_type kind }
 {
@@ -49,7 +49,7 @@ fn reply_type(kind: PlanKind) -> u8
     }
 }
 
-// Puts the times of a lease after the others, where an address is given.
+// Appends the times of a lease if the reply assigns an address.
 fn put_times(
     alloc: Global,
     list: &mut Vec<Item>,
@@ -67,7 +67,7 @@ fn put_times(
     }
 }
 
-// Puts how long a lease lasts, and when to renew and to rebind it.
+// Appends the lease time and the times T1 and T2 of renewing and rebinding.
 fn put_lease_times(alloc: Global, list: &mut Vec<Item>, times: Times) -> Result<(), AllocError>
     ensures { OnOk result (map option_of_item list.new.items ≡ map option_of_item list.old.items
         ++ lease_times times) }
@@ -77,8 +77,8 @@ fn put_lease_times(alloc: Global, list: &mut Vec<Item>, times: Times) -> Result<
     put_obligatory(alloc, list, 59, &times.rebind.to_be_bytes())
 }
 
-// Puts the configured options of a reply after the others: at the address that it gives, or that
-// the client has.
+// Appends the configured options of a reply: those at the address that it assigns, or at the
+// address that the client has.
 fn put_configured_for(
     alloc: Global,
     list: &mut Vec<Item>,
@@ -99,7 +99,7 @@ fn put_configured_for(
     }
 }
 
-// Puts the configured options at an address of the message's subnet, where there is one.
+// Appends the configured options at an address of the message's subnet, if there is a subnet.
 fn put_configured_at(
     alloc: Global,
     list: &mut Vec<Item>,

@@ -1,8 +1,8 @@
-//! What is true of the rules, whatever the program does: each law is the contract of a function
+//! What is true of the rules, whatever the program does. Each law is the contract of a function
 //! that does nothing.
 ghost use Rattle.kd_lease.specs.Laws.{HeldHasNoRank, HeldIsNotGiven, HeldIsNotUsable, NakSetsNone, OneAnswer, OneChange, SetsNow};
 
-/// A row that is set was changed now.
+/// A row that a message sets has the time of the message as its time of change.
 pub fn sets_now()
     ensures { SetsNow }
 {}
@@ -12,29 +12,29 @@ pub fn nak_sets_none()
     ensures { NakSetsNone }
 {}
 
-/// An address whose row is another client's and has not ended, be it offered, bound or declined,
-/// has no rank: it is the choice for nobody else.
+/// An address has no rank for a client if its row is not the client's and has not ended, whether it
+/// is offered, bound or declined: it is never the choice for this client.
 pub fn held_has_no_rank()
     ensures { HeldHasNoRank }
 {}
 
-/// Nobody else can ask for such an address in a REQUEST, or renew it.
+/// A client can neither get such an address by a REQUEST nor renew it.
 pub fn held_is_not_usable()
     ensures { HeldIsNotUsable }
 {}
 
-/// Such an address is neither offered nor leased to anybody else.
+/// Such an address is neither offered nor leased to the client.
 pub fn held_is_not_given()
     ensures { HeldIsNotGiven }
 {}
 
-/// The rules have one answer: what a message sets and what it gets follow from the configuration,
-/// the table, the names of its classes and the moment.
+/// The rules have at most one answer: what a message sets and gets follows from the configuration,
+/// the table, the names of its classes and the time.
 pub fn one_answer()
     ensures { OneAnswer }
 {}
 
-/// So a message at a moment changes a table to one table, and gets one thing.
+/// So a message at a time changes a table to at most one table, and gets at most one result.
 pub fn one_change()
     ensures { OneChange }
 {

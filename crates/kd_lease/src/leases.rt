@@ -10,8 +10,8 @@ use kd_rows::{Row, Rows, Withheld};
 use std::alloc::{AllocError, Global};
 use std::marker::Model;
 
-/// A configuration and its table of leases, which knows the addresses that the configuration
-/// reserves: a search for an address passes over them.
+/// A configuration and its table of leases. The table knows the addresses that the configuration
+/// reserves, so a search for an address skips them.
 #[derive(Drop)]
 pub struct Leases {
     config: Config,
@@ -30,11 +30,12 @@ impl Model for Leases {
 }
 
 impl Leases {
-    /// The leases of a configuration, with rows that rise in address, one an address.
+    /// Makes the leases of a configuration from rows in ascending order of address, at most one for
+    /// each address.
     ///
     /// # Errors
     ///
-    /// Out of memory; the configuration is given back.
+    /// Out of memory; the configuration is returned.
     pub fn new(alloc: Global, config: Config, rows: Vec<Row>) -> Result<Leases, Config>
         requires rise { Rise rows.items }
         requires ranges { All IsInRange rows.items }
@@ -49,14 +50,14 @@ impl Leases {
         }
     }
 
-    /// The configuration.
+    /// Returns the configuration.
     pub fn config(&self) -> &Config
         ensures { result.now ≡ self.now.config }
     {
         &self.config
     }
 
-    /// The table of leases.
+    /// Returns the table of leases.
     pub fn rows(&self) -> &Rows
         ensures rows { result.now.rows ≡ self.now.table.rows }
         ensures least { result.now.least ≡ self.now.table.least }
@@ -64,7 +65,7 @@ impl Leases {
         self.table.rows()
     }
 
-    /// What the rules of leases are asked over: this configuration and this table.
+    /// Returns what the lease rules are applied to: this configuration and this table.
     pub fn ground(&self) -> Ground<'_>
         ensures config { result.config.now ≡ self.now.config }
         ensures rows { result.rows.now.rows ≡ self.now.table.rows }
@@ -72,11 +73,11 @@ impl Leases {
         Ground::knowing(&self.config, &self.table)
     }
 
-    /// Makes room, so that a row can be set without memory.
+    /// Makes room for a row, so that setting it allocates no memory.
     ///
     /// # Errors
     ///
-    /// There was no room, and there is no memory for it; the rows stay as they are.
+    /// Out of memory, and there was no room; the rows stay as they are.
     pub fn reserve(&mut self, row: &Row) -> Result<(), AllocError>
         ensures config { self.new.config ≡ self.old.config }
         ensures rows { self.new.table.rows ≡ self.old.table.rows }
@@ -87,8 +88,8 @@ impl Leases {
         self.table.reserve(row)
     }
 
-    /// Sets a row: in place of the row of its address, or where that address belongs. No memory is
-    /// taken.
+    /// Sets a row: replaces the row of its address, or inserts it where the address belongs.
+    /// Allocates no memory.
     pub fn set(&mut self, row: Row)
         requires spare { room_for_row self.old.table row ≡ true }
         requires changed { latest_of self.old.table.rows ≤ row.changed }
@@ -102,7 +103,7 @@ impl Leases {
         self.table.set(row);
     }
 
-    /// Gives the configuration back; the table goes.
+    /// Returns the configuration and drops the table.
     pub fn into_config(self) -> Config
         ensures { result ≡ self.config }
     {

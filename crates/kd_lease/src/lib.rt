@@ -1,14 +1,14 @@
-//! The rules of leases: what each message of a client gets, and where the reply goes.
+//! The lease rules: what each message of a client gets, and where the reply is sent.
 //!
-//! What this layer promises to the one above: a message gets what the rules say over the
-//! configuration, by the classes that it is in (`specs/Change.antt`), in the subnet that serves it
-//! (`specs/SubnetOf.antt`); what it does to the table of leases is that of `specs/Rules.antt`, and
-//! the address that a client is offered that of `specs/Choice.antt`; what is true of these rules
-//! over every table is in `specs/Laws.antt`; a reply's configured options are those that the
-//! configuration gives to the client (`specs/Given.antt`); its header and its destination are those
-//! of `specs/ReplyOf.antt` and `specs/Destination.antt`. All this holds over every table, whether or
-//! not it knows the addresses that the configuration reserves (`Ground`); that of `Leases`
-//! (`specs/Leases.antt`) does, and passes over them.
+//! What this layer promises to the one above: a message gets what the rules say for the
+//! configuration and the classes that the message is in (`specs/Change.antt`), in the subnet that
+//! serves it (`specs/SubnetOf.antt`). Its effect on the table of leases is that of
+//! `specs/Rules.antt`, and the address that a client is offered is that of `specs/Choice.antt`;
+//! `specs/Laws.antt` says what is true of these rules for every table. The configured options of a
+//! reply are those that the configuration gives to the client (`specs/Given.antt`); its header and
+//! its destination are those of `specs/ReplyOf.antt` and `specs/Destination.antt`. All this holds
+//! for every table, whether or not it knows the addresses that the configuration reserves
+//! (`Ground`); the table of `Leases` (`specs/Leases.antt`) knows them and skips them.
 #![tactic(auto)]
 
 mod aging;

@@ -10,8 +10,8 @@ use crate::question::Question;
 use crate::untaken::{is_untaken, next_untaken};
 use kd_config::{Range, Subnet};
 
-// The first address in pool order that fits, where it has no row (`new`), or where its row has
-// ended.
+// Returns the first address in pool order that fits and has no row (`new`), or whose row has ended
+// (otherwise).
 pub(crate) fn pooled(choosing: &Choosing<'_>, new: bool) -> Option<u32>
     ensures { IsRanked (asking choosing.now.question.now) choosing.now.subnet.now (pool_rank new)
         result }
@@ -25,7 +25,7 @@ pub(crate) fn pooled(choosing: &Choosing<'_>, new: bool) -> Option<u32>
     None
 }
 
-// The least such address of a range: reserved for the client, or open to all clients.
+// Returns the lowest such address of a range: reserved for the client, or open to all clients.
 fn least_open(choosing: &Choosing<'_>, new: bool, range: Range) -> Option<u32>
     ensures { IsLeastOpen (asking choosing.now.question.now) choosing.now.subnet.now new range.first
         range.last result }
@@ -36,7 +36,7 @@ fn least_open(choosing: &Choosing<'_>, new: bool, range: Range) -> Option<u32>
     )
 }
 
-// The address that is reserved for the client, where it is in a range and open.
+// Returns the address that is reserved for the client, if it is in a range and open.
 fn kept_open(question: &Question<'_>, own: Option<u32>, new: bool, range: Range) -> Option<u32>
     ensures { IsLeast (is_kept_open (asking question.now) own new) range.first range.last result }
 {
@@ -52,8 +52,8 @@ fn kept_open(question: &Question<'_>, own: Option<u32>, new: bool, range: Range)
     }
 }
 
-// The least address of a range that is open to all clients. Where the table knows the reserved
-// addresses, the first that is found is one.
+// Returns the lowest address of a range that is open to all clients. If the table knows the
+// reserved addresses, the first address that is found is one.
 fn least_common(question: &Question<'_>, subnet: &Subnet, new: bool, range: Range) -> Option<u32>
     ensures { IsLeast (is_common_open (asking question.now) subnet.now new) range.first range.last
         result }
@@ -76,7 +76,7 @@ fn least_common(question: &Question<'_>, subnet: &Subnet, new: bool, range: Rang
     None
 }
 
-// The lesser of two addresses, of which each may be missing.
+// Returns the lesser of two addresses; either may be missing.
 fn lesser_of(a: Option<u32>, b: Option<u32>) -> Option<u32>
     ensures { result ≡ earlier a b }
 {

@@ -10,7 +10,7 @@ use kd_machine::Held;
 use kd_options::Message;
 use kd_rows::{Rows, Withheld};
 
-/// What the rules of leases are asked over, for a client.
+/// What the lease rules are applied to, for one client's message.
 #[derive(Clone, Copy)]
 pub struct Question<'a> {
     /// The configuration.
@@ -21,13 +21,13 @@ pub struct Question<'a> {
     pub names: &'a Held,
     /// The message.
     pub message: &'a Message<'a>,
-    /// The identity of its client.
+    /// The identity of the message's client.
     pub client: &'a [u8],
-    /// The moment, in seconds; no row was set later.
+    /// The time of the message, in seconds.
     pub moment: u64,
-    // The same table, where it knows the reserved addresses.
+    // The same table, if it knows the reserved addresses.
     pub(crate) known: Option<&'a Withheld>,
-    // The subnet that serves the message: it is looked for once.
+    // The subnet that serves the message, searched only once.
     pub(crate) subnet: Option<&'a Subnet>,
     ghost knows: { KnowsReserved config.now rows.now.rows (option_copied known) },
     ghost serves: { option_copied subnet
@@ -39,8 +39,8 @@ impl<'a> Question<'a> {
     ghost use Rattle.kd_lease.specs.Change.{asked_for};
     ghost use Rattle.kd_lease.specs.Rules.{asking};
 
-    /// The question of a message, whose client has this identity and whose classes have these
-    /// names, at a moment, in seconds.
+    /// Makes the question of a message, whose client has this identity and whose classes have these
+    /// names, at a time in seconds.
     pub fn new(
         over: Ground<'a>,
         names: &'a Held,

@@ -8,8 +8,9 @@ use crate::question::Question;
 use crate::seeking::{newest_own, newest_past};
 use kd_config::Subnet;
 
-/// What speaks for an address, the strongest first, and the first address of each for a client in a
-/// subnet (RFC 2131 section 4.3.1; the order of pools is ours). An address is in host order.
+/// The ranks of addresses, the strongest first, and the first address of each rank for a client in
+/// a subnet (RFC 2131 section 4.3.1; the order of pools is our choice). An address is in host
+/// order.
 #[derive(Clone, Copy)]
 pub struct Ranks {
     /// It is reserved for the client, and free.
@@ -18,15 +19,16 @@ pub struct Ranks {
     pub own: Option<u32>,
     /// The client had it, and it fits.
     pub past: Option<u32>,
-    /// The client asks for it, and may be given it.
+    /// The client asks for it, it fits, and it is free.
     pub asked: Option<u32>,
-    /// Nobody had it yet, and it fits.
+    /// It has no row, and it fits.
     pub fresh: Option<u32>,
     /// Its row has ended, and it fits.
     pub expired: Option<u32>,
 }
 
-/// The first address of each rank. The client is offered that of the strongest rank which has one.
+/// Returns the first address of each rank. The client is offered the address of the strongest rank
+/// that has one.
 pub fn ranks_of(question: &Question<'_>, subnet: &Subnet) -> Ranks
     ensures { AreRanks (asking question.now) subnet.now result }
 {

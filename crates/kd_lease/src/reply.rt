@@ -10,7 +10,7 @@ use kd_options::{Item, Reply};
 use kd_wire::{Bytes, Header};
 use std::alloc::{AllocError, Global};
 
-// The header of a reply to a message with this header.
+// Returns the header of the reply to a message with this header.
 #[tactic(auto, unfolding(crate::specs::ReplyOf::header_of_reply))]
 pub(crate) fn reply_header(kind: PlanKind, yiaddr: u32, header: &Header) -> Header
     ensures { result ≡ header_of_reply kind yiaddr header.now }
@@ -33,7 +33,7 @@ pub(crate) fn reply_header(kind: PlanKind, yiaddr: u32, header: &Header) -> Head
     }
 }
 
-// The flags: a NAK through a relay asks it to broadcast.
+// Returns the flags: a NAK through a relay asks the relay to broadcast.
 fn reply_flags(kind: PlanKind, header: &Header) -> u16
     ensures { result ≡ flags_of_reply kind header.now }
 {
@@ -43,7 +43,7 @@ fn reply_flags(kind: PlanKind, header: &Header) -> u16
     }
 }
 
-// The field ciaddr: that of the message in an ACK.
+// Returns the field `ciaddr`: in an ACK that of the message, otherwise zero.
 fn reply_ciaddr(kind: PlanKind, header: &Header) -> u32
     ensures { result ≡ ciaddr_of_reply kind header.now }
 {
@@ -55,7 +55,7 @@ fn reply_ciaddr(kind: PlanKind, header: &Header) -> u32
     }
 }
 
-// The obligatory options of a reply fit into the room.
+// Reports whether the mandatory options of a reply fit into the room.
 pub(crate) fn fits_room(reply: &Reply, room: u16) -> bool
     ensures short { result ≡ within_room room (map option_of_item reply.now.items) }
     ensures fits { IsTrue result → ItemsFit room reply.now.items }
@@ -63,7 +63,7 @@ pub(crate) fn fits_room(reply: &Reply, room: u16) -> bool
     reply.fits(room)
 }
 
-// Puts an option that is always written after the others.
+// Appends an option that is always written.
 pub(crate) fn put_obligatory(
     alloc: Global,
     list: &mut Vec<Item>,
@@ -77,7 +77,7 @@ pub(crate) fn put_obligatory(
     put_option(alloc, list, code, value, true)
 }
 
-// Puts an option of the message as it came, where it is there.
+// Appends an option of the message as it came, if it is present.
 pub(crate) fn put_returned(
     alloc: Global,
     list: &mut Vec<Item>,
@@ -94,7 +94,7 @@ pub(crate) fn put_returned(
     }
 }
 
-// Puts an option that is left out where there is no room for it.
+// Appends an option that is left out if there is no room for it.
 pub(crate) fn put_optional(
     alloc: Global,
     list: &mut Vec<Item>,

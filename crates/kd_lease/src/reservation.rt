@@ -7,7 +7,7 @@ ghost use Rattle.kd_lease.specs.Seeking.{reserves};
 use kd_config::{Config, Reservation, Subnet};
 use kd_options::Message;
 
-// The address that is reserved in a subnet for the client of a message.
+// Returns the address that is reserved in a subnet for the client of a message.
 pub(crate) fn reserved_address(message: &Message<'_>, subnet: &Subnet) -> Option<u32>
     ensures { result ≡ address_reserved message.now subnet.now }
 {
@@ -17,8 +17,8 @@ pub(crate) fn reserved_address(message: &Message<'_>, subnet: &Subnet) -> Option
     }
 }
 
-/// The first reservation of a subnet that is for the client of a message: by its hardware address or
-/// by its option 61.
+/// Returns the first reservation of a subnet for the client of a message, matched by its hardware
+/// address or by its option 61.
 #[tactic(auto, using(crate::proofs::Reserved::reservation_by))]
 pub fn reservation_of<'a>(message: &Message<'_>, subnet: &'a Subnet) -> Option<&'a Reservation>
     ensures { option_copied result ≡ client_reservation message.now subnet.now }
@@ -28,28 +28,28 @@ pub fn reservation_of<'a>(message: &Message<'_>, subnet: &'a Subnet) -> Option<&
         .of_client(message.mac(), message.option(61))
 }
 
-/// A subnet of the configuration has a reservation of this address, in host order.
+/// Reports whether an address, in host order, is reserved in a subnet of the configuration.
 pub fn is_reserved(config: &Config, address: u32) -> bool
     ensures { result ≡ reserved_anywhere config.now address }
 {
     are_keeping(address, config.subnets())
 }
 
-// One of these subnets has an address in its prefix and a reservation of it.
+// Reports whether one of these subnets has an address in its prefix and a reservation of it.
 fn are_keeping(address: u32, subnets: &[Subnet]) -> bool
     ensures { result ≡ list_any (reserves address) subnets.now }
 {
     subnets.iter().any(|subnet| keeps(address, subnet))
 }
 
-// A subnet has an address in its prefix and a reservation of it.
+// Reports whether a subnet has an address in its prefix and a reservation of it.
 fn keeps(address: u32, subnet: &Subnet) -> bool
     ensures { result ≡ reserves address subnet.now }
 {
     subnet.prefix.contains(address) && is_reserved_in(address, subnet)
 }
 
-// A subnet has a reservation of this address.
+// Reports whether a subnet has a reservation of this address.
 fn is_reserved_in(address: u32, subnet: &Subnet) -> bool
     ensures { result ≡ reserved_in address subnet.now }
 {

@@ -14,30 +14,30 @@ use crate::question::Question;
 use kd_config::{Prefix, Subnet};
 use kd_rows::{Rows, State};
 
-// What is sought among the addresses of a client.
+// Which of a client's addresses are sought.
 #[derive(Clone, Copy)]
 pub(crate) enum Sought<'a> {
-    // Those that it holds and that fit.
+    // The addresses that it holds and that fit.
     Own(&'a Choosing<'a>),
-    // Those whose rows have ended and that fit.
+    // The addresses whose rows have ended and that fit.
     Past(&'a Choosing<'a>),
-    // Those that are offered to it.
+    // The addresses that are offered to it.
     Offer,
 }
 
-// Of the addresses that a client knows, those that fit: the newest that it holds, and where it holds
-// none, the newest whose row has ended.
+// The newest address that a client holds and that fits; if it holds none, the newest that fits
+// whose row has ended.
 #[derive(Clone, Copy)]
 pub(crate) struct Known {
     pub(crate) own: Option<u32>,
     pub(crate) past: Option<u32>,
 }
 
-// How many of a client's rows are looked at one after another before they are asked for by age.
+// How many of a client's rows are visited in turn before they are searched by age.
 const FEW: usize = 2;
 
-// What the client knows. Most clients have a row or two: they are looked at one after another, and
-// for a client without rows the index of the table is searched once.
+// Returns what the client knows. Most clients have a row or two: these are visited in turn, and for
+// a client without rows the index of the table is searched once.
 pub(crate) fn newest_known(choosing: &Choosing<'_>) -> Known
     ensures own { IsRanked (asking choosing.now.question.now) choosing.now.subnet.now own
         result.own }
@@ -63,8 +63,8 @@ pub(crate) fn newest_known(choosing: &Choosing<'_>) -> Known
     known_by_age(choosing)
 }
 
-// The same for a client of any number of rows. Where it holds an address, those that it had are not
-// looked for, since all that it holds would be in the way.
+// Returns the same for a client with any number of rows. If it holds an address, its ended rows are
+// not searched, because all the rows that it holds would have to be passed.
 fn known_by_age(choosing: &Choosing<'_>) -> Known
     ensures own { IsRanked (asking choosing.now.question.now) choosing.now.subnet.now own
         result.own }
@@ -83,21 +83,22 @@ fn known_by_age(choosing: &Choosing<'_>) -> Known
     }
 }
 
-// The newest of the addresses that the client holds and that fit.
+// Returns the newest of the addresses that the client holds and that fit.
 pub(crate) fn newest_own(choosing: &Choosing<'_>) -> Option<u32>
     ensures { IsRanked (asking choosing.now.question.now) choosing.now.subnet.now own result }
 {
     newest(choosing.question, &Sought::Own(choosing))
 }
 
-// The newest of the client's addresses whose rows have ended and that fit.
+// Returns the newest of the client's addresses that fit and whose rows have ended.
 pub(crate) fn newest_past(choosing: &Choosing<'_>) -> Option<u32>
     ensures { IsRanked (asking choosing.now.question.now) choosing.now.subnet.now past result }
 {
     newest(choosing.question, &Sought::Past(choosing))
 }
 
-/// The server knows the client in a subnet: the client has a row at an address in its prefix.
+/// Reports whether the server knows the client in a subnet: the client has a row at an address in
+/// the subnet's prefix.
 pub fn knows_client(question: &Question<'_>, subnet: &Subnet) -> bool
     ensures some { IsTrue result → (b : ℕ) × (is_record (asking question.now) subnet.now b ≡ true) }
     ensures none { result ≡ false → (b : ℕ) → is_record (asking question.now) subnet.now b ≡ false }
@@ -110,14 +111,14 @@ pub fn knows_client(question: &Question<'_>, subnet: &Subnet) -> bool
         .is_some()
 }
 
-// The last address of a prefix, which need not end within 32 bits.
+// Returns the last address of a prefix, which may exceed 32 bits.
 fn last_address(prefix: Prefix) -> u64
     ensures { result ≡ prefix.address + (prefix_size prefix.length - 1) }
 {
     u64::from(prefix.address) + (prefix.size() - 1)
 }
 
-// The newer of what was found and an address that is sought.
+// Returns the newer of the address found so far and another, if that one is sought.
 fn better(
     question: &Question<'_>,
     sought: &Sought<'_>,
@@ -141,7 +142,7 @@ fn better(
     }
 }
 
-// An address is sought.
+// Reports whether an address is sought.
 pub(crate) fn is_sought(question: &Question<'_>, sought: &Sought<'_>, address: u32) -> bool
     ensures { result ≡ sought_at (asking question.now) sought.now address }
 {
@@ -152,8 +153,8 @@ pub(crate) fn is_sought(question: &Question<'_>, sought: &Sought<'_>, address: u
     }
 }
 
-// Of two addresses the first is newer: its row was set later, or at one moment and it is the lesser
-// address.
+// Reports whether the first of two addresses is newer: its row was set later, or at the same time
+// and it is the lesser address.
 pub(crate) fn is_newer(rows: &Rows, a: u32, b: u32) -> bool
     ensures { result ≡ set_later rows.now.rows a b }
 {
@@ -162,7 +163,7 @@ pub(crate) fn is_newer(rows: &Rows, a: u32, b: u32) -> bool
     n < m || (m == n && a < b)
 }
 
-// The moment at which the row of an address was set, 0 where there is none.
+// Returns the time at which the row of an address was set, 0 if there is none.
 fn changed_at(rows: &Rows, address: u32) -> u64
     ensures { result ≡ changed_in (row_at rows.now.rows address) }
 {
@@ -172,8 +173,8 @@ fn changed_at(rows: &Rows, address: u32) -> u64
     }
 }
 
-/// The client holds an address, in host order: its row is the client's, has not ended, and is
-/// offered or bound.
+/// Reports whether the client holds an address, in host order: its row is the client's, has not
+/// ended, and is offered or bound.
 pub fn is_held_at(question: &Question<'_>, address: u32) -> bool
     ensures { result ≡ held_at (asking question.now) address }
 {
@@ -183,7 +184,7 @@ pub fn is_held_at(question: &Question<'_>, address: u32) -> bool
     }
 }
 
-// The row of an address is the client's and has ended.
+// Reports whether the row of an address is the client's and has ended.
 fn is_past_at(question: &Question<'_>, address: u32) -> bool
     ensures { result ≡ past_at (asking question.now) address }
 {
@@ -193,7 +194,7 @@ fn is_past_at(question: &Question<'_>, address: u32) -> bool
     }
 }
 
-/// The row of an address, in host order, is the client's.
+/// Reports whether the row of an address, in host order, is the client's.
 pub fn is_client_at(question: &Question<'_>, address: u32) -> bool
     ensures { result ≡ client_has (asking question.now) address }
 {
@@ -203,7 +204,8 @@ pub fn is_client_at(question: &Question<'_>, address: u32) -> bool
     }
 }
 
-// The client leases an address: its row is the client's, live and bound.
+// Reports whether the client leases an address: its row is the client's, has not ended, and is
+// bound.
 pub(crate) fn is_leased(question: &Question<'_>, address: u32) -> bool
     ensures { result ≡ leased_to (asking question.now) address }
 {
@@ -215,7 +217,8 @@ pub(crate) fn is_leased(question: &Question<'_>, address: u32) -> bool
     }
 }
 
-// An address is offered to the client: its row is the client's, live and offered.
+// Reports whether an address is offered to the client: its row is the client's, has not ended, and
+// is offered.
 fn is_offer(question: &Question<'_>, address: u32) -> bool
     ensures { result ≡ offered_to (asking question.now) address }
 {
@@ -227,7 +230,7 @@ fn is_offer(question: &Question<'_>, address: u32) -> bool
     }
 }
 
-// A state of leases.
+// Reports whether a state is that of a lease.
 fn is_bound(state: State) -> bool
     ensures { result ≡ bound_state state }
 {
@@ -237,7 +240,7 @@ fn is_bound(state: State) -> bool
     }
 }
 
-// A state of offers.
+// Reports whether a state is that of an offer.
 pub(crate) fn is_offered(state: State) -> bool
     ensures { result ≡ offered_state state }
 {

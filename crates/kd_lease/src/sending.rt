@@ -5,9 +5,10 @@ use crate::plan::{Plan, PlanKind};
 use kd_event::{Destination, Mode, Ports};
 use kd_options::Message;
 
-/// Where the reply to a message goes (RFC 2131 section 4.1), by the fields of the message: to its
-/// relay; a NAK to all; to the address that the client has; to all where the client asks for it;
-/// else to its hardware address, with its new address.
+/// Returns where the reply to a message goes (RFC 2131 section 4.1), by the fields of the message:
+/// to its relay; otherwise a NAK is broadcast; otherwise to the address that the client has;
+/// otherwise by broadcast if the client asks for it; otherwise to the client's hardware address,
+/// with its new address.
 #[tactic(auto, unfolding(crate::specs::Destination::destination_of))]
 pub fn destination(message: &Message<'_>, plan: &Plan, ports: Ports) -> Destination
     ensures { result ≡ destination_of message.now.header plan.now.kind plan.now.yiaddr ports }

@@ -7,7 +7,7 @@ use kd_rows::{Row, State};
 use kd_wire::Bytes;
 use std::alloc::{AllocError, Global};
 
-// The row that an offer sets: none where the client leases the address.
+// Returns the row that an offer sets; none if the client leases the address.
 pub(crate) fn offer_row(
     alloc: Global,
     question: &Question<'_>,
@@ -23,7 +23,7 @@ pub(crate) fn offer_row(
     }
 }
 
-// The row of an address that is offered.
+// Returns the row of an address that is offered.
 fn offered(alloc: Global, question: &Question<'_>, address: u32) -> Result<Row, AllocError>
     requires { question.now.moment < 2 ^ 40 }
     ensures { IfOk result (λ row. row ≡ offered_row (asking question.now) address) }
@@ -32,7 +32,7 @@ fn offered(alloc: Global, question: &Question<'_>, address: u32) -> Result<Row, 
     row_of(alloc, question, address, State::Offered, ends)
 }
 
-// The row of an address that is leased.
+// Returns the row of an address that is leased.
 pub(crate) fn leased(
     alloc: Global,
     question: &Question<'_>,
@@ -45,7 +45,7 @@ pub(crate) fn leased(
     row_of(alloc, question, address, State::Bound, ends)
 }
 
-// The row of an address that its client gave back.
+// Returns the row of an address that its client released.
 pub(crate) fn released(
     alloc: Global,
     question: &Question<'_>,
@@ -56,7 +56,7 @@ pub(crate) fn released(
     row_of(alloc, question, address, State::Released, question.moment)
 }
 
-// The row of an address that is in use by another host.
+// Returns the row of an address that another host uses.
 pub(crate) fn declined(alloc: Global, question: &Question<'_>, address: u32) -> Row
     requires { question.now.moment < 2 ^ 40 }
     ensures { result ≡ declined_row (asking question.now) address }
@@ -70,7 +70,7 @@ pub(crate) fn declined(alloc: Global, question: &Question<'_>, address: u32) -> 
     }
 }
 
-// A row of the client, set now.
+// Returns a row of the client, set at the time of the question.
 fn row_of(
     alloc: Global,
     question: &Question<'_>,

@@ -9,8 +9,8 @@ use kd_config::{Config, Pool, Subnet};
 use kd_machine::Held;
 use kd_wire::Header;
 
-/// The first subnet that serves a message with this header, whose classes have these names: its
-/// prefix has the place of the message, and the class that it asks for is held.
+/// Returns the first subnet that serves a message with this header and with classes of these names:
+/// its prefix contains the place of the message, and the class that it requires, if any, is held.
 #[tactic(auto, unfolding(crate::specs::SubnetOf::subnet_serving))]
 pub fn subnet_of<'a>(config: &'a Config, names: &Held, header: &Header) -> Option<&'a Subnet>
     ensures { option_copied result ≡ subnet_serving config.now names.now header.now }
@@ -22,8 +22,8 @@ pub fn subnet_of<'a>(config: &'a Config, names: &Held, header: &Header) -> Optio
         .find(|subnet| serves(place, names, subnet))
 }
 
-/// Where a message comes from, an address in host order: its relay, else its client's address, else
-/// that of the server.
+/// Returns the place a message comes from, as an address in host order: its relay, else its
+/// client's address, else the server's address.
 pub fn place_of(server: u32, header: &Header) -> u32
     ensures { result ≡ message_place server header.now }
 {
@@ -36,14 +36,14 @@ pub fn place_of(server: u32, header: &Header) -> u32
     }
 }
 
-// The subnet serves this place and the holder of these names.
+// Reports whether the subnet serves this place and a client in the classes with these names.
 fn serves(place: u32, names: &Held, subnet: &Subnet) -> bool
     ensures { result ≡ served_by place names.now subnet.now }
 {
     subnet.prefix.contains(place) && admits(subnet, names)
 }
 
-// The class that the subnet asks for is held, or it asks for none.
+// Reports whether the class that the subnet requires is held; true if it requires none.
 fn admits(subnet: &Subnet, names: &Held) -> bool
     ensures { result ≡ class_admits subnet.now.class names.now }
 {
@@ -53,8 +53,8 @@ fn admits(subnet: &Subnet, names: &Held) -> bool
     }
 }
 
-/// The options of the first pool of the subnet that has the address, in host order; none where no
-/// pool has it.
+/// Returns the options of the first pool of the subnet that contains the address, in host order;
+/// none if no pool contains it.
 pub fn pool_options(subnet: &Subnet, address: u32) -> &[OptionData]
     ensures { result.now ≡ options_of_pool subnet.now.pools address }
 {
@@ -64,7 +64,7 @@ pub fn pool_options(subnet: &Subnet, address: u32) -> &[OptionData]
     }
 }
 
-// The first pool of the subnet that has the address.
+// Returns the first pool of the subnet that contains the address.
 fn pool_of(subnet: &Subnet, address: u32) -> Option<&Pool>
     ensures { option_copied result ≡ find (λ pool. has pool.range address) subnet.now.pools }
 {

@@ -7,7 +7,7 @@ use crate::fitting::is_live;
 use crate::question::Question;
 use kd_rows::Row;
 
-// Whether an address has no row (`new`), or one that has ended.
+// Reports whether an address has no row (`new`), or has a row that has ended (otherwise).
 pub(crate) fn is_untaken(question: &Question<'_>, new: bool, address: u32) -> bool
     ensures { result ≡ untaken (asking question.now) new address }
 {
@@ -17,7 +17,7 @@ pub(crate) fn is_untaken(question: &Question<'_>, new: bool, address: u32) -> bo
     }
 }
 
-// The least such address from `first` to `last`. Reserved addresses may be passed over: where the
+// Returns the lowest such address from `first` to `last`. Reserved addresses may be skipped; if the
 // table knows them, all are.
 pub(crate) fn next_untaken(question: &Question<'_>, new: bool, first: u32, last: u32) -> Option<u32>
     requires { first ≤ last }
@@ -30,7 +30,7 @@ pub(crate) fn next_untaken(question: &Question<'_>, new: bool, first: u32, last:
     }
 }
 
-// The least that has no row.
+// Returns the lowest address that has no row.
 fn next_fresh(question: &Question<'_>, first: u32, last: u32) -> Option<u32>
     requires { first ≤ last }
     ensures { IsNextUntaken (asking question.now) true first last result }
@@ -41,7 +41,7 @@ fn next_fresh(question: &Question<'_>, first: u32, last: u32) -> Option<u32>
     }
 }
 
-// The least whose row has ended.
+// Returns the lowest address whose row has ended.
 fn next_expired(question: &Question<'_>, first: u32, last: u32) -> Option<u32>
     ensures { IsNextUntaken (asking question.now) false first last result }
 {
@@ -51,7 +51,7 @@ fn next_expired(question: &Question<'_>, first: u32, last: u32) -> Option<u32>
     }
 }
 
-// The address of a row, if there is one.
+// Returns the address of a row, if there is one.
 fn address_of(row: Option<&Row>) -> Option<u32>
     ensures { result ≡ option_map (λ row. row.address) (option_copied row.entry) }
 {

@@ -7,21 +7,21 @@ ghost use Rattle.kd_lease.specs.declared.values.Coded.{Coded};
 use kd_classes::OptionData;
 use std::alloc::{AllocError, Global};
 
-// A code with the value of its option.
+// A code and the value of its option.
 #[derive(Clone, Copy)]
 pub(crate) struct Coded<'a> {
     pub(crate) code: u8,
     pub(crate) value: &'a [u8],
 }
 
-// The values of options, in rising code: for each code that of the first option put.
+// The values of options, in ascending order of code: the first option put for a code wins.
 #[derive(Drop)]
 pub(crate) struct Values<'a> {
     pub(crate) list: Vec<Coded<'a>>,
 }
 
 impl<'a> Values<'a> {
-    // No values.
+    // Makes an empty list.
     pub(crate) fn new(alloc: Global) -> Values<'a>
         ensures { HasValues result.list.items [] }
     {
@@ -36,7 +36,7 @@ impl<'a> Values<'a> {
             → HasValues self.new.list.items (options ++ record { code = code; value = value.now }
             ∷ [])) }
     {
-        // these two are no codes of options
+        // These two are not codes of options.
         if code == 0 || code == 255 {
             return Ok(());
         }
@@ -48,7 +48,7 @@ impl<'a> Values<'a> {
         Ok(())
     }
 
-    // The entry at a place has a code.
+    // Reports whether the entry at a place has a code.
     fn has_at(&self, place: usize, code: u8) -> bool
         ensures there { IsTrue result → (entry : Coded)
             × (slice_get self.now.list.items place ≡ Some entry) × (entry.code ≡ code) }
@@ -71,7 +71,7 @@ impl<'a> Values<'a> {
         Ok(())
     }
 
-    // How many entries at the front have lesser codes.
+    // Returns how many entries at the start have lesser codes.
     fn place_of(&self, code: u8) -> usize
         ensures place { IsCodePlace code self.now.list.items result }
         ensures within { result ≤ vec_len self.now.list }

@@ -9,14 +9,14 @@ use kd_rows::Row;
 pub struct Verdict<A> {
     /// The row that is set in the table of leases, if one is.
     pub row: Option<Row>,
-    /// What is sent, or the reason for which nothing is.
+    /// What is sent, or the reason why nothing is.
     pub answer: Result<A, Reason>,
 }
 
-/// What the rules decide for a message: the row, and the reply or the reason.
+/// The decision for a message: the row, and the reply or the reason.
 pub type Decision = Verdict<Plan>;
 
-// No row is set, and there is no answer, for this reason.
+// Sets no row and sends no reply, for this reason.
 pub(crate) fn quiet<A>(reason: Reason) -> Verdict<A>
     ensures row { result.row ≡ None }
     ensures answer { result.answer ≡ Err reason }

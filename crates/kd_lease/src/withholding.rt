@@ -10,8 +10,8 @@ use kd_config::{Config, Reservation};
 use kd_rows::{Row, Withheld};
 use std::alloc::{AllocError, Global};
 
-// The table of these rows, which withholds all addresses that a configuration reserves, and no
-// others.
+// Builds the table of these rows that withholds exactly the addresses that a configuration
+// reserves.
 pub(crate) fn withheld_of(
     alloc: Global,
     config: &Config,
@@ -29,7 +29,7 @@ pub(crate) fn withheld_of(
     }
 }
 
-// The table of these rows that withholds these addresses.
+// Builds the table of these rows that withholds these addresses.
 fn withholding(
     alloc: Global,
     config: &Config,
@@ -49,7 +49,7 @@ fn withholding(
     }
 }
 
-// The addresses that a configuration reserves: all, and no others.
+// Collects exactly the addresses that a configuration reserves.
 fn reserved_addresses(alloc: Global, config: &Config) -> Result<Vec<u32>, AllocError>
     ensures { IfOk result (λ addresses. WithholdsReserved config.now addresses.items) }
 {
@@ -60,7 +60,7 @@ fn reserved_addresses(alloc: Global, config: &Config) -> Result<Vec<u32>, AllocE
     Ok(addresses)
 }
 
-// Puts the addresses of reservations.
+// Appends the addresses of reservations.
 fn put_reserved(addresses: &mut Vec<u32>, reservations: &[Reservation]) -> Result<(), AllocError>
     ensures { OnOk result
         (addresses.new.items ≡ addresses.old.items ++ reserved reservations.now) }
