@@ -13,7 +13,7 @@ use Rattle.kd_replay.specs.declared.happening.Happening.{Happening}
 use Rattle.kd_replay.specs.declared.happening.Happening.TheVariants as happens
 use Rattle.kd_replay.proofs.Growing.{grows_trans}
 
--- a front of bytes is bytes
+-- a prefix of bytes is bytes
 pub bytes_take : (buf : List ℕ) (n : ℕ) → IsBytes buf → IsBytes (take n buf)
 bytes_take buf n fits = λ i. by i (cases_lt i n)
   where
@@ -21,7 +21,7 @@ bytes_take buf n fits = λ i. by i (cases_lt i n)
     by i (inl less) = subst (λ (b : ℕ). b < 256) (sym (get_or-take n buf i 0 less)) (fits i)
     by i (inr past) = subst (λ (b : ℕ). b < 256) (sym (get_or_past (take n buf) i 0 (omega (arith, length-take n buf)))) (omega arith)
 
--- a datagram comes to a buffer with its room, and then the clock says the moment
+-- a datagram comes to a buffer of its room, and then the clock is read
 pub arrives : (waited : Bool) (old mid out : Option (List Happening)) (buf bytes : List ℕ) (n moment : ℕ)
     → length buf ≡ datagram_room → bytes ≡ take n buf → IsBytes bytes → moment < 2 ^ 64
     → Comes waited old mid (length buf) (take n buf) → Grows mid out (happens.Said moment ∷ [])
@@ -37,7 +37,7 @@ arrives waited old mid out buf bytes n moment full is fits low comes said = reco
   };
 }
 
--- a datagram that is held, cut at a room, in a buffer that is filled up
+-- a datagram that is held, cut off at a room, in a buffer that is filled up
 pub held_bytes : (bytes start items filled : List ℕ) (len room : ℕ) → len ≡ min room (length bytes) → start ≡ take len bytes → items ≡ take room start ++ filled → take len items ≡ take room bytes
 held_bytes bytes start items filled len room cut front all =
     let short : length start ≡ len = rw front (omega (arith, length-take len bytes, cut)) in

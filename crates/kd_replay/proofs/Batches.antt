@@ -62,7 +62,7 @@ module _ {H : Type 0} (limit : Option ℕ) (latest : H → ℕ) (batches : H →
             (passes_then before between after _ _ _ _ _ _ a.passes b.passes);
       }
 
-  -- a batch came, and the clocks were asked
+  -- a batch came, and the clocks were read
   module _ (old : Timed H) (events : List Event) (clocks : Clocks) (trace between asked : Option (List Happening)) (recorded written : Option (List ℕ))
       (g : Gathers trace between events) (a : Grows between asked (clocks_asked clocks)) where
     grows_in : Grows trace asked (gathering g.arrivals clocks)
@@ -85,7 +85,7 @@ module _ {H : Type 0} (limit : Option ℕ) (latest : H → ℕ) (batches : H →
       passes = record { trace_grows = grows_in; recorded_grows = Appends-nil recorded; written_grows = Appends-nil written };
     }
 
-    -- of its lines a front was recorded
+    -- a prefix of its lines was recorded
     pub unrecorded : (left : ℕ) (records : Option (List ℕ)) → length events ≤ left → ran_ahead limit latest batches old clocks events ≡ false
         → WritesPart recorded records (flat_map record_line events)
         → IsUnrecorded limit latest batches left old (record { trace = trace; recorded = recorded; written = written }) (record { trace = asked; recorded = records; written = written })
@@ -147,7 +147,7 @@ module _ {H : Type 0} (limit : Option ℕ) (latest : H → ℕ) (batches : H →
         passes = passes_one t;
       }
 
-      -- of one of its texts a front was written
+      -- a prefix of one of its texts was written
       pub cut_one : (left : ℕ) → length events ≤ left → AreCut list asked gone written texts
           → HasCut limit latest batches left old new (record { trace = trace; recorded = recorded; written = written })
           (record { trace = gone; recorded = records; written = texts })

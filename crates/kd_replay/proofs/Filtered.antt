@@ -28,7 +28,8 @@ module _ (gives : List ℕ → List ℕ → Type 0) where
     written = ap (λ o. o ++ text) are.written ∙ flat_map_more (λ t. t) old are.texts text;
   }
 
-  -- so many lines of the input are filtered, what is left holds the others, and the sink holds their texts
+  -- this many lines of the input are filtered, the remaining input holds the others, and the sink
+  -- holds their texts
   pub record Goes (input old : List ℕ) (number : ℕ) (left contents : Option (List ℕ)) : Type 0 where
     pub before : List (List ℕ)
     pub rest : List ℕ

@@ -1,4 +1,4 @@
--- The line of what a server answers, and that of a recorded event, fit into the room for a line.
+-- The line of a server's response, and that of a recorded event, fit into the room for a line.
 use Rattle.std.proofs.Common.{ℕ, ◌^◌, ◌<◌, ◌≤◌, List, arith, length, length-append}
 use Rattle.kd_replay.specs.Arriving.{datagram_room}
 use Rattle.kd_replay.specs.Handling.{line_room, text_room}

@@ -51,8 +51,8 @@ module _ {H : Type 0} (gives : H → Event → Handled → H → Type 0) where
     written = ap (λ o. o ++ line_of handled) did.written ∙ flat_map_more line_of old did.list handled;
   }
 
-  -- so many lines of the input are handled, what is left holds the others, and the sink holds their text; of what
-  -- was used each line feed is that of a handled line
+  -- this many lines of the input are handled, the remaining input holds the others, and the sink
+  -- holds their text; each line feed that was consumed is that of a handled line
   pub record Going (input : List ℕ) (server : H) (old : List ℕ) (number : ℕ) (mid : H) (left contents : Option (List ℕ)) : Type 0 where
     pub before : List (List ℕ)
     pub used : List ℕ

@@ -1,4 +1,4 @@
--- What is known to have happened grows, and grows again.
+-- What is known to have happened grows, and grows further.
 use Rattle.std.proofs.Common.{◌≡◌, List, [], ◌++◌, Option, None, Some, refl, sym, ap, ◌∙◌, subst, append_assoc}
 use Rattle.std.proofs.lemmas.List.{append-nil}
 use Rattle.kd_replay.specs.Trace.{Grows}

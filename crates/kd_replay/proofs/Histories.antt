@@ -1,4 +1,4 @@
--- A history, and the runs and lines that it is of, grow by one event.
+-- A history, and the runs and lines that belong to it, grow by one event.
 use Rattle.std.proofs.Common.{◌≡◌, ℕ, ◌+◌, ◌<◌, List, [], ◌∷◌, ◌++◌, Option, Some, refl, sym, ap, ◌∙◌, length, take, drop, get_or, inl, inr, subst}
 use Rattle.std.proofs.lemmas.List.{drop_more, take-append-drop, take_more}
 use Rattle.kd_replay.specs.Handling.{EndsEvent}
@@ -34,7 +34,7 @@ module _ {H : Type 0} (gives : H → Event → Handled → H → Type 0) where
       let e : take (i + 1) events ≡ take i events ++ event ∷ [] = take_more events i event less ∙ ap (λ x. take i events ++ x ∷ []) (sym is) in
       rw e (more_history old (take i events) list mid event handled new h g)
 
-  -- the same, where the bytes are told apart
+  -- the same, with the bytes given separately
   pub next_event : (old : H) (events : List Event) (list : List Handled) (mid : H) (i : ℕ) (event : Event) (bytes : List ℕ) (handled : Handled) (new : H)
       → i < length events → event ≡ get_or events i event → bytes ≡ event.bytes → History gives old (take i events) list mid
       → gives mid (record { moment = event.moment; bytes = bytes }) handled new → History gives old (take (i + 1) events) (list ++ handled ∷ []) new
@@ -47,7 +47,7 @@ module _ {H : Type 0} (gives : H → Event → Handled → H → Type 0) (fails 
   halts_none [] list server none = record { want = refl; none = none; same = refl }
   halts_none (event ∷ events) list server none = inr (record { want = refl; none = none; same = refl })
 
-  -- there is no memory for the list
+  -- there is not enough memory for the list
   pub runs_none : (events : List Event) (list : List Handled) (server : H) → list ≡ [] → Runs gives fails events list (Some faults.Memory) server server
   runs_none events list server none = record {
     done = [];
@@ -73,15 +73,15 @@ module _ {H : Type 0} (gives : H → Event → Handled → H → Type 0) (fails 
         halts = inl (subst P same f);
       }
 
-  -- a server that has handled nothing stands where it stood
+  -- a server that has handled nothing is unchanged
   pub reaches_none : (server : H) → Reaches gives fails server server
   reaches_none server = record { events = []; list = []; mid = server; history = refl; last = inl refl }
 
-  -- one that has handled some events stands where they left it
+  -- a server that has handled some events is as they left it
   pub reaches_handled : (count : ℕ) (old new : H) → Handles gives count old new → Reaches gives fails old new
   reaches_handled count old new h = record { events = h.events; list = h.list; mid = new; history = h.history; last = inl refl }
 
-  -- and where the next event ends the replay, there, or where that one left it
+  -- and if the next event ends the replay, it is the same, or as that event left it
   pub reaches_ended : (count : ℕ) (old mid new : H) (event : Event) (fault : ReplayFault) (contents written : Option (List ℕ)) → Handles gives count old mid
       → EndsEvent gives fails fault event mid new contents written → Reaches gives fails old new
   reaches_ended count old mid new event replaying.Memory contents written h e = record { events = h.events; list = h.list; mid = mid; history = h.history; last = inl e.0 }

@@ -1,4 +1,4 @@
--- A log of an input grows, and what is served of it.
+-- The log of an input grows, and what is served of the input.
 use Rattle.std.proofs.Common.{◌≡◌, inl, inr, ℕ, ◌+◌, Bool, true, false, List, [], ◌∷◌, ◌++◌, ◌<◌, Option, None, Some, Result, Ok, Err, OnOk, refl, sym, ap, ◌∙◌, subst, arith, append_assoc, drop, get_or, length, map, take}
 use Rattle.std.proofs.lemmas.List.{append-nil, length-append, length-map, map-append, nil_from_length, take-append-drop, take_more}
 use Rattle.std.specs.List.{flat_map}
@@ -90,13 +90,13 @@ module _ (given input : List Event) (next moment : ℕ) (old new : Option (List 
         ),
       )
 
-  -- the clock says the moment
+  -- the clock gives the time
   pub posted_said : IsPosted given input next moment old → Grows old new (happens.Said moment ∷ []) → IsPosted given input next moment new
   posted_said before grows =
       let first = take next input in
       (before.0, (before.1.0, grown old new _ first first (λ log h. log_said 0 log first moment before.1.0 h) grows before.1.1))
 
-  -- the steady clock says what it has counted
+  -- the steady clock gives what it has counted
   pub posted_passed : (steady : ℕ) → IsPosted given input next moment old → Grows old new (happens.Passed steady ∷ []) → IsPosted given input next moment new
   posted_passed steady before grows =
       let first = take next input in
@@ -117,7 +117,7 @@ has_come given input asked next moment log same p = record {
   is = p.1.1;
 }
 
--- a front of a log is of a front of the events
+-- a prefix of a log is of a prefix of the events
 record Cuts (moment : ℕ) (log : List Happening) (events cut : List Event) : Type 0 where
   pub front : List Event
   pub behind : List Event
@@ -159,7 +159,7 @@ log_packets (a ∷ answers) moment log events is =
     (log_packet a.sent a.handled.response moment (flat_map packets_of answers ++ log) events
     (subst P (append_assoc (packets_in a.sent a.handled.response) (flat_map packets_of answers) log) is))
 
--- the events that were served are those that came, cut
+-- the events that were served are those that came, cut off
 pub log_batches : (list : List Batch) (moment : ℕ) (events : List Event) → IsLogOf moment (flat_map trace_of list) events → flat_map events_in list ≡ map cut_event events
 log_batches [] moment [] is = refl
 log_batches [] moment (event ∷ events) is = absurd is
@@ -181,7 +181,7 @@ events_length (b ∷ list) =
 module _ {H : Type 0} (latest : H → ℕ) (batches : H → List Event → List Handled → Option ServeFault → H → Type 0) (input : List Event) (log : List Happening)
     (journal : List ℕ) (server new : H) (old out : Traffic) (came : HasCome input log) (none : old.trace ≡ Some []) (all : out.trace ≡ Some log)
     (empty : old.recorded ≡ Some []) (put : out.recorded ≡ Some journal) where
-  -- where as many were served as the input has, these are the input's
+  -- if as many were served as the input has, these are the input's events
   events_are : (b : HasBegun None latest batches (Ok tt) (length input) server new old out) → flat_map events_in b.goes.1.list ≡ map cut_event input
   events_are b =
       let served = b.goes.1 in

@@ -20,7 +20,7 @@ is_zero n h = eqb-true n 0 (sym h)
 pub is_some : (n : ℕ) → false ≡ (n == 0) → 0 < n
 is_some n h = let ne : n ≢ 0 = eqb-false n 0 (sym h) in omega arith
 
--- where no byte up to n is the byte, the first n bytes are without it
+-- if the byte is nowhere before n, the first n bytes do not contain it
 pub plain_front : (byte : ℕ) (text : List ℕ) (n : ℕ) → n ≤ length text → Nowhere (Passes (is_byte byte) text) 0 n → HasNo byte (take n text)
 plain_front byte text zero h none = tt
 plain_front byte [] (suc n) h none = tt
@@ -36,7 +36,7 @@ pub plain_append : (byte : ℕ) (xs ys : List ℕ) → HasNo byte xs → HasNo b
 plain_append byte [] ys p q = q
 plain_append byte (x ∷ xs) ys p q = (p.0, plain_append byte xs ys p.1 q)
 
--- a text is its front, the byte and what follows, at the first place of the byte
+-- a text is its prefix, the byte and what follows, split at the first place of the byte
 pub split_first : (byte : ℕ) (text : List ℕ) (at : ℕ) → at < length text → (get_or text at 0 == byte) ≡ true → text ≡ take at text ++ byte ∷ drop (at + 1) text
 split_first byte text at less is =
     sym (take-append-drop at text) ∙ ap (λ r. take at text ++ r) (drop_more text at 0 less ∙ ap (λ b. b ∷ drop (at + 1) text) (eqb-true _ _ is))
@@ -91,7 +91,7 @@ long_all chunk line is long = record {
   long = omega arith;
 }
 
--- a line has begun: these bytes of it stand in the line, and what is not read follows them
+-- a line has begun: these bytes of it are in the line, and the unread bytes follow them
 pub record Begun (all ahead : List ℕ) (left : Option (List ℕ)) (line : List ℕ) : Type 0 where
   pub rest : List ℕ
   pub known : left ≡ Some rest
@@ -125,7 +125,7 @@ begun_all {all} {ahead} {left} {line} {ahead'} {new} p t = record {
   plain = rw t.put (plain_append 10 line ahead p.plain t.plain);
 }
 
--- what holds anyhow holds where there is a fault
+-- what always holds also holds if there is a fault
 pub on_err : {T E P : Type 0} (r : Result T E) → P → OnErr r P
 on_err (Ok value) p = tt
 on_err (Err fault) p = p

@@ -1,4 +1,4 @@
--- Lines that are events: a line has one first space, and a moment's digits are no spaces.
+-- Lines that are events: a line has one first space, and the digits of a time are not spaces.
 use Rattle.std.proofs.Common.{◌≡◌, ℕ, ◌+◌, ◌-◌, ◌*◌, ◌^◌, Bool, true, false, List, [], ◌∷◌, ◌++◌, Some, None, refl, sym, ap, ◌∙◌, arith, length, take, drop, length-drop, true≢false}
 use Rattle.std.specs.Prelude.{◌==◌, ◌&&◌, nat_lt, if◌then◌else◌, Ok}
 use Rattle.std.specs.Char.{is_ascii_digit}
@@ -30,7 +30,7 @@ and_left false b h = h
 digit_plain : (byte d : ℕ) → is_ascii_digit byte ≡ false → is_ascii_digit d ≡ true → (d == byte) ≡ false
 digit_plain byte d other h = ne_eqb d byte (λ e. true≢false (sym h ∙ ap is_ascii_digit e ∙ other))
 
--- a number's digits have no byte that is no digit
+-- a number's digits contain no byte that is not a digit
 pub digits_plain : (byte : ℕ) → is_ascii_digit byte ≡ false → (digits : List ℕ) (n m : ℕ) → number_after n digits ≡ Some m → HasNo byte digits
 digits_plain byte other [] n m e = tt
 digits_plain byte other (d ∷ digits) n m e = by (is_ascii_digit d && nat_lt (n * 10 + (d - 48)) (2 ^ 64)) refl (λ h. digits_plain byte other digits (n * 10 + (d - 48)) m h) e

@@ -83,7 +83,7 @@ quiet_length reason =
     short reasons.Declined = omega arith
     short reasons.NotHeld = omega arith
 
--- a line fits, where its response is as long as a reply of 1,472 bytes or a reason
+-- a line fits if its response is no longer than a reply of 1,472 bytes or a reason
 pub line_fits : (handled : Handled) → handled.now < 2 ^ 64 → length (response_text handled.response) ≤ 3100 → length (line_of handled) ≤ line_room
 unfolding line_of
 line_fits handled moment response =

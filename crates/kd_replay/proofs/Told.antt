@@ -1,4 +1,5 @@
--- Handled datagrams that are answered, one after another, up to the first whose text can not be written.
+-- Handled datagrams that are answered, one after another, up to the first whose text cannot be
+-- written.
 use Rattle.std.proofs.Common.{◌≡◌, ℕ, ◌+◌, ◌<◌, List, [], ◌∷◌, ◌++◌, Option, sym, ap, ◌∙◌, subst, length, take, drop, get_or, refl}
 use Rattle.std.proofs.KnownBytes.{Appends-nil, Appends-trans}
 use Rattle.std.proofs.lemmas.List.{flat_map_more, map_push, take_more}
@@ -35,7 +36,7 @@ module _ (list : List Handled) (i : ℕ) (handled : Handled) (less : i < length 
             (Appends-trans old mid new (flat_map text_of before.told) (text_of last) before.appended then.appended);
       }
 
-  -- of the next a front of its text is written
+  -- a prefix of the text of the next is written
   pub cut_more : IsCut handled between gone mid new → AreCut list trace gone old new
   cut_more then =
       let last : Answered = record { handled = handled; sent = then.sent } in

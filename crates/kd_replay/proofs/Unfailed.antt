@@ -1,4 +1,4 @@
--- A replay whose source can not fail.
+-- A replay whose source cannot fail.
 use Rattle.std.proofs.Common.{ℕ, ◌⊎◌, inl, inr, List}
 use Rattle.std.specs.Prelude.{Result, Ok, Err}
 use Rattle.kd_replay.specs.Replay.{Ends, Replays}

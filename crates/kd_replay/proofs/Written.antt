@@ -1,4 +1,4 @@
--- Texts of a list's elements that are written one after another, up to the first that can not be.
+-- The texts of a list's elements, written one after another up to the first that cannot be.
 use Rattle.std.proofs.Common.{◌≡◌, ℕ, ◌+◌, ◌<◌, List, ◌∷◌, ◌++◌, Option, sym, ap, ◌∙◌, append_assoc, length, take, drop, get_or}
 use Rattle.std.proofs.KnownBytes.{Appends-trans}
 use Rattle.std.proofs.lemmas.Grind.{flat_map-append}
@@ -11,7 +11,7 @@ use Rattle.kd_replay.specs.Parts.{WritesPart}
 pub cut_at : {X : Type 0} → (xs : List X) (i : ℕ) (x : X) → i < length xs → x ≡ get_or xs i x → xs ≡ take i xs ++ x ∷ drop (i + 1) xs
 cut_at xs i x less is = sym (take-append-drop i xs) ∙ ap (λ r. take i xs ++ r) (drop_more xs i x less ∙ ap (λ y. y ∷ drop (i + 1) xs) (sym is))
 
--- the texts of the elements before one are written, and of its own a front
+-- the texts of the elements before one are written, and a prefix of its own
 pub part_of : {X : Type 0} → (text : X → List ℕ) (xs : List X) (i : ℕ) (x : X) (old mid new : Option (List ℕ)) → i < length xs → x ≡ get_or xs i x
     → Appends old mid (flat_map text (take i xs)) → WritesPart mid new (text x) → WritesPart old new (flat_map text xs)
 part_of text xs i x old mid new less is first then =

@@ -1,5 +1,5 @@
--- Words of private contracts alone: datagrams arrive in buffers, and handled ones are answered, each
--- reply handed over to be sent and its text written.
+-- Helpers of private contracts only: datagrams arrive in buffers, and handled datagrams are
+-- answered: each reply is handed over to be sent and its text is written.
 use Rattle.std.specs.Prelude.{◌≡◌, ℕ, Bool, true, false, List, [], ◌∷◌, ◌++◌, Option, map, take}
 use Rattle.std.specs.List.{All, flat_map}
 use Rattle.std.specs.Io.KnownBytes.{Appends}
@@ -12,7 +12,7 @@ use Rattle.kd_replay.specs.Trace.{Grows}
 use Rattle.kd_replay.specs.declared.happening.Happening.{Happening}
 use Rattle.kd_replay.specs.declared.happening.Happening.TheVariants as happens
 
--- a datagram arrives, waited for or not, and is an event
+-- a datagram arrives, waited for or not, as this event
 pub record ArrivesAt (waited : Bool) (old out : Option (List Happening)) (event : Event) : Type 0 where
   pub datagram : List ℕ
   pub grows : Grows old out (happens.Came waited datagram ∷ happens.Said event.moment ∷ [])
@@ -24,7 +24,7 @@ abbrev pub IsArrived : Bool → Option (List Happening) → Option (List Happeni
 IsArrived true old out event = ArrivesAt false old out event
 IsArrived false old out event = out ≡ old
 
--- datagrams arrive, the first of them waited for, and are these events
+-- datagrams arrive as these events, the first of them waited for
 pub record Gathers (old out : Option (List Happening)) (events : List Event) : Type 0 where
   pub arrivals : List Arrival
   pub are : map event_of arrivals ≡ events
@@ -38,7 +38,7 @@ module _ (handled : Handled) (trace gone : Option (List Happening)) (old out : O
     pub grows : Grows trace gone (packets_of (record { handled = handled; sent = sent }))
     pub appended : Appends old out (text_of (record { handled = handled; sent = sent }))
 
-  -- the reply was sent or not, and a front of its text is written
+  -- the reply was sent or not, and a prefix of its text is written
   pub record IsCut : Type 0 where
     pub sent : Bool
     pub grows : Grows trace gone (packets_of (record { handled = handled; sent = sent }))
@@ -52,7 +52,7 @@ module _ (list : List Handled) (trace gone : Option (List Happening)) (old out :
     pub grows : Grows trace gone (flat_map packets_of told)
     pub appended : Appends old out (flat_map text_of told)
 
-  -- of the first replies the last has a front of its text written, those before it all of theirs
+  -- the texts of some of the first replies are written, and a prefix of the text of the next one
   pub record AreCut : Type 0 where
     pub told : List Answered
     pub last : Answered

@@ -1,4 +1,4 @@
--- A stream of lines through a filter: which text each line gives, and how it ends.
+-- A stream of lines through a filter: the text of each line, and how the stream ends.
 use Rattle.std.specs.Prelude.{◌≡◌, ℕ, ◌+◌, ◌^◌, ◌<◌, ◌≤◌, List, ◌++◌, ◌⊎◌, Option, Some, Result, Ok, Err, length}
 use Rattle.std.specs.List.{AllZip, flat_map}
 use Rattle.kd_replay.specs.Lines.{line_limit, lines_of}
@@ -13,7 +13,7 @@ module _ (gives : List ℕ → List ℕ → Type 0) where
     pub short : length line ≤ line_limit
     pub given : gives line text
 
-  -- lines are filtered: what is written is the text of each, one after another
+  -- lines are filtered: their texts are written in order
   pub record AreFiltered (lines : List (List ℕ)) (old out : List ℕ) : Type 0 where
     pub texts : List (List ℕ)
     pub each : AllZip GivesText lines texts
@@ -23,16 +23,16 @@ module _ (gives : List ℕ → List ℕ → Type 0) where
   abbrev pub GivesNoText : List ℕ → Type 0
   GivesNoText line = (text : List ℕ) → ¬ GivesText line text
 
-  -- what is written of a line is a front of its text
+  -- a prefix of the text of a line is written
   pub record CutsText (line old out : List ℕ) : Type 0 where
     pub part : List ℕ
     pub more : List ℕ
     pub given : GivesText line (part ++ more)
     pub written : out ≡ old ++ part
 
-  -- how a filter ends at the line with a number, the first of those that are left: at a line that
-  -- gives no text, while its text is written, where the source has failed, or out of memory: that
-  -- comes at the start, at a line, or where no number is left for a line
+  -- how a filter ends at the line with a number, the first of the remaining lines: at a line that
+  -- gives no text, while its text is written, if the source has failed, or out of memory, which can
+  -- happen at the start, at a line, or when the line numbers are used up
   abbrev pub EndsFiltering : Type 0 → ReplayFault → ℕ → List (List ℕ) → List ℕ → List ℕ → Type 0
   EndsFiltering source_failed (faults.BadLine k) number lines old out =
       (k ≡ number) × FirstLineIs GivesNoText lines × (out ≡ old)
@@ -43,7 +43,7 @@ module _ (gives : List ℕ → List ℕ → Type 0) where
       ((number ≡ 1) ⊎ ((0 < length lines) ⊎ (number ≡ 2 ^ 64))) × (out ≡ old)
   EndsFiltering source_failed (faults.Serve fault) number lines old out = ⊥
 
-  -- a filter stops: the lines before are filtered, and it ends at the next
+  -- a filter stops: the lines before are filtered, and it ends at the next line
   pub record StopsFiltering (source_failed : Type 0) (fault : ReplayFault) (lines : List (List ℕ))
       (old out : List ℕ) : Type 0 where
     pub before : List (List ℕ)
@@ -53,14 +53,14 @@ module _ (gives : List ℕ → List ℕ → Type 0) where
     pub filtered : AreFiltered before old between
     pub ends : EndsFiltering source_failed fault (length before + 1) after between out
 
-  -- all lines are filtered, as many as it says, or it stops with its fault
+  -- all lines are filtered, and the result is their number; or the filter stops with its fault
   abbrev pub FiltersTo : Type 0 → Result ℕ ReplayFault → List (List ℕ) → List ℕ → List ℕ → Type 0
   FiltersTo source_failed (Ok count) lines old out =
       (count ≡ length lines) × AreFiltered lines old out
   FiltersTo source_failed (Err fault) lines old out =
       StopsFiltering source_failed fault lines old out
 
-  -- what a filter of an input leaves in the sink, whose contents are known
+  -- what filtering an input leaves in the sink, if the sink's contents are known
   pub record LeavesFiltered (source_failed : Type 0) (result : Result ℕ ReplayFault)
       (input old : List ℕ) (contents : Option (List ℕ)) : Type 0 where
     pub out : List ℕ

@@ -1,5 +1,5 @@
--- Words of private contracts alone: what is taken of the bytes ahead, and which line is found in an
--- input.
+-- Helpers of private contracts only: what is consumed of the bytes ahead, and which line is found
+-- in an input.
 use Rattle.std.specs.Prelude.{◌≡◌, ℕ, ◌+◌, ◌<◌, ◌≤◌, ◌==◌, false, List, [], ◌∷◌, ◌++◌, Option, Some, length}
 use Rattle.kd_replay.specs.Lines.{line_feeds, line_limit, lines_of}
 use Rattle.kd_replay.specs.declared.ahead.Part.{Part}
@@ -7,26 +7,26 @@ use Rattle.kd_replay.specs.declared.ahead.Part.TheVariants as part
 use Rattle.kd_replay.specs.declared.lines.Found.{Found}
 use Rattle.kd_replay.specs.declared.lines.Found.TheVariants as found
 
--- a text without a byte
+-- a text that does not contain a byte
 abbrev pub HasNo : ℕ → List ℕ → Type 0
 HasNo byte [] = Unit {0}
 HasNo byte (b ∷ text) = ((b == byte) ≡ false) × HasNo byte text
 
--- the rest of a line is taken, and its line feed
+-- the rest of a line is consumed, and its line feed
 pub record TakesLast (ahead line left new : List ℕ) : Type 0 where
   pub rest : List ℕ
   pub whole : ahead ≡ rest ++ 10 ∷ left
   pub plain : HasNo 10 rest
   pub put : new ≡ line ++ rest
 
--- all is taken, some bytes of a line that goes on
+-- all bytes are consumed: some bytes of a line that goes on
 pub record TakesAll (ahead line left new : List ℕ) : Type 0 where
   pub some : 0 < length ahead
   pub plain : HasNo 10 ahead
   pub none : left ≡ []
   pub put : new ≡ line ++ ahead
 
--- nothing is taken, since the line is too long
+-- nothing is consumed, because the line is too long
 pub record TakesTooLong (ahead line left : List ℕ) : Type 0 where
   pub same : left ≡ ahead
   pub front : List ℕ
@@ -35,7 +35,7 @@ pub record TakesTooLong (ahead line left : List ℕ) : Type 0 where
   pub plain : HasNo 10 front
   pub long : line_limit < length line + length front
 
--- what is taken of the bytes ahead into a line, by what is found there
+-- what is consumed of the bytes ahead into a line, by what is found there
 abbrev pub TakesPart : Part → List ℕ → List ℕ → List ℕ → List ℕ → Type 0
 TakesPart part.Last ahead line left new = TakesLast ahead line left new
 TakesPart part.Open ahead line left new = TakesAll ahead line left new
@@ -55,7 +55,7 @@ FindsLine found.Line lines text more = (lines ≡ text ∷ more) × (length text
 FindsLine found.TooLong lines text more = FindsTooLong lines
 FindsLine found.End lines text more = lines ≡ []
 
--- the next line of an input, and what is left of it; what was taken has one line feed at most
+-- the next line of an input, and the remaining input; the consumed bytes have at most one line feed
 pub record FindsIn (found : Found) (all : List ℕ) (left : Option (List ℕ))
     (text : List ℕ) : Type 0 where
   pub taken : List ℕ
@@ -65,7 +65,7 @@ pub record FindsIn (found : Found) (all : List ℕ) (left : Option (List ℕ))
   pub one : line_feeds taken ≤ 1
   pub finds : FindsLine found (lines_of all) text (lines_of rest)
 
--- the source has failed within a line: what it gave of the input has no line feed
+-- the source has failed within a line: the part of the input that it gave has no line feed
 pub record FailsIn (all : List ℕ) (left : Option (List ℕ)) : Type 0 where
   pub part : List ℕ
   pub rest : List ℕ

@@ -1,5 +1,5 @@
--- Words of private contracts alone: the room for a line, and what is left where an event is handled
--- and written.
+-- Helpers of private contracts only: the room for a line, and the result of handling and writing an
+-- event.
 use Rattle.std.specs.Prelude.{◌≡◌, ◌≢◌, ℕ, List, Option}
 use Rattle.std.specs.Io.KnownBytes.{Appends}
 use Rattle.kd_replay.specs.Parts.{WritesPart}
@@ -13,12 +13,12 @@ use Rattle.kd_replay.specs.declared.fault.ReplayFault.TheVariants as faults
 use Rattle.kd_replay.specs.declared.fault.ServeFault.{ServeFault}
 use Rattle.kd_replay.specs.declared.fault.ServeFault.TheVariants as serving
 
--- the most bytes that a written line has, with its line feed
+-- the most bytes of a written line, with its line feed
 abbrev pub line_room : ℕ
 line_room = 4096
 
--- the most bytes that a line of a record has, with its line feed; a written line and that of a reply
--- that was not sent are shorter
+-- the most bytes of a line of a record, with its line feed; a written line, together with the line
+-- of a reply that was not sent, is shorter
 abbrev pub text_room : ℕ
 text_room = 8216
 
@@ -37,7 +37,7 @@ module _ {H : Type 0} (gives : H → Event → Handled → H → Type 0) where
     pub given : gives server event handled new
     pub appended : Appends contents written (line_of handled)
 
-  -- an event is handled, and a front of its text is written
+  -- an event is handled, and a prefix of its text is written
   pub record CutsEvent (event : Event) (server new : H)
       (contents written : Option (List ℕ)) : Type 0 where
     pub handled : Handled
@@ -46,7 +46,7 @@ module _ {H : Type 0} (gives : H → Event → Handled → H → Type 0) where
 
 module _ {H : Type 0} (gives : H → Event → Handled → H → Type 0)
     (fails : H → Event → ServeFault → H → Type 0) where
-  -- what a fault of handling an event and of writing its text leaves
+  -- the result of a fault in handling an event or writing its text
   abbrev pub EndsEvent : ReplayFault → Event → H → H → Option (List ℕ) → Option (List ℕ) → Type 0
   EndsEvent faults.Memory event server new contents written = (new ≡ server) × (written ≡ contents)
   EndsEvent (faults.Serve fault) event server new contents written =

@@ -1,4 +1,4 @@
--- A history: events handled one after another, each where the one before left the server.
+-- A history: events handled one after another, each by the server as the one before left it.
 use Rattle.std.specs.Prelude.{◌≡◌, List, [], ◌∷◌, ◌++◌, ◌⊎◌, Option, None, Some}
 use Rattle.kd_event.specs.declared.event.Event.{Event}
 use Rattle.kd_event.specs.declared.event.Handled.{Handled}
@@ -6,7 +6,7 @@ use Rattle.kd_replay.specs.declared.fault.ServeFault.{ServeFault}
 use Rattle.kd_replay.specs.declared.fault.ServeFault.TheVariants as faults
 
 -- the relation that says what one event gives: the server before it, the event, what was done with
--- it, the server after it
+-- it, and the server after it
 module _ {H : Type 0} (gives : H → Event → Handled → H → Type 0) where
   -- what was done with each event of a list, from the old server to the new one
   abbrev pub History : H → List Event → List Handled → H → Type 0
@@ -16,7 +16,7 @@ module _ {H : Type 0} (gives : H → Event → Handled → H → Type 0) where
   History old [] (handled ∷ list) new = ⊥
   History old (event ∷ events) [] new = ⊥
 
--- there is no memory for the list, and nothing is handled
+-- there is not enough memory for the list, and nothing is handled
 pub record NoMemory {H : Type 0} (fault : ServeFault) (list : List Handled)
     (old new : H) : Type 0 where
   pub want : fault ≡ faults.Memory
@@ -24,7 +24,7 @@ pub record NoMemory {H : Type 0} (fault : ServeFault) (list : List Handled)
   pub same : new ≡ old
 
 -- the relation that says what a fault leaves: the server before the event, the event, the fault,
--- the server after it
+-- and the server after it
 module _ {H : Type 0} (fails : H → Event → ServeFault → H → Type 0) where
   -- how a run ends: without a fault at the end of the events, or with the fault of the next event
   abbrev pub Halts : Option ServeFault → List Event → List Handled → H → H → Type 0
@@ -46,8 +46,8 @@ module _ {H : Type 0} (gives : H → Event → Handled → H → Type 0)
     pub history : History gives old done list mid
     pub halts : Halts fails fault after list mid new
 
-  -- what calls of a server come to: events were handled one after another, and then nothing more
-  -- happened, or one more event has a fault
+  -- the result of calls of a server: events were handled one after another, and then either nothing
+  -- more happened or one more event had a fault
   pub record Reaches (old new : H) : Type 0 where
     pub events : List Event
     pub list : List Handled

@@ -1,4 +1,4 @@
--- The log of a link in memory: which events of an input came, and what the clock said.
+-- The log of a link in memory: which events of an input came, and what the clock gave.
 use Rattle.std.specs.Prelude.{◌≡◌, ℕ, List, [], ◌∷◌, ◌++◌, Option, None, map, take}
 use Rattle.std.specs.List.{flat_map}
 use Rattle.kd_event.specs.declared.event.Event.{Event}
@@ -10,13 +10,13 @@ use Rattle.kd_replay.specs.declared.fault.ServeFault.{ServeFault}
 use Rattle.kd_replay.specs.declared.happening.Happening.{Happening}
 use Rattle.kd_replay.specs.declared.happening.Happening.TheVariants as happens
 
--- the moment of the last of some events, or an earlier moment where there are none
+-- the time of the last of some events, or an earlier time if there are none
 abbrev pub last_moment : ℕ → List Event → ℕ
 last_moment moment [] = moment
 last_moment moment (event ∷ events) = last_moment event.moment events
 
--- a log is of events: their datagrams came, whole and in this order, and the clock said each time
--- the moment of the event that came last, or an earlier moment before the first
+-- a log is of events: their datagrams came, whole and in this order, and each reading of the clock
+-- is the time of the event that came last, or an earlier time before the first event
 abbrev pub IsLogOf : ℕ → List Happening → List Event → Type 0
 IsLogOf moment [] [] = Unit {0}
 IsLogOf moment [] (event ∷ events) = ⊥
@@ -27,18 +27,18 @@ IsLogOf moment (happens.Said said ∷ log) events = (said ≡ moment) × IsLogOf
 IsLogOf moment (happens.Passed steady ∷ log) events = IsLogOf moment log events
 IsLogOf moment (happens.Went packet ∷ log) events = IsLogOf moment log events
 
--- the first events of an input came, and a log is of them
+-- some of the first events of an input came, and this is their log
 pub record HasCome (input : List Event) (log : List Happening) : Type 0 where
   pub first : List Event
   pub rest : List Event
   pub all : input ≡ first ++ rest
   pub is : IsLogOf 0 log first
 
--- an event, its datagram cut at 4,097 bytes
+-- an event with its datagram cut off after 4,097 bytes
 abbrev pub cut_event : Event → Event
 cut_event event = record { moment = event.moment; bytes = take datagram_room event.bytes }
 
--- all events of an input are served, in batches that follow one another, without a limit to the clock
+-- all events of an input are served in consecutive batches, without a limit on the clock
 pub record ServesInput {H : Type 0} (latest : H → ℕ)
     (batches : H → List Event → List Handled → Option ServeFault → H → Type 0)
     (input : List Event) (server new : H) : Type 0 where

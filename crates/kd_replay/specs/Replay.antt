@@ -23,25 +23,25 @@ AreEvents (line ∷ lines) (event ∷ events) = IsEventLine line event × AreEve
 AreEvents [] (event ∷ events) = ⊥
 AreEvents (line ∷ lines) [] = ⊥
 
--- there is a first line, and it is such
+-- there is a first line, and it has the property
 abbrev pub FirstLineIs : (List ℕ → Type 0) → List (List ℕ) → Type 0
 FirstLineIs IsSuch [] = ⊥
 FirstLineIs IsSuch (line ∷ lines) = IsSuch line
 
--- a line is no event
+-- a line is not an event
 abbrev pub IsNoEvent : List ℕ → Type 0
 IsNoEvent line = (event : Event) → ¬ IsEventLine line event
 
 -- the relation that says what one event gives
 module _ {H : Type 0} (gives : H → Event → Handled → H → Type 0) where
-  -- so many events are handled
+  -- this many events are handled
   pub record Handles (count : ℕ) (server new : H) : Type 0 where
     pub events : List Event
     pub list : List Handled
     pub counted : length events ≡ count
     pub history : History gives server events list new
 
-  -- lines are handled: they are events that have a history, and what is written is the text of it
+  -- lines are handled: they are events that have a history, and the text of the history is written
   pub record Did (lines : List (List ℕ)) (server new : H) (old out : List ℕ) : Type 0 where
     pub events : List Event
     pub list : List Handled
@@ -50,7 +50,7 @@ module _ {H : Type 0} (gives : H → Event → Handled → H → Type 0) where
     pub written : out ≡ old ++ flat_map line_of list
 
   -- the lines that a source gave whole before it failed, each with its line feed, are handled, and
-  -- what is written is the text of the lines that are handled
+  -- the text of the handled lines is written
   pub record HandlesWhole (input : List ℕ) (left : Option (List ℕ)) (server new : H) (old : List ℕ)
       (contents : Option (List ℕ)) : Type 0 where
     pub given : List ℕ
@@ -65,7 +65,7 @@ module _ {H : Type 0} (gives : H → Event → Handled → H → Type 0) where
     pub whole : line_feeds given ≤ length before
     pub did : Did before server new old out
 
-  -- a line's event is handled, and what is written is a front of its text
+  -- a line's event is handled, and a prefix of its text is written
   pub record Cuts (line : List ℕ) (server new : H) (old out : List ℕ) : Type 0 where
     pub event : Event
     pub handled : Handled
@@ -78,7 +78,7 @@ module _ {H : Type 0} (gives : H → Event → Handled → H → Type 0) where
 
 -- the relation that says what a fault leaves
 module _ {H : Type 0} (fails : H → Event → ServeFault → H → Type 0) where
-  -- a line's event has a fault, which is not want of memory
+  -- a line's event has a fault, other than out of memory
   pub record LineFails (fault : ServeFault) (line : List ℕ) (server new : H) : Type 0 where
     pub event : Event
     pub spelled : IsEventLine line event
@@ -87,10 +87,10 @@ module _ {H : Type 0} (fails : H → Event → ServeFault → H → Type 0) wher
 
 module _ {H : Type 0} (gives : H → Event → Handled → H → Type 0)
     (fails : H → Event → ServeFault → H → Type 0) where
-  -- how a replay ends at the line with a number, the first of those that are left: at a line that
-  -- is no event, at a fault of its event, while its text is written, where the source has failed or
-  -- it is one line too many, or for want of memory: that comes at the start, or at a line whose
-  -- moment can be read
+  -- how a replay ends at the line with a number, the first of the remaining lines: at a line that
+  -- is not an event, at a fault of its event, while its text is written, if the source has failed
+  -- or there is one line too many, or out of memory, which can happen at the start or at a line
+  -- whose time can be read
   abbrev pub Ends : Type 0 → ReplayFault → ℕ → List (List ℕ) → H → H → List ℕ → List ℕ → Type 0
   Ends source_failed (faults.BadLine k) number lines server new old out =
       (k ≡ number) × FirstLineIs IsNoEvent lines × (new ≡ server) × (out ≡ old)
@@ -105,7 +105,7 @@ module _ {H : Type 0} (gives : H → Event → Handled → H → Type 0)
       ((number ≡ 1) ⊎ FirstLineIs HasMoment lines) × (new ≡ server) × (out ≡ old)
 
   -- a replay stops: the lines before are handled, and it ends at the next, which is one of the
-  -- first 1,000,000 but where the source has failed or there is one line too many
+  -- first 1,000,000 unless the source has failed or there is one line too many
   pub record Stops (source_failed : Type 0) (fault : ReplayFault) (lines : List (List ℕ))
       (server new : H) (old out : List ℕ) : Type 0 where
     pub before : List (List ℕ)
@@ -118,8 +118,8 @@ module _ {H : Type 0} (gives : H → Event → Handled → H → Type 0)
     pub did : Did gives before server mid old between
     pub ends : Ends source_failed fault (length before + 1) after mid new between out
 
-  -- a replay: all lines are handled, as many as it says and 1,000,000 at most, or it stops with its
-  -- fault
+  -- a replay: all lines are handled, at most 1,000,000, and the result is their number; or it stops
+  -- with its fault
   abbrev pub Replays : Type 0 → Result ℕ ReplayFault → List (List ℕ) → H → H → List ℕ → List ℕ
       → Type 0
   Replays source_failed (Ok count) lines server new old out =
@@ -127,16 +127,17 @@ module _ {H : Type 0} (gives : H → Event → Handled → H → Type 0)
   Replays source_failed (Err fault) lines server new old out =
       Stops source_failed fault lines server new old out
 
-  -- what a replay of an input leaves in the sink, whose contents are known
+  -- what replaying an input leaves in the sink, if the sink's contents are known
   pub record LeavesWritten (source_failed : Type 0) (result : Result ℕ ReplayFault) (input : List ℕ)
       (server new : H) (old : List ℕ) (contents : Option (List ℕ)) : Type 0 where
     pub out : List ℕ
     pub told : contents ≡ Some out
     pub replays : Replays source_failed result (lines_of input) server new old out
 
-  -- a replay of a source to a sink, by its result. Where both tell their bytes, what it leaves
-  -- written; where the source fails, the lines that it gave whole are handled, or 1,000,000 lines.
-  -- Whether they tell them or not, events are handled one after another, as many as it says
+  -- a replay of a source to a sink, by its result. If the bytes of both are known, this is what it
+  -- writes; if the source fails, the lines that it gave whole are handled, or 1,000,000 lines.
+  -- Whether or not the bytes are known, events are handled one after another, as many as the result
+  -- says
   pub record HasReplayed (source_failed : Type 0) (result : Result ℕ ReplayFault) (server new : H)
       (input left old contents : Option (List ℕ)) : Type 0 where
     pub leaves : (bytes text : List ℕ) → input ≡ Some bytes → old ≡ Some text

@@ -1,5 +1,5 @@
 -- Datagrams that are served in batches as they arrive: what is recorded, handled, sent and written,
--- and when the clock runs ahead.
+-- and when serving ends because the clock is ahead.
 use Rattle.std.specs.Prelude.{◌≡◌, ◌≢◌, ◌⊎◌, ℕ, ◌+◌, ◌<◌, ◌≤◌, Bool, true, false, List, [], ◌∷◌, ◌++◌, Option, None, Some, Result, Ok, Err, codes, length, map}
 use Rattle.std.specs.List.{All, flat_map, list_any}
 use Rattle.std.specs.Io.KnownBytes.{Appends}
@@ -22,7 +22,7 @@ use Rattle.kd_replay.specs.declared.happening.Happening.{Happening}
 use Rattle.kd_replay.specs.declared.happening.Happening.TheVariants as happens
 use Rattle.kd_replay.specs.declared.link.Link.{Ghosts as Links}
 
--- what is handed over for a response, by whether it was sent
+-- what is handed over for a response, given whether it was sent
 abbrev pub packets_in : Bool → Response → List Happening
 packets_in sent (responses.Reply destination bytes) =
     happens.Went (record { destination = destination; bytes = bytes; sent = sent }) ∷ []
@@ -32,13 +32,13 @@ packets_in sent (responses.Quiet reason) = []
 abbrev pub send_fault : List ℕ
 send_fault = codes "fault 99 Send\n"
 
--- what is written after the line of a datagram: where its reply was not sent, the line that says so
+-- what is written after the line of a datagram: if its reply was not sent, the line that says so
 abbrev pub behind_line : Bool → Response → List ℕ
 behind_line false (responses.Reply destination bytes) = send_fault
 behind_line false (responses.Quiet reason) = []
 behind_line true response = []
 
--- a handled datagram, and whether its reply was sent, where it has one
+-- a handled datagram, and whether its reply, if it has one, was sent
 pub record Answered : Type 0 where
   pub handled : Handled
   pub sent : Bool
@@ -51,8 +51,8 @@ packets_of answered = packets_in answered.sent answered.handled.response
 abbrev pub text_of : Answered → List ℕ
 text_of answered = line_of answered.handled ++ behind_line answered.sent answered.handled.response
 
--- datagrams that arrived together, each an event that a record can say, what the clocks said once
--- they had come, and what was done with them
+-- datagrams that arrived together, each an event that a record can represent; the readings of the
+-- clocks once they had come; and what was done with the datagrams
 pub record Batch : Type 0 where
   pub arrivals : List Arrival
   pub recordable : All IsRecordable (map event_of arrivals)
@@ -67,11 +67,11 @@ events_in b = map event_of b.arrivals
 abbrev pub handled_in : Batch → List Handled
 handled_in b = map (λ a. a.handled) b.answers
 
--- datagrams arrive, and then the clocks are asked
+-- datagrams arrive, and then the clocks are read
 abbrev pub gathering : List Arrival → Clocks → List Happening
 gathering arrivals clocks = coming true arrivals ++ clocks_asked clocks
 
--- what happens at the link in a batch: its datagrams come, the clocks are asked, and then its
+-- what happens at the link in a batch: its datagrams come, the clocks are read, and then its
 -- replies are handed over
 abbrev pub trace_of : Batch → List Happening
 trace_of b = gathering b.arrivals b.clocks ++ flat_map packets_of b.answers
@@ -84,7 +84,7 @@ record_of b = flat_map record_line (events_in b)
 abbrev pub texts_of : Batch → List ℕ
 texts_of b = flat_map text_of b.answers
 
--- the contents of a journal, where there is one and they are known
+-- the contents of a journal, if there is one and they are known
 abbrev pub contents_in : {R : Type 0} → Sinks R → Option R → Option (List ℕ)
 contents_in r None = None
 contents_in r (Some journal) = r.contents journal
@@ -94,17 +94,17 @@ abbrev pub failed_in : {R : Type 0} → Sinks R → Option R → Bool
 failed_in r None = false
 failed_in r (Some journal) = r.has_failed journal
 
--- what has happened at the link, and what was recorded and written so far, where it is known
+-- what has happened at the link, and what was recorded and written so far, if it is known
 pub record Traffic : Type 0 where
   pub trace : Option (List Happening)
   pub recorded : Option (List ℕ)
   pub written : Option (List ℕ)
 
--- nothing has happened, and all is known
+-- nothing has happened, and everything is known
 abbrev pub nothing : Traffic
 nothing = record { trace = Some []; recorded = Some []; written = Some [] }
 
--- the traffic of a link, a journal that may be left out, and a sink
+-- the traffic of a link, an optional journal, and a sink
 abbrev pub traffic : {L R W : Type 0} → Links L → Sinks R → Sinks W → L → Option R → W → Traffic
 traffic l r w link journal sink = record {
   trace = l.trace link;
@@ -119,14 +119,14 @@ pub record Passes (old out : Traffic) (trace : List Happening)
   pub recorded_grows : Appends old.recorded out.recorded recorded
   pub written_grows : Appends old.written out.written written
 
--- a server, and what the clocks said before
+-- a server, and the earlier readings of the clocks
 pub record Timed (H : Type 0) : Type 0 where
   pub server : H
   pub clocks : Clocks
 
--- by how many seconds the clock may run ahead, of what handles events the latest change of its table,
--- and the relation that says what a batch gives: the server before it, its events, what was done with
--- the first of them, the fault of the next, the server after it
+-- by how many seconds the clock may be ahead; the latest change of the server's table; and the
+-- relation that says what a batch gives: the server before it, its events, what was done with the
+-- first of them, the fault of the next, and the server after it
 module _ {H : Type 0} (limit : Option ℕ) (latest : H → ℕ)
     (batches : H → List Event → List Handled → Option ServeFault → H → Type 0) where
   -- whether one of the events that arrived is ahead
@@ -134,7 +134,7 @@ module _ {H : Type 0} (limit : Option ℕ) (latest : H → ℕ)
   ran_ahead old clocks events = list_any
       (λ event. is_ahead limit (latest old.server) old.clocks clocks.steady event.moment) events
 
-  -- batches follow one another, no event ahead and all handled, from the old server to the new one
+  -- consecutive batches, with no event ahead and all handled, from the old server to the new one
   abbrev pub Follow : Timed H → List Batch → Timed H → Type 0
   Follow old [] new = new ≡ old
   Follow old (b ∷ more) new =
@@ -142,8 +142,8 @@ module _ {H : Type 0} (limit : Option ℕ) (latest : H → ℕ)
       × ((mid : H) × batches old.server (events_in b) (handled_in b) None mid
       × Follow (record { server = mid; clocks = b.clocks }) more new)
 
-  -- so many datagrams were served, in batches: their events were recorded and handled, their replies
-  -- were handed over to be sent, and what was written is their texts, in that order
+  -- this many datagrams were served, in batches: their events were recorded and handled, their
+  -- replies were handed over to be sent, and their texts were written, in that order
   pub record HasServed (count : ℕ) (old new : Timed H) (before after : Traffic) : Type 0 where
     pub list : List Batch
     pub counted : length (flat_map (λ b. b.arrivals) list) ≡ count
@@ -151,7 +151,7 @@ module _ {H : Type 0} (limit : Option ℕ) (latest : H → ℕ)
     pub passes : Passes before after (flat_map trace_of list) (flat_map record_of list)
         (flat_map texts_of list)
 
-  -- one of the events that arrived is ahead, and nothing of them is recorded or handled
+  -- one of the events that arrived is ahead, and none of them is recorded or handled
   pub record HasRunAhead (left : ℕ) (old : Timed H) (before after : Traffic) : Type 0 where
     pub arrivals : List Arrival
     pub few : length arrivals ≤ left
@@ -159,8 +159,8 @@ module _ {H : Type 0} (limit : Option ℕ) (latest : H → ℕ)
     pub ahead : ran_ahead old clocks (map event_of arrivals) ≡ true
     pub passes : Passes before after (gathering arrivals clocks) [] []
 
-  -- of the lines of the events that arrived, none of them ahead, a front is recorded, and nothing of
-  -- them is handled
+  -- none of the events that arrived is ahead; a prefix of their lines is recorded, and none of them
+  -- is handled
   pub record IsUnrecorded (left : ℕ) (old : Timed H) (before after : Traffic) : Type 0 where
     pub arrivals : List Arrival
     pub few : length arrivals ≤ left
@@ -172,8 +172,8 @@ module _ {H : Type 0} (limit : Option ℕ) (latest : H → ℕ)
     pub cut : flat_map record_line (map event_of arrivals) ≡ part ++ more
     pub passes : Passes before after (gathering arrivals clocks) part []
 
-  -- a batch has a fault: its events, none of them ahead, were recorded, and those before the fault
-  -- were handled and their replies handed over and texts written
+  -- a batch has a fault: its events, none of them ahead, were recorded; those before the fault were
+  -- handled, their replies were handed over and their texts written
   pub record HasFailed (fault : ServeFault) (left : ℕ) (old : Timed H) (new : H)
       (before after : Traffic) : Type 0 where
     pub batch : Batch
@@ -182,8 +182,8 @@ module _ {H : Type 0} (limit : Option ℕ) (latest : H → ℕ)
     pub given : batches old.server (events_in batch) (handled_in batch) (Some fault) new
     pub passes : Passes before after (trace_of batch) (record_of batch) (texts_of batch)
 
-  -- a batch, no event of it ahead, was recorded and handled; of its replies the first were handed
-  -- over, and of the text of the last of these a front was written
+  -- a batch with no event ahead was recorded and handled; some of its first replies were handed
+  -- over, and a prefix of the text of the last of these was written
   pub record HasCut (left : ℕ) (old : Timed H) (new : H) (before after : Traffic) : Type 0 where
     pub arrivals : List Arrival
     pub few : length arrivals ≤ left
@@ -203,9 +203,9 @@ module _ {H : Type 0} (limit : Option ℕ) (latest : H → ℕ)
         (gathering arrivals clocks ++ flat_map packets_of (told ++ last ∷ []))
         (flat_map record_line (map event_of arrivals)) (flat_map text_of told ++ part)
 
-  -- how serving ends at a batch: no datagram could be received; the clock ran ahead; its record could
-  -- not be written; the server says that there is no memory for it, or has another fault; or its text
-  -- could not be written
+  -- how serving ends at a batch: no datagram could be received; the clock is ahead; its record
+  -- could not be written; the server is out of memory or has another fault; or its text could not
+  -- be written
   abbrev pub EndsServing : LoopFault → ℕ → Timed H → H → Traffic → Traffic → Type 0
   EndsServing faults.Read left old new before after = (new ≡ old.server) × (after ≡ before)
   EndsServing faults.Ahead left old new before after =
@@ -230,14 +230,16 @@ module _ {H : Type 0} (limit : Option ℕ) (latest : H → ℕ)
     pub served : HasServed done old mid before between
     pub ends : EndsServing fault left mid new between after
 
-  -- from the start on all datagrams that were asked for are served, or serving ends after some of them
+  -- after the start, all datagrams that were asked for are served, or serving ends after some of
+  -- them
   abbrev pub ServesOn : Result Unit LoopFault → ℕ → Timed H → H → Traffic → Traffic → Type 0
   ServesOn (Ok done) count start new begun after =
       (clocks : Clocks)
       × HasServed count start (record { server = new; clocks = clocks }) begun after
   ServesOn (Err fault) count start new begun after = EndsAfter fault count start new begun after
 
-  -- the clocks are asked at the start, the clock is not behind the latest change, and it goes on
+  -- the clocks are read at the start, the clock is not behind the latest change, and serving goes
+  -- on
   pub record HasBegun (result : Result Unit LoopFault) (count : ℕ) (server new : H)
       (before after : Traffic) : Type 0 where
     pub clocks : Clocks
@@ -246,8 +248,8 @@ module _ {H : Type 0} (limit : Option ℕ) (latest : H → ℕ)
     pub in_time : is_behind limit (latest server) clocks.moment ≡ false
     pub goes : ServesOn result count (record { server = server; clocks = clocks }) new begun after
 
-  -- serving does not begin: there is no memory, and nothing happens; or the clocks are asked, and the
-  -- clock is behind the latest change
+  -- serving does not begin: there is not enough memory, and nothing happens; or the clocks are
+  -- read, and the clock is behind the latest change
   abbrev pub IsNotBegun : Result Unit LoopFault → H → Traffic → Traffic → Type 0
   IsNotBegun (Err faults.Memory) server before after = after ≡ before
   IsNotBegun (Err faults.Ahead) server before after =
@@ -255,8 +257,8 @@ module _ {H : Type 0} (limit : Option ℕ) (latest : H → ℕ)
       × Passes before after (clocks_asked clocks) [] []
   IsNotBegun result server before after = ⊥
 
-  -- serving, by its result: it begins, and all datagrams that were asked for are served, or it ends
-  -- after some of them; or it does not begin
+  -- serving, by its result: either it begins, and all datagrams that were asked for are served or
+  -- it ends after some of them; or it does not begin
   abbrev pub ServesTo : Result Unit LoopFault → ℕ → H → H → Traffic → Traffic → Type 0
   ServesTo result count server new before after =
       HasBegun result count server new before after

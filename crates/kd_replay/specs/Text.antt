@@ -27,7 +27,7 @@ abbrev pub destination_text : Destination → List ℕ
 destination_text d =
     mode_word d.mode ++ codes " " ++ address_text d.address ++ codes ":" ++ decimal d.port
 
--- bytes in hexadecimal, in lower case; no bytes are a dash
+-- bytes in lower-case hexadecimal; a dash if there are none
 abbrev pub bytes_text : List ℕ → List ℕ
 bytes_text [] = codes "-"
 bytes_text (b ∷ bytes) = encode_lower (b ∷ bytes)
@@ -46,7 +46,7 @@ abbrev pub response_text : Response → List ℕ
 response_text (responses.Reply destination bytes) = reply_line destination bytes
 response_text (responses.Quiet reason) = quiet_line (reason_number reason) (reason_name reason)
 
--- the line of a handled event, with its line feed: the moment at which it counts, and the response
+-- the line of a handled event, with its line feed: the time at which it counts, and the response
 unfoldable pub line_of : Handled → List ℕ
 line_of handled = decimal handled.now ++ codes " " ++ response_text handled.response ++ codes "\n"
 

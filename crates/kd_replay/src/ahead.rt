@@ -12,7 +12,7 @@ use std::marker::Model;
 
 const BUFFER: usize = 65_536;
 
-// The bytes that were read from a source and not taken yet.
+// The bytes that were read from a source but not consumed yet.
 #[derive(Drop)]
 pub(crate) struct Ahead {
     buffer: Vec<u8>,
@@ -31,16 +31,16 @@ impl Model for Ahead {
         × (0 < length a.buffer.items) };
 }
 
-// What was taken of the bytes ahead.
+// What was consumed of the bytes that are ahead.
 #[derive(Clone, Copy)]
 pub(crate) enum Part {
     // The rest of a line, and its line feed.
     Last,
-    // All bytes: the line goes on.
+    // All the bytes; the line goes on.
     Open,
-    // Nothing, since there are no bytes.
+    // Nothing, because there are no bytes.
     None,
-    // Nothing, since the line is too long.
+    // Nothing, because the line is too long.
     TooLong,
 }
 
@@ -63,7 +63,7 @@ impl Ahead {
         self.from == self.to
     }
 
-    // Reads bytes in place of those that are there.
+    // Reads bytes and drops those that are there.
     fn fill<S: Source>(&mut self, source: &mut S) -> Result<(), EndFailed>
         ensures read { OnOk result
             (Consumes (S.remaining source.old) (S.remaining source.new) self.new) }
@@ -92,7 +92,7 @@ impl Ahead {
         self.fill(source)
     }
 
-    // Takes what belongs to a line, which has begun, into it.
+    // Moves the bytes that belong to a line that has begun into it.
     pub(crate) fn take_part(&mut self, line: &mut Vec<u8>) -> Part
         requires room { line_limit ≤ vec_capacity line.old }
         requires begun { length line.old.items ≤ line_limit }

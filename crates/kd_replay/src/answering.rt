@@ -15,8 +15,8 @@ use kd_event::{Handled, Response};
 
 const SEND_FAULT: &[u8] = b"fault 99 Send\n";
 
-// Hands the replies to handled datagrams over to be sent, and writes their texts, in order; no
-// memory is taken.
+// Hands over the replies to handled datagrams to be sent, and writes their texts, in order;
+// allocates no memory.
 #[tactic(auto, using(crate::proofs::Fitting::handled_fits))]
 pub(crate) fn answer_all<L: Link, W: Sink>(
     link: &mut L,
@@ -35,14 +35,14 @@ pub(crate) fn answer_all<L: Link, W: Sink>(
     ensures room { vec_capacity room.old ≤ vec_capacity room.new }
 {
     for handled in list {
-        // It is below 2^64, so that it has at most 20 digits.
+        // It is below 2^64, so it has at most 20 digits.
         let _moment = handled.now;
         answer(link, sink, room, handled)?;
     }
     Ok(())
 }
 
-// Hands the reply to a datagram over to be sent, and writes its text; no memory is taken.
+// Hands over the reply to a datagram to be sent, and writes its text; allocates no memory.
 fn answer<L: Link, W: Sink>(
     link: &mut L,
     sink: &mut W,
@@ -64,8 +64,8 @@ fn answer<L: Link, W: Sink>(
     write_all(sink, room.as_slice())
 }
 
-// Puts the text of a handled datagram in place of what is there, by whether its reply was sent; no
-// memory is taken.
+// Replaces the contents of `room` with the text of a handled datagram, which depends on whether its
+// reply was sent; allocates no memory.
 fn fill_text(room: &mut Vec<u8>, handled: &Handled, sent: bool)
     requires line { length (line_of handled.now) ≤ line_room }
     requires room { text_room ≤ vec_capacity room.old }
@@ -77,8 +77,8 @@ fn fill_text(room: &mut Vec<u8>, handled: &Handled, sent: bool)
     put_behind(room, &handled.response, sent);
 }
 
-// Appends the line that says that a reply was not sent, where there is one and it was not; no
-// memory is taken.
+// Appends the line that says that a reply was not sent, if there was one and it was not sent;
+// allocates no memory.
 fn put_behind(room: &mut Vec<u8>, response: &Response, sent: bool)
     requires { length room.old.items + 14 ≤ vec_capacity room.old }
     ensures items { room.new.items ≡ room.old.items ++ behind_line sent response.now }
@@ -90,7 +90,7 @@ fn put_behind(room: &mut Vec<u8>, response: &Response, sent: bool)
     }
 }
 
-// Hands a reply over to be sent, where there is one, and says whether it was sent.
+// Hands over a reply to be sent, if there is one, and reports whether it was sent.
 fn send<L: Link>(link: &mut L, response: &Response) -> bool
     ensures { Grows (L.trace link.old) (L.trace link.new) (packets_in result response.now) }
 {

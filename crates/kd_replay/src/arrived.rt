@@ -8,11 +8,10 @@ use std::alloc::{AllocError, Global};
 use std::marker::Model;
 
 // One byte more than the longest datagram that reads as a message, so that a longer one does not
-// read as one.
+// read as a message.
 const DATAGRAM_ROOM: usize = 4_097;
 
-/// An event in a buffer that is used again and again: a datagram of at most 4,097 bytes, and the
-/// moment of its arrival.
+/// An event in a reusable buffer: a datagram of at most 4,097 bytes, and the time of its arrival.
 #[derive(Drop)]
 pub struct Arrived {
     buffer: Vec<u8>,
@@ -33,22 +32,22 @@ impl Model for Arrived {
 }
 
 impl Arrived {
-    /// An event with no bytes, at the moment 0.
+    /// Makes an event with no bytes, at time 0.
     ///
     /// # Errors
     ///
-    /// There is no memory for its buffer.
+    /// Out of memory for its buffer.
     pub fn new(alloc: Global) -> Result<Arrived, AllocError>
         ensures { IfOk result (λ event. event ≡ record { moment = 0; bytes = [] }) }
     {
         Arrived::holding(alloc, 0, b"")
     }
 
-    /// The event of a moment and a datagram, which is cut at 4,097 bytes.
+    /// Makes the event of a time and a datagram; the datagram is cut off after 4,097 bytes.
     ///
     /// # Errors
     ///
-    /// There is no memory for its buffer.
+    /// Out of memory for its buffer.
     pub fn holding(alloc: Global, moment: u64, bytes: &[u8]) -> Result<Arrived, AllocError>
         ensures { IfOk result
             (λ event. event ≡ record { moment = moment; bytes = take datagram_room bytes.now }) }
@@ -64,14 +63,14 @@ impl Arrived {
         })
     }
 
-    /// The moment of the event, in whole seconds.
+    /// Returns the time of the event, in whole seconds.
     pub fn moment(&self) -> u64
         ensures { result ≡ self.now.moment }
     {
         self.moment
     }
 
-    /// The datagram of the event.
+    /// Returns the datagram of the event, at most 4,097 bytes.
     pub fn bytes(&self) -> &[u8]
         ensures value { result.now ≡ self.now.bytes }
         ensures room { length result.now ≤ datagram_room }
@@ -79,7 +78,7 @@ impl Arrived {
         &self.buffer[..self.len]
     }
 
-    // Waits for the next datagram, and takes its moment once it has come.
+    // Waits for the next datagram, and reads the clock once it has come.
     pub(crate) fn arrive<L: Link>(&mut self, link: &mut L) -> Result<(), EndFailed>
         ensures came { OnOk result
             (ArrivesAt true (L.trace link.old) (L.trace link.new) self.new) }
@@ -92,7 +91,7 @@ impl Arrived {
         Ok(())
     }
 
-    // Takes a datagram that has come already, as `arrive`, and says whether there was one.
+    // Receives a datagram that has come already, like `arrive`, and reports whether there was one.
     pub(crate) fn arrive_waiting<L: Link>(&mut self, link: &mut L) -> bool
         ensures { IsArrived result (L.trace link.old) (L.trace link.new) self.new }
     {
@@ -105,7 +104,7 @@ impl Arrived {
     }
 }
 
-// Waits for a datagram, and then asks the clock: its length in the buffer, and its moment.
+// Waits for a datagram and then reads the clock; returns its length in the buffer and its time.
 #[tactic(auto, using(crate::proofs::Arrivals::arrives, crate::proofs::Arrivals::bytes_take))]
 fn receive<L: Link>(link: &mut L, buffer: &mut [u8]) -> Result<(usize, u64), EndFailed>
     requires { length buffer.old ≡ datagram_room }
@@ -120,8 +119,8 @@ fn receive<L: Link>(link: &mut L, buffer: &mut [u8]) -> Result<(usize, u64), End
     Ok((len, moment))
 }
 
-// The same of a datagram that has come already, where there is one; the clock is not asked where
-// there is none.
+// Does the same for a datagram that has come already, if there is one; if there is none, the clock
+// is not read.
 #[tactic(auto, using(crate::proofs::Arrivals::arrives, crate::proofs::Arrivals::bytes_take))]
 fn receive_waiting<L: Link>(link: &mut L, buffer: &mut [u8]) -> Option<(usize, u64)>
     requires { length buffer.old ≡ datagram_room }

@@ -67,13 +67,13 @@ impl Sink for Kept {
     }
 }
 
-/// Replays the events of an input in memory, and gives what is written beside how the replay ends.
-/// What it says has no premise on its ends.
+/// Replays the events of an input in memory; returns what is written and how the replay ends. Its
+/// contract makes no assumption about the source and the sink.
 ///
 /// # Errors
 ///
-/// Those of `replay`: `Read` where the input has more than 1,000,000 lines, and `Write` where
-/// there is no memory for what is written.
+/// Those of `replay`: `Read` if the input has more than 1,000,000 lines, and `Write` if there is
+/// not enough memory for what is written.
 pub fn replay_bytes<H: Serves>(
     alloc: Global,
     input: &[u8],

@@ -6,17 +6,17 @@ ghost use Rattle.kd_replay.specs.Trace.{Grows};
 use crate::arrived::Arrived;
 use crate::link::Link;
 
-/// What the two clocks of a link said, one after the other.
+/// The readings of the two clocks of a link, one after the other.
 #[derive(Clone, Copy)]
 pub struct Clocks {
-    /// The moment, in whole seconds.
+    /// The time, in whole seconds.
     pub moment: u64,
-    /// How many whole seconds the steady clock has counted.
+    /// The number of whole seconds that the steady clock has counted.
     pub steady: u64,
 }
 
 impl Clocks {
-    // Asks both clocks of a link.
+    // Reads both clocks of a link.
     pub(crate) fn ask<L: Link>(link: &mut L) -> Clocks
         ensures asked { Grows (L.trace link.old) (L.trace link.new) (clocks_asked result) }
         ensures failed { L.has_failed link.new ≡ L.has_failed link.old }
@@ -26,8 +26,8 @@ impl Clocks {
         Clocks { moment, steady }
     }
 
-    // Whether a moment is ahead of these clocks, once the steady clock has counted so many seconds,
-    // and of the latest change.
+    // Reports whether a time is ahead of these clocks, at the given reading of the steady clock,
+    // and also ahead of the latest change.
     fn are_passed_by(self, limit: Option<u64>, latest: u64, steady: u64, moment: u64) -> bool
         ensures { result ≡ is_ahead limit latest self steady moment }
     {
@@ -41,7 +41,7 @@ impl Clocks {
     }
 }
 
-// Whether an event is ahead.
+// Reports whether some event is ahead.
 pub(crate) fn some_ahead(
     limit: Option<u64>,
     latest: u64,
@@ -60,8 +60,8 @@ pub(crate) fn some_ahead(
     false
 }
 
-/// Whether a moment is behind the latest change by more than a limit, in seconds; without a limit it
-/// is not.
+/// Reports whether a time is behind the latest change by more than a limit, in seconds; without a
+/// limit it is not.
 pub fn starts_behind(limit: Option<u64>, latest: u64, moment: u64) -> bool
     ensures { result ≡ is_behind limit latest moment }
 {
@@ -71,8 +71,8 @@ pub fn starts_behind(limit: Option<u64>, latest: u64, moment: u64) -> bool
     }
 }
 
-// Whether a moment is after the sum of another, the time that passed and a limit. A sum that is no
-// u64 is after every moment.
+// Reports whether a time is after the sum of another, the time that passed and a limit. If the sum
+// exceeds a u64, no time is after it.
 fn exceeds(moment: u64, from: u64, passed: u64, limit: u64) -> bool
     ensures { result ≡ nat_lt (from + passed + limit) moment }
 {

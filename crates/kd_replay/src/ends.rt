@@ -1,7 +1,7 @@
 use std::fmt;
 use thiserror::Error;
 
-/// A source can not be read, or a sink not be written.
+/// A source cannot be read, or a sink cannot be written.
 #[derive(Clone, Copy, PartialEq, Eq, Error)]
 #[error("EndFailed")]
 pub struct EndFailed;
@@ -17,14 +17,14 @@ pub trait Source {
     ghost use Rattle.std.specs.Prelude.{Bool, List, Option, ◌≡◌, ◌≤◌, ◌||◌, ℕ, length, IfOk, is_err};
     ghost use Rattle.std.specs.Io.KnownBytes.{ReadConsumes};
 
-    /// What is left to read, where that is known.
+    /// What remains to be read, if that is known.
     ghost remaining: { Self → Option (List ℕ) };
 
     /// Whether a read has failed.
     ghost has_failed: { Self → Bool };
 
-    /// Reads some bytes to the front of the buffer, and says how many: none only at the end, or
-    /// with no room.
+    /// Reads some bytes to the start of the buffer and returns how many: 0 only at the end of input
+    /// or if the buffer has no room.
     fn read(&mut self, buf: &mut [u8]) -> Result<usize, EndFailed>
         ensures count { IfOk result (λ n. n ≤ length buf.new) }
         ensures bytes { ReadConsumes (remaining self.old) (remaining self.new) result buf.new }
@@ -36,13 +36,13 @@ pub trait Sink {
     ghost use Rattle.std.specs.Prelude.{Bool, List, Option, ◌≡◌, ◌<◌, ◌≤◌, ◌||◌, ℕ, length, IfOk, is_err};
     ghost use Rattle.std.specs.Io.KnownBytes.{WriteAppends};
 
-    /// What was written to it, where that is known.
+    /// What was written to it, if that is known.
     ghost contents: { Self → Option (List ℕ) };
 
     /// Whether a write has failed.
     ghost has_failed: { Self → Bool };
 
-    /// Writes some bytes from the front, and says how many: at least one of what is not empty.
+    /// Writes some of the first bytes and returns how many: at least 1 unless there are none.
     fn write(&mut self, bytes: &[u8]) -> Result<usize, EndFailed>
         ensures count { IfOk result (λ n. n ≤ length bytes.now) }
         ensures some { IfOk result (λ n. 0 < length bytes.now → 0 < n) }

@@ -9,17 +9,17 @@ use thiserror::Error;
 /// Why an event is not handled.
 #[derive(Clone, Copy, PartialEq, Eq, Error)]
 pub enum ServeFault {
-    /// The moment is not below 2^40.
+    /// The time is not below 2^40.
     #[error("MomentTooLarge")]
     MomentTooLarge,
-    /// There is no memory for the event.
+    /// There is not enough memory for the event.
     #[error("Memory")]
     Memory,
-    /// The store of leases has failed at this event: no reply is sent, and the store holds the rows
-    /// from before or those with the event's change.
+    /// The lease store failed at this event: no reply is sent, and the store holds either the rows
+    /// from before the event or those with its change.
     #[error("Store {0}")]
     Store(StoreFault),
-    /// The store of leases has failed at an earlier event and was not opened again.
+    /// The lease store failed at an earlier event and was not opened again.
     #[error("Failed")]
     Failed,
 }
@@ -57,19 +57,19 @@ impl From<AllocError> for ServeFault {
 /// Why a replay ends before its input does.
 #[derive(Clone, Copy, PartialEq, Eq, Error)]
 pub enum ReplayFault {
-    /// There is no memory for the lines, or for an event.
+    /// There is not enough memory for the lines or for an event.
     #[error("Memory")]
     Memory,
-    /// The input can not be read, or has more than 1,000,000 lines.
+    /// The input cannot be read, or has more than 1,000,000 lines.
     #[error("Read")]
     Read,
-    /// The output can not be written.
+    /// The output cannot be written.
     #[error("Write")]
     Write,
-    /// An event is not handled, for a fault that is not want of memory.
+    /// An event is not handled, for a fault other than being out of memory.
     #[error("Serve {0}")]
     Serve(ServeFault),
-    /// The line with this number, from 1, is no event.
+    /// The line with this number, counted from 1, is not an event.
     #[error("BadLine {0}")]
     BadLine(u64),
 }
@@ -105,25 +105,26 @@ impl From<AllocError> for ReplayFault {
     }
 }
 
-/// Why serving ends before its count.
+/// Why serving ends before its count is reached.
 #[derive(Clone, Copy, PartialEq, Eq, Error)]
 pub enum LoopFault {
-    /// There is no memory to serve in, or for an event.
+    /// There is not enough memory to serve in, or for an event.
     #[error("Memory")]
     Memory,
     /// Nothing can be received.
     #[error("Read")]
     Read,
-    /// The output can not be written.
+    /// The output cannot be written.
     #[error("Write")]
     Write,
-    /// The record of what came can not be written.
+    /// The record of received datagrams cannot be written.
     #[error("Record")]
     Record,
-    /// The clock runs ahead of the limit, or is behind the latest change by more than the limit.
+    /// The clock is ahead by more than the limit, or behind the latest change by more than the
+    /// limit.
     #[error("Ahead")]
     Ahead,
-    /// An event is not handled, for a fault that is not want of memory.
+    /// An event is not handled, for a fault other than being out of memory.
     #[error("Serve {0}")]
     Serve(ServeFault),
 }

@@ -10,33 +10,32 @@ use crate::lines::{Found, LINE_LIMIT, next_line};
 use crate::writing::write_all;
 use std::alloc::{AllocError, Global};
 
-/// What makes a text of each line: a filter of a stream is written over it.
+/// Turns each line of a stream into a text; `filter_with` is generic over it.
 pub trait Filters {
     ghost use Rattle.std.specs.Prelude.{List, MatchOption, IfOk, ℕ, string_bytes};
 
-    /// Which text a line gives, which stands without its line feed.
+    /// Which text a line gives; the line is without its line feed.
     ghost gives: { Self → List ℕ → List ℕ → Type 0 };
 
-    /// The text of a line, or `None` for a line that gives none.
+    /// Returns the text of a line, or `None` if the line gives none.
     ///
     /// # Errors
     ///
-    /// There is no memory for it.
+    /// Out of memory.
     fn line_text(&self, alloc: Global, line: &[u8]) -> Result<Option<String>, AllocError>
         ensures { IfOk result (λ found. MatchOption found
             ((text : List ℕ) → ¬ gives self.now line.now text)
             (λ text. gives self.now line.now (string_bytes text))) };
 }
 
-/// Writes the text of each line of the source to the sink, up to the first line that is bad, and
-/// returns how many lines there were. A line is bad that gives no text, or has more than 131,072
-/// bytes.
+/// Writes the text of each line of the source to the sink, up to the first bad line, and returns
+/// the number of lines. A line is bad if it gives no text or has more than 131,072 bytes.
 ///
 /// # Errors
 ///
-/// `BadLine` at the first line that is bad, counted from 1; `Read` where the source fails; `Write`
-/// where the sink fails; `Memory`, which also comes behind 2^64 - 1 lines. The texts of the lines
-/// before are written.
+/// `BadLine` at the first bad line, counted from 1; `Read` if the source fails; `Write` if the sink
+/// fails; `Memory`, which is also the result after 2^64 - 1 lines. The texts of the lines before
+/// are written.
 pub fn filter_with<R: Source, W: Sink, F: Filters>(
     alloc: Global,
     source: &mut R,

@@ -17,9 +17,9 @@ pub struct Packet {
 pub enum Happening {
     /// A datagram came: whether it was waited for, and all its bytes.
     Came(bool, Bytes),
-    /// The clock said this moment, in whole seconds.
+    /// The clock gave this time, in whole seconds.
     Said(u64),
-    /// The steady clock had counted so many whole seconds.
+    /// The steady clock had counted this many whole seconds.
     Passed(u64),
     /// A reply was handed over to be sent.
     Went(Packet),

@@ -1,6 +1,7 @@
 ghost use Rattle.kd_replay.specs.Laws.{BatchesReplay, RecordsReplay};
 
-/// The record that serving writes is an input of a replay, of just the events that were served.
+/// The record that serving writes is an input of a replay, with exactly the events that were
+/// served.
 pub fn records_replay()
     ensures events { RecordsReplay }
     ensures batches { BatchesReplay }

@@ -1,13 +1,14 @@
-//! Events in, a history out: the lines of a day, and what any server makes of them.
+//! Reads events and writes a history: the lines of a log, and what any server makes of them.
 //!
 //! What this layer promises to the one above: whatever a server does with an event (`Serves`), a
 //! run gives the history of its events (`specs/History.antt`), and a replay reads lines and writes
 //! the text of exactly that history (`specs/Lines.antt`, `specs/Replay.antt`, `specs/Text.antt`),
-//! up to the first fault (`specs/Faults.antt`). The line of one event alone is `event_line`.
+//! up to the first fault (`specs/Faults.antt`). `event_line` returns the line of a single event.
+//!
 //! Whatever a server does with a batch (`ServesAll`), serving takes the datagrams of a link in
-//! batches, each at the moment of the clock after it came (`specs/Trace.antt`,
-//! `specs/Arriving.antt`), records them (`specs/Recording.antt`), and answers them in order
-//! (`specs/Serving.antt`), and ends where the clock runs ahead (`specs/Ahead.antt`); the record is an
+//! batches, each with the time of the clock after it came (`specs/Trace.antt`,
+//! `specs/Arriving.antt`), records them (`specs/Recording.antt`), answers them in order
+//! (`specs/Serving.antt`), and ends if the clock is ahead (`specs/Ahead.antt`). The record is an
 //! input of a replay (`specs/Laws.antt`).
 #![tactic(auto)]
 

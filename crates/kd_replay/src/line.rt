@@ -13,7 +13,7 @@ use std::alloc::{AllocError, Global};
 
 const MOST_DIGITS: usize = 20;
 
-// The event of a line, if the line is one. Memory is taken for its bytes alone.
+// Parses the event of a line, if the line is one. Allocates memory only for the event's bytes.
 pub(crate) fn event_in(alloc: Global, line: &[u8]) -> Result<Option<Event>, AllocError>
     requires { length line.now ≤ line_limit }
     ensures found { IfOk result (λ found. MatchOption found
@@ -32,7 +32,7 @@ pub(crate) fn event_in(alloc: Global, line: &[u8]) -> Result<Option<Event>, Allo
     Ok(Some(Event { moment, bytes }))
 }
 
-// What stands before and after the first space.
+// Splits a line at the first space, if there is one.
 fn at_space(line: &[u8]) -> Option<(&[u8], &[u8])>
     ensures { MatchOption result (HasNo 32 line.now)
         (λ parts. (line.now ≡ parts.0.now ++ 32 ∷ parts.1.now) × HasNo 32 parts.0.now) }
@@ -43,7 +43,7 @@ fn at_space(line: &[u8]) -> Option<(&[u8], &[u8])>
     }
 }
 
-// The moment that digits spell, if they do.
+// Parses a time in decimal digits.
 fn moment_in(digits: &[u8]) -> Option<u64>
     ensures { MatchOption result
         ((moment : ℕ) → ¬ IsMoment digits.now moment) (λ moment. IsMoment digits.now moment) }
@@ -58,7 +58,7 @@ fn moment_in(digits: &[u8]) -> Option<u64>
     Some(number)
 }
 
-// A number with one decimal digit more after it.
+// Appends one decimal digit to a number.
 fn with_digit(number: u64, digit: u8) -> Option<u64>
     ensures { result ≡ (if is_ascii_digit digit && nat_lt (number * 10 + (digit - 48)) (2 ^ 64)
         then Some (number * 10 + (digit - 48)) else None) }
@@ -69,7 +69,7 @@ fn with_digit(number: u64, digit: u8) -> Option<u64>
     number.checked_mul(10)?.checked_add(u64::from(digit - b'0'))
 }
 
-// The bytes that a text spells in hexadecimal, if it does.
+// Decodes a hexadecimal text, if it is one.
 fn bytes_in(alloc: Global, text: &[u8]) -> Result<Option<Bytes>, AllocError>
     ensures { IfOk result (λ found. MatchOption found
         ((bytes : List ℕ) → ¬ (decode_of text.now ≡ Ok bytes))

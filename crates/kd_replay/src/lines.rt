@@ -9,7 +9,7 @@ use crate::ends::{EndFailed, Source};
 // The most bytes that a line has, without its line feed.
 pub(crate) const LINE_LIMIT: usize = 131_072;
 
-// What the next line is.
+// The kind of the next line.
 #[derive(Clone, Copy)]
 pub(crate) enum Found {
     Line,
@@ -17,8 +17,8 @@ pub(crate) enum Found {
     End,
 }
 
-// Reads the next line, without its line feed, into `line`. What is too long is found before its
-// end.
+// Reads the next line, without its line feed, into `line`. A line that is too long is reported
+// before its end is reached.
 pub(crate) fn next_line<S: Source>(
     ahead: &mut Ahead,
     source: &mut S,

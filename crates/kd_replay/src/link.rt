@@ -1,22 +1,22 @@
 use crate::ends::EndFailed;
 use kd_event::Destination;
 
-/// Where datagrams come from, with the clock that says when and one that counts the time, and where
-/// replies are handed over to be sent.
+/// Receives datagrams, gives the time by a clock, counts the time by another, and hands over
+/// replies to be sent.
 pub trait Link {
     ghost use Rattle.std.specs.Prelude.{Bool, List, Option, ◌≡◌, ◌≤◌, ◌||◌, ◌∷◌, [], ℕ, true, false, length, take, IfNone, IfOk, IfSome, OnErr, is_err, is_ok};
     ghost use Rattle.kd_replay.specs.Trace.{Comes, Grows};
     ghost use Rattle.kd_replay.specs.declared.happening.Happening.{Happening};
     ghost use Rattle.kd_replay.specs.declared.happening.Happening.TheVariants as happens;
 
-    /// What happened, in this order, where that is known.
+    /// What happened, in order, if that is known.
     ghost trace: { Self → Option (List Happening) };
 
-    /// Whether nothing could be received at a call that waits.
+    /// Whether a call that waits has failed to receive.
     ghost has_failed: { Self → Bool };
 
-    /// Waits for a datagram, receives it to the front of the buffer, and says its length there; what
-    /// does not fit is cut off.
+    /// Waits for a datagram, receives it to the start of the buffer, and returns its length there;
+    /// what does not fit is cut off.
     ///
     /// # Errors
     ///
@@ -28,8 +28,8 @@ pub trait Link {
         ensures none { OnErr result (trace self.new ≡ trace self.old) }
         ensures failed { has_failed self.new ≡ (has_failed self.old || is_err result) };
 
-    /// Receives a datagram that has come already, as `receive`, and never waits; a failure counts as
-    /// no datagram.
+    /// Receives a datagram that has come already, like `receive`, and never waits; a failure counts
+    /// as no datagram.
     fn receive_waiting(&mut self, buf: &mut [u8]) -> Option<usize>
         ensures count { IfSome result (λ n. n ≤ length buf.new) }
         ensures came { IfSome result (λ n.
@@ -37,12 +37,13 @@ pub trait Link {
         ensures none { IfNone result (trace self.new ≡ trace self.old) }
         ensures failed { has_failed self.new ≡ has_failed self.old };
 
-    /// The moment, in whole seconds, as the clock says it.
+    /// Returns the time of the clock, in whole seconds.
     fn now(&mut self) -> u64
         ensures said { Grows (trace self.old) (trace self.new) (happens.Said result ∷ []) }
         ensures failed { has_failed self.new ≡ has_failed self.old };
 
-    /// How many whole seconds the steady clock has counted since some start. Nobody sets it.
+    /// Returns how many whole seconds the steady clock has counted since some start. No one sets
+    /// this clock.
     fn steady(&mut self) -> u64
         ensures said { Grows (trace self.old) (trace self.new) (happens.Passed result ∷ []) }
         ensures failed { has_failed self.new ≡ has_failed self.old };

@@ -11,7 +11,7 @@ use kd_wire::Bytes;
 use std::alloc::Global;
 use std::marker::{Brand, PhantomData};
 
-// The input that a post is of, as its proof names it.
+// The input of a post, so that a proof can name it.
 pub(crate) trait Given {
     ghost use Rattle.std.specs.Prelude.{List};
     ghost use Rattle.kd_event.specs.declared.event.Event.{Event};
@@ -25,20 +25,20 @@ impl Given for Brand {
     ghost given = { [] };
 }
 
-// An input in memory, as a link: both its clocks say the moment of the event that came last, or 0,
-// and each reply is sent.
+// An input in memory, as a link: both clocks give the time of the event that came last, or 0, and
+// every reply is sent.
 #[derive(Drop)]
 pub(crate) struct Post<'a, I: Given> {
     pub(crate) alloc: Global,
     pub(crate) input: &'a [Event],
-    // How many of them came.
+    // How many of the events have come.
     pub(crate) next: usize,
-    // How many come behind each that was waited for, without being waited for.
+    // How many come after each that was waited for, without being waited for.
     pub(crate) waiting: usize,
     // How many of these are still to come.
     pub(crate) behind: usize,
     pub(crate) moment: u64,
-    // What happened, until there is no memory to keep it.
+    // What happened, as long as there is memory to keep it.
     pub(crate) log: Option<Vec<Happening>>,
     pub(crate) failed: bool,
     pub(crate) of: PhantomData<I>,
@@ -86,8 +86,8 @@ impl<I: Given> Link for Post<'_, I> {
 }
 
 impl<I: Given> Post<'_, I> {
-    // Gives the next event: its datagram to the front of the buffer, and its moment to the clock;
-    // says how many bytes are there.
+    // Delivers the next event: its datagram to the start of the buffer, and its time to the clock;
+    // returns the number of bytes delivered.
     fn give(&mut self, waited: bool, buf: &mut [u8]) -> usize
         requires { self.old.next < length self.old.input.now }
         ensures count { result ≤ length buf.new }
@@ -103,8 +103,8 @@ impl<I: Given> Post<'_, I> {
     }
 }
 
-// Copies a datagram to the front of a buffer, as far as it fits, notes that it came, and says how
-// many bytes are there.
+// Copies a datagram to the start of a buffer, as far as it fits, notes that it came, and returns
+// the number of bytes copied.
 fn deliver(
     alloc: Global,
     log: &mut Option<Vec<Happening>>,
@@ -124,7 +124,7 @@ fn deliver(
     copy_front(datagram, buf)
 }
 
-// Copies bytes to the front of a buffer, as far as they fit, and says how many.
+// Copies bytes to the start of a buffer, as far as they fit, and returns how many.
 fn copy_front(bytes: &[u8], buf: &mut [u8]) -> usize
     ensures count { result ≤ length buf.new }
     ensures front { take result buf.new ≡ take (length buf.new) bytes.now }
@@ -153,7 +153,7 @@ fn note_packet(alloc: Global, log: &mut Option<Vec<Happening>>, bytes: &[u8], to
     }
 }
 
-// Notes what happened, or forgets all where there is no memory for it.
+// Notes what happened, or drops the whole log if there is no memory for it.
 fn note(log: &mut Option<Vec<Happening>>, happening: Happening)
     ensures { Grows (option_map (λ log. log.items) log.old)
         (option_map (λ log. log.items) log.new) (happening ∷ []) }

@@ -11,7 +11,7 @@ use crate::ends::{EndFailed, Sink};
 use crate::text::put_event;
 use crate::writing::write_all;
 
-// Writes the lines of events to a journal, if there is one; no memory is taken.
+// Writes the lines of events to a journal, if there is one; allocates no memory.
 pub(crate) fn record_all<R: Sink>(
     journal: &mut Option<R>,
     room: &mut Vec<u8>,
@@ -33,7 +33,7 @@ pub(crate) fn record_all<R: Sink>(
     }
 }
 
-// Writes the lines of events, one after another; no memory is taken.
+// Writes the lines of events in order; allocates no memory.
 #[tactic(auto, using(crate::proofs::Fitting::event_fits))]
 fn write_events<R: Sink>(
     sink: &mut R,

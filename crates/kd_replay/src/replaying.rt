@@ -22,7 +22,7 @@ use std::alloc::{AllocError, Global};
 
 const MOST_LINES: u64 = 1_000_000;
 
-// The memory that a replay works in, all of it taken at the start.
+// The memory that a replay works in, all allocated at the start.
 #[derive(Drop)]
 struct Work {
     ahead: Ahead,
@@ -43,15 +43,15 @@ impl Work {
     }
 }
 
-/// Handles the events of the source's lines, one after another, and writes a line for each to the
-/// sink, up to the first fault; says how many were handled. An input line has a moment in decimal,
-/// a space, and a datagram in hexadecimal.
+/// Handles the events of the source's lines in order and writes a line for each to the sink, up to
+/// the first fault; returns how many were handled. An input line has a time in decimal, a space,
+/// and a datagram in hexadecimal.
 ///
 /// # Errors
 ///
-/// `Read` where the source fails, or has more than 1,000,000 lines; `BadLine` at a line that is no
-/// event; `Serve` with the fault of a line's event; `Write` where the sink fails; `Memory`. What
-/// was handled before stands written.
+/// `Read` if the source fails or has more than 1,000,000 lines; `BadLine` at a line that is not an
+/// event; `Serve` with the fault of a line's event; `Write` if the sink fails; `Memory`. What was
+/// handled before is written.
 pub fn replay<R: Source, W: Sink, H: Serves>(
     alloc: Global,
     source: &mut R,
@@ -68,7 +68,7 @@ pub fn replay<R: Source, W: Sink, H: Serves>(
     replay_lines(alloc, source, sink, server)
 }
 
-// The same, what it does clause by clause.
+// Does the same, with what it does clause by clause.
 fn replay_lines<R: Source, W: Sink, H: Serves>(
     alloc: Global,
     source: &mut R,
@@ -115,7 +115,7 @@ fn replay_lines<R: Source, W: Sink, H: Serves>(
     }
 }
 
-// Handles an event, and writes its text.
+// Handles an event and writes its text.
 #[tactic(auto, using(crate::proofs::Fitting::handled_fits))]
 fn replay_event<W: Sink, H: Serves>(
     sink: &mut W,
@@ -145,7 +145,7 @@ fn replay_event<W: Sink, H: Serves>(
     }
 }
 
-// Writes the text of a handled event; no memory is taken.
+// Writes the text of a handled event; allocates no memory.
 fn write_handled<W: Sink>(
     sink: &mut W,
     room: &mut Vec<u8>,

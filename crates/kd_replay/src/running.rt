@@ -6,12 +6,12 @@ use crate::serves::Serves;
 use kd_event::{Event, Handled};
 use std::alloc::Global;
 
-/// Handles events one after another, up to the first fault. The list for all of them is grown
-/// first.
+/// Handles events in order, up to the first fault. The list for all of them is allocated first.
 ///
 /// # Errors
 ///
-/// Beside the list of what was handled, the fault of the next event; or `Memory` before the first.
+/// Returned beside the list of what was handled: the fault of the next event, or `Memory` before
+/// the first.
 pub fn run_with<H: Serves>(
     alloc: Global,
     server: &mut H,
@@ -32,7 +32,7 @@ pub fn run_with<H: Serves>(
     (list, None)
 }
 
-// Appends to a list that has room: no memory is taken.
+// Appends to a list that has room; allocates no memory.
 fn push_within(list: &mut Vec<Handled>, value: Handled)
     requires { vec_len list.old < vec_capacity list.old }
     ensures items { list.new.items ≡ list.old.items ++ value ∷ [] }

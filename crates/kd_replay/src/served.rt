@@ -14,7 +14,7 @@ use kd_event::Event;
 use std::alloc::Global;
 use std::marker::{Brand, PhantomData};
 
-/// What serving in memory leaves.
+/// The result of serving in memory.
 #[derive(Drop)]
 pub struct ServedBytes {
     /// What happened at the link, in order.
@@ -27,11 +27,12 @@ pub struct ServedBytes {
     pub end: Result<(), LoopFault>,
 }
 
-/// Serves an input in memory, as `serve` serves a link: behind each datagram that is waited for,
-/// the next `waiting` datagrams have come already. The clock says the moment of the event that came
-/// last, and each reply is sent. The clock has no limit. It asks nothing of its caller.
+/// Serves an input in memory as `serve` serves a link: after each datagram that is waited for, the
+/// next `waiting` datagrams have come already. The clock gives the time of the event that came
+/// last, and every reply is sent. There is no limit on the clock. It requires nothing of its
+/// caller.
 ///
-/// `None` where `most` is 0, or where there is no memory to keep what happened.
+/// Returns `None` if `most` is 0 or if there is not enough memory to keep what happened.
 pub fn serve_bytes<H: ServesAll>(
     alloc: Global,
     input: &[Event],

@@ -2,7 +2,7 @@ use crate::arrived::Arrived;
 use crate::fault::ServeFault;
 use kd_event::Handled;
 
-/// What handles events: a replay and a run are written over it, whatever an event does.
+/// A server that handles events one by one; `replay` and `run_with` are generic over it.
 pub trait Serves {
     ghost use Rattle.std.specs.Prelude.{◌≡◌, IfErr, IfOk};
     ghost use Rattle.std.specs.Result.{IsErrOf};
@@ -12,18 +12,19 @@ pub trait Serves {
     ghost use Rattle.kd_replay.specs.declared.fault.ServeFault.{ServeFault};
     ghost use Rattle.kd_replay.specs.declared.fault.ServeFault.TheVariants as faults;
 
-    /// What an event gives: the server before it, the event, what was done with it, the server
-    /// after.
+    /// The effect of an event: the server before it, the event, what was done with it, and the
+    /// server after it.
     ghost gives: { Self → Event → Handled → Self → Type 0 };
 
-    /// What a fault says: the server before the event, the event, the fault, the server after.
+    /// The effect of a fault: the server before the event, the event, the fault, and the server
+    /// after.
     ghost fails: { Self → Event → ServeFault → Self → Type 0 };
 
-    /// What is sent for a datagram at a moment, in whole seconds.
+    /// Handles a datagram at a time, in whole seconds, and returns what is sent for it.
     ///
     /// # Errors
     ///
-    /// `Memory` changes nothing; what stands after another fault, `fails` says.
+    /// `Memory` changes nothing; `fails` says what holds after any other fault.
     fn handle(&mut self, moment: u64, bytes: &[u8]) -> Result<Handled, ServeFault>
         ensures handled { IfOk result (λ handled.
             gives self.old (record { moment = moment; bytes = bytes.now }) handled self.new) }
@@ -33,7 +34,7 @@ pub trait Serves {
         ensures memory { IsErrOf result faults.Memory → self.new ≡ self.old };
 }
 
-/// What handles events in batches: serving is written over it, whatever a batch does.
+/// A server that handles events in batches; `serve` is generic over it.
 pub trait ServesAll {
     ghost use Rattle.std.specs.Prelude.{◌≡◌, ℕ, List, Option};
     ghost use Rattle.std.specs.List.{All};
@@ -42,18 +43,20 @@ pub trait ServesAll {
     ghost use Rattle.kd_event.specs.declared.event.Handled.{Handled};
     ghost use Rattle.kd_replay.specs.declared.fault.ServeFault.{ServeFault};
 
-    /// The latest change of its table, in whole seconds.
+    /// The time of the latest change of its table, in whole seconds.
     ghost latest: { Self → ℕ };
 
-    /// What a batch gives: the server before it, its events, what was done with the first of them,
-    /// the fault of the next, the server after.
+    /// The effect of a batch: the server before it, its events, what was done with the first of
+    /// them, the fault of the next, and the server after it.
     ghost batches: { Self → List Event → List Handled → Option ServeFault → Self → Type 0 };
 
-    /// The latest change of its table, in whole seconds; 0 where nothing has changed.
+    /// Returns the time of the latest change of its table, in whole seconds; 0 if nothing has
+    /// changed.
     fn latest(&self) -> u64
         ensures { result ≡ latest self.now };
 
-    /// What is sent for the events of a batch, in order, up to the first fault.
+    /// Handles the events of a batch in order, up to the first fault, and returns what is sent for
+    /// each.
     fn handle_all(&mut self, events: &[Arrived]) -> (Vec<Handled>, Option<ServeFault>)
         ensures batch { batches self.old events.now result.0.items result.1 self.new }
         ensures small { All (λ handled. IsSmall handled.response) result.0.items };

@@ -16,7 +16,7 @@ use crate::serves::ServesAll;
 use crate::text::TEXT_ROOM;
 use std::alloc::{AllocError, Global};
 
-// The memory that serving works in, all of it taken at the start.
+// The memory that serving works in, all allocated at the start.
 #[derive(Drop)]
 struct Work {
     buffers: Vec<Arrived>,
@@ -37,42 +37,42 @@ impl Work {
     }
 }
 
-// How far the clock may run ahead, and what the clocks said before.
+// How far the clock may be ahead, and the earlier readings of the clocks.
 #[derive(Clone, Copy)]
 struct Watch {
     limit: Option<u64>,
     clocks: Clocks,
 }
 
-/// How much is served, and when it ends before that.
+/// How much is served, and when serving ends before that.
 #[derive(Clone, Copy)]
 pub struct Limits {
-    /// The most datagrams of a batch, 1 at least.
+    /// The most datagrams of a batch, at least 1.
     pub most: usize,
     /// How many datagrams are served.
     pub count: u64,
-    /// By how many seconds the clock may run ahead; without it, by any number.
+    /// By how many seconds the clock may be ahead; without it, by any number.
     pub max_ahead: Option<u64>,
 }
 
-/// Serves `count` datagrams in batches of at most `most`. It waits for the first datagram of a batch,
-/// and takes without waiting those that have come already. The moment of each is what the link's
-/// clock says after it came. The whole batch is recorded in the journal, if there is one, before it
-/// is handled. Then each reply is handed over to be sent and its line is written, in order; after
-/// the line of a reply that could not be sent stands `fault 99 Send`. All memory of its own is taken
-/// at the start.
+/// Serves `count` datagrams in batches of at most `most`. It waits for the first datagram of a
+/// batch and takes, without waiting, those that have come already. The time of each is that of the
+/// link's clock after it came. The whole batch is recorded in the journal, if there is one, before
+/// it is handled. Then each reply is handed over to be sent and its line is written, in order; the
+/// line of a reply that could not be sent is followed by `fault 99 Send`. All memory of its own is
+/// allocated at the start.
 ///
-/// The clocks are asked at the start and after each batch has come. A moment is ahead where it is
-/// more than `max_ahead` seconds after the latest change, and more than `max_ahead` seconds after
-/// what the clocks said before and the time that the steady clock has counted since.
+/// The clocks are read at the start and after each batch has come. A time is ahead if it is more
+/// than `max_ahead` seconds after the latest change, and also more than `max_ahead` seconds after
+/// the earlier reading of the clock plus the time that the steady clock has counted since.
 ///
 /// # Errors
 ///
-/// `Read` where nothing can be received; `Ahead` where a moment is ahead, or where at the start the
-/// latest change is more than `max_ahead` seconds after the clock, and `Record` where the journal
-/// fails: nothing of that batch is handled; `Serve` with the fault of an event, after those before it
-/// are answered; `Write` where the sink fails; `Memory` before the first datagram, or where the server
-/// is out of memory. What was served before stands.
+/// `Read` if nothing can be received; `Ahead` if a time is ahead, or if at the start the latest
+/// change is more than `max_ahead` seconds after the clock, and `Record` if the journal fails: in
+/// these cases nothing of that batch is handled; `Serve` with the fault of an event, after those
+/// before it are answered; `Write` if the sink fails; `Memory` before the first datagram, or if the
+/// server is out of memory. What was served before remains.
 pub fn serve<L: Link, R: Sink, W: Sink, H: ServesAll>(
     alloc: Global,
     link: &mut L,
@@ -106,7 +106,7 @@ pub fn serve<L: Link, R: Sink, W: Sink, H: ServesAll>(
     serve_from(link, journal, sink, server, &mut work, watch, count)
 }
 
-// Serves `count` datagrams after the clocks were asked.
+// Serves `count` datagrams after the clocks were read.
 fn serve_from<L: Link, R: Sink, W: Sink, H: ServesAll>(
     link: &mut L,
     journal: &mut Option<R>,
@@ -147,8 +147,8 @@ fn serve_from<L: Link, R: Sink, W: Sink, H: ServesAll>(
     Ok(())
 }
 
-// Serves the next batch, of at most `left` datagrams, and returns how many it had, and what the
-// clocks said once they had come.
+// Serves the next batch, of at most `left` datagrams; returns its length, and the readings of the
+// clocks after it had come.
 fn serve_batch<L: Link, R: Sink, W: Sink, H: ServesAll>(
     link: &mut L,
     journal: &mut Option<R>,
@@ -206,8 +206,8 @@ fn serve_batch<L: Link, R: Sink, W: Sink, H: ServesAll>(
     }
 }
 
-// Waits for a datagram, then takes those that have come already, each to a buffer of its own, as long
-// as there are buffers and no more than `left`; returns how many came.
+// Waits for a datagram, then takes those that have come already, each to a buffer of its own, as
+// long as there are buffers and no more than `left`; returns how many came.
 fn gather<L: Link>(link: &mut L, buffers: &mut [Arrived], left: u64) -> Result<usize, EndFailed>
     requires buffers { 0 < length buffers.old }
     requires left { 0 < left }
@@ -230,7 +230,7 @@ fn gather<L: Link>(link: &mut L, buffers: &mut [Arrived], left: u64) -> Result<u
     Ok(count)
 }
 
-// How serving ends at a fault of the server.
+// Returns how serving ends at a fault of the server.
 fn loop_fault(fault: ServeFault) -> LoopFault
     ensures { result ≡ loop_fault_of fault }
 {

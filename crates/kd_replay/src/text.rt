@@ -15,24 +15,24 @@ pub(crate) const LINE_ROOM: usize = 4_096;
 // The most bytes of a line of a record, with its line feed; a written line is shorter.
 pub(crate) const TEXT_ROOM: usize = 8_216;
 
-/// The line that a replay writes for a handled event, with its line feed.
+/// Returns the line that a replay writes for a handled event, with its line feed.
 ///
 /// # Errors
 ///
-/// There is no memory for it.
+/// Out of memory.
 #[tactic(auto, using(crate::proofs::Fitting::handled_fits))]
 pub fn event_line(alloc: Global, handled: &Handled) -> Result<Vec<u8>, AllocError>
     requires { IsSmall handled.now.response }
     ensures { IfOk result (λ line. line.items ≡ line_of handled.entry.now) }
 {
-    // It is below 2^64, so that it has at most 20 digits.
+    // It is below 2^64, so it has at most 20 digits.
     let _moment = handled.now;
     let mut line = Vec::with_capacity(alloc, LINE_ROOM)?;
     put_line(&mut line, handled);
     Ok(line)
 }
 
-// The line of an event in a record, with its line feed; no memory is taken.
+// Appends the line of an event in a record, with its line feed; allocates no memory.
 #[tactic(auto, unfolding(crate::specs::Recording::record_line))]
 pub(crate) fn put_event(room: &mut Vec<u8>, moment: u64, bytes: &[u8])
     requires { length room.old.items
@@ -48,7 +48,7 @@ pub(crate) fn put_event(room: &mut Vec<u8>, moment: u64, bytes: &[u8])
     put(room, b"\n");
 }
 
-// The line of a handled event, with its line feed; no memory is taken.
+// Appends the line of a handled event, with its line feed; allocates no memory.
 #[tactic(auto, unfolding(crate::specs::Text::line_of))]
 pub(crate) fn put_line(room: &mut Vec<u8>, handled: &Handled)
     requires { length room.old.items + length (line_of handled.now) ≤ vec_capacity room.old }
@@ -145,7 +145,7 @@ fn put_decimal(room: &mut Vec<u8>, number: u64)
     put(room, digits.format(number).as_bytes());
 }
 
-// Bytes in hexadecimal, or a dash.
+// Appends bytes in hexadecimal, or a dash if there are none.
 fn put_bytes(room: &mut Vec<u8>, bytes: &[u8])
     requires { length room.old.items + length (bytes_text bytes.now) ≤ vec_capacity room.old }
     ensures items { room.new.items ≡ room.old.items ++ bytes_text bytes.now }

@@ -4,11 +4,11 @@ ghost use Rattle.kd_replay.specs.Text.{address_text, bytes_text};
 use std::alloc::{AllocError, Global};
 use std::fmt::Write;
 
-/// Puts an address, a number in host order, in dotted decimal.
+/// Appends an address, given in host order, in dotted decimal.
 ///
 /// # Errors
 ///
-/// There is no memory for it.
+/// Out of memory.
 pub fn put_address(out: &mut String, address: u32) -> Result<(), AllocError>
     ensures { OnOk result (string_bytes out.new ≡ string_bytes out.old ++ address_text address) }
 {
@@ -19,11 +19,11 @@ pub fn put_address(out: &mut String, address: u32) -> Result<(), AllocError>
     write!(out, "{a}.{b}.{c}.{d}")
 }
 
-/// Puts bytes in hexadecimal, or a dash where there are none.
+/// Appends bytes in hexadecimal, or a dash if there are none.
 ///
 /// # Errors
 ///
-/// There is no memory for it.
+/// Out of memory.
 pub fn put_bytes(alloc: Global, out: &mut String, bytes: &[u8]) -> Result<(), AllocError>
     ensures { OnOk result (string_bytes out.new ≡ string_bytes out.old ++ bytes_text bytes.now) }
 {

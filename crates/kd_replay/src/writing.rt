@@ -4,7 +4,7 @@ ghost use Rattle.kd_replay.specs.Parts.{WritesPart};
 
 use crate::ends::{EndFailed, Sink};
 
-/// Writes all bytes, or some from the front where the sink fails.
+/// Writes all bytes; if the sink fails, only some of the first ones may be written.
 ///
 /// # Errors
 ///
