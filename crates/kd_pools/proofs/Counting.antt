@@ -17,7 +17,7 @@ pub same_counts : (x y : Counts) → x.addresses ≡ y.addresses → x.reserved 
 same_counts x y a r b o d e u f =
     λ i. record { addresses = a i; reserved = r i; bound = b i; offered = o i; declined = d i; ended = e i; unused = u i; free = f i }
 
--- what is at most one number is at most a greater one
+-- counts that are at most a number are at most any greater number
 pub at_most : (n m : ℕ) (c : Counts) → n ≤ m → IsAtMost n c → IsAtMost m c
 at_most n m c up h = record {
   addresses = omega (arith, h.addresses);
@@ -65,14 +65,14 @@ range_more first (suc n) a e =
     let next : suc n + 1 ≡ suc (n + 1) = omega arith in
     rw next (ap (λ l. first ∷ l) (range_more (first + 1) n a (omega arith)))
 
--- the counts up to an address, with it
+-- the counts up to and including an address
 walked : (reserved : ℕ → Bool) (rows : List Row) (now first a n : ℕ) → first ≤ a → n ≡ a - first + 1
     → both_counts (counts_of reserved rows now (range_with_len first (a - first))) (counts_at (reserved a) (row_at rows a) now) ≡ counts_of reserved rows now (range_with_len first n)
 walked reserved rows now first a n up e =
     let list : range_with_len first n ≡ range_with_len first (a - first) ++ a ∷ [] = ap (range_with_len first) e ∙ range_more first (a - first) a (omega arith) in
     sym (ap (counts_of reserved rows now) list ∙ one_more reserved rows now (range_with_len first (a - first)) a)
 
--- so are counts that go on by those of one address
+-- the same when counts go on by those of one address
 pub stepped : (reserved : ℕ → Bool) (rows : List Row) (now first a n : ℕ) (counts one both : Counts) (is : Bool) (row : Option Row) → first ≤ a → n ≡ a - first + 1
     → counts ≡ counts_of reserved rows now (range_with_len first (a - first)) → is ≡ reserved a → row ≡ row_at rows a → one ≡ counts_at is row now
     → both ≡ both_counts counts one → both ≡ counts_of reserved rows now (range_with_len first n)
@@ -83,7 +83,7 @@ stepped reserved rows now first a n counts one both is row up e before is_so fou
     ∙ ap (both_counts (counts_of reserved rows now (range_with_len first (a - first)))) that
     ∙ walked reserved rows now first a n up e
 
--- the counts of so many addresses are at most that
+-- the counts of n addresses are at most n
 pub few_counted : (reserved : ℕ → Bool) (rows : List Row) (now first n m : ℕ) (counts : Counts) → counts ≡ counts_of reserved rows now (range_with_len first n) → n ≤ m → IsAtMost m counts
 few_counted reserved rows now first n m counts is up =
     rw is (at_most (length (range_with_len first n)) m (counts_of reserved rows now (range_with_len first n)) (omega (arith, length-range_with_len first n)) (within reserved rows now (range_with_len first n)))

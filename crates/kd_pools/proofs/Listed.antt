@@ -1,4 +1,4 @@
--- Addresses that a rising list has, and those that subnets reserve.
+-- Addresses in an ascending list, and those that subnets reserve.
 use Rattle.std.proofs.Common.{◌≡◌, ◌≢◌, ℕ, ◌<◌, ◌≤◌, ◌==◌, ◌||◌, ◌⊎◌, inl, inr, List, [], ◌∷◌, map, length, get_or, nat_eq, true, false, refl, sym, ap, ◌∙◌, arith}
 use Rattle.std.specs.List.{list_any}
 use Rattle.std.specs.List.Sorted.{IsNonDecreasing}
@@ -22,7 +22,7 @@ in_subnets a (s ∷ subnets) =
     list_any-append (λ b. b == a) (subnet_reserved s) (subnets_reserved subnets) ∙ ap (λ b. b || is_listed (subnets_reserved subnets) a) (in_subnet a s.reservations)
     ∙ ap (λ b. reserved_in a s || b) (in_subnets a subnets)
 
--- the list of all reserved addresses has those that are reserved
+-- the list of all reserved addresses has exactly those that are reserved
 pub all_listed : (config : Configuration) (a : ℕ) → is_listed (subnets_reserved config.subnets) a ≡ reserved_anywhere config a
 all_listed config a = in_subnets a config.subnets
 
@@ -36,7 +36,7 @@ differs x a h = by (eqb_tells x a) where
 none_listed : (list : List ℕ) (a : ℕ) → ((i : ℕ) → i < length list → get_or list i 0 ≢ a) → is_listed list a ≡ false
 none_listed list a h = or_from_places (λ xs. is_listed xs a) (λ b. b == a) refl (λ x xs. refl) list 0 (λ i small. differs (get_or list i 0) a (h i small))
 
--- a rising list has an address where it stands at its place
+-- an ascending list contains an address if and only if the address is at its place
 pub at_place : (list : List ℕ) (place a : ℕ) → IsNonDecreasing list → IsPlaceFor list place a → place < length list → nat_eq (get_or list place 0) a ≡ is_listed list a
 at_place list place a rise is less = by (eqb_tells (get_or list place 0) a) where
   apart : get_or list place 0 ≢ a → (i : ℕ) → i < length list → get_or list i 0 ≡ a → (i < place) ⊎ (place ≤ i) → ⊥
@@ -47,6 +47,6 @@ at_place list place a rise is less = by (eqb_tells (get_or list place 0) a) wher
   by (inl t) = t.0 ∙ sym (list_any_at (λ b. b == a) list place 0 less t.0)
   by (inr f) = f.0 ∙ sym (none_listed list a (λ i small e. apart f.1 i small e (cases_lt i place)))
 
--- and has none past its end
+-- and does not contain it if its place is past the end
 pub past_place : (list : List ℕ) (place a : ℕ) → IsPlaceFor list place a → length list ≤ place → is_listed list a ≡ false
 past_place list place a is past = none_listed list a (λ i small e. absurd (omega (arith, is.below i)))

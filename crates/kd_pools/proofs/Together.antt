@@ -13,7 +13,7 @@ use Rattle.kd_pools.specs.declared.counts.Counts.{Counts}
 use Rattle.kd_pools.specs.declared.uses.PoolUse.{PoolUse}
 use Rattle.kd_pools.proofs.Counting.{same_counts}
 
--- the use of one pool more
+-- the use of one more pool
 pub next_pool : (reserved : ℕ → Bool) (rows : List Row) (now : ℕ) (pools : List Pool) (i : ℕ) (pool : Pool) (old new : List PoolUse) (used : PoolUse)
     → i < length pools → pool ≡ get_or pools i pool → old ≡ map (pool_use reserved rows now) (take i pools)
     → used ≡ pool_use reserved rows now pool → new ≡ old ++ used ∷ [] → new ≡ map (pool_use reserved rows now) (take (i + 1) pools)
@@ -35,7 +35,7 @@ pub next_sums : (old new : List PoolUse) (used : PoolUse) (counts both : Counts)
 next_sums old new used counts both before put together =
     together ∙ ap (λ (c : Counts). both_counts c used.counts) before ∙ sym (ap sums_of put ∙ push_sums old used)
 
--- and how great they are at most
+-- and the bounds of the sums
 pub next_most : (i : ℕ) (counts here both : Counts) → IsAtMost (65536 * i) counts → IsAtMost 65536 here → both ≡ both_counts counts here → IsAtMost (65536 * (i + 1)) both
 next_most i counts here both many few together = rw together (record {
   addresses = omega (arith, many.addresses, few.addresses);
@@ -60,7 +60,7 @@ whole_subnet reserved rows now subnet pools counts used i is each sums past =
     λ j. record { prefix = subnet.prefix; pools = all j; counts = together j } in
     is ∙ same
 
--- the use of one subnet more
+-- the use of one more subnet
 pub next_subnet : (reserved : ℕ → Bool) (rows : List Row) (now : ℕ) (subnets : List Subnet) (i : ℕ) (subnet : Subnet) (old new : List UseOfSubnet) (used : UseOfSubnet)
     → i < length subnets → subnet ≡ get_or subnets i subnet → old ≡ map (subnet_use reserved rows now) (take i subnets)
     → used ≡ subnet_use reserved rows now subnet → new ≡ old ++ used ∷ [] → new ≡ map (subnet_use reserved rows now) (take (i + 1) subnets)
@@ -69,7 +69,7 @@ next_subnet reserved rows now subnets i subnet old new used less at before is pu
     ∙ ap (λ (u : UseOfSubnet). map (subnet_use reserved rows now) (take i subnets) ++ u ∷ []) (is ∙ ap (subnet_use reserved rows now) at)
     ∙ sym (map_more (subnet_use reserved rows now) subnets i subnet less)
 
--- the uses of all subnets, where a list has the addresses that are reserved
+-- the uses of all subnets, given a list of the reserved addresses
 pub whole_list : (list : List ℕ) (config : Configuration) (rows : List Row) (now : ℕ) (uses : List UseOfSubnet) (i : ℕ)
     → ((a : ℕ) → is_listed list a ≡ reserved_anywhere config a) → uses ≡ map (subnet_use (is_listed list) rows now) (take i config.subnets) → length config.subnets ≤ i
     → uses ≡ subnet_uses config rows now

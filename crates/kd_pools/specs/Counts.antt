@@ -1,4 +1,4 @@
--- What the addresses of a pool are at a moment, by the rules of leases: reserved, or of a row of
+-- The condition of a pool's addresses at a time, by the lease rules: reserved, or with a row in
 -- some state; and how many of them are free for a new client.
 use Rattle.std.specs.Prelude.{ℕ, ◌+◌, ◌-◌, Bool, true, false, not, ◌&&◌, ◌||◌, is_none, List, length}
 use Rattle.std.specs.List.{count_by, range_with_len}
@@ -11,16 +11,16 @@ use Rattle.kd_rows.specs.declared.row.State.{State}
 use Rattle.kd_rows.specs.declared.row.State.TheVariants as states
 use Rattle.kd_pools.specs.declared.counts.Counts.{Counts}
 
--- a state of addresses that are held back
+-- the state of addresses that are held back
 abbrev pub declined_state : State → Bool
 declined_state states.Declined = true
 declined_state other = false
 
--- a row has not ended yet, and is in such a state
+-- a row has not ended yet, and its state passes a test
 abbrev pub live_in : (State → Bool) → ℕ → Row → Bool
 live_in such now row = live_row now row && such row.state
 
--- an address has a row that has not ended yet, in such a state
+-- an address has a row that has not ended yet, and whose state passes a test
 abbrev pub held_in : (State → Bool) → List Row → ℕ → ℕ → Bool
 held_in such rows now a = has_such (live_in such now) (row_at rows a)
 
@@ -32,16 +32,16 @@ ended_at rows now a = has_such (λ row. not (live_row now row)) (row_at rows a)
 abbrev pub unused_at : List Row → ℕ → Bool
 unused_at rows a = is_none (row_at rows a)
 
--- an address is free for a new client, where these are reserved: it is none of them, and has no row
--- or one that has ended
+-- an address is free for a new client, given the reserved addresses: it is not reserved, and it has
+-- no row or a row that has ended
 abbrev pub free_at : (ℕ → Bool) → List Row → ℕ → ℕ → Bool
 free_at reserved rows now a = not (reserved a) && (unused_at rows a || ended_at rows now a)
 
--- the addresses of a range, rising
+-- the addresses of a range, in ascending order
 abbrev pub addresses_of_range : Range → List ℕ
 addresses_of_range range = range_with_len range.first (range.last - range.first + 1)
 
--- the counts of addresses at a moment, where these are reserved
+-- the counts of addresses at a time, given the reserved addresses
 abbrev pub counts_of : (ℕ → Bool) → List Row → ℕ → List ℕ → Counts
 counts_of reserved rows now list =
     record {

@@ -1,5 +1,5 @@
--- The texts that are printed of the use of pools: lines of words and numbers, and metrics in the
--- text exposition format of Prometheus, version 0.0.4.
+-- The printed texts about the use of pools: lines of words and numbers, and metrics in the text
+-- exposition format of Prometheus, version 0.0.4.
 use Rattle.std.specs.Prelude.{ℕ, List, ◌++◌, codes, decimal}
 use Rattle.std.specs.List.{flat_map}
 use Rattle.kd_config.specs.declared.prefix.Prefix.{Prefix}
@@ -19,7 +19,7 @@ range_text range = address_text range.first ++ codes "-" ++ address_text range.l
 unfoldable pub prefix_text : Prefix → List ℕ
 prefix_text prefix = address_text prefix.address ++ codes "/" ++ decimal prefix.length
 
--- counts: each number after a space, its name and a space
+-- counts: each number follows a space, its name and a space
 unfoldable pub counts_text : Counts → List ℕ
 counts_text counts =
     codes " addresses " ++ decimal counts.addresses ++ codes " reserved " ++ decimal counts.reserved
@@ -53,14 +53,14 @@ metric_name metrics.Addresses = codes "kdhcp_pool_addresses"
 metric_name metrics.Reserved = codes "kdhcp_pool_reserved"
 metric_name metrics.Free = codes "kdhcp_pool_free"
 
--- what a metric is
+-- the help text of a metric
 abbrev pub metric_help : Metric → List ℕ
 metric_help metrics.Size = codes "Addresses of the pool."
 metric_help metrics.Addresses = codes "Addresses of the pool by what their row says."
 metric_help metrics.Reserved = codes "Addresses of the pool that are reserved for a client."
 metric_help metrics.Free = codes "Addresses of the pool that a new client could get."
 
--- the lines before those of the pools: what a metric is, and that it is a gauge
+-- the lines before those of the pools: they say what a metric is, and that it is a gauge
 unfoldable pub head_text : Metric → List ℕ
 head_text metric =
     codes "# HELP " ++ metric_name metric ++ codes " " ++ metric_help metric ++ codes "\n# TYPE "
@@ -71,18 +71,18 @@ unfoldable pub labels_text : Prefix → Range → List ℕ
 labels_text prefix range =
     codes "{subnet=\"" ++ prefix_text prefix ++ codes "\",pool=\"" ++ range_text range ++ codes "\""
 
--- the line of a metric with no labels but those of the pool, with its line feed
+-- the line of a metric with only the labels of the pool, with its line feed
 unfoldable pub sample_line : Metric → Prefix → Range → ℕ → List ℕ
 sample_line metric prefix range number =
     metric_name metric ++ labels_text prefix range ++ codes "} " ++ decimal number ++ codes "\n"
 
--- the line of a metric with a state beside them, with its line feed
+-- the line of a metric with the labels of the pool and a state, with its line feed
 unfoldable pub state_line : Prefix → Range → List ℕ → ℕ → List ℕ
 state_line prefix range state number =
     metric_name metrics.Addresses ++ labels_text prefix range ++ codes ",state=\"" ++ state
     ++ codes "\"} " ++ decimal number ++ codes "\n"
 
--- the lines of a pool by what the rows of its addresses say
+-- the lines of a pool, one for each state of its addresses
 unfoldable pub states_text : Prefix → PoolUse → List ℕ
 states_text prefix pool =
     state_line prefix pool.range (codes "bound") pool.counts.bound
@@ -91,7 +91,7 @@ states_text prefix pool =
     ++ state_line prefix pool.range (codes "ended") pool.counts.ended
     ++ state_line prefix pool.range (codes "unused") pool.counts.unused
 
--- the lines of a metric of a pool
+-- the lines of a metric for a pool
 abbrev pub samples_text : Metric → Prefix → PoolUse → List ℕ
 samples_text metrics.Size prefix pool =
     sample_line metrics.Size prefix pool.range pool.counts.addresses
@@ -101,11 +101,11 @@ samples_text metrics.Reserved prefix pool =
 samples_text metrics.Free prefix pool =
     sample_line metrics.Free prefix pool.range pool.counts.free
 
--- the lines of a metric of a subnet's pools
+-- the lines of a metric for a subnet's pools
 abbrev pub subnet_samples : Metric → UseOfSubnet → List ℕ
 subnet_samples metric subnet = flat_map (samples_text metric subnet.prefix) subnet.pools
 
--- a metric: its head, and its lines of each pool
+-- a metric: its head, and its lines for each pool
 unfoldable pub metric_text : Metric → List UseOfSubnet → List ℕ
 metric_text metric subnets = head_text metric ++ flat_map (subnet_samples metric) subnets
 

@@ -1,5 +1,5 @@
--- How full the pools of a configuration are at a moment: pool by pool, subnet by subnet, in the
--- order in which they are written.
+-- How full the pools of a configuration are at a time; subnets and pools are in the order in which
+-- they are written.
 use Rattle.std.specs.Prelude.{ℕ, Bool, List, map}
 use Rattle.std.specs.List.{sum_by}
 use Rattle.kd_config.specs.Configuration.{Configuration}
@@ -12,13 +12,13 @@ use Rattle.kd_pools.specs.Counts.{addresses_of_range, counts_of}
 use Rattle.kd_pools.specs.declared.counts.Counts.{Counts}
 use Rattle.kd_pools.specs.declared.uses.PoolUse.{PoolUse}
 
--- the use of a subnet: its prefix, that of each of its pools, and their counts together
+-- the use of a subnet: its prefix, the use of each of its pools, and the sums of their counts
 pub record UseOfSubnet : Type 0 where
   pub prefix : Prefix
   pub pools : List PoolUse
   pub counts : Counts
 
--- the use of a pool at a moment, where these addresses are reserved
+-- the use of a pool at a time, given the reserved addresses
 abbrev pub pool_use : (ℕ → Bool) → List Row → ℕ → Pool → PoolUse
 pool_use reserved rows now pool =
     record { range = pool.range; counts = counts_of reserved rows now (addresses_of_range pool.range) }
@@ -27,7 +27,7 @@ pool_use reserved rows now pool =
 abbrev pub sum_over : (Counts → ℕ) → List PoolUse → ℕ
 sum_over number pools = sum_by (λ pool. number pool.counts) pools
 
--- the counts of pools together
+-- the sums of the counts of pools
 abbrev pub sums_of : List PoolUse → Counts
 sums_of pools =
     record {
@@ -41,12 +41,12 @@ sums_of pools =
       free = sum_over (λ counts. counts.free) pools;
     }
 
--- the use of a subnet at a moment, where these addresses are reserved
+-- the use of a subnet at a time, given the reserved addresses
 abbrev pub subnet_use : (ℕ → Bool) → List Row → ℕ → Subnet → UseOfSubnet
 subnet_use reserved rows now subnet =
     let pools = map (pool_use reserved rows now) subnet.pools in
     record { prefix = subnet.prefix; pools = pools; counts = sums_of pools }
 
--- the use of each subnet of a configuration at a moment
+-- the use of each subnet of a configuration at a time
 abbrev pub subnet_uses : Configuration → List Row → ℕ → List UseOfSubnet
 subnet_uses config rows now = map (subnet_use (reserved_anywhere config) rows now) config.subnets

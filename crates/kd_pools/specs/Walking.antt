@@ -1,5 +1,5 @@
--- Words of private contracts alone: addresses that are listed, the counts of one address, and
--- counts together.
+-- Helpers of private contracts only: addresses in a list, the counts of one address, and sums of
+-- counts.
 use Rattle.std.specs.Prelude.{ℕ, ◌+◌, ◌<◌, ◌≤◌, Bool, not, ◌&&◌, ◌||◌, ◌==◌, is_none, List, length, map, Option, slice_index}
 use Rattle.std.specs.Int.{from_bool}
 use Rattle.std.specs.List.{flat_map, list_any}
@@ -10,7 +10,7 @@ use Rattle.kd_rows.specs.declared.row.Row.{Row}
 use Rattle.kd_pools.specs.Counts.{declined_state, live_in}
 use Rattle.kd_pools.specs.declared.counts.Counts.{Counts}
 
--- a list has an address
+-- an address is in a list
 abbrev pub is_listed : List ℕ → ℕ → Bool
 is_listed list a = list_any (λ b. b == a) list
 
@@ -18,7 +18,7 @@ is_listed list a = list_any (λ b. b == a) list
 abbrev pub subnet_reserved : Subnet → List ℕ
 subnet_reserved subnet = map (λ reservation. reservation.address) subnet.reservations
 
--- the addresses that subnets reserve, in their order
+-- the addresses that subnets reserve, in the order of the configuration
 abbrev pub subnets_reserved : List Subnet → List ℕ
 subnets_reserved subnets = flat_map subnet_reserved subnets
 
@@ -47,7 +47,7 @@ no_counts =
       free = 0;
     }
 
--- the counts of one address at a moment: it is reserved or not, and has this row or none
+-- the counts of one address at a time: it is reserved or not, and has this row or none
 abbrev pub counts_at : Bool → Option Row → ℕ → Counts
 counts_at reserved row now =
     record {
@@ -63,7 +63,7 @@ counts_at reserved row now =
           (not reserved && (is_none row || has_such (λ r. not (live_row now r)) row));
     }
 
--- two counts together
+-- the sum of two counts
 abbrev pub both_counts : Counts → Counts → Counts
 both_counts a b =
     record {

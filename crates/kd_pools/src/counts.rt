@@ -7,30 +7,31 @@ ghost use Rattle.kd_pools.specs.Walking.{IsAtMost, both_counts, counts_at, no_co
 
 use kd_rows::{Row, State};
 
-/// How many addresses there are, and how many of them are such at a moment. An address with a row
-/// is bound, offered or declined until the row ends, and ended from then on.
+/// The number of addresses, and how many of them are in each condition at a time. An address counts
+/// as bound, offered or declined if its row has that state and has not ended, and as ended if its
+/// row has ended.
 #[derive(Clone, Copy)]
 pub struct Counts {
     /// All addresses.
     pub addresses: u64,
-    /// Those that are reserved for a client, in whatever subnet; they count below too.
+    /// Addresses reserved for a client, in any subnet; they are also counted below.
     pub reserved: u64,
-    /// Those that are leased.
+    /// Addresses that are leased.
     pub bound: u64,
-    /// Those that are offered.
+    /// Addresses that are offered.
     pub offered: u64,
-    /// Those that are held back after a DECLINE.
+    /// Addresses that are held back after a DECLINE.
     pub declined: u64,
-    /// Those whose row has ended.
+    /// Addresses whose row has ended.
     pub ended: u64,
-    /// Those that have no row.
+    /// Addresses that have no row.
     pub unused: u64,
-    /// Those that a new client could get: not reserved, and unused or ended.
+    /// Addresses that a new client could get: not reserved, and unused or ended.
     pub free: u64,
 }
 
 impl Counts {
-    // The counts of no addresses.
+    // The counts for no addresses.
     pub(crate) fn new() -> Counts
         ensures { result ≡ no_counts }
     {
@@ -46,7 +47,7 @@ impl Counts {
         }
     }
 
-    // The counts of one address at a moment.
+    // The counts for one address at a time.
     pub(crate) fn of_one(reserved: bool, row: Option<&Row>, now: u64) -> Counts
         ensures { result ≡ counts_at reserved (option_copied row.entry) now }
     {
@@ -64,7 +65,7 @@ impl Counts {
         }
     }
 
-    // Both counts together.
+    // Adds two counts.
     pub(crate) fn and(self, other: Counts) -> Counts
         requires left { IsAtMost (2 ^ 62) self }
         requires right { IsAtMost (2 ^ 62) other }
@@ -83,7 +84,7 @@ impl Counts {
     }
 }
 
-// There is a row, and it has ended.
+// Reports whether there is a row and it has ended.
 fn has_ended(row: Option<&Row>, now: u64) -> bool
     ensures { result ≡ has_such (λ r. not (live_row now r)) (option_copied row.entry) }
 {
@@ -93,7 +94,7 @@ fn has_ended(row: Option<&Row>, now: u64) -> bool
     }
 }
 
-// There is a row that has not ended yet, and its address is leased.
+// Reports whether there is a row that has not ended and its address is leased.
 fn is_bound(row: Option<&Row>, now: u64) -> bool
     ensures { result ≡ has_such (live_in bound_state now) (option_copied row.entry) }
 {
@@ -103,7 +104,7 @@ fn is_bound(row: Option<&Row>, now: u64) -> bool
     }
 }
 
-// There is a row that has not ended yet, and its address is offered.
+// Reports whether there is a row that has not ended and its address is offered.
 fn is_offered(row: Option<&Row>, now: u64) -> bool
     ensures { result ≡ has_such (live_in offered_state now) (option_copied row.entry) }
 {
@@ -113,7 +114,7 @@ fn is_offered(row: Option<&Row>, now: u64) -> bool
     }
 }
 
-// There is a row that has not ended yet, and its address is held back.
+// Reports whether there is a row that has not ended and its address is held back.
 fn is_declined(row: Option<&Row>, now: u64) -> bool
     ensures { result ≡ has_such (live_in declined_state now) (option_copied row.entry) }
 {

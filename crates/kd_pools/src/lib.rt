@@ -1,10 +1,9 @@
-//! How full the pools of a configuration are, and the texts that are printed of it.
+//! Counts how full the pools of a configuration are, and prints the counts.
 //!
 //! What this layer promises to the one above: the counts of each pool and of each subnet are those
-//! of its addresses by the rules of leases (`specs/Counts.antt`, `specs/Uses.antt`), where an
-//! address counts as free exactly where a new client that asks for it is offered it
-//! (`specs/Laws.antt`); the lines and the metrics of them are those of `specs/Printed.antt`, byte
-//! for byte.
+//! of its addresses by the lease rules (`specs/Counts.antt`, `specs/Uses.antt`); an address counts
+//! as free if and only if a new client that asks for it is offered it (`specs/Laws.antt`); the
+//! printed lines and metrics are those of `specs/Printed.antt`, byte for byte.
 #![tactic(auto)]
 
 mod counts;

@@ -6,13 +6,13 @@ use crate::uses::{PoolUse, SubnetUse};
 use kd_config::Prefix;
 use std::alloc::{AllocError, Global};
 
-/// The lines of subnets, each with its line feed: for each subnet one for each of its pools, `pool
-/// FIRST-LAST subnet PREFIX` and the counts, each after its name, and then its own, `subnet PREFIX`
-/// and its counts.
+/// Prints the lines of subnets, each with its line feed. For each subnet there is one line for each
+/// of its pools, `pool FIRST-LAST subnet PREFIX` and the counts, each after its name, and then the
+/// subnet's own line, `subnet PREFIX` and its counts.
 ///
 /// # Errors
 ///
-/// There is no memory for the lines.
+/// Out of memory.
 pub fn use_lines(alloc: Global, uses: &[SubnetUse]) -> Result<String, AllocError>
     ensures { IfOk result (λ text. string_bytes text ≡ lines_text uses.now) }
 {
@@ -23,7 +23,7 @@ pub fn use_lines(alloc: Global, uses: &[SubnetUse]) -> Result<String, AllocError
     Ok(out)
 }
 
-// The lines of a subnet.
+// Appends the lines of a subnet.
 #[tactic(auto, unfolding(crate::specs::Printed::subnet_lines))]
 fn put_subnet(out: &mut String, subnet: &SubnetUse) -> Result<(), AllocError>
     ensures { OnOk result (string_bytes out.new
@@ -35,7 +35,7 @@ fn put_subnet(out: &mut String, subnet: &SubnetUse) -> Result<(), AllocError>
     put_own(out, subnet)
 }
 
-// The line of a pool.
+// Appends the line of a pool.
 #[tactic(auto, unfolding(crate::specs::Printed::pool_line))]
 fn put_pool(out: &mut String, prefix: Prefix, pool: &PoolUse) -> Result<(), AllocError>
     ensures { OnOk result (string_bytes out.new
@@ -49,7 +49,7 @@ fn put_pool(out: &mut String, prefix: Prefix, pool: &PoolUse) -> Result<(), Allo
     out.push_str("\n")
 }
 
-// The line of the subnet itself.
+// Appends the line of the subnet itself.
 #[tactic(auto, unfolding(crate::specs::Printed::subnet_line))]
 fn put_own(out: &mut String, subnet: &SubnetUse) -> Result<(), AllocError>
     ensures { OnOk result (string_bytes out.new

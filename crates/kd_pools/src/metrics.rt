@@ -10,23 +10,23 @@ use std::fmt::Write;
 // What is measured of a pool.
 #[derive(Clone, Copy)]
 pub(crate) enum Metric {
-    // How many addresses it has.
+    // The number of its addresses.
     Size,
-    // How many of them have a row of some kind.
+    // The number of addresses in each state.
     Addresses,
-    // How many of them are reserved.
+    // The number of reserved addresses.
     Reserved,
-    // How many of them are free.
+    // The number of free addresses.
     Free,
 }
 
-/// The metrics of pools, in the text format of Prometheus: `kdhcp_pool_size`,
-/// `kdhcp_pool_addresses` by state, `kdhcp_pool_reserved` and `kdhcp_pool_free`, each a gauge, with
-/// the subnet and the pool as labels.
+/// Prints the metrics of pools in the text format of Prometheus: `kdhcp_pool_size`,
+/// `kdhcp_pool_addresses` by state, `kdhcp_pool_reserved` and `kdhcp_pool_free`. Each is a gauge,
+/// with the subnet and the pool as labels.
 ///
 /// # Errors
 ///
-/// There is no memory for the text.
+/// Out of memory.
 #[tactic(auto, unfolding(crate::specs::Printed::metrics_text))]
 pub fn use_metrics(alloc: Global, uses: &[SubnetUse]) -> Result<String, AllocError>
     ensures { IfOk result (λ text. string_bytes text ≡ metrics_text uses.now) }
@@ -39,7 +39,7 @@ pub fn use_metrics(alloc: Global, uses: &[SubnetUse]) -> Result<String, AllocErr
     Ok(out)
 }
 
-// A metric: its head, and its lines of each pool.
+// Appends a metric: its head, and its lines for each pool.
 #[tactic(auto, unfolding(crate::specs::Printed::metric_text))]
 fn put_metric(out: &mut String, metric: Metric, uses: &[SubnetUse]) -> Result<(), AllocError>
     ensures { OnOk result (string_bytes out.new
@@ -52,7 +52,7 @@ fn put_metric(out: &mut String, metric: Metric, uses: &[SubnetUse]) -> Result<()
     Ok(())
 }
 
-// What a metric is, and that it is a gauge.
+// Appends the lines that say what a metric is, and that it is a gauge.
 #[tactic(auto, unfolding(crate::specs::Printed::head_text))]
 fn put_head(out: &mut String, metric: Metric) -> Result<(), AllocError>
     ensures { OnOk result (string_bytes out.new ≡ string_bytes out.old ++ head_text metric) }
@@ -62,7 +62,7 @@ fn put_head(out: &mut String, metric: Metric) -> Result<(), AllocError>
     write!(out, "# HELP {name} {help}\n# TYPE {name} gauge\n")
 }
 
-// The name of a metric.
+// Returns the name of a metric.
 fn name_of(metric: Metric) -> &'static str
     ensures { result.now ≡ metric_name metric }
 {
@@ -74,7 +74,7 @@ fn name_of(metric: Metric) -> &'static str
     }
 }
 
-// What a metric is.
+// Returns the help text of a metric.
 fn help_of(metric: Metric) -> &'static str
     ensures { result.now ≡ metric_help metric }
 {
@@ -86,7 +86,7 @@ fn help_of(metric: Metric) -> &'static str
     }
 }
 
-// The lines of a metric of a subnet's pools.
+// Appends the lines of a metric for a subnet's pools.
 fn put_subnet(out: &mut String, metric: Metric, subnet: &SubnetUse) -> Result<(), AllocError>
     ensures { OnOk result (string_bytes out.new
         ≡ string_bytes out.old ++ subnet_samples metric subnet.now) }
@@ -97,7 +97,7 @@ fn put_subnet(out: &mut String, metric: Metric, subnet: &SubnetUse) -> Result<()
     Ok(())
 }
 
-// The lines of a metric of a pool.
+// Appends the lines of a metric for a pool.
 fn put_samples(
     out: &mut String,
     metric: Metric,
@@ -123,7 +123,7 @@ fn put_samples(
     }
 }
 
-// The line of a metric with no labels but those of the pool.
+// Appends the line of a metric with only the labels of the pool.
 #[tactic(auto, unfolding(crate::specs::Printed::sample_line))]
 fn put_sample(
     out: &mut String,
@@ -140,7 +140,7 @@ fn put_sample(
     write!(out, "}} {number}\n")
 }
 
-// The labels of a pool, without the brace after them.
+// Appends the labels of a pool, without the brace after them.
 #[tactic(auto, unfolding(crate::specs::Printed::labels_text))]
 fn put_labels(out: &mut String, prefix: Prefix, range: Range) -> Result<(), AllocError>
     ensures { OnOk result (string_bytes out.new
@@ -153,7 +153,7 @@ fn put_labels(out: &mut String, prefix: Prefix, range: Range) -> Result<(), Allo
     out.push_str("\"")
 }
 
-// The lines of a pool by what the rows of its addresses say.
+// Appends the lines of a pool, one for each state of its addresses.
 #[tactic(auto, unfolding(crate::specs::Printed::states_text))]
 fn put_states(out: &mut String, prefix: Prefix, pool: &PoolUse) -> Result<(), AllocError>
     ensures { OnOk result (string_bytes out.new
@@ -167,7 +167,7 @@ fn put_states(out: &mut String, prefix: Prefix, pool: &PoolUse) -> Result<(), Al
     put_state(out, prefix, pool.range, "unused", counts.unused)
 }
 
-// The line of a metric with a state beside the labels of the pool.
+// Appends the line of a metric with the labels of the pool and a state.
 #[tactic(auto, unfolding(crate::specs::Printed::state_line))]
 fn put_state(
     out: &mut String,

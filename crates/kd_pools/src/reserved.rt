@@ -6,7 +6,7 @@ ghost use Rattle.kd_pools.specs.Walking.{PassesBelow, IsPlaceFor, subnets_reserv
 use kd_config::{Config, Subnet};
 use std::alloc::{AllocError, Global};
 
-// The addresses that are reserved in a configuration, rising.
+// Returns the addresses that are reserved in a configuration, in ascending order.
 pub(crate) fn reserved_addresses(alloc: Global, config: &Config) -> Result<Vec<u32>, AllocError>
     ensures rising { IfOk result (λ list. IsNonDecreasing list.items) }
     ensures same { IfOk result (λ list.
@@ -17,7 +17,7 @@ pub(crate) fn reserved_addresses(alloc: Global, config: &Config) -> Result<Vec<u
     Ok(list)
 }
 
-// The addresses that subnets reserve, in their order.
+// Collects the addresses that subnets reserve, in the order of the configuration.
 fn reserved_in_order(alloc: Global, subnets: &[Subnet]) -> Result<Vec<u32>, AllocError>
     ensures { IfOk result (λ list. list.items ≡ subnets_reserved subnets.now) }
 {
@@ -28,7 +28,7 @@ fn reserved_in_order(alloc: Global, subnets: &[Subnet]) -> Result<Vec<u32>, Allo
     Ok(list)
 }
 
-// Puts the addresses that a subnet reserves at the end of a list.
+// Appends the addresses that a subnet reserves to a list.
 fn push_reserved(list: &mut Vec<u32>, subnet: &Subnet) -> Result<(), AllocError>
     ensures { OnOk result (list.new.items ≡ list.old.items ++ subnet_reserved subnet.now) }
 {
@@ -38,7 +38,7 @@ fn push_reserved(list: &mut Vec<u32>, subnet: &Subnet) -> Result<(), AllocError>
     Ok(())
 }
 
-// The place of the first address of a list that is this one or above it.
+// Returns the place of the first address of a list that is not below this one.
 pub(crate) fn place_of(list: &[u32], address: u32) -> usize
     requires { IsNonDecreasing list.now }
     ensures { IsPlaceFor list.now result address }
@@ -56,7 +56,7 @@ pub(crate) fn place_of(list: &[u32], address: u32) -> usize
     low
 }
 
-// The same, from a place before which all addresses are below this one.
+// Returns the same, given a place before which all addresses are below this one.
 pub(crate) fn place_from(list: &[u32], start: usize, address: u32) -> usize
     requires rising { IsNonDecreasing list.now }
     requires start { PassesBelow list.now start address }
@@ -69,7 +69,7 @@ pub(crate) fn place_from(list: &[u32], start: usize, address: u32) -> usize
     place
 }
 
-// The address at a place of a list is this one.
+// Reports whether the address at a place of a list is this one.
 pub(crate) fn is_at(list: &[u32], place: usize, address: u32) -> bool
     requires rising { IsNonDecreasing list.now }
     requires place { IsPlaceFor list.now place address }

@@ -7,7 +7,7 @@ use kd_replay::put_address;
 use std::alloc::AllocError;
 use std::fmt::Write;
 
-// A range: its first address and its last.
+// Appends a range: its first and its last address.
 #[tactic(auto, unfolding(crate::specs::Printed::range_text))]
 pub(crate) fn put_range(out: &mut String, range: Range) -> Result<(), AllocError>
     ensures { OnOk result (string_bytes out.new ≡ string_bytes out.old ++ range_text range) }
@@ -17,7 +17,7 @@ pub(crate) fn put_range(out: &mut String, range: Range) -> Result<(), AllocError
     put_address(out, range.last)
 }
 
-// A prefix: its address and its length.
+// Appends a prefix: its address and its length.
 #[tactic(auto, unfolding(crate::specs::Printed::prefix_text))]
 pub(crate) fn put_prefix(out: &mut String, prefix: Prefix) -> Result<(), AllocError>
     ensures { OnOk result (string_bytes out.new ≡ string_bytes out.old ++ prefix_text prefix) }
@@ -27,7 +27,7 @@ pub(crate) fn put_prefix(out: &mut String, prefix: Prefix) -> Result<(), AllocEr
     write!(out, "/{length}")
 }
 
-// Counts, each after its name.
+// Appends counts, each after its name.
 #[tactic(auto, unfolding(crate::specs::Printed::counts_text))]
 pub(crate) fn put_counts(out: &mut String, counts: Counts) -> Result<(), AllocError>
     ensures { OnOk result (string_bytes out.new ≡ string_bytes out.old ++ counts_text counts) }

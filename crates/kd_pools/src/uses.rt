@@ -15,9 +15,9 @@ use std::marker::Model;
 /// How full a pool is.
 #[derive(Clone, Copy)]
 pub struct PoolUse {
-    /// Its addresses.
+    /// The addresses of the pool.
     pub range: Range,
-    /// Their counts.
+    /// The counts of its addresses.
     pub counts: Counts,
 }
 
@@ -28,7 +28,7 @@ pub struct SubnetUse {
     pub prefix: Prefix,
     /// Its pools, in the order in which they are written.
     pub pools: Vec<PoolUse>,
-    /// Their counts together.
+    /// The sums of the counts of the pools.
     pub counts: Counts,
 }
 
@@ -40,12 +40,12 @@ impl Model for SubnetUse {
     ghost view = { λ s. record { prefix = s.prefix; pools = s.pools.items; counts = s.counts } };
 }
 
-/// How full the pools of each subnet of a configuration are at a moment, over the rows of leases:
-/// subnet by subnet and pool by pool in the order in which they are written.
+/// Counts how full the pools of each subnet of a configuration are at a time, over the rows of
+/// leases; subnets and pools are in the order in which they are written.
 ///
 /// # Errors
 ///
-/// There is no memory for it.
+/// Out of memory.
 pub fn uses_of(
     alloc: Global,
     config: &Config,
@@ -63,7 +63,7 @@ pub fn uses_of(
     Ok(list)
 }
 
-// How full a subnet is at a moment, where these addresses are reserved.
+// Counts how full a subnet is at a time, with these addresses reserved.
 fn use_of(
     alloc: Global,
     reserved: &[u32],

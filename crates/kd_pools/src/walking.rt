@@ -11,8 +11,8 @@ use crate::reserved::{is_at, place_from, place_of};
 use kd_config::Range;
 use kd_rows::{Row, Rows};
 
-// The counts of the addresses of a range at a moment. Beside the addresses it walks the list of
-// those that are reserved, and the table from row to row.
+// Counts the addresses of a range at a time. It walks the addresses, the list of reserved addresses
+// and the rows of the table in parallel.
 pub(crate) fn counts_in(reserved: &[u32], rows: &Rows, now: u64, range: Range) -> Counts
     requires rising { IsNonDecreasing reserved.now }
     requires range { IsRange range }
@@ -44,7 +44,7 @@ pub(crate) fn counts_in(reserved: &[u32], rows: &Rows, now: u64, range: Range) -
     counts.and(one)
 }
 
-// The row of an address, where this is the next one from there on.
+// Returns the row of an address, given the next row at or after it.
 fn here<'a>(rows: &Rows, next: Option<&'a Row>, address: u32) -> Option<&'a Row>
     requires { IsNext rows.now.rows address (option_copied next) }
     ensures { option_copied result ≡ row_at rows.now.rows address }
@@ -55,7 +55,7 @@ fn here<'a>(rows: &Rows, next: Option<&'a Row>, address: u32) -> Option<&'a Row>
     }
 }
 
-// The next row after an address, where this is the next one from there on.
+// Returns the next row after an address, given the next row at or after it.
 fn next_after<'a>(rows: &'a Rows, next: Option<&'a Row>, address: u32) -> Option<&'a Row>
     requires next { IsNext rows.now.rows address (option_copied next) }
     requires more { address < 2 ^ 32 - 1 }
