@@ -1,4 +1,4 @@
--- Texts cut at a byte.
+-- Texts split at a byte.
 use Rattle.std.proofs.Common.{◌≡◌, ℕ, ◌+◌, ◌-◌, List, [], ◌∷◌, ◌++◌, Some, None, ◌⊎◌, inl, inr, refl, sym, ap, ◌∙◌, arith, length, take, drop, length-drop}
 use Rattle.std.proofs.lemmas.Bool.{eqb-false}
 use Rattle.std.proofs.lemmas.List.{take_all, drop_all}
@@ -37,7 +37,7 @@ one_split byte (x ∷ xs) ys (x' ∷ xs') ys' p p' e =
     let rest = one_split byte xs ys xs' ys' p.1 p'.1 tail in
     (cc (head, rest.0), rest.1)
 
--- a text is cut where it has the byte after a text without it
+-- a text is split where the byte follows a text without it
 pub cut_is : {byte : ℕ} {text front back : List ℕ} → IsCutOff byte text front back → (xs ys : List ℕ) → HasNo byte xs → text ≡ xs ++ byte ∷ ys → (front ≡ xs) × (back ≡ ys)
 cut_is {byte} {text} {front} {back} cut xs ys plain whole = by cut.parts
   where

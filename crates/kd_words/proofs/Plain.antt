@@ -1,5 +1,5 @@
--- Texts without a byte: numbers, addresses and bytes have no space and no line feed, and in their
--- numbers stands no dot and no colon.
+-- Texts without a byte: numbers, addresses and bytes have no space and no line feed, and their
+-- numbers have no dot and no colon.
 use Rattle.std.proofs.Common.{◌≡◌, ℕ, ◌+◌, ◌/◌, ◌%◌, ◌^◌, ◌<◌, ◌≤◌, Bool, true, false, List, [], ◌∷◌, ◌++◌, refl, sym, ap, ◌∙◌, arith, true≢false}
 use Rattle.std.specs.Prelude.{◌==◌, codes, decimal, if◌then◌else◌}
 use Rattle.std.specs.List.{AllPass}
@@ -12,7 +12,7 @@ use Rattle.kd_replay.specs.Finding.{HasNo}
 use Rattle.kd_replay.specs.Text.{address_text, bytes_text}
 use Rattle.kd_replay.proofs.Looking.{plain_append}
 
--- no digit is the byte
+-- the byte is not a digit
 abbrev pub IsNoDigit : ℕ → Type 0
 IsNoDigit byte = (d : ℕ) → d < 10 → ((48 + d) == byte) ≡ false
 

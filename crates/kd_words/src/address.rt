@@ -4,8 +4,8 @@ ghost use Rattle.kd_replay.specs.Text.{address_text};
 use crate::number::byte_of_word;
 use crate::parts::cut;
 
-/// The address of a text that is one: four bytes in decimal, with dots between them. For any other
-/// text nothing is promised.
+/// Returns the address of a text that is one: four bytes in decimal with dots between them. Nothing
+/// is promised for any other text.
 pub fn address_of_word(word: &[u8]) -> Option<u32>
     ensures { (a : ℕ) → a < 2 ^ 32 → word.now ≡ address_text a → result ≡ Some a }
 {

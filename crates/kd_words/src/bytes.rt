@@ -6,12 +6,12 @@ use hex::FromHexError;
 use kd_wire::Bytes;
 use std::alloc::{AllocError, Global};
 
-/// The bytes of a text that has them in hexadecimal, or that is a dash where there are none. For
-/// any other text what is found is bytes too, and nothing else is promised.
+/// Returns the bytes of a text that gives them in hexadecimal, or that is a dash for no bytes. For
+/// any other text the result, if there is one, is bytes too, and nothing else is promised.
 ///
 /// # Errors
 ///
-/// There is no memory for them.
+/// Out of memory.
 pub fn bytes_of_word(alloc: Global, word: &[u8]) -> Result<Option<Bytes>, AllocError>
     ensures only { (bytes : List ℕ) → IsBytes bytes → word.now ≡ bytes_text bytes
         → IfOk result (λ found. found ≡ Some bytes) }
@@ -23,7 +23,7 @@ pub fn bytes_of_word(alloc: Global, word: &[u8]) -> Result<Option<Bytes>, AllocE
     decoded_in(alloc, word)
 }
 
-// The bytes of a text that has them in hexadecimal.
+// Decodes the bytes of a hexadecimal text, if it is one.
 fn decoded_in(alloc: Global, word: &[u8]) -> Result<Option<Bytes>, AllocError>
     ensures found { IfOk result (λ found. MatchOption found
         ((bytes : List ℕ) → ¬ (decode_of word.now ≡ Ok bytes))

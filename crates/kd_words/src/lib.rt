@@ -1,10 +1,9 @@
 //! Reads back the words of a line that the program wrote.
 //!
-//! What this layer promises to the one above: a text is cut at the first of a byte
+//! What this layer promises to the one above: a text is split at the first occurrence of a byte
 //! (`specs/Words.antt`), and a word that is the text of a number, of an address or of bytes, as
-//! `specs/Text.antt` of `kd_replay` writes these, is read as that value. Of a word that is no such
-//! text nothing is promised, so that whoever reads a line compares it with what is written of the
-//! values.
+//! `specs/Text.antt` of `kd_replay` writes them, is read as that value. Nothing is promised for any
+//! other word, so a caller that reads a line must compare it with the text of the values.
 #![tactic(auto)]
 
 mod address;

@@ -1,7 +1,6 @@
 ghost use Rattle.std.specs.Prelude.{◌≡◌, ℕ, ◌^◌, ◌<◌, Some, decimal};
 
-/// The number of a text that is one in decimal. For any other text nothing is
-/// promised.
+/// Returns the number of a text that is one in decimal. Nothing is promised for any other text.
 pub fn number_of_word(word: &[u8]) -> Option<u64>
     ensures { (n : ℕ) → n < 2 ^ 64 → word.now ≡ decimal n → result ≡ Some n }
 {
@@ -11,8 +10,7 @@ pub fn number_of_word(word: &[u8]) -> Option<u64>
     }
 }
 
-/// The port of a text that is one in decimal. For any other text nothing is
-/// promised.
+/// Returns the port of a text that is one in decimal. Nothing is promised for any other text.
 pub fn port_of_word(word: &[u8]) -> Option<u16>
     ensures { (n : ℕ) → n < 2 ^ 16 → word.now ≡ decimal n → result ≡ Some n }
 {
@@ -22,8 +20,7 @@ pub fn port_of_word(word: &[u8]) -> Option<u16>
     }
 }
 
-/// The byte of a text that is one in decimal. For any other text nothing is
-/// promised.
+/// Returns the byte of a text that is one in decimal. Nothing is promised for any other text.
 pub fn byte_of_word(word: &[u8]) -> Option<u8>
     ensures { (n : ℕ) → n < 256 → word.now ≡ decimal n → result ≡ Some n }
 {

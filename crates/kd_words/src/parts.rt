@@ -2,7 +2,7 @@ ghost use Rattle.kd_words.specs.Words.{IsCutOff};
 
 use memchr::memchr;
 
-/// What stands before the first of a byte, and after it; without that byte, all and nothing.
+/// Splits a text at the first occurrence of a byte; if there is none, the second part is empty.
 pub fn cut(text: &[u8], byte: u8) -> (&[u8], &[u8])
     ensures { IsCutOff byte text.now result.0.now result.1.now }
 {
