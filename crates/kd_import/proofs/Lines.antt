@@ -1,4 +1,4 @@
--- Lines as cuts at a line feed.
+-- Lines as splits at a line feed.
 use Rattle.std.proofs.Common.{◌≡◌, ℕ, ◌<◌, List, [], ◌∷◌, ◌++◌, ◌⊎◌, inl, inr, refl, sym, ap, ◌∙◌, arith, length, length-append}
 use Rattle.kd_replay.specs.Finding.{HasNo}
 use Rattle.kd_replay.specs.Lines.{lines_of}
@@ -13,7 +13,7 @@ line_last : (text : List ℕ) → 0 < length text → HasNo 10 text → lines_of
 line_last [] some plain = absurd (omega arith)
 line_last (b ∷ text) some plain = lines_last b text plain
 
--- what is cut at a line feed is the first line and the later ones
+-- a split at a line feed gives the first line and the later ones
 pub cut_lines : {text front back : List ℕ} → IsCutOff 10 text front back → 0 < length text → (lines_of text ≡ front ∷ lines_of back) × (length back < length text)
 cut_lines {text} {front} {back} cut some = by cut.parts
   where

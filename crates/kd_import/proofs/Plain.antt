@@ -1,5 +1,5 @@
--- Texts without a byte: the words of a line of a lease that are the same for many have no line feed,
--- and all but the last no space.
+-- Texts without a byte: the words in the line of a lease that come from a fixed set have no line
+-- feed, and all but the last have no space.
 use Rattle.std.proofs.Common.{Bool, true, false, refl}
 use Rattle.std.specs.Prelude.{codes}
 use Rattle.kd_replay.specs.Finding.{HasNo}

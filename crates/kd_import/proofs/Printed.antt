@@ -38,7 +38,7 @@ printed lease = simp append_assoc
 pub body_of_line : (line : List ℕ) (lease : Lease) → IsLeaseLine line lease → line ≡ body lease
 body_of_line line lease is = sym (append_cancel_right (body lease) line (10 ∷ []) (sym (printed lease) ∙ is.printed))
 
--- the bytes before the last are the line, exactly where the line is the lease's
+-- the bytes before the last are the line if and only if the line is that of the lease
 pub prints_is : (lease : Lease) (front line : List ℕ) (last : ℕ) → lease_line lease ≡ front ++ last ∷ [] → lease_line lease ≡ line ++ 10 ∷ [] → front ≡ line
 prints_is lease front line last whole is = (same_from_push front line last 10 (sym whole ∙ is)).0
 
@@ -53,7 +53,7 @@ changed_small row range = let h = range.set_at in omega (arith, h)
 ends_small : (row : Row) → IsInRange row → row.ends < 2 ^ 64
 ends_small row range = let h = range.set_at in let g = range.last in omega (arith, h, g)
 
--- a line cut at its first seven spaces has the words of its lease
+-- a line split at its first seven spaces has the words of its lease
 pub words_are : (words : Words) (line r1 r2 r3 r4 r5 r6 fourth sixth : List ℕ) → IsCutOff 32 line words.address.now r1 → IsCutOff 32 r1 words.state.now r2 → IsCutOff 32 r2 words.client.now r3 → IsCutOff 32 r3 fourth r4
     → IsCutOff 32 r4 words.changed.now r5 → IsCutOff 32 r5 sixth r6 → IsCutOff 32 r6 words.ends.now words.live.now → (lease : Lease) → IsLeaseLine line lease → AreWords words lease
 words_are words line r1 r2 r3 r4 r5 r6 fourth sixth k1 k2 k3 k4 k5 k6 k7 lease is =
@@ -73,7 +73,7 @@ small_changed words lease are = changed_small lease.row are.storable.range
 pub small_ends : (words : Words) (lease : Lease) → AreWords words lease → lease.row.ends < 2 ^ 64
 small_ends words lease are = ends_small lease.row are.storable.range
 
--- no line feed stands in the line of a lease that can be stored
+-- the line of a lease that can be stored contains no line feed
 pub body_plain : (lease : Lease) → IsStorable lease.row → HasNo 10 (body lease)
 body_plain lease is =
     let row = lease.row in

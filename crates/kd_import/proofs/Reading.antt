@@ -1,4 +1,4 @@
--- A text read line by line: what is known of the lines so far.
+-- A text read line by line: what is known about the lines so far.
 use Rattle.std.proofs.Common.{◌≡◌, ℕ, ◌+◌, Bool, true, false, List, [], ◌∷◌, ◌++◌, map, Option, Some, inl, inr, refl, sym, ap, ◌∙◌, arith, append_assoc, length, length-append, is_some, true≢false}
 use Rattle.std.specs.Prelude.{nat_eq, ◌||◌, ◌==◌, if◌then◌else◌}
 use Rattle.std.specs.Cmp.{nat_eq_equiv}
@@ -23,7 +23,7 @@ use Rattle.kd_import.proofs.Zipped.{not_before, zip_head, zip_nil, zip_push, zip
 abbrev pub table_of : List Lease → List Row
 table_of leases = with_rows (map (λ (lease : Lease). lease.row) leases) []
 
--- the lines so far are those of leases, in one way; their table is kept, and their number
+-- the lines so far are those of leases, in only one way; their table and their number are kept
 pub record Read (all rest : List (List ℕ)) (entries : List (ℕ × Row)) (number : ℕ) : Type 0 where
   pub before : List (List ℕ)
   pub leases : List Lease
@@ -71,7 +71,7 @@ had_from (lease ∷ leases) table a =
     had_from leases (with_row lease.row table) a ∙ ap (λ t. list_any (nat_eq a) (lease_addresses leases) || t) (had_row lease.row table a)
     ∙ or_swap (list_any (nat_eq a) (lease_addresses leases)) (nat_eq a lease.row.address) (is_some (row_at table a))
 
--- the table has a row of just the addresses of the leases
+-- the table has a row for exactly the addresses of the leases
 pub had : (leases : List Lease) (a : ℕ) → is_some (row_at (table_of leases) a) ≡ list_any (nat_eq a) (lease_addresses leases)
 had leases a = had_from leases [] a ∙ or_none (list_any (nat_eq a) (lease_addresses leases))
 
@@ -87,7 +87,7 @@ module _ {all : List (List ℕ)} {line : List ℕ} {rest : List (List ℕ)} {ent
       let e : parts.back ≡ lease ∷ [] = cc in
       cc
 
-  -- one line more, of an address that none before has
+  -- one more line, with an address that no earlier line has
   pub read_more : (entries' : List (ℕ × Row)) (number' : ℕ) → is_some (row_at (table_of p.leases) lease.row.address) ≡ false → entries' ≡ by_address (with_row lease.row (table_of p.leases)) → number' ≡ number + 1
       → Read all rest entries' number'
   read_more entries' number' free put next =
@@ -110,7 +110,7 @@ module _ {all : List (List ℕ)} {line : List ℕ} {rest : List (List ℕ)} {ent
   taken_is : is_some (row_at (table_of p.leases) lease.row.address) ≡ true → list_any (nat_eq lease.row.address) (lease_addresses p.leases) ≡ true
   taken_is taken = sym (had p.leases lease.row.address) ∙ taken
 
-  -- a line whose address one before has is bad
+  -- a line whose address is in an earlier line is bad
   pub bad_repeated : (text : List ℕ) (n : ℕ) → all ≡ lines_of text → is_some (row_at (table_of p.leases) lease.row.address) ≡ true → n ≡ number + 1 → IsBadLine text n
   bad_repeated text n of taken next = record {
     before = p.before;
@@ -123,7 +123,7 @@ module _ {all : List (List ℕ)} {line : List ℕ} {rest : List (List ℕ)} {ent
     bad = inr (lease, is, Contains-from_any (λ x y h. eqb-true x y h) lease.row.address (lease_addresses p.leases) (taken_is taken));
   }
 
-  -- and a text with it stands for no table
+  -- and a text with it describes no table
   pub no_table_repeated : (text : List ℕ) (rows : List Row) → all ≡ lines_of text → is_some (row_at (table_of p.leases) lease.row.address) ≡ true → IsTable text rows → ⊥
   no_table_repeated text rows of taken table =
       let are : AllZip IsLeaseLine (p.before ++ line ∷ rest) table.leases = rw (sym p.whole ∙ of) table.lines.each in
@@ -137,7 +137,7 @@ module _ {all : List (List ℕ)} {line : List ℕ} {rest : List (List ℕ)} {ent
       true≢false (sym (taken_is taken) ∙ not_before (lease_addresses p.leases) lease.row.address (lease_addresses last.back) apart)
 
 module _ {all : List (List ℕ)} {line : List ℕ} {rest : List (List ℕ)} {entries : List (ℕ × Row)} {number : ℕ} (p : Read all (line ∷ rest) entries number) (none : IsNoLeaseLine line) where
-  -- a line that is no lease's is bad
+  -- a line that is not that of a lease is bad
   pub bad_none : (text : List ℕ) (n : ℕ) → all ≡ lines_of text → n ≡ number + 1 → IsBadLine text n
   bad_none text n of next = record {
     before = p.before;
@@ -150,7 +150,7 @@ module _ {all : List (List ℕ)} {line : List ℕ} {rest : List (List ℕ)} {ent
     bad = inl none;
   }
 
-  -- and a text with it stands for no table
+  -- and a text with it describes no table
   pub no_table_none : (text : List ℕ) (rows : List Row) → all ≡ lines_of text → IsTable text rows → ⊥
   no_table_none text rows of table =
       let are : AllZip IsLeaseLine (p.before ++ line ∷ rest) table.leases = rw (sym p.whole ∙ of) table.lines.each in
@@ -163,7 +163,7 @@ values_are [] = refl
 values_are (row ∷ rows) = ap (λ r. row ∷ r) (values_are rows)
 
 module _ {all : List (List ℕ)} {entries : List (ℕ × Row)} {number : ℕ} (p : Read all [] entries number) where
-  -- where all lines are read, the table is that of the text
+  -- if all lines are read, the table is that of the text
   pub table_is : (text : List ℕ) (rows : List Row) → all ≡ lines_of text → rows ≡ map (λ (e : ℕ × Row). e.1) entries → IsTable text rows
   table_is text rows of are =
       let whole = sym of ∙ p.whole ∙ append-nil p.before in
@@ -173,7 +173,7 @@ module _ {all : List (List ℕ)} {entries : List (ℕ × Row)} {number : ℕ} (p
         set = are ∙ ap (map (λ (e : ℕ × Row). e.1)) p.kept ∙ values_are (table_of p.leases);
       }
 
-  -- and the text stands for no other
+  -- and the text describes no other
   pub one_table : (text : List ℕ) (rows other : List Row) → all ≡ lines_of text → rows ≡ map (λ (e : ℕ × Row). e.1) entries → IsTable text other → rows ≡ other
   one_table text rows other of are table =
       let whole = sym of ∙ p.whole ∙ append-nil p.before in

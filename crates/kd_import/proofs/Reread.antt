@@ -19,7 +19,7 @@ first_line : (lease : Lease) (rest : List ℕ) → IsStorable lease.row → line
 first_line lease rest is =
     ap (λ t. lines_of (t ++ rest)) (printed lease) ∙ ap lines_of (append_assoc (body lease) (10 ∷ []) rest) ∙ lines_line (body lease) rest (body_plain lease is)
 
--- each line that is printed is that of its lease
+-- each printed line is that of its lease
 lines_are : (now : ℕ) (rows : List Row) → All IsStorable rows → AllZip IsLeaseLine (lines_of (flat_map lease_line (map (lease_of_row now) rows))) (map (lease_of_row now) rows)
 lines_are now [] are = tt
 lines_are now (row ∷ rows) are =
@@ -28,7 +28,7 @@ lines_are now (row ∷ rows) are =
     let rest = lines_are now rows (All-tail IsStorable row rows are) in
     rw (first_line lease (flat_map lease_line (map (lease_of_row now) rows)) is) (record { printed = printed lease; storable = is }, rest)
 
--- rows that rise from above an address have others
+-- ascending rows that begin above an address do not have it
 others : (now a n : ℕ) (rows : List Row) → a < n → RiseFrom n rows → AllByRecursion (λ y. nat_eq a y ≡ false) (lease_addresses (map (lease_of_row now) rows))
 others now a n [] less rise = tt
 others now a n (row ∷ rows) less rise =
@@ -63,7 +63,7 @@ rows_of : (now : ℕ) (rows : List Row) → map (λ (lease : Lease). lease.row) 
 rows_of now [] = refl
 rows_of now (row ∷ rows) = ap (λ r. row ∷ r) (rows_of now rows)
 
--- rows that rise, set one after another, stand behind those below
+-- ascending rows, set one after another, come after those below
 set_rising : (n : ℕ) (rows table : List Row) → Below n table → RiseFrom n rows → with_rows rows table ≡ table ++ rows
 set_rising n [] table below rise = sym (append_nil table)
   where

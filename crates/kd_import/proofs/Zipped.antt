@@ -1,4 +1,4 @@
--- Lists side by side, and keys that differ.
+-- Lists side by side, and distinct keys.
 use Rattle.std.proofs.Common.{◌≡◌, ℕ, Bool, true, false, List, [], ◌∷◌, ◌++◌, refl, sym, ap}
 use Rattle.std.specs.Prelude.{nat_eq, ◌||◌}
 use Rattle.std.specs.List.{AllByRecursion, AllZip, IsDistinct, list_any}
@@ -11,7 +11,7 @@ zip_push R [] (y' ∷ ys) x y all here = absurd all
 zip_push R (x' ∷ xs) [] x y all here = absurd all
 zip_push R (x' ∷ xs) (y' ∷ ys) x y all here = (all.0, zip_push R xs ys x y all.1 here)
 
--- what stands beside two lists one after the other is in two parts
+-- a list beside the concatenation of two lists splits into two parts
 pub record Split {A B : Type 0} (R : A → B → Type 0) (xs more : List A) (ys : List B) : Type 0 where
   pub front : List B
   pub back : List B
@@ -26,7 +26,7 @@ zip_split R (x ∷ xs) more (y ∷ ys) all =
     let rest = zip_split R xs more ys all.1 in
     record { front = y ∷ rest.front; back = rest.back; whole = ap (λ r. y ∷ r) rest.whole; first = (all.0, rest.first); later = rest.later }
 
--- what stands beside a list that is not empty
+-- a list beside a list that is not empty
 pub record Head {A B : Type 0} (R : A → B → Type 0) (x : A) (xs : List A) (ys : List B) : Type 0 where
   pub here : B
   pub back : List B
@@ -53,7 +53,7 @@ neither : (a b : Bool) → a ≡ false → b ≡ false → (a || b) ≡ false
 neither true b h k = absurd (cc)
 neither false b h k = k
 
--- a key of distinct ones is none of those before it
+-- a key among distinct ones is not one of those before it
 pub not_before : (xs : List ℕ) (a : ℕ) (ys : List ℕ) → IsDistinct nat_eq (xs ++ a ∷ ys) → list_any (nat_eq a) xs ≡ false
 not_before [] a ys apart = refl
 not_before (x ∷ xs) a ys apart =

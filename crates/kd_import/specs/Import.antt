@@ -1,4 +1,5 @@
--- Lines of leases, read back: which line is which lease, and which table a text of such lines is.
+-- Lines of leases, read back: which line is which lease, and which table a text of such lines
+-- describes.
 use Rattle.std.specs.Prelude.{◌≡◌, ℕ, ◌+◌, ◌^◌, ◌<◌, List, [], ◌∷◌, ◌++◌, map, length, nat_eq, Contains, ◌⊎◌}
 use Rattle.std.specs.List.{AllZip, IsDistinct}
 use Rattle.hex.specs.Hex.{IsBytes}
@@ -18,8 +19,8 @@ pub record IsStorable (row : Row) : Type 0 where
   pub address : row.address < 2 ^ 32
   pub client : IsBytes row.client
 
--- a line, without its line feed, is what is printed of a lease, whose row can be stored; whether the
--- lease is live is no part of its row
+-- a line, without its line feed, is what is printed for a lease whose row can be stored; whether
+-- the lease is live is not a part of its row
 pub record IsLeaseLine (line : List ℕ) (lease : Lease) : Type 0 where
   pub printed : lease_line lease ≡ line ++ 10 ∷ []
   pub storable : IsStorable lease.row
@@ -28,29 +29,29 @@ pub record IsLeaseLine (line : List ℕ) (lease : Lease) : Type 0 where
 abbrev pub lease_addresses : List Lease → List ℕ
 lease_addresses leases = map (λ lease. lease.row.address) leases
 
--- each line is that of the lease at its place, and no two leases have one address
+-- each line is that of the lease at its place, and no two leases have the same address
 pub record AreLeaseLines (lines : List (List ℕ)) (leases : List Lease) : Type 0 where
   pub each : AllZip IsLeaseLine lines leases
   pub apart : IsDistinct nat_eq (lease_addresses leases)
 
--- a text stands for a table: its lines are those of leases, and the rows of the leases, set one
--- after another, are the table, whatever the order of the lines
+-- a text describes a table: its lines are those of leases, and setting the rows of the leases one
+-- after another gives the table, whatever the order of the lines
 pub record IsTable (text : List ℕ) (rows : List Row) : Type 0 where
   pub leases : List Lease
   pub lines : AreLeaseLines (lines_of text) leases
   pub set : rows ≡ with_rows (map (λ lease. lease.row) leases) []
 
--- a line is no lease's
+-- a line is not that of a lease
 abbrev pub IsNoLeaseLine : List ℕ → Type 0
 IsNoLeaseLine line = (lease : Lease) → ¬ IsLeaseLine line lease
 
--- a line is that of a lease whose address one of these has
+-- a line is that of a lease whose address is among those of other leases
 abbrev pub IsRepeated : List Lease → List ℕ → Type 0
 IsRepeated leases line =
     (lease : Lease) × IsLeaseLine line lease × Contains (lease_addresses leases) lease.row.address
 
--- the line of a number, from 1, is bad: those before it are leases', no two of one address, and it
--- is no lease's, or that of a lease whose address one of those has
+-- the line with this number, counted from 1, is bad: the lines before it are those of leases with
+-- distinct addresses, and it is not that of a lease, or its address is in one of them
 pub record IsBadLine (text : List ℕ) (n : ℕ) : Type 0 where
   pub before : List (List ℕ)
   pub line : List ℕ

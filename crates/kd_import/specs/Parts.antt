@@ -1,4 +1,4 @@
--- Words of private contracts alone: the words of a line, and rows under their addresses.
+-- Helpers of private contracts only: the words of a line, and rows by address.
 use Rattle.std.specs.Prelude.{◌≡◌, ℕ, List, map, decimal}
 use Rattle.kd_replay.specs.Text.{address_text, bytes_text}
 use Rattle.kd_rows.specs.declared.row.Row.{Row}
@@ -17,6 +17,6 @@ pub record AreWords (words : Words) (lease : Lease) : Type 0 where
   pub live : words.live.now ≡ word_of_live lease.live
   pub storable : IsStorable lease.row
 
--- rows, each under its address
+-- rows, each with its address as key
 abbrev pub by_address : List Row → List (ℕ × Row)
 by_address rows = map (λ row. (row.address, row)) rows

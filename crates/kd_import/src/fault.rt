@@ -6,14 +6,14 @@ use std::alloc::AllocError;
 use std::fmt;
 use thiserror::Error;
 
-/// Why a text is not read as a table of leases.
+/// Why a text cannot be read as a table of leases.
 #[derive(Clone, Copy, PartialEq, Eq, Error)]
 pub enum ImportFault {
-    /// A line is no lease's, or its address stands in an earlier line; the number of the line, from
-    /// 1.
+    /// A line is not that of a lease, or its address is in an earlier line; the number of the line,
+    /// counted from 1.
     #[error("BadLine {0}")]
     BadLine(u64),
-    /// Memory ran out.
+    /// Out of memory.
     #[error("Memory")]
     Memory,
 }
@@ -25,7 +25,7 @@ impl fmt::Debug for ImportFault {
 }
 
 impl ImportFault {
-    /// The fault's number, as the program prints it.
+    /// The fault's number, as the program prints it: 97, or 91 for out of memory.
     pub fn number(self) -> u8
         ensures { result ≡ import_fault_number self }
     {

@@ -14,8 +14,8 @@ use kd_words::{address_of_word, bytes_of_word, number_of_word};
 use std::alloc::{AllocError, Global};
 use std::slice;
 
-// The lease of a line, if the line is one's. It is read without looking closely, and then the line
-// is compared with what is printed of it.
+// Returns the lease of a line, if the line is that of a lease. The line is first read without full
+// checks, and then compared with what is printed for the result.
 pub(crate) fn lease_of_line(alloc: Global, line: &[u8]) -> Result<Option<Lease>, AllocError>
     ensures found { IfOk result (λ found. MatchOption found
         ((lease : Lease) → ¬ IsLeaseLine line.now lease) (λ lease. IsLeaseLine line.now lease)) }
@@ -31,7 +31,7 @@ pub(crate) fn lease_of_line(alloc: Global, line: &[u8]) -> Result<Option<Lease>,
     Ok(Some(lease))
 }
 
-// The lease of a line that is one's.
+// Reads the lease of a line, assuming that it is the line of a lease.
 fn lease_in(alloc: Global, line: &[u8]) -> Result<Option<Lease>, AllocError>
     ensures only { (lease : Lease) → IsLeaseLine line.now lease
         → IfOk result (λ found. found ≡ Some lease) }
@@ -44,7 +44,7 @@ fn lease_in(alloc: Global, line: &[u8]) -> Result<Option<Lease>, AllocError>
     Ok(lease_with(words, client))
 }
 
-// The lease of a client with these words.
+// Returns the lease of a client with these words.
 fn lease_with(words: Words<'_>, client: Bytes) -> Option<Lease>
     ensures only { (lease : Lease) → AreWords words.entry lease → client ≡ lease.row.client
         → result ≡ Some lease }
@@ -63,7 +63,7 @@ fn lease_with(words: Words<'_>, client: Bytes) -> Option<Lease>
     })
 }
 
-// Whether a line, with a line feed, is what is printed of a lease.
+// Reports whether a line, with a line feed, is what is printed for a lease.
 fn prints(alloc: Global, lease: &Lease, line: &[u8]) -> Result<bool, AllocError>
     ensures { IfOk result (λ same. IsTrue same ↔ (lease_line lease.now ≡ line.now ++ 10 ∷ [])) }
 {

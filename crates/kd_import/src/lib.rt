@@ -1,9 +1,9 @@
-//! The lines that `kdhcp leases` prints, read back into the table of leases that they stand for.
+//! Reads the lines that `kdhcp leases` prints back into the table of leases that they describe.
 //!
-//! What this layer promises to the one above: a text is read as a table only where each of its
-//! lines is, byte for byte, what is printed of a lease that can be stored, no two of one address
-//! (`specs/Import.antt`); any other text is refused at its first bad line. What is printed of a
-//! table is read as that table (`specs/Laws.antt`).
+//! What this layer promises to the one above: a text is read as a table only if each of its lines
+//! is, byte for byte, what is printed for a lease that can be stored, and no two of them have the
+//! same address (`specs/Import.antt`). Any other text is refused at its first bad line. What is
+//! printed for a table is read back as that table (`specs/Laws.antt`).
 #![tactic(auto)]
 
 mod fault;

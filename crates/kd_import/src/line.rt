@@ -3,7 +3,8 @@ ghost use Rattle.kd_replay.specs.Lines.{lines_of};
 
 use kd_words::cut;
 
-// The first line of a text, without its line feed, and what follows it.
+// Returns the first line of a text, without its line feed, and the text after it; none if the text
+// is empty.
 pub(crate) fn next_line(text: &[u8]) -> Option<(&[u8], &[u8])>
     ensures { MatchOption result (text.now ≡ [])
         (λ parts. (lines_of text.now ≡ parts.0.now ∷ lines_of parts.1.now)

@@ -4,7 +4,7 @@ ghost use Rattle.kd_server.specs.Leases.{word_of_live, word_of_state};
 
 use kd_rows::State;
 
-// The state of a text that is the word for one.
+// Returns the state that a word stands for.
 pub(crate) fn state_in(word: &[u8]) -> Option<State>
     ensures { (state : State) → word.now ≡ word_of_state state → result ≡ Some state }
 {
@@ -17,7 +17,7 @@ pub(crate) fn state_in(word: &[u8]) -> Option<State>
     }
 }
 
-// Whether a text is the word for what is live.
+// Reports whether a word is the one for a lease that is live.
 pub(crate) fn is_live(word: &[u8]) -> bool
     ensures { (live : Bool) → word.now ≡ word_of_live live → result ≡ live }
 {

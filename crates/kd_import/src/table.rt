@@ -14,13 +14,13 @@ use kd_rows::Row;
 use std::alloc::{AllocError, Global};
 use std::collections::BTreeMap;
 
-/// The rows of the leases whose lines a text has, in rising address. Whether a lease is live is
-/// read and not believed.
+/// Returns the rows of the leases in the lines of a text, in ascending order of address. Whether a
+/// lease is live is read but ignored.
 ///
 /// # Errors
 ///
-/// A line is no lease's, or its address stands in an earlier line: the first such line; or there is
-/// no memory for the rows.
+/// `BadLine` for the first line that is not that of a lease, or whose address is in an earlier
+/// line; `Memory` if there is not enough memory for the rows.
 pub fn leases_in(alloc: Global, text: &[u8]) -> Result<Vec<Row>, ImportFault>
     ensures found { IfOk result (λ rows. IsTable text.now rows.items) }
     ensures rise { IfOk result (λ rows. Rise rows.items) }
@@ -45,7 +45,7 @@ pub fn leases_in(alloc: Global, text: &[u8]) -> Result<Vec<Row>, ImportFault>
     Ok(rows_of(alloc, table)?)
 }
 
-// Puts a row into a table, and says whether there was one of its address.
+// Inserts a row into a table, and reports whether there already was one for its address.
 fn put_row(table: &mut BTreeMap<u32, Row>, row: Row) -> Result<bool, AllocError>
     ensures { (rows : List Row) → table.old.entries ≡ by_address rows → IfOk result (λ had.
         (table.new.entries ≡ by_address (with_row row rows))
@@ -54,7 +54,7 @@ fn put_row(table: &mut BTreeMap<u32, Row>, row: Row) -> Result<bool, AllocError>
     Ok(table.insert(row.address, row)?.is_some())
 }
 
-// The rows of a table.
+// Returns the rows of a table.
 fn rows_of(alloc: Global, table: BTreeMap<u32, Row>) -> Result<Vec<Row>, AllocError>
     ensures { IfOk result (λ rows. rows.items ≡ values table) }
 {

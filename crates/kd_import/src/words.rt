@@ -4,7 +4,7 @@ ghost use Rattle.kd_import.specs.Parts.{AreWords};
 
 use kd_words::cut;
 
-// The words of a line, but for the fourth and the sixth, which are the same in each lease's.
+// The words of a line, without the fourth and the sixth, which are the same for every lease.
 #[derive(Clone, Copy)]
 pub(crate) struct Words<'a> {
     pub(crate) address: &'a [u8],
@@ -15,7 +15,7 @@ pub(crate) struct Words<'a> {
     pub(crate) live: &'a [u8],
 }
 
-// The words of a line, cut at its first seven spaces.
+// Splits a line at its first seven spaces.
 pub(crate) fn words_of(line: &[u8]) -> Words<'_>
     ensures { (lease : Lease) → IsLeaseLine line.now lease → AreWords result lease }
 {
