@@ -1,4 +1,4 @@
--- What is written of events, cut into lines.
+-- What is written for events, split into lines.
 use Rattle.std.proofs.Common.{◌≡◌, ℕ, rules, Bool, true, false, List, [], ◌∷◌, ◌++◌, ap, ◌∙◌, append_assoc, inl, inr}
 use Rattle.std.specs.List.{AllByRecursion, flat_map}
 use Rattle.std.proofs.lemmas.List.Elements.{All-head, All-tail}
@@ -24,7 +24,7 @@ logs_are_read (handled ∷ list) are =
     let rest = logs_are_read list (All-tail IsWritable handled list are) in
     rw (first_line handled (flat_map line_of list) is) (record { written = written handled; writable = is }, rest)
 
--- behind the line of a datagram stands nothing, or a remark
+-- after the line of a datagram there is nothing, or a remark
 behind_is_read : (sent : Bool) (response : Response) (rest : List ℕ) → AllByRecursion IsLogLine (lines_of rest) → AllByRecursion IsLogLine (lines_of (behind_line sent response ++ rest))
 behind_is_read true response rest are = are
 behind_is_read false (responses.Quiet reason) rest are = are

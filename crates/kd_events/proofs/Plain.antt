@@ -1,5 +1,5 @@
--- Texts without a byte: those that the line of an event is made of have no line feed, and its first
--- words no space.
+-- Texts without a byte: the parts of an event's line have no line feed, and its first words have no
+-- space.
 use Rattle.std.proofs.Common.{◌^◌, ◌<◌, ◌∷◌, ◌++◌, refl, arith}
 use Rattle.std.specs.Prelude.{codes, decimal}
 use Rattle.kd_event.specs.Reason.{reason_name, reason_number}

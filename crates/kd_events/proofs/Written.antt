@@ -17,7 +17,7 @@ use Rattle.kd_events.specs.Parts.{AreLineWords, after_mode, after_third, second_
 use Rattle.kd_events.specs.declared.words.Words.{Words}
 use Rattle.kd_events.proofs.Plain.{rest_plain, second_plain, second_spaceless, third_plain, third_spaceless}
 
--- what follows the moment
+-- what follows the time
 abbrev behind : Response → List ℕ
 behind response = second_word response ++ 32 ∷ (third_word response ++ 32 ∷ after_third response)
 
@@ -36,7 +36,7 @@ written handled = text_of (decimal handled.now) handled.response
 body_of_line : (line : List ℕ) (handled : Handled) → IsHandledLine line handled → line ≡ body handled
 body_of_line line handled is = sym (append_cancel_right (body handled) line (10 ∷ []) (sym (written handled) ∙ is.written))
 
--- the bytes before the last are the line, exactly where the line is that of the event
+-- the bytes before the last are the line if and only if the line is that of the event
 pub written_is : (handled : Handled) (front line : List ℕ) (last : ℕ) → line_of handled ≡ front ++ last ∷ [] → line_of handled ≡ line ++ 10 ∷ [] → front ≡ line
 written_is handled front line last whole is = (same_from_push front line last 10 (sym whole ∙ is)).0
 
@@ -45,7 +45,7 @@ written_if handled front line last whole same =
     let ends = (same_from_push front (body handled) last 10 (sym whole ∙ written handled)).1 in
     whole ∙ ap (λ t. t ++ last ∷ []) same ∙ ap (λ b. line ++ b ∷ []) ends
 
--- a line cut at its first three spaces has the words of its event
+-- a line split at its first three spaces has the words of its event
 pub words_are : (words : Words) (line r1 r2 : List ℕ) → IsCutOff 32 line words.moment.now r1 → IsCutOff 32 r1 words.second.now r2 → IsCutOff 32 r2 words.third.now words.rest.now
     → (handled : Handled) → IsHandledLine line handled → AreLineWords words handled
 words_are words line r1 r2 k1 k2 k3 handled is =
@@ -55,7 +55,7 @@ words_are words line r1 r2 k1 k2 k3 handled is =
     let p3 = cut_is k3 (third_word response) (after_third response) (third_spaceless response) p2.1 in
     record { moment = p1.0; second = p2.0; third = p3.0; rest = p3.1; writable = is.writable }
 
--- what follows the mode of a reply, cut at its colon and at its space, is address, port and bytes
+-- what follows the mode of a reply, split at its colon and at its space, is address, port and bytes
 pub parts_are : {rest address more port hex : List ℕ} → IsCutOff 58 rest address more → IsCutOff 32 more port hex → (destination : Destination) (bytes : List ℕ)
     → destination.address < 2 ^ 32 → destination.port < 2 ^ 16 → rest ≡ after_mode destination bytes → (address ≡ address_text destination.address) × (port ≡ decimal destination.port) × (hex ≡ bytes_text bytes)
 parts_are k1 k2 destination bytes low small is =
@@ -63,7 +63,7 @@ parts_are k1 k2 destination bytes low small is =
     let p2 = cut_is k2 (decimal destination.port) (bytes_text bytes) (decimal_plain 32 destination.port space_is_none (omega arith)) p1.1 in
     (p1.0, p2.0, p2.1)
 
--- no line feed stands in the line of an event
+-- the line of an event contains no line feed
 pub body_plain : (handled : Handled) → IsWritable handled → HasNo 10 (body handled)
 body_plain handled is =
     let response = handled.response in

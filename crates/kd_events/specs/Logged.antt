@@ -1,4 +1,4 @@
--- The lines of a log: which line is what a server writes of which event, and which are remarks.
+-- The lines of a log: which line is what a server writes for which event, and which are remarks.
 use Rattle.std.specs.Prelude.{◌≡◌, ℕ, ◌^◌, ◌<◌, ◌||◌, Bool, List, [], ◌∷◌, ◌++◌, codes, nat_eq}
 use Rattle.std.specs.List.{starts_with}
 use Rattle.hex.specs.Hex.{IsBytes}
@@ -14,14 +14,14 @@ abbrev pub HasBytes : Response → Type 0
 HasBytes (responses.Reply destination bytes) = IsBytes bytes
 HasBytes (responses.Quiet reason) = Unit {0}
 
--- what a server can have done with an event: its moment fits 64 bits, and a reply is at most 1,472
--- bytes, for an address and a port
+-- what a server can have done with an event: its time fits 64 bits, and a reply has at most 1,472
+-- bytes and goes to an address and a port
 pub record IsWritable (handled : Handled) : Type 0 where
   pub moment : handled.now < 2 ^ 64
   pub small : IsSmall handled.response
   pub bytes : HasBytes handled.response
 
--- a line, without its line feed, is what a server writes of a handled event
+-- a line, without its line feed, is what a server writes for a handled event
 pub record IsHandledLine (line : List ℕ) (handled : Handled) : Type 0 where
   pub written : line_of handled ≡ line ++ 10 ∷ []
   pub writable : IsWritable handled
@@ -37,8 +37,8 @@ IsQuietLine line =
     (moment : ℕ) × (reason : Reason)
     × IsHandledLine line (record { now = moment; response = responses.Quiet reason })
 
--- a remark, which `serve` writes beside the lines of events: that a reply could not be sent, and
--- what is served
+-- a remark: a line that begins with `fault ` or `serving `. `serve` writes such lines beside those
+-- of events, to say that a reply could not be sent, or what is served
 abbrev pub is_remark : List ℕ → Bool
 is_remark line =
     starts_with nat_eq line (codes "fault ") || starts_with nat_eq line (codes "serving ")

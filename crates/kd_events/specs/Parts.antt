@@ -1,4 +1,4 @@
--- Words of private contracts alone: the words of a line.
+-- Helpers of private contracts only: the words of a line.
 use Rattle.std.specs.Prelude.{◌≡◌, ℕ, List, ◌∷◌, ◌++◌, codes, decimal}
 use Rattle.kd_event.specs.Reason.{reason_name, reason_number}
 use Rattle.kd_event.specs.declared.destination.Destination.{Destination}
@@ -19,12 +19,12 @@ abbrev pub third_word : Response → List ℕ
 third_word (responses.Reply destination bytes) = mode_word destination.mode
 third_word (responses.Quiet reason) = decimal (reason_number reason)
 
--- what follows the third word of a reply's line
+-- the text after the third word of a reply's line
 abbrev pub after_mode : Destination → List ℕ → List ℕ
 after_mode destination bytes =
     address_text destination.address ++ 58 ∷ (decimal destination.port ++ 32 ∷ bytes_text bytes)
 
--- what follows the third word of a line
+-- the text after the third word of a line
 abbrev pub after_third : Response → List ℕ
 after_third (responses.Reply destination bytes) = after_mode destination bytes
 after_third (responses.Quiet reason) = reason_name reason

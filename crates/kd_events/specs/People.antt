@@ -1,4 +1,4 @@
--- The text of a reply for people: one line of words, with one space between them.
+-- The human-readable text of a reply: one line of words, with one space between them.
 use Rattle.std.specs.Prelude.{◌≡◌, ℕ, ◌*◌, ◌<◌, ◌≤◌, ◌==◌, ◌⊎◌, List, [], ◌∷◌, ◌++◌, Option, None, Some, codes, decimal, if◌then◌else◌, nat_eq, pos}
 use Rattle.std.specs.List.{flat_map}
 use Rattle.std.specs.Map.{lookup}
@@ -13,22 +13,23 @@ use Rattle.kd_options.specs.declared.kind.MessageType.{MessageType}
 use Rattle.kd_options.specs.declared.kind.MessageType.TheVariants as types
 use Rattle.kd_replay.specs.Text.{address_text, bytes_text}
 
--- the last moment that has a date and time: 9999-12-30T22:00:00Z
+-- the last time that has a date and time of day: 9999-12-30T22:00:00Z
 abbrev pub last_dated : ℕ
 last_dated = 253402207200
 
--- a moment as date and time in UTC (RFC 3339), as `2026-11-26T14:03:07Z`
+-- a time as date and time of day in UTC (RFC 3339), for example `2026-11-26T14:03:07Z`
 pub record IsDateTimeText (moment : ℕ) (text : List ℕ) : Type 0 where
   pub early : moment ≤ last_dated
   pub clock : DateTime
   pub at : civil_nanos clock ≡ pos (moment * 1000000000)
   pub text_is : text ≡ iso_datetime_text clock ++ codes "Z"
 
--- a moment: its date and time, or its seconds in decimal where it is later than the last
+-- a time: its date and time of day, or its seconds in decimal if it is later than the last dated
+-- one
 abbrev pub IsTimeText : ℕ → List ℕ → Type 0
 IsTimeText moment text = IsDateTimeText moment text ⊎ ((last_dated < moment) × (text ≡ decimal moment))
 
--- the name of a type of message (RFC 2131 section 2, without DHCP in front)
+-- the name of a message type (RFC 2131 section 2, without the prefix DHCP)
 abbrev pub type_word : MessageType → List ℕ
 type_word types.Discover = codes "DISCOVER"
 type_word types.Offer = codes "OFFER"
@@ -39,30 +40,31 @@ type_word types.Nak = codes "NAK"
 type_word types.Release = codes "RELEASE"
 type_word types.Inform = codes "INFORM"
 
--- a byte of a hardware address, behind the one before
+-- a byte of a hardware address, after the one before it
 abbrev pub colon_byte : ℕ → List ℕ
 colon_byte byte = codes ":" ++ encode_lower (byte ∷ [])
 
--- a hardware address: its bytes in hexadecimal, with colons between them; no bytes are a dash
+-- a hardware address: its bytes in hexadecimal with colons between them; a dash if there are none
 abbrev pub mac_text : List ℕ → List ℕ
 mac_text [] = codes "-"
 mac_text (byte ∷ bytes) = encode_lower (byte ∷ []) ++ flat_map colon_byte bytes
 
--- an address; 0.0.0.0 is a dash
+-- an address; a dash for 0.0.0.0
 abbrev pub address_or_dash : ℕ → List ℕ
 address_or_dash a = if a == 0 then codes "-" else address_text a
 
--- a value in hexadecimal; an absent or empty one is a dash
+-- a value in hexadecimal; a dash if it is absent or empty
 abbrev pub value_text : Option (List ℕ) → List ℕ
 value_text None = codes "-"
 value_text (Some value) = bytes_text value
 
--- a sub-option of relay information: 1 is the circuit, 2 the remote end (RFC 3046 section 2)
+-- a sub-option of the relay agent information: 1 is the circuit ID, 2 the remote ID (RFC 3046
+-- section 2)
 abbrev pub relay_word : ℕ → Seen → List ℕ
 relay_word code m = value_text (lookup (nat_eq code) (relay_list m.options))
 
--- what follows the type of a reply: the hardware address, the address that it gives, the client
--- identifier (option 61), the relay, and two sub-options of its information
+-- what follows the type of a reply: the hardware address, the address that it assigns, the client
+-- identifier (option 61), the relay, and two sub-options of the relay agent information
 abbrev pub reply_words : Seen → List ℕ
 reply_words m =
     (codes " " ++ mac_text (mac_of m.header)) ++ (codes " " ++ address_or_dash m.header.yiaddr)
@@ -70,7 +72,7 @@ reply_words m =
     ++ (codes " relay " ++ address_or_dash m.header.giaddr)
     ++ (codes " circuit " ++ relay_word 1 m) ++ (codes " remote " ++ relay_word 2 m)
 
--- the line of a reply for people, with its line feed
+-- the human-readable line of a reply, with its line feed
 pub record IsPeopleLine (moment : ℕ) (m : Seen) (text : List ℕ) : Type 0 where
   pub time : List ℕ
   pub kind : MessageType

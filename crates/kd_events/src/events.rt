@@ -19,14 +19,15 @@ impl Filters for Filter {
     }
 }
 
-/// Writes the replies of a log that are asked for, a line each for people, up to the first line
-/// that is bad, and returns how many lines the log has.
+/// Prints the selected replies of a log as human-readable lines, one for each, up to the first bad
+/// line, and returns the number of lines of the log.
 ///
 /// # Errors
 ///
-/// `BadLine` at the first line that is bad, counted from 1: one that is neither what a server
-/// writes of an event nor a remark, or that has more than 131,072 bytes; `Read` where the source
-/// fails; `Write` where the sink fails; `Memory`. What is printed for the lines before is written.
+/// `BadLine` at the first bad line, counted from 1: a line that is neither what a server writes for
+/// an event, with a reply that reads as a message if it has one, nor a remark, or that has more
+/// than 131,072 bytes; `Read` if the source fails; `Write` if the sink fails; `Memory`. What is
+/// printed for the lines before is written.
 pub fn events_with<R: Source, W: Sink>(
     alloc: Global,
     source: &mut R,

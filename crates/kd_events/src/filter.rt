@@ -4,17 +4,17 @@ ghost use Rattle.kd_events.specs.Printed.{IsAskedFor};
 use kd_options::Message;
 use kd_wire::Bytes;
 
-/// Which replies are printed: those that have all that is set here.
+/// Selects the replies that are printed: those that match all that is set here.
 #[derive(Drop)]
 pub struct Filter {
-    /// Just this hardware address: the first `hlen` bytes of `chaddr`, at most 16.
+    /// Exactly this hardware address: the first `hlen` bytes of `chaddr`, at most 16.
     pub mac: Option<Bytes>,
-    /// This address given, `yiaddr`, as a number in host order.
+    /// This assigned address, `yiaddr`, as a number in host order.
     pub address: Option<u32>,
 }
 
 impl Filter {
-    // Whether a message is asked for.
+    // Reports whether a message is selected.
     pub(crate) fn is_for(&self, message: &Message<'_>) -> bool
         ensures { IsTrue result ↔ IsAskedFor self.now message.now }
     {

@@ -20,8 +20,8 @@ use std::alloc::{AllocError, Global};
 // The most bytes that a reply has.
 const LONGEST_REPLY: usize = 1472;
 
-// The handled event of a line, if the line is one's. It is read without looking closely, and then
-// the line is compared with what is written of it.
+// Returns the handled event of a line, if the line is that of one. The line is first read without
+// full checks, and then compared with what is written for the result.
 pub(crate) fn handled_of_line(alloc: Global, line: &[u8]) -> Result<Option<Handled>, AllocError>
     ensures found { IfOk result (λ found. MatchOption found
         ((handled : Handled) → ¬ IsHandledLine line.now handled)
@@ -38,7 +38,7 @@ pub(crate) fn handled_of_line(alloc: Global, line: &[u8]) -> Result<Option<Handl
     Ok(Some(handled))
 }
 
-// The handled event with these words.
+// Returns the handled event with these words.
 fn handled_with(alloc: Global, words: Words<'_>) -> Result<Option<Handled>, AllocError>
     ensures only { (handled : Handled) → AreLineWords words.entry handled
         → IfOk result (λ found. found ≡ Some handled) }
@@ -54,7 +54,7 @@ fn handled_with(alloc: Global, words: Words<'_>) -> Result<Option<Handled>, Allo
     Ok(Some(Handled { now, response }))
 }
 
-// The response with these words.
+// Returns the response with these words.
 fn response_with(alloc: Global, words: Words<'_>) -> Result<Option<Response>, AllocError>
     ensures only { (handled : Handled) → AreLineWords words.entry handled
         → IfOk result (λ found. found ≡ Some handled.response) }
@@ -67,7 +67,7 @@ fn response_with(alloc: Global, words: Words<'_>) -> Result<Option<Response>, Al
     }
 }
 
-// The reply that is sent in a mode, with these words after it.
+// Returns the reply that is sent in a mode, with these words after the mode.
 fn reply_with(alloc: Global, mode: &[u8], rest: &[u8]) -> Result<Option<Response>, AllocError>
     ensures only { (destination : Destination) (bytes : List ℕ)
         → IsSmall (responses.Reply destination bytes) → IsBytes bytes
@@ -99,7 +99,7 @@ fn destination_of_words(mode: &[u8], address: &[u8], port: &[u8]) -> Option<Dest
     })
 }
 
-// The mode of a text that is the word for one.
+// Returns the mode that a word stands for.
 fn mode_of_word(word: &[u8]) -> Option<Mode>
     ensures { (mode : Mode) → word.now ≡ mode_word mode → result ≡ Some mode }
 {
@@ -112,7 +112,7 @@ fn mode_of_word(word: &[u8]) -> Option<Mode>
     }
 }
 
-// The response without a reply whose reason has this name.
+// Returns the response without a reply, for the reason with this name.
 fn quiet_with(name: &[u8]) -> Option<Response>
     ensures only { (reason : Reason) → name.now ≡ reason_name reason
         → result ≡ Some (responses.Quiet reason) }
@@ -121,7 +121,7 @@ fn quiet_with(name: &[u8]) -> Option<Response>
     Some(Response::Quiet(reason_of_name(name)?))
 }
 
-// The reason of a text that is the name of one.
+// Returns the reason with this name.
 fn reason_of_name(name: &[u8]) -> Option<Reason>
     ensures { (reason : Reason) → name.now ≡ reason_name reason → result ≡ Some reason }
 {
@@ -144,7 +144,7 @@ fn reason_of_name(name: &[u8]) -> Option<Reason>
     }
 }
 
-// Whether a reply has no more bytes than a server sends.
+// Reports whether a reply has no more bytes than a server sends.
 fn is_small(response: &Response) -> bool
     ensures { IsTrue result ↔ IsSmall response.now }
 {
@@ -158,7 +158,7 @@ fn is_small(response: &Response) -> bool
     }
 }
 
-// Whether a line, with a line feed, is what is written of a handled event.
+// Reports whether a line, with a line feed, is what is written for a handled event.
 fn is_written(alloc: Global, handled: &Handled, line: &[u8]) -> Result<bool, AllocError>
     requires { IsSmall handled.now.response }
     ensures { IfOk result (λ same. IsTrue same ↔ (line_of handled.entry.now ≡ line.now ++ 10 ∷ [])) }

@@ -1,9 +1,9 @@
-//! The replies of a log, a line each for people.
+//! Prints the replies of a log as human-readable lines, one for each.
 //!
-//! What this layer promises to the one above: a line of a log is read only where it is, byte for
-//! byte, what a server writes of an event (`specs/Logged.antt`); what is printed for it is said in
-//! `specs/Printed.antt`, and the text of a reply in `specs/People.antt`. What `kdhcp serve` writes
-//! beside the lines of events is passed over, and any other line is bad.
+//! What this layer promises to the one above: a line of a log is read only if it is, byte for byte,
+//! what a server writes for an event (`specs/Logged.antt`). What is printed for it is defined in
+//! `specs/Printed.antt`, and the text of a reply in `specs/People.antt`. The lines that
+//! `kdhcp serve` writes beside those of events are skipped, and any other line is bad.
 #![tactic(auto)]
 
 mod events;

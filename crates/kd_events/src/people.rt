@@ -15,7 +15,7 @@ const RELAY_CIRCUIT: u8 = 1;
 
 const RELAY_REMOTE: u8 = 2;
 
-// The line of a reply for people, with its line feed.
+// Returns the human-readable line of a reply, with its line feed.
 pub(crate) fn people_line(
     alloc: Global,
     moment: u64,
@@ -53,7 +53,7 @@ fn type_name(kind: MessageType) -> &'static str
     }
 }
 
-// What follows the type of a reply.
+// Appends what follows the type of a reply.
 fn put_reply(alloc: Global, out: &mut String, message: &Message<'_>) -> Result<(), AllocError>
     ensures { OnOk result (string_bytes out.new ≡ string_bytes out.old ++ reply_words message.now) }
 {
@@ -71,7 +71,7 @@ fn put_reply(alloc: Global, out: &mut String, message: &Message<'_>) -> Result<(
     put_value(alloc, out, " remote ", message.relay(RELAY_REMOTE))
 }
 
-// A space and a hardware address.
+// Appends a space and a hardware address.
 fn put_mac(alloc: Global, out: &mut String, mac: &[u8]) -> Result<(), AllocError>
     ensures { OnOk result
         (string_bytes out.new ≡ string_bytes out.old ++ (codes " " ++ mac_text mac.now)) }
@@ -86,7 +86,7 @@ fn put_mac(alloc: Global, out: &mut String, mac: &[u8]) -> Result<(), AllocError
     }
 }
 
-// The bytes of a hardware address behind its first.
+// Appends the bytes of a hardware address after the first.
 fn put_bytes_behind(alloc: Global, out: &mut String, bytes: &[u8]) -> Result<(), AllocError>
     ensures { OnOk result
         (string_bytes out.new ≡ string_bytes out.old ++ flat_map colon_byte bytes.now) }
@@ -106,7 +106,7 @@ fn put_byte(alloc: Global, out: &mut String, byte: u8) -> Result<(), AllocError>
     out.push_str(text.as_str())
 }
 
-// A word, and a value in hexadecimal.
+// Appends a word, and a value in hexadecimal or a dash.
 fn put_value(
     alloc: Global,
     out: &mut String,
@@ -123,7 +123,7 @@ fn put_value(
     }
 }
 
-// A word, and an address in decimal.
+// Appends a word, and an address in dotted decimal or a dash.
 fn put_address_word(out: &mut String, word: &str, address: u32) -> Result<(), AllocError>
     ensures { OnOk result
         (string_bytes out.new ≡ string_bytes out.old ++ (word.now ++ address_or_dash address)) }

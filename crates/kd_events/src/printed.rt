@@ -10,13 +10,13 @@ use kd_event::Response;
 use kd_options::{Message, ReadFault};
 use std::alloc::{AllocError, Global};
 
-/// What is printed for a line of a log, which stands without its line feed: for a reply that is
-/// asked for, a line for people; for any other event, and for a remark of `serve`, an empty text;
-/// `None` for a line that is bad.
+/// Returns what is printed for a line of a log, given without its line feed: for a selected reply,
+/// a human-readable line; for any other event, and for a remark of `serve`, an empty text; and
+/// `None` for a bad line.
 ///
 /// # Errors
 ///
-/// There is no memory for it.
+/// Out of memory.
 pub fn text_of_line(
     alloc: Global,
     line: &[u8],
@@ -38,14 +38,14 @@ pub fn text_of_line(
     }
 }
 
-// Whether a line is a remark.
+// Reports whether a line is a remark.
 fn is_a_remark(line: &[u8]) -> bool
     ensures { result ≡ is_remark line.now }
 {
     line.starts_with(b"fault ") || line.starts_with(b"serving ")
 }
 
-// What is printed for a reply with these bytes, if they read as a message.
+// Returns what is printed for a reply with these bytes, if they read as a message.
 fn message_text(
     alloc: Global,
     moment: u64,

@@ -7,10 +7,11 @@ use jiff::civil::DateTime;
 use jiff::tz::Offset;
 use std::alloc::{AllocError, Global};
 
-// The last moment that has a date and time.
+// The last time that has a date and time of day: 9999-12-30T22:00:00Z.
 const LAST_DATED: u64 = 253_402_207_200;
 
-// A moment as date and time in UTC, or its seconds in decimal where it is later than the last.
+// Returns a time as date and time of day in UTC, or as its seconds in decimal if it is later than
+// the last dated one.
 pub(crate) fn time_text(alloc: Global, moment: u64) -> Result<String, AllocError>
     ensures { IfOk result (λ text. IsTimeText moment (string_bytes text)) }
 {
@@ -20,7 +21,7 @@ pub(crate) fn time_text(alloc: Global, moment: u64) -> Result<String, AllocError
     }
 }
 
-// What a clock at UTC shows at a moment.
+// Returns what a UTC clock shows at a time, if the time is not later than the last dated one.
 fn clock_at(moment: u64) -> Option<DateTime>
     ensures { MatchOption result (last_dated < moment) (λ clock.
         (moment ≤ last_dated) × (civil_nanos clock ≡ pos (moment * 1000000000))) }

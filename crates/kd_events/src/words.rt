@@ -4,7 +4,7 @@ ghost use Rattle.kd_events.specs.Parts.{AreLineWords};
 
 use kd_words::cut;
 
-// The first three words of a line, and what follows them.
+// The first three words of a line, and the text after them.
 #[derive(Clone, Copy)]
 pub(crate) struct Words<'a> {
     pub(crate) moment: &'a [u8],
@@ -13,7 +13,7 @@ pub(crate) struct Words<'a> {
     pub(crate) rest: &'a [u8],
 }
 
-// The words of a line, cut at its first three spaces.
+// Splits a line at its first three spaces.
 pub(crate) fn words_of(line: &[u8]) -> Words<'_>
     ensures { (handled : Handled) → IsHandledLine line.now handled → AreLineWords result handled }
 {
