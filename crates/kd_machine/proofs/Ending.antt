@@ -116,7 +116,7 @@ finishes p message held i n s d l run e =
       by None r le = absurd r
       by (Some v) r le = (v.0, n, d, l, r, le, run.depth, run.bound)
 
--- a run with at most `fuel` places before it ends
+-- a run ends if it has at most `fuel` places left
 ends_from : (fuel : ℕ) (p : Code) (message : Seen) (held : List (List ℕ)) (i n : ℕ) (s : List Val) (d l : ℕ) → TokensStandIn p → HasSizes message → length p.tokens ≤ i + fuel → IsRunning p message held i n s d l → EndsWithin p message held
 ends_from zero p message held i n s d l stand sizes le run =
     let place = run.stands.place in

@@ -18,7 +18,7 @@ same a b = pointwise nat_eq a b
 abbrev pub is_held : List ℕ → List (List ℕ) → Bool
 is_held name held = list_any (same name) held
 
--- a value, or the empty string where there is none
+-- a value, or the empty string if there is none
 abbrev pub or_empty : Option (List ℕ) → List ℕ
 or_empty None = []
 or_empty (Some value) = value
