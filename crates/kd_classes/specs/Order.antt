@@ -58,7 +58,7 @@ IsFaultOf i earlier def (faults.UnknownMember at) =
     × (list_all (known_after earlier) (asked def) ≡ false)
 IsFaultOf i earlier def faults.TooMany = ⊥
 
--- a fault of definition i, where those before it are in order
+-- a fault of definition i, given that those before it are in order
 pub record IsClassFault (defs : List ClassDef) (i : ℕ) (fault : ClassFault) : Type 0 where
   pub def : ClassDef
   pub at : slice_get defs i ≡ Some def
