@@ -22,7 +22,7 @@ impl Range {
     }
 }
 
-// Returns the range from the first to the last address, if it is neither empty nor too long.
+// Returns the range from the first to the last address, if it has 1 to 65,536 addresses.
 fn between(first: u32, last: u32) -> Option<Range>
     ensures { result ≡ range_from first last }
 {
