@@ -54,7 +54,8 @@ abbrev pub IsJsonReport : List ℕ → List ℕ → Option Data → List ℕ →
 IsJsonReport name text None report = IsUnreadReport name text report
 IsJsonReport name text (Some value) report = report ≡ bare_line name (codes "not a configuration")
 
--- a text, of which at most 64 bytes are shown, cut at the end of a character
+-- a text, cut at the end of a character and followed by ` ..` if it has more than 64 bytes, so that
+-- at most 64 bytes of it are shown
 abbrev pub cut_text : List ℕ → List ℕ
 cut_text text =
     if nat_le (length text) 64 then text

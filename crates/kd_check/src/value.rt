@@ -57,7 +57,7 @@ fn put_value(alloc: Global, line: &mut String, value: &Value) -> Result<(), Allo
     put_cut(line, json.as_str())
 }
 
-// Appends a text; at most 64 bytes of it are shown.
+// Appends a text; if it has more than 64 bytes, only the characters within the first 64, and ` ..`.
 fn put_cut(line: &mut String, text: &str) -> Result<(), AllocError>
     ensures { OnOk result (string_bytes line.new ≡ string_bytes line.old ++ cut_text text.now) }
 {
