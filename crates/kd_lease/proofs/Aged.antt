@@ -215,7 +215,7 @@ one_row rows a row r at there h g = sym (address_at rows a row at) ∙ same row.
   same : (m n x y : ℕ) → (nat_lt n m || ((m == n) && nat_lt x y)) ≡ false → (nat_lt m n || ((n == m) && nat_lt y x)) ≡ false → x ≡ y
   same m n x y h g = grind (arith, nat_tests)
 
--- a row of that age order comes after another, or not
+-- an aged row comes after another row that is newer
 after_too : (client : List ℕ) (state : State) (first last : ℕ) (r row : Row) → is_aged client state first last None row ≡ true → is_newer_row r row ≡ true → is_aged client state first last (Some r) row ≡ true
 after_too client state first last r row of newer = by (belongs_to client row) (state_number row.state == state_number state) (not (nat_lt row.address first)) (not (nat_lt last row.address)) of where
   by : (t u v w : Bool) → (t && (u && (v && (w && true)))) ≡ true → (t && (u && (v && (w && is_newer_row r row)))) ≡ true

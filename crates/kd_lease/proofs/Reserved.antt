@@ -48,7 +48,7 @@ in_subnet : (earlier : List ℕ) (s : Subnet) (a : ℕ) → obeys earlier s ≡ 
 unfolding obeys
 in_subnet earlier s a h has = within s.prefix earlier [] s.reservations a (right (list_all (lies_within s.prefix) s.pools) (may_all_reserve s.prefix earlier [] s.reservations) h) has
 
--- a subnet has a reservation of an address if and only if its prefix contains the address too
+-- a subnet that has a reservation of an address also has the address in its prefix
 same_keeps : (earlier : List ℕ) (s : Subnet) (a : ℕ) → obeys earlier s ≡ true → reserved_in a s ≡ reserves a s
 same_keeps earlier s a h = by (has_address s.prefix a) (reserved_in a s) refl refl where
   by : (t u : Bool) → has_address s.prefix a ≡ t → reserved_in a s ≡ u → u ≡ (t && u)
@@ -68,7 +68,7 @@ stands : (subnets : List Subnet) → may_stand subnets ≡ true → all_obey [] 
 unfolding may_stand
 stands subnets h = right (lie_apart (pool_ranges subnets)) (all_obey [] subnets) h
 
--- an address is reserved if a subnet that has it in its prefix has a reservation of it
+-- an address is reserved if and only if a subnet that has it in its prefix has a reservation of it
 pub reserved_where : (config : Configuration) (a : ℕ) → IsSound config → reserved_anywhere config a ≡ list_any (reserves a) config.subnets
 reserved_where config a sound = each_keeps [] config.subnets a (stands config.subnets sound.subnets.together)
 

@@ -73,7 +73,8 @@ abbrev pub after : List Row → Option Row → List Row
 after rows None = rows
 after rows (Some row) = with_row row rows
 
--- a message at a time changes the table to this one and gets this, by the classes that it is in
+-- a message at a given time changes the table to this one and gets this, by the classes that it is
+-- in
 pub record Changes (config : Configuration) (old : List Row) (m : Seen) (now : ℕ) (new : List Row)
     (outcome : Outcome) : Type 0 where
   pub names : List (List ℕ)

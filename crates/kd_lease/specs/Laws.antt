@@ -51,15 +51,15 @@ HeldIsNotGiven =
     → Sets q type set (planned kinds.Offer a options)
     ⊎ Sets q type set (planned kinds.Ack a options) → ⊥
 
--- a message whose classes have these names, at a time and over a table, sets at most one row and
--- gets at most one result
+-- a message whose classes have these names, at a given time and over a table, sets at most one row
+-- and gets at most one result
 abbrev pub OneAnswer : Type 0
 OneAnswer =
     (config : Configuration) (rows : List Row) (names : List (List ℕ)) (m : Seen) (now : ℕ)
     (set other : Option Row) (got its : Outcome) → Decides config rows names m now set got
     → Decides config rows names m now other its → (set ≡ other) × (got ≡ its)
 
--- so a message at a time changes a table to at most one table, and gets at most one result
+-- so a message at a given time changes a table to at most one table, and gets at most one result
 abbrev pub OneChange : Type 0
 OneChange =
     (config : Configuration) (rows : List Row) (m : Seen) (now : ℕ) (new other : List Row)

@@ -256,7 +256,7 @@ pub record Does (q : Asking) (set : Option Row) (outcome : Outcome) : Type 0 whe
   pub is : type_number type ≡ kind_of q.message
   pub sets : Sets q type set outcome
 
--- a row was changed at a time, and its times are in range
+-- a row was changed at this time, and its times are in range
 pub record IsSetAt (moment : ℕ) (row : Row) : Type 0 where
   pub changed : row.changed ≡ moment
   pub in_range : IsInRange row

@@ -12,7 +12,7 @@ use crate::question::Question;
 use crate::seeking::{Sought, is_newer, is_offered, is_sought};
 use kd_rows::{Row, Rows, State};
 
-// Returns the newest of the client's addresses that are sought, in the order of its rows by age.
+// Returns the newest of the client's addresses that are sought, by searching its rows by age.
 pub(crate) fn newest(question: &Question<'_>, sought: &Sought<'_>) -> Option<u32>
     ensures { IsNewest (asking question.now).rows
         (sought_at (asking question.now) sought.now) result }

@@ -22,7 +22,8 @@ pub(crate) fn table_of(alloc: Global, config: &Config, rows: Vec<Row>) -> Result
     }
 }
 
-// Returns the first address of every pool and the address after its last.
+// Returns the first address of every pool and the address after its last, at most
+// 255.255.255.255.
 fn cuts(alloc: Global, config: &Config) -> Result<Vec<u32>, AllocError>
     ensures { IfOk result (λ cuts. cuts.items ≡ cuts_of_pools config.now) }
 {

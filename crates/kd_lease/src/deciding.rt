@@ -20,9 +20,9 @@ use kd_options::{Message, Reply};
 use kd_rows::{Row, Rows};
 use std::alloc::{AllocError, Global};
 
-/// Decides what a message, whose classes have these names, changes and gets at a time in seconds
-/// (RFC 2131 section 4.3): the row to set in the table, if any, and the reply to send, or the
-/// reason why there is none.
+/// Decides what a message, whose classes have these names, changes and gets at a given time, in
+/// seconds (RFC 2131 section 4.3): the row to set in the table, if any, and the reply to send, or
+/// the reason why there is none.
 ///
 /// # Errors
 ///

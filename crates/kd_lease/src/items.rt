@@ -11,7 +11,7 @@ use kd_config::Times;
 use kd_options::{Item, Items};
 use std::alloc::{AllocError, Global};
 
-// The initial capacity for a reply's options: most replies need no second allocation.
+// The initial capacity for a reply's options; up to this many need only one allocation of the list.
 const USUAL: usize = 12;
 
 // Returns the options of a reply of a kind that assigns an address or none, in their order.

@@ -34,7 +34,7 @@ pub fn one_answer()
     ensures { OneAnswer }
 {}
 
-/// So a message at a time changes a table to at most one table, and gets at most one result.
+/// So a message at a given time changes a table to at most one table, and gets at most one result.
 pub fn one_change()
     ensures { OneChange }
 {

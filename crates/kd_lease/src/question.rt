@@ -40,7 +40,7 @@ impl<'a> Question<'a> {
     ghost use Rattle.kd_lease.specs.Rules.{asking};
 
     /// Makes the question of a message, whose client has this identity and whose classes have these
-    /// names, at a time in seconds.
+    /// names, at a given time, in seconds.
     pub fn new(
         over: Ground<'a>,
         names: &'a Held,
