@@ -20,7 +20,7 @@ pub trait Serves {
     /// after.
     ghost fails: { Self → Event → ServeFault → Self → Type 0 };
 
-    /// Handles a datagram at a time, in whole seconds, and returns what is sent for it.
+    /// Handles a datagram that came at this time, in whole seconds; returns what is sent for it.
     ///
     /// # Errors
     ///
