@@ -1,5 +1,5 @@
--- The condition of a pool's addresses at a time, by the lease rules: reserved, or with a row in
--- some state; and how many of them are free for a new client.
+-- The condition of a pool's addresses at a given time, by the lease rules: reserved, or with a row
+-- in some state; and how many of them are free for a new client.
 use Rattle.std.specs.Prelude.{ℕ, ◌+◌, ◌-◌, Bool, true, false, not, ◌&&◌, ◌||◌, is_none, List, length}
 use Rattle.std.specs.List.{count_by, range_with_len}
 use Rattle.kd_config.specs.declared.range.Range.{Range}
@@ -41,7 +41,7 @@ free_at reserved rows now a = not (reserved a) && (unused_at rows a || ended_at 
 abbrev pub addresses_of_range : Range → List ℕ
 addresses_of_range range = range_with_len range.first (range.last - range.first + 1)
 
--- the counts of addresses at a time, given the reserved addresses
+-- the counts of addresses at a given time, with these addresses reserved
 abbrev pub counts_of : (ℕ → Bool) → List Row → ℕ → List ℕ → Counts
 counts_of reserved rows now list =
     record {

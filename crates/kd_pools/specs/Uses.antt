@@ -1,5 +1,5 @@
--- How full the pools of a configuration are at a time; subnets and pools are in the order in which
--- they are written.
+-- How full the pools of a configuration are at a given time; subnets and pools are in the order in
+-- which they are written.
 use Rattle.std.specs.Prelude.{ℕ, Bool, List, map}
 use Rattle.std.specs.List.{sum_by}
 use Rattle.kd_config.specs.Configuration.{Configuration}
@@ -18,7 +18,7 @@ pub record UseOfSubnet : Type 0 where
   pub pools : List PoolUse
   pub counts : Counts
 
--- the use of a pool at a time, given the reserved addresses
+-- the use of a pool at a given time, with these addresses reserved
 abbrev pub pool_use : (ℕ → Bool) → List Row → ℕ → Pool → PoolUse
 pool_use reserved rows now pool =
     record { range = pool.range; counts = counts_of reserved rows now (addresses_of_range pool.range) }
@@ -41,12 +41,12 @@ sums_of pools =
       free = sum_over (λ counts. counts.free) pools;
     }
 
--- the use of a subnet at a time, given the reserved addresses
+-- the use of a subnet at a given time, with these addresses reserved
 abbrev pub subnet_use : (ℕ → Bool) → List Row → ℕ → Subnet → UseOfSubnet
 subnet_use reserved rows now subnet =
     let pools = map (pool_use reserved rows now) subnet.pools in
     record { prefix = subnet.prefix; pools = pools; counts = sums_of pools }
 
--- the use of each subnet of a configuration at a time
+-- the use of each subnet of a configuration at a given time
 abbrev pub subnet_uses : Configuration → List Row → ℕ → List UseOfSubnet
 subnet_uses config rows now = map (subnet_use (reserved_anywhere config) rows now) config.subnets

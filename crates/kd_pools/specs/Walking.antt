@@ -47,7 +47,7 @@ no_counts =
       free = 0;
     }
 
--- the counts of one address at a time: it is reserved or not, and has this row or none
+-- the counts of one address at a given time: it is reserved or not, and has this row or none
 abbrev pub counts_at : Bool → Option Row → ℕ → Counts
 counts_at reserved row now =
     record {

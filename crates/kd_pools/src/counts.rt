@@ -7,9 +7,9 @@ ghost use Rattle.kd_pools.specs.Walking.{IsAtMost, both_counts, counts_at, no_co
 
 use kd_rows::{Row, State};
 
-/// The number of addresses, and how many of them are in each condition at a time. An address counts
-/// as bound, offered or declined if its row has that state and has not ended, and as ended if its
-/// row has ended.
+/// The number of addresses, and how many of them are in each condition at a given time. An address
+/// counts as bound, offered or declined if its row has that state and has not ended, and as ended
+/// if its row has ended.
 #[derive(Clone, Copy)]
 pub struct Counts {
     /// All addresses.
@@ -47,7 +47,7 @@ impl Counts {
         }
     }
 
-    // The counts for one address at a time.
+    // The counts for one address at a given time.
     pub(crate) fn of_one(reserved: bool, row: Option<&Row>, now: u64) -> Counts
         ensures { result ≡ counts_at reserved (option_copied row.entry) now }
     {

@@ -40,8 +40,8 @@ impl Model for SubnetUse {
     ghost view = { λ s. record { prefix = s.prefix; pools = s.pools.items; counts = s.counts } };
 }
 
-/// Counts how full the pools of each subnet of a configuration are at a time, over the rows of
-/// leases; subnets and pools are in the order in which they are written.
+/// Counts how full the pools of each subnet of a configuration are at a given time, over the rows
+/// of leases; subnets and pools are in the order in which they are written.
 ///
 /// # Errors
 ///
@@ -63,7 +63,7 @@ pub fn uses_of(
     Ok(list)
 }
 
-// Counts how full a subnet is at a time, with these addresses reserved.
+// Counts how full a subnet is at a given time, with these addresses reserved.
 fn use_of(
     alloc: Global,
     reserved: &[u32],

@@ -11,8 +11,8 @@ use crate::reserved::{is_at, place_from, place_of};
 use kd_config::Range;
 use kd_rows::{Row, Rows};
 
-// Counts the addresses of a range at a time. It walks the addresses, the list of reserved addresses
-// and the rows of the table in parallel.
+// Counts the addresses of a range at a given time. It walks the addresses, the list of reserved
+// addresses and the rows of the table in parallel.
 pub(crate) fn counts_in(reserved: &[u32], rows: &Rows, now: u64, range: Range) -> Counts
     requires rising { IsNonDecreasing reserved.now }
     requires range { IsRange range }
