@@ -24,10 +24,10 @@ impl Filters for Filter {
 ///
 /// # Errors
 ///
-/// `BadLine` at the first bad line, counted from 1: a line that is neither what a server writes for
-/// an event, with a reply that reads as a message if it has one, nor a remark, or that has more
-/// than 131,072 bytes; `Read` if the source fails; `Write` if the sink fails; `Memory`. What is
-/// printed for the lines before is written.
+/// `BadLine` at the first bad line, counted from 1: a line that is neither a remark nor what a
+/// server writes for an event, or whose reply does not read as a message, or that has more than
+/// 131,072 bytes; `Read` if the source fails; `Write` if the sink fails; `Memory`. What is printed
+/// for the lines before is written.
 pub fn events_with<R: Source, W: Sink>(
     alloc: Global,
     source: &mut R,

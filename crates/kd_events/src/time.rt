@@ -21,7 +21,7 @@ pub(crate) fn time_text(alloc: Global, moment: u64) -> Result<String, AllocError
     }
 }
 
-// Returns what a UTC clock shows at a time, if the time is not later than the last dated one.
+// Returns what a UTC clock shows at a given time, if that is not later than the last dated one.
 fn clock_at(moment: u64) -> Option<DateTime>
     ensures { MatchOption result (last_dated < moment) (λ clock.
         (moment ≤ last_dated) × (civil_nanos clock ≡ pos (moment * 1000000000))) }
