@@ -14,7 +14,7 @@ use Rattle.kd_machine.specs.World.{World}
 use Rattle.kd_machine.specs.Parts.{is_held}
 use Rattle.kd_machine.specs.Run.{rule, moves_by, moves}
 
--- what holds of a result, where there is one
+-- what holds of a result, if there is one
 abbrev Keeps : {A : Type 0} → (A → Type 0) → Option A → Type 0
 Keeps P o = MatchOption o (Unit {0}) P
 
