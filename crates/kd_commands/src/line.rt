@@ -64,10 +64,10 @@ fn show<'a>(alloc: Global) -> Result<Command<'a>, AllocError>
     ensures app { IfOk result (λ c. app_of c ≡ show_line) }
     ensures local { IfOk result (λ c. (out-Command c).has_globals ≡ false) }
 {
-    let names = flag(alloc, "names", "Print the options' names and values too");
+    let names = flag(alloc, "names", "Also print the names and values of options");
     let hex = datagram_text(alloc);
     Command::new(alloc, "show")
-        .about("Print the lines of one datagram")
+        .about("Print a datagram line by line")
         .after_help("Example: kdhcp show \"$(cat discover.hex)\"")
         .arg(names)?
         .arg(hex)
@@ -82,7 +82,7 @@ fn expr<'a>(alloc: Global) -> Result<Command<'a>, AllocError>
         .help("A class test in Kea's expression language")
         .required(true);
     Command::new(alloc, "expr")
-        .about("Read and type one class test, and print how many nodes it has")
+        .about("Parse and type a class test, and print how many nodes it has")
         .after_help("Example: kdhcp expr \"option[60].hex == 'a'\"")
         .arg(class_test)
 }
@@ -96,7 +96,7 @@ fn compile<'a>(alloc: Global) -> Result<Command<'a>, AllocError>
         .help("A class test in Kea's expression language")
         .required(true);
     Command::new(alloc, "compile")
-        .about("Compile one class test, and print the token file of its program")
+        .about("Compile a class test, and print its token file")
         .after_help("Example: kdhcp compile \"option[60].hex == 'a'\"")
         .arg(test)
 }
@@ -107,10 +107,10 @@ fn verify<'a>(alloc: Global) -> Result<Command<'a>, AllocError>
     ensures local { IfOk result (λ c. (out-Command c).has_globals ≡ false) }
 {
     let file = Arg::new(alloc, "HEX")
-        .help("The bytes of a token file, two hexadecimal digits each")
+        .help("A token file in hexadecimal")
         .required(true);
     Command::new(alloc, "verify")
-        .about("Verify the program of one token file, and print what it declares")
+        .about("Verify the program of a token file, and print what it declares")
         .after_help("Example: kdhcp verify 4b34544b010003021000000003033c0100016109")
         .arg(file)
 }
@@ -129,7 +129,7 @@ fn datagram_text<'a>(alloc: Global) -> Arg<'a>
     ensures rule { rule_of result ≡ needed_rule (codes "HEX") }
     ensures local { result.global ≡ false }
 {
-    let help = "The bytes of a datagram, two hexadecimal digits each";
+    let help = "A datagram in hexadecimal";
     required_text(alloc, "HEX", help)
 }
 
@@ -152,20 +152,12 @@ fn eval<'a>(alloc: Global) -> Result<Command<'a>, AllocError>
     let text = flag(
         alloc,
         "text",
-        "Take PROGRAM as a class test in Kea's expression language",
+        "Read PROGRAM as a class test in Kea's expression language",
     );
-    let program = required_text(
-        alloc,
-        "PROGRAM",
-        "The bytes of a token file, two hexadecimal digits each",
-    );
-    let datagram = required_text(
-        alloc,
-        "DATAGRAM",
-        "The bytes of a datagram, two hexadecimal digits each",
-    );
+    let program = required_text(alloc, "PROGRAM", "A token file in hexadecimal");
+    let datagram = required_text(alloc, "DATAGRAM", "A datagram in hexadecimal");
     Command::new(alloc, "eval")
-        .about("Run one program over one datagram, and print its truth value")
+        .about("Run a program on a datagram, and print its truth value")
         .after_help("Example: kdhcp eval --text \"pkt4.msgtype == 1\" \"$(cat discover.hex)\"")
         .arg(text)?
         .arg(program)?
@@ -194,13 +186,13 @@ fn over_files<'a>(
     ensures app { IfOk result (λ c. app_of c ≡ files_line name.entry.now) }
     ensures local { IfOk result (λ c. (out-Command c).has_globals ≡ false) }
 {
-    let config = value_option(alloc, "config", "F", "The file of the configuration, JSON");
-    let token_dir = value_option(alloc, "token-dir", "D", "The folder of the token files");
+    let config = value_option(alloc, "config", "F", "The configuration, a JSON file");
+    let token_dir = value_option(alloc, "token-dir", "D", "The directory of the token files");
     let store = value_option(
         alloc,
         "store",
         "F",
-        "The file of the leases, a database of SQLite; in memory without it",
+        "The lease store, an SQLite file; without it leases are in memory",
     );
     Command::new(alloc, name)
         .about(about)
@@ -218,14 +210,14 @@ fn replay<'a>(alloc: Global) -> Result<Command<'a>, AllocError>
     over_files(
         alloc,
         "replay",
-        "Replay the events of standard input",
-        "Example, the test of a configuration: kdhcp replay --config config.json < /dev/null",
+        "Replay events from standard input",
+        "Example (test a configuration): kdhcp replay --config config.json < /dev/null",
     )?
     .arg(value_option(
         alloc,
         "why",
         "N",
-        "Explain the event of line N in place of handling it",
+        "Explain the event on line N instead of handling it",
     ))
 }
 
@@ -234,7 +226,7 @@ fn at_moment<'a>(alloc: Global) -> Arg<'a>
     ensures rule { rule_of result ≡ needed_value (codes "at") }
     ensures local { result.global ≡ false }
 {
-    value_option(alloc, "at", "M", "The moment, in whole seconds").required(true)
+    value_option(alloc, "at", "M", "The time in whole seconds (date +%s)").required(true)
 }
 
 // A subcommand that lists a store at a moment: `NAME [--config F] [--token-dir D] [--store F]
@@ -249,11 +241,7 @@ fn over_store<'a>(
     ensures local { IfOk result (λ c. (out-Command c).has_globals ≡ false) }
 {
     over_files(alloc, name, about, example)?
-        .arg(flag(
-            alloc,
-            "live",
-            "Read the store beside a server that has it open",
-        ))?
+        .arg(flag(alloc, "live", "Read the store while a server has it open"))?
         .arg(at_moment(alloc))
 }
 
@@ -265,7 +253,7 @@ fn leases<'a>(alloc: Global) -> Result<Command<'a>, AllocError>
     over_store(
         alloc,
         "leases",
-        "Print the leases of a store at a moment",
+        "Print the leases in a store at a given time",
         "Example: kdhcp leases --store leases.db --at \"$(date +%s)\"",
     )
 }
@@ -282,13 +270,13 @@ fn pools<'a>(alloc: Global) -> Result<Command<'a>, AllocError>
     over_store(
         alloc,
         "pools",
-        "Print how full the pools are at a moment",
+        "Print how full the pools are at a given time",
         POOLS_EXAMPLE,
     )?
     .arg(flag(
         alloc,
         "prometheus",
-        "Print metrics in Prometheus' text format",
+        "Print metrics in the Prometheus text format",
     ))
 }
 
@@ -304,7 +292,7 @@ fn why<'a>(alloc: Global) -> Result<Command<'a>, AllocError>
     over_store(
         alloc,
         "why",
-        "Explain what one datagram gets, and why",
+        "Explain which reply a datagram gets, and why",
         WHY_EXAMPLE,
     )?
     .arg(datagram_text(alloc))
@@ -315,7 +303,7 @@ fn into_store<'a>(alloc: Global) -> Arg<'a>
     ensures rule { rule_of result ≡ needed_value (codes "store") }
     ensures local { result.global ≡ false }
 {
-    let help = "The file of the leases, a database of SQLite";
+    let help = "The lease store, an SQLite file";
     value_option(alloc, "store", "F", help).required(true)
 }
 
@@ -325,7 +313,7 @@ fn import<'a>(alloc: Global) -> Result<Command<'a>, AllocError>
     ensures local { IfOk result (λ c. (out-Command c).has_globals ≡ false) }
 {
     Command::new(alloc, "import")
-        .about("Read the lines of leases from standard input into a store without leases")
+        .about("Import lease lines from standard input into an empty store")
         .after_help("Example: kdhcp import --store leases.db < leases.txt")
         .arg(into_store(alloc))
 }
@@ -339,11 +327,11 @@ fn events<'a>(alloc: Global) -> Result<Command<'a>, AllocError>
         alloc,
         "mac",
         "M",
-        "Only replies to the hardware address M, as 02:00:00:00:00:01",
+        "Only replies to hardware address M, such as 02:00:00:00:00:01",
     );
-    let address = value_option(alloc, "address", "A", "Only replies with the address A");
+    let address = value_option(alloc, "address", "A", "Only replies with address A");
     Command::new(alloc, "events")
-        .about("Print the replies of a log for people")
+        .about("Print the replies in a log in readable form")
         .after_help("Example: kdhcp events --address 192.0.2.17 < kdhcp.log")
         .arg(mac)?
         .arg(address)
@@ -354,7 +342,7 @@ fn max_ahead<'a>(alloc: Global) -> Arg<'a>
     ensures rule { rule_of result ≡ value_rule (codes "max-ahead") }
     ensures local { result.global ≡ false }
 {
-    let help = "End where the clock runs more than SECONDS seconds ahead";
+    let help = "Exit if the clock is more than SECONDS seconds ahead";
     value_option(alloc, "max-ahead", "SECONDS", help)
 }
 
@@ -366,11 +354,16 @@ fn check<'a>(alloc: Global) -> Result<Command<'a>, AllocError>
     over_files(
         alloc,
         "check",
-        "Try each step of a start, and say in words what is wrong",
+        "Try each step of a start, and explain what is wrong",
         "Example: kdhcp check --config kdhcp.json --store leases.db --bind 0.0.0.0",
     )?
-    .arg(value_option(alloc, "bind", "A", "The socket's address, or 127.0.0.1"))?
-    .arg(value_option(alloc, "port", "P", "The socket's UDP port, or 67"))?
+    .arg(value_option(
+        alloc,
+        "bind",
+        "A",
+        "The address to listen on (default 127.0.0.1)",
+    ))?
+    .arg(value_option(alloc, "port", "P", "The UDP port to listen on (default 67)"))?
     .arg(max_ahead(alloc))
 }
 
@@ -379,7 +372,7 @@ fn count<'a>(alloc: Global) -> Arg<'a>
     ensures rule { rule_of result ≡ needed_value (codes "count") }
     ensures local { result.global ≡ false }
 {
-    value_option(alloc, "count", "N", "How many datagrams are served").required(true)
+    value_option(alloc, "count", "N", "The number of datagrams to serve").required(true)
 }
 
 // One that serves a link without end.
@@ -398,17 +391,32 @@ fn serve<'a>(alloc: Global) -> Result<Command<'a>, AllocError>
         "Serve datagrams on a UDP socket",
         SERVE_EXAMPLE,
     )?
-    .arg(value_option(alloc, "bind", "A", "The socket's address, or 127.0.0.1"))?
-    .arg(value_option(alloc, "port", "P", "The socket's UDP port, or 67"))?
-    .arg(value_option(alloc, "client-port", "Q", "The clients' UDP port, or 68"))?
+    .arg(value_option(
+        alloc,
+        "bind",
+        "A",
+        "The address to listen on (default 127.0.0.1)",
+    ))?
+    .arg(value_option(alloc, "port", "P", "The UDP port to listen on (default 67)"))?
+    .arg(value_option(
+        alloc,
+        "client-port",
+        "Q",
+        "The UDP port of clients (default 68)",
+    ))?
     .arg(count(alloc))?
-    .arg(value_option(alloc, "broadcast-as", "A", "Stands in for 255.255.255.255"))?
-    .arg(flag(alloc, "mirror", "Reply to the sender of a datagram"))?
+    .arg(value_option(
+        alloc,
+        "broadcast-as",
+        "A",
+        "Send broadcasts to A instead of 255.255.255.255",
+    ))?
+    .arg(flag(alloc, "mirror", "Reply to the sender of each datagram"))?
     .arg(value_option(
         alloc,
         "record",
         "F",
-        "Appends what comes to the file F, as input of replay",
+        "Append what arrives to the file F, as input for replay",
     ))?
     .arg(max_ahead(alloc))
 }
