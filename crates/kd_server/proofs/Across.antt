@@ -5,7 +5,7 @@ use Rattle.kd_config.specs.Configuration.{Configuration}
 use Rattle.kd_server.specs.NoOverlap.{GivesUpBetween, LeaseStep, NoOverlap, NoOverlapAcross, NoOverlapForShortest, NoOverlapWhereNoneIsShorter, ShortenedBetween, end_of, lifetime_of, now_of}
 
 module _ (law : NoOverlapAcross) where
-  -- a shorter lifetime is none where none is shorter
+  -- no lifetime is shorter if none is shorter
   pub where_none_is_shorter : NoOverlapWhereNoneIsShorter
   where_none_is_shorter rows es history i j e f client a none g = ⊎_elim inl loosened (law rows es history i j e f client a g) where
     loosened : GivesUpBetween es i j client a ⊎ ShortenedBetween es i j e client a (now_of f) → (end_of e ≤ now_of f) ⊎ GivesUpBetween es i j client a

@@ -30,7 +30,7 @@ module _ (steps : List Row → Event → Handled → List Row → Type 0) (event
   abbrev pub Moved : List Row → List Row → Type 0
   Moved rows set = ((set ≡ []) × (rows ≡ first)) ⊎ IsChangedBy steps events first
 
-  -- so it is after one event more
+  -- the same after one more event
   pub moved_more : (rows set next new : List Row) (i : ℕ) (list : List Handled) → History steps first (take i events) list next → Moved rows set
       → ((next ≡ rows) × (new ≡ set)) ⊎ (next ≢ rows) → Moved next new
   moved_more rows set next new i list h (inr changed) moves = inr changed
@@ -45,7 +45,7 @@ module _ (steps : List Row → Event → Handled → List Row → Type 0) (event
     changed = subst (λ (r : List Row). next ≢ r) none.1 other;
   })
 
-  -- and where the event is not handled
+  -- and if the event is not handled
   pub moved_still : (rows set next new : List Row) → Moved rows set → next ≡ rows → ((next ≡ rows) × (new ≡ set)) ⊎ (next ≢ rows) → (new ≡ []) ⊎ IsChangedBy steps events first
   moved_still rows set next new (inr changed) still moves = inr changed
   moved_still rows set next new (inl none) still (inl same) = inl (same.1 ∙ none.0)
@@ -56,19 +56,19 @@ module _ (steps : List Row → Event → Handled → List Row → Type 0) (event
   moved_or_none rows set (inl none) = inl none.0
   moved_or_none rows set (inr changed) = inr changed
 
--- what a datagram does over a configuration and rows it does over the same ones
+-- what a datagram does over a configuration and rows, it does over equal ones
 pub turn_over : (c config : Configuration) (ports : Ports) (r rows : List Row) (now : ℕ) (bytes : List ℕ) (row : Option Row) (response : Response) → c ≡ config → r ≡ rows
     → IsTurn c ports r now bytes row response → IsTurn config ports rows now bytes row response
 turn_over c config ports r rows now bytes row response one two turn =
     subst (λ (k : Configuration). IsTurn k ports rows now bytes row response) one (subst (λ (l : List Row). IsTurn c ports l now bytes row response) two turn)
 
--- no event is left out for a fault of the store
+-- no event is left out because of a fault of the store
 no_store : (why : StoreFault) (after : List Event) (list : List Handled) (mid new : List Row) → Halts LeavesOut (Some (faults.Store why)) after list mid new → ⊥
 no_store why [] list mid new n = let e = n.want in cc
 no_store why (event ∷ after) list mid new (inl out) = out
 no_store why (event ∷ after) list mid new (inr n) = let e = n.want in cc
 
--- nor because it had failed
+-- nor because the store had failed earlier
 no_failed : (after : List Event) (list : List Handled) (mid new : List Row) → Halts LeavesOut (Some faults.Failed) after list mid new → ⊥
 no_failed [] list mid new n = let e = n.want in cc
 no_failed (event ∷ after) list mid new (inl out) = out
@@ -83,7 +83,7 @@ committed_is g old events list (Some faults.Memory) new a = a
 committed_is g old events list (Some (faults.Store why)) new a = absurd (no_store why a.runs.after list a.runs.mid new.rows a.runs.halts)
 committed_is g old events list (Some faults.Failed) new a = absurd (no_failed a.runs.after list a.runs.mid new.rows a.runs.halts)
 
--- where memory runs out before the first event nothing changes
+-- if memory runs out before the first event, nothing changes
 pub not_begun_is : {S : Type 0} (g : Ghosts S) (old : Keeping S) (events : List Event) (list : List Handled) → is_some (g.fault old.store) ≡ false → list ≡ []
     → IsCommitted g old events list (Some faults.Memory) old
 not_begun_is g old events list worked none = record {

@@ -1,5 +1,5 @@
--- What a message does to an address whose row is a live lease: it sets a row there only for the client of the lease,
--- which leases the address anew or gives it up.
+-- What a message does to an address whose row is a live lease: it sets a row there only for the
+-- client of the lease, which leases the address again or gives it up.
 use Rattle.std.proofs.Common.{◌≡◌, ℕ, ◌==◌, ◌&&◌, ◌⊎◌, inl, inr, Bool, true, false, List, Option, Some, None, option_map, refl, sym, ap, ◌∙◌, subst, arith, if◌then◌else◌}
 use Rattle.std.proofs.lemmas.Bool.{and_from, and_parts, false≢true, true_from_ne_false}
 use Rattle.std.proofs.lemmas.Option.{none-some}
@@ -29,16 +29,17 @@ pub record IsLease (q : Asking) (a : ℕ) (row : Row) : Type 0 where
 abbrev pub IsGivingUp : MessageType → Type 0
 IsGivingUp type = (type ≡ types.Release) ⊎ (type ≡ types.Decline)
 
--- a row may be set in place of a lease: by its client, which leases the address anew by a REQUEST, or gives it up
+-- a row may be set in place of a lease: by its client, which leases the address again by a REQUEST,
+-- or gives it up
 pub record MayReplace (q : Asking) (type : MessageType) (row held : Row) : Type 0 where
   pub own : belongs_to q.client held ≡ true
   pub how : ((type ≡ types.Request) × (row ≡ leased_row q row.address)) ⊎ (IsGivingUp type × (bound_state row.state ≡ false))
 
--- a row may be set whatever lease stands at its address
+-- a row may be set whatever lease is at its address
 abbrev pub MaySet : Asking → MessageType → Row → Type 0
 MaySet q type row = (held : Row) → IsLease q row.address held → MayReplace q type row held
 
--- so may the row that a message sets, if it sets one
+-- so may the row that a message sets, if any
 abbrev pub MaySetIt : Asking → MessageType → Option Row → Type 0
 MaySetIt q type set = (row : Row) → set ≡ Some row → MaySet q type row
 
@@ -114,7 +115,7 @@ given_up q type a row done set outcome giving at unbound h =
     gives_up (MaySetIt q type set) (held_at q a) row done set outcome (λ reason g. none_set q type set g.0)
     (λ holds is silent. one_set q type set row is (λ held l. record { own = held_own q a held holds (ap (row_at q.rows) (sym at) ∙ l.there); how = inr (giving, unbound) })) h
 
--- over the laws of an address that another client holds
+-- given the laws of an address that another client holds
 module _ (no_rank : HeldHasNoRank) (not_usable : HeldIsNotUsable) where
   discovered : (q : Asking) (s : Subnet) (set : Option Row) (outcome : Outcome) → OnDiscover q s set outcome → MaySetIt q types.Discover set
   discovered q s set (planned kinds.Offer a options) h = by (leased_to q a) refl h.1 where
@@ -164,7 +165,7 @@ module _ (no_rank : HeldHasNoRank) (not_usable : HeldIsNotUsable) where
       (λ a g. in_subnet (MaySetIt q types.Request set) (serving_subnet q) (λ s. OnRenew q s a) set outcome (λ reason f. none_set q types.Request set f.0) (λ s f. renewed q s a set outcome f) g) h
   requested q (Some server) set outcome h = named q _ set outcome h
 
-  -- the row that a message sets may be set, whatever lease stands at its address
+  -- the row that a message sets may be set, whatever lease is at its address
   pub may_set : (q : Asking) (type : MessageType) (set : Option Row) (outcome : Outcome) → Sets q type set outcome → MaySetIt q type set
   may_set q types.Discover set outcome h =
       in_subnet (MaySetIt q types.Discover set) (serving_subnet q) (OnDiscover q) set outcome (λ reason g. none_set q types.Discover set g.0) (λ s g. discovered q s set outcome g) h
@@ -201,7 +202,7 @@ acked_request q None set a options h =
     (λ b g. in_subnet (set ≡ Some (leased_row q a)) (serving_subnet q) (λ s. OnRenew q s b) set (planned kinds.Ack a options) (not_quiet (set ≡ Some (leased_row q a)) a options set) (λ s f. f.3) g) h
 acked_request q (Some server) set a options h = acked_named q _ set a options h
 
--- where an ACK of a REQUEST is planned, the lease is set
+-- if an ACK of a REQUEST is planned, the lease is set
 pub acked : (q : Asking) (type : MessageType) (set : Option Row) (a : ℕ) (options : List ReplyOption) → type_number type ≡ type_number types.Request → Sets q type set (planned kinds.Ack a options) → set ≡ Some (leased_row q a)
 acked q types.Discover set a options is h = absurd (omega arith)
 acked q types.Offer set a options is h = absurd (omega arith)

@@ -1,4 +1,5 @@
--- A life of a server is a history with stops: each event of a call is a step, or nothing happens at it.
+-- A life of a server is a history with stops: each event of a call is a step, or nothing happens at
+-- it.
 use Rattle.std.proofs.Common.{◌≡◌, ◌⊎◌, inl, inr, ⊎_elim, ℕ, zero, suc, Bool, is_some, map, List, [], ◌∷◌, ◌++◌, Option, Some, None, Result, Ok, Err, true, false, refl, sym, ap, ◌∙◌, subst}
 use Rattle.std.proofs.lemmas.Bool.{false≢true}
 use Rattle.std.proofs.lemmas.Option.{none-some, same_Some}
@@ -26,7 +27,7 @@ use Rattle.kd_server.specs.Lives.Call.{one, batch}
 use Rattle.kd_server.specs.NoOverlap.{AreOfOne, HistoryTo, LeaseHistory, LeaseStep, now_of}
 use Rattle.kd_server.specs.Step.{IsAnswered, IsUnreadable}
 
--- what is known of events are steps from these rows to those
+-- what is known of events is steps from these rows to those
 record Told (config : Configuration) (ports : Ports) (rows : List Row) (known : List Report) (last : List Row) : Type 0 where
   steps : List LeaseStep
   history : HistoryTo rows steps last
@@ -45,12 +46,12 @@ idle_first config ports r known [] idle are = (idle, are)
 idle_first config ports r known (e ∷ es) idle are = inl (idle, are)
 
 module _ (config : Configuration) (ports : Ports) where
-  -- an event at which nothing happens, before what is told of others
+  -- an event at which nothing happens, before the reports of others
   idle_told : (rows : List Row) (r : Report) (known : List Report) (last : List Row) → IsIdle r.in_batch r.event r.answer
       → Told config ports rows known last → Told config ports rows (r ∷ known) last
   idle_told rows r known last idle t = record { steps = t.steps; history = t.history; are = idle_first config ports r known t.steps idle t.are }
 
-  -- an event that is answered, before what is told of others
+  -- an event that is answered, before the reports of others
   step_told : (rows next last : List Row) (event : Event) (handled : Handled) (in_batch : Bool) (known : List Report) → StepsTo config ports rows event handled next
       → Told config ports next known last → Told config ports rows (record { event = event; answer = Ok handled; in_batch = in_batch } ∷ known) last
   step_told rows next last event handled in_batch known step later = ⊎_elim unread read step.done where
@@ -73,7 +74,7 @@ module _ (config : Configuration) (ports : Ports) where
           are = inr (record { config_is = refl; moment = refl; reads = w.reads; answer = (step.now, (w.outcome, refl, w.responds)) }, later.are);
         }
 
-  -- an event of a batch whose commit has failed, before what is told of others: its step was stopped
+  -- an event of a batch whose commit has failed, before the reports of others: its step was stopped
   stop_told : (rows next last : List Row) (event : Event) (handled : Handled) (why : StoreFault) (known : List Report) → StepsTo config ports rows event handled next
       → Told config ports next known last → Told config ports rows (record { event = event; answer = Err (faults.Store why); in_batch = true } ∷ known) last
   stop_told rows next last event handled why known step later = ⊎_elim unread read step.done where
@@ -96,7 +97,7 @@ module _ (config : Configuration) (ports : Ports) where
           are = inr (record { config_is = refl; moment = refl; reads = w.reads; answer = refl }, later.are);
         }
 
-  -- events that have a history, before what is told of the others
+  -- events that have a history, before the reports of the others
   history_told : (done after : List Event) (list : List Handled) (fault : Option ServeFault) (known : List Report) (rows mid last : List Row)
       → past.History (StepsTo config ports) rows done list mid → Told config ports mid (reports_of after [] fault ++ known) last
       → Told config ports rows (reports_of (done ++ after) list fault ++ known) last
@@ -106,7 +107,7 @@ module _ (config : Configuration) (ports : Ports) where
   history_told [] after (handled ∷ list) fault known rows mid last h t = absurd h
   history_told (event ∷ done) after [] fault known rows mid last h t = absurd h
 
-  -- how a batch ends, before what is told of later events
+  -- how a batch ends, before the reports of later events
   ending_told : (fault : Option ServeFault) (after : List Event) (list : List Handled) (known : List Report) (mid new last : List Row)
       → past.Halts LeavesOut fault after list mid new → Told config ports new known last → Told config ports mid (reports_of after [] fault ++ known) last
   ending_told None [] list known mid new last same t = subst (λ (l : List Row). Told config ports l known last) same t
@@ -159,7 +160,7 @@ failed_idle config ports (event ∷ events) known es are =
     idle_first config ports (record { event = event; answer = Err faults.Failed; in_batch = true }) known es tt are
 
 module _ {S : Type 0} (g : Ghosts S) where
-  -- where the disk is clean after a call, it was before
+  -- if the disk is clean after a call, it was clean before
   clean_before : (old new : Keeping S) (call : Call) → CallAnswers g old call new → g.has_clean_disk new.store → g.has_clean_disk old.store
   clean_before old new (one event (Ok handled)) a clean = a.store.clean clean
   clean_before old new (one event (Err faults.MomentTooLarge)) a clean = subst (λ (s : Keeping S). g.has_clean_disk s.store) a.2 clean
@@ -172,7 +173,7 @@ module _ {S : Type 0} (g : Ghosts S) where
   clean_before old new (batch events list (Some (faults.Store fault))) a clean = a.store.clean clean
   clean_before old new (batch events list (Some faults.Failed)) a clean = subst (λ (s : Keeping S). g.has_clean_disk s.store) a.2 clean
 
-  -- where the disk is clean after calls, it was before
+  -- if the disk is clean after calls, it was clean before
   clean_first : (calls : List Call) (old new : Keeping S) → Called g old calls new → g.has_clean_disk new.store → g.has_clean_disk old.store
   clean_first [] old new same clean = subst (λ (s : Keeping S). g.has_clean_disk s.store) same clean
   clean_first (call ∷ calls) old new c clean = clean_before old c.0 call c.1 (clean_first calls c.0 new c.2 clean)
@@ -196,7 +197,7 @@ module _ {S : Type 0} (g : Ghosts S) where
         (failed_idle config ports events (reports calls) [] none),
   )
 
-  -- so of all later calls
+  -- so do all later calls
   stuck_all : (config : Configuration) (ports : Ports) (calls : List Call) (old new : Keeping S) → is_some (g.fault old.store) ≡ true → Called g old calls new
       → (new ≡ old) × AreSteps config ports (reports calls) []
   stuck_all config ports [] old new failed same = (same, refl)
@@ -209,11 +210,11 @@ module _ {S : Type 0} (g : Ghosts S) where
   abbrev IsFound : Keeping S → List Row → Type 0
   IsFound new last = (last ≡ new.rows) ⊎ IsLeft g new.store last
 
-  -- what is told of calls on a server, whatever is found after them
+  -- the reports of calls on a server, whatever is found after them
   abbrev Tells : Keeping S → List Call → Keeping S → Type 0
   Tells old calls new = (last : List Row) → IsFound new last → Told old.config old.ports old.rows (reports calls) last
 
-  -- what is told from a server with the same configuration and ports
+  -- the reports from a server with the same configuration and ports
   from : (old mid : Keeping S) (known : List Report) (last : List Row) → mid.ports ≡ old.ports → mid.config ≡ old.config
       → Told mid.config mid.ports mid.rows known last → Told old.config old.ports mid.rows known last
   from old mid known last ports config t = subst (λ (c : Configuration). Told c old.ports mid.rows known last) config
@@ -226,7 +227,8 @@ module _ {S : Type 0} (g : Ghosts S) where
       step_told old.config old.ports old.rows mid.rows last event handled false (reports calls) a.step
       (from old mid (reports calls) last a.ports a.config (tells last found))
 
-  -- a step that was stopped is the last in which something happens: it leaves the rows from before it, or those after
+  -- a stopped step is the last in which something happens: it leaves the rows before it, or those
+  -- after
   stopped : (old mid new : Keeping S) (event : Event) (why : StoreFault) (stop : IsStopped g why old event mid) (calls : List Call) → new ≡ mid
       → AreSteps old.config old.ports (reports calls) [] → g.has_clean_disk mid.store → StoreHolds g old.store old.rows → (last : List Row) → IsFound new last
       → Told old.config old.ports old.rows (reports (one event (Err (faults.Store why)) ∷ calls)) last
@@ -253,13 +255,13 @@ module _ {S : Type 0} (g : Ghosts S) where
           are = inr (record { config_is = refl; moment = refl; reads = w.reads; answer = refl }, none);
         }
 
-  -- what is told of calls after one that changed nothing
+  -- the reports of calls after one that changed nothing
   unchanged : (old mid new : Keeping S) (event : Event) (answer : Result Handled ServeFault) (calls : List Call) → IsIdle false event answer → mid ≡ old → Tells mid calls new
       → Tells old (one event answer ∷ calls) new
   unchanged old mid new event answer calls idle same tells last found =
       idle_told old.config old.ports old.rows _ (reports calls) last idle (subst (λ (s : Keeping S). Told s.config s.ports s.rows (reports calls) last) same (tells last found))
 
-  -- what is told of a batch that was committed, and of later calls
+  -- the reports of a batch that was committed, and of later calls
   committed : (old mid new : Keeping S) (events : List Event) (list : List Handled) (fault : Option ServeFault) (calls : List Call)
       → IsCommitted g old events list fault mid → Tells mid calls new → Tells old (batch events list fault ∷ calls) new
   committed old mid new events list fault calls a tells last found =
@@ -269,7 +271,7 @@ module _ {S : Type 0} (g : Ghosts S) where
       subst (λ (all : List Event). Told old.config old.ports old.rows (reports_of all list fault ++ reports calls) last) (sym r.all)
       (history_told old.config old.ports r.done r.after list fault (reports calls) old.rows r.mid last r.history ended)
 
-  -- what is told of a batch whose commit has failed: the rows from before it are left, or those after it
+  -- the reports of a batch whose commit has failed: the rows before it are left, or those after it
   lost : (old mid new : Keeping S) (events : List Event) (list : List Handled) (why : StoreFault) (calls : List Call) → IsLost g why old events list mid → new ≡ mid
       → AreSteps old.config old.ports (reports calls) [] → g.has_clean_disk mid.store → StoreHolds g old.store old.rows → (last : List Row) → IsFound new last
       → Told old.config old.ports old.rows (reports (batch events list (Some (faults.Store why)) ∷ calls)) last
@@ -293,7 +295,7 @@ module _ {S : Type 0} (g : Ghosts S) where
             subst (λ (l : List Row). Told old.config old.ports old.rows (reports_of events [] (Some (faults.Store why)) ++ reports calls) l) (sym ends)
             (subst (λ (es : List Event). Told old.config old.ports old.rows (reports_of es [] (Some (faults.Store why)) ++ reports calls) r.mid) (sym r.all) all)
 
-  -- what is told of a batch of a server whose store had failed, and of later calls
+  -- the reports of a batch of a server whose store had failed, and of later calls
   not_begun : (old mid new : Keeping S) (events : List Event) (list : List Handled) (calls : List Call) → list ≡ [] → mid ≡ old → Tells mid calls new
       → Tells old (batch events list (Some faults.Failed) ∷ calls) new
   not_begun old mid new events list calls none same tells last found =
@@ -301,7 +303,7 @@ module _ {S : Type 0} (g : Ghosts S) where
       subst (λ (l : List Handled). Told old.config old.ports old.rows (reports_of events l (Some faults.Failed) ++ reports calls) last) (sym none)
       (record { steps = later.steps; history = later.history; are = failed_idle old.config old.ports events (reports calls) later.steps later.are })
 
-  -- what is told of a call and those after it
+  -- the reports of a call and of those after it
   first : (old mid new : Keeping S) (call : Call) (calls : List Call) → CallAnswers g old call mid
       → Called g mid calls new → g.has_clean_disk mid.store → StoreHolds g old.store old.rows → (StoreHolds g mid.store mid.rows → Tells mid calls new)
       → Tells old (call ∷ calls) new
@@ -326,7 +328,7 @@ module _ {S : Type 0} (g : Ghosts S) where
   first old mid new (batch events list (Some faults.Failed)) calls a later clean holds tells =
       not_begun old mid new events list calls a.1 a.2 (tells (subst (λ (s : Keeping S). StoreHolds g s.store s.rows) (sym a.2) holds))
 
-  -- what is told of all calls
+  -- the reports of all calls
   all : (calls : List Call) (old new : Keeping S) → Called g old calls new → g.has_clean_disk new.store → StoreHolds g old.store old.rows → Tells old calls new
   all [] old new same clean holds = λ last found. record {
     steps = [];
@@ -340,7 +342,7 @@ module _ {S : Type 0} (g : Ghosts S) where
       let mid_clean = clean_first calls c.0 new c.2 clean in
       first old c.0 new call calls c.1 c.2 mid_clean holds (all calls c.0 new c.2 clean)
 
-  -- what is told of a server that was run over a store
+  -- the reports of a server that was run over a store
   ran : (o : Opening) (store left : S) → g.stands store o.rows → g.has_clean_disk left → (r : IsRun g o.config o.ports o.calls store left) → (last : List Row)
       → (last ≡ r.last.rows) ⊎ IsLeft g left last → Told o.config o.ports o.rows (reports o.calls) last
   ran o store left stands clean r last found =
@@ -352,11 +354,11 @@ module _ {S : Type 0} (g : Ghosts S) where
       (subst (λ (p : Ports). Told r.first.config p o.rows (reports o.calls) last) r.opens.ports_are
       (subst (λ (rows : List Row). Told r.first.config r.first.ports rows (reports o.calls) last) opened.0 told))
 
-  -- what is told where no server was opened
+  -- the reports if no server was opened
   not_run : (o : Opening) (store left : S) → IsNoRun g o.config o.calls store left → (last : List Row) → last ≡ o.rows → Told o.config o.ports o.rows (reports o.calls) last
   not_run o store left n last same = subst (λ (calls : List Call). Told o.config o.ports o.rows (reports calls) last) (sym n.none) (record { steps = []; history = same; are = refl })
 
-  -- what is told of an opening, where a crash leaves these rows
+  -- the reports of an opening, if a crash leaves these rows
   told_left : (o : Opening) (store left : S) → g.stands store o.rows → g.has_clean_disk left → IsDone g o.config o.ports o.calls store left → (last : List Row)
       → IsLeft g left last → Told o.config o.ports o.rows (reports o.calls) last
   told_left o store left stands clean done last found = ⊎_elim
@@ -364,7 +366,7 @@ module _ {S : Type 0} (g : Ghosts S) where
       (λ n. not_run o store left n last (⊎_elim (λ e. e) (λ e. e) (found o.rows o.rows (n.unopened.left clean o.rows stands))))
       done
 
-  -- what is told of one after which no rows are found
+  -- the reports of an opening after which no rows are found
   told_last : (o : Opening) (store left : S) → g.stands store o.rows → g.has_clean_disk left → IsDone g o.config o.ports o.calls store left
       → (last : List Row) × Told o.config o.ports o.rows (reports o.calls) last
   told_last o store left stands clean done = ⊎_elim
@@ -385,7 +387,7 @@ module _ {S : Type 0} (g : Ghosts S) where
   abbrev Leaves : Keeping S → Type 0
   Leaves s = (before : List Row) × (after : List Row) × g.leaves s.store before after
 
-  -- so it does after a call and those after it
+  -- the same after a call and those after it
   ends_one : (old mid new : Keeping S) (call : Call) (calls : List Call) → CallAnswers g old call mid
       → Called g mid calls new → g.has_clean_disk mid.store → StoreHolds g old.store old.rows → (StoreHolds g mid.store mid.rows → Leaves new) → Leaves new
   ends_one old mid new (one event (Ok handled)) calls a later clean holds ends = ends (a.store.holds clean holds)
@@ -409,7 +411,7 @@ module _ {S : Type 0} (g : Ghosts S) where
   ends_all (call ∷ calls) old new c clean holds =
       ends_one old c.0 new call calls c.1 c.2 (clean_first calls c.0 new c.2 clean) holds (ends_all calls c.0 new c.2 clean)
 
-  -- an opening ends so
+  -- an opening ends in this way
   pub ends : OpeningsEnd g
   ends config ports calls store left (inl r) clean =
       let last_clean : g.has_clean_disk r.last.store = subst g.has_clean_disk r.left_is clean in
@@ -470,7 +472,7 @@ module _ {S : Type 0} (g : Ghosts S) where
   all_called [] (handled ∷ list) old mid new after h c = absurd h
   all_called (event ∷ events) [] old mid new after h c = absurd h
 
-  -- so is what a server reaches
+  -- so is whatever a server reaches
   pub reaching : ReachingIsCalls g
   reaching old new r = ⊎_elim
       (λ same. all_called r.events r.list old r.mid new [] r.history same)
@@ -496,7 +498,7 @@ module _ {S : Type 0} (g : Ghosts S) where
   ended_calls limit loops.Write left old new before after e =
       (batch (map event_of e.arrivals) (map (λ (a : Answered). a.handled) e.told ++ e.last.handled ∷ e.untold) e.fault ∷ [], (new, e.given, refl))
 
-  -- so is serving
+  -- so is all of serving
   pub serving : ServingIsCalls g
   serving limit result count old new before after (inr n) = ([], n.0)
   serving limit (Ok done) count old new before after (inl s) =
@@ -516,7 +518,7 @@ histories (o ∷ p ∷ os) life =
     let history = subst (HistoryTo o.rows first.steps) (first.found p.rows refl) first.history in
     (first.steps ++ later.0, followed o.rows first.steps p.rows later.0 history later.1, (first.steps, later.0, refl, first.are, later.2))
 
--- no steps are of any configuration
+-- no steps are steps of any configuration
 none_of : (config : Configuration) (es : List LeaseStep) → es ≡ [] → AreOfOne config es
 none_of config es none k g is = let e : slice_get [] k ≡ Some g = subst (λ (l : List LeaseStep). slice_get l k ≡ Some g) none is in absurd (none-some g e)
 

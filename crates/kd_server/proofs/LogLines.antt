@@ -136,7 +136,7 @@ reason_plain reasons.Released = from_plain (codes "Released") refl
 reason_plain reasons.Declined = from_plain (codes "Declined") refl
 reason_plain reasons.NotHeld = from_plain (codes "NotHeld") refl
 
--- texts without a line feed, one before another
+-- texts without a line feed, one after another
 both : (xs ys : List ℕ) → HasNo 10 xs → HasNo 10 ys → HasNo 10 (xs ++ ys)
 both xs ys p q = plain_append 10 xs ys p q
 
@@ -209,7 +209,7 @@ behind_left_out true response more = refl
 behind_left_out false (responses.Reply destination bytes) more = fault_line more
 behind_left_out false (responses.Quiet reason) more = refl
 
--- without those they are the lines of the events
+-- without the latter they are the lines of the events
 pub lines_left : (answers : List Answered) → without_send_faults (lines_of (flat_map text_of answers)) ≡ lines_of (flat_map (λ a. line_of a.handled) answers)
 lines_left [] = refl
 lines_left (a ∷ answers) =

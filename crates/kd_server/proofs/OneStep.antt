@@ -109,7 +109,7 @@ one_text : (header : Header) (room : ℕ) (options : List ReplyOption) (text oth
 one_text header room options text other t o =
     t.2 ∙ text_is header room t.0 ∙ ap (text_in header room) (t.1 ∙ sym o.1) ∙ sym (text_is header room o.0) ∙ sym o.2
 
--- what a message gets is sent in one way
+-- what is sent follows from the outcome of a message
 one_response : (ports : Ports) (m : Seen) (got : Outcome) (r s : Response) → Responds ports m got r → Responds ports m got s → r ≡ s
 one_response ports m (quiet reason) r s h k = h ∙ sym k
 one_response ports m (planned kind yiaddr options) (responses.Quiet reason) s h k = absurd h

@@ -1,5 +1,6 @@
--- No address is for two clients at once: from a lease on, each step leaves the row of its address to the client until
--- the lifetime has passed, or the client gives it up, or leases it anew for a shorter time.
+-- No address is for two clients at once: from a lease on, each step leaves the row of its address
+-- to the client until the lifetime has passed, or the client gives it up, or leases it again for a
+-- shorter time.
 use Rattle.std.proofs.Common.{◌≡◌, ◌≢◌, ℕ, ◌+◌, ◌<◌, ◌≤◌, ◌==◌, nat_lt, Bool, true, false, List, [], ◌∷◌, Option, Some, None, ◌⊎◌, inl, inr, ⊎_elim, zero, suc, refl, sym, ap, ◌∙◌, subst, arith, if◌then◌else◌}
 use Rattle.std.proofs.lemmas.Bool.{cases_Bool, eq-eqb, eqb-true, false_from_ne_true, false≢true, ltb-false, ltb-true}
 use Rattle.std.proofs.lemmas.Option.{none-some, same_Some}
@@ -33,7 +34,8 @@ record Holds (rows : List Row) (a : ℕ) (client : List ℕ) (ends : ℕ) : Type
   bound : row.state ≡ states.Bound
   lasts : ends ≤ row.ends
 
--- an address that was leased at this moment, for a time, is the client's still, or the time has passed
+-- an address that was leased at this time, for some lifetime, is still the client's, or the
+-- lifetime has passed
 record IsSafe (rows : List Row) (a : ℕ) (client : List ℕ) (start time : ℕ) : Type 0 where
   late : start ≤ latest_of rows
   safe : Holds rows a client (start + time) ⊎ (start + time ≤ latest_of rows)
@@ -42,7 +44,7 @@ record IsSafe (rows : List Row) (a : ℕ) (client : List ℕ) (start time : ℕ)
 abbrev GivesUpBy : Asking → MessageType → Row → List ℕ → ℕ → Type 0
 GivesUpBy q type row client a = (q.client ≡ client) × IsGivingUp type × (row_at (with_row row q.rows) a ≢ row_at q.rows a)
 
--- a REQUEST of the client leases an address anew, for less than a time, and sets this row
+-- a REQUEST of the client leases an address again, for less than a lifetime, and sets this row
 record ShortensBy (q : Asking) (type : MessageType) (row : Row) (client : List ℕ) (a time : ℕ) : Type 0 where
   its : q.client ≡ client
   request : type ≡ types.Request
@@ -53,7 +55,8 @@ record ShortensBy (q : Asking) (type : MessageType) (row : Row) (client : List �
 abbrev LoosensBy : Asking → MessageType → Row → List ℕ → ℕ → ℕ → Type 0
 LoosensBy q type row client a time = GivesUpBy q type row client a ⊎ ShortensBy q type row client a time
 
--- in a step the client leases an address anew that was leased at a moment, for less than a time; then it is safe so long
+-- in a step the client leases an address, which was leased at some time, again for less than a
+-- lifetime; then it is safe for that long
 record Shortens (e : LeaseStep) (client : List ℕ) (a start time : ℕ) : Type 0 where
   renews : Renews e client a
   later : start ≤ now_of e
@@ -64,7 +67,7 @@ record Shortens (e : LeaseStep) (client : List ℕ) (a start time : ℕ) : Type 
 abbrev Loosens : LeaseStep → List ℕ → ℕ → ℕ → ℕ → Type 0
 Loosens e client a start time = GivesUp e client a ⊎ Shortens e client a start time
 
--- before a place of a history there is a step in which the client gives up the address
+-- before a position of a history there is a step in which the client gives up the address
 record GivesUpBefore (es : List LeaseStep) (j : ℕ) (client : List ℕ) (a : ℕ) : Type 0 where
   place : ℕ
   before : place < j
@@ -72,7 +75,8 @@ record GivesUpBefore (es : List LeaseStep) (j : ℕ) (client : List ℕ) (a : �
   there : slice_get es place ≡ Some step
   gives_up : GivesUp step client a
 
--- or one in which it leases the address anew for less than a time, and that lease has ended by a moment
+-- or one in which it leases the address again for less than a lifetime, and that lease has ended by
+-- this time
 record ShortenedBefore (es : List LeaseStep) (j : ℕ) (client : List ℕ) (a start time moment : ℕ) : Type 0 where
   place : ℕ
   before : place < j
@@ -87,7 +91,7 @@ record ShortenedBefore (es : List LeaseStep) (j : ℕ) (client : List ℕ) (a st
 abbrev LoosenedBefore : List LeaseStep → ℕ → List ℕ → ℕ → ℕ → ℕ → ℕ → Type 0
 LoosenedBefore es j client a start time moment = GivesUpBefore es j client a ⊎ ShortenedBefore es j client a start time moment
 
--- so after one more step
+-- the same after one more step
 next_given_up : (e : LeaseStep) (es : List LeaseStep) (j : ℕ) (client : List ℕ) (a : ℕ) → GivesUpBefore es j client a → GivesUpBefore (e ∷ es) (suc j) client a
 next_given_up e es j client a g = let b = g.before in record { place = suc g.place; before = omega arith; step = g.step; there = g.there; gives_up = g.gives_up }
 
@@ -104,7 +108,7 @@ next : (e : LeaseStep) (es : List LeaseStep) (j : ℕ) (client : List ℕ) (a st
 next e es j client a start since time less moment later shorter (inl g) = inl (next_given_up e es j client a g)
 next e es j client a start since time less moment later shorter (inr g) = inr (next_shortened e es j client a start since time less moment later shorter g)
 
--- over the laws of rows and of the rules
+-- given the laws of rows and of the rules
 module _ (get_of_set : GetOfSet) (latest_of_set : LatestOfSet) (sets_now : SetsNow) (no_rank : HeldHasNoRank) (not_usable : HeldIsNotUsable) (not_given : HeldIsNotGiven) where
   -- what is read at the address of a row that is set, and elsewhere
   read_here : (row : Row) (rows : List Row) (a : ℕ) → (row.address == a) ≡ true → row_at (with_row row rows) a ≡ Some row
@@ -256,7 +260,7 @@ module _ (get_of_set : GetOfSet) (latest_of_set : LatestOfSet) (sets_now : SetsN
         subst (λ (rows : List Row). IsSafe rows a client (now_of e) (lifetime_of e)) (sym becomes)
         (lease_safe q a client (same_Some r.client client (sym r.by ∙ l.by)) (omega arith))
 
-  -- a reply that gives an address of a client to another comes only when the time has passed
+  -- a reply gives an address of a client to another only when the lifetime has passed
   given_by : (f : LeaseStep) (a : ℕ) (client other : List ℕ) (start time : ℕ) (outcome : Outcome) (options : List ReplyOption) → (outcome ≡ planned kinds.Offer a options) ⊎ (outcome ≡ planned kinds.Ack a options)
       → (c : ChangesTo f outcome) (r : Ruled f.config f.before c.names f.message (now_of f) c.set outcome)
       → client_identity f.message ≡ Some other → other ≢ client → Holds f.before a client (start + time) → start + time ≤ now_of f
@@ -301,7 +305,7 @@ module _ (get_of_set : GetOfSet) (latest_of_set : LatestOfSet) (sets_now : SetsN
     by_rule : Ruled f.config f.before c.names f.message (now_of f) c.set (planned kinds.Ack a l.options) → start + time ≤ now_of f
     by_rule r = given_by f a client other start time (planned kinds.Ack a l.options) l.options (inr refl) c r l.by apart h
 
-  -- a step gives a safe address to another only when the time has passed
+  -- a step gives a safe address to another only when the lifetime has passed
   given_late : (f : LeaseStep) (a : ℕ) (client other : List ℕ) (start time : ℕ) → Happens f f.outcome → GivesTo f other a → other ≢ client
       → IsSafe f.before a client start time → start + time ≤ now_of f
   given_late f a client other start time happens gives apart safe = ⊎_elim (λ h. by h gives) (λ (past : start + time ≤ latest_of f.before). omega arith) safe.safe where
@@ -309,8 +313,8 @@ module _ (get_of_set : GetOfSet) (latest_of_set : LatestOfSet) (sets_now : SetsN
     by h (inl o) = offered_late f a client other start time happens o apart h
     by h (inr l) = leased_late f a client other start time happens l apart h
 
-  -- in a history from rows in which an address is safe, it is given to another only when the time has passed, or its
-  -- client has given it up or shortened its lease
+  -- in a history from rows in which an address is safe, it is given to another only when the
+  -- lifetime has passed, or its client has given it up or shortened its lease
   onward : (rows : List Row) (es : List LeaseStep) (a : ℕ) (client other : List ℕ) (start time : ℕ) (j : ℕ) (f : LeaseStep)
       → LeaseHistory rows es → IsSafe rows a client start time → slice_get es j ≡ Some f → GivesTo f other a → other ≢ client
       → (start + time ≤ now_of f) ⊎ LoosenedBefore es j client a start time (now_of f)
@@ -339,7 +343,7 @@ module _ (get_of_set : GetOfSet) (latest_of_set : LatestOfSet) (sets_now : SetsN
         loosened rest (inl g) = inr (inl (record { place = zero; before = omega arith; step = e; there = refl; gives_up = g }))
         loosened rest (inr s) = shortened s (rest s.safe)
 
-  -- what is between two places of a history, in place of what is before one
+  -- what holds between two positions of a history, from what holds before one
   abbrev Loosened : List LeaseStep → ℕ → ℕ → LeaseStep → List ℕ → ℕ → ℕ → Type 0
   Loosened es i j e client a moment = GivesUpBetween es i j client a ⊎ ShortenedBetween es i j e client a moment
 
@@ -353,7 +357,7 @@ module _ (get_of_set : GetOfSet) (latest_of_set : LatestOfSet) (sets_now : SetsN
       let b = g.before in
       inr (record { place = suc g.place; after = omega arith; before = omega arith; step = g.step; there = g.there; renews = g.renews; later = g.later; shorter = g.shorter; past = g.past })
 
-  -- after one more step in front
+  -- after one more step at the start
   moved : (x : LeaseStep) (es : List LeaseStep) (i j : ℕ) (e : LeaseStep) (client : List ℕ) (a moment : ℕ) → Loosened es i j e client a moment → Loosened (x ∷ es) (suc i) (suc j) e client a moment
   moved x es i j e client a moment (inl g) =
       let l = g.after in

@@ -71,7 +71,7 @@ one_list (line ∷ lines) (a ∷ firsts) (b ∷ others) p q =
     let rest = one_list lines firsts others p.1 q.1 in
     λ i. first i ∷ rest i
 
--- histories one after another
+-- histories in sequence
 
 history_append : {H : Type 0} (gives : H → Event → Handled → H → Type 0) (firsts seconds : List Event) (xs ys : List Handled) (old mid new : H)
     → past.History gives old firsts xs mid → past.History gives mid seconds ys new → past.History gives old (firsts ++ seconds) (xs ++ ys) new
@@ -107,7 +107,7 @@ one_past one config ports (event ∷ events) (x ∷ list) (y ∷ others) rows ne
     let rest = one_past one config ports events list others k.0 new its from k.2 in
     ((λ i. same.0 i ∷ rest.0 i), rest.1)
 
--- batches one after another are a history
+-- batches in sequence are a history
 
 all_recordable : (list : List Batch) → All IsRecordable (flat_map events_in list)
 all_recordable [] = All-nil IsRecordable
@@ -141,7 +141,7 @@ whole_run steps events list old new r = subst (λ (es : List Event). past.Histor
         subst (λ (rows : List Row). past.History steps old (r.done ++ []) list rows) (sym same) ends
     by (event ∷ after) halts = absurd halts
 
--- what was known has grown by these bytes alone
+-- what was known has grown by exactly these bytes
 grown_is : (old new : Option (List ℕ)) (more bytes : List ℕ) → HasGrown old new more → Appends old new bytes → more ≡ bytes
 grown_is old new more bytes h a =
     let known : Appends (Some h.first) (Some (h.first ++ more)) bytes = subst (λ (n : Option (List ℕ)). Appends (Some h.first) n bytes) h.new_is (subst (λ (o : Option (List ℕ)). Appends o new bytes) h.old_is a) in
@@ -322,7 +322,7 @@ module _ (one : OneStep) {T : Type 0} (h : Ghosts T) where
   repeats_all config ports rows last sessions its new text out f at d =
       repeats config ports (whole config ports rows sessions last) its new text out (joined config ports rows last sessions f) at d
 
-  -- and over a server that stands alike
+  -- and over a server that is alike
   pub repeats_one : {S : Type 0} (g : Ghosts S) → ReplayRepeatsSession g h
   repeats_one g session old new its last text out s alike d =
       let was = was_session g session old new s in
@@ -362,7 +362,7 @@ split_history gives old (event ∷ first) later (x ∷ list) new h =
     let s = split_history gives h.0 first later list new h.2 in
     record { early = x ∷ s.early; late = s.late; mid = s.mid; all = ap (λ l. x ∷ l) s.all; before = (h.0, h.1, s.before); after = s.after }
 
--- what is written is the lines of the first events, and of the next lines a prefix
+-- the lines of the first events are written, and a prefix of the next lines
 record WritesPrefix (early late : List Handled) (text out : List ℕ) : Type 0 where
   part : List ℕ
   rest : List ℕ
@@ -405,7 +405,7 @@ prefix_of_log config ports session early late text out w all f = record {
         ∙ sym (append_assoc (flat_map line_of early) f.part f.rest)
 
 module _ (one : OneStep) {T : Type 0} (h : Ghosts T) (config : Configuration) (ports : Ports) where
-  -- where a replay stops it has written such a prefix, and at no line that is no event
+  -- where a replay stops it has written such a prefix, and it stops at no line that is not an event
   stopped : (failed : Type 0) (fault : ReplayFault) (number : ℕ) (after : List (List ℕ)) (later : List Event) (early late : List Handled) (mid new : Keeping T) (last : List Row)
       (text between out : List ℕ) → AreEvents after later → mid.ports ≡ ports → mid.config ≡ config → past.History (StepsTo config ports) mid.rows later late last
       → between ≡ text ++ flat_map line_of early → Ends (Steps h) (Refuses h) failed fault number after mid new between out

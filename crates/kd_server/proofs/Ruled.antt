@@ -16,7 +16,7 @@ use Rattle.kd_rows.specs.declared.row.Row.{Row}
 abbrev pub IsSilent : Option Row → Outcome → Type 0
 IsSilent set got = (set ≡ None) × ((reason : Reason) × (got ≡ quiet reason))
 
--- a row is set, or none, and the message gets what it gets by a rule
+-- a row is set, or none, and the message has its outcome by a rule
 pub record Ruled (config : Configuration) (rows : List Row) (names : List (List ℕ)) (m : Seen) (now : ℕ) (set : Option Row) (got : Outcome) : Type 0 where
   pub client : List ℕ
   pub by : client_identity m ≡ Some client
@@ -37,7 +37,7 @@ where_fits : (P : Type 0) (b : Bool) (row : Option Row) (outcome : Outcome) (set
 where_fits P true row outcome set got silent done h = done h.0 h.1
 where_fits P false row outcome set got silent done h = silent (h.0, (reasons.ReplyTooLong, h.1))
 
--- what is decided for a message is nothing, or is by a rule
+-- the decision for a message is nothing, or is by a rule
 pub ruled : (config : Configuration) (rows : List Row) (names : List (List ℕ)) (m : Seen) (now : ℕ) (set : Option Row) (got : Outcome)
     → Decides config rows names m now set got → IsSilent set got ⊎ Ruled config rows names m now set got
 ruled config rows names m now set got h =

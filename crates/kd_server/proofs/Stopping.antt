@@ -40,7 +40,7 @@ pub headed : (config : Configuration) (ports : Ports) (rows : List Row) (now : �
 headed config ports rows now bytes row response (inl t) changed = absurd (changed (ap (after rows) t.none))
 headed config ports rows now bytes row response (inr t) changed = message_headed bytes t.message t.reads
 
--- a row that is not kept refuses the event
+-- a row that is not kept means that the event is refused
 pub refused : {S : Type 0} (g : Ghosts S) (old : Keeping S) (event : Event) (row : Option Row) (response : Response) (now : ℕ) (fault : ServeFault) (rows : List Row) (store : S)
     → is_some (g.fault old.store) ≡ false → event.moment < 2 ^ 40 → now ≡ max event.moment (latest_of old.rows)
     → IsTurn old.config old.ports old.rows now event.bytes row response → IsUnkept g old.rows rows old.store store (after old.rows row) fault
@@ -63,7 +63,7 @@ refused g old event row response now (faults.Store fault) rows store works early
 }
 refused g old event row response now faults.Failed rows store works early is turn unkept = absurd unkept
 
--- what refuses an event is that its row is not kept
+-- an event is refused because its row is not kept
 pub refused_if : {S : Type 0} (g : Ghosts S) (old : Keeping S) (event : Event) (row : Option Row) (response : Response) (now : ℕ) (result : Result Handled ServeFault) (rows : List Row) (store : S)
     → is_some (g.fault old.store) ≡ false → event.moment < 2 ^ 40 → now ≡ max event.moment (latest_of old.rows)
     → IsTurn old.config old.ports old.rows now event.bytes row response → IfErr result (IsUnkept g old.rows rows old.store store (after old.rows row))

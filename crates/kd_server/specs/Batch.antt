@@ -10,8 +10,8 @@ use Rattle.kd_replay.specs.declared.fault.ServeFault.TheVariants as faults
 use Rattle.kd_rows.specs.declared.row.Row.{Row}
 use Rattle.kd_server.specs.Keeping.{HasHeader, Keeping, StepsTo, StillHolds, StoreHolds}
 
--- why an event is not handled, over the rows, which stay: its moment is 2^40 or more, or memory ran
--- out, which may come once the header is read
+-- why an event is not handled, which leaves the rows as they are: its time is 2^40 or more, or
+-- memory ran out, which can happen only once its header is read
 abbrev pub LeavesOut : List Row → Event → ServeFault → List Row → Type 0
 LeavesOut rows event faults.MomentTooLarge new = (2 ^ 40 ≤ event.moment) × (new ≡ rows)
 LeavesOut rows event faults.Memory new =
@@ -19,7 +19,7 @@ LeavesOut rows event faults.Memory new =
 LeavesOut rows event (faults.Store fault) new = ⊥
 LeavesOut rows event faults.Failed new = ⊥
 
--- the first of some events have a history after which the rows are others
+-- the first of these events have a history that changes the rows
 pub record IsChangedBy (steps : List Row → Event → Handled → List Row → Type 0)
     (events : List Event) (rows : List Row) : Type 0 where
   pub early : List Event
@@ -31,16 +31,16 @@ pub record IsChangedBy (steps : List Row → Event → Handled → List Row → 
   pub changed : mid ≢ rows
 
 module _ {S : Type 0} (g : Ghosts S) where
-  -- a store that has failed at a commit, with this fault: a crash leaves the rows from before or those
-  -- from after, and while it is open it stands at those from before
+  -- the store has failed at a commit, with this fault: a crash leaves the old rows or the new ones,
+  -- and while the store is open it stands at the old ones
   pub record FailsToKeep (fault : StoreFault) (old new : S) (before rows : List Row) : Type 0 where
     pub failed : g.fault new ≡ Some fault
     pub clean : g.has_clean_disk new → g.has_clean_disk old
     pub left : g.has_clean_disk new → StoreHolds g old before → g.leaves new before rows
     pub still : g.has_clean_disk new → StoreHolds g old before → g.is_open new → g.stands new before
 
-  -- the first events are handled, in their order, up to the end or to the one with the fault, and the
-  -- store holds the rows after them
+  -- the first events are handled in their order, up to the end or up to the one with the fault, and
+  -- the store holds the rows after them
   pub record IsCommitted (old : Keeping S) (events : List Event) (list : List Handled)
       (fault : Option ServeFault) (new : Keeping S) : Type 0 where
     pub worked : is_some (g.fault old.store) ≡ false
@@ -49,8 +49,8 @@ module _ {S : Type 0} (g : Ghosts S) where
     pub runs : Runs (StepsTo old.config old.ports) LeavesOut events list fault old.rows new.rows
     pub store : StillHolds g old.store new.store old.rows new.rows
 
-  -- the store has failed with this fault at the commit of events, of which the first change the rows:
-  -- none is answered, and the server's rows are those after them
+  -- the store has failed with this fault at the commit of events, the first of which change the
+  -- rows: none is answered, and the server's rows are those after the events
   pub record IsLost (fault : StoreFault) (old : Keeping S) (events : List Event)
       (list : List Handled) (new : Keeping S) : Type 0 where
     pub worked : is_some (g.fault old.store) ≡ false
@@ -64,8 +64,8 @@ module _ {S : Type 0} (g : Ghosts S) where
     pub changes : IsChangedBy (StepsTo old.config old.ports) events old.rows
     pub store : FailsToKeep fault old.store new.store old.rows new.rows
 
-  -- what events give that are handled together, by the fault: none, or that of the first event that is
-  -- not handled, behind those that are; or that of the commit; or the store had failed before
+  -- the result of handling events together, by fault: no fault; the fault of the first event that
+  -- is not handled, after those that are; the fault of the commit; or the store had failed earlier
   abbrev pub Batched : Keeping S → List Event → List Handled → Option ServeFault → Keeping S
       → Type 0
   Batched old events list None new = IsCommitted old events list None new

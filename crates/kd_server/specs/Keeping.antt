@@ -1,5 +1,5 @@
--- What a server with leases stands at, over any store that keeps them, and what it does with an
--- event: it answers and changes its rows as the history says, and the store keeps those rows.
+-- The state of a server with leases over any store that keeps them, and what the server does with
+-- an event: it answers and changes its rows as the history says, and the store keeps those rows.
 use Rattle.std.specs.Prelude.{◌≡◌, ◌≢◌, ◌⊎◌, ℕ, ◌^◌, ◌≤◌, ◌<◌, true, false, List, Ok, Option, None, Some, is_some}
 use Rattle.kd_config.specs.Configuration.{Configuration}
 use Rattle.kd_event.specs.declared.event.Event.{Event}
@@ -16,15 +16,14 @@ use Rattle.kd_server.specs.Step.{IsStep}
 use Rattle.kd_wire.specs.Header.{header_read}
 use Rattle.kd_wire.specs.declared.header.Header.{Header}
 
--- what contracts see of a server: its ports, the configuration that it goes by, its rows, and its
--- store
+-- what contracts see of a server: its ports, its configuration, its rows and its store
 pub record Keeping (S : Type 0) : Type 0 where
   pub ports : Ports
   pub config : Configuration
   pub rows : List Row
   pub store : S
 
--- the latest change of a server's rows
+-- the time of the latest change of a server's rows
 abbrev pub latest_in : {S : Type 0} → Keeping S → ℕ
 latest_in server = latest_of server.rows
 
@@ -37,8 +36,8 @@ StepsTo config ports rows event handled new =
 abbrev pub HasHeader : List ℕ → Type 0
 HasHeader bytes = (header : Header) × (header_read bytes ≡ Ok header)
 
--- why no server was opened, by the fault with which the store has failed: memory ran out, or it is
--- the store's fault
+-- why a server could not be opened, by the fault with which the store has failed: memory ran out,
+-- or the fault is the store's
 abbrev pub IsOpenFault : ServeFault → Option StoreFault → Type 0
 IsOpenFault faults.MomentTooLarge failed = ⊥
 IsOpenFault faults.Memory failed = failed ≡ None
@@ -51,15 +50,15 @@ module _ {S : Type 0} (g : Ghosts S) where
     pub stands : g.stands store rows
     pub leaves : g.leaves store rows rows
 
-  -- a store that works: where its disk is clean it was clean before, and a store that held the rows
-  -- from before holds those from after
+  -- a store that works: if its disk is clean now it was clean before, and if it held the old rows
+  -- it holds the new ones
   pub record StillHolds (old new : S) (before rows : List Row) : Type 0 where
     pub works : is_some (g.fault new) ≡ false
     pub clean : g.has_clean_disk new → g.has_clean_disk old
     pub holds : g.has_clean_disk new → StoreHolds old before → StoreHolds new rows
 
-  -- a store that has failed at a change, with this fault: a crash leaves the rows from before or
-  -- those from after, and while it is open it stands at those from before
+  -- a store that has failed at a change, with this fault: a crash leaves the old rows or the new
+  -- ones, and while the store is open it stands at the old ones
   pub record Loses (fault : StoreFault) (old new : S) (before rows : List Row) : Type 0 where
     pub failed : g.fault new ≡ Some fault
     pub clean : g.has_clean_disk new → g.has_clean_disk old
@@ -67,13 +66,13 @@ module _ {S : Type 0} (g : Ghosts S) where
     pub left : g.has_clean_disk new → StoreHolds old before → g.leaves new before rows
     pub still : g.has_clean_disk new → StoreHolds old before → g.is_open new → g.stands new before
 
-  -- a server keeps its ports, its configuration and its rows
+  -- a server has the same ports, configuration and rows
   pub record IsSameBut (old new : Keeping S) : Type 0 where
     pub ports : new.ports ≡ old.ports
     pub config : new.config ≡ old.config
     pub rows : new.rows ≡ old.rows
 
-  -- the server's step: the history's, from rows to rows, and the store keeps the new ones
+  -- a step of the server: the history's step, from rows to rows, and the store keeps the new rows
   pub record Steps (old : Keeping S) (event : Event) (handled : Handled)
       (new : Keeping S) : Type 0 where
     pub worked : is_some (g.fault old.store) ≡ false
@@ -83,7 +82,7 @@ module _ {S : Type 0} (g : Ghosts S) where
     pub store : StillHolds old.store new.store old.rows new.rows
 
   -- the store has failed with this fault at the change of an event: there is no answer, and the
-  -- server's rows are those from before
+  -- server keeps the old rows
   pub record IsStopped (fault : StoreFault) (old : Keeping S) (event : Event)
       (new : Keeping S) : Type 0 where
     pub worked : is_some (g.fault old.store) ≡ false
@@ -93,9 +92,9 @@ module _ {S : Type 0} (g : Ghosts S) where
     pub step : StepsTo old.config old.ports old.rows event handled after
     pub store : Loses fault old.store new.store old.rows after
 
-  -- why an event is not handled, and what stands then: want of memory, which may come once the
-  -- header is read, a moment of 2^40 or more and a store that has failed before change nothing;
-  -- else the store has failed at this event
+  -- why an event is not handled, and what then holds: a time of 2^40 or more, a store that failed
+  -- earlier, and out of memory (possible only once the header is read) change nothing; otherwise
+  -- the store has failed at this event
   abbrev pub Refuses : Keeping S → Event → ServeFault → Keeping S → Type 0
   Refuses old event faults.MomentTooLarge new =
       (is_some (g.fault old.store) ≡ false) × (2 ^ 40 ≤ event.moment) × (new ≡ old)
@@ -105,8 +104,8 @@ module _ {S : Type 0} (g : Ghosts S) where
   Refuses old event (faults.Store fault) new = IsStopped fault old event new
   Refuses old event faults.Failed new = (is_some (g.fault old.store) ≡ true) × (new ≡ old)
 
-  -- a server that was opened over a store: where the store stood at a table, its rows are that
-  -- table, and the store holds them
+  -- a server that was opened over a store: if the store stood at a table, the server's rows are
+  -- that table, and the store holds them
   pub record Opens (ports : Ports) (config : Configuration) (store : S)
       (server : Keeping S) : Type 0 where
     pub ports_are : server.ports ≡ ports
@@ -116,8 +115,8 @@ module _ {S : Type 0} (g : Ghosts S) where
     pub holds : g.has_clean_disk server.store → (table : List Row) → g.stands store table
         → (server.rows ≡ table) × StoreHolds server.store table
 
-  -- no server was opened: the configuration and the store come back, a crash leaves the table that
-  -- the store stood at, and while the store is open, or where memory alone ran out, it stands there
+  -- no server was opened: the configuration and the store are returned, a crash leaves the table
+  -- that the store stood at, and the store still stands there if it is open or if memory ran out
   pub record IsUnopened (config : Configuration) (store : S) (fault : ServeFault)
       (same : Configuration) (back : S) : Type 0 where
     pub config_is : same ≡ config

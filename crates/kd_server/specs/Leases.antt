@@ -1,4 +1,4 @@
--- The leases of a server at a moment, and the lines that are printed of them.
+-- The leases of a server at some time, and the lines that are printed for them.
 use Rattle.std.specs.Prelude.{◌≡◌, ℕ, ◌^◌, ◌<◌, ◌≤◌, max, Bool, true, false, nat_lt, List, ◌++◌, map, codes, decimal}
 use Rattle.kd_replay.specs.Text.{address_text, bytes_text}
 use Rattle.kd_replay.specs.declared.fault.ServeFault.{ServeFault}
@@ -9,15 +9,15 @@ use Rattle.kd_rows.specs.declared.row.State.{State}
 use Rattle.kd_rows.specs.declared.row.State.TheVariants as states
 use Rattle.kd_server.specs.declared.leases.Lease.{Lease}
 
--- a row at a moment: it is live before its end
+-- a row at a time: it is live before its end
 abbrev pub lease_of_row : ℕ → Row → Lease
 lease_of_row now row = record { row = row; live = nat_lt now row.ends }
 
--- the leases of rows, at a moment that counts as their latest change where that is later
+-- the leases of rows at a time; a time before their latest change counts as the time of that change
 abbrev pub leases_of_rows : ℕ → List Row → List Lease
 leases_of_rows moment rows = map (lease_of_row (max moment (latest_of rows))) rows
 
--- why there is no list: by whether the store has failed, and the moment
+-- why there is no list, by whether the store has failed, and by the time
 abbrev pub IsNoList : Bool → ℕ → ServeFault → Type 0
 IsNoList failed moment faults.MomentTooLarge = (failed ≡ false) × (2 ^ 40 ≤ moment)
 IsNoList failed moment faults.Memory = (failed ≡ false) × (moment < 2 ^ 40)
@@ -36,7 +36,7 @@ abbrev pub word_of_live : Bool → List ℕ
 word_of_live true = codes "live"
 word_of_live false = codes "past"
 
--- the line of a lease, with its line feed: address, state, client, the moment at which it was set,
+-- the line of a lease, with its line feed: address, state, client, the time at which it was set,
 -- its end, and whether it is live
 unfoldable pub lease_line : Lease → List ℕ
 lease_line lease =

@@ -1,5 +1,6 @@
--- A server that is opened, run, stopped and opened again on what a crash left: a life, of several
--- openings, each with its configuration and over a store of any type. It is a history with stops.
+-- A server that is opened, run, stopped and opened again on what a crash left: a life, made of
+-- several openings, each with its own configuration and a store of any type. It is a history with
+-- stops.
 use Rattle.std.specs.Prelude.{◌≡◌, ◌⊎◌, ℕ, Bool, true, false, List, [], ◌∷◌, ◌++◌, Result, Ok, Err, Option, Some, None}
 use Rattle.std.specs.List.{flat_map}
 use Rattle.kd_config.specs.Configuration.{Configuration}
@@ -20,14 +21,14 @@ use Rattle.kd_server.specs.Keeping.{IsUnopened, Keeping, Opens, Refuses, Steps, 
 use Rattle.kd_server.specs.NoOverlap.{AreOfOne, HistoryTo, LeaseHistory, LeaseStep, now_of}
 use Rattle.kd_server.specs.Step.{Responds}
 
--- a call of a server: of `handle` with one event, and what it answered; or of `handle_all` with a
--- batch of events, what was done with the first of them, and the fault
+-- a call of a server: of `handle` with one event and its answer, or of `handle_all` with a batch of
+-- events, the results of the first of them, and the fault
 pub data Call : Type 0 where
   one : Event → Result Handled ServeFault → Call
   batch : List Event → List Handled → Option ServeFault → Call
 
--- one opening of a server, as it is seen from outside: its configuration, the rows at which its
--- store stood, the ports, and the calls of the server
+-- one opening of a server, as seen from outside: its configuration, the rows at which its store
+-- stood, the ports, and the calls of the server
 pub record Opening : Type 0 where
   pub config : Configuration
   pub rows : List Row
@@ -35,23 +36,23 @@ pub record Opening : Type 0 where
   pub calls : List Call
 
 module _ {S : Type 0} (g : Ghosts S) where
-  -- what is promised of a call
+  -- what the contracts say of a call
   abbrev pub CallAnswers : Keeping S → Call → Keeping S → Type 0
   CallAnswers old (one event (Ok handled)) new = Steps g old event handled new
   CallAnswers old (one event (Err fault)) new = Refuses g old event fault new
   CallAnswers old (batch events list fault) new = Batched g old events list fault new
 
-  -- calls one after another, each on the server that the one before it left
+  -- calls in sequence, each on the server that the previous one left
   abbrev pub Called : Keeping S → List Call → Keeping S → Type 0
   Called old [] new = new ≡ old
   Called old (call ∷ calls) new =
       (mid : Keeping S) × CallAnswers old call mid × Called mid calls new
 
-  -- what was done with a server is such calls
+  -- what was done with a server is such a sequence of calls
   abbrev pub AreCalls : Keeping S → Keeping S → Type 0
   AreCalls old new = (calls : List Call) × Called old calls new
 
-  -- a server is opened over a store and called, and the store is left
+  -- a server is opened over a store and called, and this store is left
   pub record IsRun (config : Configuration) (ports : Ports) (calls : List Call)
       (store left : S) : Type 0 where
     pub first : Keeping S
@@ -60,7 +61,7 @@ module _ {S : Type 0} (g : Ghosts S) where
     pub called : Called first calls last
     pub left_is : left ≡ last.store
 
-  -- no server is opened over a store, which is left
+  -- no server is opened over a store, and this store is left
   pub record IsNoRun (config : Configuration) (calls : List Call) (store left : S) : Type 0 where
     pub fault : ServeFault
     pub unopened : IsUnopened g config store fault config left
@@ -71,14 +72,14 @@ module _ {S : Type 0} (g : Ghosts S) where
   IsDone config ports calls store left =
       IsRun config ports calls store left ⊎ IsNoRun config calls store left
 
-  -- of any two tables of which a crash of the store leaves one this is one
+  -- these rows are one of any two tables one of which a crash of the store leaves
   abbrev pub IsLeft : S → List Row → Type 0
   IsLeft store rows =
       (before after : List Row) → g.leaves store before after → (rows ≡ before) ⊎ (rows ≡ after)
 
-  -- an opening over such a store, and the rows that are found after it, if any are: the store stood
-  -- at its rows and has met no disk that does not do what it says, and the rows are some that a crash
-  -- of it leaves
+  -- an opening over such a store, and the rows found after it, if any: the store stood at the
+  -- opening's rows, its disk has always done what it reported, and the rows found are some that a
+  -- crash of the store leaves
   pub record IsOpening (o : Opening) (next : Option (List Row)) : Type 0 where
     pub store : S
     pub left : S
@@ -87,8 +88,8 @@ module _ {S : Type 0} (g : Ghosts S) where
     pub clean : g.has_clean_disk left
     pub found : (rows : List Row) → next ≡ Some rows → IsLeft left rows
 
--- the calls of a run: the events with what was done with them, and the next event with the fault,
--- where there is one
+-- the calls of a run: the events with their results, and the next event with the fault, if there is
+-- one
 abbrev pub calls_of : List Event → List Handled → Option ServeFault → List Call
 calls_of [] list fault = []
 calls_of (event ∷ events) (handled ∷ list) fault =
@@ -96,22 +97,21 @@ calls_of (event ∷ events) (handled ∷ list) fault =
 calls_of (event ∷ events) [] None = []
 calls_of (event ∷ events) [] (Some fault) = one event (Err fault) ∷ []
 
--- every run is such calls of `handle`, or memory ran out before the first
+-- every run is such a sequence of calls of `handle`, or memory ran out before the first
 abbrev pub RunsAreCalls : {S : Type 0} → Ghosts S → Type 0
 RunsAreCalls {S} g =
     (events : List Event) (list : List Handled) (fault : Option ServeFault) (old new : Keeping S)
     → Runs (Steps g) (Refuses g) events list fault old new
     → Called g old (calls_of events list fault) new ⊎ NoMemory faults.Memory list old new
 
--- what is known of an event: what was done with it, or the fault; and whether there was one commit
--- for it and others
+-- what is known of an event: its result, or the fault; and whether it shared a commit with others
 pub record Report : Type 0 where
   pub event : Event
   pub answer : Result Handled ServeFault
   pub in_batch : Bool
 
--- what is known of the events of a batch: what was done with the first, and the fault of the next,
--- behind which there was nothing done; but where the commit has failed it is the fault of each
+-- what is known of the events of a batch: the results of the first, and the fault of the next,
+-- after which nothing was done; but if the commit failed, each event has that fault
 abbrev pub reports_of : List Event → List Handled → Option ServeFault → List Report
 reports_of [] list fault = []
 reports_of (event ∷ events) (handled ∷ list) fault =
@@ -133,15 +133,15 @@ reports_in (batch events list fault) = reports_of events list fault
 abbrev pub reports : List Call → List Report
 reports calls = flat_map reports_in calls
 
--- nothing happens at an event: the datagram reads as no message, or the fault is other than the
--- store's; or the store's for a batch, in which the event need not change anything
+-- nothing happens at an event: the datagram reads as no message, or the fault is not the store's;
+-- or it is the store's, for a batch, in which the event need not change anything
 abbrev pub IsIdle : Bool → Event → Result Handled ServeFault → Type 0
 IsIdle in_batch event (Ok handled) = (m : Seen) → Reads event.bytes m → ⊥
 IsIdle in_batch event (Err (faults.Store fault)) = in_batch ≡ true
 IsIdle in_batch event (Err fault) = Unit {0}
 
--- what a step gets is what was answered: what was sent, at the moment that counts; and where the
--- store has failed the step was stopped
+-- the outcome of a step is what was answered: what was sent, at the time that counts; if the store
+-- failed, the step was stopped
 abbrev pub IsAnswerOf : Ports → LeaseStep → Result Handled ServeFault → Type 0
 IsAnswerOf ports e (Ok handled) =
     (handled.now ≡ now_of e) × ((outcome : Outcome) × (e.outcome ≡ Some outcome)
@@ -149,8 +149,8 @@ IsAnswerOf ports e (Ok handled) =
 IsAnswerOf ports e (Err (faults.Store fault)) = e.outcome ≡ None
 IsAnswerOf ports e (Err fault) = ⊥
 
--- a step is an event: its configuration is the server's, its moment is the event's, its message is
--- what the datagram reads as, and it gets what was answered
+-- a step is an event: its configuration is the server's, its time is the event's, its message is
+-- what the datagram reads as, and its outcome is what was answered
 pub record IsStepOf (config : Configuration) (ports : Ports) (report : Report)
     (e : LeaseStep) : Type 0 where
   pub config_is : e.config ≡ config
@@ -167,8 +167,8 @@ AreSteps config ports (report ∷ more) (e ∷ es) =
     (IsIdle report.in_batch report.event report.answer × AreSteps config ports more (e ∷ es))
     ⊎ (IsStepOf config ports report e × AreSteps config ports more es)
 
--- what an opening was, whatever its store: steps from its rows, which are the events of its calls, to
--- rows that are those found after it, if any are
+-- what an opening was, whatever its store: steps from its rows, which are the events of its calls,
+-- to the rows found after it, if any
 pub record WasHistory (o : Opening) (next : Option (List Row)) : Type 0 where
   pub steps : List LeaseStep
   pub last : List Row
@@ -181,8 +181,8 @@ abbrev pub OpeningsAreHistories : {S : Type 0} → Ghosts S → Type 0
 OpeningsAreHistories {S} g =
     (o : Opening) (next : Option (List Row)) → IsOpening g o next → WasHistory o next
 
--- where the disk is clean after an opening it was before, and of a store that stood at a table a
--- crash leaves one of two
+-- if the disk is clean after an opening it was clean before, and if the store stood at a table, a
+-- crash leaves one of two tables
 abbrev pub OpeningsEnd : {S : Type 0} → Ghosts S → Type 0
 OpeningsEnd {S} g =
     (config : Configuration) (ports : Ports) (calls : List Call) (store left : S)
@@ -190,8 +190,8 @@ OpeningsEnd {S} g =
     → g.has_clean_disk store × ((table : List Row) → g.stands store table
     → (before : List Row) × (after : List Row) × g.leaves left before after)
 
--- openings one after another, each a history to the rows of the next, with any configurations and
--- over stores of any types
+-- openings in sequence, each a history to the rows of the next, with any configurations and over
+-- stores of any types
 abbrev pub Life : List Opening → Type 0
 Life [] = Unit {0}
 Life (o ∷ []) = WasHistory o None
@@ -205,12 +205,12 @@ AreStepsOfAll (o ∷ os) es =
     × AreSteps o.config o.ports (reports o.calls) mine
     × AreStepsOfAll os later
 
--- the rows at which a life begins; without an opening there are none
+-- the rows at which a life begins; none if there is no opening
 abbrev pub first_rows : List Opening → List Row
 first_rows [] = []
 first_rows (o ∷ os) = o.rows
 
--- every life is a history with stops: of steps, each of which is an event of a call
+-- every life is a history with stops, each step of which is an event of a call
 abbrev pub LivesAreHistories : Type 0
 LivesAreHistories =
     (life : List Opening) → Life life
@@ -227,12 +227,12 @@ LivesKeepConfigurations =
     (config : Configuration) (life : List Opening) (es : List LeaseStep)
     → AreOpenedWith config life → AreStepsOfAll life es → AreOfOne config es
 
--- what a server reaches by events is calls
+-- whatever a server reaches by events, it reaches by calls
 abbrev pub ReachingIsCalls : {S : Type 0} → Ghosts S → Type 0
 ReachingIsCalls {S} g =
     (old new : Keeping S) → Reaches (Steps g) (Refuses g) old new → AreCalls g old new
 
--- so is what it does where it serves datagrams, however that ends
+-- so is whatever it does while serving datagrams, however that ends
 abbrev pub ServingIsCalls : {S : Type 0} → Ghosts S → Type 0
 ServingIsCalls {S} g =
     (limit : Option ℕ) (result : Result Unit LoopFault) (count : ℕ) (old new : Keeping S)

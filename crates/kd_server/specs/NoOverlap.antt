@@ -1,4 +1,4 @@
--- While an address is leased to a client it is given to no other (RFC 2131 section 1.6), over
+-- While an address is leased to a client, it is given to no other (RFC 2131 section 1.6), over
 -- histories in which the configuration may change and a step may be stopped.
 use Rattle.std.specs.Prelude.{◌≡◌, ◌≢◌, ℕ, ◌+◌, ◌<◌, ◌≤◌, max, ◌⊎◌, List, [], ◌∷◌, Option, Some, None}
 use Rattle.std.specs.List.{slice_get}
@@ -15,8 +15,8 @@ use Rattle.kd_rows.specs.Table.{latest_of, row_at}
 use Rattle.kd_rows.specs.declared.row.Row.{Row}
 use Rattle.kd_rows.specs.declared.row.State.TheVariants as states
 
--- one step of a history: the configuration that counts in it, a message at a moment, the rows before
--- it and after it, and what it gets; nothing where the step was stopped
+-- one step of a history: the configuration in force, a message at a time, the rows before and after
+-- it, and its outcome, or none if the step was stopped
 pub record LeaseStep : Type 0 where
   pub config : Configuration
   pub moment : ℕ
@@ -25,7 +25,7 @@ pub record LeaseStep : Type 0 where
   pub after : List Row
   pub outcome : Option Outcome
 
--- the moment that counts for a step: the latest change of a row, where that is later than its own
+-- the time that counts for a step: its own, or that of the latest change of a row if that is later
 abbrev pub now_of : LeaseStep → ℕ
 now_of e = max e.moment (latest_of e.before)
 
@@ -33,27 +33,27 @@ now_of e = max e.moment (latest_of e.before)
 abbrev pub lifetime_of : LeaseStep → ℕ
 lifetime_of e = e.config.times.lifetime
 
--- the end of such a lease, which its client is told
+-- the end of such a lease, as its client is told
 abbrev pub end_of : LeaseStep → ℕ
 end_of e = now_of e + lifetime_of e
 
--- by the rules the message changes the rows so, and gets this
+-- by the rules, the message changes the rows in this way and has this outcome
 abbrev pub ChangesTo : LeaseStep → Outcome → Type 0
 ChangesTo e outcome = Changes e.config e.before e.message (now_of e) e.after outcome
 
--- what may happen in a step: the rules' change, with what the message gets; where the step was
--- stopped there is no reply, and the rows are those from before it or those after the change
+-- what may happen in a step: the change by the rules, with the message's outcome; if the step was
+-- stopped there is no reply, and the rows are those before it or those after the change
 abbrev pub Happens : LeaseStep → Option Outcome → Type 0
 Happens e (Some outcome) = ChangesTo e outcome
 Happens e None = (e.after ≡ e.before) ⊎ ((outcome : Outcome) × ChangesTo e outcome)
 
--- steps from these rows, each from the rows that the one before it left
+-- steps that start from these rows, each from the rows that the previous one left
 abbrev pub LeaseHistory : List Row → List LeaseStep → Type 0
 LeaseHistory rows [] = Unit {0}
 LeaseHistory rows (e ∷ es) =
     (e.before ≡ rows) × Happens e e.outcome × LeaseHistory e.after es
 
--- such steps, after which these rows are left
+-- such steps, which end with these rows
 abbrev pub HistoryTo : List Row → List LeaseStep → List Row → Type 0
 HistoryTo rows [] last = last ≡ rows
 HistoryTo rows (e ∷ es) last =
@@ -83,7 +83,7 @@ pub record GivesUp (e : LeaseStep) (client : List ℕ) (a : ℕ) : Type 0 where
       ⊎ (kind_of e.message ≡ type_number types.Decline)
   pub changed : row_at e.after a ≢ row_at e.before a
 
--- between two places of a history there is a step in which the client gives up the address
+-- between two positions of a history there is a step in which the client gives up the address
 pub record GivesUpBetween (es : List LeaseStep) (i j : ℕ) (client : List ℕ) (a : ℕ) : Type 0 where
   pub place : ℕ
   pub after : i < place
@@ -92,8 +92,8 @@ pub record GivesUpBetween (es : List LeaseStep) (i j : ℕ) (client : List ℕ) 
   pub there : slice_get es place ≡ Some step
   pub gives_up : GivesUp step client a
 
--- the client asks in a step for an address that it leases, and the row of the address is that of a
--- new lease then, whether the step was stopped or not
+-- in this step the client requests an address that it leases, and the row of the address is then
+-- that of a new lease, whether the step was stopped or not
 pub record Renews (e : LeaseStep) (client : List ℕ) (a : ℕ) : Type 0 where
   pub by : client_identity e.message ≡ Some client
   pub request : kind_of e.message ≡ type_number types.Request
@@ -105,8 +105,8 @@ pub record Renews (e : LeaseStep) (client : List ℕ) (a : ℕ) : Type 0 where
     ends = end_of e;
   })
 
--- between two places of a history the client of a lease renews it under a shorter lifetime than that
--- of the lease, and the new lease has ended by a moment
+-- between two positions of a history the client of a lease renews it under a shorter lifetime than
+-- that of the lease, and the new lease has ended by this time
 pub record ShortenedBetween (es : List LeaseStep) (i j : ℕ) (e : LeaseStep) (client : List ℕ)
     (a moment : ℕ) : Type 0 where
   pub place : ℕ
@@ -119,7 +119,7 @@ pub record ShortenedBetween (es : List LeaseStep) (i j : ℕ) (e : LeaseStep) (c
   pub shorter : lifetime_of step < lifetime_of e
   pub past : end_of step ≤ moment
 
--- a step leases an address to a client, and a later one gives it to another
+-- a step leases an address to a client, and a later step gives it to another client
 pub record Regives (es : List LeaseStep) (i j : ℕ) (e f : LeaseStep) (client : List ℕ)
     (a : ℕ) : Type 0 where
   pub before : i < j
@@ -130,10 +130,10 @@ pub record Regives (es : List LeaseStep) (i j : ℕ) (e f : LeaseStep) (client :
   pub gives : GivesTo f other a
   pub apart : other ≢ client
 
--- whatever the table at first, and whatever the configurations of the steps: where a step leased an
--- address to a client, and a later one gives it to another, the end that the client was told has
--- passed; or between them the client gave the address up, or renewed its lease under a shorter
--- lifetime, whose end has passed
+-- whatever the first table, and whatever the configurations of the steps: if a step leased an
+-- address to a client, and a later step gives it to another, then the end that the client was told
+-- has passed; or between the two the client gave the address up, or renewed its lease under a
+-- shorter lifetime, and that lease has ended
 abbrev pub NoOverlapAcross : Type 0
 NoOverlapAcross =
     (rows : List Row) (es : List LeaseStep) → LeaseHistory rows es
@@ -141,7 +141,7 @@ NoOverlapAcross =
     → (end_of e ≤ now_of f)
     ⊎ (GivesUpBetween es i j client a ⊎ ShortenedBetween es i j e client a (now_of f))
 
--- where no step between them has a shorter lifetime, the end has passed or the address was given up
+-- if no step between the two has a shorter lifetime, the end has passed or the address was given up
 abbrev pub NoOverlapWhereNoneIsShorter : Type 0
 NoOverlapWhereNoneIsShorter =
     (rows : List Row) (es : List LeaseStep) → LeaseHistory rows es
@@ -150,7 +150,7 @@ NoOverlapWhereNoneIsShorter =
     → lifetime_of e ≤ lifetime_of g)
     → Regives es i j e f client a → (end_of e ≤ now_of f) ⊎ GivesUpBetween es i j client a
 
--- the shortest lifetime has passed in any case, or the address was given up
+-- in any case the shortest lifetime has passed, or the address was given up
 abbrev pub NoOverlapForShortest : Type 0
 NoOverlapForShortest =
     (rows : List Row) (es : List LeaseStep) → LeaseHistory rows es
@@ -164,7 +164,7 @@ NoOverlapForShortest =
 abbrev pub AreOfOne : Configuration → List LeaseStep → Type 0
 AreOfOne config es = (k : ℕ) (g : LeaseStep) → slice_get es k ≡ Some g → g.config ≡ config
 
--- with one configuration its lifetime has passed, or the address was given up
+-- with one configuration, its lifetime has passed, or the address was given up
 abbrev pub NoOverlap : Type 0
 NoOverlap =
     (config : Configuration) (rows : List Row) (es : List LeaseStep) → LeaseHistory rows es

@@ -10,21 +10,21 @@ use Rattle.kd_replay.specs.History as past
 use Rattle.kd_rows.specs.declared.row.Row.{Row}
 use Rattle.kd_server.specs.Keeping.{Keeping, Steps, StepsTo}
 
--- an event is answered in one way, and leaves one table
+-- an event has one answer, and leaves one table
 abbrev pub OneStep : Type 0
 OneStep =
     (config : Configuration) (ports : Ports) (rows : List Row) (event : Event)
     (handled other : Handled) (new its : List Row) → StepsTo config ports rows event handled new
     → StepsTo config ports rows event other its → (handled ≡ other) × (new ≡ its)
 
--- two servers stand alike, whatever their stores: they have the same ports, configuration and rows
+-- two servers are alike, whatever their stores: they have the same ports, configuration and rows
 pub record StandAlike {S T : Type 0} (one : Keeping S) (other : Keeping T) : Type 0 where
   pub ports : one.ports ≡ other.ports
   pub config : one.config ≡ other.config
   pub rows : one.rows ≡ other.rows
 
--- servers over two types of stores that stand alike answer the same events alike, and stand alike
--- after them
+-- servers that are alike, over two types of stores, answer the same events alike, and are alike
+-- afterwards
 abbrev pub OneHistory : {S T : Type 0} → Ghosts S → Ghosts T → Type 0
 OneHistory {S} {T} g h =
     (events : List Event) (list others : List Handled) (old new : Keeping S) (its last : Keeping T)

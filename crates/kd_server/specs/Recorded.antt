@@ -1,5 +1,5 @@
 -- Sessions of a server that keeps a record and a log, and what a replay of the record writes: the
--- log again, but for the lines `fault 99 Send`.
+-- log again, except for the lines `fault 99 Send`.
 use Rattle.std.specs.Prelude.{◌≡◌, ◌≢◌, ℕ, Bool, true, List, [], ◌∷◌, ◌++◌, Option, Some, Result, Ok, Err, codes, map, not}
 use Rattle.std.specs.List.{All, filter, flat_map}
 use Rattle.std.specs.Str.{bytes_eq}
@@ -23,22 +23,22 @@ use Rattle.kd_server.specs.Batch.{Batched}
 use Rattle.kd_server.specs.Keeping.{Keeping, Refuses, Steps, StepsTo, latest_in}
 use Rattle.kd_server.specs.OneStep.{StandAlike}
 
--- a file whose bytes are known has grown by these
+-- a file whose bytes are known has grown by these bytes
 pub record HasGrown (old new : Option (List ℕ)) (more : List ℕ) : Type 0 where
   pub first : List ℕ
   pub old_is : old ≡ Some first
   pub new_is : new ≡ Some (first ++ more)
 
 -- serving ends between two batches: all datagrams that were asked for are served, none can be
--- received, or the clock runs ahead
+-- received, or the clock is ahead
 abbrev pub IsBetweenBatches : Result Unit LoopFault → Type 0
 IsBetweenBatches (Ok done) = Unit {0}
 IsBetweenBatches (Err faults.Read) = Unit {0}
 IsBetweenBatches (Err faults.Ahead) = Unit {0}
 IsBetweenBatches (Err fault) = ⊥
 
--- a session of a server, as it is seen from outside: the rows with which it begins and ends, and
--- what it appends to the record and to the log
+-- a session of a server, as seen from outside: the rows with which it begins and ends, and what it
+-- appends to the record and to the log
 pub record Session : Type 0 where
   pub begins : List Row
   pub ends : List Row
@@ -60,12 +60,12 @@ pub record ServesSession {S : Type 0} (g : Ghosts S) (session : Session)
   pub recorded : HasGrown before.recorded after.recorded session.recorded
   pub logged : HasGrown before.written after.written session.logged
 
--- lines, without those that say that a reply could not be sent
+-- these lines without those that say that a reply could not be sent
 abbrev pub without_send_faults : List (List ℕ) → List (List ℕ)
 without_send_faults lines = filter (λ line. not (bytes_eq line (codes "fault 99 Send"))) lines
 
--- a text grows by a log, but for the lines that say that a reply could not be sent: the log is the
--- text of answered datagrams, and the text grows by the line of each
+-- a text grows by a log, except for the lines that say that a reply could not be sent: the log is
+-- the text of answered datagrams, and the text grows by the line of each
 pub record GrowsByLog (log old new : List ℕ) : Type 0 where
   pub more : List ℕ
   pub grown : new ≡ old ++ more
@@ -74,9 +74,9 @@ pub record GrowsByLog (log old new : List ℕ) : Type 0 where
   pub log_is : log ≡ flat_map text_of answers
   pub more_is : more ≡ flat_map (λ a. line_of a.handled) answers
 
--- a server over a store of any type stands alike with the one that begins a session, and replays
--- what was recorded, to the end: it writes what was logged, but for the lines `fault 99 Send`, and
--- stands alike with the one that ends it
+-- a server, over a store of any type, that is alike with the one that begins a session replays what
+-- was recorded, to the end: it writes what was logged, except for the lines `fault 99 Send`, and is
+-- alike with the one that ends the session
 abbrev pub ReplayRepeatsSession : {S T : Type 0} → Ghosts S → Ghosts T → Type 0
 ReplayRepeatsSession {S} {T} g h =
     (session : Session) (old new : Keeping S) (its last : Keeping T) (text out : List ℕ)
@@ -85,8 +85,8 @@ ReplayRepeatsSession {S} {T} g h =
     → GrowsByLog session.logged text out × StandAlike new last
 
 module _ (config : Configuration) (ports : Ports) where
-  -- what a session was, whatever the store: events with a history from its first rows to its last,
-  -- whose lines were recorded, and of which what was answered was logged
+  -- what a session was, whatever the store: events with a history from its first rows to its last;
+  -- the record has their lines, and the log has their answers
   pub record WasSession (session : Session) : Type 0 where
     pub events : List Event
     pub recordable : All IsRecordable events
@@ -96,19 +96,19 @@ module _ (config : Configuration) (ports : Ports) where
     pub recorded : session.recorded ≡ flat_map record_line events
     pub logged : session.logged ≡ flat_map text_of answers
 
-  -- sessions follow one another, each from the rows with which the one before it ended
+  -- sessions follow one another, each from the rows with which the previous one ended
   abbrev pub SessionsFollow : List Row → List Session → List Row → Type 0
   SessionsFollow rows [] last = last ≡ rows
   SessionsFollow rows (session ∷ sessions) last =
       (session.begins ≡ rows) × WasSession session × SessionsFollow session.ends sessions last
 
-  -- a server goes by the configuration and the ports, and its rows are these
+  -- a server has this configuration, these ports and these rows
   pub record IsServerOver {S : Type 0} (rows : List Row) (server : Keeping S) : Type 0 where
     pub ports_are : server.ports ≡ ports
     pub config_is : server.config ≡ config
     pub rows_are : server.rows ≡ rows
 
--- what a server serves is such a session, of its configuration and its ports, which it keeps
+-- what a server serves is such a session, under its configuration and its ports, which it keeps
 abbrev pub SessionsAreHistories : {S : Type 0} → Ghosts S → Type 0
 SessionsAreHistories {S} g =
     (session : Session) (old new : Keeping S) → ServesSession g session old new
@@ -116,7 +116,7 @@ SessionsAreHistories {S} g =
     × IsServerOver old.config old.ports session.ends new
 
 -- one replay of all that sessions recorded, over the rows with which the first began, to the end:
--- it writes all that they logged, but for the lines `fault 99 Send`, and ends with the last rows
+-- it writes all that they logged, except for the lines `fault 99 Send`, and ends with the last rows
 abbrev pub ReplayRepeatsSessions : {T : Type 0} → Ghosts T → Type 0
 ReplayRepeatsSessions {T} h =
     (config : Configuration) (ports : Ports) (rows last : List Row) (sessions : List Session)
@@ -126,15 +126,16 @@ ReplayRepeatsSessions {T} h =
     → GrowsByLog (flat_map (λ s. s.logged) sessions) text out
     × IsServerOver config ports last new
 
--- a text grows by a prefix of a log, but for those lines: with some bytes more it has grown by it
+-- a text grows by a prefix of a log, except for those lines: with some more bytes it has grown by
+-- the log
 pub record GrowsByPrefix (log old new : List ℕ) : Type 0 where
   pub more : List ℕ
   pub grown : new ≡ old ++ more
   pub rest : List ℕ
   pub whole : GrowsByLog log old (new ++ rest)
 
--- such a replay that stops on the way has written a prefix of what was logged, but for those lines,
--- and it never stops because a line is no event
+-- if such a replay stops early, it has written a prefix of what was logged, except for those lines,
+-- and it never stops because a line is not an event
 abbrev pub ReplayStopsOnTheWay : {T : Type 0} → Ghosts T → Type 0
 ReplayStopsOnTheWay {T} h =
     (config : Configuration) (ports : Ports) (rows last : List Row) (sessions : List Session)

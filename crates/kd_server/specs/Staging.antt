@@ -8,15 +8,15 @@ use Rattle.kd_rows.specs.Row.{IsInRange}
 use Rattle.kd_rows.specs.Table.{with_rows}
 use Rattle.kd_rows.specs.declared.row.Row.{Row}
 
--- rows become others, and the rows that are to be committed for it grow: nothing changes, or what
--- there was to commit made the rows from before of a table, and now makes those from after
+-- the rows become others, and the list of rows to be committed grows with them: either nothing
+-- changes, or, over any table, the old list makes the old rows and the new list makes the new ones
 pub record Stages (before : List Row) (old : List Row) (rows : List Row)
     (new : List Row) : Type 0 where
   pub sets : (table : List Row) → with_rows old table ≡ before → with_rows new table ≡ rows
   pub ranges : All IsInRange old → All IsInRange new
   pub moves : ((rows ≡ before) × (new ≡ old)) ⊎ (rows ≢ before)
 
--- a row that would change the rows is not set: memory ran out, and they stay
+-- a row that would change the rows is not set: memory ran out, and the rows stay
 pub record IsUnset (before rows after : List Row) (fault : ServeFault) : Type 0 where
   pub memory : fault ≡ faults.Memory
   pub same : rows ≡ before

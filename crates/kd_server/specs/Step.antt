@@ -1,5 +1,5 @@
--- One event of a history: a datagram at a moment, over a table of leases. What a message changes is
--- a parameter.
+-- One event of a history: a datagram at a time, over a table of leases. What a message changes is a
+-- parameter.
 use Rattle.std.specs.Prelude.{◌≡◌, ℕ, ◌^◌, ◌<◌, max, ◌⊎◌}
 use Rattle.kd_options.specs.Message.{Seen, Reads}
 use Rattle.kd_lease.specs.Client.{reply_room}
@@ -14,8 +14,8 @@ use Rattle.kd_event.specs.declared.event.Response.{Response}
 use Rattle.kd_event.specs.declared.event.Response.TheVariants as responses
 use Rattle.kd_event.specs.declared.reason.Reason.TheVariants as reasons
 
--- what is sent for a message that gets this: a planned reply's text, to its destination; else the
--- reason
+-- what is sent for a message with this outcome: the text of the planned reply, to its destination;
+-- or nothing, for the reason given
 abbrev pub Responds : Ports → Seen → Outcome → Response → Type 0
 Responds ports m (quiet reason) response = response ≡ responses.Quiet reason
 Responds ports m (planned kind yiaddr options) (responses.Quiet reason) = ⊥
@@ -32,7 +32,8 @@ module _ {Table : Type 0} (latest : Table → ℕ)
     pub quiet : response ≡ responses.Quiet reasons.Unreadable
     pub table : new ≡ old
 
-  -- the datagram reads as a message, which changes the table, and gets what is sent
+  -- the datagram reads as a message, which changes the table, and what is sent follows from its
+  -- outcome
   pub record IsAnswered (old : Table) (event : Event) (now : ℕ) (response : Response)
       (new : Table) : Type 0 where
     pub message : Seen
@@ -41,7 +42,8 @@ module _ {Table : Type 0} (latest : Table → ℕ)
     pub changes : Changes old message now new outcome
     pub responds : Responds ports message outcome response
 
-  -- one event: its moment is below 2^40, and counts as the latest change where that is later
+  -- one event: its time is below 2^40, and a time before the latest change counts as that of the
+  -- change
   pub record IsStep (old : Table) (event : Event) (handled : Handled) (new : Table) : Type 0 where
     pub early : event.moment < 2 ^ 40
     pub now : handled.now ≡ max event.moment (latest old)

@@ -8,22 +8,22 @@ use Rattle.kd_rows.specs.declared.row.Row.{Row}
 use Rattle.kd_server.specs.Keeping.{StepsTo}
 use Rattle.kd_server.specs.declared.batching.Rules.{Rules}
 
--- what contracts see of a trial: its ports, the configuration that it goes by, and its rows
+-- what contracts see of a trial: its ports, its configuration and its rows
 pub record Trying : Type 0 where
   pub ports : Ports
   pub config : Configuration
   pub rows : List Row
 
--- a trial by these rules, at these rows
+-- a trial by these rules, with these rows
 abbrev pub trying : Rules → List Row → Trying
 trying rules rows =
     record { ports = rules.ports; config = rules.config.now; rows = rows }
 
--- the same trial at other rows
+-- the same trial with other rows
 abbrev pub at_rows : Trying → List Row → Trying
 at_rows t rows = record { ports = t.ports; config = t.config; rows = rows }
 
--- what a server at the rows of a trial would answer to an event
+-- what a server with the rows of a trial would answer to an event
 abbrev pub WouldAnswer : Trying → Event → Handled → Type 0
 WouldAnswer t event handled =
     (new : List Row) × StepsTo t.config t.ports t.rows event handled new

@@ -23,7 +23,7 @@ IsSent ports m plan (responses.Reply destination text) =
     (destination ≡ destination_of m.header plan.kind plan.yiaddr ports)
     × (text ≡ reply_text plan.reply.header plan.room plan.reply.items)
 
--- a message sets this row, and this is sent
+-- a message sets this row, if any, and this is sent
 pub record Turns (config : Configuration) (ports : Ports) (rows : List Row) (now : ℕ) (m : Seen)
     (row : Option Row) (response : Response) : Type 0 where
   pub names : List (List ℕ)
@@ -32,7 +32,7 @@ pub record Turns (config : Configuration) (ports : Ports) (rows : List Row) (now
   pub decides : Decides config rows names m now row outcome
   pub responds : Responds ports m outcome response
 
--- a datagram reads as a message, which sets this row, and this is sent
+-- a datagram reads as a message, which sets this row, if any, and this is sent
 pub record TurnsAs (config : Configuration) (ports : Ports) (rows : List Row) (now : ℕ)
     (bytes : List ℕ) (row : Option Row) (response : Response) : Type 0 where
   pub message : Seen
@@ -45,7 +45,7 @@ pub record IsNoTurn (bytes : List ℕ) (row : Option Row) (response : Response) 
   pub quiet : response ≡ responses.Quiet reasons.Unreadable
   pub none : row ≡ None
 
--- which row a datagram sets, and what is sent
+-- which row a datagram sets, if any, and what is sent
 abbrev pub IsTurn : Configuration → Ports → List Row → ℕ → List ℕ → Option Row → Response → Type 0
 IsTurn config ports rows now bytes row response =
     IsNoTurn bytes row response ⊎ TurnsAs config ports rows now bytes row response

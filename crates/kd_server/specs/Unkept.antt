@@ -9,14 +9,14 @@ use Rattle.kd_rows.specs.Table.{latest_of}
 use Rattle.kd_rows.specs.declared.row.Row.{Row}
 use Rattle.kd_server.specs.Keeping.{Loses}
 
--- a row that may be set: no other was set later, and its times are in range
+-- a row that may be set: no row has a later change, and its times are in range
 pub record IsSettable (rows : List Row) (row : Row) : Type 0 where
   pub changed : latest_of rows ≤ row.changed
   pub in_range : IsInRange row
 
 module _ {S : Type 0} (g : Ghosts S) where
   -- a row that changes the rows is not kept: memory ran out, and nothing changed; or the store
-  -- failed, and the rows stay
+  -- failed, and the server's rows stay
   abbrev pub IsUnkept : List Row → List Row → S → S → List Row → ServeFault → Type 0
   IsUnkept before rows old new after faults.MomentTooLarge = ⊥
   IsUnkept before rows old new after faults.Memory =

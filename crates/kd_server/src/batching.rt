@@ -22,19 +22,19 @@ use kd_replay::{Arrived, ServeFault};
 use kd_rows::Row;
 use std::alloc::{AllocError, Global};
 
-/// What a server works with: the memory, and what it goes by.
+/// What a server works with: its allocator, its ports and its configuration.
 #[derive(Clone, Copy)]
 pub struct Rules<'a> {
-    /// Where memory is taken from.
+    /// The allocator that memory comes from.
     pub alloc: Global,
-    /// The ports to which replies go.
+    /// The ports that replies go to.
     pub ports: Ports,
     /// The configuration.
     pub config: &'a Config,
 }
 
-// Handles events one after another, up to the first fault: their rows are set, and those to be
-// committed are listed.
+// Handles events in order, up to the first fault. Sets the rows that they change, and lists those
+// rows to be committed.
 pub(crate) fn handle_each(
     alloc: Global,
     ports: Ports,
@@ -64,7 +64,7 @@ pub(crate) fn handle_each(
     None
 }
 
-// Handles an event: its row is set, and listed to be committed where it changes the rows.
+// Handles one event. If its row changes the rows, sets it and lists it to be committed.
 fn handle_one(
     alloc: Global,
     ports: Ports,
@@ -83,7 +83,7 @@ fn handle_one(
     handle_at(alloc, ports, leases, set, event.moment(), event.bytes())
 }
 
-// Handles a datagram at a moment, in the same way.
+// Handles a datagram that arrived at this time, in the same way.
 fn handle_at(
     alloc: Global,
     ports: Ports,
@@ -110,7 +110,7 @@ fn handle_at(
     Ok(Handled { now, response })
 }
 
-// Sets a row, where there is one and it changes the rows, and lists it to be committed.
+// If there is a row and it changes the rows, sets it and lists it to be committed.
 fn stage(
     alloc: Global,
     leases: &mut Leases,
@@ -130,7 +130,7 @@ fn stage(
     }
 }
 
-// Sets a row, where it changes the rows, and lists it to be committed.
+// If the row changes the rows, sets it and lists it to be committed.
 #[tactic(auto, using(crate::proofs::Staged::staged, crate::proofs::Staged::unstaged))]
 fn stage_row(
     alloc: Global,
@@ -154,7 +154,7 @@ fn stage_row(
     Ok(())
 }
 
-// Lists a copy of a row.
+// Adds a copy of a row to the list.
 fn list_row(alloc: Global, set: &mut Vec<Row>, row: &Row) -> Result<(), AllocError>
     ensures listed { OnOk result (set.new.items ≡ set.old.items ++ row.now ∷ []) }
     ensures same { OnErr result (set.new.items ≡ set.old.items) }
@@ -163,7 +163,7 @@ fn list_row(alloc: Global, set: &mut Vec<Row>, row: &Row) -> Result<(), AllocErr
     Ok(())
 }
 
-// Commits the rows that are listed, where there are any.
+// Commits the listed rows, if there are any.
 pub(crate) fn keep_all<S: Keeps>(store: &mut S, set: &[Row]) -> Result<(), StoreFault>
     requires works { is_some (S.fault store.old) ≡ false }
     requires ranges { All IsInRange set.now }

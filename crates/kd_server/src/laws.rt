@@ -1,4 +1,4 @@
-//! What is true of every history, whatever the program does: each law is the contract of a function
+//! What holds of every history, whatever the program does. Each law is the contract of a function
 //! that does nothing but name the laws it rests on.
 ghost use Rattle.kd_server.specs.Lives.{LivesAreHistories, LivesKeepConfigurations, OpeningsAreHistories, OpeningsEnd, ReachingIsCalls, RunsAreCalls, ServingIsCalls};
 ghost use Rattle.kd_server.specs.OneStep.{OneHistory, OneStep};
@@ -7,12 +7,14 @@ ghost use Rattle.kd_server.specs.NoOverlap.{NoOverlap, NoOverlapAcross, NoOverla
 
 use kd_keeps::Keeps;
 
-/// No address is leased to one client and given to another at once, whatever the configurations.
-/// Where an ACK of a REQUEST leased an address, each OFFER or ACK of it to another client comes no
-/// earlier than the end that the first client was told; or after its RELEASE or DECLINE, which
-/// changed the address's row; or after the end of a lease under a shorter lifetime, for which it
-/// asked itself, answered or not. This holds of every history, from any table, stopped events
-/// included.
+/// No address is leased to one client and given to another at the same time, whatever the
+/// configurations.
+///
+/// Suppose that an ACK of a REQUEST leased an address. An OFFER or ACK of it to another client then
+/// comes no earlier than the end that the first client was given; or after a RELEASE or DECLINE of
+/// the first client that changed the row of the address; or after the end of a lease under a
+/// shorter lifetime that the first client requested itself, whether or not it got a reply. This
+/// holds of every history, from any table, including histories with stopped events.
 pub fn no_overlap_across()
     ensures { NoOverlapAcross }
 {
@@ -24,23 +26,23 @@ pub fn no_overlap_across()
     kd_lease::laws::held_is_not_given();
 }
 
-/// Where no later lifetime is shorter than that of the lease, the other client comes no earlier
-/// than its end, or after a RELEASE or DECLINE.
+/// If no later lifetime is shorter than that of the lease, the other client comes no earlier than
+/// the end of the lease, or after a RELEASE or DECLINE.
 pub fn no_overlap_where_none_is_shorter()
     ensures { NoOverlapWhereNoneIsShorter }
 {
     no_overlap_across();
 }
 
-/// Whatever the lifetimes, the shortest of them passes before the other client comes, or a RELEASE
-/// or DECLINE came before.
+/// Whatever the lifetimes, the other client comes only after the shortest of them has passed, or
+/// after a RELEASE or DECLINE.
 pub fn no_overlap_for_shortest()
     ensures { NoOverlapForShortest }
 {
     no_overlap_across();
 }
 
-/// With one configuration each OFFER or ACK of a leased address to another client comes at least
+/// With one configuration, each OFFER or ACK of a leased address to another client comes at least
 /// the lifetime later, or after a RELEASE or DECLINE of the first client.
 pub fn no_overlap()
     ensures { NoOverlap }
@@ -48,49 +50,49 @@ pub fn no_overlap()
     no_overlap_across();
 }
 
-/// An opening of a server over a store that stands at a table, its calls, and the store as it was
-/// left: a history from that table to the rows that are found after it, where these are some that a
-/// crash of the store leaves. This holds of every store that keeps leases, where its disk is clean.
+/// An opening of a server is a history: a store that stands at a table, the calls of the server
+/// over it, and the store as it was left. The history goes from that table to the rows that are
+/// found afterwards, if these are rows that a crash of the store leaves. This holds for every store
+/// that keeps leases, if its disk is clean.
 pub fn openings_are_histories<S: Keeps>()
     ensures { OpeningsAreHistories S.Keeps }
 {}
 
-/// After an opening a crash leaves one of two tables, where the disk is clean; and it was clean
-/// before.
+/// After an opening, a crash leaves one of two tables if the disk is clean; and the disk was then
+/// clean before the opening.
 pub fn openings_end<S: Keeps>()
     ensures { OpeningsEnd S.Keeps }
 {}
 
-/// Openings one after another, each of them at the rows that are found after the one before it,
-/// with whatever configurations and over stores of whatever types, are one history with stops, of
-/// which `no_overlap_across` speaks: each step is a call of `Server::handle` under the
-/// configuration of its opening, and where the store failed the step was stopped.
+/// Openings that follow one another, each starting at the rows found after the previous one, form
+/// one history with stops, to which `no_overlap_across` applies. Their configurations and the types
+/// of their stores may differ. Each step is a call of `Server::handle` under the configuration of
+/// its opening; where the store failed, the step was stopped.
 pub fn lives_are_histories()
     ensures { LivesAreHistories }
 {}
 
-/// Where the openings have one configuration, the steps are of that one, and `no_overlap` speaks of
-/// them.
+/// If all openings have one configuration, so do all steps, and `no_overlap` applies to them.
 pub fn lives_keep_configurations()
     ensures { LivesKeepConfigurations }
 {}
 
-/// A run of events is calls of `Server::handle`, one after another up to the first fault.
+/// A run of events is a series of calls of `Server::handle`, up to the first fault.
 pub fn runs_are_calls<S: Keeps>()
     ensures { RunsAreCalls S.Keeps }
 {}
 
-/// So is what a replay does with a server, whatever it reads and writes.
+/// Whatever a replay reads and writes, what it does with a server is such a series of calls.
 pub fn replaying_is_calls<S: Keeps>()
     ensures { ReachingIsCalls S.Keeps }
 {}
 
-/// So is what `serve` does with a server, whatever comes over its link.
+/// Whatever comes over its link, what `serve` does with a server is such a series of calls.
 pub fn serving_is_calls<S: Keeps>()
     ensures { ServingIsCalls S.Keeps }
 {}
 
-/// A history is a function of its events: over a table an event is answered in one way, and leaves
+/// A history is a function of its events: over a given table, an event has one answer and leaves
 /// one table.
 pub fn one_step()
     ensures { OneStep }
@@ -98,18 +100,19 @@ pub fn one_step()
     kd_lease::laws::one_change();
 }
 
-/// So a replay cannot differ from what was served: two servers of one configuration, over the same
-/// rows and stores of whatever types, answer the same events alike, byte for byte.
+/// A replay cannot differ from what was served: two servers with the same configuration and rows,
+/// over stores of any types, answer the same events alike, byte for byte.
 pub fn one_history<S: Keeps, T: Keeps>()
     ensures { OneHistory S.Keeps T.Keeps }
 {
     one_step();
 }
 
-/// A replay of what a session of `serve` recorded, over the configuration, the ports and the rows
-/// with which the session began, writes what the session logged, line for line, but for the lines
-/// `fault 99 Send`, and ends with the session's last rows. The two stores may be of any types. The
-/// session must end between two batches, and the replay must reach the end of the record.
+/// A replay of what a session of `serve` recorded writes what the session logged, line for line,
+/// except for the lines `fault 99 Send`, and ends with the session's last rows. The replay starts
+/// with the configuration, the ports and the rows with which the session began. The two stores may
+/// be of any types. The session must end between two batches, and the replay must reach the end of
+/// the record.
 pub fn replay_repeats_session<S: Keeps, T: Keeps>()
     ensures { ReplayRepeatsSession S.Keeps T.Keeps }
 {
@@ -117,14 +120,14 @@ pub fn replay_repeats_session<S: Keeps, T: Keeps>()
 }
 
 /// A session of `serve` that ends between two batches is a history of the events that it recorded,
-/// and what it logged is what the server answered them, whatever its store.
+/// and its log is what the server answered them, whatever its store.
 pub fn sessions_are_histories<S: Keeps>()
     ensures { SessionsAreHistories S.Keeps }
 {}
 
-/// The same for a day with restarts: each session begins with the rows with which the one before it
-/// ended, all have one configuration, and their stores may be of any types. One replay of all that
-/// they recorded, over the rows with which the first began, writes all that they logged, but for
+/// The same for a day with restarts. Each session begins with the rows with which the previous one
+/// ended; all have one configuration, and their stores may be of any types. One replay of all that
+/// they recorded, over the rows with which the first began, writes all that they logged, except for
 /// the lines `fault 99 Send`, and ends with the rows of the last.
 pub fn replay_repeats_sessions<T: Keeps>()
     ensures { ReplayRepeatsSessions T.Keeps }
@@ -132,9 +135,9 @@ pub fn replay_repeats_sessions<T: Keeps>()
     one_step();
 }
 
-/// Where such a replay stops on the way, as it does when memory runs out, it has written a prefix
-/// of what the sessions logged, but for those lines. It never stops because a line of the record is
-/// no event.
+/// If such a replay stops early, for example because memory runs out, it has written a prefix of
+/// what the sessions logged, except for those lines. It never stops because a line of the record is
+/// not an event.
 pub fn replay_stops_on_the_way<T: Keeps>()
     ensures { ReplayStopsOnTheWay T.Keeps }
 {

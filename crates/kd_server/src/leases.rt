@@ -10,7 +10,7 @@ use kd_wire::Bytes;
 use std::alloc::{AllocError, Global};
 use std::fmt::Write;
 
-/// A row of the table of leases at a moment.
+/// A row of the table of leases, as seen at some time.
 #[derive(Drop)]
 pub struct Lease {
     /// The row.
@@ -19,14 +19,14 @@ pub struct Lease {
     pub live: bool,
 }
 
-/// The leases of rows at a moment, in whole seconds, where their store has not failed: the rows in
-/// rising address, and which of them have not ended. A moment before the latest change counts as
-/// that.
+/// Returns the leases of rows at a time in whole seconds, if their store has not failed: the rows
+/// in ascending order of address, each with whether it is still live. A time before the latest
+/// change counts as the time of that change.
 ///
 /// # Errors
 ///
-/// `Failed` where the store has failed, `MomentTooLarge` where the moment is not below 2^40, and
-/// `Memory`.
+/// `Failed` if the store has failed, `MomentTooLarge` if the time is not below 2^40, and `Memory`
+/// if memory runs out.
 pub fn leases_at(
     alloc: Global,
     rows: &Rows,
@@ -47,7 +47,7 @@ pub fn leases_at(
     Ok(leases_of(alloc, rows, now)?)
 }
 
-// The rows at a moment that counts.
+// The rows at a time that is not before their latest change.
 fn leases_of(alloc: Global, rows: &Rows, now: u64) -> Result<Vec<Lease>, AllocError>
     ensures { IfOk result (λ list. list.items ≡ map (lease_of_row now) rows.now.rows) }
 {
@@ -60,7 +60,7 @@ fn leases_of(alloc: Global, rows: &Rows, now: u64) -> Result<Vec<Lease>, AllocEr
     Ok(list)
 }
 
-// A row at a moment.
+// A row at a time.
 fn lease_at(alloc: Global, row: &Row, now: u64) -> Result<Lease, AllocError>
     ensures { IfOk result (λ lease. lease ≡ lease_of_row now row.now) }
 {
@@ -83,12 +83,13 @@ pub(crate) fn copy_of(alloc: Global, row: &Row) -> Result<Row, AllocError>
     })
 }
 
-/// The lines of leases, each with its line feed: `ADDRESS STATE CLIENT changed MOMENT ends MOMENT`,
-/// and `live` or `past`. The client's identity is in hexadecimal, or a dash where there is none.
+/// Returns the lines of leases, each with its line feed: `ADDRESS STATE CLIENT changed MOMENT ends
+/// MOMENT`, and `live` or `past`. The client's identity is in hexadecimal, or a dash if there is
+/// none.
 ///
 /// # Errors
 ///
-/// There is no memory for the lines.
+/// Out of memory.
 pub fn lease_lines(alloc: Global, leases: &[Lease]) -> Result<String, AllocError>
     ensures { IfOk result (λ text. string_bytes text ≡ flat_map lease_line leases.now) }
 {
@@ -116,7 +117,7 @@ fn put_lease(alloc: Global, out: &mut String, lease: &Lease) -> Result<(), Alloc
     Ok(())
 }
 
-// When the row was set, and its end.
+// The time at which the row was set, and its end.
 fn put_moments(out: &mut String, changed: u64, ends: u64) -> Result<(), AllocError>
     ensures { OnOk result (string_bytes out.new ≡ string_bytes out.old
         ++ (codes " changed " ++ decimal changed ++ codes " ends " ++ decimal ends ++ codes " ")) }

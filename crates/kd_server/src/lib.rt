@@ -1,10 +1,10 @@
-//! The server: what it sends for a datagram, and what it keeps of the leases.
+//! The server: what it sends for a datagram, and which leases it keeps.
 //!
-//! What this layer promises to the one above: an event is answered as the history of events says,
-//! over the configuration that the server goes by and the rows that it stands at, which its store
-//! keeps (`specs/Keeping.antt`), by the rules of `kd_lease`; `run` and `replay` are those of
-//! `kd_replay`, over this server. While an address is leased to a client, no history gives it to
-//! another, whatever its configurations (`specs/NoOverlap.antt`, `laws::no_overlap_across`).
+//! What this layer promises to the one above: the server answers an event as the history of events
+//! says, by the rules of `kd_lease`, over its configuration and its rows, and its store keeps those
+//! rows (`specs/Keeping.antt`). `run` and `replay` are those of `kd_replay`, over this server.
+//! While an address is leased to a client, no history gives it to another, whatever its
+//! configurations (`specs/NoOverlap.antt`, `laws::no_overlap_across`).
 #![tactic(auto)]
 
 mod batching;

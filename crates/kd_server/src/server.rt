@@ -25,7 +25,7 @@ use kd_rows::{Row, Rows};
 use std::alloc::Global;
 use std::marker::Model;
 
-/// A server that goes by a configuration, gives out leases, and keeps them in a store.
+/// A server that gives out leases by a configuration and keeps them in a store.
 #[derive(Drop)]
 pub struct Server<S: Keeps> {
     ports: Ports,
@@ -48,16 +48,16 @@ impl<S: Keeps> Model for Server<S> {
         } };
 }
 
-// Moments are below this, 2^40 seconds.
+// Every time that the server accepts is below this, 2^40 seconds.
 pub(crate) const MOMENTS: u64 = 0x100_0000_0000;
 
 impl<S: Keeps> Server<S> {
-    /// A server with these ports that goes by this configuration, and stands at the leases of this
-    /// store.
+    /// Opens a server with these ports and this configuration, over the leases of this store.
     ///
     /// # Errors
     ///
-    /// `Store` where the store fails, and `Memory`; configuration and store come back.
+    /// `Store` if the store fails, and `Memory` if memory runs out. The configuration and the store
+    /// are returned.
     pub fn open(
         alloc: Global,
         config: Config,
@@ -75,12 +75,12 @@ impl<S: Keeps> Server<S> {
         }
     }
 
-    /// The same over a store that was just opened, at the rows that were read from it then: they are
-    /// not read again.
+    /// Does the same over a store that was just opened, with the rows that were read from it then,
+    /// so that they are not read again.
     ///
     /// # Errors
     ///
-    /// `Memory`; configuration and store come back.
+    /// `Memory` if memory runs out. The configuration and the store are returned.
     pub fn start(
         alloc: Global,
         config: Config,
@@ -97,7 +97,7 @@ impl<S: Keeps> Server<S> {
         seat(alloc, config, store, rows, ports)
     }
 
-    /// The server's end: the configuration that it went by, and its store.
+    /// Closes the server and returns its configuration and its store.
     pub fn close(self) -> (Config, S)
         ensures config { result.0 ≡ self.config }
         ensures store { result.1 ≡ self.store }
@@ -106,48 +106,48 @@ impl<S: Keeps> Server<S> {
         (leases.into_config(), store)
     }
 
-    /// The configuration that it goes by.
+    /// Returns the server's configuration.
     pub fn config(&self) -> &Config
         ensures { result.now ≡ self.now.config }
     {
         self.leases.config()
     }
 
-    /// The rows of leases, ended ones among them.
+    /// Returns the rows of leases, including those that have ended.
     pub fn rows(&self) -> &Rows
         ensures { result.now.rows ≡ self.now.rows }
     {
         self.leases.rows()
     }
 
-    /// Whether the store has failed.
+    /// Reports whether the store has failed.
     pub fn has_failed(&self) -> bool
         ensures { result ≡ is_some (S.fault self.now.store) }
     {
         self.store.failed()
     }
 
-    /// How many rows of leases there are, ended ones among them.
+    /// Returns the number of rows of leases, including those that have ended.
     pub fn row_count(&self) -> usize
         ensures { result ≡ length self.now.rows }
     {
         self.leases.rows().len()
     }
 
-    /// The latest change of a row, in whole seconds; 0 without rows.
+    /// Returns the time of the latest change of a row, in whole seconds, or 0 if there are no rows.
     pub fn latest_change(&self) -> u64
         ensures { result ≡ latest_of self.now.rows }
     {
         self.leases.rows().latest()
     }
 
-    /// The leases at a moment, in whole seconds: the rows in rising address, and which of them have
-    /// not ended.
+    /// Returns the leases at a time in whole seconds: the rows in ascending order of address, each
+    /// with whether it is still live.
     ///
     /// # Errors
     ///
-    /// `Failed` where the store has failed, `MomentTooLarge` where the moment is not below 2^40,
-    /// and `Memory`.
+    /// `Failed` if the store has failed, `MomentTooLarge` if the time is not below 2^40, and
+    /// `Memory` if memory runs out.
     pub fn leases(&self, moment: u64) -> Result<Vec<Lease>, ServeFault>
         ensures leases { IfOk result (λ list. list.items ≡ leases_of_rows moment self.now.rows) }
         ensures works { IfOk result (λ list. (is_some (S.fault self.now.store) ≡ false)
@@ -157,13 +157,13 @@ impl<S: Keeps> Server<S> {
         leases_at(self.alloc, self.leases.rows(), self.store.failed(), moment)
     }
 
-    /// Handles events one after another, up to the first fault. The list for all of them is grown
+    /// Handles events in order, up to the first fault. Memory for the list of results is reserved
     /// first.
     ///
     /// # Errors
     ///
-    /// Beside the list of what was handled, the fault of the next event; or `Memory` before the
-    /// first.
+    /// The fault of the first event that was not handled, next to the results of those that were;
+    /// or `Memory` before the first event.
     pub fn run(&mut self, events: &[Event]) -> (Vec<Handled>, Option<ServeFault>)
         ensures { Runs (Steps S.Keeps) (Refuses S.Keeps)
             events.now result.0.items result.1 self.old self.new }
@@ -171,14 +171,14 @@ impl<S: Keeps> Server<S> {
         run_with(self.alloc, self, events)
     }
 
-    /// What is sent for a datagram at a moment, in whole seconds (RFC 2131 section 4.3). The row
-    /// that it sets is committed to the store before.
+    /// Returns what is sent for a datagram that arrived at this time, in whole seconds (RFC 2131
+    /// section 4.3). The row that it sets is committed to the store first.
     ///
     /// # Errors
     ///
-    /// `Failed` where the store has failed before, `MomentTooLarge` where the moment is not below
-    /// 2^40, and `Memory`: nothing is changed then. `Store` where the store fails at the row: the
-    /// server's rows are those from before, and the store holds these or those with the row.
+    /// `Failed` if the store failed earlier, `MomentTooLarge` if the time is not below 2^40, and
+    /// `Memory` if memory runs out; these change nothing. `Store` if the store fails at the row:
+    /// the server keeps the old rows, and the store holds the old rows or those with the new row.
     pub fn handle(&mut self, moment: u64, bytes: &[u8]) -> Result<Handled, ServeFault>
         ensures handled { IfOk result (λ handled.
             Steps S.Keeps self.old
@@ -200,16 +200,16 @@ impl<S: Keeps> Server<S> {
         Ok(Handled { now, response })
     }
 
-    /// What is sent for events, in their order, each at its moment; the rows that they set are
-    /// committed to the store together, before anything is answered.
+    /// Returns what is sent for events, in their order, each at its own time. The rows that they
+    /// set are committed to the store together, before anything is answered.
     ///
     /// # Errors
     ///
-    /// Beside what was handled, the fault of the next event: `MomentTooLarge` where its moment is
-    /// not below 2^40, and `Memory`, for it or before the first. `Failed` where the store has failed
-    /// before: nothing is handled. `Store` where the store fails at the commit: nothing is answered,
-    /// the store holds the rows from before or those with all rows set, and the server's rows are
-    /// the latter.
+    /// The fault of the first event that was not handled, next to the results of those that were:
+    /// `MomentTooLarge` if its time is not below 2^40, and `Memory`, for that event or before the
+    /// first. `Failed` if the store failed earlier: nothing is handled. `Store` if the store fails
+    /// at the commit: nothing is answered, the store holds the old rows or those with all rows set,
+    /// and the server's rows are the latter.
     pub fn handle_all(&mut self, events: &[Arrived]) -> (Vec<Handled>, Option<ServeFault>)
         ensures batch { Batched S.Keeps self.old events.now result.0.items result.1 self.new }
         ensures small { All (λ handled. IsSmall handled.response) result.0.items }
@@ -265,7 +265,7 @@ impl<S: Keeps> Serves for Server<S> {
     }
 }
 
-// A server over a store, at these rows.
+// A server over a store, with these rows.
 fn seat<S: Keeps>(
     alloc: Global,
     config: Config,
@@ -291,7 +291,7 @@ fn seat<S: Keeps>(
     }
 }
 
-// Sets a row in the store and among the rows, where there is one and it changes them.
+// If there is a row and it changes the rows, sets it in the store and among the rows.
 fn keep<S: Keeps>(leases: &mut Leases, store: &mut S, row: Option<Row>) -> Result<(), ServeFault>
     requires works { is_some (S.fault store.old) ≡ false }
     requires set { IfSome row (IsSettable leases.old.table.rows) }
@@ -309,7 +309,7 @@ fn keep<S: Keeps>(leases: &mut Leases, store: &mut S, row: Option<Row>) -> Resul
     }
 }
 
-// Sets a row in the store and among the rows, where it changes them.
+// If the row changes the rows, sets it in the store and among the rows.
 fn keep_row<S: Keeps>(leases: &mut Leases, store: &mut S, row: Row) -> Result<(), ServeFault>
     requires works { is_some (S.fault store.old) ≡ false }
     requires set { IsSettable leases.old.table.rows row }

@@ -18,7 +18,7 @@ use kd_rows::{Row, Rows};
 use std::alloc::{AllocError, Global};
 use std::marker::Model;
 
-/// A server that keeps nothing: what a server that goes by these rules would do.
+/// A server that keeps nothing: it finds out what a server with these rules would do.
 #[derive(Drop)]
 pub struct Trial<'a> {
     rules: Rules<'a>,
@@ -36,7 +36,7 @@ impl<'a> Model for Trial<'a> {
 }
 
 impl<'a> Trial<'a> {
-    /// A trial that begins at a copy of these rows.
+    /// Starts a trial with a copy of these rows.
     ///
     /// # Errors
     ///
@@ -48,26 +48,27 @@ impl<'a> Trial<'a> {
         Ok(Trial { rules, rows })
     }
 
-    /// The rules that it goes by.
+    /// Returns the rules of the trial.
     pub fn rules(&self) -> Rules<'a>
         ensures { trying result self.now.rows ≡ self.now }
     {
         self.rules
     }
 
-    /// The rows of leases, ended ones among them.
+    /// Returns the rows of leases, including those that have ended.
     pub fn rows(&self) -> &Rows
         ensures { result.now.rows ≡ self.now.rows }
     {
         &self.rows
     }
 
-    /// What `Server::handle` would answer to a datagram at a moment, in whole seconds; the row that
-    /// it sets is set here.
+    /// Returns what `Server::handle` would answer to a datagram that arrived at this time, in whole
+    /// seconds. The row that the datagram sets is set in the trial.
     ///
     /// # Errors
     ///
-    /// `MomentTooLarge` where the moment is not below 2^40, and `Memory`: nothing is changed then.
+    /// `MomentTooLarge` if the time is not below 2^40, and `Memory` if memory runs out; these
+    /// change nothing.
     pub fn handle(&mut self, moment: u64, bytes: &[u8]) -> Result<Handled, ServeFault>
         ensures handled { IfOk result (λ handled. TriesStep self.old
             (record { moment = moment; bytes = bytes.now }) handled self.new) }
@@ -93,12 +94,12 @@ impl<'a> Trial<'a> {
 }
 
 impl Rules<'_> {
-    /// What `Server::handle` would answer to a datagram at a moment, in whole seconds, over rows.
-    /// Nothing is changed.
+    /// Returns what `Server::handle` would answer, over these rows, to a datagram that arrived at
+    /// this time, in whole seconds. Nothing is changed.
     ///
     /// # Errors
     ///
-    /// `MomentTooLarge` where the moment is not below 2^40, and `Memory`.
+    /// `MomentTooLarge` if the time is not below 2^40, and `Memory` if memory runs out.
     pub fn foresee(&self, rows: &Rows, moment: u64, bytes: &[u8]) -> Result<Handled, ServeFault>
         ensures answer { IfOk result (WouldAnswer (trying self.now rows.now.rows)
             (record { moment = moment; bytes = bytes.now })) }
@@ -117,7 +118,7 @@ impl Rules<'_> {
     }
 }
 
-// Sets a row, where there is one.
+// Sets a row, if there is one.
 fn put(rows: &mut Rows, row: Option<Row>) -> Result<(), ServeFault>
     requires { IfSome row (IsSettable rows.old.rows) }
     ensures rows { OnOk result (rows.new.rows ≡ after rows.old.rows row) }
@@ -130,7 +131,7 @@ fn put(rows: &mut Rows, row: Option<Row>) -> Result<(), ServeFault>
     }
 }
 
-// Sets a row, where it changes the rows.
+// Sets a row, if it changes the rows.
 fn put_row(rows: &mut Rows, row: Row) -> Result<(), ServeFault>
     requires { IsSettable rows.old.rows row }
     ensures rows { OnOk result (rows.new.rows ≡ with_row row rows.old.rows) }
@@ -153,12 +154,12 @@ fn copied(alloc: Global, rows: &Rows) -> Result<Rows, AllocError>
     seated(rows, list)
 }
 
-// The table of a list that has the same rows as this table.
+// Makes a table from a list that has the same rows as this table.
 fn seated(rows: &Rows, list: Vec<Row>) -> Result<Rows, AllocError>
     requires { list.items ≡ rows.now.rows }
     ensures { IfOk result (λ copy. copy.rows ≡ rows.now.rows) }
 {
-    // They rise, and each is in its range, as the length says beside itself.
+    // The contract of `len` also says that the rows are in ascending order and each in its range.
     let _count = rows.len();
     Rows::new(list)
 }

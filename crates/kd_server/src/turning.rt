@@ -15,8 +15,8 @@ use kd_rows::Row;
 use kd_wire::Bytes;
 use std::alloc::{AllocError, Global};
 
-// What a datagram does at a moment: the row that it sets, if it sets one, and what is sent. No
-// memory is taken before its header is read.
+// What a datagram does at this time: the row that it sets, if any, and what is sent. No memory is
+// allocated before its header is read.
 #[tactic(auto, using(crate::proofs::Headed::message_headed))]
 pub(crate) fn turn_at(
     alloc: Global,
@@ -40,7 +40,7 @@ pub(crate) fn turn_at(
     }
 }
 
-// What a message does at a moment.
+// What a message does at this time.
 fn turn_of(
     alloc: Global,
     ports: Ports,
@@ -78,7 +78,7 @@ fn response_to(
     }
 }
 
-// A planned reply, as it is sent.
+// A planned reply in the form in which it is sent.
 fn sent(
     alloc: Global,
     ports: Ports,
