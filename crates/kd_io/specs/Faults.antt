@@ -16,7 +16,7 @@ abbrev pub input_fault_number : InputFault → ℕ
 input_fault_number faults.Read = 94
 input_fault_number faults.Memory = 91
 
--- the fault that an error of the host is: want of memory, or else that something is not read
+-- the fault for an error of the host: out of memory, or otherwise that something cannot be read
 abbrev pub input_fault_of : ErrorKind → InputFault
 input_fault_of kinds.OutOfMemory = faults.Memory
 input_fault_of kind = faults.Read

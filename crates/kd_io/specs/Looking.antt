@@ -1,17 +1,17 @@
--- A look at a database that another process writes, by what was read of its files and in which order
--- (SQLite's file format, section 4: a log that is begun anew has another header, and the database is
--- written only from a log that has all that is written, so that a copy of both is one moment's where
--- the header stayed the same).
+-- A look at a database that another process writes, by what was read of its files and in which
+-- order. A log that is restarted has another header, and the database is written only from a log
+-- that holds everything written so far; so a copy of both is consistent at one time if the header
+-- stayed the same (SQLite's file format, section 4).
 use Rattle.std.specs.Prelude.{◌≡◌, ◌≢◌, ℕ, suc, zero, List, [], ◌∷◌, ◌++◌, Option, Some, None}
 use Rattle.kd_io.specs.declared.look.Copied.{Copied}
 use Rattle.kd_io.specs.declared.look.Part.{Part}
 use Rattle.kd_io.specs.declared.look.Part.TheVariants.{Header, Database, Log}
 
--- how often a copy is tried
+-- how many times a copy is tried
 abbrev pub most_tries : ℕ
 most_tries = 100
 
--- where it is known what was read, it is known with these parts more
+-- if it is known what was read, it is still known, with these parts added
 abbrev pub AreReadAs : List Part → Option (List Part) → Option (List Part) → Type 0
 AreReadAs more old new = (parts : List Part) → old ≡ Some parts → new ≡ Some (parts ++ more)
 
@@ -23,15 +23,15 @@ IsReadAs part = AreReadAs (part ∷ [])
 abbrev pub one_try : List ℕ → List ℕ → List ℕ → List ℕ → List Part
 one_try before db log after = Header before ∷ Database db ∷ Log log ∷ Header after ∷ []
 
--- parts of so many tries, at each of which the header changed
+-- the parts of n tries, at each of which the header changed
 abbrev pub AreChanged : ℕ → List Part → Type 0
 AreChanged zero parts = parts ≡ []
 AreChanged (suc n) parts =
     (earlier : List Part) × (before db log after : List ℕ) × AreChanged n earlier × (before ≢ after)
     × (parts ≡ earlier ++ one_try before db log after)
 
--- a log and a database were read at a try at which the header stayed the same, behind others at which
--- it changed
+-- a log and a database were read at a try at which the header stayed the same, after others at
+-- which it changed
 pub record IsSettledCopy (log db : List ℕ) (old new : Option (List Part)) : Type 0 where
   pub tries : ℕ
   pub parts : List Part
@@ -39,7 +39,7 @@ pub record IsSettledCopy (log db : List ℕ) (old new : Option (List Part)) : Ty
   pub header : List ℕ
   pub read : AreReadAs (parts ++ one_try header db log header) old new
 
--- the header changed at each of so many tries
+-- the header changed at each of this many tries
 pub record IsUnsettled (tries : ℕ) (old new : Option (List Part)) : Type 0 where
   pub parts : List Part
   pub changed : AreChanged tries parts

@@ -13,13 +13,13 @@ use Rattle.kd_event.specs.declared.destination.Mode.TheVariants as modes
 abbrev pub all_hosts : ℕ
 all_hosts = 0xffffffff
 
--- a reply to a hardware address goes to all hosts, since a socket can not name such an address (RFC
--- 2131 section 4.1)
+-- a reply to a hardware address goes to all hosts, because a socket cannot name such an address
+-- (RFC 2131 section 4.1)
 abbrev pub address_by_mode : Mode → ℕ → ℕ
 address_by_mode modes.Hardware address = all_hosts
 address_by_mode mode address = address
 
--- and all hosts may have another address
+-- the address used for all hosts, which may be another one
 abbrev pub address_of_all : Option ℕ → ℕ
 address_of_all None = all_hosts
 address_of_all (Some other) = other
@@ -37,8 +37,8 @@ pub record HasAddressAndPort (address port : ℕ) (place : SocketAddr) : Type 0 
   pub bits : IsIpv4OfBits ip address
   pub port_is : socket_port place ≡ port
 
--- where a reply goes, by whether it is mirrored, by what stands in for all hosts, and by the sender of
--- the datagram: to that sender, or to the address and port of its destination
+-- where a reply goes, by whether replies are mirrored, the address used for all hosts, and the
+-- sender of the datagram: to that sender, or to the address and port of the reply's destination
 abbrev pub GoesTo : Bool → Option ℕ → Option SocketAddr → Destination → SocketAddr → Type 0
 GoesTo true broadcast_as (Some sender) to place = place ≡ sender
 GoesTo true broadcast_as None to place = HasAddressAndPort (address_for broadcast_as to) to.port place

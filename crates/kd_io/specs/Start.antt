@@ -8,23 +8,24 @@ use Rattle.kd_io.specs.declared.files.InputFault.TheVariants as inputs
 use Rattle.kd_io.specs.declared.start.StartFault.{StartFault}
 use Rattle.kd_io.specs.declared.start.StartFault.TheVariants as starts
 
--- the configuration that a text means with these token files; without a text the built-in one
+-- the configuration that a text means with these token files, or the built-in one if there is no
+-- text
 abbrev pub IsStart : Option (List ℕ) → List TokenFile → Configuration → Type 0
 IsStart None files c = c ≡ builtin_config
 IsStart (Some text) files c = IsConfigured text files c
 
--- a fault of a text that means no configuration, or want of memory
+-- a fault of a text that means no configuration, or out of memory
 abbrev pub IsNoStart : Option (List ℕ) → List TokenFile → StartFault → Type 0
 IsNoStart text files (starts.Input fault) = fault ≡ inputs.Memory
 IsNoStart None files (starts.Config fault) = ⊥
 IsNoStart (Some text) files (starts.Config fault) =
     fault ≢ configs.Memory → (c : Configuration) → IsConfigured text files c → ⊥
 
--- the token files of a folder; none without a folder
+-- the token files of a folder; none if there is no folder
 abbrev pub AreOfFolder : Bool → List TokenFile → Type 0
 AreOfFolder has_folder files = has_folder ≡ false → files ≡ []
 
--- a configuration of a text where a file is named, and with token files where a folder is
+-- the configuration of a text, if a file is named, with token files, if a folder is named
 pub record IsOfFiles (has_file has_folder : Bool) (c : Configuration) : Type 0 where
   pub text : Option (List ℕ)
   pub named : is_some text ≡ has_file

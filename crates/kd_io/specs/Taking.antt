@@ -1,8 +1,8 @@
--- Words of private contracts alone: a text that grows by what is read of a source.
+-- Definitions used only by private contracts: a text that grows by what is read of a source.
 use Rattle.std.specs.Prelude.{◌≡◌, ◌<◌, ℕ, Bool, true, false, List, [], ◌++◌, Option, length}
 use Rattle.std.specs.Io.KnownBytes.{Consumes, IsAtEnd}
 
--- a text grows by a part that is read of what is left; there is none only at the end
+-- a text grows by a part of the remaining bytes; the part is empty only at the end
 pub record GrowsByPart (more : Bool) (left rest : Option (List ℕ)) (old new : List ℕ) : Type 0 where
   pub part : List ℕ
   pub read : Consumes left rest part

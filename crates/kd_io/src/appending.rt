@@ -5,12 +5,12 @@ use kd_replay::EndFailed;
 use std::fs::{File, OpenOptions};
 use std::os::unix::fs::OpenOptionsExt;
 
-/// A sink that appends to the file at a path, and has not failed. Where there is no such file it is
-/// made, for its owner alone to read and write.
+/// Opens a sink that appends to the file at a path. If there is no such file, it is created, and
+/// only its owner can read and write it.
 ///
 /// # Errors
 ///
-/// The file can not be opened to be written.
+/// The file cannot be opened for writing.
 pub fn journal(rt: &HostRuntime, path: &str) -> Result<Output<File>, EndFailed>
     ensures { IfOk result (λ sink. sink.failed ≡ false) }
 {

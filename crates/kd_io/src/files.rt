@@ -11,7 +11,7 @@ use std::rt::Files;
 use std::{fmt, fs, io};
 use thiserror::Error;
 
-/// Why a file or a folder is not read.
+/// Why a file or a folder cannot be read.
 #[derive(Clone, Copy, PartialEq, Eq, Error)]
 pub enum InputFault {
     /// It cannot be opened or read, or a file is too long.
@@ -29,7 +29,7 @@ impl fmt::Debug for InputFault {
 }
 
 impl InputFault {
-    /// The fault's number: 94, or 91 for want of memory.
+    /// Returns the fault's number: 94, or 91 if memory ran out.
     pub fn number(self) -> u8
         ensures { result ≡ input_fault_number self }
     {
@@ -75,14 +75,14 @@ impl<T: Drop> From<AllocFailed<T>> for InputFault {
     }
 }
 
-/// The most bytes of a file that an operator gives: 16 MiB.
+/// The largest size in bytes of a file that an operator gives: 16 MiB.
 pub const MOST_BYTES: u32 = 16_777_216;
 
-/// The bytes that are left of a reader, at most this many.
+/// Reads the remaining bytes of a reader, at most `most` of them.
 ///
 /// # Errors
 ///
-/// `Read` where it cannot be read or has more, and `Memory`.
+/// `Read` if it cannot be read or has more, and `Memory` if memory runs out.
 pub fn read_whole<R: Read + Drop>(
     alloc: Global,
     reader: R,
@@ -101,11 +101,11 @@ pub fn read_whole<R: Read + Drop>(
     Ok(bytes)
 }
 
-/// The bytes of the file at a path, at most this many.
+/// Reads the file at a path, at most `most` bytes.
 ///
 /// # Errors
 ///
-/// `Read` where it cannot be opened or read or is longer, and `Memory`.
+/// `Read` if it cannot be opened or read or is longer, and `Memory` if memory runs out.
 pub fn read_file<R: Files + AllocGlobal>(
     rt: &R,
     path: &str,
@@ -117,13 +117,13 @@ pub fn read_file<R: Files + AllocGlobal>(
     read_whole(rt.alloc(), file, most)
 }
 
-/// The token files of a folder: its plain files, and links to such, whose names are UTF-8 and end
-/// in `.k4tk`, each by its whole name.
+/// Reads the token files of a folder: its plain files, and links to plain files, with names that
+/// are UTF-8 and end in `.k4tk`. Each file is known by its whole name.
 ///
 /// # Errors
 ///
-/// `Read` where the folder or one of these files cannot be read or a file is longer than 16 MiB,
-/// and `Memory`.
+/// `Read` if the folder or one of these files cannot be read or a file is longer than 16 MiB, and
+/// `Memory` if memory runs out.
 pub fn token_files<R: Files + AllocGlobal + Clone + Drop>(
     rt: &R,
     folder: &str,
@@ -144,7 +144,7 @@ pub fn token_files<R: Files + AllocGlobal + Clone + Drop>(
     Ok(files)
 }
 
-// Whether a path is that of a plain file, or of a link to one.
+// Reports whether a path is that of a plain file, or of a link to one.
 fn is_plain<R: Files>(rt: &R, path: &str) -> Result<bool, InputFault> {
     match fs::metadata(rt, path) {
         Ok(metadata) => Ok(metadata.is_file()),
@@ -153,7 +153,7 @@ fn is_plain<R: Files>(rt: &R, path: &str) -> Result<bool, InputFault> {
     }
 }
 
-// The token file of a name at a path.
+// Reads the token file of a name at a path.
 fn token_file<R: Files + AllocGlobal>(
     rt: &R,
     name: &str,

@@ -1,11 +1,11 @@
-//! The ends of the program: what it reads from its host and writes to it.
+//! The edges of the program: what it reads from its host and writes to it.
 //!
 //! What this layer promises to the one above: a reader is the source of a replay with the reader's
-//! bytes, and a writer a sink with the writer's, each failed once a call of it has failed, and by
-//! nothing else. A file is read whole, and the token files of a folder by their names; what a file
-//! system gave, no proof knows. A database that another process writes is read without a lock
-//! (`specs/Looking.antt`). A socket is the link of a server (`specs/Sending.antt`): what it
-//! receives and sends, no proof knows either.
+//! bytes, and a writer is a sink with the writer's bytes; each has failed if and only if one of its
+//! calls has failed. A file is read whole, and the token files of a folder are read by their names;
+//! what a file system returns, no proof knows. A database that another process writes is read
+//! without a lock (`specs/Looking.antt`). A socket is the link of a server (`specs/Sending.antt`);
+//! what it receives and sends, no proof knows either.
 #![tactic(auto)]
 
 mod activation;

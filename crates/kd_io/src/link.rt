@@ -14,15 +14,15 @@ const ALL_HOSTS: u32 = 0xffff_ffff;
 /// How replies are sent.
 #[derive(Clone, Copy)]
 pub struct Sending {
-    /// Each goes to the sender of its datagram, whatever its fields say.
+    /// Each reply goes to the sender of its datagram, whatever the fields of the reply say.
     pub mirror: bool,
-    /// The address that stands in for 255.255.255.255, as a number in host order.
+    /// The address to use in place of 255.255.255.255, as a number in host order.
     pub broadcast_as: Option<u32>,
 }
 
 impl Sending {
-    /// The address that a reply is sent to where it is not mirrored, as a number in host order. One
-    /// to a hardware address goes to all hosts of the link (RFC 2131 section 4.1).
+    /// Returns the address that a reply is sent to if it is not mirrored, as a number in host
+    /// order. A reply to a hardware address goes to all hosts of the link (RFC 2131 section 4.1).
     pub fn address(self, to: Destination) -> u32
         ensures { result ≡ address_for self.broadcast_as to }
     {
@@ -40,8 +40,8 @@ impl Sending {
     }
 }
 
-/// Where a reply to a datagram is sent: to its sender, where replies are mirrored; else to its
-/// destination's address and port.
+/// Returns where a reply to a datagram is sent: to its sender if replies are mirrored, and
+/// otherwise to the address and port of its destination.
 pub fn target(sending: Sending, sender: Option<SocketAddr>, to: Destination) -> SocketAddr
     ensures { GoesTo sending.mirror sending.broadcast_as sender to result }
 {
@@ -51,15 +51,15 @@ pub fn target(sending: Sending, sender: Option<SocketAddr>, to: Destination) -> 
     }
 }
 
-// The place with this address, a number in host order, and this port.
+// Makes the socket address with this IPv4 address, a number in host order, and this port.
 pub(crate) fn place_at(address: u32, port: u16) -> SocketAddr
     ensures { HasAddressAndPort address port result }
 {
     SocketAddr::new(IpAddr::V4(Ipv4Addr::from(address)), port)
 }
 
-/// A UDP socket and the clocks of the host, as the link of a server. What comes and goes no proof
-/// knows.
+/// A UDP socket and the clocks of the host, as the link of a server. No proof knows what is
+/// received and sent.
 #[derive(Drop)]
 pub struct Socket<'a> {
     rt: &'a HostRuntime,
@@ -72,12 +72,12 @@ pub struct Socket<'a> {
 }
 
 impl<'a> Socket<'a> {
-    /// A link over a new socket at an address, a number in host order, and a port, which has not
-    /// failed. It may send to all hosts of its link.
+    /// Opens a link over a new socket at an address, a number in host order, and a port. It may
+    /// send to all hosts of its link.
     ///
     /// # Errors
     ///
-    /// There is no such socket.
+    /// The socket cannot be opened.
     pub fn bind(
         rt: &'a HostRuntime,
         address: u32,
@@ -93,12 +93,11 @@ impl<'a> Socket<'a> {
         }
     }
 
-    /// A link over a socket that was handed over, which has not failed. It may send to all hosts of
-    /// its link.
+    /// Makes a link over a socket that was handed over. It may send to all hosts of its link.
     ///
     /// # Errors
     ///
-    /// It is not bound at this address and port.
+    /// The socket is not bound to this address and port.
     pub fn handed(
         rt: &'a HostRuntime,
         socket: UdpSocket,
@@ -116,7 +115,7 @@ impl<'a> Socket<'a> {
         }
     }
 
-    // A link over a socket that may send to all hosts of its link.
+    // Makes a link over a socket that may send to all hosts of its link.
     fn to_all(
         rt: &'a HostRuntime,
         socket: UdpSocket,
@@ -132,7 +131,7 @@ impl<'a> Socket<'a> {
         }
     }
 
-    /// A link over a socket, which has not failed.
+    /// Makes a link over a socket. The link has not failed.
     pub fn over(rt: &'a HostRuntime, socket: UdpSocket, sending: Sending) -> Socket<'a>
         ensures failed { result.failed ≡ false }
         ensures sending { result.sending ≡ sending }
@@ -148,7 +147,8 @@ impl<'a> Socket<'a> {
         }
     }
 
-    // The length of the next datagram, which is waited for or not; none where the socket fails.
+    // Receives the next datagram, with or without waiting for it, and returns its length; `None` if
+    // the socket fails.
     fn next(&mut self, buf: &mut [u8], waits: bool) -> Option<usize>
         ensures count { IfSome result (λ n. n ≤ length buf.new) }
         ensures failed { self.new.failed ≡ self.old.failed }
@@ -211,7 +211,7 @@ impl Link for Socket<'_> {
     }
 }
 
-/// Whole seconds since 1970.
+/// Returns the whole seconds since 1970.
 pub fn seconds_of(time: SystemTime) -> u64
     ensures { result ≡ system_time_nanos time / 1_000_000_000 }
 {

@@ -9,16 +9,16 @@ use kd_wire::Bytes;
 use std::fmt;
 use thiserror::Error;
 
-/// Why a look at a database gives no leases.
+/// Why a look at a database finds no leases.
 #[derive(Clone, Copy, PartialEq, Eq, Error)]
 pub enum LookFault {
-    /// The database or its log is not read.
+    /// The database or its log cannot be read.
     #[error("{0}")]
     Input(InputFault),
-    /// The log was begun anew at each try.
+    /// The log was restarted at each try.
     #[error("Unsettled")]
     Unsettled,
-    /// What was read is no store of leases.
+    /// What was read is not a store of leases.
     #[error("{0}")]
     Store(StoreFault),
 }
@@ -30,7 +30,7 @@ impl fmt::Debug for LookFault {
 }
 
 impl LookFault {
-    /// The fault's number: 82, or that of the fault inside.
+    /// Returns the fault's number: 82, or that of the fault inside.
     pub fn number(self) -> u8
         ensures { result ≡ look_fault_number self }
     {
@@ -64,39 +64,39 @@ pub enum Part {
     Log(Bytes),
 }
 
-/// A database and its log that another process may write meanwhile, as they are read, part by part.
+/// A database and its log as they are read, part by part, while another process may write them.
 pub trait Watched {
     ghost use Rattle.std.specs.Prelude.{IfOk, List, Option};
     ghost use Rattle.kd_io.specs.Looking.{IsReadAs};
     ghost use Rattle.kd_io.specs.declared.look.Part.{Part as Read};
     ghost use Rattle.kd_io.specs.declared.look.Part.TheVariants as parts;
 
-    /// What was read, in this order, where that is known.
+    /// What was read, in order, if that is known.
     ghost trace: { Self → Option (List Read) };
 
-    /// The first 32 bytes of the log, or fewer where it has fewer.
+    /// Returns the first 32 bytes of the log, or all of them if it has fewer.
     ///
     /// # Errors
     ///
-    /// It is not read.
+    /// The log cannot be read.
     fn header(&mut self) -> Result<Bytes, InputFault>
         ensures { IfOk result (λ bytes.
             IsReadAs (parts.Header bytes) (trace self.old) (trace self.new)) };
 
-    /// The whole database.
+    /// Returns the whole database.
     ///
     /// # Errors
     ///
-    /// It is not read.
+    /// The database cannot be read.
     fn database(&mut self) -> Result<Bytes, InputFault>
         ensures { IfOk result (λ bytes.
             IsReadAs (parts.Database bytes) (trace self.old) (trace self.new)) };
 
-    /// The whole log.
+    /// Returns the whole log.
     ///
     /// # Errors
     ///
-    /// It is not read.
+    /// The log cannot be read.
     fn log(&mut self) -> Result<Bytes, InputFault>
         ensures { IfOk result (λ bytes.
             IsReadAs (parts.Log bytes) (trace self.old) (trace self.new)) };
@@ -111,16 +111,16 @@ pub struct Copied {
     pub db: Bytes,
 }
 
-// How often a copy is tried.
+// How many times a copy is tried.
 const TRIES: u32 = 100;
 
-/// A copy of a database and its log, between which the log was not begun anew: its header was read
-/// before and after, and is the same (SQLite's file format, section 4). It takes no lock, so another
-/// process may serve from them meanwhile.
+/// Copies a database and its log while the log was not restarted: its header was read before and
+/// after both, and is the same (SQLite's file format, section 4). This takes no lock, so another
+/// process may serve from the files in the meantime.
 ///
 /// # Errors
 ///
-/// `Input` where a part is not read, and `Unsettled` where the header changed at each of 100 tries.
+/// `Input` if a part cannot be read, and `Unsettled` if the header changed at each of 100 tries.
 #[tactic(auto, using(crate::proofs::Looks::none_yet, crate::proofs::Looks::once_more, crate::proofs::Looks::settled))]
 pub fn settled_copy<W: Watched>(files: &mut W) -> Result<Copied, LookFault>
     ensures copied { IfOk result (λ copy.
@@ -136,7 +136,7 @@ pub fn settled_copy<W: Watched>(files: &mut W) -> Result<Copied, LookFault>
     Err(LookFault::Unsettled)
 }
 
-// A copy, if the header stays the same meanwhile.
+// Makes a copy, and returns it if the header stayed the same in the meantime.
 fn tried_copy<W: Watched>(files: &mut W) -> Result<Option<Copied>, InputFault>
     ensures { IfOk result (λ found. IsTry found (W.trace files.old) (W.trace files.new)) }
 {

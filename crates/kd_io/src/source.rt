@@ -9,11 +9,11 @@ use std::alloc::Global;
 // How many bytes are read at a time.
 const CHUNK: usize = 65_536;
 
-/// All bytes that are left of a source, at most this many.
+/// Reads all remaining bytes of a source, at most `most` of them.
 ///
 /// # Errors
 ///
-/// `Read` where it can not be read or has more, and `Memory`.
+/// `Read` if it cannot be read or has more, and `Memory` if memory runs out.
 #[tactic(auto, using(crate::proofs::Consumed::none_read, crate::proofs::Consumed::all_read, crate::proofs::Consumed::few_read))]
 pub fn read_source<R: Source>(
     alloc: Global,
@@ -37,8 +37,8 @@ pub fn read_source<R: Source>(
     unreachable!()
 }
 
-// Reads some of what is left of a source, behind a text that has at most this many bytes then, and
-// says whether there was any.
+// Appends some of the remaining bytes of a source to a text, which then has at most `most` bytes.
+// Reports whether there were any.
 fn read_part<R: Source>(
     source: &mut R,
     chunk: &mut [u8],

@@ -13,10 +13,10 @@ use thiserror::Error;
 /// Why there is no configuration to start with.
 #[derive(Drop, Error)]
 pub enum StartFault {
-    /// The folder of the token files or the configuration's file is not read.
+    /// The folder of the token files or the configuration file cannot be read.
     #[error("{0}")]
     Input(InputFault),
-    /// The file's text is no configuration.
+    /// The file's text is not a configuration.
     #[error("{0}")]
     Config(ConfigFault),
 }
@@ -28,7 +28,7 @@ impl fmt::Debug for StartFault {
 }
 
 impl StartFault {
-    /// The fault's number: 91 and 94, or that of the configuration's fault.
+    /// Returns the fault's number: 91 or 94, or that of the configuration's fault.
     pub fn number(&self) -> u8
         ensures { result ≡ start_fault_number self.now }
     {
@@ -73,11 +73,12 @@ impl From<AllocError> for StartFault {
     }
 }
 
-/// The configuration of a text, with these token files; the built-in one without a text.
+/// Returns the configuration of a text with these token files, or the built-in one if there is no
+/// text.
 ///
 /// # Errors
 ///
-/// The first fault of the text, or want of memory.
+/// The first fault of the text, or out of memory.
 pub fn configured(
     alloc: Global,
     text: Option<&[u8]>,
@@ -92,12 +93,13 @@ pub fn configured(
     }
 }
 
-/// The configuration of the file at a path, with the token files of a folder; the built-in one
-/// without a file. The folder is read first.
+/// Reads the configuration of the file at a path, with the token files of a folder; the built-in
+/// one if there is no file. The folder is read first.
 ///
 /// # Errors
 ///
-/// The first fault of reading the folder and the file, then that of the text; `Memory`.
+/// The first fault of reading the folder and the file, then that of the text; `Memory` if memory
+/// runs out.
 pub fn configuration<R: Files + AllocGlobal + Clone + Drop>(
     rt: &R,
     file: Option<&str>,
@@ -115,7 +117,7 @@ pub fn configuration<R: Files + AllocGlobal + Clone + Drop>(
     }
 }
 
-// The token files of a folder, if there is one.
+// Reads the token files of a folder, if there is one.
 fn tokens_in<R: Files + AllocGlobal + Clone + Drop>(
     rt: &R,
     folder: Option<&str>,

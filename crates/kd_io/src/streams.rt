@@ -1,7 +1,7 @@
 use kd_replay::{EndFailed, Sink, Source};
 use std::io::{Read, Write};
 
-/// A reader, as the source of a replay.
+/// A reader as the source of a replay.
 #[derive(Drop)]
 pub struct Input<R: Read> {
     reader: R,
@@ -11,7 +11,7 @@ pub struct Input<R: Read> {
 impl<R: Read + Drop> Input<R> {
     ghost use Rattle.std.specs.Prelude.{◌≡◌, false};
 
-    /// A source over a reader, which has not failed.
+    /// Makes a source over a reader. It has not failed.
     pub fn over(reader: R) -> Input<R>
         ensures reader { result.reader ≡ reader }
         ensures failed { result.failed ≡ false }
@@ -39,7 +39,7 @@ impl<R: Read + Drop> Source for Input<R> {
     }
 }
 
-/// A writer, as the sink of a replay. That it takes nothing of what is not empty is a failure.
+/// A writer as the sink of a replay. It is a failure if the writer takes none of a nonempty text.
 #[derive(Drop)]
 pub struct Output<W: Write> {
     writer: W,
@@ -49,7 +49,7 @@ pub struct Output<W: Write> {
 impl<W: Write + Drop> Output<W> {
     ghost use Rattle.std.specs.Prelude.{◌≡◌, false};
 
-    /// A sink over a writer, which has not failed.
+    /// Makes a sink over a writer. It has not failed.
     pub fn over(writer: W) -> Output<W>
         ensures writer { result.writer ≡ writer }
         ensures failed { result.failed ≡ false }

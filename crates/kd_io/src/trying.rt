@@ -23,15 +23,16 @@ const ALL_HOSTS: u32 = 0xffff_ffff;
 // The port of clients (RFC 2131 section 4.1).
 const CLIENT_PORT: u16 = 68;
 
-// The bytes of a database that its opener locks, as SQLite does: the first, and how many.
+// The bytes of a database that a process that opens it locks, as SQLite does: the first, and how
+// many.
 const LOCKED: (u64, u64) = (0x4000_0000, 512);
 
-/// Why there is no configuration, in words: a few lines, each with its line feed. The folder of the
-/// token files and the file are tried again.
+/// Says in words why there is no configuration: a few lines, each with its line feed. The folder of
+/// the token files and the file are tried again.
 ///
 /// # Errors
 ///
-/// There is no memory for the words.
+/// Out of memory.
 pub fn start_words(
     rt: &HostRuntime,
     file: Option<&str>,
@@ -50,7 +51,7 @@ pub fn start_words(
     }
 }
 
-// What is wrong with the text of a configuration, which is read again.
+// Says what is wrong with the text of a configuration, which is read again.
 fn config_words(
     rt: &HostRuntime,
     file: Option<&str>,
@@ -66,7 +67,7 @@ fn config_words(
     }
 }
 
-// Why the folder or the file is not read.
+// Says why the folder or the file cannot be read.
 fn unread_words(
     rt: &HostRuntime,
     file: Option<&str>,
@@ -97,7 +98,7 @@ fn unread_words(
     }
 }
 
-// Why a folder is not read, if it is not.
+// Returns why a folder cannot be read, if so.
 fn folder_trouble(rt: &HostRuntime, folder: &str) -> Option<FileTrouble> {
     match fs::read_dir(rt, folder) {
         Ok(_) => None,
@@ -105,7 +106,7 @@ fn folder_trouble(rt: &HostRuntime, folder: &str) -> Option<FileTrouble> {
     }
 }
 
-// Why a file of at most 16 MiB is not read, if it is not.
+// Returns why a file of at most 16 MiB cannot be read, if so.
 fn file_trouble(rt: &HostRuntime, path: &str) -> Option<FileTrouble> {
     match fs::metadata(rt, path) {
         Ok(found) if found.is_dir() => return Some(FileTrouble::IsFolder),
@@ -119,7 +120,7 @@ fn file_trouble(rt: &HostRuntime, path: &str) -> Option<FileTrouble> {
     }
 }
 
-// The trouble with a file that an error of the system says.
+// Returns the trouble with a file that a system error means.
 fn trouble_of(kind: ErrorKind) -> FileTrouble {
     match kind {
         ErrorKind::NotFound => FileTrouble::Absent,
@@ -134,17 +135,17 @@ fn line_of(alloc: Global, subject: &str, words: &str) -> Result<String, AllocErr
     format!(in alloc; "{subject}: {words}\n")
 }
 
-/// Whether the database at a path is there. What a server does to open it is tried, with the rights
-/// of this account: the database and its log are opened, or their folder is asked whether they may
-/// be made in it. Nothing is made, and nothing is changed.
+/// Reports whether the database at a path exists. What a server does to open it is tried, with the
+/// rights of this account: the database and its log are opened, or their folder is checked for
+/// whether they may be created in it. Nothing is created, and nothing is changed.
 ///
 /// # Errors
 ///
-/// Another process has it open; this account may not read and write it or its log, make those that
-/// are missing, or read their folder; the folder is not there; something is at one of their names
-/// that a server does not open; or a rollback journal is there, which only SQLite plays back.
+/// Another process has it open; this account may not read and write it or its log, create those
+/// that are missing, or read their folder; the folder does not exist; something that a server does
+/// not open has one of their names; or there is a rollback journal, which only SQLite plays back.
 pub fn try_database(rt: &HostRuntime, path: &str) -> Result<bool, StoreTrouble> {
-    // These names are no files to SQLite.
+    // SQLite does not take these names as files.
     if path.is_empty() || path == ":memory:" || path.starts_with("file:") {
         return Err(StoreTrouble::Other);
     }
@@ -163,7 +164,7 @@ pub fn try_database(rt: &HostRuntime, path: &str) -> Result<bool, StoreTrouble> 
     }
 }
 
-// The trouble with a store that an error of the system says.
+// Returns the trouble with a store that a system error means.
 fn store_trouble(error: &io::Error) -> StoreTrouble {
     match error.kind() {
         ErrorKind::PermissionDenied => StoreTrouble::Denied,
@@ -171,8 +172,8 @@ fn store_trouble(error: &io::Error) -> StoreTrouble {
     }
 }
 
-// That what is at a path is a plain file with one name that this account may read and write, and
-// that no other process has it open.
+// Checks that a path is that of a plain file with only one name that this account may read and
+// write, and that no other process has it open.
 fn try_file(rt: &HostRuntime, path: &str) -> Result<(), StoreTrouble> {
     match fs::symlink_metadata(rt, path) {
         Ok(found) if found.is_file() && found.nlink() == 1 => {}
@@ -186,18 +187,18 @@ fn try_file(rt: &HostRuntime, path: &str) -> Result<(), StoreTrouble> {
     }
 }
 
-// Whether another process has a database open.
+// Reports whether another process has a database open.
 fn is_locked(file: &File) -> bool {
     let (from, count) = LOCKED;
-    // As a server asks for it: a reader of SQLite has a shared one.
+    // Tried as a server takes the lock: a reader of SQLite has a shared one.
     if os::try_lock_range(file.as_raw_fd(), RangeLock::Exclusive, from, count) == 0 {
         return false;
     }
     io::Error::from_raw_os_error(os::errno()).kind() == ErrorKind::WouldBlock
 }
 
-// That a database may be made at a path which leads to nothing: it is no link that leads nowhere,
-// and its folder is there and takes files of this account.
+// Checks that a database may be created at a path where there is none: the path is not a dangling
+// link, and its folder exists and this account may create files in it.
 fn try_new(rt: &HostRuntime, path: &str) -> Result<(), StoreTrouble> {
     if fs::symlink_metadata(rt, path).is_ok() {
         return Err(StoreTrouble::Other);
@@ -211,7 +212,7 @@ fn try_new(rt: &HostRuntime, path: &str) -> Result<(), StoreTrouble> {
     }
 }
 
-// The folder of the file at a path.
+// Returns the folder of the file at a path.
 fn folder_of(path: &str) -> &str {
     match path.rfind('/') {
         Some(0) => "/",
@@ -220,8 +221,9 @@ fn folder_of(path: &str) -> &str {
     }
 }
 
-// That what lies beside a database lets a server open it: no rollback journal that SQLite left, a
-// log that is opened or made, and a folder that is opened, since a server has it written to disk.
+// Checks that the files next to a database let a server open it: no rollback journal that SQLite
+// left, a log that can be opened or created, and a folder that can be opened, because a server
+// syncs it to disk.
 fn try_beside(rt: &HostRuntime, path: &str) -> Result<(), StoreTrouble> {
     let folder = folder_of(path);
     match format!(in rt.alloc(); "{path}-journal") {
@@ -238,8 +240,8 @@ fn try_beside(rt: &HostRuntime, path: &str) -> Result<(), StoreTrouble> {
     }
 }
 
-// That no rollback journal at a path has changes to play back: one that is empty or begins with a
-// zero has none (SQLite's file format, section 3).
+// Checks that no rollback journal at a path has changes to play back. One that is empty or begins
+// with a zero byte has none (SQLite's file format, section 3).
 fn try_journal(rt: &HostRuntime, path: &str) -> Result<(), StoreTrouble> {
     match fs::symlink_metadata(rt, path) {
         Ok(found) if found.is_file() => {}
@@ -254,7 +256,7 @@ fn try_journal(rt: &HostRuntime, path: &str) -> Result<(), StoreTrouble> {
     }
 }
 
-// The first byte of the file at a path, 0 where it is empty.
+// Returns the first byte of the file at a path, or 0 if it is empty.
 fn first_of(rt: &HostRuntime, path: &str) -> io::Result<u8> {
     let mut file = File::open(rt, path)?;
     let mut first = [0];
@@ -262,7 +264,7 @@ fn first_of(rt: &HostRuntime, path: &str) -> io::Result<u8> {
     Ok(first[0])
 }
 
-// That the log at a path is opened, or may be made in its folder.
+// Checks that the log at a path can be opened, or may be created in its folder.
 fn try_log(rt: &HostRuntime, folder: &str, path: &str) -> Result<(), StoreTrouble> {
     match fs::symlink_metadata(rt, path) {
         Ok(_) => try_file(rt, path),
@@ -271,8 +273,8 @@ fn try_log(rt: &HostRuntime, folder: &str, path: &str) -> Result<(), StoreTroubl
     }
 }
 
-// That this account may make a file in a folder. The `unsafe` is here because C reads the path up
-// to its zero: it has one.
+// Checks that this account may create a file in a folder. The `unsafe` is here because C reads the
+// path up to its zero byte, which it has.
 fn try_making(folder: &str) -> Result<(), StoreTrouble> {
     let Some(path) = c_path(folder) else {
         return Err(StoreTrouble::Other);
@@ -283,7 +285,7 @@ fn try_making(folder: &str) -> Result<(), StoreTrouble> {
     Err(store_trouble(&io::Error::from_raw_os_error(os::errno())))
 }
 
-// A path as C reads it, with zeros behind it, if it fits.
+// Returns a path as C reads it, followed by zero bytes, if it fits.
 fn c_path(path: &str) -> Option<[u8; PATH_MAX]>
     ensures { IfSome result Ended }
 {
@@ -297,12 +299,12 @@ fn c_path(path: &str) -> Option<[u8; PATH_MAX]>
     Some(text)
 }
 
-/// Whether a socket at an address, a number in host order, and a port could send to all hosts of
-/// its link: whether there is a route to 255.255.255.255. Nothing is sent.
+/// Reports whether a socket at an address, a number in host order, and a port could send to all
+/// hosts of its link: whether there is a route to 255.255.255.255. Nothing is sent.
 ///
 /// # Errors
 ///
-/// There is no such socket.
+/// The socket cannot be opened.
 pub fn try_socket(rt: &HostRuntime, address: u32, port: u16) -> Result<bool, SocketTrouble> {
     match UdpSocket::bind(rt, place_at(address, port)) {
         Ok(socket) => Ok(reaches_all(&socket)),
@@ -315,7 +317,7 @@ pub fn try_socket(rt: &HostRuntime, address: u32, port: u16) -> Result<bool, Soc
     }
 }
 
-// Whether a socket has a route to all hosts of its link.
+// Reports whether a socket has a route to all hosts of its link.
 fn reaches_all(socket: &UdpSocket) -> bool {
     match socket.set_broadcast(true) {
         Ok(()) => socket.connect(place_at(ALL_HOSTS, CLIENT_PORT)).is_ok(),

@@ -7,7 +7,7 @@ use std::fs::File;
 use std::io::{ErrorKind, Read};
 use std::rt::Files;
 
-// How many bytes the header of a log has (SQLite's file format, section 4.1).
+// The length of the header of a log, in bytes (SQLite's file format, section 4.1).
 const HEADER: u64 = 32;
 
 // A database and its log, by their paths.
@@ -49,17 +49,18 @@ fn nothing(alloc: Global) -> Bytes {
     Bytes::own(Vec::new(alloc))
 }
 
-// All bytes of a reader, fewer than 4 GiB.
+// Reads all bytes of a reader, fewer than 4 GiB.
 fn whole<R: Read + Drop>(alloc: Global, reader: R) -> Result<Bytes, InputFault> {
     Ok(Bytes::own(read_whole(alloc, reader, u32::MAX)?))
 }
 
-/// A copy of the database at a path and of its log, without a lock: see `settled_copy`. A log that is
-/// not there has no bytes. Both lie where a link leads, as for a server that opens them.
+/// Copies the database at a path and its log without a lock: see `settled_copy`. A log that does
+/// not exist has no bytes. If the path is a link, both are taken from where it leads, as by a
+/// server that opens them.
 ///
 /// # Errors
 ///
-/// Those of `settled_copy`; the database is not there, or has 4 GiB or more.
+/// Those of `settled_copy`; the database does not exist, or has 4 GiB or more.
 pub fn copy_at<R: Files + AllocGlobal>(rt: &R, path: &str) -> Result<Copied, LookFault> {
     let real = fs::canonicalize(rt, path).map_err(InputFault::from)?;
     let log = log_path(rt.alloc(), real.as_str()).map_err(InputFault::from)?;
@@ -70,7 +71,7 @@ pub fn copy_at<R: Files + AllocGlobal>(rt: &R, path: &str) -> Result<Copied, Loo
     })
 }
 
-// The path of the log of the database at a path.
+// Returns the path of the log of the database at a path.
 fn log_path(alloc: Global, path: &str) -> Result<String, AllocError> {
     let mut log = String::new(alloc);
     log.push_str(path)?;

@@ -11,12 +11,12 @@ use Rattle.kd_why.specs.Origins.{IsOrigin, class_has, has_code, options_from, or
 use Rattle.kd_why.specs.declared.origins.Origin.{Origin}
 use Rattle.kd_why.specs.declared.origins.Origin.TheVariants as origins
 
--- a class at an index has the code where its options as a member's have it
+-- a class at an index has the code if its options for a member have it
 pub has_at : (classes : List ClassDef) (names : List (List ℕ)) (code i : ℕ) (class : ClassDef) (b : Bool) → Some class ≡ slice_get classes i
     → b ≡ has_code code (class_options (class ∷ []) names) → class_has classes names code i ≡ b
 has_at classes names code i class b at is = ap (λ cs. has_code code (class_options (take 1 cs) names)) (left_at classes i class (sym at)) ∙ sym is
 
--- behind the last class there is none
+-- after the last class there is none
 pub none_past : (classes : List ClassDef) (names : List (List ℕ)) (code j : ℕ) → length classes ≤ j → class_has classes names code j ≡ false
 none_past classes names code j past = ap (λ cs. has_code code (class_options (take 1 cs) names)) (at_drop_all (λ xs. xs) classes j past)
 
@@ -25,13 +25,13 @@ below_or j zero h = inr (omega (arith, h))
 below_or zero (suc i) h = inl (omega arith)
 below_or (suc j) (suc i) h = ⊎_elim (λ l. inl (omega (arith, l))) (λ e. inr (ap suc e)) (below_or j i (omega (arith, h)))
 
--- one class more has not the code
+-- one more class does not have the code
 pub none_on : (classes : List ClassDef) (names : List (List ℕ)) (code i : ℕ) → ((j : ℕ) → j < i → class_has classes names code j ≡ false) → class_has classes names code i ≡ false
     → (j : ℕ) → j < i + 1 → class_has classes names code j ≡ false
 none_on classes names code i earlier here j h =
     ⊎_elim (earlier j) (λ e. subst (λ (k : ℕ). class_has classes names code k ≡ false) (sym e) here) (below_or j i h)
 
--- no class has the code where none of those that there are has
+-- no class has the code if none of the existing ones has it
 pub none_at_all : (classes : List ClassDef) (names : List (List ℕ)) (code i : ℕ) → length classes ≤ i → ((j : ℕ) → j < i → class_has classes names code j ≡ false)
     → (j : ℕ) → class_has classes names code j ≡ false
 none_at_all classes names code i past earlier j = ⊎_elim (earlier j) (λ h. none_past classes names code j (omega (arith, h, past))) (split j i) where

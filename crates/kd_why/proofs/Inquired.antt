@@ -13,14 +13,14 @@ use Rattle.kd_replay.specs.declared.fault.ServeFault.{ServeFault}
 use Rattle.kd_server.specs.Trial.{TriesStep, Trying}
 use Rattle.kd_why.specs.Inquiring.{Inquiring, IsBadAt, IsEarlier, IsEnding, IsExplainedAt, IsLineAt, IsNotExplained, IsUnsaidAt, ending_fault}
 
--- the events of lines are as many as the lines
+-- there are as many events as lines
 as_many : (lines : List (List ℕ)) (events : List Event) → AreEvents lines events → length lines ≡ length events
 as_many [] [] h = refl
 as_many (line ∷ lines) (event ∷ events) h = ap suc (as_many lines events h.1)
 as_many [] (event ∷ events) h = absurd h
 as_many (line ∷ lines) [] h = absurd h
 
--- what events before the one to be explained leave
+-- what the events before the one to be explained leave
 record Passed (old : Inquiring) (events : List Event) (list : List Handled) (new : Inquiring) : Type 0 where
   trial : History TriesStep old.trial events list new.trial
   left : old.left ≡ new.left + length events
@@ -44,7 +44,7 @@ none_some : {X : Type 0} (o : Option X) (x : X) → o ≡ None → o ≡ Some x 
 none_some o x none some = true≢false (ap is_some (sym some ∙ none))
 
 module _ (F : Type 0) (t : Trying) (number : ℕ) (input : List ℕ) (start new : Inquiring) (trial_is : start.trial ≡ t) (left_is : start.left + 1 ≡ number) (none : start.text ≡ None) where
-  -- the line behind lines that are handled
+  -- the line after lines that are handled
   at : (before after : List (List ℕ)) (line : List ℕ) (mid : Inquiring) (old out : List ℕ) → lines_of input ≡ before ++ line ∷ after → Did IsEarlier before start mid old out
       → IsLineAt t input (length before + 1) line mid.trial
   at before after line mid old out all did =
@@ -60,7 +60,7 @@ module _ (F : Type 0) (t : Trying) (number : ℕ) (input : List ℕ) (start new 
         history = subst (λ (u : Trying). History TriesStep u did.events did.list mid.trial) trial_is p.trial;
       }
 
-  -- so many lines come before at most
+  -- at most this many lines come before
   few : (before : List (List ℕ)) (mid : Inquiring) (old out : List ℕ) → Did IsEarlier before start mid old out → length before + mid.left + 1 ≡ number
   few before mid old out did =
       let p = passed start did.events did.list mid did.history in
@@ -127,7 +127,7 @@ module _ (F : Type 0) (t : Trying) (number : ℕ) (input : List ℕ) (start new 
     bad = bad;
   }
 
-  -- where there is a text at the end it explains the line
+  -- if there is a text at the end, it explains the line
   pub explained : (done : Result ℕ ReplayFault) (out text : List ℕ) → Replays IsEarlier IsEnding F done (lines_of input) start new [] out → new.text ≡ Some text → IsExplainedAt t input number text
   explained (Ok count) out text r some = absurd (none_some new.text text (unsaid (lines_of input) new [] out r.2) some)
   explained (Err (faults.BadLine k)) out text r some =
@@ -140,7 +140,7 @@ module _ (F : Type 0) (t : Trying) (number : ℕ) (input : List ℕ) (start new 
   explained (Err faults.Read) out text r some = absurd (none_some new.text text (ap (λ (i : Inquiring). i.text) r.ends.1 ∙ unsaid r.before r.mid [] r.between r.did) some)
   explained (Err faults.Memory) out text r some = absurd (none_some new.text text (ap (λ (i : Inquiring). i.text) r.ends.1 ∙ unsaid r.before r.mid [] r.between r.did) some)
 
-  -- where there is none the fault says why
+  -- if there is none, the fault says why
   pub unexplained : (done : Result ℕ ReplayFault) (out : List ℕ) → Replays IsEarlier IsEnding F done (lines_of input) start new [] out → new.text ≡ None
       → IsNotExplained F t input number (ending_fault done number)
   unexplained (Ok count) out r quiet = inr (refl, inr (omega (arith, few (lines_of input) new [] out r.2)))

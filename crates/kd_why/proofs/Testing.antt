@@ -1,4 +1,4 @@
--- Classes that are tested one after another join the names held.
+-- Classes that are tested in order add to the names held.
 use Rattle.std.proofs.Common.{◌≡◌, ℕ, ◌+◌, ◌≤◌, List, [], ◌∷◌, ◌++◌, length, drop, Option, Some, None, refl, sym, ap, ◌∙◌, subst, append_assoc, append-nil, arith, length-append, Bool, true, false, if◌then◌else◌}
 use Rattle.std.specs.Prelude.{slice_get}
 use Rattle.std.proofs.lemmas.List.{at_drop_all, drop_more}
@@ -12,7 +12,7 @@ use Rattle.kd_options.specs.Message.{Seen}
 use Rattle.kd_token.specs.File.{Code}
 use Rattle.kd_why.specs.Testing.{AreTested, IsTested, IsTestedBy}
 
--- the element at a place, and what is after it
+-- the element at a position, and those after it
 pub left_at : {X : Type 0} (xs : List X) (i : ℕ) (x : X) → slice_get xs i ≡ Some x → drop i xs ≡ x ∷ drop (i + 1) xs
 left_at xs i x e = drop_more xs i x (slice_get_within xs i x e) ∙ ap (λ y. y ∷ drop (i + 1) xs) (get_or_from_slice_get xs i x x e)
 
@@ -47,7 +47,7 @@ few_by (Some program) m name held (Some outcome) more t = by outcome.value t.1 w
   by true is = let same = ap length is in omega (arith, same, few_with name held)
   by false is = let same = ap length is in omega (arith, same)
 
--- each class joins one name at most
+-- each class adds at most one name
 few_joined : (m : Seen) (classes : List ClassDef) (held : List (List ℕ)) (list : List (Option Outcome)) (names : List (List ℕ))
     → AreTested m classes held list names → length names ≤ length held + length classes
 few_joined m [] held [] names t = let same = ap length t in omega (arith, same)
@@ -65,7 +65,7 @@ pub few_names : (m : Seen) (classes : List ClassDef) (option : Option (List ℕ)
     → AreTested m classes (base_names option) list names → length classes ≤ 256 → length names ≤ 258
 few_names m classes option list names t few = omega (arith, few_joined m classes (base_names option) list names t, few_base option)
 
--- what is left of classes, with the outcomes so far in front
+-- the remaining classes, after the outcomes so far
 abbrev pub Leads : Seen → List ClassDef → List (List ℕ) → List (Option Outcome) → List (List ℕ) → List ClassDef → Type 0
 Leads m classes base outcomes held left =
     (list : List (Option Outcome)) (names : List (List ℕ)) → AreTested m left held list names
@@ -77,7 +77,7 @@ pub leads_from : (m : Seen) (classes : List ClassDef) (base held : List (List �
 leads_from m classes base held outcomes same none list names t =
     subst (λ (o : List (Option Outcome)). AreTested m classes base (o ++ list) names) (sym none) (subst (λ (h : List (List ℕ)). AreTested m classes h list names) same t)
 
--- one class more
+-- one more class
 pub leads_on : (m : Seen) (classes : List ClassDef) (base : List (List ℕ)) (outcomes all : List (Option Outcome)) (held more : List (List ℕ)) (i : ℕ) (class : ClassDef) (outcome : Option Outcome)
     → Some class ≡ slice_get classes i → IsTested m class held outcome more → all ≡ outcomes ++ outcome ∷ [] → Leads m classes base outcomes held (drop i classes)
     → Leads m classes base all more (drop (i + 1) classes)
@@ -86,7 +86,7 @@ leads_on m classes base outcomes all held more i class outcome at tested grown l
     (leads (outcome ∷ list) names
     (subst (λ (left : List ClassDef). AreTested m left held (outcome ∷ list) names) (sym (left_at classes i class (sym at))) (more, tested, t)))
 
--- behind the last class
+-- after the last class
 pub leads_end : (m : Seen) (classes : List ClassDef) (base : List (List ℕ)) (outcomes : List (Option Outcome)) (held : List (List ℕ)) (i : ℕ) → length classes ≤ i
     → Leads m classes base outcomes held (drop i classes) → AreTested m classes base outcomes held
 leads_end m classes base outcomes held i past leads =

@@ -26,7 +26,7 @@ sender_line m =
     if m.header.op == 2 then codes "check sender: a server, by op 2\n"
     else codes "check sender: a server, by type " ++ kind_word (kind_of m) ++ codes "\n"
 
--- which server a message names, beside this one
+-- which server a message names: this one or another
 abbrev pub which_word : Bool → List ℕ
 which_word is_this = if is_this then codes "this one" else codes "another one"
 
@@ -37,26 +37,27 @@ server_line server (Some named) =
     codes "check server: " ++ address_text named ++ codes " is " ++ which_word (server == named)
     ++ codes "\n"
 
--- the offer that a client gives back, since it asks another server
+-- the offer that a client gives back because it requests from another server
 abbrev pub offer_line : Option Row → List ℕ
 offer_line None = codes "check offer: none\n"
 offer_line (Some row) =
     codes "check offer: " ++ address_text row.address ++ codes " is given back\n"
 
--- what names the address of a REQUEST: the header, where it names no server and has an address
+-- where the address of a REQUEST is taken from: the header, if it names no server and has an
+-- address there; otherwise option 50
 abbrev pub request_source : Seen → List ℕ
 request_source m =
     if is_none (named_server m) && not (m.header.ciaddr == 0) then codes "ciaddr"
     else codes "option 50"
 
--- what names the address that a message is about
+-- where the address that a message is about is taken from
 abbrev pub subject_source : Seen → List ℕ
 subject_source m =
     if kind_of m == type_number types.Request then request_source m
     else if kind_of m == type_number types.Release then codes "ciaddr"
     else if kind_of m == type_number types.Inform then codes "ciaddr" else codes "option 50"
 
--- the address that a message is about, and what names it
+-- the address that a message is about, and where it is taken from
 abbrev pub address_line : Option ℕ → List ℕ → List ℕ
 address_line None source = codes "check address: none\n"
 address_line (Some a) source =
@@ -71,7 +72,7 @@ served_word (Some s) = prefix_word s.prefix
 abbrev pub served_line : Option Subnet → List ℕ
 served_line s = codes "check subnet: " ++ served_word s ++ codes "\n"
 
--- whether the subnet's prefix has the address
+-- whether the subnet's prefix contains the address
 abbrev pub prefix_line : Bool → List ℕ
 prefix_line has_it =
     if has_it then codes "check prefix: has the address\n"
@@ -83,7 +84,7 @@ known_line is_known =
     if is_known then codes "check client: known in the subnet\n"
     else codes "check client: not known in the subnet\n"
 
--- a row at a moment, if there is one
+-- a row at a time, if there is one
 abbrev pub row_words : ℕ → Option Row → List ℕ
 row_words now None = codes "none\n"
 row_words now (Some row) =
@@ -93,7 +94,7 @@ row_words now (Some row) =
 abbrev pub row_line : ℕ → Option Row → List ℕ
 row_line now row = codes "check row: " ++ row_words now row
 
--- the same of an address, at the moment and in the table that are asked about
+-- the row of an address, at the time and in the table of the question
 abbrev pub row_line_at : Asking → ℕ → List ℕ
 row_line_at q a = row_line q.now (row_at q.rows a)
 
@@ -102,7 +103,7 @@ abbrev pub owner_line : Bool → List ℕ
 owner_line is_own =
     if is_own then codes "check owner: the client\n" else codes "check owner: not the client\n"
 
--- whether a pool has the address
+-- whether a pool contains the address
 abbrev pub pool_word : Checks → List ℕ
 pool_word checks = if checks.in_pools then codes "in a pool" else codes "in no pool"
 
@@ -143,17 +144,18 @@ unfoldable pub known_lines : List ℕ → Checks → List ℕ
 known_lines row checks =
     known_line checks.known ++ (if checks.known then own_lines row checks else [])
 
--- no server is named (INIT-REBOOT, RENEWING and REBINDING): the subnet's prefix has the address
+-- no server is named (INIT-REBOOT, RENEWING and REBINDING): the subnet's prefix contains the
+-- address
 unfoldable pub renewing_lines : List ℕ → Checks → List ℕ
 renewing_lines row checks =
     prefix_line checks.in_prefix ++ (if checks.in_prefix then known_lines row checks else [])
 
--- one of the two, with the line of the address's row
+-- the lines of one of the two, with the line of the address's row
 abbrev pub lease_check_lines : Option ℕ → List ℕ → Checks → List ℕ
 lease_check_lines None row checks = renewing_lines row checks
 lease_check_lines (Some server) row checks = selecting_lines row checks
 
--- the checks of an address in its subnet, where one serves the message
+-- the checks of an address in its subnet, if a subnet serves the message
 abbrev pub checks_text : Asking → ℕ → Option Checks → List ℕ
 checks_text q a None = []
 checks_text q a (Some checks) =
@@ -170,7 +172,7 @@ asked_lines q s checks =
     address_line (subject_in q.message) (subject_source q.message)
     ++ asked_at q s checks (subject_in q.message)
 
--- a REQUEST: the server that it names, and where that is another the offer that is given back
+-- a REQUEST: the server that it names and, if that is another server, the offer that is given back
 unfoldable pub request_lines : Asking → Option Subnet → Option Row → Option Checks → List ℕ
 request_lines q s set checks =
     server_line q.config.server (named_server q.message)
@@ -184,7 +186,7 @@ abbrev pub holding_at : Asking → Option ℕ → List ℕ
 holding_at q None = []
 holding_at q (Some a) = row_line_at q a ++ held_line (held_at q a)
 
--- the lease or the offer that is given up
+-- the lease or offer that is given up
 unfoldable pub holding_lines : Asking → List ℕ
 holding_lines q =
     address_line (subject_in q.message) (subject_source q.message)
@@ -218,14 +220,14 @@ rule_lines q s set checks =
 
 -- ---- together
 
--- the lines of a message's rule, where it has a client
+-- the lines of a message's rule, if it has a client
 abbrev pub client_lines : (List ℕ → Asking) → Option Subnet → Option Row → Option Checks
     → Option (List ℕ) → List ℕ
 client_lines asks s set checks None = []
 client_lines asks s set checks (Some client) = rule_lines (asks client) s set checks
 
--- the line of a check at which the message ends before its rule, or else its rule's lines, and the
--- room for the reply where that is why there is none
+-- the line of the check at which the message ends before its rule; otherwise the lines of its rule,
+-- and a line for the room of the reply if that is why there is no reply
 abbrev pub checks_by : Result Plan Reason → Seen → List ℕ → List ℕ
 checks_by (Err reasons.NotRequest) m rule = sender_line m
 checks_by (Err reasons.NoIdentity) m rule = codes "check identity: none\n"

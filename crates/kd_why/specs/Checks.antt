@@ -15,7 +15,7 @@ abbrev pub IsKnown : Asking → Subnet → Bool → Type 0
 IsKnown q s true = (b : ℕ) × (is_record q s b ≡ true)
 IsKnown q s false = (b : ℕ) → is_record q s b ≡ false
 
--- what is checked of an address for a client in a subnet, each as the rules say it
+-- the checks of an address for a client in a subnet, each as the rules define it
 pub record AreChecks (q : Asking) (s : Subnet) (a : ℕ) (checks : Checks) : Type 0 where
   pub in_prefix : checks.in_prefix ≡ has_address s.prefix a
   pub in_pools : checks.in_pools ≡ pooled s a
@@ -31,12 +31,13 @@ pub record AreChecks (q : Asking) (s : Subnet) (a : ℕ) (checks : Checks) : Typ
 abbrev pub ciaddr_in : Seen → Option ℕ
 ciaddr_in m = if m.header.ciaddr == 0 then None else Some m.header.ciaddr
 
--- the address of a REQUEST: the one that it asks for where it names a server, else the one to renew
+-- the address of a REQUEST: the one that it requests if it names a server, otherwise the one to
+-- renew
 abbrev pub request_subject : Seen → Option ℕ
 request_subject m = if is_some (named_server m) then requested_address m else renewed_address m
 
--- the address that a message is about: a RELEASE and an INFORM are about the one that the client
--- says it has, other messages but a REQUEST about the one that it asks for
+-- the address that a message is about: for a RELEASE and an INFORM, the one that the client says it
+-- has; for other messages except a REQUEST, the one that it requests
 abbrev pub subject_in : Seen → Option ℕ
 subject_in m =
     if kind_of m == type_number types.Request then request_subject m

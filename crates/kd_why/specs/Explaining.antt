@@ -1,4 +1,4 @@
--- What is explained of a message: each part as the rules of leases and of classes say it.
+-- The explanation of a message: each part as the rules of leases and of classes define it.
 use Rattle.std.specs.Prelude.{◌≡◌, ℕ, List, Option, None, Some, option_copied}
 use Rattle.kd_classes.specs.HeldSet.{HeldSet}
 use Rattle.kd_config.specs.Configuration.{Configuration}
@@ -20,40 +20,40 @@ use Rattle.kd_why.specs.Testing.{AreTested}
 use Rattle.kd_why.specs.declared.checks.Checks.{Checks}
 use Rattle.kd_why.specs.declared.explaining.Explanation.{Explanation}
 
--- the reservation for the client of a message in a subnet, where there is a subnet
+-- the reservation for the client of a message in a subnet, if there is a subnet
 abbrev pub IsReservedIn : Seen → Option Subnet → Option Reservation → Type 0
 IsReservedIn m None found = found ≡ None
 IsReservedIn m (Some s) found = found ≡ client_reservation m s
 
--- the first address of each rank in a subnet, where there is a subnet
+-- the first address of each rank in a subnet, if there is a subnet
 abbrev pub AreFoundIn : Asking → Option Subnet → Option Ranks → Type 0
 AreFoundIn q None found = found ≡ None
 AreFoundIn q (Some s) None = ⊥
 AreFoundIn q (Some s) (Some ranks) = AreRanks q s ranks
 
--- the same for a client, where the message has one
+-- the same for a client, if the message has one
 abbrev pub AreFoundFor : Option (List ℕ) → (List ℕ → Asking) → Option Subnet → Option Ranks → Type 0
 AreFoundFor None asks s found = found ≡ None
 AreFoundFor (Some client) asks s found = AreFoundIn (asks client) s found
 
--- what is checked of an address in a subnet, where there is an address
+-- the checks of an address in a subnet, if there is an address
 abbrev pub AreCheckedAt : Asking → Subnet → Option ℕ → Option Checks → Type 0
 AreCheckedAt q s None found = found ≡ None
 AreCheckedAt q s (Some a) None = ⊥
 AreCheckedAt q s (Some a) (Some checks) = AreChecks q s a checks
 
--- what is checked of the address that the message is about, where there is a subnet
+-- the checks of the address that the message is about, if there is a subnet
 abbrev pub AreCheckedIn : Asking → Option Subnet → Option Checks → Type 0
 AreCheckedIn q None found = found ≡ None
 AreCheckedIn q (Some s) found = AreCheckedAt q s (subject_in q.message) found
 
--- the same for a client, where the message has one
+-- the same for a client, if the message has one
 abbrev pub AreCheckedFor : Option (List ℕ) → (List ℕ → Asking) → Option Subnet → Option Checks
     → Type 0
 AreCheckedFor None asks s found = found ≡ None
 AreCheckedFor (Some client) asks s found = AreCheckedIn (asks client) s found
 
--- an explanation of a message at a moment, over a configuration and rows: its parts are those of the
+-- an explanation of a message at a time, over a configuration and rows: its parts are those of the
 -- rules
 pub record Explains (config : Configuration) (rows : List Row) (m : Seen) (now : ℕ)
     (e : Explanation) : Type 0 where

@@ -28,7 +28,7 @@ use Rattle.kd_why.specs.Words.{address_word, bytes_word, name_text, prefix_word,
 
 -- ---- the message
 
--- the line of the moment that counts
+-- the line of the time that counts
 abbrev pub moment_line : ℕ → List ℕ
 moment_line moment = codes "moment " ++ decimal moment ++ codes "\n"
 
@@ -50,14 +50,14 @@ option_words m =
     codes " requested " ++ address_word (requested_address m)
     ++ codes " server " ++ address_word (named_server m) ++ codes "\n"
 
--- the lines of a message of this client at a moment
+-- the lines of a message from this client at a time
 unfoldable pub message_lines : ℕ → Seen → Option (List ℕ) → List ℕ
 message_lines moment m client =
     moment_line moment ++ client_words m client ++ header_words m.header ++ option_words m
 
 -- ---- its classes
 
--- what the test of a class gave, where it has one
+-- the result of the test of a class, if it has one
 abbrev pub outcome_words : Option Outcome → List ℕ
 outcome_words None = codes " no test\n"
 outcome_words (Some outcome) =
@@ -67,7 +67,7 @@ outcome_words (Some outcome) =
 unfoldable pub tested_line : ClassDef → Option Outcome → List ℕ
 tested_line class outcome = codes "class " ++ name_text class.name ++ outcome_words outcome
 
--- the first of outcomes
+-- the first outcome of a list, if there is one
 abbrev pub first_outcome : List (Option Outcome) → Option Outcome
 first_outcome [] = None
 first_outcome (outcome ∷ outcomes) = outcome
@@ -88,7 +88,7 @@ names_line names = codes "classes" ++ flat_map name_behind names ++ codes "\n"
 
 -- ---- its place and its subnet
 
--- what says where a message comes from
+-- what the place of a message is taken from
 abbrev pub place_word : Header → List ℕ
 place_word h =
     if not (h.giaddr == 0) then codes "relay"
@@ -100,7 +100,7 @@ place_line server h =
     codes "place " ++ address_text (message_place server h) ++ codes " " ++ place_word h
     ++ codes "\n"
 
--- the line of a subnet: its prefix, and what becomes of it
+-- the line of a subnet: its prefix, and whether it serves
 unfoldable pub sought_line : Subnet → List ℕ → List ℕ
 sought_line s words = codes "subnet " ++ prefix_word s.prefix ++ words ++ codes "\n"
 
@@ -109,19 +109,20 @@ abbrev pub class_word : Option (List ℕ) → List ℕ
 class_word None = codes "-"
 class_word (Some class) = name_text class
 
--- why a subnet is passed over: the place is outside its prefix, or else its class is not held
+-- why a subnet is passed over: the place is outside its prefix; otherwise the message is not in its
+-- class
 unfoldable pub passed_words : ℕ → Subnet → List ℕ
 passed_words place s =
     if has_address s.prefix place
     then codes " passed over: the client is not in class " ++ class_word s.class
     else codes " passed over: " ++ address_text place ++ codes " is outside"
 
--- the line of a subnet behind the one that serves
+-- the line of a subnet after the one that serves
 abbrev pub unasked_line : Subnet → List ℕ
 unasked_line s = sought_line s (codes " not asked")
 
--- the lines of subnets for a place and the holder of these names: those that are passed over, the
--- first that serves, and those behind it
+-- the lines of subnets for a place and a message with these class names: those that are passed
+-- over, the first that serves, and those after it
 unfoldable pub sought_lines : ℕ → List (List ℕ) → List Subnet → List ℕ
 sought_lines place names [] = codes "subnet - none serves\n"
 sought_lines place names (s ∷ subnets) =
@@ -131,7 +132,7 @@ sought_lines place names (s ∷ subnets) =
 
 -- ---- its reservation
 
--- the key of the configuration that names a client
+-- the configuration key by which a client is named
 abbrev pub key_word : Identity → List ℕ
 key_word (identities.Hardware bytes) = codes "hw-address"
 key_word (identities.ClientId bytes) = codes "client-id"
@@ -142,7 +143,7 @@ reserved_line reservation =
     codes "reservation " ++ address_text reservation.address ++ codes " by "
     ++ key_word reservation.identity ++ codes "\n"
 
--- the line of the reservation for the client, where a subnet serves the message
+-- the line of the reservation for the client, if a subnet serves the message
 abbrev pub reservation_line : Option Subnet → Option Reservation → List ℕ
 reservation_line None found = []
 reservation_line (Some s) None = codes "reservation -\n"
@@ -184,19 +185,19 @@ reaches_rule (Err reasons.NoIdentity) = false
 reaches_rule (Err reasons.DropClass) = false
 reaches_rule other = true
 
--- the lines of the ranks that are found, if they are
+-- the lines of the ranks, if they were found
 abbrev pub ranks_text : Option Ranks → List ℕ
 ranks_text None = []
 ranks_text (Some ranks) = rank_lines ranks
 
--- those of a DISCOVER that its rule answers: other messages choose no address
+-- the ranks of a DISCOVER that reaches its rule; other messages choose no address
 abbrev pub chosen_text : Seen → Result Plan Reason → Option Ranks → List ℕ
 chosen_text m answer ranks =
     if kind_of m == type_number types.Discover && reaches_rule answer then ranks_text ranks else []
 
 -- ---- together
 
--- the lines of a message and of what is found for it, by an explanation of it at a moment
+-- the lines of a message and of what is found for it, from an explanation of it at a time
 unfoldable pub found_text : Configuration → Seen → ℕ → Explanation → List ℕ
 found_text config m now e =
     message_lines now m e.client

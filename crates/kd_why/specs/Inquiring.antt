@@ -1,4 +1,4 @@
--- A line of an input that is explained, over the rows that the events of the lines before it leave.
+-- An input line that is explained, over the rows that the events of the lines before it leave.
 use Rattle.std.specs.Prelude.{◌≡◌, ◌⊎◌, ◌+◌, ◌≤◌, ◌<◌, ◌++◌, ◌∷◌, ℕ, List, Option, Some, Result, Ok, Err, length}
 use Rattle.kd_event.specs.declared.event.Event.{Event}
 use Rattle.kd_event.specs.declared.event.Handled.{Handled}
@@ -24,7 +24,7 @@ pub record IsLineAt (t : Trying) (input : List ℕ) (number : ℕ) (line : List 
   pub spelled : AreEvents before events
   pub history : History TriesStep t events list mid
 
--- the line with a number is an event, and a text explains it
+-- the line with this number is an event, and the text explains it
 pub record IsExplainedAt (t : Trying) (input : List ℕ) (number : ℕ) (text : List ℕ) : Type 0 where
   pub line : List ℕ
   pub mid : Trying
@@ -33,7 +33,7 @@ pub record IsExplainedAt (t : Trying) (input : List ℕ) (number : ℕ) (text : 
   pub spelled : IsEventLine line event
   pub explains : ExplainsEvent mid event text
 
--- a line with this number or a lesser one is no event, where those before it are
+-- a line with this number or a smaller one is not an event, and those before it are
 pub record IsBadAt (t : Trying) (input : List ℕ) (number k : ℕ) : Type 0 where
   pub line : List ℕ
   pub mid : Trying
@@ -41,7 +41,7 @@ pub record IsBadAt (t : Trying) (input : List ℕ) (number k : ℕ) : Type 0 whe
   pub within : k ≤ number
   pub bad : IsNoEvent line
 
--- a line with this number or a lesser one is an event of which nothing is said, for this fault
+-- a line with this number or a smaller one is an event that is not explained, because of this fault
 pub record IsUnsaidAt (t : Trying) (input : List ℕ) (number : ℕ) (fault : ServeFault) : Type 0 where
   pub k : ℕ
   pub line : List ℕ
@@ -52,9 +52,9 @@ pub record IsUnsaidAt (t : Trying) (input : List ℕ) (number : ℕ) (fault : Se
   pub spelled : IsEventLine line event
   pub why : IsUnsaid event.moment fault
 
--- why the line of an input with a number is not explained: a line up to it is bad, or there is none
--- with the number; its event or one before it has a fault; the source has failed, or has too many
--- lines; or memory ran out
+-- why the line of an input with a number is not explained: a line up to it is bad, or there is no
+-- line with the number; its event or one before it has a fault; the source has failed, or has too
+-- many lines; or memory ran out
 abbrev pub IsNotExplained : Type 0 → Trying → List ℕ → ℕ → ReplayFault → Type 0
 IsNotExplained source_failed t input number (faults.BadLine k) =
     IsBadAt t input number k ⊎ ((k ≡ number) × ((number ≡ 0) ⊎ (length (lines_of input) < number)))
@@ -64,7 +64,7 @@ IsNotExplained source_failed t input number faults.Read =
 IsNotExplained source_failed t input number faults.Write = ⊥
 IsNotExplained source_failed t input number faults.Memory = Unit {0}
 
--- what the code sees of an inquiry: the trial, how many events come before the one to be explained,
+-- what contracts see of an inquiry: the trial, how many events come before the one to be explained,
 -- and the text, once there is one
 pub record Inquiring : Type 0 where
   pub trial : Trying
@@ -84,7 +84,7 @@ pub record IsSaid (old : Inquiring) (event : Event) (new : Inquiring) : Type 0 w
   pub now : new.text ≡ Some text
   pub explains : ExplainsEvent old.trial event text
 
--- nothing is said of an event, and nothing changes
+-- an event is not explained, and nothing changes
 pub record IsLeftUnsaid (old : Inquiring) (event : Event) (fault : ServeFault)
     (new : Inquiring) : Type 0 where
   pub same : new ≡ old
@@ -95,13 +95,13 @@ abbrev pub IsReached : Inquiring → Event → ServeFault → Inquiring → Type
 IsReached old event fault new =
     ((fault ≡ serving.Failed) × IsSaid old event new) ⊎ IsLeftUnsaid old event fault new
 
--- how the replay ends at an event: it is the one to be explained, or nothing is said of one before it
+-- how the replay ends at an event: it is the one to be explained, or one before it has a fault
 abbrev pub IsEnding : Inquiring → Event → ServeFault → Inquiring → Type 0
 IsEnding old event fault new =
     ((old.left ≡ 0) × IsReached old event fault new) ⊎ IsLeftUnsaid old event fault new
 
--- why a line is not explained, by the end of the replay of the lines before it: there is no such
--- line, or no memory for what a replay writes, or its own fault
+-- why a line is not explained, given how the replay of the lines before it ended: there is no such
+-- line, or no memory for what a replay writes, or the fault of the replay
 abbrev pub ending_fault : Result ℕ ReplayFault → ℕ → ReplayFault
 ending_fault (Ok count) number = faults.BadLine number
 ending_fault (Err faults.Write) number = faults.Memory

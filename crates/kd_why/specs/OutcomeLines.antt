@@ -1,4 +1,5 @@
--- The lines of what a message gets: how it ends, the options of its reply, and the row that it sets.
+-- The lines of the outcome of a message: how it ends, the options of its reply, and the row it
+-- sets.
 use Rattle.std.specs.Prelude.{◌≡◌, ℕ, max, Bool, true, false, ◌==◌, ◌||◌, if◌then◌else◌, List, [], ◌∷◌, ◌++◌, Option, Some, None, Result, Ok, Err, codes, decimal, slice_get, option_copied}
 use Rattle.kd_classes.specs.declared.definition.ClassDef.{ClassDef}
 use Rattle.kd_config.specs.Configuration.{Configuration}
@@ -60,8 +61,8 @@ origin_word classes (Some (origins.Class i)) = codes "class " ++ origin_class (s
 origin_word classes (Some origins.Global) = codes "all"
 origin_word classes (Some origins.Mask) = codes "mask"
 
--- where an option comes from that each reply of its kind has: options 61 and 82 are the message's own
--- (RFC 6842 section 3; RFC 3046 section 2.2)
+-- where an option that each reply of its kind has comes from: options 61 and 82 are copied from the
+-- message (RFC 6842 section 3; RFC 3046 section 2.2)
 abbrev pub required_word : ℕ → List ℕ
 required_word code = if code == 61 || code == 82 then codes "message" else codes "reply"
 
@@ -73,18 +74,18 @@ IsConfiguredWord config names (Some s) a code word =
     (origin : Option Origin) × IsOrigin config s names a code origin
     × (word ≡ origin_word config.classes origin)
 
--- where an option comes from, by whether a reply must have it
+-- where an option comes from, by whether the reply must have it
 abbrev pub IsSourceWord : Configuration → List (List ℕ) → Option Subnet → ℕ → Bool → ℕ → List ℕ
     → Type 0
 IsSourceWord config names s a true code word = word ≡ required_word code
 IsSourceWord config names s a false code word = IsConfiguredWord config names s a code word
 
--- whether the reply as it is written has an option
+-- whether the written reply has an option
 abbrev pub room_word : Option (List ℕ) → List ℕ
 room_word None = codes ": no room\n"
 room_word (Some value) = codes "\n"
 
--- the line of an option of a reply that reads like this as it is written, at an address
+-- the line of an option at an address, where the written reply reads as this message
 pub record IsSentLine (config : Configuration) (e : Explanation) (a : ℕ) (reply : Seen)
     (item : Item) (line : List ℕ) : Type 0 where
   pub source : List ℕ
@@ -93,14 +94,15 @@ pub record IsSentLine (config : Configuration) (e : Explanation) (a : ℕ) (repl
       ≡ codes "option " ++ decimal item.code ++ codes " " ++ bytes_text item.value ++ codes " "
       ++ source ++ room_word (value_of item.code reply.options)
 
--- the lines of options, one after another
+-- the lines of options, in order
 abbrev pub AreOptionLines : (Item → List ℕ → Type 0) → List Item → List ℕ → Type 0
 AreOptionLines Line [] text = text ≡ []
 AreOptionLines Line (item ∷ items) text =
     (line : List ℕ) × (rest : List ℕ) × Line item line × AreOptionLines Line items rest
     × (text ≡ line ++ rest)
 
--- the address that the options of a reply are given at: the one that it gives, or that its client has
+-- the address that the options of a reply are chosen for: the one it gives, or the one its client
+-- has
 abbrev pub options_address : PlanKind → ℕ → ℕ → ℕ
 options_address kinds.InformAck yiaddr ciaddr = ciaddr
 options_address other yiaddr ciaddr = yiaddr
@@ -109,7 +111,7 @@ options_address other yiaddr ciaddr = yiaddr
 abbrev pub written : Plan → List ℕ
 written plan = reply_text plan.reply.header (max plan.room 548) plan.reply.items
 
--- the lines of the options of a planned reply, of which some may have no room as it is written
+-- the lines of the options of a planned reply; the written reply may have no room for some of them
 pub record AreOptionsOf (config : Configuration) (m : Seen) (e : Explanation) (plan : Plan)
     (text : List ℕ) : Type 0 where
   pub reply : Seen
@@ -118,7 +120,7 @@ pub record AreOptionsOf (config : Configuration) (m : Seen) (e : Explanation) (p
       (IsSentLine config e (options_address plan.kind plan.yiaddr m.header.ciaddr) reply)
       plan.reply.items text
 
--- the lines of how a message ends: its reply and the options of that, or why there is none
+-- the lines of how a message ends: the reply and its options, or why there is none
 abbrev pub IsEndText : Configuration → Seen → Explanation → Result Plan Reason → List ℕ → Type 0
 IsEndText config m e (Ok plan) text =
     (options : List ℕ) × AreOptionsOf config m e plan options

@@ -1,4 +1,4 @@
--- The text of an explanation: the lines about each part, and what stands last in it.
+-- The text of an explanation: the lines about each part, and the line at its end.
 use Rattle.std.specs.Prelude.{◌≡◌, ◌≢◌, ◌++◌, ◌^◌, ◌<◌, ◌≤◌, ◌⊎◌, ℕ, List, codes, decimal, option_copied}
 use Rattle.kd_config.specs.Configuration.{Configuration}
 use Rattle.kd_event.specs.declared.event.Event.{Event}
@@ -19,14 +19,14 @@ use Rattle.kd_why.specs.FoundLines.{found_text}
 use Rattle.kd_why.specs.OutcomeLines.{IsEndText, set_line}
 use Rattle.kd_why.specs.declared.explaining.Explanation.{Explanation}
 
--- the lines of the checks of a message at a moment over rows, by an explanation of it
+-- the lines of the checks of a message at a time over rows, from an explanation of it
 abbrev pub checked_text : Configuration → List Row → Seen → ℕ → Explanation → List ℕ
 checked_text config rows m now e =
     checks_by e.decision.answer m
     (client_lines (asked_for config rows e.names m now) (option_copied e.subnet) e.decision.row
     e.checks e.client)
 
--- a text is that of an explanation of a message at a moment: what the message is and what is found
+-- a text is that of an explanation of a message at a time: what the message is and what is found
 -- for it, what is checked, how it ends, and the row that it sets
 pub record IsTextOf (config : Configuration) (rows : List Row) (m : Seen) (now : ℕ)
     (e : Explanation) (text : List ℕ) : Type 0 where
@@ -36,14 +36,14 @@ pub record IsTextOf (config : Configuration) (rows : List Row) (m : Seen) (now :
       ≡ found_text config m now e
       ++ (checked_text config rows m now e ++ (ends ++ set_line e.decision.row))
 
--- a text explains a message at a moment, over a configuration and rows
+-- a text explains a message at a time, over a configuration and rows
 pub record IsExplanation (config : Configuration) (rows : List Row) (m : Seen) (now : ℕ)
     (text : List ℕ) : Type 0 where
   pub explanation : Explanation
   pub explains : Explains config rows m now explanation
   pub text_is : IsTextOf config rows m now explanation text
 
--- a text says that a datagram is no message, for its first fault
+-- a text says that a datagram is no message, because of its first fault
 pub record IsNoMessage (bytes text : List ℕ) : Type 0 where
   pub fault : ReadFault
   pub first : IsFirstFault fault bytes
@@ -53,25 +53,25 @@ pub record IsNoMessage (bytes text : List ℕ) : Type 0 where
       ≡ codes "unreadable: fault " ++ decimal (read_fault_number fault) ++ codes " " ++ name
       ++ codes "\n"
 
--- what is said of a datagram at a moment: the explanation of its message, or that it is none
+-- what is said of a datagram at a time: the explanation of its message, or that it is no message
 abbrev pub IsAccount : Configuration → List Row → ℕ → List ℕ → List ℕ → Type 0
 IsAccount config rows now bytes text =
     ((m : Seen) × Reads bytes m × IsExplanation config rows m now text) ⊎ IsNoMessage bytes text
 
--- a text ends in the line of what a server would answer to an event
+-- a text ends with the line of what a server would answer to an event
 pub record EndsInAnswer (t : Trying) (event : Event) (text : List ℕ) : Type 0 where
   pub handled : Handled
   pub answers : WouldAnswer t event handled
   pub front : List ℕ
   pub is : text ≡ front ++ line_of handled
 
--- a text explains an event: it ends in the line of what a server would answer, and the lines before
--- that are of the same moment, configuration and rows
+-- a text explains an event: it ends with the line of what a server would answer, and the lines
+-- before that are for the same time, configuration and rows
 pub record ExplainsEvent (t : Trying) (event : Event) (text : List ℕ) : Type 0 where
   pub ends : EndsInAnswer t event text
   pub says : IsAccount t.config t.rows ends.handled.now event.bytes ends.front
 
--- why nothing is said of an event at a moment: that is 2^40 or more, or memory ran out
+-- why an event at a time is not explained: the time is 2^40 or more, or memory ran out
 abbrev pub IsUnsaid : ℕ → ServeFault → Type 0
 IsUnsaid moment faults.MomentTooLarge = 2 ^ 40 ≤ moment
 IsUnsaid moment faults.Memory = moment < 2 ^ 40

@@ -1,4 +1,4 @@
--- The words in the lines of an explanation: what is absent is a dash.
+-- The words in the lines of an explanation; a dash for what is absent.
 use Rattle.std.specs.Prelude.{ℕ, ◌==◌, ◌&&◌, not, nat_le, Bool, if◌then◌else◌, List, [], ◌∷◌, ◌++◌, Option, Some, None, codes, decimal}
 use Rattle.std.specs.List.{flat_map}
 use Rattle.hex.specs.Hex.{encode_lower}
@@ -12,7 +12,7 @@ abbrev pub address_word : Option ℕ → List ℕ
 address_word None = codes "-"
 address_word (Some a) = address_text a
 
--- the address in a field of the header: zero is none
+-- the address in a field of the header, unless it is zero
 abbrev pub unless_zero : ℕ → Option ℕ
 unless_zero a = if a == 0 then None else Some a
 
@@ -25,8 +25,8 @@ bytes_word (Some bytes) = bytes_text bytes
 unfoldable pub prefix_word : Prefix → List ℕ
 prefix_word prefix = address_text prefix.address ++ codes "/" ++ decimal prefix.length
 
--- a byte of a name: printable ASCII as it is, but for the space and the backslash; any other as `\x`
--- and two hexadecimal digits
+-- a byte of a name: printable ASCII as it is, except the space and the backslash; any other byte as
+-- `\x` and two hexadecimal digits
 unfoldable pub name_byte : ℕ → List ℕ
 name_byte b =
     if nat_le 33 b && (nat_le b 126 && not (b == 92)) then b ∷ []
@@ -36,7 +36,7 @@ name_byte b =
 abbrev pub name_text : List ℕ → List ℕ
 name_text name = flat_map name_byte name
 
--- a row: its address, its state, its client, and when it was set and ends
+-- a row: its address, its state, its client, when it was set and when it ends
 unfoldable pub row_text : Row → List ℕ
 row_text row =
     address_text row.address ++ codes " " ++ word_of_state row.state ++ codes " "

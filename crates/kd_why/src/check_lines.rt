@@ -19,8 +19,8 @@ use kd_rows::Row;
 use kd_wire::Bytes;
 use std::alloc::{AllocError, Global};
 
-// What the checks are made over: the question that the rules are asked, the subnet that serves the
-// message, the row that it sets, and what is checked of its address.
+// What the checks are made on: the question put to the rules, the subnet that serves the message,
+// the row that it sets, and the checks of its address.
 #[derive(Clone, Copy)]
 pub(crate) struct Matter<'a> {
     pub(crate) alloc: Global,
@@ -30,8 +30,8 @@ pub(crate) struct Matter<'a> {
     pub(crate) checks: Option<Checks>,
 }
 
-// A line for each check that the rules make, up to the one at which the message ends (RFC 2131
-// section 4.3). Those before its type have a line only where it ends there.
+// Prints a line for each check that the rules make, up to the one at which the message ends (RFC
+// 2131 section 4.3). The checks before its type have a line only if the message ends there.
 pub(crate) fn put_checks(out: &mut String, scene: &Scene<'_>) -> Result<(), AllocError>
     ensures { OnOk result (string_bytes out.new ≡ string_bytes out.old
         ++ checks_by scene.now.explanation.now.decision.answer scene.now.message.now
@@ -52,7 +52,7 @@ pub(crate) fn put_checks(out: &mut String, scene: &Scene<'_>) -> Result<(), Allo
     }
 }
 
-// No check before its type ends the message.
+// Reports whether no check before its type ends the message.
 pub(crate) fn is_ruled(answer: &Result<Plan, Reason>) -> bool
     ensures { result ≡ reaches_rule answer.now }
 {
@@ -64,7 +64,7 @@ pub(crate) fn is_ruled(answer: &Result<Plan, Reason>) -> bool
     }
 }
 
-// The checks of a client's rule.
+// Prints the checks of a client's rule.
 fn put_rule(out: &mut String, scene: &Scene<'_>) -> Result<(), AllocError>
     ensures { OnOk result (string_bytes out.new ≡ string_bytes out.old
         ++ client_lines (asked_for scene.now.config.now scene.now.rows.now.rows
@@ -116,7 +116,7 @@ fn put_by_type(out: &mut String, matter: &Matter<'_>) -> Result<(), AllocError>
     }
 }
 
-// The checks of a DECLINE or a RELEASE (RFC 2131 sections 4.3.3 and 4.3.4).
+// Prints the checks of a DECLINE or a RELEASE (RFC 2131 sections 4.3.3 and 4.3.4).
 #[tactic(auto, unfolding(crate::specs::CheckLines::giving_up_lines))]
 fn put_giving_up(alloc: Global, out: &mut String, question: &Question<'_>) -> Result<(), AllocError>
     ensures { OnOk result (string_bytes out.new
@@ -131,7 +131,7 @@ fn put_giving_up(alloc: Global, out: &mut String, question: &Question<'_>) -> Re
     }
 }
 
-// A message names another server.
+// Reports whether a message names another server.
 pub(crate) fn is_other(server: u32, named: Option<u32>) -> bool
     ensures { result ≡ other_server server named }
 {
@@ -169,7 +169,7 @@ fn put_holding_at(
     }
 }
 
-// The checks of an INFORM (RFC 2131 section 4.3.5).
+// Prints the checks of an INFORM (RFC 2131 section 4.3.5).
 #[tactic(auto, unfolding(crate::specs::CheckLines::inform_lines))]
 fn put_inform(
     out: &mut String,

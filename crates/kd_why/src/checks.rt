@@ -10,18 +10,18 @@ use kd_lease::{
 };
 use kd_options::{Message, MessageType};
 
-/// What is checked of an address for a client, in a subnet (RFC 2131 section 4.3).
+/// The checks of an address for a client, in a subnet (RFC 2131 section 4.3).
 #[derive(Clone, Copy)]
 pub struct Checks {
-    /// The subnet's prefix has it.
+    /// The subnet's prefix contains it.
     pub in_prefix: bool,
-    /// A pool of the subnet has it.
+    /// A pool of the subnet contains it.
     pub in_pools: bool,
-    /// It is reserved for somebody, in any subnet.
+    /// It is reserved for some client, in any subnet.
     pub reserved: bool,
     /// It is reserved for the client, in this subnet.
     pub reserved_for_client: bool,
-    /// It is in a pool and reserved for nobody, or reserved for the client.
+    /// It is in a pool and not reserved, or it is reserved for the client.
     pub fits: bool,
     /// It has no row, or one that leaves it free for the client.
     pub free: bool,
@@ -33,7 +33,7 @@ pub struct Checks {
     pub known: bool,
 }
 
-/// What is checked of an address, in host order.
+/// Checks an address, in host order.
 pub fn checks_of(question: &Question<'_>, subnet: &Subnet, address: u32) -> Checks
     ensures { AreChecks (asking question.now) subnet.now address result }
 {
@@ -50,7 +50,7 @@ pub fn checks_of(question: &Question<'_>, subnet: &Subnet, address: u32) -> Chec
     }
 }
 
-// An address is reserved for the client of a message.
+// Reports whether an address is reserved for the client of a message.
 fn is_reserved_for(message: &Message<'_>, subnet: &Subnet, address: u32) -> bool
     ensures { result ≡ same_address (address_reserved message.now subnet.now) address }
 {
@@ -60,8 +60,9 @@ fn is_reserved_for(message: &Message<'_>, subnet: &Subnet, address: u32) -> bool
     }
 }
 
-/// The address that a message is about, in host order: that which it asks for, and of a REQUEST
-/// that names no server, a RELEASE and an INFORM that which its client has.
+/// Returns the address that a message is about, in host order. For a RELEASE, an INFORM and a
+/// REQUEST that names no server, this is the address that the client has; for other messages, the
+/// one that it requests.
 pub fn subject_of(message: &Message<'_>) -> Option<u32>
     ensures { result ≡ subject_in message.now }
 {
@@ -76,7 +77,7 @@ pub fn subject_of(message: &Message<'_>) -> Option<u32>
     }
 }
 
-// The address that the client says it has.
+// Returns the address that the client says it has.
 fn ciaddr_of(message: &Message<'_>) -> Option<u32>
     ensures { result ≡ ciaddr_in message.now }
 {

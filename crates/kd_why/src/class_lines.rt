@@ -10,11 +10,11 @@ use kd_machine::{Held, Outcome};
 use std::alloc::{AllocError, Global};
 use std::fmt::Write;
 
-// The names that a message has at most: two that no class gives, and those of 256 classes.
+// The most names that a message can have: two that no class gives, and those of 256 classes.
 const MOST_NAMES: usize = 258;
 
-// A line for each class of the configuration, and one of the names of all classes that the message
-// is in.
+// Prints a line for each class of the configuration, and one with the names of all classes that the
+// message is in.
 pub(crate) fn put_classes(out: &mut String, scene: &Scene<'_>) -> Result<(), AllocError>
     requires { length scene.now.explanation.now.names ≤ 258 }
     ensures { OnOk result (string_bytes out.new ≡ string_bytes out.old
@@ -31,7 +31,7 @@ pub(crate) fn put_classes(out: &mut String, scene: &Scene<'_>) -> Result<(), All
     put_names(scene.alloc, out, &explanation.names)
 }
 
-// The lines of classes, each with its outcome.
+// Prints the lines of classes, each with its outcome.
 fn put_tests(
     alloc: Global,
     out: &mut String,
@@ -50,7 +50,7 @@ fn put_tests(
     Ok(())
 }
 
-// What the test of the class at an index gave, where it has one.
+// Returns the result of the test of the class at an index, if it has a test.
 fn outcome_at(outcomes: &[Option<Outcome>], index: usize) -> Option<Outcome>
     ensures { result ≡ first_outcome (drop index outcomes.now) }
 {
@@ -60,7 +60,7 @@ fn outcome_at(outcomes: &[Option<Outcome>], index: usize) -> Option<Outcome>
     }
 }
 
-// The line of a class.
+// Prints the line of a class.
 #[tactic(auto, unfolding(crate::specs::FoundLines::tested_line))]
 fn put_class(
     alloc: Global,
@@ -93,7 +93,7 @@ fn put_value(out: &mut String, value: bool, steps: u32) -> Result<(), AllocError
     writeln!(out, " {value} steps {steps}")
 }
 
-// The line of the names of classes.
+// Prints the line of the names of classes.
 #[tactic(auto, unfolding(crate::specs::FoundLines::names_line))]
 fn put_names(alloc: Global, out: &mut String, names: &Held) -> Result<(), AllocError>
     requires { length names.now ≤ 258 }
@@ -104,7 +104,7 @@ fn put_names(alloc: Global, out: &mut String, names: &Held) -> Result<(), AllocE
     out.push_str("\n")
 }
 
-// The names, each after a space.
+// Prints the names, each after a space.
 fn put_names_behind(alloc: Global, out: &mut String, names: &Held) -> Result<(), AllocError>
     requires { length names.now ≤ 258 }
     ensures { OnOk result (string_bytes out.new ≡ string_bytes out.old

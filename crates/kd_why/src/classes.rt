@@ -12,18 +12,18 @@ use std::alloc::{AllocError, Global};
 /// How the classes of a configuration were tested over a message.
 #[derive(Drop)]
 pub struct Trace {
-    /// For each class, in order, what the run of its test gave; nothing where it has no test.
+    /// For each class, in order, the result of its test; `None` if it has no test.
     pub outcomes: Vec<Option<Outcome>>,
     /// The names of the classes that the message is in.
     pub names: Held,
 }
 
-/// Tests the classes in order, each over the names that are held before it (Kea Administrator
-/// Reference Manual, chapter Client Classification).
+/// Tests the classes in order, each with the names of the classes before it that the message is in
+/// (Kea Administrator Reference Manual, chapter Client Classification).
 ///
 /// # Errors
 ///
-/// There is no memory for the names or the values of a test.
+/// Out of memory for the names or the values of a test.
 pub fn trace_classes(
     alloc: Global,
     classes: &Classes,
@@ -45,8 +45,7 @@ pub fn trace_classes(
     Ok(Trace { outcomes, names })
 }
 
-// Tests a class over the names that are held: its name joins them where the run of its test gives
-// true.
+// Tests a class with the names held so far, and adds its name to them if the test gives true.
 fn test(
     alloc: Global,
     class: &ClassDef,

@@ -15,12 +15,13 @@ use kd_rows::Rows;
 use kd_wire::Bytes;
 use std::alloc::{AllocError, Global};
 
-/// What a message is, and what the rules make of it.
+/// What a message is, and what the rules do with it.
 #[derive(Drop)]
 pub struct Explanation<'a> {
     /// The identity of its client, if it has one (RFC 2131 section 4.2).
     pub client: Option<Bytes>,
-    /// For each class of the configuration, in order, what its test gave; nothing where it has none.
+    /// For each class of the configuration, in order, the result of its test; `None` if it has no
+    /// test.
     pub outcomes: Vec<Option<Outcome>>,
     /// The names of the classes that the message is in.
     pub names: Held,
@@ -28,16 +29,16 @@ pub struct Explanation<'a> {
     pub subnet: Option<&'a Subnet>,
     /// The reservation for its client in that subnet, if there is one.
     pub reservation: Option<&'a Reservation>,
-    /// The first address of each rank, where a subnet serves it and it has a client.
+    /// The first address of each rank, if a subnet serves the message and it has a client.
     pub ranks: Option<Ranks>,
-    /// What is checked of the address that it is about, where there is one, a subnet serves it and it
-    /// has a client.
+    /// The checks of the address that the message is about, if there is one, a subnet serves the
+    /// message and it has a client.
     pub checks: Option<Checks>,
-    /// The row that it sets, and what it gets.
+    /// The row that it sets, and the answer to it.
     pub decision: Decision,
 }
 
-/// Explains a message at a moment, in seconds, over a table of leases.
+/// Explains a message at a time, in seconds, over a table of leases.
 ///
 /// # Errors
 ///
@@ -78,7 +79,7 @@ pub fn explain<'a>(
     })
 }
 
-// The reservation for the client of a message in a subnet, if there is one.
+// Returns the reservation for the client of a message in a subnet, if there is one.
 fn reservation_in<'a>(message: &Message<'_>, subnet: Option<&'a Subnet>) -> Option<&'a Reservation>
     ensures { IsReservedIn message.now (option_copied subnet.entry) (option_copied result) }
 {
@@ -88,7 +89,7 @@ fn reservation_in<'a>(message: &Message<'_>, subnet: Option<&'a Subnet>) -> Opti
     }
 }
 
-// What is asked of the rules, but for the client and the names of its classes.
+// A question to the rules, without the client and the names of its classes.
 #[derive(Clone, Copy)]
 struct Asked<'a> {
     config: &'a Config,
@@ -97,7 +98,7 @@ struct Asked<'a> {
     moment: u64,
 }
 
-// The same for a client whose classes have these names.
+// Makes the question for a client whose classes have these names.
 fn question_of<'a>(asked: Asked<'a>, names: &'a Held, client: &'a Bytes) -> Question<'a>
     ensures { asking result ≡ asked_for asked.entry.config.now asked.entry.rows.now.rows
         names.now asked.entry.message.now asked.entry.moment client.now }
@@ -111,7 +112,7 @@ fn question_of<'a>(asked: Asked<'a>, names: &'a Held, client: &'a Bytes) -> Ques
     )
 }
 
-// The first address of each rank for a client in a subnet, if there are both.
+// Returns the first address of each rank for a client in a subnet, if there are both.
 fn found_for(
     asked: Asked<'_>,
     names: &Held,
@@ -128,7 +129,7 @@ fn found_for(
     }
 }
 
-// The first address of each rank in a subnet, if there is one.
+// Returns the first address of each rank in a subnet, if there is one.
 fn found_in(question: &Question<'_>, subnet: Option<&Subnet>) -> Option<Ranks>
     ensures { AreFoundIn (asking question.now) (option_copied subnet.entry) result }
 {
@@ -138,8 +139,7 @@ fn found_in(question: &Question<'_>, subnet: Option<&Subnet>) -> Option<Ranks>
     }
 }
 
-// What is checked of the address that a message is about, for a client in a subnet, if there are
-// both.
+// Checks the address that a message is about, for a client in a subnet, if there are both.
 fn checked_for(
     asked: Asked<'_>,
     names: &Held,
@@ -156,7 +156,7 @@ fn checked_for(
     }
 }
 
-// The same in a subnet, if there is one.
+// Does the same in a subnet, if there is one.
 fn checked_in(question: &Question<'_>, subnet: Option<&Subnet>) -> Option<Checks>
     ensures { AreCheckedIn (asking question.now) (option_copied subnet.entry) result }
 {
@@ -166,7 +166,7 @@ fn checked_in(question: &Question<'_>, subnet: Option<&Subnet>) -> Option<Checks
     }
 }
 
-// The same of an address, if there is one.
+// Does the same for an address, if there is one.
 fn checked_at(question: &Question<'_>, subnet: &Subnet, subject: Option<u32>) -> Option<Checks>
     ensures { AreCheckedAt (asking question.now) subnet.now subject result }
 {

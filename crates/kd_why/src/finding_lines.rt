@@ -16,7 +16,7 @@ use kd_rows::Row;
 use std::alloc::{AllocError, Global};
 use std::fmt::Write;
 
-// Why a message is one that servers send.
+// Prints why a message is one that servers send.
 #[tactic(auto, unfolding(crate::specs::CheckLines::sender_line))]
 pub(crate) fn put_sender(out: &mut String, message: &Message<'_>) -> Result<(), AllocError>
     ensures { OnOk result (string_bytes out.new ≡ string_bytes out.old ++ sender_line message.now) }
@@ -28,7 +28,7 @@ pub(crate) fn put_sender(out: &mut String, message: &Message<'_>) -> Result<(), 
     writeln!(out, "check sender: a server, by type {name}")
 }
 
-// The server that a message names.
+// Prints the server that a message names.
 pub(crate) fn put_server(
     out: &mut String,
     server: u32,
@@ -61,7 +61,7 @@ fn which(is_this: bool) -> &'static str
     if is_this { "this one" } else { "another one" }
 }
 
-// The offer that a client gives back, since it asks another server.
+// Prints the offer that a client gives back because it requests from another server.
 pub(crate) fn put_offer(out: &mut String, set: &Option<Row>) -> Result<(), AllocError>
     ensures { OnOk result (string_bytes out.new ≡ string_bytes out.old ++ offer_line set.now) }
 {
@@ -81,7 +81,7 @@ fn put_offer_at(out: &mut String, address: u32) -> Result<(), AllocError>
     Ok(())
 }
 
-// The address that a message is about, and what names it.
+// Prints the address that a message is about, and the field or option that names it.
 pub(crate) fn put_address_found(
     out: &mut String,
     message: &Message<'_>,
@@ -129,7 +129,7 @@ fn source_of_request(message: &Message<'_>) -> &'static str
     }
 }
 
-// The subnet that serves the message.
+// Prints the subnet that serves the message.
 pub(crate) fn put_subnet_found(out: &mut String, subnet: Option<&Subnet>) -> Result<(), AllocError>
     ensures { OnOk result (string_bytes out.new
         ≡ string_bytes out.old ++ served_line (option_copied subnet.entry)) }
@@ -149,7 +149,7 @@ fn put_served(out: &mut String, subnet: Option<&Subnet>) -> Result<(), AllocErro
     }
 }
 
-// Whether the subnet's prefix has the address.
+// Prints whether the subnet's prefix contains the address.
 pub(crate) fn put_prefix_found(out: &mut String, has_it: bool) -> Result<(), AllocError>
     ensures { OnOk result (string_bytes out.new ≡ string_bytes out.old ++ prefix_line has_it) }
 {
@@ -160,7 +160,7 @@ pub(crate) fn put_prefix_found(out: &mut String, has_it: bool) -> Result<(), All
     }
 }
 
-// Whether the client has a row in the subnet's prefix.
+// Prints whether the client has a row in the subnet's prefix.
 pub(crate) fn put_client_found(out: &mut String, is_known: bool) -> Result<(), AllocError>
     ensures { OnOk result (string_bytes out.new ≡ string_bytes out.old ++ known_line is_known) }
 {
@@ -171,7 +171,7 @@ pub(crate) fn put_client_found(out: &mut String, is_known: bool) -> Result<(), A
     }
 }
 
-// The row of an address, as `kdhcp leases` prints it.
+// Prints the row of an address, as `kdhcp leases` does.
 pub(crate) fn put_row_found(
     alloc: Global,
     out: &mut String,
@@ -219,7 +219,7 @@ fn put_live(out: &mut String, is_live: bool) -> Result<(), AllocError>
     }
 }
 
-// Whether the row is the client's.
+// Prints whether the row is the client's.
 pub(crate) fn put_owner(out: &mut String, is_own: bool) -> Result<(), AllocError>
     ensures { OnOk result (string_bytes out.new ≡ string_bytes out.old ++ owner_line is_own) }
 {
@@ -230,7 +230,7 @@ pub(crate) fn put_owner(out: &mut String, is_own: bool) -> Result<(), AllocError
     }
 }
 
-// Whether an address fits: where it is, and whom it is reserved for.
+// Prints whether an address fits: where it is, and whom it is reserved for.
 #[tactic(auto, unfolding(crate::specs::CheckLines::fits_line))]
 pub(crate) fn put_fits(out: &mut String, checks: &Checks) -> Result<(), AllocError>
     ensures { OnOk result (string_bytes out.new ≡ string_bytes out.old ++ fits_line checks.now) }
@@ -267,7 +267,7 @@ fn reserved_phrase(checks: &Checks) -> &'static str
     }
 }
 
-// Whether an address is free for the client.
+// Prints whether an address is free for the client.
 pub(crate) fn put_free(out: &mut String, is_free: bool) -> Result<(), AllocError>
     ensures { OnOk result (string_bytes out.new ≡ string_bytes out.old ++ free_line is_free) }
 {
@@ -277,7 +277,7 @@ pub(crate) fn put_free(out: &mut String, is_free: bool) -> Result<(), AllocError
     Ok(())
 }
 
-// Whether the client holds an address.
+// Prints whether the client holds an address.
 pub(crate) fn put_held(out: &mut String, is_held: bool) -> Result<(), AllocError>
     ensures { OnOk result (string_bytes out.new ≡ string_bytes out.old ++ held_line is_held) }
 {

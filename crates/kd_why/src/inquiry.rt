@@ -11,12 +11,12 @@ use kd_server::{Rules, Trial};
 use std::marker::Model;
 
 /// Explains the event of a line of an input, over the rows that the events of the lines before it
-/// leave: they are handled by these rules, beginning at these rows, which stay as they are. Lines are
-/// counted from 1.
+/// leave. Those events are handled by these rules, starting from these rows, which are not changed.
+/// Lines are counted from 1.
 ///
 /// # Errors
 ///
-/// Those of a replay of the lines up to this one, but for `Write`; and `BadLine` with the number where
+/// Those of a replay of the lines up to this one, except `Write`; and `BadLine` with the number if
 /// the input has no such line.
 pub fn why_line<R: Source>(
     source: &mut R,
@@ -48,7 +48,7 @@ pub fn why_line<R: Source>(
     }
 }
 
-// Why a line is not explained, by the end of the replay of the lines before it.
+// Returns why a line is not explained, given how the replay of the lines before it ended.
 fn ending(done: Result<u64, ReplayFault>, number: u64) -> ReplayFault
     ensures { result ≡ ending_fault done number }
 {
@@ -59,7 +59,7 @@ fn ending(done: Result<u64, ReplayFault>, number: u64) -> ReplayFault
     }
 }
 
-// A server that handles events, and explains the one behind as many as are left.
+// A server that handles the next `left` events and explains the one after them.
 #[derive(Drop)]
 struct Inquiry<'a> {
     trial: Trial<'a>,
@@ -81,7 +81,7 @@ impl<'a> Model for Inquiry<'a> {
 }
 
 impl Inquiry<'_> {
-    // Explains an event, and says the fault that ends the replay there.
+    // Explains an event, and returns the fault that ends the replay there.
     fn explain(&mut self, moment: u64, bytes: &[u8]) -> ServeFault
         ensures reached { IsReached self.old (record { moment = moment; bytes = bytes.now }) result
             self.new }

@@ -1,11 +1,11 @@
-//! Why a client gets what it gets: what a server would do with one datagram, part by part.
+//! Why a client gets the answer it gets: what a server would do with one datagram, part by part.
 //!
 //! What this layer promises to the one above: the parts of an explanation are those of the rules
 //! (`specs/Explaining.antt`): the value of each class test and its steps, the subnet, the
-//! reservation, the first address of each rank, the checks of the address that it is about, and the
-//! decision; `specs/Checks.antt` says what these checks are, and `specs/Origins.antt` where each
-//! option comes from. The text of an explanation is these parts, line by line, and the line that a replay
-//! would write (`specs/Saying.antt`).
+//! reservation, the first address of each rank, the checks of the address that the message is
+//! about, and the decision. `specs/Checks.antt` says what these checks are, and
+//! `specs/Origins.antt` where each option comes from. The text of an explanation is these parts,
+//! line by line, and then the line that a replay would write (`specs/Saying.antt`).
 #![tactic(auto)]
 
 mod check_lines;

@@ -11,7 +11,7 @@ pub(crate) struct Lines {
 }
 
 impl Lines {
-    // No lines.
+    // Makes an empty text.
     pub(crate) fn new(alloc: Global) -> Lines
         ensures bytes { result.bytes.items ≡ [] }
         ensures failed { result.failed ≡ false }

@@ -12,7 +12,7 @@ use kd_wire::{Bytes, Header};
 use std::alloc::{AllocError, Global};
 use std::fmt::Write;
 
-// The lines of the moment and of the message: its type, its client and the addresses in it.
+// Prints the lines of the time and of the message: its type, its client and the addresses in it.
 #[tactic(auto, unfolding(crate::specs::FoundLines::message_lines))]
 pub(crate) fn put_message(out: &mut String, scene: &Scene<'_>) -> Result<(), AllocError>
     ensures { OnOk result (string_bytes out.new ≡ string_bytes out.old

@@ -18,10 +18,10 @@ const OPTION_CLIENT_IDENTIFIER: u8 = 61;
 
 const OPTION_RELAY_INFORMATION: u8 = 82;
 
-// The least room that a reply has.
+// The least room of a reply, in bytes.
 const LEAST_ROOM: u16 = 548;
 
-// Where the options of a reply come from, and what it is as it is written.
+// Where the options of a reply come from, and the reply in the form in which it is written.
 #[derive(Clone, Copy)]
 pub(crate) struct Sources<'a> {
     scene: &'a Scene<'a>,
@@ -30,8 +30,8 @@ pub(crate) struct Sources<'a> {
     reply: &'a Message<'a>,
 }
 
-// A line for each option of a planned reply: its code, its value, where it comes from, and whether
-// the reply as it is written has no room for it.
+// Prints a line for each option of a planned reply: its code, its value, where it comes from, and
+// whether the written reply has no room for it.
 pub(crate) fn put_options(
     out: &mut String,
     scene: &Scene<'_>,
@@ -52,24 +52,24 @@ pub(crate) fn put_options(
             };
             put_items(out, &sources, plan.reply.items.as_slice())
         }
-        // a reply that is written can be read, if there is memory
+        // A written reply can be read, unless memory runs out.
         Err(_) => Err(AllocError),
     }
 }
 
-// The bytes of a planned reply.
+// Returns the bytes of a planned reply.
 fn bytes_of(alloc: Global, plan: &Plan) -> Result<Vec<u8>, AllocError>
     ensures { IfOk result (λ bytes. bytes.items ≡ written plan.now) }
 {
     match plan.reply.write(alloc, plan.room.max(LEAST_ROOM)) {
         Ok(bytes) => Ok(bytes),
-        // what is planned fits its room
+        // A planned reply fits its room.
         Err(_) => Err(AllocError),
     }
 }
 
-// The address that the options of a reply are given at: the one that it gives, or that its client
-// has.
+// Returns the address that the options of a reply are chosen for: the one that it gives, or the one
+// that its client has.
 fn address_in(plan: &Plan, message: &Message<'_>) -> u32
     ensures { result
         ≡ options_address plan.now.kind plan.now.yiaddr message.now.header.ciaddr }
@@ -115,7 +115,7 @@ fn put_value(alloc: Global, out: &mut String, item: &Item) -> Result<(), AllocEr
     out.push_str(" ")
 }
 
-// Whether the reply has an option as it is written.
+// Prints whether the written reply has an option.
 fn put_room(out: &mut String, value: Option<&[u8]>) -> Result<(), AllocError>
     ensures { OnOk result (string_bytes out.new
         ≡ string_bytes out.old ++ room_word (option_copied value.entry)) }
@@ -126,7 +126,7 @@ fn put_room(out: &mut String, value: Option<&[u8]>) -> Result<(), AllocError>
     }
 }
 
-// Where an option comes from: the rules of replies, the message, or the configuration.
+// Prints where an option comes from: the rules for replies, the message, or the configuration.
 fn put_source(out: &mut String, sources: &Sources<'_>, item: &Item) -> Result<(), AllocError>
     ensures { OnOk result ((word : List ℕ)
         × IsSourceWord sources.now.scene.now.config.now sources.now.scene.now.explanation.now.names
@@ -164,7 +164,7 @@ fn put_configured(out: &mut String, sources: &Sources<'_>, code: u8) -> Result<(
     }
 }
 
-// Where a configured option comes from in a subnet.
+// Prints where a configured option comes from in a subnet.
 fn put_given(
     out: &mut String,
     sources: &Sources<'_>,

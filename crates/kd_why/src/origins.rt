@@ -15,17 +15,17 @@ pub enum Origin {
     Pool,
     /// The subnet.
     Subnet,
-    /// The class at an index of the configuration, of which the client is a member.
+    /// The class at an index of the configuration; the client is a member of it.
     Class(usize),
-    /// The options of all replies.
+    /// The options that go into all replies.
     Global,
     /// The prefix of the subnet, which gives option 1.
     Mask,
 }
 
-/// Where the option with a code comes from at an address, in host order, of a subnet, for a member of
-/// the classes with these names: the strongest of pool, subnet, classes in order, all replies and
-/// mask that has the code; nothing where none has it.
+/// Returns where the option with a code comes from at an address, in host order, of a subnet, for a
+/// member of the classes with these names. This is the first of pool, subnet, classes in order,
+/// options of all replies and mask that has the code; `None` if none has it.
 pub fn origin_of(
     config: &Config,
     subnet: &Subnet,
@@ -50,7 +50,7 @@ pub fn origin_of(
     if code == 1 { Some(Origin::Mask) } else { None }
 }
 
-// The index of the first class with the code of which the client is a member.
+// Returns the index of the first class that has the code and of which the client is a member.
 fn class_with(classes: &Classes, names: &Held, code: u8) -> Option<usize>
     ensures { MatchOption result
         ((j : ℕ) → class_has classes.now names.now code j ≡ false)
@@ -70,14 +70,14 @@ fn class_with(classes: &Classes, names: &Held, code: u8) -> Option<usize>
     None
 }
 
-// The client is a member of the class, which lists the code.
+// Reports whether the client is a member of the class and the class lists the code.
 fn gives(class: &ClassDef, names: &Held, code: u8) -> bool
     ensures { result ≡ has_code code (class_options (class.now ∷ []) names.now) }
 {
     names.contains(class.name.as_slice()) && lists(class.options.as_slice(), code)
 }
 
-// Options list a code.
+// Reports whether options list a code.
 fn lists(options: &[OptionData], code: u8) -> bool
     ensures { result ≡ has_code code options.now }
 {

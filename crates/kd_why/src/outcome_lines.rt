@@ -12,7 +12,7 @@ use kd_rows::Row;
 use std::alloc::{AllocError, Global};
 use std::fmt::Write;
 
-// The lines of how a message ends: its reply and the options of that, or why there is none.
+// Prints how a message ends: the reply and its options, or why there is none.
 pub(crate) fn put_end(out: &mut String, scene: &Scene<'_>) -> Result<(), AllocError>
     ensures { OnOk result ((text : List ℕ)
         × IsEndText scene.now.config.now scene.now.message.now scene.now.explanation.now
@@ -43,7 +43,7 @@ fn put_plan(out: &mut String, scene: &Scene<'_>, plan: &Plan) -> Result<(), Allo
     put_options(out, scene, plan)
 }
 
-// What the reply is, and the address that it gives.
+// Prints the type of the reply, and the address that it gives.
 fn put_reply(out: &mut String, plan: &Plan) -> Result<(), AllocError>
     ensures { OnOk result (string_bytes out.new
         ≡ string_bytes out.old ++ ends_line plan.now.kind plan.now.yiaddr) }
@@ -65,7 +65,7 @@ fn put_given(out: &mut String, words: &str, address: u32) -> Result<(), AllocErr
     out.push_str("\n")
 }
 
-// The row that a message sets.
+// Prints the row that a message sets.
 pub(crate) fn put_row_set(
     alloc: Global,
     out: &mut String,

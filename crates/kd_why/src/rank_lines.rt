@@ -8,7 +8,7 @@ use kd_lease::Ranks;
 use kd_options::MessageType;
 use std::alloc::AllocError;
 
-// A line for each rank of a DISCOVER in its subnet: other messages choose no address.
+// Prints a line for each rank of a DISCOVER in its subnet. Other messages choose no address.
 pub(crate) fn put_chosen(out: &mut String, scene: &Scene<'_>) -> Result<(), AllocError>
     ensures { OnOk result (string_bytes out.new ≡ string_bytes out.old
         ++ chosen_text scene.now.message.now scene.now.explanation.now.decision.answer
@@ -31,7 +31,7 @@ fn put_found(out: &mut String, ranks: &Option<Ranks>) -> Result<(), AllocError>
     }
 }
 
-// The ranks, the strongest first: the first that has an address wins.
+// Prints the ranks, the strongest first. The first that has an address wins.
 #[tactic(auto, unfolding(crate::specs::FoundLines::rank_lines))]
 fn put_ranks(out: &mut String, ranks: &Ranks) -> Result<(), AllocError>
     ensures { OnOk result (string_bytes out.new ≡ string_bytes out.old ++ rank_lines ranks.now) }
@@ -45,7 +45,7 @@ fn put_ranks(out: &mut String, ranks: &Ranks) -> Result<(), AllocError>
     put_rank(out, winner == 6, "6 expired", ranks.expired)
 }
 
-// The number of the first rank that has an address, or zero.
+// Returns the number of the first rank that has an address, or zero.
 #[tactic(auto, unfolding(crate::specs::FoundLines::winning_rank))]
 fn winner(ranks: &Ranks) -> u8
     ensures { result ≡ winning_rank ranks.now }

@@ -21,7 +21,7 @@ pub(crate) struct Subject<'a> {
     checks: Checks,
 }
 
-// The checks of a REQUEST (RFC 2131 section 4.3.2), by the server that it names.
+// Prints the checks of a REQUEST (RFC 2131 section 4.3.2), by the server that it names.
 #[tactic(auto, unfolding(crate::specs::CheckLines::request_lines))]
 pub(crate) fn put_request(out: &mut String, matter: &Matter<'_>) -> Result<(), AllocError>
     ensures { OnOk result (string_bytes out.new ≡ string_bytes out.old
@@ -65,7 +65,7 @@ fn put_asked_at(
     }
 }
 
-// The subnet that serves the message, and the checks of an address there.
+// Prints the subnet that serves the message, and the checks of an address there.
 fn put_served_checks(out: &mut String, matter: &Matter<'_>, address: u32) -> Result<(), AllocError>
     ensures { OnOk result (string_bytes out.new ≡ string_bytes out.old
         ++ (served_line (option_copied matter.now.subnet)
@@ -94,7 +94,8 @@ fn put_checks_of(out: &mut String, matter: &Matter<'_>, address: u32) -> Result<
     }
 }
 
-// SELECTING where a server is named; else INIT-REBOOT, RENEWING or REBINDING.
+// Prints the checks of SELECTING if a server is named, and otherwise those of INIT-REBOOT, RENEWING
+// and REBINDING.
 fn put_lease_checks(out: &mut String, subject: &Subject<'_>) -> Result<(), AllocError>
     ensures { OnOk result (string_bytes out.new ≡ string_bytes out.old
         ++ checks_text (asking subject.now.question) subject.now.address
@@ -173,7 +174,7 @@ fn put_renewing_own(out: &mut String, subject: &Subject<'_>) -> Result<(), Alloc
     }
 }
 
-// The row of the address.
+// Prints the row of the address.
 fn put_subject_row(out: &mut String, subject: &Subject<'_>) -> Result<(), AllocError>
     ensures { OnOk result (string_bytes out.new ≡ string_bytes out.old
         ++ row_line_at (asking subject.now.question) subject.now.address) }

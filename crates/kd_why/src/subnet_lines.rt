@@ -12,7 +12,7 @@ use kd_replay::put_address;
 use kd_wire::{Bytes, Header};
 use std::alloc::{AllocError, Global};
 
-// The line of the place that the message comes from, and what says so.
+// Prints the place that the message comes from, and what it was taken from.
 pub(crate) fn put_place(out: &mut String, scene: &Scene<'_>) -> Result<(), AllocError>
     ensures { OnOk result (string_bytes out.new ≡ string_bytes out.old
         ++ place_line scene.now.config.now.server scene.now.message.now.header) }
@@ -44,15 +44,15 @@ fn place_source(header: &Header) -> &'static str
     }
 }
 
-// Where a message comes from, and the names of the classes that it is in: what subnets are asked for.
+// Where a message comes from, and the names of the classes that it is in. These choose its subnet.
 #[derive(Clone, Copy)]
 struct Sought<'a> {
     place: u32,
     names: &'a Held,
 }
 
-// A line for each subnet: those that are passed over, and why; the first that serves the message;
-// and those behind it.
+// Prints a line for each subnet: those that are passed over, and why; the first that serves the
+// message; and those after it.
 pub(crate) fn put_subnets(out: &mut String, scene: &Scene<'_>) -> Result<(), AllocError>
     ensures { OnOk result (string_bytes out.new ≡ string_bytes out.old
         ++ sought_lines (message_place scene.now.config.now.server scene.now.message.now.header)
@@ -88,7 +88,7 @@ fn put_sought(
     Ok(())
 }
 
-// The subnet serves the place and the holder of the names.
+// Reports whether the subnet serves this place and a message with these class names.
 fn serves(sought: Sought<'_>, subnet: &Subnet) -> bool
     ensures { result ≡ served_by sought.entry.place sought.entry.names.now subnet.now }
 {
@@ -115,7 +115,7 @@ fn put_serving(out: &mut String, subnet: &Subnet) -> Result<(), AllocError>
     out.push_str("\n")
 }
 
-// The lines of the subnets behind the one that serves.
+// Prints the lines of the subnets after the one that serves.
 fn put_unasked(out: &mut String, subnets: &[Subnet]) -> Result<(), AllocError>
     ensures { OnOk result (string_bytes out.new
         ≡ string_bytes out.old ++ flat_map unasked_line subnets.now) }
@@ -152,7 +152,7 @@ fn put_passed(
     out.push_str("\n")
 }
 
-// Of two reasons against a subnet the place comes first.
+// Prints why a subnet is passed over. The place is checked before the class.
 #[tactic(auto, unfolding(crate::specs::FoundLines::passed_words))]
 fn put_why_passed(
     alloc: Global,
@@ -182,7 +182,7 @@ fn put_class_name(alloc: Global, out: &mut String, class: &Option<Bytes>) -> Res
     }
 }
 
-// The line of the reservation for the client, where a subnet serves the message.
+// Prints the line of the reservation for the client, if a subnet serves the message.
 pub(crate) fn put_reservation(
     out: &mut String,
     subnet: Option<&Subnet>,
@@ -211,7 +211,7 @@ fn put_reserved(out: &mut String, reservation: &Reservation) -> Result<(), Alloc
     Ok(())
 }
 
-// The key of the configuration that names the client.
+// Returns the configuration key by which the client is named.
 fn identity_key(identity: &Identity) -> &'static str
     ensures { result.now ≡ key_word identity.now }
 {

@@ -27,8 +27,8 @@ pub(crate) struct Scene<'a> {
     pub(crate) explanation: &'a Explanation<'a>,
 }
 
-// The lines of an explanation: what the message is, what is found for it, what is checked, and what
-// comes of it.
+// Prints the lines of an explanation: what the message is, what is found for it, what is checked,
+// and how it ends.
 pub(crate) fn put_explanation(out: &mut String, scene: &Scene<'_>) -> Result<(), AllocError>
     requires { length scene.now.explanation.now.names ≤ 258 }
     ensures { OnOk result ((text : List ℕ)
@@ -42,7 +42,8 @@ pub(crate) fn put_explanation(out: &mut String, scene: &Scene<'_>) -> Result<(),
     put_row_set(scene.alloc, out, &scene.explanation.decision.row)
 }
 
-// What is found for a message: its classes, its place, its subnet, its reservation and its ranks.
+// Prints what is found for a message: its classes, its place, its subnet, its reservation and its
+// ranks.
 #[tactic(auto, unfolding(crate::specs::FoundLines::found_text))]
 fn put_found(out: &mut String, scene: &Scene<'_>) -> Result<(), AllocError>
     requires { length scene.now.explanation.now.names ≤ 258 }
@@ -58,7 +59,7 @@ fn put_found(out: &mut String, scene: &Scene<'_>) -> Result<(), AllocError>
     put_chosen(out, scene)
 }
 
-// The line of a datagram that reads as no message.
+// Prints the line of a datagram that cannot be read as a message.
 pub(crate) fn put_unreadable(
     alloc: Global,
     out: &mut String,

@@ -10,13 +10,13 @@ use kd_rows::Rows;
 use kd_server::Rules;
 use std::alloc::AllocError;
 
-/// Explains a datagram at a moment, in whole seconds, over rows of leases, which it does not change:
-/// lines about each part, and last the line that a replay would write of what a server that goes by
-/// these rules answers.
+/// Explains a datagram at a time, in whole seconds, over rows of leases, which are not changed. The
+/// text has lines about each part, and ends with the line that a replay would write for the answer
+/// of a server with these rules.
 ///
 /// # Errors
 ///
-/// `MomentTooLarge` where the moment is not below 2^40, and `Memory`.
+/// `MomentTooLarge` if the time is not below 2^40, and `Memory` if memory runs out.
 pub fn why_text(
     rules: Rules<'_>,
     rows: &Rows,
@@ -37,7 +37,8 @@ pub fn why_text(
     Ok(text)
 }
 
-// What is said of a datagram at a moment: the lines about its message, or that it is none.
+// Prints what there is to say of a datagram at a time: the lines about its message, or that it is
+// no message.
 fn put_account(
     out: &mut String,
     rules: Rules<'_>,
@@ -57,7 +58,7 @@ fn put_account(
     }
 }
 
-// The lines about a message at a moment.
+// Prints the lines about a message at a time.
 fn put_message(
     out: &mut String,
     rules: Rules<'_>,

@@ -10,7 +10,7 @@ use kd_rows::{Row, State};
 use std::alloc::{AllocError, Global};
 use std::fmt::Write;
 
-// An address, in host order, or a dash where there is none.
+// Prints an address, in host order, or a dash if there is none.
 pub(crate) fn put_address_or_dash(out: &mut String, address: Option<u32>) -> Result<(), AllocError>
     ensures { OnOk result (string_bytes out.new ≡ string_bytes out.old ++ address_word address) }
 {
@@ -20,14 +20,14 @@ pub(crate) fn put_address_or_dash(out: &mut String, address: Option<u32>) -> Res
     }
 }
 
-// The address in a field of the header: 0.0.0.0 is none.
+// Returns the address in a field of the header, if it is not 0.0.0.0.
 pub(crate) fn filled(address: u32) -> Option<u32>
     ensures { result ≡ unless_zero address }
 {
     if address == 0 { None } else { Some(address) }
 }
 
-// A prefix: its address, a slash, its length.
+// Prints a prefix: its address, a slash, its length.
 #[tactic(auto, unfolding(crate::specs::Words::prefix_word))]
 pub(crate) fn put_prefix(out: &mut String, prefix: Prefix) -> Result<(), AllocError>
     ensures { OnOk result (string_bytes out.new ≡ string_bytes out.old ++ prefix_word prefix) }
@@ -37,7 +37,7 @@ pub(crate) fn put_prefix(out: &mut String, prefix: Prefix) -> Result<(), AllocEr
     write!(out, "/{length}")
 }
 
-// The name of a class, without spaces and line feeds.
+// Prints the name of a class, without spaces and line feeds.
 pub(crate) fn put_name(alloc: Global, out: &mut String, name: &[u8]) -> Result<(), AllocError>
     ensures { OnOk result (string_bytes out.new ≡ string_bytes out.old ++ name_text name.now) }
 {
@@ -47,8 +47,7 @@ pub(crate) fn put_name(alloc: Global, out: &mut String, name: &[u8]) -> Result<(
     Ok(())
 }
 
-// What is printable ASCII as it is, but for the space and the backslash, and each other byte as
-// \xNN.
+// Prints printable ASCII as it is, except the space and the backslash, and each other byte as \xNN.
 #[tactic(auto, unfolding(crate::specs::Words::name_byte))]
 fn put_name_byte(alloc: Global, out: &mut String, byte: u8) -> Result<(), AllocError>
     ensures { OnOk result (string_bytes out.new ≡ string_bytes out.old ++ name_byte byte) }
@@ -60,7 +59,7 @@ fn put_name_byte(alloc: Global, out: &mut String, byte: u8) -> Result<(), AllocE
     put_bytes(alloc, out, &[byte])
 }
 
-// A row, as `kdhcp leases` prints it: address, state, client, and when it was set and ends.
+// Prints a row, as `kdhcp leases` does: address, state, client, when it was set and when it ends.
 #[tactic(auto, unfolding(crate::specs::Words::row_text))]
 pub(crate) fn put_row(alloc: Global, out: &mut String, row: &Row) -> Result<(), AllocError>
     ensures { OnOk result (string_bytes out.new ≡ string_bytes out.old ++ row_text row.now) }
@@ -97,7 +96,7 @@ fn state_word(state: State) -> &'static str
     }
 }
 
-// The name of a message's type (RFC 2131 section 3.1).
+// Returns the name of a message's type (RFC 2131 section 3.1).
 #[tactic(auto, unfolding(crate::specs::Words::kind_word))]
 pub(crate) fn type_name(kind: MessageType) -> &'static str
     ensures { result.now ≡ kind_word (type_number kind) }
@@ -114,14 +113,14 @@ pub(crate) fn type_name(kind: MessageType) -> &'static str
     }
 }
 
-// A truth value.
+// Returns the word for a truth value.
 pub(crate) fn true_or_false(value: bool) -> &'static str
     ensures { result.now ≡ truth_word value }
 {
     if value { "true" } else { "false" }
 }
 
-// An answer to a question.
+// Returns the answer to a question.
 pub(crate) fn yes_or_no(holds: bool) -> &'static str
     ensures { result.now ≡ yes_word holds }
 {
