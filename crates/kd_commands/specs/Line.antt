@@ -1,13 +1,13 @@
--- The lines of the program in plain words: a subcommand and the texts that it wants, as `expr TEXT`
--- or `eval PROGRAM DATAGRAM`. `--` may stand before any of the texts or after them, and a text is
--- no flag unless `--` stands before it. The flag of `eval` may stand anywhere but behind `--`.
--- The others have options in any order, which stand once at most, each with a value, as
--- `--config F` or `--config=F`; all may be left out but the moment of `leases`, `pools` and `why`,
--- `--at M`, the store of `import`, `--store F`, and the count of `serve`, `--count N`. A flag
--- stands among the options, once at most and with no value: `--live` of `leases`, `pools` and
--- `why`, which stands only where `--store F` does, `--prometheus` of `pools`, and `--mirror` of
--- `serve`. The datagram of `show` and of `why`, `HEX`, stands anywhere among their options and
--- flags, or behind `--` after them.
+-- The command lines of the program in plain words: a subcommand and the texts that it needs, as in
+-- `expr TEXT` or `eval PROGRAM DATAGRAM`. `--` may come before any of the texts or after them, and
+-- a text may be a flag only if `--` comes before it. The flag of `eval` may come anywhere except
+-- after `--`. The other subcommands have options in any order, each given at most once and with a
+-- value, as in `--config F` or `--config=F`. All are optional except the time of `leases`, `pools`
+-- and `why`, `--at M`, the store of `import`, `--store F`, and the count of `serve`, `--count N`. A
+-- flag comes among the options, at most once and without a value: `--live` of `leases`, `pools` and
+-- `why`, which requires `--store F`, `--prometheus` of `pools`, and `--mirror` of `serve`. The
+-- datagram of `show` and of `why`, `HEX`, comes anywhere among their options and flags, or after
+-- `--` at the end.
 use Rattle.std.specs.Prelude.{◌≡◌, ◌⊎◌, ◌==◌, ◌||◌, ℕ, Bool, true, false, not, List, [], ◌∷◌, ◌++◌, Option, Some, None, is_some, codes}
 use Rattle.std.specs.List.Sorted.{IsPermutation}
 use Rattle.clap.specs.Words.{Text}
@@ -16,30 +16,30 @@ use Rattle.kd_commands.specs.Values.{address_of, event_line_of, hardware_of, num
 use Rattle.kd_commands.specs.declared.orders.Listing.{Listing}
 use Rattle.kd_commands.specs.declared.orders.Listing.TheVariants.{Leases, Metrics, Pools}
 
--- a flag is a hyphen with more after it
+-- a flag is a hyphen followed by more characters
 abbrev pub is_flag : Text → Bool
 is_flag [] = false
 is_flag (b ∷ []) = false
 is_flag (b ∷ c ∷ rest) = b == 45
 
--- the words are these texts, but for `--`
+-- the arguments are these texts, except for `--`
 abbrev pub AreTexts : List Text → List Text → Type 0
 AreTexts words [] = (words ≡ []) ⊎ (words ≡ codes "--" ∷ [])
 AreTexts words (text ∷ texts) = (words ≡ codes "--" ∷ text ∷ texts)
     ⊎ ((rest : List Text) × (words ≡ text ∷ rest) × (is_flag text ≡ false) × AreTexts rest texts)
 
--- the words are this subcommand with these texts
+-- the arguments are this subcommand with these texts
 pub record IsLineOf (name : Text) (words texts : List Text) : Type 0 where
   pub behind : List Text
   pub named : words ≡ name ∷ behind
   pub texts_behind : AreTexts behind texts
 
--- the word is one of these
+-- the argument is one of these
 abbrev pub IsOneOf : Text → List Text → Type 0
 IsOneOf word [] = ⊥
 IsOneOf word (name ∷ names) = (word ≡ name) ⊎ IsOneOf word names
 
--- the words are this subcommand with these texts and, not behind `--`, the flag `--text`
+-- the arguments are this subcommand with these texts and, not after `--`, the flag `--text`
 pub record IsFlaggedLine (name : Text) (words texts : List Text) : Type 0 where
   pub before : List Text
   pub after : List Text
@@ -47,42 +47,42 @@ pub record IsFlaggedLine (name : Text) (words texts : List Text) : Type 0 where
   pub no_dashes : IsOneOf (codes "--") before → ⊥
   pub texts_behind : AreTexts (before ++ after) texts
 
--- the words begin with this name: with a value in one word or in two, where a value that is a word
--- is no flag, or alone
+-- the arguments begin with this name: without a value, or with one in the same argument or in the
+-- next, which must then not be a flag
 abbrev pub BeginWith : Text → Option Text → List Text → List Text → Type 0
 BeginWith name None words behind = words ≡ (codes "--" ++ name) ∷ behind
 BeginWith name (Some value) words behind =
     (words ≡ (codes "--" ++ name ++ codes "=" ++ value) ∷ behind)
     ⊎ ((words ≡ (codes "--" ++ name) ∷ value ∷ behind) × (is_flag value ≡ false))
 
--- the words are these options with their values, and flags with none, in this order, but for `--`
--- after them
+-- the arguments are these options with their values, and flags without, in this order, with an
+-- optional `--` at the end
 abbrev pub AreOptionWords : List Text → List (Text × Option Text) → Type 0
 AreOptionWords words [] = AreTexts words []
 AreOptionWords words (option ∷ options) =
     (behind : List Text) × BeginWith option.0 option.1 words behind × AreOptionWords behind options
 
--- the words are these options and flags, in this order, and what is behind them
+-- the arguments are these options and flags, in this order, followed by others
 abbrev pub BeginWithOptions : List (Text × Option Text) → List Text → List Text → Type 0
 BeginWithOptions [] words behind = words ≡ behind
 BeginWithOptions (option ∷ options) words behind =
     (rest : List Text) × BeginWith option.0 option.1 words rest
     × BeginWithOptions options rest behind
 
--- the words are this text, which is no flag, and these options and flags behind it, or `--` and the
--- text alone
+-- the arguments are this text, which is not a flag, and these options and flags after it; or only
+-- `--` and the text
 abbrev pub AreTextAndOptions : Text → List Text → List (Text × Option Text) → Type 0
 AreTextAndOptions text words options = ((words ≡ codes "--" ∷ text ∷ []) × (options ≡ []))
     ⊎ ((behind : List Text) × (words ≡ text ∷ behind) × (is_flag text ≡ false)
     × AreOptionWords behind options)
 
--- those of the options that have a value
+-- the options that have a value
 abbrev pub given_values : List (Text × Option Text) → List (Text × Option Text)
 given_values [] = []
 given_values ((name, None) ∷ options) = given_values options
 given_values ((name, Some value) ∷ options) = (name, Some value) ∷ given_values options
 
--- the words are this subcommand with these options and flags, in any order
+-- the arguments are this subcommand with these options and flags, in any order
 pub record IsOptionLine (name : Text) (words : List Text)
     (options : List (Text × Option Text)) : Type 0 where
   pub behind : List Text
@@ -91,7 +91,7 @@ pub record IsOptionLine (name : Text) (words : List Text)
   pub options_behind : AreOptionWords behind in_order
   pub in_some_order : IsPermutation in_order options
 
--- the words are this subcommand with this text among these options and flags, in any order
+-- the arguments are this subcommand with this text among these options and flags, in any order
 pub record IsLineAround (name text : Text) (words : List Text)
     (options : List (Text × Option Text)) : Type 0 where
   pub behind : List Text
@@ -103,13 +103,12 @@ pub record IsLineAround (name text : Text) (words : List Text)
   pub text_then : AreTextAndOptions text from_text after
   pub in_some_order : IsPermutation (before ++ after) options
 
--- the flag of this name, where it stands
+-- the flag of this name, if it is given
 abbrev pub flag_given : Text → Bool → List (Text × Option Text)
 flag_given name true = (name, None) ∷ []
 flag_given name false = []
 
--- the options that give these files and these digits of a moment, and the flag `--live` where it
--- stands
+-- the options that give these files and the digits of a time, and the flag `--live` if it is given
 abbrev pub listing_options : Option Text → Option Text → Option Text → Text → Bool
     → List (Text × Option Text)
 listing_options config token_dir store digits live =
@@ -117,15 +116,15 @@ listing_options config token_dir store digits live =
     ∷ (codes "store", store) ∷ (codes "at", Some digits) ∷ [])
     ++ flag_given (codes "live") live
 
--- the words are the subcommand of this listing with these options: `leases`, `pools`, or `pools`
--- with the flag `--prometheus`
+-- the arguments are the subcommand of this listing with these options: `leases`, `pools`, or
+-- `pools` with the flag `--prometheus`
 abbrev pub IsListingLine : List Text → Listing → List (Text × Option Text) → Type 0
 IsListingLine words Leases options = IsOptionLine (codes "leases") words options
 IsListingLine words Pools options = IsOptionLine (codes "pools") words options
 IsListingLine words Metrics options = IsOptionLine (codes "pools") words
     (options ++ flag_given (codes "prometheus") true)
 
--- the words are `events` with texts in its options that spell these bytes and this number
+-- the arguments are `events`, with options whose texts stand for these bytes and this number
 pub record IsEventsLine (words : List Text) (bytes : Option (List ℕ))
     (number : Option ℕ) : Type 0 where
   pub mac : Option Text
@@ -135,7 +134,7 @@ pub record IsEventsLine (words : List Text) (bytes : Option (List ℕ))
   pub line : IsOptionLine (codes "events") words
       (given_values ((codes "mac", mac) ∷ (codes "address", address) ∷ []))
 
--- the words are `check` with texts in its options that say this
+-- the arguments are `check`, with options whose texts say this
 pub record IsCheckLine (words : List Text) (checking : Checking) : Type 0 where
   pub bind : Option Text
   pub port : Option Text
@@ -148,7 +147,7 @@ pub record IsCheckLine (words : List Text) (checking : Checking) : Type 0 where
       ∷ (codes "store", checking.store) ∷ (codes "bind", bind) ∷ (codes "port", port)
       ∷ (codes "max-ahead", seconds) ∷ []))
 
--- the words are `why` with this datagram, and with texts in its options that say this
+-- the arguments are `why` with this datagram, with options whose texts say this
 pub record IsWhyLine (words : List Text) (explaining : Explaining) : Type 0 where
   pub digits : Text
   pub dates : number_of digits ≡ Some explaining.at
@@ -157,8 +156,8 @@ pub record IsWhyLine (words : List Text) (explaining : Explaining) : Type 0 wher
       (listing_options explaining.config explaining.token_dir explaining.store digits
       explaining.live)
 
--- the words are `serve` with texts in its options that say this, and with the flag where replies
--- are mirrored
+-- the arguments are `serve`, with options whose texts say this, and with the flag if replies are
+-- mirrored
 pub record IsServeLine (words : List Text) (serving : Serving) : Type 0 where
   pub bind : Option Text
   pub port : Option Text
@@ -178,7 +177,7 @@ pub record IsServeLine (words : List Text) (serving : Serving) : Type 0 where
       ∷ (codes "max-ahead", seconds) ∷ [])
       ++ flag_given (codes "mirror") serving.listening.mirror)
 
--- the words are a line that asks for this
+-- the arguments are a line that asks for this
 abbrev pub IsLine : List Text → Asked → Type 0
 IsLine words (shows hex names) =
     IsLineAround (codes "show") hex words (flag_given (codes "names") names)
@@ -216,7 +215,8 @@ subcommands =
 abbrev pub IsHelpFlag : Text → Type 0
 IsHelpFlag word = (word ≡ codes "--help") ⊎ (word ≡ codes "-h")
 
--- the words ask for help at once, for the whole program or for a subcommand, whatever follows
+-- the arguments ask for help at the start, for the whole program or for a subcommand, whatever
+-- follows
 abbrev pub IsHelpLine : List Text → Type 0
 IsHelpLine [] = ⊥
 IsHelpLine (word ∷ []) = IsHelpFlag word
@@ -226,7 +226,7 @@ IsHelpLine (word ∷ next ∷ behind) = IsHelpFlag word ⊎ (IsOneOf word subcom
 abbrev pub IsVersionFlag : Text → Type 0
 IsVersionFlag word = (word ≡ codes "--version") ⊎ (word ≡ codes "-V")
 
--- the words ask for the version at once, whatever follows
+-- the arguments ask for the version at the start, whatever follows
 abbrev pub IsVersionLine : List Text → Type 0
 IsVersionLine [] = ⊥
 IsVersionLine (word ∷ behind) = IsVersionFlag word

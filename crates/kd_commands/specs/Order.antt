@@ -1,5 +1,5 @@
--- The orders of the command line, over what the crate `clap` makes of a command line and words: the
--- command line itself, which words give which order, and the numbers of the faults.
+-- The orders of the command line, over what the crate `clap` makes of a command line and arguments:
+-- the command line itself, which arguments give which order, and the numbers of the faults.
 use Rattle.std.specs.Prelude.{◌≡◌, ◌≢◌, ◌⊎◌, ◌+◌, ◌*◌, ◌^◌, ◌||◌, ℕ, Bool, true, false, not, List, []}
 use Rattle.std.specs.Prelude.{Option, Some, None, is_some, Result, Ok, Err, codes, option_and_then, option_map, if◌then◌else◌}
 use Rattle.std.specs.Option.{option_map_or}
@@ -29,7 +29,7 @@ line_fault_number Memory = 91
 
 -- ---- the command line
 
--- an argument that has to be there
+-- a required argument
 abbrev pub needed_rule : Text → Rule
 needed_rule id = record (new_rule id) { required = true }
 
@@ -41,11 +41,11 @@ flag_rule name = record (new_rule name) { long = Some name; action = Some SetTru
 abbrev pub value_rule : Text → Rule
 value_rule name = record (new_rule name) { long = Some name; action = Some Set; value_names = 1 }
 
--- an option with one value, which has to be there
+-- a required option with one value
 abbrev pub needed_value : Text → Rule
 needed_value name = record (value_rule name) { required = true }
 
--- a subcommand with one argument, which has to be there
+-- a subcommand with one required argument
 abbrev pub text_line : Text → Text → App
 text_line name id = with_rule (new_app name) (needed_rule id)
 
@@ -128,8 +128,8 @@ serve_line =
     (value_rule (codes "broadcast-as"))) (flag_rule (codes "mirror")))
     (value_rule (codes "record"))) (value_rule (codes "max-ahead"))
 
--- the program, with no word for its name, a flag for its version, and a subcommand that has to be
--- there
+-- the program: its arguments do not include its name, it has a flag for its version, and it
+-- requires a subcommand
 abbrev pub program_line : App
 program_line =
     on_top (λ s. record s { has_version = true; no_binary_name = true; subcommand_required = true })
@@ -153,49 +153,46 @@ command_line =
     pools_line.top) why_line.top) import_line.top) events_line.top) check_line.top)
     serve_line.top
 
--- ---- what the words ask for
+-- ---- what the arguments ask for
 
--- what `check` is asked for
+-- what `check` is asked to do
 pub record Checking : Type 0 where
-  -- the file of the configuration, the folder of the token files and the file of the leases, where
-  -- they are given
+  -- the configuration file, the folder of the token files and the lease file, if they are given
   pub config : Option Text
   pub token_dir : Option Text
   pub store : Option Text
   -- the address and the port of the socket
   pub bind : ℕ
   pub port : ℕ
-  -- how many seconds the clock may run ahead, where a limit is given
+  -- how many seconds the clock may run ahead, if a limit is given
   pub max_ahead : Option ℕ
 
--- what `why` is asked for
+-- what `why` is asked to do
 pub record Explaining : Type 0 where
-  -- the file of the configuration, the folder of the token files and the file of the leases, where
-  -- they are given
+  -- the configuration file, the folder of the token files and the lease file, if they are given
   pub config : Option Text
   pub token_dir : Option Text
   pub store : Option Text
-  -- whether another process may have the file of the leases open
+  -- whether another process may have the lease file open
   pub live : Bool
-  -- the moment of the datagram
+  -- the time of the datagram
   pub at : ℕ
   -- the text of the datagram
   pub hex : Text
 
--- what `serve` is asked for
+-- what `serve` is asked to do
 pub record Serving : Type 0 where
-  -- the file of the configuration, the folder of the token files and the file of the leases, where
-  -- they are given
+  -- the configuration file, the folder of the token files and the lease file, if they are given
   pub config : Option Text
   pub token_dir : Option Text
   pub store : Option Text
-  -- where the socket is and where replies go
+  -- the address of the socket, and where replies go
   pub listening : Listening
-  -- how many datagrams are served
+  -- the number of datagrams to serve
   pub count : ℕ
-  -- the file to which what comes is appended, where one is given
+  -- the file to which received datagrams are appended, if one is given
   pub journal : Option Text
-  -- how many seconds the clock may run ahead, where a limit is given
+  -- how many seconds the clock may run ahead, if a limit is given
   pub max_ahead : Option ℕ
 
 -- what a subcommand asks for
@@ -208,58 +205,58 @@ pub data Asked : Type 0 where
   compiles : Text → Asked
   -- whether the program of the token file in this text is accepted
   verifies : Text → Asked
-  -- the run of the program of the token file in the one text over the datagram in the other
+  -- the run of the program of the token file in the first text over the datagram in the second
   evaluates : Text → Text → Asked
-  -- the run of the program of the class test in the one text over the datagram in the other
+  -- the run of the program of the class test in the first text over the datagram in the second
   tests : Text → Text → Asked
-  -- the events of standard input, replayed, with the file of the configuration, the folder of the
-  -- token files and the file of the leases, where they are given, and with the line of the event
-  -- that is explained, where one is
+  -- a replay of the events of standard input, with the configuration file, the folder of the token
+  -- files and the lease file, if they are given, and with the line of the event to explain, if
+  -- there is one
   replays : Option Text → Option Text → Option Text → Option ℕ → Asked
-  -- this listing of the store at this moment, with the same files
+  -- this listing of the store at this time, with the same files
   lists : Listing → Option Text → Option Text → Option Text → ℕ → Asked
-  -- the same of the store in this file, which another process may have open
+  -- the same for the store in this file, which another process may have open
   looks : Listing → Option Text → Option Text → Text → ℕ → Asked
-  -- what one datagram gets, and why
+  -- what answer one datagram gets, and why
   explains : Explaining → Asked
-  -- the lines of leases on standard input, read into the store in this file
+  -- an import of the lines of leases on standard input into the store in this file
   imports : Text → Asked
-  -- the lines of a log on standard input, printed for people: those of the hardware address of
-  -- these bytes and of this address, where they are given
+  -- the lines of a log on standard input, printed for people: those for the hardware address with
+  -- these bytes and for this address, if they are given
   filters : Option (List ℕ) → Option ℕ → Asked
-  -- each step of a start, tried without serving
+  -- a trial of each step of a start, without serving
   checks : Checking → Asked
-  -- datagrams of a socket, served
+  -- serving datagrams of a socket
   serves : Serving → Asked
 
--- a flag was given, by its value
+-- whether a flag was given, from its value
 abbrev pub flag_is_given : Option Text → Bool
 flag_is_given value = option_map_or (λ v. bytes_eq v (codes "true")) value false
 
--- what a text asks `show` for, where it is there, with the flag's value
+-- what `show` is asked to do by a text, if it is given, and by the flag's value
 abbrev pub showing_of : Option Text → Option Text → Option Asked
 showing_of value hex = option_map (λ text. shows text (flag_is_given value)) hex
 
--- what two texts ask `eval` for, where both are there, with the flag's value
+-- what `eval` is asked to do by two texts, if both are given, and by the flag's value
 abbrev pub evaluation_of : Option Text → Option Text → Option Text → Option Asked
 evaluation_of value program datagram =
     option_and_then (λ p. option_map
     (λ d. if flag_is_given value then tests p d else evaluates p d) datagram) program
 
--- what these files ask `replay` for, where the text that says a line is one, if it is given
+-- what `replay` is asked to do with these files, if the text for a line number, when given, is one
 abbrev pub replaying_of : Option Text → Option Text → Option Text → Option Text → Option Asked
 replaying_of config token_dir store why =
     option_map (λ line. replays config token_dir store line) (read_if_given event_line_of why)
 
--- what these files ask for at a moment: a listing, or with the flag `--live` one of a store that
--- another process may have open, where its file is given
+-- what is asked with these files at a time: a listing; or, with the flag `--live`, a listing of a
+-- store that another process may have open, if its file is given
 abbrev pub listing_at : Listing → Option Text → Option Text → Option Text → Bool → ℕ
     → Option Asked
 listing_at listing config token_dir store live moment =
     if live then option_map (λ file. looks listing config token_dir file moment) store
     else Some (lists listing config token_dir store moment)
 
--- the same at the moment that a text says, where the text is there and is a number
+-- the same at the time in a text, if the text is given and is a number
 abbrev pub listing_of : Listing → Option Text → Option Text → Option Text → Bool → Option Text
     → Option Asked
 listing_of listing config token_dir store live at =
@@ -270,13 +267,13 @@ listing_of listing config token_dir store live at =
 abbrev pub pools_listing : Option Text → Listing
 pools_listing value = if flag_is_given value then Metrics else Pools
 
--- what is asked of `why`, which needs the file of the leases where another process may have it open
+-- what is asked of `why`, which needs the lease file if another process may have it open
 abbrev pub explaining_with : Explaining → Option Asked
 explaining_with explaining =
     if not explaining.live || is_some explaining.store then Some (explains explaining) else None
 
--- what these texts of the arguments ask `why` for, where the moment and the datagram are there, and
--- the moment is a number
+-- what `why` is asked to do by these texts of the arguments, if the time and the datagram are given
+-- and the time is a number
 abbrev pub explaining_of : (Text → Option Text) → Option Asked
 explaining_of text = do
   digits ← text (codes "at")
@@ -295,9 +292,9 @@ explaining_of text = do
 abbrev pub loopback : ℕ
 loopback = 127 * 2 ^ 24 + 1
 
--- where the socket is and where replies go, by the texts of the options and with the flag, where
--- each text that is given is in range; without texts the address is 127.0.0.1, the port 67, that of
--- the clients 68, and nothing stands in for 255.255.255.255
+-- where the socket is and where replies go, from the texts of the options and the flag, if each
+-- text that is given is in range; by default the address is 127.0.0.1, the port 67, the clients'
+-- port 68, and 255.255.255.255 is used as it is
 abbrev pub listening_of : Option Text → Option Text → Option Text → Option Text → Bool
     → Option Listening
 listening_of bind port client_port broadcast_as mirror = do
@@ -307,15 +304,15 @@ listening_of bind port client_port broadcast_as mirror = do
   everyone ← read_if_given address_of broadcast_as
   Some (record { bind = address; port = own; client_port = clients; broadcast_as = everyone; mirror = mirror })
 
--- what these texts ask `events` for, where each that is given spells what it has to
+-- what `events` is asked to do by these texts, if each that is given is well formed
 abbrev pub filtering_of : Option Text → Option Text → Option Asked
 filtering_of mac address = do
   bytes ← read_if_given hardware_of mac
   number ← read_if_given address_of address
   Some (filters bytes number)
 
--- what these texts of the options ask `check` for, where each that is given is in range; without
--- texts the address is 127.0.0.1 and the port 67
+-- what `check` is asked to do by these texts of the options, if each that is given is in range; by
+-- default the address is 127.0.0.1 and the port 67
 abbrev pub checking_of : (Text → Option Text) → Option Asked
 checking_of text = do
   address ← read_or address_of loopback (text (codes "bind"))
@@ -330,8 +327,8 @@ checking_of text = do
     max_ahead = seconds;
   }))
 
--- what these texts of the options ask `serve` for, where each that is given is in range and the
--- count is there
+-- what `serve` is asked to do by these texts of the options, if each that is given is in range and
+-- the count is given
 abbrev pub serving_of : (Text → Option Text) → Option Asked
 serving_of text = do
   listening ← listening_of (text (codes "bind")) (text (codes "port")) (text (codes "client-port"))
@@ -384,38 +381,38 @@ asked_by name rows =
     else (if bytes_eq name (codes "serve") then serving_of (λ option. first_of option rows)
     else None))))))))))))
 
--- the same of the subcommand that was entered, if one was
+-- the same for the subcommand that was entered, if any
 abbrev pub asked_of : Option (Text × List Row) → Option Asked
 asked_of = option_and_then (λ p. asked_by p.0 p.1)
 
--- the words are no mistake, and their subcommand asks for this
+-- `clap` finds no fault in the arguments, and their subcommand asks for this
 pub record Asks (words : List Text) (asked : Asked) : Type 0 where
   pub whole : fault_of command_line words ≡ []
   pub entered : asked_of (subcommand_of command_line words) ≡ Some asked
 
--- the first step at which the words fail may be a request for help
+-- the first step at which the arguments fail may be a request for help
 abbrev pub IsHelp : List Text → Type 0
 IsHelp words = IsAmong DisplayHelp (fault_of command_line words)
 
--- the first step at which the words fail may be a request for the version
+-- the first step at which the arguments fail may be a request for the version
 abbrev pub IsVersion : List Text → Type 0
 IsVersion words = IsAmong DisplayVersion (fault_of command_line words)
 
--- the words are no mistake for `clap`, but their subcommand asks for nothing: a text is out of
--- range or form, or `--live` stands without `--store`
+-- `clap` finds no fault in the arguments, but their subcommand asks for nothing: a text is out of
+-- range or malformed, or `--live` is given without `--store`
 pub record AsksNothing (words : List Text) : Type 0 where
   pub whole : fault_of command_line words ≡ []
   pub entered : asked_of (subcommand_of command_line words) ≡ None
 
--- the first step at which the words fail may be other than a request for help or for the version,
--- or the words ask for nothing
+-- the first step at which the arguments fail may be something other than a request for help or for
+-- the version, or the arguments ask for nothing
 abbrev pub IsMistake : List Text → Type 0
 IsMistake words =
     ((kind : ErrorKind) × IsAmong kind (fault_of command_line words) × (kind ≢ DisplayHelp)
     × (kind ≢ DisplayVersion))
     ⊎ AsksNothing words
 
--- the words ask for this order
+-- the arguments ask for this order
 abbrev pub AsksFor : List Text → Order → Type 0
 AsksFor words (Help text) = IsHelp words
 AsksFor words Version = IsVersion words
@@ -468,12 +465,12 @@ AsksFor words (Serve files listening count journal max_ahead) =
       max_ahead = max_ahead;
     }))
 
--- the words have this fault; memory may run out at any words
+-- the arguments have this fault; memory may run out for any arguments
 abbrev pub HasFault : List Text → LineFault → Type 0
 HasFault words CommandLine = IsMistake words
 HasFault words Memory = Unit {0}
 
--- what the order gives that a subcommand can ask for
+-- what a subcommand can ask for that this order gives
 abbrev pub given_by : Order → Option Asked
 given_by (Help text) = None
 given_by Version = None
@@ -523,20 +520,20 @@ given_by (Serve files listening count journal max_ahead) =
       max_ahead = max_ahead;
     }))
 
--- the answer gives what was asked, or memory ran out
+-- the result gives what was asked, or memory ran out
 abbrev pub GivesUnlessFull : Asked → Result Order LineFault → Type 0
 GivesUnlessFull asked (Ok order) = given_by order ≡ Some asked
 GivesUnlessFull asked (Err CommandLine) = ⊥
 GivesUnlessFull asked (Err Memory) = Unit {0}
 
--- the answer is help, or memory ran out
+-- the result is help, or memory ran out
 abbrev pub HelpsUnlessFull : Result Order LineFault → Type 0
 HelpsUnlessFull (Ok (Help text)) = Unit {0}
 HelpsUnlessFull (Ok order) = ⊥
 HelpsUnlessFull (Err CommandLine) = ⊥
 HelpsUnlessFull (Err Memory) = Unit {0}
 
--- the answer is the version, or memory ran out
+-- the result is the version, or memory ran out
 abbrev pub IsVersionUnlessFull : Result Order LineFault → Type 0
 IsVersionUnlessFull (Ok Version) = Unit {0}
 IsVersionUnlessFull (Ok order) = ⊥

@@ -1,4 +1,4 @@
--- What the steps of reading an order answer, and those of reading a hardware address.
+-- The results of the steps of reading an order, and of those of reading a hardware address.
 use Rattle.std.specs.Prelude.{◌≡◌, ◌≢◌, ◌==◌, ℕ, [], ◌∷◌, Option, Some, None, Result, Ok, Err}
 use Rattle.std.specs.Prelude.{if◌then◌else◌, option_map}
 use Rattle.clap.specs.Words.{Text}
@@ -16,12 +16,12 @@ abbrev pub IsMistakeUnlessFull : Result Order LineFault → Type 0
 IsMistakeUnlessFull (Ok order) = ⊥
 IsMistakeUnlessFull (Err fault) = Unit {0}
 
--- what is asked is given where something is, and it is a mistake where nothing is
+-- if something is asked it is given, and otherwise it is a mistake
 abbrev pub GivesIfThere : Option Asked → Result Order LineFault → Type 0
 GivesIfThere (Some asked) r = GivesUnlessFull asked r
 GivesIfThere None r = IsMistakeUnlessFull r
 
--- an error of this kind is help, the version, a mistake, or memory that ran out
+-- an error of this kind is help, the version, a mistake, or out of memory
 abbrev pub AnswersKind : ErrorKind → Result Order LineFault → Type 0
 AnswersKind kind (Ok (Help text)) = kind ≡ DisplayHelp
 AnswersKind kind (Ok Version) = kind ≡ DisplayVersion
@@ -30,13 +30,13 @@ AnswersKind kind (Err CommandLine) =
     (kind ≢ DisplayHelp) × (kind ≢ DisplayVersion) × (kind ≢ OutOfMemory)
 AnswersKind kind (Err Memory) = Unit {0}
 
--- the byte of the two digits that a text begins with, and what stands behind them
+-- the byte of the two digits that a text begins with, and the rest of the text
 unfoldable pub byte_at_front : Text → Option (ℕ × Text)
 byte_at_front [] = None
 byte_at_front (high ∷ []) = None
 byte_at_front (high ∷ low ∷ behind) = option_map (λ byte. (byte, behind)) (byte_spelled high low)
 
--- the same behind `:`
+-- the same after `:`
 unfoldable pub byte_behind_colon : Text → Option (ℕ × Text)
 byte_behind_colon [] = None
 byte_behind_colon (colon ∷ text) = if colon == 58 then byte_at_front text else None

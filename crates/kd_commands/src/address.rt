@@ -3,7 +3,7 @@ ghost use Rattle.kd_commands.specs.Values.{address_of};
 
 use kd_expr::read_address;
 
-// The address of a text, in host order, where it is one.
+// Returns the address in a text, in host order, if the text is one.
 pub(crate) fn address_in(text: &str) -> Option<u32>
     ensures { result ≡ address_of text.now }
 {

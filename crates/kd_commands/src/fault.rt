@@ -6,10 +6,10 @@ use std::alloc::AllocError;
 use std::fmt;
 use thiserror::Error;
 
-/// Why the words are no order.
+/// Why the arguments are not an order.
 #[derive(Clone, Copy, PartialEq, Eq, Error)]
 pub enum LineFault {
-    /// The words are not as the help text says.
+    /// The arguments do not follow the help text.
     #[error("CommandLine")]
     CommandLine,
     /// Memory ran out.
@@ -24,7 +24,7 @@ impl fmt::Debug for LineFault {
 }
 
 impl LineFault {
-    /// The fault's number, as the program prints it.
+    /// Returns the fault's number, as the program prints it.
     pub fn number(self) -> u8
         ensures { result ≡ line_fault_number self }
     {

@@ -4,10 +4,10 @@ ghost use Rattle.kd_commands.specs.Values.{byte_spelled, bytes_behind, hardware_
 
 use std::alloc::{AllocError, Global};
 
-// The most bytes that a hardware address has (RFC 2131 section 2).
+// The most bytes of a hardware address (RFC 2131 section 2).
 const MOST_BYTES: usize = 16;
 
-// The bytes of a hardware address, where the text is one.
+// Returns the bytes of a hardware address, if the text is one.
 pub(crate) fn hardware_in(alloc: Global, text: &str) -> Result<Option<Vec<u8>>, AllocError>
     ensures { IfOk result (λ mac. option_map (λ v. v.items) mac ≡ hardware_of text.now) }
 {
@@ -25,7 +25,7 @@ pub(crate) fn hardware_in(alloc: Global, text: &str) -> Result<Option<Vec<u8>>, 
     Ok(Some(all))
 }
 
-// Bytes with those of a text behind them, where it has `:` and two hexadecimal digits for each.
+// Appends the bytes of a text, if it has `:` and two hexadecimal digits for each.
 fn with_others(mut bytes: Vec<u8>, text: &[u8]) -> Result<Option<Vec<u8>>, AllocError>
     ensures { IfOk result (λ all. option_map (λ v. v.items) all
         ≡ option_map (λ more. bytes.items ++ more) (bytes_behind text.now)) }
@@ -42,7 +42,7 @@ fn with_others(mut bytes: Vec<u8>, text: &[u8]) -> Result<Option<Vec<u8>>, Alloc
     }
 }
 
-// The byte behind a colon, and what stands behind it.
+// Returns the byte after a colon, and the rest of the text.
 #[tactic(auto, unfolding(crate::specs::Steps::byte_behind_colon))]
 fn next_byte(text: &[u8]) -> Option<(u8, &[u8])>
     ensures { option_map (λ x. (x.0, x.1.now)) result ≡ byte_behind_colon text.now }
@@ -53,7 +53,7 @@ fn next_byte(text: &[u8]) -> Option<(u8, &[u8])>
     }
 }
 
-// The byte that a text begins with, and what stands behind it.
+// Returns the byte that a text begins with, and the rest of the text.
 #[tactic(auto, unfolding(crate::specs::Steps::byte_at_front))]
 fn first_byte(text: &[u8]) -> Option<(u8, &[u8])>
     ensures { option_map (λ x. (x.0, x.1.now)) result ≡ byte_at_front text.now }
@@ -64,7 +64,7 @@ fn first_byte(text: &[u8]) -> Option<(u8, &[u8])>
     Some((byte_in(*high, *low)?, behind))
 }
 
-// The byte of two hexadecimal digits.
+// Returns the byte of two hexadecimal digits.
 fn byte_in(high: u8, low: u8) -> Option<u8>
     ensures { result ≡ byte_spelled high low }
 {

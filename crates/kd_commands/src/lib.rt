@@ -1,9 +1,9 @@
-//! The command line: the words after the program's name, and what they ask for.
+//! The command line: the arguments after the program's name, and what they ask for.
 //!
-//! What this layer promises to the one above: `order` gives the order of every line that is one,
-//! which `specs/Line.antt` says in plain words and `specs/Order.antt` says over what `clap` makes
-//! of the words; it gives help where the words ask for it, and a mistake where they are neither,
-//! unless memory runs out.
+//! What this layer promises to the one above: `order` returns the order of every line that is one
+//! (`specs/Line.antt` says which in plain words, and `specs/Order.antt` over what `clap` makes of
+//! the arguments); it returns help if the arguments ask for it, and a fault if they are neither. In
+//! each case memory may run out instead.
 #![tactic(auto)]
 
 mod address;

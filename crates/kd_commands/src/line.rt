@@ -34,7 +34,7 @@ fn tools<'a>(alloc: Global) -> Result<Command<'a>, AllocError>
     add_subcommand(to_compile, verify(alloc))
 }
 
-// A command line with one subcommand more, where there was memory for both.
+// Adds a subcommand to a command line, if there was memory for both.
 fn add_subcommand<'a>(
     line: Result<Command<'a>, AllocError>,
     subcommand: Result<Command<'a>, AllocError>,
@@ -51,7 +51,7 @@ fn add_subcommand<'a>(
 fn program<'a>(alloc: Global) -> Result<Command<'a>, AllocError>
     ensures { IfOk result (λ c. app_of c ≡ program_line) }
 {
-    // The program prints its version itself, so `clap` has no text of it.
+    // The program prints its version itself, so `clap` has no text for it.
     let named = Command::new(alloc, "kdhcp")
         .about("A DHCPv4 server")
         .version("")
@@ -115,7 +115,7 @@ fn verify<'a>(alloc: Global) -> Result<Command<'a>, AllocError>
         .arg(file)
 }
 
-// An argument that has to be there.
+// Makes an argument that is required.
 fn required_text<'a>(alloc: Global, id: &'a str, help: &'a str) -> Arg<'a>
     ensures rule { rule_of result ≡ needed_rule id.entry.now }
     ensures help { result.help ≡ Some help.entry }
@@ -133,7 +133,7 @@ fn datagram_text<'a>(alloc: Global) -> Arg<'a>
     required_text(alloc, "HEX", help)
 }
 
-// `--NAME`: the flag's name, and what help says of it.
+// `--NAME`: takes the flag's name and its help text.
 fn flag<'a>(alloc: Global, name: &'a str, help: &'a str) -> Arg<'a>
     ensures rule { rule_of result ≡ flag_rule name.entry.now }
     ensures local { result.global ≡ false }
@@ -164,7 +164,7 @@ fn eval<'a>(alloc: Global) -> Result<Command<'a>, AllocError>
         .arg(datagram)
 }
 
-// `--NAME VALUE`: the option's name, what help calls its value, and what help says of it.
+// `--NAME VALUE`: takes the option's name, what help calls its value, and its help text.
 fn value_option<'a>(alloc: Global, name: &'a str, value: &'a str, help: &'a str) -> Arg<'a>
     ensures rule { rule_of result ≡ value_rule name.entry.now }
     ensures local { result.global ≡ false }
@@ -221,7 +221,7 @@ fn replay<'a>(alloc: Global) -> Result<Command<'a>, AllocError>
     ))
 }
 
-// `--at M`, which has to be there.
+// `--at M`, which is required.
 fn at_moment<'a>(alloc: Global) -> Arg<'a>
     ensures rule { rule_of result ≡ needed_value (codes "at") }
     ensures local { result.global ≡ false }
@@ -229,7 +229,7 @@ fn at_moment<'a>(alloc: Global) -> Arg<'a>
     value_option(alloc, "at", "M", "The time in whole seconds (date +%s)").required(true)
 }
 
-// A subcommand that lists a store at a moment: `NAME [--config F] [--token-dir D] [--store F]
+// A subcommand that lists a store at a time: `NAME [--config F] [--token-dir D] [--store F]
 // [--live] --at M`.
 fn over_store<'a>(
     alloc: Global,
@@ -258,7 +258,7 @@ fn leases<'a>(alloc: Global) -> Result<Command<'a>, AllocError>
     )
 }
 
-// One that looks into the store of a server that runs.
+// An example that looks into the store of a running server.
 const POOLS_EXAMPLE: &str =
     "Example: kdhcp pools --config config.json --store leases.db --live --at \"$(date +%s)\"";
 
@@ -280,7 +280,7 @@ fn pools<'a>(alloc: Global) -> Result<Command<'a>, AllocError>
     ))
 }
 
-// One that looks into the store of a server that runs.
+// An example that looks into the store of a running server.
 const WHY_EXAMPLE: &str =
     "Example: kdhcp why --config config.json --store leases.db --live --at \"$(date +%s)\" \"$(cat discover.hex)\"";
 
@@ -298,7 +298,7 @@ fn why<'a>(alloc: Global) -> Result<Command<'a>, AllocError>
     .arg(datagram_text(alloc))
 }
 
-// `--store F`, which has to be there.
+// `--store F`, which is required.
 fn into_store<'a>(alloc: Global) -> Arg<'a>
     ensures rule { rule_of result ≡ needed_value (codes "store") }
     ensures local { result.global ≡ false }
@@ -367,7 +367,7 @@ fn check<'a>(alloc: Global) -> Result<Command<'a>, AllocError>
     .arg(max_ahead(alloc))
 }
 
-// `--count N`, which has to be there.
+// `--count N`, which is required.
 fn count<'a>(alloc: Global) -> Arg<'a>
     ensures rule { rule_of result ≡ needed_value (codes "count") }
     ensures local { result.global ≡ false }
@@ -375,7 +375,7 @@ fn count<'a>(alloc: Global) -> Arg<'a>
     value_option(alloc, "count", "N", "The number of datagrams to serve").required(true)
 }
 
-// One that serves a link without end.
+// An example that serves a link without end.
 const SERVE_EXAMPLE: &str =
     "Example: kdhcp serve --config config.json --store leases.db --bind 0.0.0.0 --count 18446744073709551615";
 

@@ -2,13 +2,13 @@ ghost use Rattle.std.specs.Prelude.{◌≡◌};
 ghost use Rattle.std.specs.Str.{all_ascii_digits};
 ghost use Rattle.kd_commands.specs.Values.{are_digits, event_line_of, number_of, port_of};
 
-// The most digits that a number has.
+// The most digits of a number.
 const MOST_DIGITS: usize = 20;
 
 // The last line of an event that can be explained.
 const LAST_EVENT_LINE: u64 = 1_000_000;
 
-// The number of a text, where it is one.
+// Returns the number in a text, if the text is one.
 pub(crate) fn number_in(text: &str) -> Option<u64>
     ensures { result ≡ number_of text.now }
 {
@@ -19,7 +19,7 @@ pub(crate) fn number_in(text: &str) -> Option<u64>
     }
 }
 
-// The port of a text, where it is one.
+// Returns the port in a text, if the text is one.
 pub(crate) fn port_in(text: &str) -> Option<u16>
     ensures { result ≡ port_of text.now }
 {
@@ -29,7 +29,7 @@ pub(crate) fn port_in(text: &str) -> Option<u16>
     }
 }
 
-// The line of an event, where the text is one.
+// Returns the line number of an event in a text, if the text is one.
 pub(crate) fn event_line_in(text: &str) -> Option<u64>
     ensures { result ≡ event_line_of text.now }
 {
@@ -39,7 +39,7 @@ pub(crate) fn event_line_in(text: &str) -> Option<u64>
     }
 }
 
-// Whether a text is 1 to 20 decimal digits.
+// Reports whether a text is 1 to 20 decimal digits.
 fn is_numeral(text: &str) -> bool
     ensures { result ≡ are_digits text.now }
 {
@@ -49,7 +49,7 @@ fn is_numeral(text: &str) -> bool
     has_digits_only(text.as_bytes())
 }
 
-// Whether each byte is a decimal digit.
+// Reports whether each byte is a decimal digit.
 fn has_digits_only(bytes: &[u8]) -> bool
     ensures { result ≡ all_ascii_digits bytes.now }
 {

@@ -1,4 +1,4 @@
-/// What the command line asks for.
+/// What the arguments ask for.
 #[derive(Drop)]
 pub enum Order {
     /// The help text, for standard output.
@@ -7,137 +7,135 @@ pub enum Order {
     Version,
     /// The lines of one datagram.
     Show {
-        /// The datagram's bytes, as the word gives them.
+        /// The datagram's bytes, as in the argument.
         hex: String,
         /// Whether the names of the options are printed.
         names: bool,
     },
     /// The number of nodes of one class test.
     Expr {
-        /// The class test, as the word gives it.
+        /// The class test, as in the argument.
         text: String,
     },
     /// The token file of the program of one class test.
     Compile {
-        /// The class test, as the word gives it.
+        /// The class test, as in the argument.
         text: String,
     },
     /// Whether the program of one token file is accepted.
     Verify {
-        /// The file's bytes, as the word gives them.
+        /// The file's bytes, as in the argument.
         hex: String,
     },
     /// The run of the program of one token file over one datagram.
     Eval {
-        /// The file's bytes, as the word gives them.
+        /// The file's bytes, as in the argument.
         program: String,
-        /// The datagram's bytes, as the word gives them.
+        /// The datagram's bytes, as in the argument.
         datagram: String,
     },
     /// The run of the program of one class test over one datagram.
     EvalText {
-        /// The class test, as the word gives it.
+        /// The class test, as in the argument.
         text: String,
-        /// The datagram's bytes, as the word gives them.
+        /// The datagram's bytes, as in the argument.
         datagram: String,
     },
-    /// The events of standard input, replayed.
+    /// A replay of the events of standard input.
     Replay {
-        /// The files that it goes by.
+        /// The files to use.
         files: Files,
-        /// The line of the event that is explained in place of handling it, 1 to 1,000,000, where
-        /// the line gives one.
+        /// The line of the event to explain instead of handling it, 1 to 1,000,000, if one is
+        /// given.
         why: Option<u64>,
     },
-    /// A table of the leases of a store at a moment.
+    /// A listing of the leases of a store at a time.
     List {
         /// What is printed.
         listing: Listing,
-        /// The files that it goes by.
+        /// The files to use.
         files: Files,
-        /// The moment, in whole seconds.
+        /// The time, in whole seconds.
         at: u64,
     },
-    /// The same of a store that another process may have open.
+    /// The same for a store that another process may have open.
     Look {
         /// What is printed.
         listing: Listing,
-        /// The path of the configuration's file, where the line gives one.
+        /// The path of the configuration file, if one is given.
         config: Option<String>,
-        /// The path of the token files' folder, where the line gives one.
+        /// The path of the token files' folder, if one is given.
         token_dir: Option<String>,
-        /// The path of the file of the leases.
+        /// The path of the lease file.
         store: String,
-        /// The moment, in whole seconds.
+        /// The time, in whole seconds.
         at: u64,
     },
-    /// What one datagram gets, and why.
+    /// What answer one datagram gets, and why.
     Why {
-        /// The files that it goes by; the path of the leases' file is there where `live` is.
+        /// The files to use. The path of the lease file is there if `live` is true.
         files: Files,
-        /// Whether another process may have the file of the leases open.
+        /// Whether another process may have the lease file open.
         live: bool,
-        /// The moment of the datagram, in whole seconds.
+        /// The time of the datagram, in whole seconds.
         at: u64,
-        /// The datagram's bytes, as the word gives them.
+        /// The datagram's bytes, as in the argument.
         hex: String,
     },
-    /// The lines of leases on standard input, read into a store without leases.
+    /// An import of the lines of leases on standard input into a store without leases.
     Import {
-        /// The path of the file of the leases.
+        /// The path of the lease file.
         store: String,
     },
     /// The lines of a log on standard input, printed for people.
     Events {
-        /// The hardware address whose replies are printed, 1 to 16 bytes, where the line gives one.
+        /// The hardware address for which replies are printed, 1 to 16 bytes, if one is given.
         mac: Option<Vec<u8>>,
-        /// The address whose replies are printed, an IPv4 address in host order, where the line
-        /// gives one.
+        /// The address for which replies are printed, an IPv4 address in host order, if one is
+        /// given.
         address: Option<u32>,
     },
-    /// Each step of a start, tried without serving.
+    /// A trial of each step of a start, without serving.
     Check {
-        /// The files that it goes by.
+        /// The files to use.
         files: Files,
         /// The address of the socket, an IPv4 address in host order.
         bind: u32,
         /// The UDP port of the socket, 1 to 65,535.
         port: u16,
-        /// How many seconds the clock may run ahead, 0 to 2^64 - 1; no limit where the line gives
-        /// none.
+        /// How many seconds the clock may run ahead, 0 to 2^64 - 1; no limit if none is given.
         max_ahead: Option<u64>,
     },
-    /// Datagrams of a UDP socket, served.
+    /// Serving datagrams of a UDP socket.
     Serve {
-        /// The files that it goes by.
+        /// The files to use.
         files: Files,
-        /// Where the socket is, and where replies go.
+        /// The address of the socket, and where replies go.
         listening: Listening,
-        /// How many datagrams are served, 0 to 2^64 - 1.
+        /// The number of datagrams to serve, 0 to 2^64 - 1.
         count: u64,
-        /// The path of the file to which what comes is appended, where the line gives one.
+        /// The path of the file to which received datagrams are appended, if one is given.
         journal: Option<String>,
-        /// How many seconds the clock may run ahead, 0 to 2^64 - 1; no limit where the line gives
-        /// none.
+        /// How many seconds the clock may run ahead, 0 to 2^64 - 1; no limit if none is given.
         max_ahead: Option<u64>,
     },
 }
 
-/// The paths of the files that an order goes by, where the line gives them.
+/// The paths of the files that an order uses, if they are given.
 #[derive(Drop)]
 pub struct Files {
-    /// The file of the configuration.
+    /// The configuration file.
     pub config: Option<String>,
     /// The folder of the token files.
     pub token_dir: Option<String>,
-    /// The file of the leases.
+    /// The lease file.
     pub store: Option<String>,
 }
 
-/// What is printed of a table of leases at a moment.
+/// What to print of a table of leases at a time.
 #[derive(Clone, Copy)]
 pub enum Listing {
-    /// Its leases, a line each.
+    /// Its leases, one line each.
     Leases,
     /// How full the pools are.
     Pools,
@@ -154,8 +152,8 @@ pub struct Listening {
     pub port: u16,
     /// The UDP port of the clients, 1 to 65,535.
     pub client_port: u16,
-    /// The address that stands in for 255.255.255.255, in host order, where the line gives one.
+    /// The address to use in place of 255.255.255.255, in host order, if one is given.
     pub broadcast_as: Option<u32>,
-    /// Whether each reply goes to the sender of its datagram, whatever its fields say.
+    /// Whether each reply goes to the sender of its datagram, whatever the fields of the reply say.
     pub mirror: bool,
 }

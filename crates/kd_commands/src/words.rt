@@ -22,7 +22,7 @@ use clap::ArgMatches;
 use clap::error::ErrorKind;
 use std::alloc::{AllocError, Global};
 
-// 127.0.0.1, where `serve` has its socket if the line says nothing.
+// 127.0.0.1, where `serve` has its socket if no address is given.
 const LOOPBACK: u32 = 0x7f00_0001;
 
 // The port of servers (RFC 2131 section 4.1).
@@ -31,12 +31,12 @@ const SERVER_PORT: u16 = 67;
 // The port of clients.
 const CLIENT_PORT: u16 = 68;
 
-/// The order that the words give, which are those after the program's name.
+/// Returns the order that the arguments give. The arguments are those after the program's name.
 ///
 /// # Errors
 ///
-/// `CommandLine` where the words are no command of the program, the text of an option is out of
-/// range or form, or `--live` stands without `--store`, and `Memory`.
+/// `CommandLine` if the arguments are not a command of the program, the text of an option is out of
+/// range or malformed, or `--live` is given without `--store`; `Memory` if memory runs out.
 pub fn order(alloc: Global, words: &[String]) -> Result<Order, LineFault>
     ensures order { IfOk result (AsksFor (map string_bytes words.now)) }
     ensures fault { IfErr result (HasFault (map string_bytes words.now)) }
@@ -54,7 +54,7 @@ pub fn order(alloc: Global, words: &[String]) -> Result<Order, LineFault>
     }
 }
 
-// What matches of the command line ask for.
+// Returns what the matches of the command line ask for.
 fn order_from(alloc: Global, matches: &ArgMatches<'_>) -> Result<Order, LineFault>
     ensures { GivesIfThere (asked_of (subcommand_rows_of matches.now)) result }
 {
@@ -64,7 +64,7 @@ fn order_from(alloc: Global, matches: &ArgMatches<'_>) -> Result<Order, LineFaul
     }
 }
 
-// What matches of the subcommand of this name ask for.
+// Returns what the matches of the subcommand with this name ask for.
 fn order_named(alloc: Global, name: &str, inner: &ArgMatches<'_>) -> Result<Order, LineFault>
     ensures { GivesIfThere (asked_by name.now (rows_of (found_of inner.now))) result }
 {
@@ -86,7 +86,7 @@ fn order_named(alloc: Global, name: &str, inner: &ArgMatches<'_>) -> Result<Orde
     }
 }
 
-// What matches of `show` ask for.
+// Returns what the matches of `show` ask for.
 fn show_order(alloc: Global, matches: &ArgMatches<'_>) -> Result<Order, LineFault>
     ensures { GivesIfThere (showing_of (first_value (found_of matches.now) (codes "names"))
         (first_value (found_of matches.now) (codes "HEX"))) result }
@@ -98,7 +98,7 @@ fn show_order(alloc: Global, matches: &ArgMatches<'_>) -> Result<Order, LineFaul
     }
 }
 
-// What matches of `expr` ask for.
+// Returns what the matches of `expr` ask for.
 fn expr_order(alloc: Global, matches: &ArgMatches<'_>) -> Result<Order, LineFault>
     ensures { GivesIfThere (option_map (λ text. types text)
         (first_value (found_of matches.now) (codes "TEXT"))) result }
@@ -109,7 +109,7 @@ fn expr_order(alloc: Global, matches: &ArgMatches<'_>) -> Result<Order, LineFaul
     }
 }
 
-// What matches of `compile` ask for.
+// Returns what the matches of `compile` ask for.
 fn compile_order(alloc: Global, matches: &ArgMatches<'_>) -> Result<Order, LineFault>
     ensures { GivesIfThere (option_map (λ text. compiles text)
         (first_value (found_of matches.now) (codes "TEXT"))) result }
@@ -121,7 +121,7 @@ fn compile_order(alloc: Global, matches: &ArgMatches<'_>) -> Result<Order, LineF
     }
 }
 
-// What matches of `verify` ask for.
+// Returns what the matches of `verify` ask for.
 fn verify_order(alloc: Global, matches: &ArgMatches<'_>) -> Result<Order, LineFault>
     ensures { GivesIfThere (option_map (λ hex. verifies hex)
         (first_value (found_of matches.now) (codes "HEX"))) result }
@@ -132,7 +132,7 @@ fn verify_order(alloc: Global, matches: &ArgMatches<'_>) -> Result<Order, LineFa
     }
 }
 
-// What matches of `eval` ask for.
+// Returns what the matches of `eval` ask for.
 fn eval_order(alloc: Global, matches: &ArgMatches<'_>) -> Result<Order, LineFault>
     ensures { GivesIfThere (evaluation_of (first_value (found_of matches.now) (codes "text"))
         (first_value (found_of matches.now) (codes "PROGRAM"))
@@ -148,7 +148,7 @@ fn eval_order(alloc: Global, matches: &ArgMatches<'_>) -> Result<Order, LineFaul
     }
 }
 
-// The order of `eval`: its first text is a class test or a token file.
+// Returns the order of `eval`. Its first text is a class test or a token file.
 fn evaluation(is_text: bool, program: String, datagram: String) -> Order
     ensures { given_by result
         ≡ Some (if is_text then tests (string_bytes program) (string_bytes datagram)
@@ -164,7 +164,7 @@ fn evaluation(is_text: bool, program: String, datagram: String) -> Order
     }
 }
 
-// Whether a flag was given, by its value.
+// Reports whether a flag was given, from its value.
 fn is_flagged(value: Option<&str>) -> bool
     ensures { result ≡ flag_is_given (option_map (λ s. s.now) value.entry) }
 {
@@ -174,7 +174,7 @@ fn is_flagged(value: Option<&str>) -> bool
     }
 }
 
-// The paths that matches give.
+// Returns the paths in the matches.
 fn files_of(alloc: Global, matches: &ArgMatches<'_>) -> Result<Files, AllocError>
     ensures config { IfOk result (λ files. option_map string_bytes files.config
         ≡ first_value (found_of matches.now) (codes "config")) }
@@ -193,7 +193,7 @@ fn files_of(alloc: Global, matches: &ArgMatches<'_>) -> Result<Files, AllocError
     })
 }
 
-// What matches of `replay` ask for.
+// Returns what the matches of `replay` ask for.
 fn replay_order(alloc: Global, matches: &ArgMatches<'_>) -> Result<Order, LineFault>
     ensures { GivesIfThere (replaying_of (first_value (found_of matches.now) (codes "config"))
         (first_value (found_of matches.now) (codes "token-dir"))
@@ -207,7 +207,7 @@ fn replay_order(alloc: Global, matches: &ArgMatches<'_>) -> Result<Order, LineFa
     Ok(Order::Replay { files, why })
 }
 
-// What matches of `leases` or `pools` ask for, by what is printed.
+// Returns what the matches of `leases` or `pools` ask for, by what is printed.
 fn listing_order(
     alloc: Global,
     listing: Listing,
@@ -227,7 +227,7 @@ fn listing_order(
     order_at(listing, is_live, files, at)
 }
 
-// The order that lists the store of these files at a moment, or looks into it.
+// Returns the order that lists the store of these files at a time, or looks into it.
 fn order_at(listing: Listing, is_live: bool, files: Files, at: u64) -> Result<Order, LineFault>
     ensures { GivesIfThere (listing_at listing (option_map string_bytes files.config)
         (option_map string_bytes files.token_dir) (option_map string_bytes files.store)
@@ -253,7 +253,7 @@ fn order_at(listing: Listing, is_live: bool, files: Files, at: u64) -> Result<Or
     }
 }
 
-// What matches of `pools` ask for.
+// Returns what the matches of `pools` ask for.
 fn pools_order(alloc: Global, matches: &ArgMatches<'_>) -> Result<Order, LineFault>
     ensures { GivesIfThere (listing_of
         (pools_listing (first_value (found_of matches.now) (codes "prometheus")))
@@ -271,7 +271,7 @@ fn pools_order(alloc: Global, matches: &ArgMatches<'_>) -> Result<Order, LineFau
     listing_order(alloc, listing, matches)
 }
 
-// What matches of `why` ask for.
+// Returns what the matches of `why` ask for.
 fn why_order(alloc: Global, matches: &ArgMatches<'_>) -> Result<Order, LineFault>
     ensures { GivesIfThere (explaining_of (λ name. first_value (found_of matches.now) name)) result }
 {
@@ -286,7 +286,7 @@ fn why_order(alloc: Global, matches: &ArgMatches<'_>) -> Result<Order, LineFault
     explanation(files, live, moment, hex)
 }
 
-// The order that explains a datagram at a moment, over the store of these files.
+// Returns the order that explains a datagram at a time, over the store of these files.
 fn explanation(files: Files, live: bool, at: u64, hex: String) -> Result<Order, LineFault>
     ensures { GivesIfThere (explaining_with (record {
       config = option_map string_bytes files.config;
@@ -308,7 +308,7 @@ fn explanation(files: Files, live: bool, at: u64, hex: String) -> Result<Order, 
     })
 }
 
-// What matches of `import` ask for.
+// Returns what the matches of `import` ask for.
 fn import_order(alloc: Global, matches: &ArgMatches<'_>) -> Result<Order, LineFault>
     ensures { GivesIfThere (option_map (λ store. imports store)
         (first_value (found_of matches.now) (codes "store"))) result }
@@ -319,7 +319,7 @@ fn import_order(alloc: Global, matches: &ArgMatches<'_>) -> Result<Order, LineFa
     }
 }
 
-// What matches of `events` ask for.
+// Returns what the matches of `events` ask for.
 fn events_order(alloc: Global, matches: &ArgMatches<'_>) -> Result<Order, LineFault>
     ensures { GivesIfThere (filtering_of (first_value (found_of matches.now) (codes "mac"))
         (first_value (found_of matches.now) (codes "address"))) result }
@@ -333,7 +333,7 @@ fn events_order(alloc: Global, matches: &ArgMatches<'_>) -> Result<Order, LineFa
     Ok(Order::Events { mac, address })
 }
 
-// What matches of `check` ask for.
+// Returns what the matches of `check` ask for.
 fn check_order(alloc: Global, matches: &ArgMatches<'_>) -> Result<Order, LineFault>
     ensures { GivesIfThere (checking_of (λ name. first_value (found_of matches.now) name)) result }
 {
@@ -355,7 +355,7 @@ fn check_order(alloc: Global, matches: &ArgMatches<'_>) -> Result<Order, LineFau
     })
 }
 
-// What matches of `serve` ask for.
+// Returns what the matches of `serve` ask for.
 fn serve_order(alloc: Global, matches: &ArgMatches<'_>) -> Result<Order, LineFault>
     ensures { GivesIfThere (serving_of (λ name. first_value (found_of matches.now) name)) result }
 {
@@ -379,7 +379,7 @@ fn serve_order(alloc: Global, matches: &ArgMatches<'_>) -> Result<Order, LineFau
     })
 }
 
-// Where matches of `serve` say that the socket is and that replies go.
+// Returns where the matches of `serve` place the socket, and where they send replies.
 fn listening_in(matches: &ArgMatches<'_>) -> Option<Listening>
     ensures { result ≡ listening_of (first_value (found_of matches.now) (codes "bind"))
         (first_value (found_of matches.now) (codes "port"))
@@ -401,7 +401,7 @@ fn listening_in(matches: &ArgMatches<'_>) -> Option<Listening>
     })
 }
 
-// The address of an argument, or this one where it is not there.
+// Returns the address of an argument, or the standard one if the argument is absent.
 fn address_or(value: Option<&str>, standard: u32) -> Option<u32>
     ensures { result ≡ read_or address_of standard (option_map (λ s. s.now) value.entry) }
 {
@@ -411,7 +411,7 @@ fn address_or(value: Option<&str>, standard: u32) -> Option<u32>
     }
 }
 
-// The address of an argument, if it is there.
+// Returns the address of an argument, if the argument is given.
 fn address_if_given(value: Option<&str>) -> Option<Option<u32>>
     ensures { result ≡ read_if_given address_of (option_map (λ s. s.now) value.entry) }
 {
@@ -421,7 +421,7 @@ fn address_if_given(value: Option<&str>) -> Option<Option<u32>>
     }
 }
 
-// The hardware address of an argument, if it is there.
+// Returns the hardware address of an argument, if the argument is given.
 fn hardware_if_given(
     alloc: Global,
     value: Option<&str>,
@@ -438,7 +438,7 @@ fn hardware_if_given(
     }
 }
 
-// The port of an argument, or this one where it is not there.
+// Returns the port of an argument, or the standard one if the argument is absent.
 fn port_or(value: Option<&str>, standard: u16) -> Option<u16>
     ensures { result ≡ read_or port_of standard (option_map (λ s. s.now) value.entry) }
 {
@@ -448,7 +448,7 @@ fn port_or(value: Option<&str>, standard: u16) -> Option<u16>
     }
 }
 
-// The number of an argument, where it is there and is one.
+// Returns the number of an argument, if the argument is given and is a number.
 fn number_given(value: Option<&str>) -> Option<u64>
     ensures { result ≡ option_and_then (λ text. number_of text.now) value.entry }
 {
@@ -458,7 +458,7 @@ fn number_given(value: Option<&str>) -> Option<u64>
     }
 }
 
-// The number of an argument, if it is there.
+// Returns the number of an argument, if the argument is given.
 fn number_if_given(value: Option<&str>) -> Option<Option<u64>>
     ensures { result ≡ read_if_given number_of (option_map (λ s. s.now) value.entry) }
 {
@@ -468,7 +468,7 @@ fn number_if_given(value: Option<&str>) -> Option<Option<u64>>
     }
 }
 
-// The line of an event of an argument, if it is there.
+// Returns the line number of an event in an argument, if the argument is given.
 fn event_line_if_given(value: Option<&str>) -> Option<Option<u64>>
     ensures { result ≡ read_if_given event_line_of (option_map (λ s. s.now) value.entry) }
 {
@@ -478,7 +478,7 @@ fn event_line_if_given(value: Option<&str>) -> Option<Option<u64>>
     }
 }
 
-// The text of an argument, where the matches have one.
+// Returns the text of an argument, if the matches have it.
 fn text_of(alloc: Global, matches: &ArgMatches<'_>, id: &str) -> Result<Option<String>, AllocError>
     ensures { IfOk result
         (λ text. option_map string_bytes text ≡ first_value (found_of matches.now) id.now) }
@@ -489,7 +489,7 @@ fn text_of(alloc: Global, matches: &ArgMatches<'_>, id: &str) -> Result<Option<S
     }
 }
 
-// Where the words give no matches, help, the version or a fault.
+// Returns help, the version or a fault if the arguments give no matches.
 fn answer_to(alloc: Global, error: &clap::Error) -> Result<Order, LineFault>
     ensures { AnswersKind (kind_of error.now) result }
 {

@@ -1,4 +1,5 @@
--- The lines of what the rules check (RFC 2131 section 4.3), up to the check at which a message ends.
+-- The lines of what the rules check (RFC 2131 section 4.3), up to the check at which a message
+-- ends.
 use Rattle.std.specs.Prelude.{ℕ, ◌==◌, ◌&&◌, not, is_none, nat_lt, Bool, if◌then◌else◌, List, [], ◌++◌, Option, Some, None, Result, Err, codes}
 use Rattle.kd_config.specs.declared.subnet.Subnet.{Subnet}
 use Rattle.kd_event.specs.declared.reason.Reason.{Reason}
