@@ -15,7 +15,7 @@ use Rattle.kd_tools.specs.Printed.{IsSuccess, OfCompiled, OfDatagram, PrintsFile
 use Rattle.kd_tools.specs.Show.{line_feed}
 use Rattle.kd_tools.specs.declared.printed.Printed.{Printed}
 
--- a class test over no limit
+-- a class test that exceeds no limit
 within : (says : Tree → Printed → Type 0) (tree : Tree) (p : Printed) → first_over tree ≡ None → says tree p → OfCompiled says tree p
 within says tree p none said = rw none said
 
@@ -30,7 +30,7 @@ prints tree program text p none compiled written line = within PrintsFile tree p
   line = subst (λ t. IsSuccess t p) written.2 line;
 })
 
--- bytes are in range where each index is
+-- bytes are in range if each index is
 pub bytes_all : (xs : List ℕ) → ((i : ℕ) → get_or xs i 0 < 256) → AreBytes xs
 bytes_all [] h = tt
 bytes_all (x ∷ xs) h = (h 0, bytes_all xs (λ i. h (suc i)))

@@ -10,7 +10,7 @@ use Rattle.kd_tools.specs.Printed.{IsRefusal, OfText}
 use Rattle.kd_tools.specs.declared.printed.Printed.{Printed}
 
 module _ (says : Tree → Printed → Type 0) where
-  -- a text that spells one tree
+  -- a text that stands for one tree
   pub spelled : {E : Type 0} (text : List ℕ) (tree : Tree) (r : Result Printed E) → Parses text tree
       → ((t : Tree) → Parses text t → tree ≡ t) → IfOk r (says tree) → IfOk r (OfText says text)
   spelled text tree (Ok p) found only said = record {

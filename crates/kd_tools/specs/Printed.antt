@@ -47,28 +47,29 @@ pub record IsRefusal (number : ℕ) (p : Printed) : Type 0 where
   pub fault : p.fault ≡ codes "fault " ++ decimal number ++ codes " " ++ name ++ line_feed
   pub status : p.status ≡ status_of number
 
--- a datagram is refused for its first fault, which is not want of memory
+-- a datagram is refused for its first fault, which is not out of memory
 pub record IsRefused (bytes : List ℕ) (p : Printed) : Type 0 where
   pub fault : ReadFault
   pub first : IsFirstFault fault bytes
   pub ours : fault ≢ Memory
   pub line : IsRefusal (read_fault_number fault) p
 
--- what is said of the message that a datagram reads as, and else the datagram's first fault
+-- what is said of the message that a datagram reads as; otherwise the datagram's first fault
 pub record OfDatagram (says : Seen → Printed → Type 0) (bytes : List ℕ) (p : Printed) : Type 0 where
   pub readable : (m : Seen) → Reads bytes m → says m p
   pub refused : ((m : Seen) → Reads bytes m → ⊥) → IsRefused bytes p
 
--- what is said of a word's bytes; a word that is not hexadecimal is a mistake on the command line
+-- what is said of an argument's bytes; an argument that is not hexadecimal is a mistake on the
+-- command line
 abbrev pub OfDecoded : (List ℕ → Printed → Type 0) → Result (List ℕ) FromHexError → Printed → Type 0
 OfDecoded says (Ok bytes) p = says bytes p
 OfDecoded says (Err error) p = IsRefusal 98 p
 
--- the lines of a datagram, with the names of its options or without them
+-- the lines of a datagram, with or without the names of its options
 abbrev pub ShowsDatagram : Bool → List ℕ → Printed → Type 0
 ShowsDatagram names = OfDatagram (λ m p. IsSuccess (show_text names m) p)
 
--- the same of a word
+-- the same for an argument
 abbrev pub ShowsDecoded : Bool → Result (List ℕ) FromHexError → Printed → Type 0
 ShowsDecoded names = OfDecoded (ShowsDatagram names)
 
@@ -76,21 +77,21 @@ ShowsDecoded names = OfDecoded (ShowsDatagram names)
 abbrev pub nodes_line : ℕ → List ℕ
 nodes_line number = codes "bool " ++ decimal number ++ line_feed
 
--- what is said of a tree that is a class test, and else the first fault of its type
+-- what is said of a tree that is a class test; otherwise the first fault of its type
 abbrev pub OfTest : (Tree → Printed → Type 0) → Tree → Printed → Type 0
 OfTest says tree p =
     MatchResult (test_type tree) (λ done. says tree p)
     (λ fault. IsRefusal (type_fault_number fault) p)
 
--- a text is refused for a fault of its reading, which is not want of memory
+-- a text is refused for a fault in reading it, which is not out of memory
 pub record IsUnread (text : List ℕ) (p : Printed) : Type 0 where
   pub fault : ExprFault
   pub long : (fault ≡ reading.TooLong) ↔ (4096 < length text)
   pub ours : fault ≢ reading.Memory
   pub line : IsRefusal (expr_fault_number fault) p
 
--- what is said of the tree that a text spells, where it spells one, and else the fault of its
--- reading
+-- what is said of the tree that a text stands for, if it stands for one; otherwise the fault in
+-- reading it
 pub record OfText (says : Tree → Printed → Type 0) (text : List ℕ) (p : Printed) : Type 0 where
   pub readable : (tree : Tree) → Parses text tree → says tree p
   pub refused : ((tree : Tree) → Parses text tree → ⊥) → IsUnread text p
@@ -99,17 +100,17 @@ pub record OfText (says : Tree → Printed → Type 0) (text : List ℕ) (p : Pr
 abbrev pub TypesTree : Tree → Printed → Type 0
 TypesTree = OfTest (λ tree p. IsSuccess (nodes_line (node_count tree)) p)
 
--- the same of a text
+-- the same for a text
 abbrev pub TypesText : List ℕ → Printed → Type 0
 TypesText = OfText TypesTree
 
--- what is said of a class test that is over no limit of programs, and else the first that it is
--- over
+-- what is said of a class test that exceeds no limit of programs; otherwise the first limit that it
+-- exceeds
 abbrev pub OfCompiled : (Tree → Printed → Type 0) → Tree → Printed → Type 0
 OfCompiled says tree p =
     MatchOption (first_over tree) (says tree p) (λ fault. IsRefusal (compile_fault_number fault) p)
 
--- the token file of a program that a class test compiles to, in hexadecimal digits
+-- the token file, in hexadecimal digits, of a program that a class test compiles to
 pub record PrintsFile (tree : Tree) (p : Printed) : Type 0 where
   pub program : Code
   pub compiled : IsCompiled tree program
@@ -117,11 +118,11 @@ pub record PrintsFile (tree : Tree) (p : Printed) : Type 0 where
   pub file_of : IsFileOf file program
   pub line : IsSuccess (encode_lower file ++ line_feed) p
 
--- the same of a tree
+-- the same for a tree
 abbrev pub CompilesTree : Tree → Printed → Type 0
 CompilesTree = OfTest (λ tree p. OfCompiled PrintsFile tree p)
 
--- the same of a text
+-- the same for a text
 abbrev pub CompilesText : List ℕ → Printed → Type 0
 CompilesText = OfText CompilesTree
 
@@ -132,8 +133,8 @@ accepted_line c =
     ++ codes " length " ++ decimal c.bound
     ++ codes " tokens " ++ decimal (length c.tokens) ++ line_feed
 
--- a program is refused for the first fault that it has, and that is the one there; it is not want
--- of memory
+-- a program is refused for its first fault, at the position where that fault is; it is not out of
+-- memory
 pub record IsUnaccepted (c : Code) (p : Printed) : Type 0 where
   pub fault : VerifyFault
   pub first : IsVerifyFault c fault
@@ -141,19 +142,19 @@ pub record IsUnaccepted (c : Code) (p : Printed) : Type 0 where
   pub ours : fault ≢ verifying.Memory
   pub line : IsRefusal (verify_fault_number fault) p
 
--- what is said of a program that is accepted, and else the first fault that it has
+-- what is said of a program that is accepted; otherwise its first fault
 pub record OfAccepted (says : Code → Printed → Type 0) (c : Code) (p : Printed) : Type 0 where
   pub accepted : Accepts c → says c p
   pub refused : (Accepts c → ⊥) → IsUnaccepted c p
 
--- bytes are refused for their first fault, which is not want of memory
+-- bytes are refused for their first fault, which is not out of memory
 pub record IsNoFile (bytes : List ℕ) (p : Printed) : Type 0 where
   pub fault : FileFault
   pub first : IsFileFault bytes fault
   pub ours : fault ≢ file.Memory
   pub line : IsRefusal (file_fault_number fault) p
 
--- what is said of the program of a token file, where the bytes are one, and else their first fault
+-- what is said of the program of a token file, if the bytes are one; otherwise their first fault
 pub record OfFile (says : Code → Printed → Type 0) (bytes : List ℕ) (p : Printed) : Type 0 where
   pub readable : (c : Code) → IsFileOf bytes c → says c p
   pub refused : ((c : Code) → IsFileOf bytes c → ⊥) → IsNoFile bytes p
@@ -162,15 +163,15 @@ pub record OfFile (says : Code → Printed → Type 0) (bytes : List ℕ) (p : P
 abbrev pub VerifiesProgram : Code → Printed → Type 0
 VerifiesProgram = OfAccepted (λ c p. IsSuccess (accepted_line c) p)
 
--- the same of the program of a token file
+-- the same for the program of a token file
 abbrev pub VerifiesFile : List ℕ → Printed → Type 0
 VerifiesFile = OfFile VerifiesProgram
 
--- the same of a word
+-- the same for an argument
 abbrev pub VerifiesDecoded : Result (List ℕ) FromHexError → Printed → Type 0
 VerifiesDecoded = OfDecoded VerifiesFile
 
--- a truth value's word
+-- the word for a truth value
 abbrev pub truth_text : Bool → List ℕ
 truth_text value = if value then codes "true" else codes "false"
 
@@ -181,7 +182,8 @@ run_line value steps depth longest =
     ++ codes " length "
     ++ decimal longest ++ line_feed
 
--- the line of a program's run over a message with the names that it has before any definition
+-- the line of a program's run over a message that has only the class names that hold before any
+-- definition
 pub record RunsOver (c : Code) (m : Seen) (p : Printed) : Type 0 where
   pub value : Bool
   pub steps : ℕ
@@ -190,19 +192,19 @@ pub record RunsOver (c : Code) (m : Seen) (p : Printed) : Type 0 where
   pub run : Run c m (base_names (value_of 60 m.options)) value steps depth longest
   pub line : IsSuccess (run_line value steps depth longest) p
 
--- the same over the message of a datagram, of a program that is accepted
+-- the same over the message of a datagram, for a program that is accepted
 abbrev pub RunsProgram : List ℕ → Code → Printed → Type 0
 RunsProgram datagram = OfAccepted (λ c p. OfDatagram (RunsOver c) datagram p)
 
--- the same of two words, for a token file and a datagram
+-- the same for two arguments, a token file and a datagram
 abbrev pub RunsDecoded : Result (List ℕ) FromHexError → Result (List ℕ) FromHexError → Printed
     → Type 0
 RunsDecoded program datagram =
     OfDecoded (λ file p. OfDecoded (λ bytes q. OfFile (RunsProgram bytes) file q) datagram p)
     program
 
--- the line of the run of a program that a class test compiles to, whose truth value is the test's,
--- over a message with the names that it has before any definition
+-- the line of the run of a program that a class test compiles to, with the test's truth value, over
+-- a message that has only the class names that hold before any definition
 pub record TestsOver (tree : Tree) (m : Seen) (p : Printed) : Type 0 where
   pub program : Code
   pub compiled : IsCompiled tree program
@@ -218,15 +220,15 @@ pub record TestsOver (tree : Tree) (m : Seen) (p : Printed) : Type 0 where
 abbrev pub TestsDatagram : List ℕ → Tree → Printed → Type 0
 TestsDatagram datagram tree = OfDatagram (TestsOver tree) datagram
 
--- the same of a tree
+-- the same for a tree
 abbrev pub TestsTree : List ℕ → Tree → Printed → Type 0
 TestsTree datagram = OfTest (λ tree p. OfCompiled (TestsDatagram datagram) tree p)
 
--- the same of two words, for a class test and a datagram
+-- the same for two arguments, a class test and a datagram
 abbrev pub TestsDecoded : List ℕ → Result (List ℕ) FromHexError → Printed → Type 0
 TestsDecoded text datagram = OfDecoded (λ bytes p. OfText (TestsTree bytes) text p) datagram
 
--- the order prints something that its words alone tell
+-- the order prints something that depends only on its arguments
 abbrev pub IsPrinted : Order → Type 0
 IsPrinted (Help text) = Unit {0}
 IsPrinted (Show hex names) = Unit {0}

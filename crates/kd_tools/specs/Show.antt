@@ -1,5 +1,5 @@
 -- What `show` prints of a datagram: its header (RFC 2131 section 2), its joined options and the
--- sub-options of its relay information (RFC 3046), a line each.
+-- sub-options of its relay information (RFC 3046), one line each.
 use Rattle.std.specs.Prelude.{ℕ, ◌++◌, Bool, if◌then◌else◌, List, [], ◌∷◌, codes}
 use Rattle.std.specs.Fmt.{decimal}
 use Rattle.std.specs.List.{flat_map}
@@ -14,7 +14,7 @@ use Rattle.kd_machine.specs.Parts.{type_in}
 use Rattle.kd_names.specs.Values.{named_text}
 use Rattle.kd_replay.specs.Text.{address_text, bytes_text}
 
--- a line's end
+-- the end of a line
 abbrev pub line_feed : List ℕ
 line_feed = 10 ∷ []
 
@@ -22,7 +22,7 @@ line_feed = 10 ∷ []
 abbrev pub len_line : ℕ → List ℕ
 len_line len = codes "len " ++ decimal len ++ line_feed
 
--- the numbers at the header's front
+-- the numbers at the start of the header
 abbrev pub numbers_line : Header → List ℕ
 numbers_line h =
     (codes "op " ++ decimal h.op) ++ (codes " htype " ++ decimal h.htype)
@@ -60,7 +60,7 @@ entry_line word p = (word ++ decimal p.0) ++ (codes " " ++ bytes_text p.1) ++ li
 abbrev pub option_line : Piece → List ℕ
 option_line p = entry_line (codes "option ") p
 
--- the lines of an option: with names the one with its name behind its own, where it has one
+-- the lines of an option: its own line and, with names, the line of its name, if it has one
 abbrev pub option_lines : Bool → Piece → List ℕ
 option_lines names p = option_line p ++ (if names then named_text p.0 p.1 else [])
 
@@ -68,7 +68,7 @@ option_lines names p = option_line p ++ (if names then named_text p.0 p.1 else [
 abbrev pub relay_line : Piece → List ℕ
 relay_line p = entry_line (codes "relay ") p
 
--- all lines of a message, with names or without them: options and sub-options in order of first
+-- all lines of a message, with or without names: options and sub-options in order of first
 -- appearance, each code once
 abbrev pub show_text : Bool → Seen → List ℕ
 show_text names m =

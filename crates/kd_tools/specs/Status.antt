@@ -14,12 +14,12 @@ status_of number =
     else if number == 80 || number == 81 || number == 82 || number == 83 || number == 92 || number == 93 || number == 101 then 4
     else 3
 
--- the exit status of a fault of a replay: that of the server's fault in it, or its own
+-- the exit status of a fault of a replay: that of the server's fault inside it, or its own
 abbrev pub replay_status_of : ReplayFault → ℕ
 replay_status_of (Serve fault) = status_of (serve_fault_number fault)
 replay_status_of other = status_of (replay_fault_number other)
 
--- the same of a fault of serving
+-- the same for a fault of serving
 abbrev pub serve_status_of : LoopFault → ℕ
 serve_status_of (serving.Serve fault) = status_of (serve_fault_number fault)
 serve_status_of other = status_of (loop_fault_number other)

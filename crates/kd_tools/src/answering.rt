@@ -9,11 +9,11 @@ use crate::token_file::answer_verify;
 use kd_commands::Order;
 use std::alloc::{AllocError, Global};
 
-/// What an order prints that needs nothing but its words.
+/// Returns what an order prints that needs only its arguments.
 ///
 /// # Errors
 ///
-/// Want of memory alone: every other fault is printed.
+/// Only out of memory; every other fault is printed.
 pub fn answer(alloc: Global, order: &Order) -> Result<Printed, AllocError>
     requires { IsPrinted order.now }
     ensures { IfOk result (Answers order.now) }

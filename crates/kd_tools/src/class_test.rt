@@ -11,7 +11,7 @@ use kd_expr::{Expr, Typed};
 use kd_token::Program;
 use std::alloc::{AllocError, Global};
 
-/// How many nodes the class test in a word has.
+/// Returns the number of nodes of the class test in an argument.
 pub fn answer_expr(alloc: Global, word: &str) -> Result<Printed, AllocError>
     ensures { IfOk result (TypesText word.now) }
 {
@@ -21,7 +21,8 @@ pub fn answer_expr(alloc: Global, word: &str) -> Result<Printed, AllocError>
     }
 }
 
-// How many nodes an expression has that is a class test, or the first fault of its type.
+// Returns the number of nodes of an expression that is a class test, or the first fault of its
+// type.
 fn type_expr(alloc: Global, expr: Expr) -> Result<Printed, AllocError>
     ensures { IfOk result (TypesTree (tree_of expr)) }
 {
@@ -34,7 +35,7 @@ fn type_expr(alloc: Global, expr: Expr) -> Result<Printed, AllocError>
     }
 }
 
-/// The token file of the program of the class test in a word.
+/// Returns the token file of the program of the class test in an argument.
 pub fn answer_compile(alloc: Global, word: &str) -> Result<Printed, AllocError>
     ensures { IfOk result (CompilesText word.now) }
 {
@@ -44,8 +45,8 @@ pub fn answer_compile(alloc: Global, word: &str) -> Result<Printed, AllocError>
     }
 }
 
-// The token file of the program of an expression that is a class test, or the first fault of its
-// type.
+// Returns the token file of the program of an expression that is a class test, or the first fault
+// of its type.
 fn compile_expr(alloc: Global, expr: Expr) -> Result<Printed, AllocError>
     ensures { IfOk result (CompilesTree (tree_of expr)) }
 {
@@ -55,7 +56,7 @@ fn compile_expr(alloc: Global, expr: Expr) -> Result<Printed, AllocError>
     }
 }
 
-// The token file of the program of a class test, or the first limit that it is over.
+// Returns the token file of the program of a class test, or the first limit that the test exceeds.
 fn compile_test(alloc: Global, test: &Typed) -> Result<Printed, AllocError>
     ensures { IfOk result (OfCompiled PrintsFile (tree_of test.now)) }
 {
@@ -65,7 +66,7 @@ fn compile_test(alloc: Global, test: &Typed) -> Result<Printed, AllocError>
     }
 }
 
-// The line of a program's token file.
+// Returns the line of a program's token file.
 fn file_text(alloc: Global, program: &Program) -> Result<String, AllocError>
     ensures { IfOk result (λ line. (file : List ℕ) × IsFileOf file program.now
         × (string_bytes line ≡ encode_lower file ++ line_feed)) }

@@ -9,7 +9,7 @@ use hex::FromHexError;
 use kd_options::Message;
 use std::alloc::{AllocError, Global};
 
-/// The lines of the datagram in a word, with the names of its options or without them.
+/// Returns the lines of the datagram in an argument, with or without the names of its options.
 pub fn answer_show(alloc: Global, word: &str, names: bool) -> Result<Printed, AllocError>
     ensures { IfOk result (ShowsDecoded names (decode_of word.now)) }
 {
@@ -20,7 +20,7 @@ pub fn answer_show(alloc: Global, word: &str, names: bool) -> Result<Printed, Al
     }
 }
 
-// The lines of a datagram, or its first fault.
+// Returns the lines of a datagram, or its first fault.
 fn show_datagram(alloc: Global, bytes: &[u8], names: bool) -> Result<Printed, AllocError>
     ensures { IfOk result (ShowsDatagram names bytes.now) }
 {

@@ -1,9 +1,9 @@
-//! What an order prints that needs nothing but its words: `show`, `expr`, `compile`, `verify` and
+//! What an order prints that needs only its arguments: `show`, `expr`, `compile`, `verify` and
 //! `eval`.
 //!
-//! What this layer promises to the one above: `answer` gives what such an order prints on standard
-//! output and standard error, and its exit status (`specs/Printed.antt`, `specs/Show.antt`,
-//! `specs/Status.antt`), unless memory runs out.
+//! What this layer promises to the one above: `answer` returns what such an order prints on
+//! standard output and standard error, and its exit status (`specs/Printed.antt`,
+//! `specs/Show.antt`, `specs/Status.antt`), unless memory runs out.
 #![tactic(auto)]
 
 mod answering;

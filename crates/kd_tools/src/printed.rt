@@ -15,7 +15,7 @@ pub struct Printed {
     pub status: u8,
 }
 
-/// A text on standard output and nothing else.
+/// Makes a result with a text on standard output and nothing else.
 pub fn success(alloc: Global, text: String) -> Printed
     ensures { IsSuccess (string_bytes text) result }
 {

@@ -23,7 +23,7 @@ use kd_wire::Bytes;
 use std::alloc::{AllocError, Global};
 use std::fmt::Display;
 
-/// The line of a word that is not hexadecimal.
+/// Returns the line for an argument that is not hexadecimal.
 pub fn mistake(alloc: Global) -> Result<Printed, AllocError>
     ensures { IfOk result (IsRefusal 98) }
 {
@@ -31,7 +31,7 @@ pub fn mistake(alloc: Global) -> Result<Printed, AllocError>
     refusal(alloc, number, &LineFault::CommandLine)
 }
 
-/// The line of a datagram with this fault.
+/// Returns the line for a datagram with this fault.
 pub fn refused_datagram(alloc: Global, fault: ReadFault) -> Result<Printed, AllocError>
     ensures ours { IfOk result (λ p. fault ≢ read_faults.Memory) }
     ensures line { IfOk result (IsRefusal (read_fault_number fault)) }
@@ -42,7 +42,7 @@ pub fn refused_datagram(alloc: Global, fault: ReadFault) -> Result<Printed, Allo
     }
 }
 
-/// The line of a text that is not read, by this fault.
+/// Returns the line for a text that cannot be read because of this fault.
 pub fn refused_text(alloc: Global, fault: ExprFault) -> Result<Printed, AllocError>
     ensures ours { IfOk result (λ p. fault ≢ text_faults.Memory) }
     ensures line { IfOk result (IsRefusal (expr_fault_number fault)) }
@@ -53,7 +53,7 @@ pub fn refused_text(alloc: Global, fault: ExprFault) -> Result<Printed, AllocErr
     }
 }
 
-/// The line of an expression that is no class test, by this fault.
+/// Returns the line for an expression that is not a class test because of this fault.
 pub fn refused_type(alloc: Global, fault: TypeFault) -> Result<Printed, AllocError>
     ensures { IfOk result (IsRefusal (type_fault_number fault)) }
 {
@@ -61,7 +61,7 @@ pub fn refused_type(alloc: Global, fault: TypeFault) -> Result<Printed, AllocErr
     refusal(alloc, number, &fault)
 }
 
-/// The line of a class test that is over a limit.
+/// Returns the line for a class test that exceeds a limit.
 pub fn refused_test(alloc: Global, fault: CompileFault) -> Result<Printed, AllocError>
     ensures ours { IfOk result (λ p. fault ≢ compile_faults.Memory) }
     ensures line { IfOk result (IsRefusal (compile_fault_number fault)) }
@@ -72,7 +72,7 @@ pub fn refused_test(alloc: Global, fault: CompileFault) -> Result<Printed, Alloc
     }
 }
 
-/// The line of bytes that are no token file, by this fault.
+/// Returns the line for bytes that are not a token file because of this fault.
 pub fn refused_file(alloc: Global, fault: FileFault) -> Result<Printed, AllocError>
     ensures ours { IfOk result (λ p. fault ≢ file_faults.Memory) }
     ensures line { IfOk result (IsRefusal (file_fault_number fault)) }
@@ -83,7 +83,7 @@ pub fn refused_file(alloc: Global, fault: FileFault) -> Result<Printed, AllocErr
     }
 }
 
-/// The line of a program that is not accepted, by this fault.
+/// Returns the line for a program that is not accepted because of this fault.
 pub fn refused_program(alloc: Global, fault: VerifyFault) -> Result<Printed, AllocError>
     ensures ours { IfOk result (λ p. fault ≢ verify_faults.Memory) }
     ensures line { IfOk result (IsRefusal (verify_fault_number fault)) }
@@ -94,7 +94,7 @@ pub fn refused_program(alloc: Global, fault: VerifyFault) -> Result<Printed, All
     }
 }
 
-// A fault's line on standard error, and its exit status.
+// Makes a fault's line on standard error, and its exit status.
 fn refusal<F: Display>(alloc: Global, number: u8, fault: &F) -> Result<Printed, AllocError>
     ensures { IfOk result (IsRefusal number) }
 {

@@ -15,7 +15,7 @@ use kd_options::Message;
 use kd_token::{Program, Verified};
 use std::alloc::{AllocError, Global};
 
-/// The run of the program of the token file in one word over the datagram in the other.
+/// Runs the program of the token file in one argument over the datagram in the other.
 pub fn answer_eval(alloc: Global, program: &str, datagram: &str) -> Result<Printed, AllocError>
     ensures { IfOk result (RunsDecoded (decode_of program.now) (decode_of datagram.now)) }
 {
@@ -26,7 +26,7 @@ pub fn answer_eval(alloc: Global, program: &str, datagram: &str) -> Result<Print
     }
 }
 
-// The run of the program of a token file over the datagram in a word.
+// Runs the program of a token file over the datagram in an argument.
 fn eval_decoded(alloc: Global, file: &[u8], datagram: &str) -> Result<Printed, AllocError>
     ensures { IfOk result (RunsDecoded (Ok file.now) (decode_of datagram.now)) }
 {
@@ -37,7 +37,7 @@ fn eval_decoded(alloc: Global, file: &[u8], datagram: &str) -> Result<Printed, A
     }
 }
 
-// The run of the program of a token file over a datagram, or the first fault.
+// Runs the program of a token file over a datagram, or returns the first fault.
 fn eval_file(alloc: Global, file: &[u8], datagram: &[u8]) -> Result<Printed, AllocError>
     ensures { IfOk result (OfFile (RunsProgram datagram.now) file.now) }
 {
@@ -47,13 +47,13 @@ fn eval_file(alloc: Global, file: &[u8], datagram: &[u8]) -> Result<Printed, All
     }
 }
 
-// The run of a program over a datagram, or the first fault of its tokens or of the datagram.
+// Runs a program over a datagram, or returns the first fault of its tokens or of the datagram.
 fn eval_program(alloc: Global, program: Program, datagram: &[u8]) -> Result<Printed, AllocError>
     ensures { IfOk result (RunsProgram datagram.now program) }
 {
     match kd_token::verify(alloc, program) {
         Ok(verified) => {
-            // that the program is accepted comes with it
+            // This also gives the fact that the program is accepted.
             let _program = verified.program();
             eval_datagram(alloc, &verified, datagram)
         }
@@ -61,7 +61,7 @@ fn eval_program(alloc: Global, program: Program, datagram: &[u8]) -> Result<Prin
     }
 }
 
-// The run of an accepted program over a datagram, or the datagram's first fault.
+// Runs an accepted program over a datagram, or returns the datagram's first fault.
 fn eval_datagram(alloc: Global, verified: &Verified, bytes: &[u8]) -> Result<Printed, AllocError>
     ensures { IfOk result (OfDatagram (RunsOver verified.now) bytes.now) }
 {
@@ -71,7 +71,7 @@ fn eval_datagram(alloc: Global, verified: &Verified, bytes: &[u8]) -> Result<Pri
     }
 }
 
-// The run of an accepted program over a message.
+// Runs an accepted program over a message.
 fn eval_message(
     alloc: Global,
     verified: &Verified,
@@ -84,7 +84,7 @@ fn eval_message(
     Ok(success(alloc, run_text(alloc, &outcome)?))
 }
 
-/// The run of the program of the class test in one word over the datagram in the other.
+/// Runs the program of the class test in one argument over the datagram in the other.
 pub fn answer_eval_text(alloc: Global, text: &str, datagram: &str) -> Result<Printed, AllocError>
     ensures { IfOk result (TestsDecoded text.now (decode_of datagram.now)) }
 {
@@ -95,7 +95,8 @@ pub fn answer_eval_text(alloc: Global, text: &str, datagram: &str) -> Result<Pri
     }
 }
 
-// The run of the program of the class test in a word over a datagram, or the fault of its reading.
+// Runs the program of the class test in an argument over a datagram, or returns the fault of
+// reading the test.
 fn eval_text(alloc: Global, word: &str, datagram: &[u8]) -> Result<Printed, AllocError>
     ensures { IfOk result (OfText (TestsTree datagram.now) word.now) }
 {
@@ -105,7 +106,7 @@ fn eval_text(alloc: Global, word: &str, datagram: &[u8]) -> Result<Printed, Allo
     }
 }
 
-// The run of the program of an expression over a datagram, or the first fault of its type.
+// Runs the program of an expression over a datagram, or returns the first fault of its type.
 fn eval_expr(alloc: Global, expr: Expr, datagram: &[u8]) -> Result<Printed, AllocError>
     ensures { IfOk result (TestsTree datagram.now (tree_of expr)) }
 {
@@ -115,13 +116,14 @@ fn eval_expr(alloc: Global, expr: Expr, datagram: &[u8]) -> Result<Printed, Allo
     }
 }
 
-// The run of the program of a class test over a datagram, or the first limit that the test is over.
+// Runs the program of a class test over a datagram, or returns the first limit that the test
+// exceeds.
 fn eval_test(alloc: Global, test: &Typed, datagram: &[u8]) -> Result<Printed, AllocError>
     ensures { IfOk result (OfCompiled (TestsDatagram datagram.now) (tree_of test.now)) }
 {
     match kd_compile::compile(alloc, test) {
         Ok(verified) => {
-            // that a program has one run over a message
+            // This gives the fact that a program has only one run over a message.
             kd_machine::laws::one_end();
             eval_datagram(alloc, &verified, datagram)
         }
@@ -129,7 +131,7 @@ fn eval_test(alloc: Global, test: &Typed, datagram: &[u8]) -> Result<Printed, Al
     }
 }
 
-// The line of a run.
+// Returns the line of a run.
 fn run_text(alloc: Global, outcome: &Outcome) -> Result<String, AllocError>
     ensures { IfOk result (λ line. string_bytes line
         ≡ run_line outcome.now.value outcome.now.steps outcome.now.peak_depth

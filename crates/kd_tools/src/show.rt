@@ -13,9 +13,9 @@ use kd_wire::Header;
 use std::alloc::{AllocError, Global};
 use std::fmt::Write;
 
-/// The lines of a message: its header, its options in order of first appearance, and the
-/// sub-options of its relay information; with `names` each option that has a name has a second line
-/// with its name and its value.
+/// Returns the lines of a message: its header, its options in order of first appearance, and the
+/// sub-options of its relay information. With `names`, each option that has a name has a second
+/// line with its name and its value.
 pub fn show(alloc: Global, message: &Message<'_>, names: bool) -> Result<String, AllocError>
     ensures { IfOk result (λ text. string_bytes text ≡ show_text names message.now) }
 {
@@ -153,7 +153,7 @@ fn put_entry(
     Ok(())
 }
 
-// A word and a number in decimal.
+// A word followed by a number in decimal.
 fn put_number(out: &mut String, word: &str, number: u16) -> Result<(), AllocError>
     ensures { OnOk result
         (string_bytes out.new ≡ string_bytes out.old ++ (word.now ++ decimal number)) }
@@ -161,7 +161,7 @@ fn put_number(out: &mut String, word: &str, number: u16) -> Result<(), AllocErro
     write!(out, "{word}{number}")
 }
 
-// A word and bytes in hexadecimal, or a dash where there are none.
+// A word followed by bytes in hexadecimal, or by a dash if there are none.
 fn put_bytes_word(
     alloc: Global,
     out: &mut String,
@@ -175,7 +175,7 @@ fn put_bytes_word(
     put_bytes(alloc, out, bytes)
 }
 
-// A word and an address in decimal.
+// A word followed by an address in dotted decimal.
 fn put_address_word(out: &mut String, word: &str, address: u32) -> Result<(), AllocError>
     ensures { OnOk result
         (string_bytes out.new ≡ string_bytes out.old ++ (word.now ++ address_text address)) }

@@ -3,8 +3,9 @@ ghost use Rattle.kd_tools.specs.Status.{replay_status_of, serve_status_of, statu
 
 use kd_replay::{LoopFault, ReplayFault};
 
-/// The exit status of the fault with this number: 1 for want of memory and for a failed end, 2 for
-/// a mistake on the command line, 4 for the store, 3 for every other.
+/// Returns the exit status of the fault with this number: 1 for out of memory and for a failed
+/// stream, 2 for a mistake on the command line, 4 for the store and the clock, 3 for every other
+/// fault.
 pub fn exit_status(number: u8) -> u8
     ensures { result ≡ status_of number }
 {
@@ -16,7 +17,8 @@ pub fn exit_status(number: u8) -> u8
     }
 }
 
-/// The exit status of a fault of a replay: a fault of the server has its own.
+/// Returns the exit status of a fault of a replay. If it is a fault of the server, that fault's
+/// number counts.
 pub fn replay_status(fault: ReplayFault) -> u8
     ensures { result ≡ replay_status_of fault }
 {
@@ -26,7 +28,8 @@ pub fn replay_status(fault: ReplayFault) -> u8
     }
 }
 
-/// The exit status of a fault of serving: a fault of the server has its own.
+/// Returns the exit status of a fault of serving. If it is a fault of the server, that fault's
+/// number counts.
 pub fn serve_status(fault: LoopFault) -> u8
     ensures { result ≡ serve_status_of fault }
 {

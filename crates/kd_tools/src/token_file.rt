@@ -8,7 +8,7 @@ use hex::FromHexError;
 use kd_token::Program;
 use std::alloc::{AllocError, Global};
 
-/// What the program of the token file in a word declares, where it is accepted.
+/// Returns what the program of the token file in an argument declares, if it is accepted.
 pub fn answer_verify(alloc: Global, word: &str) -> Result<Printed, AllocError>
     ensures { IfOk result (VerifiesDecoded (decode_of word.now)) }
 {
@@ -19,7 +19,7 @@ pub fn answer_verify(alloc: Global, word: &str) -> Result<Printed, AllocError>
     }
 }
 
-// What the program of a token file declares, where it is accepted, or the first fault.
+// Returns what the program of a token file declares, if it is accepted, or the first fault.
 fn verify_file(alloc: Global, bytes: &[u8]) -> Result<Printed, AllocError>
     ensures { IfOk result (VerifiesFile bytes.now) }
 {
@@ -29,7 +29,7 @@ fn verify_file(alloc: Global, bytes: &[u8]) -> Result<Printed, AllocError>
     }
 }
 
-// What a program declares, where it is accepted, or the first fault of its tokens.
+// Returns what a program declares, if it is accepted, or the first fault of its tokens.
 fn verify_program(alloc: Global, program: Program) -> Result<Printed, AllocError>
     ensures { IfOk result (VerifiesProgram program) }
 {
@@ -39,7 +39,7 @@ fn verify_program(alloc: Global, program: Program) -> Result<Printed, AllocError
     }
 }
 
-// The line of an accepted program.
+// Returns the line of an accepted program.
 fn accepted(alloc: Global, program: &Program) -> Result<String, AllocError>
     ensures { IfOk result (λ line. string_bytes line ≡ accepted_line program.now) }
 {
