@@ -72,7 +72,7 @@ module _ {D E : Type 0} {d : Disks D} {e : Disks E} (k : Ghosts (Kept (FileStore
           ),
         )
 
-    -- the law of the later store tells its type alone
+    -- the law of the later store is used only for its type
     pub runs : {H U L R : Type 0} (h : Hosts H (Kept (FileStore D d)) U L R) (l : Links L) (r : Sinks R) → OpeningsEnd m → CommandsAreOpenings h l r k → Held → RunsAreHistories k m h l r
     runs h l r later_ends openings held image files work old left status s clean db table database holds =
         let done = openings work s.config _ _ status s.serves in

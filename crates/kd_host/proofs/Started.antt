@@ -40,7 +40,7 @@ module _ {D H U L R : Type 0} (d : Disks D) (h : Hosts H (Kept (FileStore D d)) 
     pub closes : (before : H) (path : List ℕ) (back : Kept (FileStore D d)) (after : H) → h.closes before path back after
         → (it : FileStore D d) × (left_of after ≡ Some it) × (IsClean (view it) → LiesBelow back.conn it)
 
-  -- what a command leaves where the host stands
+  -- what a command leaves, given the state of the host
   abbrev left_at : At H → Left (FileStore D d)
   left_at after = record { streams = after.streams; below = left_of after.host }
 
@@ -102,7 +102,7 @@ module _ {D H U L R : Type 0} (d : Disks D) (h : Hosts H (Kept (FileStore D d)) 
         );
   }
 
--- what a store says of an answer, of both cases
+-- what a store says of a result, in both cases
 pub given_store : {V E : Type 0} (P Q : V → Type 0) (r : Result V E) → IfOk r P → IfOk r Q → MatchResult r (λ v. P v × Q v) (λ e. Unit {0})
 given_store P Q (Ok v) p q = (p, q)
 given_store P Q (Err e) p q = tt

@@ -1,4 +1,5 @@
--- What openings of a server over files come to, whatever was between them: one life, one history.
+-- What openings of a server over files amount to, whatever happened between them: one life, one
+-- history.
 use Rattle.std.specs.Prelude.{ℕ, List, [], ◌∷◌, None, Some}
 use Rattle.sqlite_disk.specs.declared.Disk.{Ghosts as Disks}
 use Rattle.sqlite_store.specs.declared.store.FileStore.{FileStore}
@@ -31,8 +32,8 @@ opening config rows ports calls =
 -- over stores in files of two types
 module _ {D E : Type 0} {d : Disks D} {e : Disks E} (k : Ghosts (Kept (FileStore D d)))
     (m : Ghosts (Kept (FileStore E e))) where
-  -- a server was opened over files at these rows, and another, with a configuration of its own, on
-  -- what a crash left of them: the second stands at some rows, and the two openings are one life
+  -- a server was opened over files at these rows, and another, with its own configuration, on what
+  -- a crash left of them: the second stands at some rows, and the two openings are one life
   abbrev pub IsOneLife : Type 0
   IsOneLife =
       (config : Configuration) (rows : List Row) (ports : Ports) (calls : List Call)
@@ -45,8 +46,8 @@ module _ {D E : Type 0} {d : Disks D} {e : Disks E} (k : Ghosts (Kept (FileStore
       → (found : List Row) × m.stands again found
       × Life (opening config rows ports calls ∷ opening config' found ports' calls' ∷ [])
 
-  -- a store in files that are what a crash left of another stands at rows to which the history of an
-  -- opening over that one leads
+  -- a store in files that are what a crash left of another stands at rows to which the history of
+  -- an opening over the other leads
   abbrev pub LeadsOn : Configuration → List Row → Ports → List Call → Kept (FileStore D d) → Type 0
   LeadsOn config rows ports calls left =
       (image : Image) → IsCrashOf left.conn image → (again : Kept (FileStore E e))
@@ -54,9 +55,9 @@ module _ {D E : Type 0} {d : Disks D} {e : Disks E} (k : Ghosts (Kept (FileStore
       → (found : List Row) × m.stands again found
       × WasHistory (opening config rows ports calls) (Some found)
 
-  -- a command over files, whose disk was clean to its end: where the files held a table, what was
-  -- done is a history from it, and leads on to where a server stands that is opened on what a crash
-  -- then leaves of them
+  -- a command over files, with a disk that was clean to the end: if the files held a table, what
+  -- was done is a history from it, and leads to the rows of a server that is opened on what a crash
+  -- then leaves of the files
   abbrev pub RunsAreHistories : {H U L R : Type 0} → Hosts H (Kept (FileStore D d)) U L R
       → Links L → Sinks R → Type 0
   RunsAreHistories {H} {U} {L} {R} h l r =

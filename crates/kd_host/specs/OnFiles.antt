@@ -1,4 +1,4 @@
--- What the words of a command line do over a machine whose files held these bytes.
+-- What the arguments of a command line do over a machine whose files held these bytes.
 use Rattle.std.specs.Prelude.{◌≡◌, ◌⊎◌, ℕ, Err, IfOk, List, Ok, Option, None, Result, Some, false, is_some, option_map, string_bytes}
 use Rattle.sqlite_disk.specs.declared.Disk.{Ghosts as Disks}
 use Rattle.sqlite_store.specs.FileStore.{view}
@@ -35,8 +35,8 @@ abbrev pub sending_of : Listening → Sending
 sending_of listening =
     record { mirror = listening.mirror; broadcast_as = listening.broadcast_as }
 
--- a link over a socket that was handed over is over that one; where what was handed over is no socket
--- there is no link
+-- a link over a socket that was handed over uses that socket; if what was handed over is not a
+-- socket, there is no link
 abbrev pub IsOfHanded : {S E L : Type 0} → (L → S) → Option (Result S E) → Result L E → Type 0
 IsOfHanded below None result = Unit {0}
 IsOfHanded below (Some (Ok socket)) result = IfOk result (λ link. below link ≡ socket)
@@ -46,7 +46,7 @@ IsOfHanded below (Some (Err fault)) result = result ≡ Err fault
 abbrev pub AreRowsFound : List Row → Type 0
 AreRowsFound rows = (log db : List ℕ) × AreRowsIn (bytes_image log db) rows
 
--- the order for a work over files
+-- the order for work over files
 abbrev pub order_of : Files → Work → Order
 order_of files works.Replay = orders.Replay files None
 order_of files (works.Explain number) = orders.Replay files (Some number)
@@ -55,18 +55,18 @@ order_of files (works.Show (views.Why word at)) = orders.Why files false at word
 order_of files (works.Serve service) =
     orders.Serve files service.listening service.count service.journal service.max_ahead
 
--- what a command leaves: its streams, and what lies below its store, if it had one
+-- what a command leaves: its streams, and what is below its store, if it had one
 pub record Left (F : Type 0) : Type 0 where
   pub streams : Streams
   pub below : Option F
 
--- over the disk of the database's files, a host, its store in those files, its sockets and its records
+-- over the disk of the database's files, a host, its store in those files, its sockets and its
+-- records
 module _ {D H U L R : Type 0} (d : Disks D) (h : Hosts H (Kept (FileStore D d)) U L R)
     (k : Ghosts (Kept (FileStore D d))) (l : Links L) (r : Sinks R) where
-  -- a server of a configuration, which is one of a text where a file is named, works over the
-  -- database that these bytes hold: its store stands at the table of that database, and the store is
-  -- let go at the end, so that a crash leaves nothing of what lies below it that it does not leave of
-  -- the store
+  -- a server works over the database that these bytes hold; its configuration is that of a text, if
+  -- a file is named. Its store stands at the table of that database, and is released at the end, so
+  -- that a crash leaves of what is below the store nothing that it does not leave of the store
   pub record ServesFiles (image : Image) (files : Files) (work : Work) (old : Streams)
       (left : Left (FileStore D d)) (status : ℕ) : Type 0 where
     pub config : Configuration
@@ -84,8 +84,8 @@ module _ {D H U L R : Type 0} (d : Disks D) (h : Hosts H (Kept (FileStore D d)) 
     pub below_is : left.below ≡ Some it
     pub leaves : IsClean (view it) → LiesBelow back.conn it
 
-  -- what words do: words that are no order have a fault, which is told; and where they name a store
-  -- a server works over its files, or a fault is told
+  -- what arguments do: arguments that are not an order have a fault, which is reported; if they
+  -- name a store, a server works over its files, or a fault is reported
   pub record RunsOnFiles (image : Image) (words : List (List ℕ)) (old : Streams)
       (left : Left (FileStore D d)) (status : ℕ) : Type 0 where
     pub comes_to : ((fault : LineFault) × HasFault words fault
@@ -101,7 +101,7 @@ module _ {D H U L R : Type 0} (d : Disks D) (h : Hosts H (Kept (FileStore D d)) 
   IsStatusOnFiles image words status =
       (old : Streams) × (left : Left (FileStore D d)) × RunsOnFiles image words old left status
 
--- a fault with this number is told on some stream, with this status
+-- a fault with this number is reported on some stream, with this status
 abbrev pub IsStatusOf : ℕ → ℕ → Type 0
 IsStatusOf number status =
     (old : Stream) × (new : Stream) × TellsWith number (status_of number) status old new

@@ -1,4 +1,4 @@
-//! What holds from one run of the program over files to the next: each law is the contract of a
+//! What holds from one run of the program over files to the next. Each law is the contract of a
 //! function that does nothing but name the laws it rests on.
 ghost use Rattle.kd_host.specs.AcrossRuns.{IsOneLife, RunsAreHistories};
 
@@ -15,9 +15,9 @@ use sqlite::{FileFrom, FileStore, Start};
 use sqlite_disk::Disk;
 use std::fs::File;
 
-/// Two openings of a server, the second on what a crash left of the files of the first, are one
-/// life, though their stores are of different types: so `lives_are_histories` of `kd_server` speaks
-/// of the operator's database, across restarts and crashes.
+/// Two openings of a server are one life if the second is on what a crash left of the files of the
+/// first, even though their stores have different types. So `lives_are_histories` of `kd_server`
+/// applies to the operator's database, across restarts and crashes.
 pub fn goes_on<D: Disk, E: Disk>()
     ensures { IsOneLife ⟦<Store<FileStore<D>> as Keeps>⟧ ⟦<Store<FileStore<E>> as Keeps>⟧ }
 {
@@ -28,8 +28,8 @@ pub fn goes_on<D: Disk, E: Disk>()
     restarts::<D, E>();
 }
 
-/// What a command does over files that held a table is a history from that table, and a server that
-/// is opened on what a crash then leaves stands at rows to which that history leads.
+/// What a command does over files that held a table is a history from that table. A server that is
+/// opened on what a crash then leaves stands at rows to which that history leads.
 pub fn runs_are_histories<'a, F: Start, E: Disk>()
     ensures { RunsAreHistories ⟦<Store<Below<F>> as Keeps>⟧ ⟦<Store<FileStore<E>> as Keeps>⟧
         ⟦<Machine<'a, F, Below<F>> as Host>⟧ ⟦<Socket<'a> as Link>⟧ ⟦<Output<File> as Sink>⟧ }

@@ -1,10 +1,10 @@
 //! This machine as the host of the program: a database in a file, files, a socket and a clock.
 //!
 //! What this layer promises to the one above: a command line is carried out over the database of a
-//! file, which held the bytes that a start stands for, and what is left below it is what a crash may
-//! leave of its store (`specs/OnFiles.antt`, `run_on`). What was done with the server is a history
-//! from the table that those bytes hold, and a server that is opened on what a crash then leaves
-//! stands at rows to which that history leads (`specs/AcrossRuns.antt`, `laws`).
+//! file, which held the bytes that a start stands for, and what remains below it is what a crash
+//! may leave of its store (`specs/OnFiles.antt`, `run_on`). What was done with the server is a
+//! history from the table that those bytes hold, and a server that is opened on what a crash then
+//! leaves stands at rows to which that history leads (`specs/AcrossRuns.antt`, `laws`).
 #![tactic(auto)]
 
 pub mod laws;

@@ -17,11 +17,12 @@ use std::fs::File;
 use std::net::UdpSocket;
 use std::time::SystemTime;
 
-/// What lies below a store of leases in files that held what a start stands for.
+/// What is below a store of leases in files that held the bytes that a start stands for.
 pub type Below<F> = FileStore<FileFrom<F>>;
 
-/// This machine, as the host of the program. Its start stands for what the files of one store hold,
-/// and serves for one opening. A socket that was handed to the process serves for one link.
+/// This machine as the host of the program. Its start stands for what the files of one store hold,
+/// and can be used for one opening. A socket that was handed to the process can be used for one
+/// link.
 #[derive(Drop)]
 pub struct Machine<'a, F: Start, L: Drop> {
     pub(crate) rt: &'a HostRuntime,
@@ -34,8 +35,8 @@ pub struct Machine<'a, F: Start, L: Drop> {
 impl<'a, F: Start> Machine<'a, F, Below<F>> {
     ghost use Rattle.std.specs.Prelude.{◌≡◌, None};
 
-    /// The machine of a runtime, on which a program of this version runs, with the socket that was
-    /// handed to the process, if one was; below its store nothing has been left yet.
+    /// Makes the machine of a runtime, on which a program of this version runs, with the socket
+    /// that was handed to the process, if any. Nothing has been left below its store yet.
     pub fn of(
         rt: &'a HostRuntime,
         version: &'a str,

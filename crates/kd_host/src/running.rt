@@ -42,9 +42,9 @@ pub fn run_on<'a, F: Start, R: Source, O: Sink, E: Sink>(
     run(machine.rt.alloc(), words, machine, ends)
 }
 
-/// Carries out the words after the program's name over this machine and its standard streams, and
-/// says the exit status. The version is the line that `--version` prints. A socket that was handed to
-/// the process is that of `serve`.
+/// Carries out the arguments after the program's name over this machine and its standard streams,
+/// and returns the exit status. The version is the line that `--version` prints. A socket that was
+/// handed to the process is used by `serve`.
 pub fn carry_out<'a, F: Start>(
     rt: &'a HostRuntime,
     version: &'a str,
@@ -69,7 +69,7 @@ pub fn carry_out<'a, F: Start>(
     )
 }
 
-/// Tells on standard error why there are no words, and says the exit status.
+/// Reports on standard error why there are no arguments, and returns the exit status.
 pub fn refuse(rt: &HostRuntime, fault: LineFault) -> u8
     ensures { IsStatusOf (line_fault_number fault) result }
 {
