@@ -1,4 +1,4 @@
-//! The program `kdhcp`: the words after its name are carried out over this machine (`kd_host`).
+//! The program `kdhcp`: it carries out the arguments after its name over this machine (`kd_host`).
 #![tactic(auto)]
 
 mod version;
@@ -18,14 +18,14 @@ fn main(rt: HostRuntime) -> ExitCode {
     ExitCode::from(status)
 }
 
-// The words after the program's name, and the line that says its version.
+// Returns the arguments after the program's name, and the line that says its version.
 fn begin(rt: &HostRuntime) -> Result<(Vec<String>, String), LineFault> {
     let words = words(rt)?;
     let version = version_line(rt.alloc())?;
     Ok((words, version))
 }
 
-// The words after the program's name.
+// Returns the arguments after the program's name.
 fn words(rt: &HostRuntime) -> Result<Vec<String>, LineFault> {
     match std::env::args(rt) {
         Ok(all) => Ok(all.skip(1).collect(rt.alloc())?),

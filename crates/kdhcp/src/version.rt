@@ -3,15 +3,15 @@ use std::alloc::{AllocError, Global};
 // The version of the program.
 const VERSION: &str = "1.0.0";
 
-// The commit that it is built from: `git archive` writes it between the quotes, where a checkout has
-// a word that begins with a dollar sign.
+// The commit that the program is built from. `git archive` writes it between the quotes; a checkout
+// has a text there that begins with a dollar sign.
 const COMMIT: &str = "$Format:%H$";
 
-/// The line that `--version` prints: the name of the program, its version and its commit.
+/// Returns the line that `--version` prints: the name of the program, its version and its commit.
 ///
 /// # Errors
 ///
-/// There is no memory for it.
+/// Out of memory.
 pub fn version_line(alloc: Global) -> Result<String, AllocError> {
     if COMMIT.starts_with('$') {
         format!(in alloc; "kdhcp {VERSION}, built from a checkout\n")
