@@ -17,9 +17,9 @@ use sqlite_disk::Disk;
 use std::fs::File;
 use std::io;
 
-/// Carries out the words after the program's name over this machine and three streams, and says the
-/// exit status. Where they name a store, it is that of the files whose bytes the start stands for:
-/// the server stands at the table that these bytes hold.
+/// Carries out the arguments after the program's name over this machine and three streams, and
+/// returns the exit status. If they name a store, it is that of the files with the bytes that the
+/// start stands for: the server stands at the table that these bytes hold.
 pub fn run_on<'a, F: Start, R: Source, O: Sink, E: Sink>(
     machine: &mut Machine<'a, F, Below<F>>,
     words: &[String],

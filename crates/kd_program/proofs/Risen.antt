@@ -1,4 +1,4 @@
--- Rows that rise, set one after another in an empty table, are that table.
+-- Rows in ascending order, set one after another in an empty table, are that table.
 use Rattle.std.proofs.Common.{◌≡◌, ℕ, ◌+◌, ◌<◌, ◌≤◌, List, [], ◌∷◌, ◌++◌, refl, sym, ap, ◌∙◌, arith}
 use Rattle.std.proofs.lemmas.Bool.Decides.{nat_tests}
 use Rattle.std.proofs.lemmas.List.{append-nil, append_assoc}
@@ -30,6 +30,6 @@ set_all done (row ∷ rows) n below rise =
     ap (with_rows rows) here ∙ set_all (done ++ row ∷ []) rows (row.address + 1) (below_push n done row below rise.0) rise.1
     ∙ append_assoc done (row ∷ []) rows
 
--- rows that rise, set one after another in an empty table, are that table
+-- rows in ascending order, set one after another in an empty table, are that table
 pub rising_are_set : (rows : List Row) → Rise rows → with_rows rows [] ≡ rows
 rising_are_set rows rise = set_all [] rows 0 tt rise

@@ -1,4 +1,4 @@
--- Faults that are told, with equal numbers and statuses.
+-- Faults that are reported, with equal numbers and statuses.
 use Rattle.std.proofs.Common.{◌≡◌, ℕ, subst}
 use Rattle.kd_tools.specs.Status.{status_of}
 use Rattle.kd_program.specs.Streams.{Stream, TellsWith}

@@ -1,4 +1,5 @@
--- What a check of a start finds: the number of the fault with which serving would end there, or none.
+-- What a check of a start finds: the number of the fault with which serving would end there, or
+-- none.
 use Rattle.std.specs.Prelude.{◌≡◌, ◌⊎◌, ℕ, Bool, true, false, List, [], ◌∷◌, Option, Some, None, Result, Ok, Err, if◌then◌else◌, option_map, string_bytes}
 use Rattle.std.specs.Result.{result_err}
 use Rattle.kd_check.specs.declared.findings.StoreTrouble.{StoreTrouble}
@@ -23,7 +24,7 @@ check_status [] = 0
 check_status (None ∷ more) = check_status more
 check_status (Some number ∷ more) = status_of number
 
--- the number of the fault of a store that is not opened
+-- the number of the fault of a store that cannot be opened
 abbrev pub trouble_number : StoreTrouble → ℕ
 trouble_number troubles.Schema = 80
 trouble_number troubles.Locked = 81
@@ -32,22 +33,23 @@ trouble_number troubles.Denied = 81
 trouble_number troubles.NoFolder = 81
 trouble_number troubles.Other = 81
 
--- what is found of a configuration
+-- what is found out about a configuration
 abbrev pub config_finding : Result Configuration StartFault → Option ℕ
 config_finding result = option_map (λ fault. start_fault_number fault) (result_err result)
 
--- what is found of a socket
+-- what is found out about a socket
 abbrev pub socket_finding : Result Bool SocketTrouble → Option ℕ
 socket_finding answer = option_map (λ trouble. 94) (result_err answer)
 
--- what is found of rows that were read: whether the clock is behind them by more than the limit
+-- what is found out about rows that were read: whether the clock is behind them by more than the
+-- limit
 abbrev pub rows_finding : Option ℕ → List Row → ℕ → Option ℕ
 rows_finding limit rows moment = if is_behind limit (latest_of rows) moment then Some 101 else None
 
 -- over a host
 module _ {H N U L R : Type 0} (h : Hosts H N U L R) where
-  -- the rows of a database are read, and the clock is asked, or memory runs out for them; or they are
-  -- not read
+  -- the rows of a database are read, and the clock is asked, or memory runs out for them; or they
+  -- cannot be read
   abbrev pub FindsRows : List ℕ → Option ℕ → H → H → Option ℕ → Type 0
   FindsRows path limit before after found =
       ((rows : List Row) × (moment : ℕ) × h.copies before path (Ok rows) after
@@ -56,14 +58,14 @@ module _ {H N U L R : Type 0} (h : Hosts H N U L R) where
       ⊎ ((fault : LookFault) × h.copies before path (Err fault) after
       × (found ≡ Some (look_fault_number fault))))
 
-  -- a database was tried: it is in trouble, or not there, or its rows are looked at
+  -- a database was tried: it has some trouble, or does not exist, or its rows are read
   abbrev pub FindsDatabase : List ℕ → Option ℕ → Result Bool StoreTrouble → H → H → Option ℕ → Type 0
   FindsDatabase path limit (Err trouble) before after found =
       (after ≡ before) × (found ≡ Some (trouble_number trouble))
   FindsDatabase path limit (Ok false) before after found = (after ≡ before) × (found ≡ None)
   FindsDatabase path limit (Ok true) before after found = FindsRows path limit before after found
 
-  -- the store at a path is tried, where there is a path
+  -- the store at a path is tried, if there is a path
   abbrev pub FindsStore : Option (List ℕ) → Option ℕ → H → H → Option ℕ → Type 0
   FindsStore None limit before after found = (after ≡ before) × (found ≡ None)
   FindsStore (Some path) limit before after found =
@@ -76,8 +78,8 @@ module _ {H N U L R : Type 0} (h : Hosts H N U L R) where
       (answer : Result Bool SocketTrouble) × h.reaches host address port answer
       × (found ≡ socket_finding answer)
 
-  -- the steps of a start are tried in their order, a report of them is shown, and the exit status is
-  -- that of the first fault; memory may run out for the report
+  -- the steps of a start are tried in order, a report of them is shown, and the exit status is that
+  -- of the first fault; memory may run out for the report
   pub record ChecksStart (files : Files) (place : Place) (before after : At H)
       (status : ℕ) : Type 0 where
     pub config : Result Configuration StartFault

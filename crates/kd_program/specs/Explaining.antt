@@ -14,13 +14,13 @@ use Rattle.kd_tools.specs.Status.{replay_status_of}
 use Rattle.kd_why.specs.Inquiring.{IsExplainedAt, IsNotExplained}
 use Rattle.kd_why.specs.Saying.{ExplainsEvent}
 
--- what a server with the ports of the standard (RFC 2131 section 4.1) would do at rows
+-- what a server with the standard ports (RFC 2131 section 4.1) would do with these rows
 abbrev pub standard_trial : Configuration → List Row → Trying
 standard_trial config rows =
     record { ports = record { server = 67; client = 68 }; config = config; rows = rows }
 
--- the explanation of a datagram at a moment over rows is shown, by whether their store has failed, or
--- it is told why there is none
+-- the explanation of a datagram at a time over rows is shown, by whether their store has failed; or
+-- it is reported why there is none
 abbrev pub ShowsWhy : List ℕ → Bool → Configuration → List Row → ℕ → ℕ → Streams → Streams → Type 0
 ShowsWhy bytes failed config rows at status old new =
     ((text : List ℕ)
@@ -29,26 +29,28 @@ ShowsWhy bytes failed config rows at status old new =
     ⊎ ((fault : ServeFault) × IsNoList failed at fault × Tells (serve_fault_number fault) status old
     new)
 
--- the same of the bytes of a word; a word that is not hexadecimal is a mistake on the command line
+-- the same for the bytes of an argument; an argument that is not hexadecimal is a mistake on the
+-- command line
 abbrev pub ShowsWhyOf : Result (List ℕ) FromHexError → Bool → Configuration → List Row → ℕ → ℕ
     → Streams → Streams → Type 0
 ShowsWhyOf (Ok bytes) failed config rows at status old new =
     ShowsWhy bytes failed config rows at status old new
 ShowsWhyOf (Err error) failed config rows at status old new = Tells 98 status old new
 
--- the explanation of the datagram of a word is shown, or why there is none; memory may run out for it
+-- the explanation of the datagram in an argument is shown, or why there is none; memory may run out
+-- for it
 abbrev pub ExplainsWord : List ℕ → Bool → Configuration → List Row → ℕ → ℕ → Streams → Streams
     → Type 0
 ExplainsWord word failed config rows at status old new =
     ShowsWhyOf (decode_of word) failed config rows at status old new ⊎ Starves status old new
 
--- the explanation of a line of standard input is shown, where the stream tells its bytes
+-- the explanation of a line of standard input is shown, if the bytes of the stream are known
 pub record ShowsLine (t : Trying) (number status : ℕ) (old new : Streams) : Type 0 where
   pub text : List ℕ
   pub explained : (input : List ℕ) → old.input.bytes ≡ Some input → IsExplainedAt t input number text
   pub shown : ShowsOrBreaks text 0 status old.output new.output old.faults new.faults
 
--- why there is none is told
+-- it is reported why there is none
 pub record ShowsNoLine (t : Trying) (number status : ℕ) (old new : Streams) : Type 0 where
   pub fault : ReplayFault
   pub unexplained : (input : List ℕ) → old.input.bytes ≡ Some input

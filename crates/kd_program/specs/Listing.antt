@@ -1,5 +1,5 @@
--- What is printed of a table of leases at a moment: its leases, how full the pools are, or what a
--- datagram gets, and why.
+-- What is printed of a table of leases at a time: its leases, how full the pools are, or what
+-- answer a datagram gets, and why.
 use Rattle.std.specs.Prelude.{ℕ, ◌⊎◌, Bool, List, max, string_bytes}
 use Rattle.std.specs.List.{flat_map}
 use Rattle.kd_commands.specs.declared.orders.Listing.{Listing}
@@ -17,8 +17,8 @@ use Rattle.kd_rows.specs.Table.{latest_of}
 use Rattle.kd_rows.specs.declared.row.Row.{Row}
 use Rattle.kd_server.specs.Leases.{IsNoList, lease_line, leases_of_rows}
 
--- what is printed of rows under a configuration at a moment; a moment before the latest change counts
--- as that
+-- what is printed of rows under a configuration at a time; a time before the latest change counts
+-- as the time of that change
 abbrev pub listing_text : Listing → Configuration → List Row → ℕ → List ℕ
 listing_text listings.Leases config rows at = flat_map lease_line (leases_of_rows at rows)
 listing_text listings.Pools config rows at =
@@ -26,7 +26,8 @@ listing_text listings.Pools config rows at =
 listing_text listings.Metrics config rows at =
     metrics_text (subnet_uses config rows (max at (latest_of rows)))
 
--- a listing of rows is shown, by whether their store has failed, or it is told why there is none
+-- a listing of rows is shown, by whether their store has failed, or it is reported why there is
+-- none
 abbrev pub ShowsListing : Listing → Bool → Configuration → List Row → ℕ → ℕ → Streams → Streams → Type 0
 ShowsListing listing failed config rows at status old new =
     ShowsOrBreaks (listing_text listing config rows at) 0 status old.output new.output old.faults
@@ -34,8 +35,8 @@ ShowsListing listing failed config rows at status old new =
     ⊎ ((fault : ServeFault) × IsNoList failed at fault × Tells (serve_fault_number fault) status old
     new)
 
--- a view of rows is shown: a listing of them at a moment, or the explanation of the datagram of a
--- word at one
+-- a view of rows is shown: a listing of them at a time, or the explanation of the datagram in an
+-- argument at a time
 abbrev pub ShowsView : View → Bool → Configuration → List Row → ℕ → Streams → Streams → Type 0
 ShowsView (views.Listing listing at) failed config rows status old new =
     ShowsListing listing failed config rows at status old new

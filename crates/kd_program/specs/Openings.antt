@@ -10,8 +10,8 @@ use Rattle.kd_replay.specs.declared.ends.Sink.{Ghosts as Sinks}
 use Rattle.kd_replay.specs.declared.link.Link.{Ghosts as Links}
 use Rattle.kd_server.specs.Lives.{Call, IsDone}
 
--- whatever a command's work is, what it does with a server over a store is an opening of that store:
--- calls of the server, and the store as they left it
+-- whatever a command's work is, what it does with a server over a store is an opening of that
+-- store: calls of the server, and the store as they left it
 abbrev pub CommandsAreOpenings : {H N U L R S : Type 0} → Hosts H N U L R → Links L → Sinks R
     → Ghosts S → Type 0
 CommandsAreOpenings {H} {N} {U} {L} {R} {S} h l r g =

@@ -8,8 +8,8 @@ use Rattle.kd_replay.specs.Filtering.{LeavesFiltered}
 use Rattle.kd_replay.specs.declared.fault.ReplayFault.{ReplayFault}
 use Rattle.kd_replay.specs.declared.fault.ReplayFault.TheVariants as faults
 
--- the replies that are asked for are printed, a line each, up to the first bad line of the log, as
--- far as the streams tell their bytes
+-- the requested replies are printed, one line each, up to the first bad line of the log, as far as
+-- the bytes of the streams are known
 pub record PrintsEvents (filter : Filter) (result : Result ℕ ReplayFault)
     (old new : Streams) : Type 0 where
   pub printed : (input output : List ℕ) → old.input.bytes ≡ Some input

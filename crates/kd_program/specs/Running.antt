@@ -1,4 +1,4 @@
--- What the words of a command line do: what is written, and the exit status.
+-- What the arguments of a command line do: what is written, and the exit status.
 use Rattle.std.specs.Prelude.{◌≡◌, ◌⊎◌, ℕ, false, true, List, Option, Some, None, Result, Ok, Err, if◌then◌else◌, is_some, option_map, string_bytes, vec_items}
 use Rattle.std.specs.Result.{IsErrOf}
 use Rattle.kd_tools.specs.Printed.{Answers}
@@ -46,38 +46,39 @@ use Rattle.kd_program.specs.declared.serving.Service.{Service}
 use Rattle.kd_program.specs.declared.serving.Work.{Work}
 use Rattle.kd_program.specs.declared.serving.Work.TheVariants as works
 
--- the ports of a server: those of its words, and else those of the standard (RFC 2131 section 4.1)
+-- the ports of a server: those of its arguments, or the standard ones (RFC 2131 section 4.1)
 abbrev pub ports_asked : Work → Ports
 ports_asked (works.Serve service) =
     record { server = service.listening.port; client = service.listening.client_port }
 ports_asked other = record { server = 67; client = 68 }
 
--- what a replay is opened for: to handle the events of standard input, or to explain that of a line
+-- what a replay is opened for: to handle the events of standard input, or to explain the event of a
+-- line
 abbrev pub replay_work : Option ℕ → Work
 replay_work None = works.Replay
 replay_work (Some number) = works.Explain number
 
--- how a replay ends: without a fault, or its fault is told
+-- how a replay ends: without a fault, or with its fault reported
 abbrev pub EndsReplay : Result ℕ ReplayFault → ℕ → Stream → Stream → Type 0
 EndsReplay (Ok count) status old new = (status ≡ 0) × (new ≡ old)
 EndsReplay (Err fault) status old new =
     TellsWith (replay_fault_number fault) (replay_status_of fault) status old new
 
--- how serving ends: without a fault, or its fault is told
+-- how serving ends: without a fault, or with its fault reported
 abbrev pub EndsServe : Result Unit LoopFault → ℕ → Stream → Stream → Type 0
 EndsServe (Ok done) status old new = (status ≡ 0) × (new ≡ old)
 EndsServe (Err fault) status old new =
     TellsWith (loop_fault_number fault) (serve_status_of fault) status old new
 
--- where a server stands while it serves: a link, a record of what comes on it if there is one, and
--- its streams
+-- the state of a server while it serves: a link, a record of what is received on it, if there is
+-- one, the server, and its streams
 pub record OnLink (L R S : Type 0) : Type 0 where
   pub link : L
   pub journal : Option R
   pub server : Keeping S
   pub streams : Streams
 
--- what has happened on a link, what stands in the record, and what was written
+-- what has happened on a link, what the record contains, and what was written
 abbrev pub traffic_of : {L R S : Type 0} → Links L → Sinks R → OnLink L R S → Traffic
 traffic_of l r session =
     record {
@@ -88,9 +89,9 @@ traffic_of l r session =
 
 -- over a link, a record and a store of leases
 module _ {L R S : Type 0} (l : Links L) (r : Sinks R) (g : Ghosts S) where
-  -- a server serves so many datagrams of a link, while the clock is not ahead of its limit; it
-  -- keeps a record of them, and their lines are written to standard output; where nothing can be
-  -- received the link has failed, and so with the record and with standard output
+  -- a server serves `count` datagrams of a link, as long as the clock is not ahead of its limit; it
+  -- records them, and their lines are written to standard output; if nothing can be received the
+  -- link has failed, and likewise for the record and for standard output
   pub record Receives (service : Service) (before after : OnLink L R S) (status : ℕ) : Type 0 where
     pub result : Result Unit LoopFault
     pub served : ServesTo service.max_ahead latest_in (Batched g) result service.count
@@ -102,14 +103,14 @@ module _ {L R S : Type 0} (l : Links L) (r : Sinks R) (g : Ghosts S) where
 
 -- over a store of leases
 module _ {S : Type 0} (g : Ghosts S) where
-  -- a server replays what is left of standard input, to standard output
+  -- a server replays the rest of standard input to standard output
   pub record ReplaysInput (server after : Keeping S) (status : ℕ) (old new : Streams) : Type 0 where
     pub result : Result ℕ ReplayFault
     pub replayed : HasReplayed (Steps g) (Refuses g) (new.input.failed ≡ true) result server after
         old.input.bytes new.input.bytes old.output.bytes new.output.bytes
     pub ends : EndsReplay result status old.faults new.faults
 
--- the replies of the log on standard input are printed, those that are asked for
+-- the requested replies of the log on standard input are printed
 pub record SaysEvents (filter : Filter) (status : ℕ) (old new : Streams) : Type 0 where
   pub result : Result ℕ ReplayFault
   pub prints : PrintsEvents filter result old new
@@ -117,19 +118,19 @@ pub record SaysEvents (filter : Filter) (status : ℕ) (old new : Streams) : Typ
 
 -- over a host and the records that it gives
 module _ {H N U L R : Type 0} (h : Hosts H N U L R) (r : Sinks R) where
-  -- the host gives the record at a path, or there is none without a path
+  -- the host gives the record at a path, or there is none if there is no path
   abbrev pub GivesJournal : H → Option (List ℕ) → Result (Option R) EndFailed → H → Type 0
   GivesJournal before None result after = (result ≡ Ok None) × (after ≡ before)
   GivesJournal before (Some path) (Ok None) after = ⊥
   GivesJournal before (Some path) (Ok (Some sink)) after = h.records before path (Ok sink) after
   GivesJournal before (Some path) (Err failed) after = h.records before path (Err failed) after
 
--- over a host, its sockets and records, and a store of leases; a host stands somewhere before and
--- after each answer
+-- over a host, its sockets and records, and a store of leases; a host has a state before and after
+-- each result
 module _ {H N U L R S : Type 0} (h : Hosts H N U L R) (l : Links L) (r : Sinks R)
     (g : Ghosts S) where
-  -- the host gives a socket and a record, where there is a path for one, and neither has failed; a
-  -- line is told of what the server does, and it serves datagrams of that socket
+  -- the host gives a socket and, if there is a path for one, a record, and neither has failed; a
+  -- line reports what the server does, and it serves datagrams of that socket
   pub record BeginsServing (service : Service) (before after : With (Keeping S) H)
       (status : ℕ) : Type 0 where
     pub link : L
@@ -160,13 +161,13 @@ module _ {H N U L R S : Type 0} (h : Hosts H N U L R) (l : Links L) (r : Sinks R
         })
         status
 
-  -- the host gives no socket, which is told
+  -- the host gives no socket, and this is reported
   pub record HasNoSocket (listening : Listening) (before after : At H) (status : ℕ) : Type 0 where
     pub failed : EndFailed
     pub given : h.binds before.host listening (Err failed) after.host
     pub told : Tells 94 status before.streams after.streams
 
-  -- the host gives a socket and no record, which is told
+  -- the host gives a socket and no record, and this is reported
   pub record HasNoJournal (service : Service) (before after : At H) (status : ℕ) : Type 0 where
     pub link : L
     pub bound : H
@@ -194,7 +195,7 @@ module _ {H N U L R S : Type 0} (h : Hosts H N U L R) (l : Links L) (r : Sinks R
       ⊎ (HasNoJournal service before.at after.at status
       ⊎ HasNoLine service before.at after.at status)))
 
-  -- what a server is opened for
+  -- the work that a server is opened for
   abbrev pub Works : Work → With (Keeping S) H → With (Keeping S) H → ℕ → Type 0
   Works works.Replay before after status =
       (after.at.host ≡ before.at.host)
@@ -209,8 +210,7 @@ module _ {H N U L R S : Type 0} (h : Hosts H N U L R) (l : Links L) (r : Sinks R
       status before.at.streams after.at.streams)
   Works (works.Serve service) before after status = Listens service before after status
 
-  -- a server that goes by a configuration is opened over a store, does its work, and gives back its
-  -- store
+  -- a server with a configuration is opened over a store, does its work, and returns its store
   pub record IsServed (work : Work) (config : Configuration) (before after : With S H)
       (status : ℕ) : Type 0 where
     pub server : Keeping S
@@ -220,7 +220,7 @@ module _ {H N U L R S : Type 0} (h : Hosts H N U L R) (l : Links L) (r : Sinks R
         (record { held = left; at = after.at }) status
     pub closed : after.held ≡ left.store
 
-  -- no server is opened over a store, which is told
+  -- no server is opened over a store, and this is reported
   pub record IsNotServed (config : Configuration) (before after : With S H)
       (status : ℕ) : Type 0 where
     pub fault : ServeFault
@@ -237,8 +237,8 @@ module _ {H N U L R S : Type 0} (h : Hosts H N U L R) (l : Links L) (r : Sinks R
 -- over a host with its two sorts of stores, its sockets and its records
 module _ {H N U L R : Type 0} (h : Hosts H N U L R) (named : Ghosts N) (unnamed : Ghosts U)
     (l : Links L) (r : Sinks R) where
-  -- a server works over the store that the host opens at a path, which has not failed, and the host
-  -- gets it back
+  -- a server works over the store that the host opens at a path, which has not failed, and the
+  -- store is returned to the host
   pub record WorksAt (path : List ℕ) (work : Work) (config : Configuration) (before after : At H)
       (status : ℕ) : Type 0 where
     pub store : N
@@ -264,19 +264,19 @@ module _ {H N U L R : Type 0} (h : Hosts H N U L R) (named : Ghosts N) (unnamed 
         (record { held = store; at = record before { host = made } })
         (record { held = back; at = after }) status
 
-  -- the host opens no store at a path, which is told
+  -- the host opens no store at a path, and this is reported
   pub record HasNoStoreAt (path : List ℕ) (before after : At H) (status : ℕ) : Type 0 where
     pub fault : StoreFault
     pub given : h.opens before.host path (Err fault) after.host
     pub told : Tells (store_fault_number fault) status before.streams after.streams
 
-  -- the host makes no store in memory, which is told
+  -- the host makes no store in memory, and this is reported
   pub record HasNoStoreInMemory (before after : At H) (status : ℕ) : Type 0 where
     pub fault : StoreFault
     pub given : h.makes before.host (Err fault) after.host
     pub told : Tells (store_fault_number fault) status before.streams after.streams
 
-  -- a server works over the host's store, with a path or without one, or it is told that there is
+  -- a server works over the host's store, with or without a path, or it is reported that there is
   -- none
   abbrev pub WorksOver : Option (List ℕ) → Work → Configuration → At H → At H → ℕ → Type 0
   WorksOver (Some path) work config before after status =
@@ -284,7 +284,7 @@ module _ {H N U L R : Type 0} (h : Hosts H N U L R) (named : Ghosts N) (unnamed 
   WorksOver None work config before after status =
       WorksInMemory work config before after status ⊎ HasNoStoreInMemory before after status
 
-  -- the host gives the configuration of these files, and a server goes by it
+  -- the host gives the configuration of these files, and a server uses it
   pub record HasConfiguration (files : Files) (work : Work) (before after : At H)
       (status : ℕ) : Type 0 where
     pub config : Configuration
@@ -294,7 +294,7 @@ module _ {H N U L R : Type 0} (h : Hosts H N U L R) (named : Ghosts N) (unnamed 
     pub works : WorksOver (option_map string_bytes files.store) work config
         (record before { host = asked }) after status
 
-  -- the host gives no configuration of these files, which is told
+  -- the host gives no configuration of these files, and this is reported
   pub record HasNoConfiguration (files : Files) (before after : At H) (status : ℕ) : Type 0 where
     pub fault : StartFault
     pub given : h.configures before.host (option_map string_bytes files.config)
@@ -316,13 +316,13 @@ module _ {H N U L R : Type 0} (h : Hosts H N U L R) (named : Ghosts N) (unnamed 
     pub shows : ShowsView view false config rows status before.streams after.streams
         ⊎ Starves status before.streams after.streams
 
-  -- the host gives no rows of a database at a path, which is told
+  -- the host gives no rows of a database at a path, and this is reported
   pub record HasNoCopy (path : List ℕ) (before after : At H) (status : ℕ) : Type 0 where
     pub fault : LookFault
     pub given : h.copies before.host path (Err fault) after.host
     pub told : Tells (look_fault_number fault) status before.streams after.streams
 
-  -- the host gives the configuration of these files, and a database at a path is looked at
+  -- the host gives the configuration of these files, and the database at a path is read
   pub record LooksUnder (files : Files) (path : List ℕ) (view : View) (before after : At H)
       (status : ℕ) : Type 0 where
     pub config : Configuration
@@ -332,14 +332,14 @@ module _ {H N U L R : Type 0} (h : Hosts H N U L R) (named : Ghosts N) (unnamed 
     pub looks : ShowsCopy path view config (record before { host = asked }) after status
         ⊎ HasNoCopy path (record before { host = asked }) after status
 
-  -- a look at the database at a path, which another process may have open
+  -- a view of the database at a path, which another process may have open
   abbrev pub Looks : Files → List ℕ → View → At H → At H → ℕ → Type 0
   Looks files path view before after status =
       LooksUnder files path view before after status
       ⊎ HasNoConfiguration files before after status
 
   -- the lines on standard input are imported into the store that the host opens at a path, and the
-  -- host gets it back
+  -- store is returned to the host
   pub record ImportsAt (path : List ℕ) (before after : At H) (status : ℕ) : Type 0 where
     pub store : N
     pub opened : H
@@ -350,19 +350,19 @@ module _ {H N U L R : Type 0} (h : Hosts H N U L R) (named : Ghosts N) (unnamed 
     pub imports : ImportsInto named rows store back status before.streams after.streams
     pub closed : h.closes opened path back after.host
 
-  -- an import into the store at a path, or it is told that there is none
+  -- an import into the store at a path, or it is reported that there is none
   abbrev pub Imports : List ℕ → At H → At H → ℕ → Type 0
   Imports path before after status =
       ImportsAt path before after status ⊎ HasNoStoreAt path before after status
 
-  -- what an order prints that needs nothing but its words; memory may run out for it
+  -- what an order prints that needs only its arguments; memory may run out for it
   abbrev pub Says : Order → ℕ → Streams → Streams → Type 0
   Says order status old new =
       ((printed : Printed) × Answers order printed × Prints printed status old new)
       ⊎ Starves status old new
 
-  -- a view of the store of these files: a look where there is a path at which another process may
-  -- have it open
+  -- a view of the store of these files; if there is a path at which another process may have it
+  -- open, it is read without a lock
   abbrev pub ViewsStore : Option (List ℕ) → Files → View → At H → At H → ℕ → Type 0
   ViewsStore (Some path) files view before after status =
       Looks files path view before after status
@@ -404,7 +404,7 @@ module _ {H N U L R : Type 0} (h : Hosts H N U L R) (named : Ghosts N) (unnamed 
   CarriesOut other before after status =
       (after.host ≡ before.host) × Says other status before.streams after.streams
 
-  -- what words do: the fault that they have is told, or what they ask for is done
+  -- what arguments do: the fault that they have is reported, or what they ask for is done
   abbrev pub Carries : List (List ℕ) → At H → At H → ℕ → Type 0
   Carries words before after status =
       ((fault : LineFault) × HasFault words fault × (after.host ≡ before.host)

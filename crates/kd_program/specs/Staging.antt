@@ -1,11 +1,11 @@
--- Words of private contracts alone: what was found of a store.
+-- Definitions used only by private contracts: what was found out about a store.
 use Rattle.std.specs.Prelude.{ℕ, Option, Some, None, if◌then◌else◌}
 use Rattle.kd_io.specs.Faults.{look_fault_number}
 use Rattle.kd_program.specs.Checking.{trouble_number}
 use Rattle.kd_program.specs.declared.checking.StoreFinding.{StoreFinding}
 use Rattle.kd_program.specs.declared.checking.StoreFinding.TheVariants as findings
 
--- the number of the fault that is found of a store, if one is
+-- the number of the fault found in a store, if any
 abbrev pub finding_number : StoreFinding → Option ℕ
 finding_number findings.Unasked = None
 finding_number findings.New = None

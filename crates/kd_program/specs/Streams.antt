@@ -10,8 +10,8 @@ use Rattle.kd_replay.specs.declared.ends.Sink.{Ghosts as Sinks}
 use Rattle.kd_replay.specs.declared.ends.Source.{Ghosts as Sources}
 use Rattle.kd_program.specs.declared.ends.Ends.{Ends}
 
--- a stream: what is left to read of it or stands written on it, where that is known, and whether it
--- has failed
+-- a stream: its remaining bytes to read or the bytes written to it, if they are known, and whether
+-- it has failed
 pub record Stream : Type 0 where
   pub bytes : Option (List ℕ)
   pub failed : Bool
@@ -40,17 +40,17 @@ streams r o e ends =
           e ends.faults;
     }
 
--- where a command stands: its host, and its streams
+-- the state of a command: its host, and its streams
 pub record At (H : Type 0) : Type 0 where
   pub host : H
   pub streams : Streams
 
--- where a command stands that holds a store, or a server over one
+-- the state of a command that holds a store, or a server over one
 pub record With (S H : Type 0) : Type 0 where
   pub held : S
   pub at : At H
 
--- a host and the three ends of a command as where it stands
+-- a host and the three ends of a command as its state
 abbrev pub at_ends : {H R O E : Type 0} → Sources R → Sinks O → Sinks E → H → Ends R O E → At H
 at_ends r o e host ends = record { host = host; streams = streams r o e ends }
 
@@ -58,44 +58,45 @@ at_ends r o e host ends = record { host = host; streams = streams r o e ends }
 abbrev pub fault_line : ℕ → List ℕ → List ℕ
 fault_line number name = codes "fault " ++ decimal number ++ codes " " ++ name ++ line_feed
 
--- the line of want of memory
+-- the line for out of memory
 abbrev pub memory_line : List ℕ
 memory_line = codes "fault 91 Memory\n"
 
--- the line of a standard output that fails
+-- the line for a standard output that fails
 abbrev pub write_line : List ℕ
 write_line = codes "fault 95 Write\n"
 
--- a text is put on a stream, or a front of it where the stream has failed
+-- a text is put on a stream, or a prefix of it if the stream has failed
 abbrev pub Puts : List ℕ → Stream → Stream → Type 0
 Puts text old new =
     Appends old.bytes new.bytes text ⊎ ((new.failed ≡ true) × WritesPart old.bytes new.bytes text)
 
--- the line of a fault with this number is told, or memory runs out for it; with this exit status
+-- the line of a fault with this number is reported, or memory runs out for it; with this exit
+-- status
 abbrev pub TellsWith : ℕ → ℕ → ℕ → Stream → Stream → Type 0
 TellsWith number wanted status old new =
     ((name : List ℕ) × (status ≡ wanted) × Puts (fault_line number name) old new)
     ⊎ ((status ≡ 1) × Puts memory_line old new)
 
--- want of memory is told on standard error, and nothing written on standard output
+-- out of memory is reported on standard error, and nothing is written to standard output
 abbrev pub Starves : ℕ → Streams → Streams → Type 0
 Starves status old new =
     (new.output ≡ old.output) × (status ≡ 1) × Puts memory_line old.faults new.faults
 
--- a fault with this number is told on standard error, with its exit status, and nothing written on
--- standard output
+-- a fault with this number is reported on standard error, with its exit status, and nothing is
+-- written to standard output
 abbrev pub Tells : ℕ → ℕ → Streams → Streams → Type 0
 Tells number status old new =
     (new.output ≡ old.output) × TellsWith number (status_of number) status old.faults new.faults
 
--- a text is shown on standard output, and nothing told
+-- a text is shown on standard output, and nothing is reported
 pub record Shows (text : List ℕ) (wanted status : ℕ)
     (output said faults told : Stream) : Type 0 where
   pub is : status ≡ wanted
   pub shown : Appends output.bytes said.bytes text
   pub quiet : told ≡ faults
 
--- a front of a text is shown on standard output, which has failed: fault 95 is told
+-- a prefix of a text is shown on standard output, which has failed, and fault 95 is reported
 pub record Breaks (text : List ℕ) (status : ℕ) (output said faults told : Stream) : Type 0 where
   pub is : status ≡ 1
   pub failed : said.failed ≡ true
@@ -107,7 +108,7 @@ abbrev pub ShowsOrBreaks : List ℕ → ℕ → ℕ → Stream → Stream → St
 ShowsOrBreaks text wanted status output said faults told =
     Shows text wanted status output said faults told ⊎ Breaks text status output said faults told
 
--- what an order prints: its text, or the line of its fault alone
+-- what an order prints: its text, or only the line of its fault
 pub record Prints (printed : Printed) (status : ℕ) (old new : Streams) : Type 0 where
   pub answered : printed.fault ≡ []
       → ShowsOrBreaks printed.out printed.status status old.output new.output old.faults new.faults

@@ -4,31 +4,31 @@ use kd_replay::put_address;
 use std::alloc::{AllocError, Global};
 use std::fmt::Write;
 
-/// What a server says of itself before it serves.
+/// What a server reports about itself before it serves.
 #[derive(Clone, Copy)]
 pub struct Banner<'a> {
     /// The socket.
     pub listening: Listening,
-    /// What its configuration has.
+    /// How much its configuration contains.
     pub sizes: Sizes,
-    /// How many rows of leases it has at its start.
+    /// The number of rows of leases at its start.
     pub leases: usize,
-    /// The latest change of a row, in whole seconds; 0 without rows.
+    /// The time of the latest change of a row, in whole seconds; 0 if there are no rows.
     pub latest: u64,
     /// The path of its store, or `memory`.
     pub store: &'a str,
 }
 
-/// How much a configuration has.
+/// How much a configuration contains.
 #[derive(Clone, Copy)]
 pub struct Sizes {
-    /// Its subnets.
+    /// The number of its subnets.
     pub subnets: usize,
-    /// The addresses of their pools.
+    /// The number of addresses in their pools.
     pub addresses: u64,
 }
 
-/// How many addresses the pools of these subnets have.
+/// Returns the number of addresses in the pools of these subnets.
 pub fn pool_addresses(subnets: &[Subnet]) -> u64 {
     let mut sum: u64 = 0;
     for subnet in subnets {
@@ -41,8 +41,8 @@ pub fn pool_addresses(subnets: &[Subnet]) -> u64 {
     sum
 }
 
-/// `serving ADDRESS:PORT, subnets N, addresses N, leases N, latest change MOMENT, store PATH`, with
-/// its line feed. Without leases there is no latest change, which is a dash.
+/// Returns `serving ADDRESS:PORT, subnets N, addresses N, leases N, latest change MOMENT, store
+/// PATH`, with its line feed. If there are no leases, the latest change is a dash.
 pub fn banner_line(alloc: Global, banner: &Banner<'_>) -> Result<String, AllocError> {
     let mut line = String::new(alloc);
     line.push_str("serving ")?;
@@ -61,13 +61,13 @@ pub fn banner_line(alloc: Global, banner: &Banner<'_>) -> Result<String, AllocEr
     Ok(line)
 }
 
-// An address, a number in host order, and a port.
+// Prints an address, a number in host order, and a port.
 fn put_place(line: &mut String, address: u32, port: u16) -> Result<(), AllocError> {
     put_address(line, address)?;
     write!(line, ":{port}")
 }
 
-// The moment of the latest change, or a dash where there are no leases.
+// Prints the time of the latest change, or a dash if there are no leases.
 fn put_latest(line: &mut String, banner: &Banner<'_>) -> Result<(), AllocError> {
     if banner.leases == 0 {
         return line.push_str("-");
@@ -87,7 +87,7 @@ const GROUPS: [u64; 7] = [
     1,
 ];
 
-// A number with commas between its groups of three digits.
+// Prints a number with commas between its groups of three digits.
 fn put_grouped(line: &mut String, number: u64) -> Result<(), AllocError> {
     let mut begun = false;
     for weight in GROUPS {

@@ -17,33 +17,33 @@ use kd_rows::Rows;
 use kd_tools::exit_status;
 use std::alloc::Global;
 
-// The number of the fault that the clock is ahead, or behind.
+// The number of the fault that the clock is ahead or behind.
 const AHEAD: u8 = 101;
 
 // The number of the fault that nothing can be received.
 const UNREAD: u8 = 94;
 
-/// The socket of a server, and how far its clock may run ahead.
+/// The socket of a server, and how far the server's clock may run ahead.
 #[derive(Clone, Copy)]
 pub struct Place {
     /// The address of the socket, an IPv4 address in host order.
     pub address: u32,
     /// The UDP port of the socket.
     pub port: u16,
-    /// How many seconds the clock may run ahead; without it, any number.
+    /// How many seconds the clock may run ahead; no limit if absent.
     pub max_ahead: Option<u64>,
 }
 
-// What is found of a store.
+// What was found out about a store.
 #[derive(Drop)]
 pub(crate) enum StoreFinding {
-    // There is no path of one.
+    // No path was given.
     Unasked,
-    // The database is not there, and would be made.
+    // The database does not exist, and would be created.
     New,
-    // It is not opened.
+    // It cannot be opened.
     Trouble(StoreTrouble),
-    // It is not read.
+    // It cannot be read.
     Unread(LookFault),
     // There is no memory for its rows.
     Memory,
@@ -51,7 +51,7 @@ pub(crate) enum StoreFinding {
     Open(Seen),
 }
 
-// What is seen of the rows of a store.
+// What was found out about the rows of a store.
 #[derive(Clone, Copy)]
 pub(crate) struct Seen {
     pub(crate) count: usize,
@@ -61,7 +61,7 @@ pub(crate) struct Seen {
     pub(crate) is_behind: bool,
 }
 
-// What was found at the steps of a start.
+// What the steps of a start found.
 #[derive(Clone, Copy)]
 pub(crate) struct Found<'a> {
     pub(crate) config: &'a Result<Config, StartFault>,
@@ -70,8 +70,8 @@ pub(crate) struct Found<'a> {
     pub(crate) place: Place,
 }
 
-/// Tries each step of a start in its order, without a change to a file, says in words what is found,
-/// and the exit status: that of the first fault which the host finds, 0 where it finds none.
+/// Tries each step of a start, in order, without changing a file. Prints in words what was found,
+/// and returns the exit status: that of the first fault that the host finds, or 0 if there is none.
 pub fn check<H: Host, R: Source, O: Sink, E: Sink>(
     alloc: Global,
     host: &mut H,
@@ -142,7 +142,7 @@ fn find_rows<H: Host>(host: &mut H, path: &str, limit: Option<u64>) -> StoreFind
 }
 
 impl StoreFinding {
-    // The number of the fault that is found, if one is.
+    // Returns the number of the fault that was found, if any.
     fn number(&self) -> Option<u8>
         ensures { result ≡ finding_number self.now }
     {
@@ -159,7 +159,7 @@ impl StoreFinding {
     }
 }
 
-// The number of the fault of a configuration, if it has one.
+// Returns the number of the fault of a configuration, if it has one.
 fn number_of_config(config: &Result<Config, StartFault>) -> Option<u8>
     ensures { result ≡ config_finding config.now }
 {
@@ -169,7 +169,7 @@ fn number_of_config(config: &Result<Config, StartFault>) -> Option<u8>
     }
 }
 
-// The number of the fault that there is no socket, if there is none.
+// Returns the number of the fault for a missing socket, if there is no socket.
 fn number_of_socket(socket: Result<bool, SocketTrouble>) -> Option<u8>
     ensures { result ≡ socket_finding socket }
 {
@@ -179,7 +179,7 @@ fn number_of_socket(socket: Result<bool, SocketTrouble>) -> Option<u8>
     }
 }
 
-// The exit status of the first fault that was found, 0 where there is none.
+// Returns the exit status of the first fault that was found, or 0 if there is none.
 fn status_of_first(config: Option<u8>, store: Option<u8>, socket: Option<u8>) -> u8
     ensures { result ≡ check_status (config ∷ store ∷ socket ∷ []) }
 {

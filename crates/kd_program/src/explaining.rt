@@ -16,8 +16,8 @@ use kd_tools::replay_status;
 use kd_why::{why_line, why_text};
 use std::alloc::Global;
 
-/// Explains the datagram of a word at a moment, in whole seconds, over a table of leases, and says the
-/// exit status.
+/// Explains the datagram in an argument at a time, in whole seconds, over a table of leases, and
+/// returns the exit status.
 pub fn explain_word<R: Source, O: Sink, E: Sink>(
     alloc: Global,
     ends: &mut Ends<R, O, E>,
@@ -54,7 +54,7 @@ fn explain_datagram<R: Source, O: Sink, E: Sink>(
     }
 }
 
-// What is said of a datagram over a table.
+// Returns the explanation of a datagram over a table.
 fn text_over(alloc: Global, bytes: &[u8], table: &Table<'_>, at: u64) -> Result<Vec<u8>, ServeFault>
     ensures text { IfOk result (λ text. ExplainsEvent
         (standard_trial table.now.config.now table.now.rows.now.rows)
@@ -78,8 +78,8 @@ const STANDARD: Ports = Ports {
     client: 68,
 };
 
-/// Explains the event of a line of standard input over a table of leases, which the events of the
-/// lines before it changed in a copy, and says the exit status.
+/// Explains the event of a line of standard input over a copy of a table of leases, after the
+/// events of the lines before it have changed that copy, and returns the exit status.
 pub fn explain_line<R: Source, O: Sink, E: Sink>(
     alloc: Global,
     ends: &mut Ends<R, O, E>,

@@ -7,7 +7,7 @@ use kd_replay::{EndFailed, Link, Sink};
 use kd_rows::Row;
 use std::alloc::AllocError;
 
-/// What a command finds outside of its words and of the standard streams.
+/// What a command finds outside its arguments and the standard streams.
 pub trait Host {
     ghost use Rattle.std.specs.Prelude.{◌≡◌, ℕ, Bool, Err, IfOk, List, MatchResult, Ok, Option, Result, false, is_some};
     ghost use Rattle.std.specs.List.{All};
@@ -25,7 +25,7 @@ pub trait Host {
     ghost use Rattle.kd_rows.specs.Table.{Rise};
     ghost use Rattle.kd_rows.specs.declared.row.Row.{Row as LeaseRow};
 
-    /// A store of leases that has a path. It cannot be dropped, so that it comes back to the host.
+    /// A store of leases with a path. It cannot be dropped, so that it is returned to the host.
     type Named: Keeps;
 
     /// A store of leases in memory.
@@ -34,12 +34,12 @@ pub trait Host {
     /// Where datagrams come from.
     type Socket: Link + Drop;
 
-    /// Where a record of what comes is written.
+    /// Where a record of received datagrams is written.
     type Journal: Sink + Drop;
 
-    /// The answer to a question for the configuration of a file, with a folder of token files, and
-    /// where the host stands then. So are the others: from where the host stood, to what it
-    /// answers, to where it stands then.
+    /// The result of asking for the configuration of a file, with a folder of token files, and the
+    /// host afterwards. The relations below have the same shape: the host before, the result, the
+    /// host afterwards.
     ghost configures: { Self → Option (List ℕ) → Option (List ℕ) → Result Configuration StartFault
         → Self → Type 0 };
 
@@ -49,10 +49,10 @@ pub trait Host {
     /// A store in memory.
     ghost makes: { Self → Result Self.Unnamed StoreFault → Self → Type 0 };
 
-    /// A store of a path is taken back.
+    /// A store with a path is returned to the host.
     ghost closes: { Self → List ℕ → Self.Named → Self → Type 0 };
 
-    /// The rows of the database at a path, as they are read beside a process that has it open.
+    /// The rows of the database at a path, read while another process may have it open.
     ghost copies: { Self → List ℕ → Result (List LeaseRow) LookFault → Self → Type 0 };
 
     /// A socket.
@@ -61,25 +61,26 @@ pub trait Host {
     /// The record at a path.
     ghost records: { Self → List ℕ → Result Self.Journal EndFailed → Self → Type 0 };
 
-    /// Why the database at a path cannot be opened, or whether it is there, as it was tried.
+    /// Whether the database at a path exists, or why it cannot be opened, as a trial found.
     ghost tries: { Self → List ℕ → Result Bool StoreTrouble → Type 0 };
 
-    /// Why there is no socket at an address and a port, or whether it reaches all hosts of its link,
-    /// as it was tried.
+    /// Whether a socket at an address and a port reaches all hosts of its link, or why there is no
+    /// such socket, as a trial found.
     ghost reaches: { Self → ℕ → ℕ → Result Bool SocketTrouble → Type 0 };
 
-    /// The moment that the clock says.
+    /// The time of the clock.
     ghost tells_time: { Self → ℕ → Type 0 };
 
-    /// The line that says which program it is.
+    /// The line that says which program this is.
     ghost version: { Self → List ℕ };
 
-    /// The configuration of the file at a path, with the token files of a folder; the built-in one
-    /// without a file. The folder is read first.
+    /// Returns the configuration of the file at a path, with the token files of a folder; the
+    /// built-in one if there is no file. The folder is read first.
     ///
     /// # Errors
     ///
-    /// The first fault of reading the folder and the file, then that of the text; `Memory`.
+    /// The first fault of reading the folder and the file, then that of the text; `Memory` if
+    /// memory runs out.
     fn configuration(
         &mut self,
         file: Option<&str>,
@@ -88,23 +89,23 @@ pub trait Host {
         ensures { configures self.old (option_copied file.entry) (option_copied folder.entry)
             result self.new };
 
-    /// The store of the leases at a path, which has not failed, with its rows; a new one where there
-    /// is none.
+    /// Opens the store of the leases at a path, or a new one if there is none, and returns it with
+    /// its rows. It has not failed.
     ///
     /// # Errors
     ///
-    /// It can't be opened.
+    /// The store cannot be opened.
     fn named_store(&mut self, path: &str) -> Result<Opened<Self::Named>, StoreFault>
         ensures given { MatchResult result (λ it. opens self.old path.now (Ok it.store) self.new)
             (λ fault. opens self.old path.now (Err fault) self.new) }
         ensures works { IfOk result (λ it. is_some (Self.Named.fault it.store) ≡ false) }
         ensures read { IfOk result (λ it. AreRead Self.Named.Keeps it.store it.rows.items) };
 
-    /// A new store of leases in memory, which has not failed, with its rows.
+    /// Makes a new store of leases in memory, and returns it with its rows. It has not failed.
     ///
     /// # Errors
     ///
-    /// There is no memory for it.
+    /// Out of memory.
     fn unnamed_store(&mut self) -> Result<Opened<Self::Unnamed>, StoreFault>
         ensures given { MatchResult result (λ it. makes self.old (Ok it.store) self.new)
             (λ fault. makes self.old (Err fault) self.new) }
@@ -115,12 +116,12 @@ pub trait Host {
     fn close(&mut self, path: &str, store: Self::Named)
         ensures { closes self.old path.now store self.new };
 
-    /// The rows of the database at a path, in rising address. It is read without a lock, so another
-    /// process may have it open.
+    /// Returns the rows of the database at a path, in ascending order of address. It is read
+    /// without a lock, so another process may have it open.
     ///
     /// # Errors
     ///
-    /// It can't be read, or is no store of leases.
+    /// The database cannot be read, or is not a store of leases.
     fn copy(&mut self, path: &str) -> Result<Vec<Row>, LookFault>
         ensures given { MatchResult result
             (λ rows. copies self.old path.now (Ok rows.items) self.new)
@@ -128,31 +129,30 @@ pub trait Host {
         ensures rise { IfOk result (λ rows. Rise rows.items) }
         ensures ranges { IfOk result (λ rows. All IsInRange rows.items) };
 
-    /// A socket at an address and a port, which has not failed.
+    /// Opens a socket at an address and a port. It has not failed.
     ///
     /// # Errors
     ///
-    /// There is none.
+    /// The socket cannot be opened.
     fn socket(&mut self, listening: Listening) -> Result<Self::Socket, EndFailed>
         ensures given { binds self.old listening result self.new }
         ensures works { IfOk result (λ link. Self.Socket.has_failed link ≡ false) };
 
-    /// The record at a path, to which it is written on, and which has not failed; a new one where
-    /// there is none.
+    /// Opens the record at a path for appending, or a new one if there is none. It has not failed.
     ///
     /// # Errors
     ///
-    /// It can't be written.
+    /// The record cannot be written.
     fn journal(&mut self, path: &str) -> Result<Self::Journal, EndFailed>
         ensures given { records self.old path.now result self.new }
         ensures works { IfOk result (λ sink. Self.Journal.has_failed sink ≡ false) };
 
-    /// Why there is no configuration of these files, in words: lines, each with its line feed. The
+    /// Says in words why these files give no configuration: lines, each with its line feed. The
     /// files are tried again.
     ///
     /// # Errors
     ///
-    /// There is no memory for the words.
+    /// Out of memory.
     fn start_words(
         &self,
         file: Option<&str>,
@@ -160,32 +160,32 @@ pub trait Host {
         fault: &StartFault,
     ) -> Result<String, AllocError>;
 
-    /// Whether the database at a path is there. Nothing is made.
+    /// Reports whether the database at a path exists. Nothing is created.
     ///
     /// # Errors
     ///
-    /// It cannot be opened.
+    /// The database cannot be opened.
     fn try_database(&self, path: &str) -> Result<bool, StoreTrouble>
         ensures { tries self.now path.now result };
 
-    /// How many bytes of the log of the database at a path a start leaves out because a frame there
-    /// was damaged; nothing where it leaves none out, or where that can't be said.
+    /// Returns how many bytes of the log of the database at a path a start leaves out because a
+    /// frame there was damaged; `None` if it leaves out none, or if that cannot be determined.
     fn left_out(&self, path: &str) -> Option<usize>;
 
-    /// Whether a socket at an address, a number in host order, and a port could send to all hosts of
-    /// its link. Nothing is sent.
+    /// Reports whether a socket at an address, a number in host order, and a port could send to all
+    /// hosts of its link. Nothing is sent.
     ///
     /// # Errors
     ///
-    /// There is no such socket.
+    /// The socket cannot be opened.
     fn try_socket(&self, address: u32, port: u16) -> Result<bool, SocketTrouble>
         ensures { reaches self.now address port result };
 
-    /// The moment, in whole seconds, as the clock says it.
+    /// Returns the time of the clock, in whole seconds.
     fn clock(&self) -> u64
         ensures { tells_time self.now result };
 
-    /// The name of the program, its version and its commit, as a line with its line feed.
+    /// Returns the name of the program, its version and its commit, as a line with its line feed.
     fn version(&self) -> &str
         ensures { result.now ≡ version self.now };
 }

@@ -18,13 +18,13 @@ use kd_rows::Row;
 use std::alloc::Global;
 use std::fmt;
 
-// The most bytes of an input that is imported: 256 MiB.
+// The largest input in bytes that is imported: 256 MiB.
 const MOST_BYTES: u32 = 268_435_456;
 
-// The number of the fault that a store has leases already.
+// The number of the fault that a store already has leases.
 const NOT_EMPTY: u8 = 83;
 
-// That a store has leases already.
+// The fault that a store already has leases.
 struct NotEmpty;
 
 impl fmt::Display for NotEmpty {
@@ -34,7 +34,7 @@ impl fmt::Display for NotEmpty {
 }
 
 /// Puts the table that the lines of leases on standard input stand for into the store at a path,
-/// which has no leases, in one commit; and says the exit status.
+/// which must have no leases, in one commit; and returns the exit status.
 pub fn import<H: Host, R: Source, O: Sink, E: Sink>(
     alloc: Global,
     host: &mut H,
@@ -55,7 +55,7 @@ pub fn import<H: Host, R: Source, O: Sink, E: Sink>(
     }
 }
 
-// The same into a store with these rows.
+// Does the same for a store with these rows.
 fn import_into<R: Source, O: Sink, E: Sink, S: Keeps>(
     alloc: Global,
     ends: &mut Ends<R, O, E>,

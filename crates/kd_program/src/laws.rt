@@ -1,4 +1,4 @@
-//! What is true of every command, whatever its host is: each law is the contract of a function that
+//! What holds of every command, whatever its host is. Each law is the contract of a function that
 //! does nothing but name the laws it rests on.
 ghost use Rattle.kd_program.specs.Openings.{CommandsAreOpenings};
 
@@ -6,9 +6,8 @@ use crate::host::Host;
 use kd_keeps::Keeps;
 
 /// What a command does with a server over a store is one opening of that store: calls of
-/// `Server::handle` or `Server::handle_all`, one after another, whatever it reads, receives and
-/// writes. So
-/// `openings_are_histories` of `kd_server` speaks of it.
+/// `Server::handle` or `Server::handle_all`, one after another, whatever the command reads,
+/// receives and writes. So `openings_are_histories` of `kd_server` applies to it.
 pub fn commands_are_openings<H: Host, S: Keeps>()
     ensures { CommandsAreOpenings H.Host H.Socket.Link H.Journal.Sink S.Keeps }
 {

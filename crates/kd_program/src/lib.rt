@@ -1,8 +1,8 @@
-//! The program: what each command prints, where, and its exit status, whatever its host is.
+//! The program: what each command prints and where, and its exit status, whatever its host is.
 //!
-//! What this layer promises to the one above: `run` carries out the words of a command line over a
-//! host (`Host`), which has files, stores of leases, a socket and a clock, and over the three
-//! standard streams.
+//! What this layer promises to the one above: `run` carries out the arguments of a command line
+//! over a host (`Host`), which has files, stores of leases, a socket and a clock, and over the
+//! three standard streams.
 #![tactic(auto)]
 
 mod banner;

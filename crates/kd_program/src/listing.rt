@@ -16,7 +16,7 @@ use kd_rows::Rows;
 use kd_server::{lease_lines, leases_at};
 use std::alloc::Global;
 
-// The first moment that is too large.
+// The smallest time that is too large.
 const MOMENTS: u64 = 1 << 40;
 
 /// Rows of leases under a configuration.
@@ -30,26 +30,26 @@ pub struct Table<'a> {
     pub failed: bool,
 }
 
-/// What is printed of a table of leases at a moment, in whole seconds.
+/// What to print of a table of leases at a time, in whole seconds.
 #[derive(Drop)]
 pub enum View {
     /// A listing of it.
     Listing {
         /// What is listed.
         listing: Listing,
-        /// The moment.
+        /// The time.
         at: u64,
     },
-    /// What a datagram gets, and why.
+    /// What answer a datagram gets, and why.
     Why {
-        /// The datagram's bytes, as a word gives them.
+        /// The datagram's bytes, as in the argument.
         hex: String,
-        /// The moment.
+        /// The time.
         at: u64,
     },
 }
 
-/// Prints a view of a table, and says the exit status.
+/// Prints a view of a table, and returns the exit status.
 pub fn print_view<R: Source, O: Sink, E: Sink>(
     alloc: Global,
     ends: &mut Ends<R, O, E>,
@@ -66,7 +66,7 @@ pub fn print_view<R: Source, O: Sink, E: Sink>(
     }
 }
 
-// Prints what a listing says of a table at a moment, and says the exit status.
+// Prints a listing of a table at a time, and returns the exit status.
 fn list<R: Source, O: Sink, E: Sink>(
     alloc: Global,
     ends: &mut Ends<R, O, E>,
@@ -84,7 +84,7 @@ fn list<R: Source, O: Sink, E: Sink>(
     }
 }
 
-// What a listing says of a table at a moment.
+// Returns the text of a listing of a table at a time.
 fn text_of(
     alloc: Global,
     listing: Listing,
@@ -105,7 +105,7 @@ fn text_of(
     }
 }
 
-// How full the pools are at a moment.
+// Returns how full the pools are at a time.
 fn uses_at(alloc: Global, table: &Table<'_>, at: u64) -> Result<Vec<SubnetUse>, ServeFault>
     ensures uses { IfOk result (λ list. list.items
         ≡ subnet_uses table.now.config.now table.now.rows.now.rows

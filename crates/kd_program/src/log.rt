@@ -10,7 +10,7 @@ use kd_tools::replay_status;
 use kd_wire::Bytes;
 use std::alloc::Global;
 
-/// Prints the replies of the log on standard input that are asked for, and says the exit status.
+/// Prints the requested replies of the log on standard input, and returns the exit status.
 pub fn print_events<R: Source, O: Sink, E: Sink>(
     alloc: Global,
     ends: &mut Ends<R, O, E>,
@@ -31,7 +31,7 @@ pub fn print_events<R: Source, O: Sink, E: Sink>(
     }
 }
 
-/// The replies of a hardware address and of an address, where these are given.
+/// Selects the replies to a hardware address and with an address, if these are given.
 pub fn filter_of(mac: Option<Vec<u8>>, address: Option<u32>) -> Filter
     ensures { result ≡ record { mac = option_map vec_items mac; address = address } }
 {

@@ -18,7 +18,7 @@ use kd_rows::{Row, Rows};
 use std::alloc::Global;
 
 /// Prints a view of the database at a path, which another process may have open, under the
-/// configuration of these files, and says the exit status.
+/// configuration of these files, and returns the exit status.
 pub fn look<H: Host, R: Source, O: Sink, E: Sink>(
     alloc: Global,
     host: &mut H,
@@ -38,7 +38,7 @@ pub fn look<H: Host, R: Source, O: Sink, E: Sink>(
     }
 }
 
-// The same under a configuration.
+// Does the same under a configuration.
 fn look_at<H: Host, R: Source, O: Sink, E: Sink>(
     alloc: Global,
     host: &mut H,

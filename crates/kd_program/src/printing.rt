@@ -16,7 +16,7 @@ const MEMORY_FAULT: &[u8] = b"fault 91 Memory\n";
 
 const WRITE_FAULT: &[u8] = b"fault 95 Write\n";
 
-/// Writes to standard error. That it fails changes nothing: there is nobody to tell.
+/// Writes to standard error. A failure is ignored, because there is nowhere to report it.
 pub fn tell<E: Sink>(faults: &mut E, text: &[u8])
     ensures { Puts text.now (written_to E.Sink faults.old) (written_to E.Sink faults.new) }
 {
@@ -26,8 +26,8 @@ pub fn tell<E: Sink>(faults: &mut E, text: &[u8])
     }
 }
 
-/// Writes to standard output, and says the exit status: where that fails, `fault 95 Write` and its
-/// status.
+/// Writes to standard output, and returns the exit status. If writing fails, reports `fault 95
+/// Write` and returns its status.
 pub fn show<O: Sink, E: Sink>(output: &mut O, faults: &mut E, text: &[u8], status: u8) -> u8
     ensures { ShowsOrBreaks text.now status result
         (written_to O.Sink output.old) (written_to O.Sink output.new)
@@ -42,7 +42,7 @@ pub fn show<O: Sink, E: Sink>(output: &mut O, faults: &mut E, text: &[u8], statu
     }
 }
 
-/// Writes what an order prints, its text or the line of its fault, and says the exit status.
+/// Writes what an order prints, its text or the line of its fault, and returns the exit status.
 pub fn print<R: Source, O: Sink, E: Sink>(ends: &mut Ends<R, O, E>, printed: &Printed) -> u8
     ensures { Prints printed.now result
         (streams R.Source O.Sink E.Sink ends.old) (streams R.Source O.Sink E.Sink ends.new) }
@@ -56,8 +56,8 @@ pub fn print<R: Source, O: Sink, E: Sink>(ends: &mut Ends<R, O, E>, printed: &Pr
     printed.status
 }
 
-/// Writes the line of a fault with a number, and says its exit status; want of memory for the line
-/// is a fault too.
+/// Writes the line of a fault with a number, and returns its exit status. If there is no memory for
+/// the line, that is the fault instead.
 pub fn refuse<E: Sink, F: Display>(alloc: Global, faults: &mut E, number: u8, fault: &F) -> u8
     ensures { TellsWith number (status_of number) result
         (written_to E.Sink faults.old) (written_to E.Sink faults.new) }
@@ -65,7 +65,7 @@ pub fn refuse<E: Sink, F: Display>(alloc: Global, faults: &mut E, number: u8, fa
     refuse_as(alloc, faults, number, fault, exit_status(number))
 }
 
-/// The same with another exit status.
+/// Does the same with another exit status.
 pub fn refuse_as<E: Sink, F: Display>(
     alloc: Global,
     faults: &mut E,
@@ -85,7 +85,7 @@ pub fn refuse_as<E: Sink, F: Display>(
     }
 }
 
-/// Writes the line of want of memory, and says its exit status.
+/// Writes the line for out of memory, and returns its exit status.
 pub fn refuse_memory<E: Sink>(faults: &mut E) -> u8
     ensures { (result ≡ 1) × Puts memory_line
         (written_to E.Sink faults.old) (written_to E.Sink faults.new) }
@@ -94,7 +94,7 @@ pub fn refuse_memory<E: Sink>(faults: &mut E) -> u8
     exit_status(91)
 }
 
-/// Writes why there are no words to carry out, and says the exit status.
+/// Writes why there are no arguments to carry out, and returns the exit status.
 pub fn refuse_words<E: Sink>(alloc: Global, faults: &mut E, fault: LineFault) -> u8
     ensures { TellsWith (line_fault_number fault) (status_of (line_fault_number fault)) result
         (written_to E.Sink faults.old) (written_to E.Sink faults.new) }
@@ -110,7 +110,7 @@ fn line_of_fault<F: Display>(alloc: Global, number: u8, fault: &F) -> Result<Str
     named_line(alloc, number, name.as_str())
 }
 
-// The line of a fault with a number and a name.
+// Returns the line of a fault with a number and a name.
 fn named_line(alloc: Global, number: u8, name: &str) -> Result<String, AllocError>
     ensures { IfOk result (λ line. string_bytes line
         ≡ codes "fault " ++ decimal number ++ codes " " ++ name.now ++ line_feed) }

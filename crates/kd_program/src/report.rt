@@ -10,7 +10,7 @@ use std::alloc::{AllocError, Global};
 use std::fmt::Write;
 use std::net::Ipv4Addr;
 
-// What was found at the steps of a start, in words: a few lines.
+// Says in words what the steps of a start found: a few lines.
 pub(crate) fn report_of<H: Host>(
     alloc: Global,
     host: &H,
@@ -27,7 +27,7 @@ pub(crate) fn report_of<H: Host>(
     Ok(text)
 }
 
-// What was found of a configuration.
+// Prints what was found out about a configuration.
 fn put_config<H: Host>(
     text: &mut String,
     host: &H,
@@ -49,7 +49,7 @@ fn put_config<H: Host>(
     }
 }
 
-// A path, where one is given.
+// Returns a path, if one is given.
 fn text_of(path: &Option<String>) -> Option<&str> {
     match path {
         Some(path) => Some(path.as_str()),
@@ -57,7 +57,7 @@ fn text_of(path: &Option<String>) -> Option<&str> {
     }
 }
 
-// What was found of a store.
+// Prints what was found out about a store.
 fn put_store(text: &mut String, path: &str, store: &StoreFinding) -> Result<(), AllocError> {
     text.push_str(path)?;
     match store {
@@ -88,7 +88,7 @@ fn put_store(text: &mut String, path: &str, store: &StoreFinding) -> Result<(), 
     text.push_str("\n")
 }
 
-// What was found of the log of a store that was read, if it is damaged.
+// Prints what was found out about the log of a store that was read, if the log is damaged.
 fn put_log<H: Host>(
     text: &mut String,
     host: &H,
@@ -107,7 +107,7 @@ fn put_log<H: Host>(
     }
 }
 
-// What was seen of the rows of a store.
+// Prints what was found out about the rows of a store.
 fn put_seen(text: &mut String, seen: Seen) -> Result<(), AllocError> {
     let Seen {
         count,
@@ -129,7 +129,7 @@ fn put_seen(text: &mut String, seen: Seen) -> Result<(), AllocError> {
     Ok(())
 }
 
-// What was found of a socket.
+// Prints what was found out about a socket.
 fn put_socket(
     text: &mut String,
     place: Place,

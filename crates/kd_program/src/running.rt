@@ -16,8 +16,8 @@ use kd_replay::{Sink, Source};
 use kd_tools::answer;
 use std::alloc::Global;
 
-/// Carries out the words after the program's name, and says the exit status. What is refused has
-/// one line on standard error, `fault NUMBER NAME` with its operands; where standard output fails
+/// Carries out the arguments after the program's name, and returns the exit status. Each refusal
+/// has one line on standard error, `fault NUMBER NAME` with its operands; if standard output fails,
 /// that is `fault 95 Write`.
 pub fn run<H: Host, R: Source, O: Sink, E: Sink>(
     alloc: Global,
@@ -121,8 +121,8 @@ fn carry_out_order<H: Host, R: Source, O: Sink, E: Sink>(
     }
 }
 
-// What a replay is opened for: to handle the events of standard input, or to explain that of a
-// line.
+// Returns what a replay is opened for: to handle the events of standard input, or to explain the
+// event of a line.
 fn work_of_replay(why: Option<u64>) -> Work
     ensures { result ≡ replay_work why }
 {
@@ -132,7 +132,7 @@ fn work_of_replay(why: Option<u64>) -> Work
     }
 }
 
-// Prints a view of the store of these files, which another process may have open where `live` is.
+// Prints a view of the store of these files, which another process may have open if `live` is true.
 fn view_store<H: Host, R: Source, O: Sink, E: Sink>(
     alloc: Global,
     host: &mut H,

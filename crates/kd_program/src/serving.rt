@@ -27,13 +27,13 @@ use std::alloc::{AllocError, Global};
 /// How datagrams of a socket are served.
 #[derive(Drop)]
 pub struct Service {
-    /// Where the socket is, and where replies go.
+    /// The address of the socket, and where replies go.
     pub listening: Listening,
-    /// How many datagrams are served.
+    /// The number of datagrams to serve.
     pub count: u64,
-    /// The path of the file to which what comes is appended, where there is one.
+    /// The path of the file to which received datagrams are appended, if there is one.
     pub journal: Option<String>,
-    /// By how many seconds the clock may run ahead; without it, by any number.
+    /// How many seconds the clock may run ahead; no limit if absent.
     pub max_ahead: Option<u64>,
 }
 
@@ -50,24 +50,25 @@ pub enum Work {
     Serve(Service),
 }
 
-// A store as the operator names it.
+// A store, as the operator names it.
 #[derive(Clone, Copy)]
 struct Place<'a> {
     name: &'a str,
-    // Whether it is in a file, where a commit takes time.
+    // Whether the store is in a file, so that a commit takes time.
     is_file: bool,
 }
 
-// How many datagrams share one commit: 32 where it takes time, since a datagram that waits then can
-// wait no longer for it; else 1, and 1 too where a reply goes to the sender of the last datagram.
+// Returns how many datagrams may share one commit: 32 if a commit takes time, so that waiting
+// datagrams need not wait for one commit each; otherwise 1. It is also 1 if replies go to the
+// sender, which is known only for the last datagram.
 fn batch_size(is_file: bool, mirror: bool) -> usize
     ensures { 0 < result }
 {
     if is_file && !mirror { 32 } else { 1 }
 }
 
-/// Does this work as a server that goes by the configuration of these files and keeps its leases in
-/// the store of a path, or in memory without one; and says the exit status.
+/// Does this work as a server with the configuration of these files, which keeps its leases in the
+/// store at a path, or in memory if there is none; and returns the exit status.
 pub fn start_server<H: Host, R: Source, O: Sink, E: Sink>(
     alloc: Global,
     host: &mut H,
@@ -115,7 +116,7 @@ pub fn start_server<H: Host, R: Source, O: Sink, E: Sink>(
     }
 }
 
-/// The configuration that the host gives for these files.
+/// Returns the configuration that the host gives for these files.
 pub fn read_configuration<H: Host>(host: &mut H, files: &Files) -> Result<Config, StartFault>
     ensures { H.Host.configures host.old (option_map string_bytes files.now.config)
         (option_map string_bytes files.now.token_dir) result host.new }
@@ -125,7 +126,7 @@ pub fn read_configuration<H: Host>(host: &mut H, files: &Files) -> Result<Config
     host.configuration(file, folder)
 }
 
-// A path, where one is given.
+// Returns a path, if one is given.
 fn text_of(path: &Option<String>) -> Option<&str>
     ensures { option_copied result ≡ option_map string_bytes path.now }
 {
@@ -135,7 +136,7 @@ fn text_of(path: &Option<String>) -> Option<&str>
     }
 }
 
-/// Says why there is no configuration, and the exit status.
+/// Reports why there is no configuration, and returns the exit status.
 pub fn refuse_start<E: Sink>(alloc: Global, faults: &mut E, fault: &StartFault) -> u8
     ensures { TellsWith (start_fault_number fault.now) (status_of (start_fault_number fault.now))
         result (written_to E.Sink faults.old) (written_to E.Sink faults.new) }
@@ -143,7 +144,7 @@ pub fn refuse_start<E: Sink>(alloc: Global, faults: &mut E, fault: &StartFault) 
     refuse(alloc, faults, fault.number(), fault)
 }
 
-/// Says why there is no store, or why it has failed, and the exit status.
+/// Reports why there is no store, or why it has failed, and returns the exit status.
 pub fn refuse_store<E: Sink>(alloc: Global, faults: &mut E, fault: &StoreFault) -> u8
     ensures { TellsWith (store_fault_number fault.now) (status_of (store_fault_number fault.now))
         result (written_to E.Sink faults.old) (written_to E.Sink faults.new) }
@@ -151,7 +152,7 @@ pub fn refuse_store<E: Sink>(alloc: Global, faults: &mut E, fault: &StoreFault) 
     refuse(alloc, faults, fault.number(), fault)
 }
 
-// Does this work as a server of a configuration over a store; the store comes back.
+// Does this work as a server with a configuration over a store. The store is returned.
 fn run_over_store<H: Host, R: Source, O: Sink, E: Sink, S: Keeps>(
     alloc: Global,
     host: &mut H,
@@ -221,7 +222,7 @@ fn table_of<S: Keeps>(server: &Server<S>) -> Table<'_>
     }
 }
 
-// The ports of a server: those of the words, and else the standard's.
+// Returns the ports of a server: those of the arguments, or the standard ones.
 fn ports_of(work: &Work) -> Ports
     ensures { result ≡ ports_asked work.now }
 {
@@ -260,7 +261,8 @@ fn replay_input<R: Source, O: Sink, E: Sink, S: Keeps>(
     }
 }
 
-// Serves so many datagrams of a socket, and says on standard error what it does before it begins.
+// Serves datagrams of a socket, up to `count`. Reports on standard error what it does before it
+// begins.
 fn serve_link<H: Host, R: Source, O: Sink, E: Sink, S: Keeps>(
     alloc: Global,
     host: &mut H,
@@ -312,7 +314,7 @@ fn serve_link<H: Host, R: Source, O: Sink, E: Sink, S: Keeps>(
     }
 }
 
-// What a server says of itself before it serves.
+// Returns what a server reports about itself before it serves.
 fn line_of<S: Keeps>(
     alloc: Global,
     server: &Server<S>,
@@ -334,7 +336,7 @@ fn line_of<S: Keeps>(
     banner_line(alloc, &banner)
 }
 
-// The record at a path, where there is one.
+// Opens the record at a path, if one is given.
 fn journal_of<H: Host>(host: &mut H, path: &Option<String>) -> Result<Option<H::Journal>, EndFailed>
     ensures given { GivesJournal H.Host H.Journal.Sink host.old (option_map string_bytes path.now)
         result host.new }
