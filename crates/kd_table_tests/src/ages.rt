@@ -3,7 +3,7 @@ use kd_rows::{Row, Rows, State};
 use std::alloc::{AllocError, Global};
 use std::test::Fail;
 
-// The addresses of a client's rows in a state from one address to another, the newest first.
+// Returns the addresses of a client's rows in a state, from one address to another, newest first.
 fn by_age(
     alloc: Global,
     rows: &Rows,
@@ -26,7 +26,7 @@ fn by_age(
     Ok(found)
 }
 
-// How many rows of a client in a state stand from one address to another.
+// Returns the number of rows of a client in a state, from one address to another.
 fn count_of(rows: &Rows, client: &[u8], state: State, first: u32, last: u32) -> usize {
     let mut count = 0usize;
     for i in 0..rows.len() {
@@ -43,7 +43,8 @@ fn count_of(rows: &Rows, client: &[u8], state: State, first: u32, last: u32) -> 
     count
 }
 
-// Whether these are the addresses of the bound rows of a client from one address on, the newest first.
+// Reports whether these are the addresses of a client's bound rows from one address on, newest
+// first.
 fn are_newest(
     alloc: Global,
     rows: &Rows,
@@ -75,8 +76,8 @@ fn cuts(alloc: Global) -> Result<Vec<u32>, AllocError> {
     Ok(cuts)
 }
 
-// Rows of five clients in all four states, set in mixed order and some of them set again, in a table
-// that is cut at three addresses.
+// Makes rows of five clients in all four states, set in mixed order and some of them set again, in
+// a table that is cut at three addresses.
 fn mixed(alloc: Global) -> Result<Rows, Fault> {
     let cuts = cuts(alloc)?;
     let mut rows = Rows::with_cuts(Vec::new(alloc), cuts)?;
@@ -96,7 +97,8 @@ fn mixed(alloc: Global) -> Result<Rows, Fault> {
     Ok(rows)
 }
 
-// Whether each address but the first has a row that is no newer than that of the one before.
+// Reports whether each address except the first has a row that is no newer than that of the
+// previous one.
 fn fall_in_age(rows: &Rows, addresses: &[u32]) -> bool {
     for i in 1..addresses.len() {
         match (rows.get(addresses[i - 1]), rows.get(addresses[i])) {

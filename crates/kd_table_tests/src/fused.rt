@@ -9,12 +9,11 @@ use kd_wire::Bytes;
 use std::alloc::{AllocError, Global};
 use std::marker::Model;
 
-/// A store in memory that fails once its fuse has burnt down, for tests of what stands upon a
-/// store.
+/// A store in memory that fails after a number of calls, for tests of what is built on a store.
 #[derive(Drop)]
 pub struct Fused {
     rows: Rows,
-    // How many calls it answers before one fails.
+    // How many more calls succeed before one fails.
     calls: u64,
     fault: Option<StoreFault>,
     alloc: Global,
@@ -29,11 +28,11 @@ impl Model for Fused {
 }
 
 impl Fused {
-    /// An empty store that answers so many calls and fails at the next.
+    /// Makes an empty store on which `calls` calls succeed and the next fails.
     ///
     /// # Errors
     ///
-    /// There is no memory.
+    /// Out of memory.
     pub fn new(alloc: Global, calls: u64) -> Result<Fused, AllocError>
         ensures { IfOk result (λ s. s ≡ record { table = []; fault = None }) }
     {
@@ -45,7 +44,7 @@ impl Fused {
         })
     }
 
-    // One call fewer is left, or the fuse has burnt down.
+    // Counts one call down, or fails if none is left.
     fn burn(&mut self) -> Result<(), StoreFault>
         ensures { self.new ≡ self.old }
     {

@@ -1,9 +1,9 @@
 //! Tests of the table of leases by values: what is found in it, by address and by client, and what
-//! stands after a refused request for memory; and a store in memory that fails when it is told to
-//! (`Fused`), for tests of what stands upon a store.
+//! it contains after a refused memory request; and a store in memory that fails on demand
+//! (`Fused`), for tests of what is built on a store.
 //!
-//! They are a crate of their own since a crate is proved once more with its tests, and stand beside
-//! `kd_tests` since they need the table's crates alone.
+//! They are a separate crate because a crate is proved again together with its tests, and are
+//! separate from `kd_tests` because they need only the table's crates.
 #![tactic(auto)]
 
 #[cfg(test)]

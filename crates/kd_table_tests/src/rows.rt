@@ -3,12 +3,12 @@ use kd_wire::Bytes;
 use std::alloc::{AllocError, Global};
 use std::test::Fail;
 
-// Why a call gives nothing.
+// Why a call returns nothing.
 #[derive(Clone, Copy, Debug, PartialEq, Eq)]
 pub(crate) enum Fault {
-    // There is no memory.
+    // Out of memory.
     Memory,
-    // The rows may not stand in a table.
+    // The rows cannot be a table.
     Rows,
 }
 
@@ -67,7 +67,7 @@ pub(crate) fn set_row(rows: &mut Rows, row: Row) -> Result<(), Fault> {
     Ok(())
 }
 
-// Leases of three clients, one of them without a name; the third was set last but one.
+// Leases of three clients, one of which has an empty name; the third lease was set last.
 pub(crate) const LEASES: [Lease; 5] = [
     (0, b"a", 5, 5),
     (10, b"b", 7, 100),
@@ -76,7 +76,7 @@ pub(crate) const LEASES: [Lease; 5] = [
     (0xffff_ffff, b"a", 8, 60),
 ];
 
-// Lists of leases, and whether they are a table.
+// Lists of leases, and whether each is a table.
 const LISTS: [(&[Lease], bool); 9] = [
     (&[], true),
     (&LEASES, true),
@@ -137,7 +137,7 @@ fn a_row_is_found_by_its_address(rt: HostRuntime) -> Result<(), Fail> {
     Ok(())
 }
 
-// A client, a number, and the address with that number among the client's.
+// A client, an index, and the address at that index among the client's.
 const CLIENTS: [(&[u8], usize, Option<u32>); 8] = [
     (b"a", 0, Some(0)),
     (b"a", 1, Some(11)),
@@ -149,7 +149,7 @@ const CLIENTS: [(&[u8], usize, Option<u32>); 8] = [
     (b"c", 0, None),
 ];
 
-// A client, the ends of a range, and the least address in it among the client's.
+// A client, the ends of a range, and the client's least address in it.
 const NEXT: [(&[u8], u32, u64, Option<u32>); 10] = [
     (b"a", 0, 0xffff_ffff, Some(0)),
     (b"a", 1, 10, None),
@@ -200,7 +200,7 @@ fn the_index_follows_a_row_to_another_client(rt: HostRuntime) -> Result<(), Fail
     Ok(())
 }
 
-// A lease, and whether to set it would change nothing.
+// A lease, and whether setting it would change nothing.
 const SAME: [(Lease, bool); 5] = [
     ((10, b"b", 7, 100), true),
     ((12, b"b", 7, 100), false),
@@ -224,8 +224,8 @@ fn a_row_that_is_there_changes_nothing(rt: HostRuntime) -> Result<(), Fail> {
 // The names of ten clients.
 const TEN: [&[u8]; 10] = [b"0", b"1", b"2", b"3", b"4", b"5", b"6", b"7", b"8", b"9"];
 
-// A table of a thousand addresses, set in mixed order; the client of each is the one of its last
-// digit.
+// Makes a table of a thousand addresses, set in mixed order. The client of each has the name of the
+// address's last digit.
 fn thousand(alloc: Global) -> Result<Rows, Fault> {
     let mut rows = table(alloc, &[])?;
     for i in 0..1000u32 {
@@ -237,7 +237,7 @@ fn thousand(alloc: Global) -> Result<Rows, Fault> {
     Ok(rows)
 }
 
-// Every row and every client's rows stand where they belong.
+// Reports whether every row and every client's rows are in their positions.
 fn are_in_order(rows: &Rows) -> bool {
     for i in 0..1000u32 {
         let client = TEN[(i % 10) as usize];
@@ -258,7 +258,7 @@ fn rows_set_in_mixed_order_stand_in_order(rt: HostRuntime) -> Result<(), Fail> {
     Ok(())
 }
 
-// The ends of a range, a moment, and the least address in the range whose row has ended by then.
+// The ends of a range, a time, and the least address in the range whose row has ended by then.
 const ENDED: [(u32, u32, u64, Option<u32>); 10] = [
     (0, 0xffff_ffff, 3, None),
     (0, 0xffff_ffff, 4, Some(13)),
@@ -284,7 +284,7 @@ fn a_row_that_has_ended_is_found(rt: HostRuntime) -> Result<(), Fail> {
     Ok(())
 }
 
-// The same, where each row is looked at.
+// Returns the same, by looking at each row.
 fn first_ended(rows: &Rows, first: u32, last: u32, moment: u64) -> Option<u32> {
     for i in 0..rows.len() {
         if let Some(row) = rows.at(i) {
@@ -312,16 +312,16 @@ fn a_row_that_has_ended_is_found_among_those_renewed(rt: HostRuntime) -> Result<
     Ok(())
 }
 
-// Forty clients have the first bytes of these for a name, from none to all of them.
+// Forty clients have prefixes of this as their names, from the empty one to the whole.
 const NAMES: &[u8] = b"0123456789abcdefghijklmnopqrstuvwxyzABC";
 
-// The name of a client with a number.
+// Returns the name of the client with a number.
 pub(crate) fn name(number: u32) -> &'static [u8] {
     NAMES.get(..(number % 40) as usize).unwrap_or(NAMES)
 }
 
-// A table of 5,000 addresses of forty clients, set in mixed order, a thousand of them once more for
-// another client.
+// Makes a table of 5,000 addresses of forty clients, set in mixed order, a thousand of them set
+// again for another client.
 fn five_thousand(alloc: Global) -> Result<Rows, Fault> {
     let mut rows = table(alloc, &[])?;
     for i in 0..6000u32 {
@@ -331,7 +331,7 @@ fn five_thousand(alloc: Global) -> Result<Rows, Fault> {
     Ok(rows)
 }
 
-// The least address of a client in a range, where each row is looked at.
+// Returns the least address of a client in a range, by looking at each row.
 fn first_of(rows: &Rows, client: &[u8], first: u32, last: u64) -> Option<u32> {
     for i in 0..rows.len() {
         if let Some(row) = rows.at(i) {
@@ -382,15 +382,15 @@ fn states_have_numbers(rt: HostRuntime) -> Result<(), Fail> {
     Ok(())
 }
 
-// A table of one row, and one more row set in it: what is read of it.
+// Makes a table of one row, sets one more row in it, and returns what is read from it.
 fn two(alloc: Global) -> Result<(usize, Option<u32>), Fault> {
     let mut rows = table(alloc, &[(10, b"A", 1, 2)])?;
     set(alloc, &mut rows, (11, b"B", 1, 2))?;
     Ok((rows.len(), rows.of_client(b"B", 0)))
 }
 
-// With a refused request for memory the answer is want of it; the same calls made again give what
-// they give with ample memory.
+// If a memory request is refused, the call reports it; the same calls repeated give the same as
+// with enough memory.
 #[test]
 fn want_of_memory_is_answered_as_such(rt: HostRuntime) -> Result<(), Fail> {
     match two(rt.alloc()) {

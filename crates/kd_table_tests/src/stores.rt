@@ -5,7 +5,7 @@ use kd_wire::Bytes;
 use std::alloc::{AllocError, Global};
 use std::test::Fail;
 
-// A lease of an address, which is in range.
+// Makes a lease of an address that is in range.
 fn lease(alloc: Global, address: u32) -> Result<Row, AllocError> {
     Ok(Row {
         address,
@@ -16,8 +16,8 @@ fn lease(alloc: Global, address: u32) -> Result<Row, AllocError> {
     })
 }
 
-// What the third call of a store with a fuse for two answers: a row is put, the rows are read, and
-// another is put.
+// Returns the result of the third call of a store on which two succeed: a row is put, the rows are
+// read, and another row is put.
 fn third(alloc: Global, store: &mut Fused) -> Result<Result<(), StoreFault>, Fail> {
     let first = lease(alloc, 10)?;
     let second = lease(alloc, 11)?;

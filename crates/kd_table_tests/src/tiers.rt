@@ -10,17 +10,17 @@ use std::test::Fail;
 // How many rows there are, of forty clients.
 const COUNT: u32 = 10_000;
 
-// The address of the row with a number: each ninth address has none.
+// Returns the address of the row with a number. Each ninth address has none.
 fn place_of(number: u32) -> u32 {
     number.wrapping_add(number / 8)
 }
 
-// The moment at which it ends.
+// Returns the time at which it ends.
 fn end_of(number: u32) -> u64 {
     1000 + u64::from(number.wrapping_mul(7919) % 5000)
 }
 
-// The table, whose rows are set in mixed order.
+// Makes the table, with rows set in mixed order.
 fn grown(alloc: Global) -> Result<Rows, Fault> {
     let mut rows = table(alloc, &[])?;
     for i in 0..COUNT {
@@ -31,7 +31,7 @@ fn grown(alloc: Global) -> Result<Rows, Fault> {
     Ok(rows)
 }
 
-// A row is that with a number.
+// Reports whether a row is the one with a number.
 fn is_row(row: Option<&Row>, number: u32) -> bool {
     match row {
         Some(row) => {
@@ -43,7 +43,8 @@ fn is_row(row: Option<&Row>, number: u32) -> bool {
     }
 }
 
-// Every row is found by its index, by its address, and by its place among those of its client.
+// Reports whether every row is found by its index, by its address, and by its position among those
+// of its client.
 fn are_found(rows: &Rows) -> bool {
     for number in 0..COUNT {
         let place = place_of(number);
@@ -57,7 +58,8 @@ fn are_found(rows: &Rows) -> bool {
     rows.len() == COUNT as usize && rows.of_client(name(0), (COUNT / 40) as usize) == None
 }
 
-// The least address in a range of the row of a client, by its number, that ends by a moment.
+// Returns the least address in a range of a row of a client, given by its number, that ends by a
+// time.
 fn least(client: Option<u32>, first: u32, last: u32, moment: u64) -> Option<u32> {
     for number in 0..COUNT {
         let place = place_of(number);
@@ -82,7 +84,8 @@ fn least_gap(first: u32, last: u32) -> Option<u32> {
     None
 }
 
-// In a range, rows of clients, rows that have ended and gaps are found as the numbers say.
+// Reports whether rows of clients, rows that have ended and gaps in a range are found as the
+// numbers say.
 fn is_searched(rows: &Rows, first: u32, last: u32) -> bool
     requires { first ≤ last }
 {

@@ -13,13 +13,14 @@ struct Place {
     is_withheld: bool,
 }
 
-// How many addresses a large list has.
+// The number of addresses in a large list.
 const MANY: u32 = 500_000;
 
-// How many a small one has.
+// The number in a small one.
 const FEW: u32 = 1500;
 
-// Whether an address has a row at first: of the lower ones all but each ninth, then each hundredth.
+// Reports whether an address has a row at first: of the lower ones all except each ninth, then each
+// hundredth.
 fn has_row(address: u32) -> bool {
     if address < 4500 {
         address % 9 != 8
@@ -28,8 +29,8 @@ fn has_row(address: u32) -> bool {
     }
 }
 
-// Whether an address is withheld: the first gaps among the rows, two hundred addresses one after
-// another, and single ones with and without rows, also beyond the last row.
+// Reports whether an address is withheld: the first gaps among the rows, two hundred addresses in a
+// row, and single ones with and without rows, some of them after the last row.
 fn is_withheld(address: u32) -> bool {
     (address < 200 && address % 9 == 8)
         || (4400 <= address && address < 4600)
@@ -38,7 +39,7 @@ fn is_withheld(address: u32) -> bool {
         || address > MANY - 8
 }
 
-// What is at the first addresses, of which those from `end` on have no rows.
+// Returns what is at the first addresses. Those from `end` on have no rows.
 fn list(alloc: Global, count: u32, end: u32) -> Result<Vec<Place>, AllocError> {
     let mut places = Vec::new(alloc);
     for address in 0..count {
@@ -56,7 +57,7 @@ fn list(alloc: Global, count: u32, end: u32) -> Result<Vec<Place>, AllocError> {
     Ok(places)
 }
 
-// The withheld addresses of a list, falling and each twice.
+// Returns the withheld addresses of a list in descending order, each twice.
 fn withheld_in(alloc: Global, places: &[Place]) -> Result<Vec<u32>, AllocError> {
     let mut withheld = Vec::new(alloc);
     for place in places {
@@ -90,7 +91,7 @@ fn table_of(alloc: Global, places: &[Place]) -> Result<Withheld, Fault> {
     Ok(Withheld::new(Rows::new(rows)?, withheld)?)
 }
 
-// What is at an address: nothing beyond the list.
+// Returns what is at an address; after the end of the list, nothing.
 fn at(places: &[Place], address: u32) -> Place {
     match places.get(address as usize) {
         Some(place) => *place,
@@ -113,7 +114,7 @@ fn least_free(places: &[Place], first: u32, last: u32) -> Option<u32> {
     None
 }
 
-// The least address in a range whose row has ended by a moment, and that is not withheld.
+// Returns the least address in a range that is not withheld and whose row has ended by a time.
 fn least_ended(places: &[Place], first: u32, last: u32, moment: u64) -> Option<u32> {
     for address in first..=last {
         let place = at(places, address);
@@ -124,8 +125,8 @@ fn least_ended(places: &[Place], first: u32, last: u32, moment: u64) -> Option<u
     None
 }
 
-// From an address on, as far as the span goes, free addresses and rows that have ended are found as
-// the list says.
+// Reports whether free addresses and rows that have ended are found as the list says, from an
+// address on, as far as the span goes.
 fn is_searched(table: &Withheld, places: &[Place], first: u32, span: u32, moment: u64) -> bool {
     let last = first.saturating_add(span);
     let ended = table.next_ended(first, last, moment);
@@ -133,8 +134,8 @@ fn is_searched(table: &Withheld, places: &[Place], first: u32, span: u32, moment
         && address_of(ended) == least_ended(places, first, last, moment)
 }
 
-// The same from addresses among all, among the lower ones, among the first, from those at which
-// rows are set, and about the last.
+// Reports the same from addresses among all, among the lower ones, among the first, from those at
+// which rows are set, and near the last.
 fn are_searched(table: &Withheld, places: &[Place]) -> bool {
     for i in 0..500u32 {
         let moment = u64::from(990 + i * 31 % 500);
@@ -183,8 +184,8 @@ fn put(places: &mut Vec<Place>, address: u32, ends: u64) {
     }
 }
 
-// The address at which a row is set: a gap among the lower ones, one that is withheld, with a row
-// or without, or any.
+// Returns the address at which a row is set: a gap among the lower ones, a withheld one, with or
+// without a row, or any.
 fn changed_at(i: u32) -> u32 {
     let number = i / 4 % 125;
     match i % 4 {
@@ -227,7 +228,7 @@ fn is_same(table: &Withheld, places: &[Place]) -> bool {
     are_rows(table, places)
 }
 
-// Makes the table of a list, or is refused the memory for it.
+// Makes the table of a list, or reports out of memory if a request is refused.
 fn is_made(alloc: Global, places: &[Place]) -> bool {
     match table_of(alloc, places) {
         Ok(table) => is_same(&table, places),
@@ -235,8 +236,8 @@ fn is_made(alloc: Global, places: &[Place]) -> bool {
     }
 }
 
-// Sets a row in the table and in the list. Where memory is refused the rows stay as they were, and
-// the same call made again sets the row.
+// Sets a row in the table and in the list. If memory is refused the rows stay as they were, and the
+// same call repeated sets the row.
 fn is_set(alloc: Global, table: &mut Withheld, places: &mut Vec<Place>, lease: Lease) -> bool {
     let was_set = match set(alloc, table, lease) {
         Ok(()) => true,
@@ -258,8 +259,8 @@ fn are_set(alloc: Global, table: &mut Withheld, places: &mut Vec<Place>) -> bool
     true
 }
 
-// With a refused request for memory the answer is a fault of memory, and the rows stay; the same
-// calls made again give what they give with ample memory. One table has no rows at first.
+// If a memory request is refused, the call reports it and the rows stay as they were; the same
+// calls repeated give the same as with enough memory. One table has no rows at first.
 #[test]
 fn want_of_memory_is_answered_as_such(rt: HostRuntime) -> Result<(), Fail> {
     for end in [0u32, 40] {
