@@ -1,11 +1,11 @@
 use std::alloc::{AllocError, Global};
 
-/// A command, what it is given, and what it must write: lines, each with its end.
+/// A command, its input, and what it must write: lines, each with its end.
 #[derive(Drop)]
 pub struct Case {
-    /// The command as it stands in the file, with its line's number.
+    /// The command as in the file, with its line number.
     pub title: String,
-    /// The words after the program's name.
+    /// The arguments after the program's name.
     pub words: Vec<String>,
     /// Standard input.
     pub input: String,
@@ -13,14 +13,14 @@ pub struct Case {
     pub out: String,
     /// Standard error.
     pub fault: String,
-    /// The record of what came.
+    /// The record of received datagrams.
     pub record: String,
     /// The exit status.
     pub status: u8,
 }
 
 impl Case {
-    /// A case that is given nothing and writes nothing.
+    /// Makes a case without input or output.
     pub fn new(alloc: Global, title: String, words: Vec<String>) -> Case {
         Case {
             title,
@@ -33,7 +33,7 @@ impl Case {
         }
     }
 
-    /// Whether this was written.
+    /// Reports whether this is what was written.
     pub fn has(&self, written: &Written) -> bool {
         is_meant(self.out.as_str(), written.out.as_str())
             && is_meant(self.fault.as_str(), written.fault.as_str())
@@ -49,19 +49,19 @@ pub struct Written {
     pub out: String,
     /// Standard error.
     pub fault: String,
-    /// The record of what came.
+    /// The record of received datagrams.
     pub record: String,
     /// The exit status.
     pub status: u8,
 }
 
-/// A line at the end of a text.
+/// Adds a line at the end of a text.
 pub fn put_line(text: &mut String, line: &str) -> Result<(), AllocError> {
     text.push_str(line)?;
     text.push('\n')
 }
 
-// Whether a text has the lines that are wanted, where `..` at a line's end stands for any rest.
+// Reports whether a text has the expected lines; `..` at the end of a line stands for any rest.
 fn is_meant(wanted: &str, written: &str) -> bool {
     let mut left = written.lines();
     for line in wanted.lines() {

@@ -9,7 +9,7 @@ use kd_program::{Ends, run};
 use std::alloc::{AllocError, Global};
 use std::io;
 
-/// What the program writes for these words and this standard input.
+/// Returns what the program writes for these arguments and this standard input.
 pub fn written(
     rt: &HostRuntime,
     files: &Files,

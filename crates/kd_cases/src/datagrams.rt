@@ -6,27 +6,27 @@ use kd_replay::{EndFailed, Link};
 use std::alloc::Global;
 use std::str::Lines;
 
-/// The address at which there is no socket: 203.0.113.1.
+/// The address at which no socket can be opened: 203.0.113.1.
 pub const NO_ADDRESS: u32 = 0xcb00_7101;
 
-/// A socket that receives the datagrams of lines, each `MOMENT HEX`, and a clock that says the moment
-/// of the line that came last, or of the first before any came. The steady clock counts a second for
-/// each line. All wait at once; at a port of 1 to 32 so many come together. Of replies those by
-/// broadcast are not sent, unless they go to another address.
+/// A socket that receives the datagrams of lines, each `MOMENT HEX`, and a clock that says the time
+/// of the line received last, or of the first line before any is received. The steady clock counts
+/// a second for each line. All datagrams are waiting from the start; at a port from 1 to 32, that
+/// many arrive together. Replies by broadcast are not sent, unless they go to another address.
 #[derive(Drop)]
 pub struct Datagrams<'a> {
     alloc: Global,
     lines: Lines<'a>,
     moment: u64,
     counted: u64,
-    // How many come together, and how many of these are still to come.
+    // How many arrive together, and how many of these are still to come.
     together: u64,
     left: u64,
     broadcasts: bool,
     failed: bool,
 }
 
-// How many datagrams come together at a port.
+// Returns how many datagrams arrive together at a port.
 fn together(port: u16) -> u64 {
     if port <= 32 {
         u64::from(port)
@@ -35,7 +35,7 @@ fn together(port: u16) -> u64 {
     }
 }
 
-// The moment of the first line of a text, 0 where it has none.
+// Returns the time of the first line of a text, or 0 if it has none.
 fn first_moment(text: &str) -> u64 {
     match text.split_once(' ') {
         Some((moment, _)) => moment.parse().unwrap_or(0),
@@ -44,11 +44,11 @@ fn first_moment(text: &str) -> u64 {
 }
 
 impl<'a> Datagrams<'a> {
-    /// A socket over the lines of a text.
+    /// Makes a socket over the lines of a text.
     ///
     /// # Errors
     ///
-    /// It would be at 203.0.113.1.
+    /// The address is 203.0.113.1.
     pub fn bind(
         rt: &HostRuntime,
         listening: Listening,
@@ -71,7 +71,7 @@ impl<'a> Datagrams<'a> {
         })
     }
 
-    // The bytes of the next line, which comes at its moment.
+    // Returns the bytes of the next line, which arrives at its time.
     fn bytes(&mut self) -> Option<Vec<u8>>
         ensures { self.new.failed ≡ self.old.failed }
     {
@@ -81,7 +81,7 @@ impl<'a> Datagrams<'a> {
         hex::decode(self.alloc, digits).ok()
     }
 
-    // The length of the next datagram, of which the front is put into the buffer.
+    // Puts the next datagram into the buffer, as much as fits, and returns its length.
     fn next(&mut self, buf: &mut [u8]) -> Option<usize>
         ensures count { IfSome result (λ n. n ≤ length buf.new) }
         ensures failed { self.new.failed ≡ self.old.failed }

@@ -10,20 +10,20 @@ pub struct Files {
 }
 
 impl Files {
-    /// No files.
+    /// Makes an empty set of files.
     pub fn new(alloc: Global) -> Files {
         Files {
             files: Vec::new(alloc),
         }
     }
 
-    /// Begins an empty file.
+    /// Starts an empty file.
     pub fn begin(&mut self, alloc: Global, name: String) -> Result<(), AllocError> {
         self.files.push((name, Vec::new(alloc)))?;
         Ok(())
     }
 
-    /// Puts a line at the end of the latest file, after a line feed where it is not its first.
+    /// Appends a line to the latest file, after a line feed if it is not the first line.
     pub fn put_line(&mut self, line: &str) -> Result<(), AllocError> {
         match self.files.last_mut() {
             Some((_, bytes)) => {
@@ -36,8 +36,7 @@ impl Files {
         }
     }
 
-    /// Puts bytes at the end of the latest file, given by hexadecimal digits with blanks between
-    /// them.
+    /// Appends bytes to the latest file, given as hexadecimal digits with blanks between them.
     pub fn put_bytes(&mut self, alloc: Global, digits: &str) -> Result<(), AllocError> {
         let mut bare = String::new(alloc);
         for part in digits.split(' ') {
@@ -50,8 +49,8 @@ impl Files {
         }
     }
 
-    /// The configuration of a path with the token files of a folder: of files in memory where the
-    /// path names one, and else of files on the disk.
+    /// Returns the configuration of a path with the token files of a folder: from files in memory
+    /// if the path names one, and otherwise from files on the disk.
     pub fn configuration(
         &self,
         rt: &HostRuntime,
@@ -67,7 +66,7 @@ impl Files {
         }
     }
 
-    /// The bytes of the latest file of a name.
+    /// Returns the bytes of the latest file with a name.
     pub fn file(&self, path: &str) -> Option<&[u8]> {
         for (name, bytes) in self.files.iter().rev() {
             if name.as_str() == path {
@@ -77,7 +76,7 @@ impl Files {
         None
     }
 
-    // The token files of a folder in memory, the first ones first.
+    // Returns the token files of a folder in memory, in the order of their creation.
     fn token_files(
         &self,
         alloc: Global,

@@ -15,11 +15,11 @@ use kd_rows::Row;
 use kd_store::Store;
 use std::alloc::AllocError;
 
-// What the clock says to a check.
+// The time of the clock in a check.
 const MOMENT: u64 = 1_000;
 
-/// A host in memory: its files and stores, for a socket the lines of standard input, and for a record
-/// what stands in memory. There is no record of the name `none`.
+/// A host in memory: its files and stores, the lines of standard input as its socket, and a record
+/// in memory. There is no record with the name `none`.
 #[derive(Drop)]
 pub struct Room<'a, 'r> {
     pub rt: &'a HostRuntime,
@@ -82,7 +82,7 @@ impl<'a, 'r> Host for Room<'a, 'r> {
         })
     }
 
-    // A store for which there is no memory is lost, and the next case that names it finds a new
+    // If there is no memory for a store it is lost, and the next case that names it finds a new
     // one.
     fn close(&mut self, path: &str, store: Store<InMemory>) {
         let _kept = self.stores.put(self.rt.alloc(), path, store);
@@ -127,7 +127,7 @@ impl<'a, 'r> Host for Room<'a, 'r> {
         }
     }
 
-    // A database of another process is locked.db, and there is no folder none.
+    // The database locked.db is open in another process, and there is no folder none.
     fn try_database(&self, path: &str) -> Result<bool, StoreTrouble> {
         if path == "locked.db" {
             return Err(StoreTrouble::Locked);
@@ -147,8 +147,8 @@ impl<'a, 'r> Host for Room<'a, 'r> {
         }
     }
 
-    // Port 66 is another process's, and those of 1 to 32 are not allowed. From 127.0.0.1 there is no
-    // route to 255.255.255.255.
+    // Port 66 is taken by another process, and ports 1 to 32 are not permitted. From 127.0.0.1
+    // there is no route to 255.255.255.255.
     fn try_socket(&self, address: u32, port: u16) -> Result<bool, SocketTrouble> {
         match port {
             1..=32 => Err(SocketTrouble::Denied),

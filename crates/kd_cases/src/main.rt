@@ -1,8 +1,8 @@
-//! Runs console cases: for each file that is named, the sessions in it, each command within this
-//! program by the same public calls that `kdhcp` makes. It prints how many cases came out as
-//! written, and each other one with both texts. The words after each `then` are those of a command
+//! Runs console cases: the sessions in each file that is named, with each command inside this
+//! program, by the same public calls that `kdhcp` makes. It prints how many cases had the written
+//! outcome, and each other case with both texts. The words after each `then` are those of a command
 //! of `kdhcp`, which is carried out over the files of this folder and the standard streams, as the
-//! `main` of `kdhcp` does it; after it the exit status is printed.
+//! `main` of `kdhcp` does; afterwards its exit status is printed.
 #![tactic(auto)]
 
 mod case;

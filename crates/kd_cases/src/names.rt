@@ -9,20 +9,20 @@ pub struct Names {
 }
 
 impl Names {
-    /// No names.
+    /// Makes an empty set of names.
     pub fn new(alloc: Global) -> Names {
         Names {
             texts: BTreeMap::new(alloc),
         }
     }
 
-    /// Gives a text a name, which loses the text that it had.
+    /// Gives a name to a text, in place of the text that the name had.
     pub fn define(&mut self, name: String, text: String) -> Result<(), AllocError> {
         self.texts.insert(name, text)?;
         Ok(())
     }
 
-    /// A line with each name's text in its place. A name that is not known stands as it is.
+    /// Returns a line with each name replaced by its text. An unknown name stays as it is.
     pub fn expanded(&self, alloc: Global, line: &str) -> Result<String, AllocError> {
         let mut out = String::new(alloc);
         for (index, piece) in line.split("${").enumerate() {
@@ -37,7 +37,7 @@ impl Names {
         Ok(out)
     }
 
-    // The text of a reference.
+    // Returns the text of a reference.
     fn text_of(&self, reference: &str) -> Option<&str> {
         let mut words = reference.split(':');
         let text = self.texts.get(words.next()?)?.as_str();

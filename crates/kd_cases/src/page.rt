@@ -2,7 +2,7 @@ ghost use Rattle.std.specs.Prelude.{◌≡◌, false};
 
 use kd_replay::{EndFailed, Sink};
 
-/// A record in memory, which takes so many lines and then fails.
+/// A record in memory that takes a number of lines and then fails.
 #[derive(Drop)]
 pub struct Page<'a> {
     text: &'a mut Vec<u8>,
@@ -11,7 +11,7 @@ pub struct Page<'a> {
 }
 
 impl<'a> Page<'a> {
-    /// A record that takes the lines of a name, which is `lines-N`, or any number of lines.
+    /// Makes the record with a name: `lines-N` takes N lines, any other name any number.
     pub fn named(text: &'a mut Vec<u8>, name: &str) -> Page<'a>
         ensures { result.failed ≡ false }
     {
@@ -23,7 +23,7 @@ impl<'a> Page<'a> {
         }
     }
 
-    // Takes the bytes, where a line is left and there is memory.
+    // Takes the bytes, if a line is left and there is memory.
     fn took(&mut self, bytes: &[u8]) -> bool
         ensures { self.new.failed ≡ self.old.failed }
     {

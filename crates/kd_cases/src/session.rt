@@ -15,14 +15,14 @@ pub struct Session {
     stores: Stores,
     case: Option<Case>,
     line: usize,
-    /// How many cases came out as written.
+    /// The number of cases with the written outcome.
     pub well: usize,
-    /// How many did not.
+    /// The number of other cases.
     pub badly: usize,
 }
 
 impl Session {
-    /// A session at its beginning.
+    /// Starts a session.
     pub fn new(alloc: Global) -> Session {
         Session {
             names: Names::new(alloc),
@@ -35,7 +35,7 @@ impl Session {
         }
     }
 
-    /// Takes the next line. A case runs once a line ends it: an empty one, or the next command.
+    /// Takes the next line. A case runs once a line ends it: an empty line, or the next command.
     pub fn take(&mut self, rt: &HostRuntime, line: &str) -> io::Result<()> {
         self.line = self.line.saturating_add(1);
         if line.is_empty() {
@@ -61,8 +61,8 @@ impl Session {
         Ok(())
     }
 
-    // A line outside of the cases: a remark, a file in memory, or a name. Any other is a case that
-    // is not as written.
+    // Takes a line outside the cases: a remark, a file in memory, or a name. Any other line counts
+    // as a case with another outcome than the written one.
     fn prepare(&mut self, rt: &HostRuntime, line: &str, text: &str) -> io::Result<()> {
         let alloc = rt.alloc();
         if line.starts_with('#') {
@@ -86,7 +86,8 @@ impl Session {
         }
     }
 
-    /// Runs the case that was begun, if there is one, and prints it where it is not as written.
+    /// Runs the case that was started, if there is one, and prints it if its outcome is not as
+    /// written.
     pub fn finish(&mut self, rt: &HostRuntime) -> io::Result<()> {
         match self.case.take() {
             Some(case) => self.judge(rt, &case),
@@ -120,7 +121,7 @@ impl Session {
     }
 }
 
-// A line of a case after its command.
+// Takes a line of a case after its command.
 fn take_of_case(rt: &HostRuntime, case: &mut Case, text: &str) -> io::Result<()> {
     if let Some(line) = text.strip_prefix("< ") {
         return Ok(put_line(&mut case.input, line)?);

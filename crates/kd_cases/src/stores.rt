@@ -11,25 +11,25 @@ use kd_store::Store;
 use sqlite::Connection;
 use std::alloc::{AllocError, Global};
 
-/// The connections of the stores that the commands of a file have left, by their names.
+/// The connections of the stores that the commands of a file have left, by name.
 #[derive(Drop)]
 pub struct Stores {
     stores: Vec<(String, Connection<InMemory>)>,
 }
 
 impl Stores {
-    /// No stores.
+    /// Makes an empty set of stores.
     pub fn new(alloc: Global) -> Stores {
         Stores {
             stores: Vec::new(alloc),
         }
     }
 
-    /// The store of a name, opened again where a command has left it, and else a new one.
+    /// Opens the store with a name: the one that a command has left, or otherwise a new one.
     ///
     /// # Errors
     ///
-    /// It can't be opened.
+    /// The store cannot be opened.
     pub fn take(&mut self, alloc: Global, name: &str) -> Result<Opened<Store<InMemory>>, StoreFault>
         ensures fault { IfOk result (λ it. it.store.fault ≡ None) }
         ensures rows { IfOk result (λ it.
@@ -44,11 +44,12 @@ impl Stores {
         store_in_memory(alloc)
     }
 
-    /// The rows of the store of a name, where a command has left one. The store stays as it is.
+    /// Returns the rows of the store with a name, if a command has left one. The store stays as it
+    /// is.
     ///
     /// # Errors
     ///
-    /// It can't be opened or kept.
+    /// The store cannot be opened or kept.
     pub fn rows(&mut self, alloc: Global, name: &str) -> Result<Option<Vec<Row>>, StoreFault>
         ensures rise { IfOk result (λ found. IfSome found (λ rows. Rise rows.items)) }
         ensures ranges { IfOk result (λ found. IfSome found (λ rows. All IsInRange rows.items)) }
@@ -63,7 +64,7 @@ impl Stores {
         }
     }
 
-    /// Whether a command has left a store of a name.
+    /// Reports whether a command has left a store with a name.
     pub fn has(&self, name: &str) -> bool {
         self.stores.iter().any(|kept| kept.0.as_str() == name)
     }

@@ -2,7 +2,7 @@ use crate::names::Names;
 use std::alloc::{AllocError, Global};
 use std::mem;
 
-// Where the reading of a line stands.
+// The state of reading a line.
 #[derive(Clone, Copy)]
 enum Place {
     Bare,
@@ -10,7 +10,7 @@ enum Place {
     Escaped,
 }
 
-// A line, as far as it was read.
+// A line, as far as it has been read.
 #[derive(Drop)]
 struct Line<'a> {
     names: &'a Names,
@@ -20,7 +20,7 @@ struct Line<'a> {
 }
 
 impl Line<'_> {
-    // Takes the line's next sign.
+    // Takes the next character of the line.
     fn take(&mut self, alloc: Global, sign: char) -> Result<(), AllocError> {
         match (self.place, sign) {
             (Place::Bare, ' ') => self.end_word(alloc),
@@ -44,12 +44,12 @@ impl Line<'_> {
         }
     }
 
-    // A sign more of the word.
+    // Adds a character to the word.
     fn put_sign(&mut self, alloc: Global, sign: char) -> Result<(), AllocError> {
         self.put(alloc, sign.encode_utf8(&mut [0; 4]))
     }
 
-    // A text more of the word, which begins here if there is none.
+    // Adds a text to the word, which starts here if there is none.
     fn put(&mut self, alloc: Global, text: &str) -> Result<(), AllocError> {
         let mut word = self.word.take().unwrap_or(String::new(alloc));
         word.push_str(text)?;
@@ -66,8 +66,8 @@ impl Line<'_> {
     }
 }
 
-/// The words of a line: they stand between blanks, and what stands between `"` is taken as it is
-/// but for `\"`, `\\`, `\n`, `\t` and `\r`. Names have their texts.
+/// Splits a line into words, which are separated by blanks. Text between `"` is taken as it is,
+/// except `\"`, `\\`, `\n`, `\t` and `\r`. Names are replaced by their texts.
 pub fn words(alloc: Global, names: &Names, text: &str) -> Result<Vec<String>, AllocError> {
     let mut line = Line {
         names,
@@ -82,7 +82,7 @@ pub fn words(alloc: Global, names: &Names, text: &str) -> Result<Vec<String>, Al
     Ok(mem::replace(&mut line.words, Vec::new(alloc)))
 }
 
-// What a sign after a backslash means.
+// Returns what a character after a backslash means.
 fn meant(sign: char) -> char {
     match sign {
         'n' => '\n',
@@ -92,7 +92,7 @@ fn meant(sign: char) -> char {
     }
 }
 
-/// The name and the text of a definition: `name = word`, or `name = COUNT * word`.
+/// Returns the name and the text of a definition: `name = word`, or `name = COUNT * word`.
 pub fn definition(
     alloc: Global,
     names: &Names,
