@@ -4,7 +4,7 @@ use kd_compile::compile;
 use kd_expr::{read, type_of};
 use std::alloc::{AllocError, Global};
 
-// How often a text was read, typed and compiled, of so many rounds.
+// Returns how often a text was read, typed and compiled, out of `rounds`.
 fn compiled(alloc: Global, text: &[u8], rounds: u32) -> u32 {
     let mut compiled = 0u32;
     for _ in 0..rounds {
@@ -31,7 +31,7 @@ pub(crate) fn strings(alloc: Global, rounds: u32) -> Result<u32, AllocError> {
     Ok(compiled(alloc, &text, rounds))
 }
 
-// 256 members of 64 names: 4,092 bytes, 511 tokens.
+// 256 members with 64 names: 4,092 bytes, 511 tokens.
 pub(crate) fn members(alloc: Global, rounds: u32) -> Result<u32, AllocError> {
     let mut text = Vec::from_slice(alloc, b"member('aa')")?;
     for n in 1..256u32 {
@@ -43,7 +43,8 @@ pub(crate) fn members(alloc: Global, rounds: u32) -> Result<u32, AllocError> {
     Ok(compiled(alloc, &text, rounds))
 }
 
-// 63 times `ifelse`, each as the first arm of the one before: 3,914 bytes, 255 tokens, 63 levels.
+// 63 nested `ifelse`, each the first branch of the one around it: 3,914 bytes, 255 tokens, 63
+// levels.
 pub(crate) fn choices(alloc: Global, rounds: u32) -> Result<u32, AllocError> {
     let mut text = Vec::new(alloc);
     for _ in 0..63 {

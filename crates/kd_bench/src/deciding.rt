@@ -13,10 +13,10 @@ use settings::{Place, Setting, config_of};
 use std::alloc::{AllocError, Global};
 use table::{Layout, MOMENT, POOL, address_of, leases_of, set};
 
-// A work: its name, the rows, where the reserved addresses lie, and what is asked.
+// A task: its name, the rows, where the reserved addresses are, and the messages sent.
 pub(crate) type Scene = (&'static str, Layout, Place, Asks);
 
-// The works.
+// The tasks.
 pub(crate) const SCENES: [Scene; 26] = [
     ("read", Layout::Own, Place::Apart, Asks::Read),
     ("new", Layout::Own, Place::Apart, Asks::New),
@@ -46,24 +46,24 @@ pub(crate) const SCENES: [Scene; 26] = [
     ("noise", Layout::Own, Place::Apart, Asks::Noise),
 ];
 
-// Which client's message it is, and which.
+// Which message is sent, and by which client.
 #[derive(Clone, Copy, PartialEq, Eq)]
 pub(crate) enum Asks {
     // A DISCOVER that is only read.
     Read,
     // A DISCOVER of a client without a row.
     New,
-    // The same, and its row is set.
+    // The same, and the row is set.
     Offer,
-    // The same, and then the REQUEST for what it is offered, whose row is set too.
+    // The same, and then the REQUEST for the offered address, whose row is set as well.
     Dora,
     // A DISCOVER of a client with a lease.
     Known,
-    // Its REQUEST for that lease, and its row is set.
+    // The REQUEST of that client for its lease; the row is set.
     Lease,
-    // The renewal of that lease, and its row is set.
+    // The renewal of that lease; the row is set.
     Renew,
-    // Its REQUEST to another server.
+    // The REQUEST of that client to another server.
     Other,
     // A DISCOVER with another cookie.
     Cookie,
@@ -71,7 +71,7 @@ pub(crate) enum Asks {
     Noise,
 }
 
-// How much of each there is.
+// The size of each part.
 #[derive(Clone, Copy)]
 pub(crate) struct Amounts {
     pub(crate) rows: u32,
@@ -79,7 +79,7 @@ pub(crate) struct Amounts {
     pub(crate) rounds: u32,
 }
 
-// A server's leases, at first of so many rows, and what it is asked.
+// A server's leases, `size` rows at first, and the messages that it is sent.
 #[derive(Drop)]
 struct Desk {
     leases: Leases,
@@ -88,7 +88,7 @@ struct Desk {
     asks: Asks,
 }
 
-// How often a work gave what it should.
+// Returns how often a task gave the expected result.
 pub(crate) fn worked(alloc: Global, scene: &Scene, amounts: Amounts) -> Result<u32, ConfigFault> {
     let (_, layout, place, asks) = *scene;
     let size = amounts.rows;
@@ -108,7 +108,8 @@ pub(crate) fn worked(alloc: Global, scene: &Scene, amounts: Amounts) -> Result<u
     Ok(again(alloc, &mut desk, amounts.rounds)?)
 }
 
-// How many addresses the pools have: as many as rows, or enough for them and 131,072 more.
+// Returns how many addresses the pools have: as many as there are rows, or enough for them and
+// 131,072 more.
 fn pooled(layout: Layout, size: u32) -> u32 {
     match layout {
         Layout::Full | Layout::Renewed | Layout::Over => size,
@@ -126,7 +127,7 @@ fn again(alloc: Global, desk: &mut Desk, rounds: u32) -> Result<u32, AllocError>
     Ok(done)
 }
 
-// Whether the work of a round was done.
+// Reports whether the task of a round was done.
 fn is_done(alloc: Global, desk: &mut Desk, round: u32) -> Result<bool, AllocError> {
     let bytes = asked(desk, round);
     if desk.asks == Asks::Read {
@@ -142,7 +143,7 @@ fn is_done(alloc: Global, desk: &mut Desk, round: u32) -> Result<bool, AllocErro
     Ok(given(alloc, desk, &bytes, round)?.is_some())
 }
 
-// The datagram of a round.
+// Returns the datagram of a round.
 fn asked(desk: &Desk, round: u32) -> [u8; 300] {
     let number = mixed(round) % desk.size.max(1);
     let (client, address) = match desk.layout {
@@ -161,12 +162,13 @@ fn asked(desk: &Desk, round: u32) -> [u8; 300] {
     }
 }
 
-// The number of a client without a row, another in each round, and in mixed order among the others.
+// Returns the number of a client without a row, a different one in each round, in mixed order among
+// the others.
 fn newcomer(desk: &Desk, round: u32) -> u32 {
     mixed(desk.size.wrapping_add(round))
 }
 
-// The address that a datagram is given by the reply, where there is one and it is no NAK.
+// Returns the address that the reply to a datagram gives, if there is a reply that is not a NAK.
 fn given(
     alloc: Global,
     desk: &mut Desk,
@@ -191,8 +193,8 @@ fn given(
     }
 }
 
-// Whether the rows of replies are set; they are where each round then finds the table as good as
-// the one before.
+// Reports whether the rows of replies are set. They are if each round then still finds an
+// equivalent table.
 fn sets_rows(asks: Asks) -> bool {
     matches!(asks, Asks::Offer | Asks::Dora | Asks::Lease | Asks::Renew)
 }

@@ -6,7 +6,7 @@ use kd_options::Message;
 use kd_token::{Program, verify};
 use std::alloc::{AllocError, Global};
 
-// How often a program ended with this value over a message, of so many rounds.
+// Returns how often a program ended with this value over a message, out of `rounds`.
 fn ended(alloc: Global, file: &[u8], datagram: &[u8], want: bool, rounds: u32) -> u32 {
     let Ok(message) = Message::read(alloc, datagram) else {
         return 0;
@@ -38,8 +38,8 @@ pub(crate) fn short(alloc: Global, rounds: u32) -> Result<u32, AllocError> {
     Ok(ended(alloc, file, datagram.as_slice(), false, rounds))
 }
 
-// A program of 1,024 tokens: whether option 60 is there, and 204 times whether it is not "a" too;
-// and three times the opposite.
+// A program of 1,024 tokens: whether option 60 is present and, 204 times, whether it is not "a";
+// and then three negations.
 pub(crate) fn long(alloc: Global, rounds: u32) -> Result<u32, AllocError> {
     let mut file = Vec::from_slice(alloc, b"K4TK\x01\x04\x00\x03\x10\x00\x00\x04\x00\x06\x3c")?;
     for _ in 0..204 {

@@ -1,39 +1,41 @@
-//! Does one piece of work many times, so that its time can be taken from outside, and prints how
-//! often that was done, and no time.
+//! Does one task many times, so that its time can be measured from outside, and prints how often it
+//! was done. It prints no time.
 //!
-//! `kd_bench discover 2000000` or `kd_bench pieces 100000` reads a datagram, `kd_bench file 10000`
-//! a token file, `kd_bench verify 10000` verifies what it reads too, `kd_bench short 1000000`,
-//! `long` and `digits` run a program, and `kd_bench strings 1000`, `members` and `choices` compile
-//! a class test.
+//! `kd_bench discover 2000000` or `kd_bench pieces 100000` reads a datagram, and `kd_bench file
+//! 10000` a token file. `kd_bench verify 10000` also verifies the token file that it reads.
+//! `kd_bench short 1000000`, `long` and `digits` run a program, and `kd_bench strings 1000`,
+//! `members` and `choices` compile a class test.
 //!
 //! `kd_bench get 60000 1000000` makes a table of 60,000 rows of leases and reads a row of it a
-//! million times. So do `open`, which makes the table alone, `client`, which finds a client's
-//! address, `gap`, which finds the first free address, `renew`, which sets a row anew, `add`, which
-//! sets one at an address between the others, each time another, and `rise`, at the next address
-//! behind the others.
+//! million times. The same shape have `open`, which only makes the table; `client`, which finds a
+//! client's address; `gap`, which finds the first free address; `renew`, which sets a row again;
+//! `add`, which sets one at a different address between the others each time; and `rise`, which
+//! sets one at the next address after the others.
 //!
 //! `kd_bench new 60000 4096 1000000` answers a million DISCOVERs of clients without a row, over a
-//! table of 60,000 rows with gaps, under a configuration of 4,096 reservations in no pool; those
-//! beyond 4,096 are in other subnets. So do
+//! table of 60,000 rows with gaps, under a configuration of 4,096 reservations in no pool;
+//! reservations beyond 4,096 are in other subnets. The same shape have
 //!
-//! - `read`, which reads the message alone; `offer`, which sets the row of the offer, and `dora`,
-//!   which asks for the offer and sets that row too, both in pools that have no gaps;
-//! - `known`, a DISCOVER of a client with a lease; `request`, the REQUEST for its lease; `renewal`,
-//!   the renewal of its lease, both of which set the row; `other`, its REQUEST to another server;
+//! - `read`, which only reads the message; `offer`, which sets the row of the offer; and `dora`,
+//!   which requests the offered address and sets that row as well; the last two in pools without
+//!   gaps;
+//! - `known`, a DISCOVER of a client with a lease; `request`, the REQUEST for its lease, and
+//!   `renewal`, the renewal of its lease, both of which set the row; `other`, its REQUEST to
+//!   another server;
 //! - `known-all`, `renewal-all` and `other-all`, where that client has all rows; `-beside`, where
-//!   it has an old one in a pool and the others in the same subnet in no pool; `-away`, where it
-//!   has the others in another subnet; `-ended`, where the others are offers that have ended; and
-//!   `other-offers`, where all are offers that have not;
-//! - `kept`, as `new`, where the first addresses without a row are the reserved ones; `full`, in
+//!   it has an old one in a pool and the others in the same subnet but in no pool; `-away`, where
+//!   it has the others in another subnet; `-ended`, where the others are offers that have ended;
+//!   and `other-offers`, where all are offers that have not;
+//! - `kept`, as `new`, but the first addresses without a row are the reserved ones; `full`, in
 //!   pools that have a row at each address; `past`, in full pools whose rows have not ended, though
 //!   an earlier one had; and `ended`, in full pools whose rows have ended, where the first ones are
 //!   the reserved ones;
-//! - `cookie`, a DISCOVER with another cookie, and `noise`, 300 bytes that are no message.
+//! - `cookie`, a DISCOVER with another cookie, and `noise`, 300 bytes that are not a message.
 //!
-//! It prints how often there was a reply that is no NAK: never in `other`, `full`, `past`, `cookie`
-//! and `noise`.
+//! It prints how often there was a reply that is not a NAK: never in `other`, `full`, `past`,
+//! `cookie` and `noise`.
 //!
-//! `kd_bench each` does each work ten times, over sizes of 100 and 1,000 rows.
+//! `kd_bench each` does each task ten times, over sizes of 100 and 1,000 rows.
 #![tactic(auto)]
 
 mod compiling;
@@ -48,7 +50,7 @@ use kd_config::ConfigFault;
 use std::alloc::{AllocError, Global};
 use std::io;
 
-// The works over datagrams, token files, programs, class tests and a table.
+// The tasks over datagrams, token files, programs, class tests and a table.
 const WORKS: [&str; 17] = [
     "discover", "pieces", "file", "verify", "short", "long", "digits", "strings", "members",
     "choices", "open", "client", "gap", "renew", "add", "rise", "get",
@@ -73,12 +75,12 @@ fn main(rt: HostRuntime) -> io::Result<()> {
     Ok(())
 }
 
-// The number that a word spells, where there is such a word and number.
+// Returns the number in an argument, if there is such an argument and it is a number.
 fn number_at(words: &[String], place: usize) -> Option<u32> {
     words.get(place).and_then(|word| word.parse().ok())
 }
 
-// How often a work was done, with these numbers: of so many rounds, before which stand the rows and
+// Returns how often a task was done with these numbers: the rounds, and before them the rows and
 // the reservations.
 fn worked(alloc: Global, work: &str, numbers: [Option<u32>; 3]) -> Result<u32, ConfigFault> {
     let [first, second, third] = numbers;
@@ -100,8 +102,8 @@ fn worked(alloc: Global, work: &str, numbers: [Option<u32>; 3]) -> Result<u32, C
     }
 }
 
-// How often a work over a datagram, a token file, a program or a class test was done, of so many
-// rounds.
+// Returns how often a task over a datagram, a token file, a program or a class test was done, out
+// of `rounds`.
 fn again(alloc: Global, work: &str, rounds: u32) -> Result<u32, AllocError> {
     match work {
         "pieces" => Ok(read_again(alloc, pieces(alloc)?.as_slice(), rounds)),

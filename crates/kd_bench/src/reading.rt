@@ -4,7 +4,7 @@ use kd_options::Message;
 use kd_token::Program;
 use std::alloc::{AllocError, Global};
 
-// How often the datagram was read with an option 60, of so many rounds.
+// Returns how often the datagram was read with an option 60, out of `rounds`.
 pub(crate) fn read_again(alloc: Global, bytes: &[u8], rounds: u32) -> u32 {
     let mut read = 0u32;
     for _ in 0..rounds {
@@ -54,7 +54,7 @@ pub(crate) fn pieces(alloc: Global) -> Result<Vec<u8>, AllocError> {
     Ok(bytes)
 }
 
-// How often the token file was read, of so many rounds.
+// Returns how often the token file was read, out of `rounds`.
 pub(crate) fn file_again(alloc: Global, bytes: &[u8], rounds: u32) -> u32 {
     let mut read = 0u32;
     for _ in 0..rounds {
@@ -65,7 +65,7 @@ pub(crate) fn file_again(alloc: Global, bytes: &[u8], rounds: u32) -> u32 {
     read
 }
 
-// How often the token file was read and its program accepted, of so many rounds.
+// Returns how often the token file was read and its program accepted, out of `rounds`.
 pub(crate) fn verify_again(alloc: Global, bytes: &[u8], rounds: u32) -> u32 {
     let mut accepted = 0u32;
     for _ in 0..rounds {
@@ -78,9 +78,9 @@ pub(crate) fn verify_again(alloc: Global, bytes: &[u8], rounds: u32) -> u32 {
     accepted
 }
 
-// A token file of 1,024 tokens over a stack of up to 64 values, with as many places where two ways
+// A token file of 1,024 tokens over a stack of up to 64 values, with as many points where two paths
 // meet as a program can have: 62 values, 450 values that a branch over nothing takes, and 62 tokens
-// that join what is left.
+// that combine the rest.
 pub(crate) fn branches(alloc: Global) -> Result<Vec<u8>, AllocError> {
     let mut bytes = Vec::from_slice(alloc, b"K4TK\x02\x04\x00\x40\x00\x00\x00\x04\x00")?;
     for _ in 0..62 {

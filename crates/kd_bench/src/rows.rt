@@ -1,11 +1,11 @@
-// Works over a table of leases.
+// Tasks over a table of leases.
 
 use crate::mixed;
 use kd_rows::{Row, Rows, State};
 use kd_wire::Bytes;
 use std::alloc::{AllocError, Global};
 
-// How often the work was done, of so many rounds, on a table of so many rows.
+// Returns how often the task was done, out of `rounds`, on a table of `size` rows.
 pub(crate) fn worked(alloc: Global, work: &str, size: u32, rounds: u32) -> Result<u32, AllocError> {
     let mut rows = table(alloc, size)?;
     let mut done = 0u32;
@@ -28,8 +28,8 @@ pub(crate) fn worked(alloc: Global, work: &str, size: u32, rounds: u32) -> Resul
     Ok(done)
 }
 
-// The address and the client of the row that a work sets in a round: of a row, or of a new client
-// between the rows or behind them.
+// Returns the address and the client of the row that a task sets in a round: of an existing row, or
+// of a new client between the rows or after them.
 fn lease(work: &str, size: u32, round: u32) -> (u32, u32) {
     let newcomer = round.wrapping_add(0x1000_0000);
     match work {
@@ -45,7 +45,7 @@ fn lease(work: &str, size: u32, round: u32) -> (u32, u32) {
     }
 }
 
-// Numbers below a size in no order, each once where the prime does not divide the size.
+// Numbers below a size in mixed order, each once if the prime does not divide the size.
 fn scattered(round: u32, size: u32) -> u32 {
     let product = u64::from(round) * 611_953;
     (product % u64::from(size.max(1))) as u32
@@ -58,7 +58,7 @@ fn client(number: u32) -> [u8; 9] {
     [1, a, b, c, d, e, f, g, h]
 }
 
-// The row of a client at an address, set at a moment.
+// The row of a client at an address, set at a time.
 fn row(alloc: Global, address: u32, number: u32, moment: u32) -> Result<Row, AllocError> {
     let changed = u64::from(moment);
     Ok(Row {
@@ -70,7 +70,7 @@ fn row(alloc: Global, address: u32, number: u32, moment: u32) -> Result<Row, All
     })
 }
 
-// A table of so many rows, at even addresses.
+// Makes a table of `size` rows, at even addresses.
 fn table(alloc: Global, size: u32) -> Result<Rows, AllocError> {
     let mut list = Vec::new(alloc);
     for number in 0..size {
@@ -83,7 +83,7 @@ fn table(alloc: Global, size: u32) -> Result<Rows, AllocError> {
     }
 }
 
-// Sets a row; says whether it was set.
+// Sets a row, and reports whether it was set.
 fn set(
     alloc: Global,
     rows: &mut Rows,

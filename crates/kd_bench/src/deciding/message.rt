@@ -7,8 +7,8 @@ pub(crate) const SERVER: u32 = 0x0a00_0001;
 
 pub(crate) const OTHER_SERVER: u32 = 0x0a00_0002;
 
-// A DISCOVER of the client with a number: its type, its identifier, the greatest message and what
-// it asks for.
+// A DISCOVER of the client with a number: its type, its identifier, the maximum message size and
+// the parameter request list.
 pub(crate) fn discover(number: u32) -> [u8; 300] {
     let mut bytes = head(number);
     bytes[242] = 1;
@@ -39,14 +39,14 @@ pub(crate) fn renewal(number: u32, address: u32) -> [u8; 300] {
     bytes
 }
 
-// A DISCOVER whose cookie is another.
+// A DISCOVER with another cookie.
 pub(crate) fn bad_cookie(number: u32) -> [u8; 300] {
     let mut bytes = discover(number);
     bytes[239] = 0;
     bytes
 }
 
-// Bytes that look like any.
+// Pseudo-random bytes.
 pub(crate) fn noise(number: u32) -> [u8; 300] {
     let mut bytes = [0; 300];
     let mut state = number;
@@ -78,7 +78,7 @@ fn head(number: u32) -> [u8; 300] {
     bytes
 }
 
-// Puts the hardware address of the client with a number.
+// Writes the hardware address of the client with a number.
 fn put_mac(bytes: &mut [u8; 300], place: usize, number: u32)
     requires { place < 290 }
 {
@@ -86,7 +86,7 @@ fn put_mac(bytes: &mut [u8; 300], place: usize, number: u32)
     put_address(bytes, place + 2, number);
 }
 
-// Puts four bytes.
+// Writes four bytes.
 fn put_address(bytes: &mut [u8; 300], place: usize, address: u32)
     requires { place < 296 }
 {
@@ -97,7 +97,7 @@ fn put_address(bytes: &mut [u8; 300], place: usize, address: u32)
     bytes[place + 3] = d;
 }
 
-// Puts the greatest message and the list of what is asked for, and the end.
+// Writes the maximum message size, the parameter request list and the end option.
 fn put_wishes(bytes: &mut [u8; 300], place: usize)
     requires { place < 280 }
 {

@@ -3,27 +3,27 @@ use kd_config::{Config, ConfigFault};
 use std::alloc::{AllocError, Global};
 use std::fmt::Write;
 
-// How many reservations a subnet has at most.
+// The most reservations of one subnet.
 const SUBNET_RESERVATIONS: u32 = 4096;
 
-// Where the reservations begin that are in no pool, 10.200.0.0, and the subnets that have the
-// further ones, 11.0.0.0.
+// The first reserved address that is in no pool, 10.200.0.0, and the first of the subnets with the
+// further reservations, 11.0.0.0.
 const APART: u32 = 0x0ac8_0000;
 
 const FURTHER: u32 = 0x0b00_0000;
 
-// Where the reserved addresses of the subnet with the pools lie.
+// Where the reserved addresses of the subnet with the pools are.
 #[derive(Clone, Copy)]
 pub(crate) enum Place {
     // In no pool.
     Apart,
-    // At the addresses of the pools that have no row, the least first.
+    // At the addresses of the pools that have no row, in ascending order.
     Gaps,
     // At the first addresses of the pools.
     First,
 }
 
-// How large a configuration is: the addresses of its pools, the rows of the table that it is used
+// The size of a configuration: the addresses of its pools, the rows of the table that it is used
 // with, and its reservations.
 #[derive(Clone, Copy)]
 pub(crate) struct Setting {
@@ -33,7 +33,7 @@ pub(crate) struct Setting {
     pub(crate) place: Place,
 }
 
-// The server 10.0.0.1, whose subnet has the pools and up to 4,096 reservations; the further ones
+// The server 10.0.0.1. Its subnet has the pools and up to 4,096 reservations; further reservations
 // are in subnets of their own.
 pub(crate) fn config_of(alloc: Global, setting: &Setting) -> Result<Config, ConfigFault> {
     let text = text_of(alloc, setting)?;
@@ -60,7 +60,7 @@ fn text_of(alloc: Global, setting: &Setting) -> Result<String, AllocError> {
     Ok(text)
 }
 
-// Puts pools of so many addresses.
+// Writes pools with `pooled` addresses.
 fn put_pools(text: &mut String, pooled: u32) -> Result<(), AllocError> {
     for number in 0..pooled.div_ceil(POOL_SIZE) {
         if number > 0 {
@@ -78,7 +78,7 @@ fn put_pools(text: &mut String, pooled: u32) -> Result<(), AllocError> {
     Ok(())
 }
 
-// Puts the reservations of the subnet with a number.
+// Writes the reservations of the subnet with a number.
 fn put_reservations(text: &mut String, setting: &Setting, subnet: u32) -> Result<(), AllocError> {
     text.push_str("\"reservations\":[")?;
     let before = subnet.wrapping_mul(SUBNET_RESERVATIONS);
@@ -92,7 +92,7 @@ fn put_reservations(text: &mut String, setting: &Setting, subnet: u32) -> Result
     text.push_str("]")
 }
 
-// Puts a reservation: half of them are by hardware address.
+// Writes a reservation. Half of them are by hardware address.
 fn put_reservation(
     text: &mut String,
     setting: &Setting,
@@ -118,7 +118,7 @@ fn put_reservation(
     text.push_str("\"}")
 }
 
-// Puts an address with its dots.
+// Writes an address in dotted decimal.
 fn put_address(text: &mut String, address: u32) -> Result<(), AllocError> {
     let [a, b, c, d] = address.to_be_bytes();
     write!(text, "{a}.{b}.{c}.{d}")

@@ -12,53 +12,54 @@ use std::alloc::{AllocError, Global};
 // The first address of the pools, 10.1.0.0.
 pub(crate) const POOL: u32 = 0x0a01_0000;
 
-// How many addresses a pool has at most.
+// The most addresses of one pool.
 pub(crate) const POOL_SIZE: u32 = 65_536;
 
-// Where the leases begin that are in the subnet of the pools and in no pool, 10.100.0.0, and those
-// in another subnet, 12.0.0.0.
+// The first address of the leases in the subnet of the pools but in no pool, 10.100.0.0, and of
+// those in another subnet, 12.0.0.0.
 const BESIDE: u32 = 0x0a64_0000;
 
 const AWAY: u32 = 0x0c00_0000;
 
-// The moment of the first message, that by which the ended rows have ended, and one long after.
+// The time of the first message, the time by which the ended rows have ended, and a time long
+// after.
 pub(crate) const MOMENT: u64 = 10_000;
 
 const ENDED: u64 = 6_000;
 
 const FAR: u64 = 2_000_000_000;
 
-// Whose the rows are, and where.
+// Which clients the rows belong to, and where they are.
 #[derive(Clone, Copy, PartialEq, Eq)]
 pub(crate) enum Layout {
-    // Each of a client of its own, in mixed order; each twelfth address of the pools has none.
+    // Each has its own client, in mixed order. Each twelfth address of the pools has none.
     Own,
-    // The same addresses, all of the client 0.
+    // The same addresses, all with client 0.
     All,
     // The same, and they are offers.
     Offers,
-    // The same: its oldest is a lease, the others are offers that have ended.
+    // The same; the oldest row is a lease, and the others are offers that have ended.
     Ended,
-    // All of the client 0: its oldest in a pool, the others in the same subnet in no pool.
+    // All with client 0: the oldest in a pool, the others in the same subnet but in no pool.
     Beside,
-    // All of the client 0: its oldest in a pool, the others in another subnet.
+    // All with client 0: the oldest in a pool, the others in another subnet.
     Away,
-    // Each of a client of its own, at the first addresses of the pools; the others have none.
+    // Each has its own client, at the first addresses of the pools. The other addresses have none.
     Dense,
-    // Each of a client of its own, at each address of the pools.
+    // Each has its own client, at each address of the pools.
     Full,
-    // The same, where one was renewed after its end.
+    // The same, but one was renewed after its end.
     Renewed,
-    // The same, and they have ended.
+    // The same, but all have ended.
     Over,
 }
 
-// The address of the client with a number: each twelfth of the pools is left out.
+// Returns the address of the client with a number. Each twelfth address of the pools is left out.
 pub(crate) fn address_of(number: u32) -> u32 {
     POOL.wrapping_add(number).wrapping_add(number / 11)
 }
 
-// The address with a number among those of the pools that are left out, where there are so many
+// Returns the address at an index among those of the pools that are left out when there are `rows`
 // rows.
 pub(crate) fn gap(rows: u32, number: u32) -> u32 {
     if number < rows / 11 {
@@ -68,7 +69,7 @@ pub(crate) fn gap(rows: u32, number: u32) -> u32 {
     }
 }
 
-// The leases of a configuration with so many rows, of which those with a greater number are newer.
+// Makes the leases of a configuration with `rows` rows. A row with a greater number is newer.
 pub(crate) fn leases_of(
     alloc: Global,
     config: Config,
@@ -83,7 +84,7 @@ pub(crate) fn leases_of(
     Ok(leases)
 }
 
-// So many rows.
+// Makes `rows` rows.
 fn list_of(alloc: Global, layout: Layout, rows: u32) -> Result<Vec<Row>, AllocError> {
     let mut list = Vec::new(alloc);
     for number in 0..rows {
@@ -92,7 +93,7 @@ fn list_of(alloc: Global, layout: Layout, rows: u32) -> Result<Vec<Row>, AllocEr
     Ok(list)
 }
 
-// These rows where they can be a table, or none.
+// Returns these rows if they can be a table, and otherwise none.
 fn accepted(alloc: Global, list: Vec<Row>) -> Vec<Row>
     ensures rise { Rise result.items }
     ensures ranges { All IsInRange result.items }
@@ -155,14 +156,14 @@ fn identity(number: u32) -> [u8; 8] {
     [1, 1, 10, 0, a, b, c, d]
 }
 
-// Sets the first row anew.
+// Sets the first row again.
 fn renew_first(alloc: Global, leases: &mut Leases) -> Result<(), AllocError> {
     let mut row = row_of(alloc, Layout::Full, 0)?;
     row.changed = MOMENT;
     set(leases, row)
 }
 
-// Sets a row where the table may take it.
+// Sets a row, if the table can take it.
 pub(crate) fn set(leases: &mut Leases, row: Row) -> Result<(), AllocError> {
     if row.is_in_range() && leases.rows().latest() <= row.changed {
         leases.reserve(&row)?;
