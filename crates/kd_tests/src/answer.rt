@@ -4,7 +4,7 @@ use kd_tools::{Printed, answer, exit_status};
 use std::alloc::{AllocError, Global};
 use std::test::Fail;
 
-// Words of a command line.
+// Makes the arguments of a command line.
 fn owned(alloc: Global, words: &[&str]) -> Result<Vec<String>, AllocError> {
     let mut owned = Vec::new(alloc);
     for word in words {
@@ -13,8 +13,8 @@ fn owned(alloc: Global, words: &[&str]) -> Result<Vec<String>, AllocError> {
     Ok(owned)
 }
 
-// Those that no case tells: of faults of the store, of memory and of the output, and of those
-// within Serve.
+// The faults that no case covers: those of the store, of memory and of the output, and those inside
+// Serve.
 #[test]
 fn each_fault_has_its_exit_status(rt: HostRuntime) {
     for (number, status) in [
@@ -35,7 +35,7 @@ fn each_fault_has_its_exit_status(rt: HostRuntime) {
     }
 }
 
-// What is printed for these words.
+// Returns what is printed for these arguments.
 fn printed(alloc: Global, words: &[String]) -> Result<Printed, AllocError> {
     match order(alloc, words) {
         Ok(
@@ -63,7 +63,7 @@ fn prints(printed: &Printed, out: &str, fault: &str) -> bool {
 const SHOWN: &str =
     "len 250\nop 1 htype 1 hlen 6 hops 0 xid 00000001 secs 0 flags 0000\nciaddr 0.0.0.0 yiaddr 0.0.0.0 siaddr 0.0.0.0 giaddr 0.0.0.0\nmac 0a0000000001\ntype 1\noption 53 01\noption 60 6b6461\n";
 
-// Words, and what they print: the line on standard output, and the fault line.
+// Arguments, and what they print: the line on standard output, and the fault line.
 const PRINTED: [(&[&str], &str, &str); 9] = [
     (
         &["expr", "not option[host-name].exists and 'a' + 'b' == 0x1"],
@@ -107,7 +107,7 @@ const PRINTED: [(&[&str], &str, &str); 9] = [
     ),
 ];
 
-// The words of `eval` but for the datagram, of vendor class `kd`, and the line that they print.
+// The arguments of `eval` without the datagram, of vendor class `kd`, and the line that they print.
 const RUN: [(&[&str], &str); 2] = [
     (
         &["eval", "4b34544b010005022fff000005033c0100013a100100017809"],
@@ -119,7 +119,7 @@ const RUN: [(&[&str], &str); 2] = [
     ),
 ];
 
-// The same of a datagram without a type, and the fault line.
+// The same for a datagram without a type, and the fault line.
 const REFUSED: [(&[&str], &str); 4] = [
     (
         &["eval", "4b34544b010001010000000001063c"],
@@ -136,7 +136,7 @@ const REFUSED: [(&[&str], &str); 4] = [
     ),
 ];
 
-// Whether words print this, or want of memory is answered at the first call and not at the second.
+// Reports whether arguments print this, or out of memory at the first call but not at the second.
 fn print_again(
     alloc: Global,
     words: &[String],
@@ -151,12 +151,12 @@ fn print_again(
     Ok(prints(&printed(alloc, words)?, out, fault))
 }
 
-// The same of words that are not owned.
+// Does the same for arguments that are not owned.
 fn prints_again(alloc: Global, words: &[&str], out: &str, fault: &str) -> Result<bool, AllocError> {
     print_again(alloc, &owned(alloc, words)?, out, fault)
 }
 
-// The same of words and a datagram of these options after them.
+// Does the same for arguments followed by a datagram with these options.
 fn prints_with(
     alloc: Global,
     words: &[&str],
@@ -169,7 +169,7 @@ fn prints_with(
     print_again(alloc, &all, out, fault)
 }
 
-// Whether each row of `PRINTED` is printed so.
+// Reports whether each row of `PRINTED` is printed as expected.
 fn print_rows(alloc: Global) -> Result<bool, AllocError> {
     for (words, out, fault) in &PRINTED {
         if !prints_again(alloc, words, out, fault)? {
@@ -179,7 +179,7 @@ fn print_rows(alloc: Global) -> Result<bool, AllocError> {
     Ok(true)
 }
 
-// The same of `RUN`.
+// Does the same for `RUN`.
 fn run_rows(alloc: Global) -> Result<bool, AllocError> {
     for (words, out) in &RUN {
         if !prints_with(alloc, words, DISCOVER, out, "")? {
@@ -189,7 +189,7 @@ fn run_rows(alloc: Global) -> Result<bool, AllocError> {
     Ok(true)
 }
 
-// The same of `REFUSED`.
+// Does the same for `REFUSED`.
 fn refuse_rows(alloc: Global) -> Result<bool, AllocError> {
     for (words, fault) in &REFUSED {
         if !prints_with(alloc, words, b"\x3c\x01a\xff", "", fault)? {
@@ -199,7 +199,7 @@ fn refuse_rows(alloc: Global) -> Result<bool, AllocError> {
     Ok(true)
 }
 
-// Where an allocation is refused the answer is that, and the same call made again gives the lines.
+// If an allocation is refused, the call reports it, and the same call repeated gives the lines.
 #[test]
 fn want_of_memory_is_answered_as_such(rt: HostRuntime) -> Result<(), Fail> {
     let joined = b"\x35\x01\x01\x3c\x02kd\x3c\x01a";

@@ -7,13 +7,13 @@ use kd_wire::Bytes;
 use std::alloc::{AllocError, Global};
 use std::test::Fail;
 
-// The test that the file of so many tokens with these names gives.
+// Returns the test in the file of `count` tokens with these names.
 fn test(alloc: Global, names: &[u8], count: u8, tokens: &[u8]) -> Result<Option<Verified>, Fault> {
     let file = token_file(alloc, names, count, tokens)?;
     Ok(Some(program_in(alloc, &file)?))
 }
 
-// One definition more, without options.
+// Adds a definition without options.
 fn define(
     alloc: Global,
     list: &mut Vec<ClassDef>,
@@ -28,8 +28,8 @@ fn define(
     Ok(())
 }
 
-// Four definitions: option 60 in lower case and a `1` are `kd1`; no test; member of A and not of B;
-// member of C.
+// Makes four definitions: option 60 in lower case followed by `1` is `kd1`; no test; member of A
+// and not of B; member of C.
 fn classes(alloc: Global) -> Result<Classes, Fault> {
     let mut list = Vec::new(alloc);
     let lower = b"\x03\x3c\x11\x01\x00\x011\x0f\x01\x00\x03kd1\x09";
@@ -43,14 +43,14 @@ fn classes(alloc: Global) -> Result<Classes, Fault> {
     Ok(Classes::new(list)?)
 }
 
-// The names that a DISCOVER of vendor class `kd` holds then.
+// Returns the names that a DISCOVER of vendor class `kd` then holds.
 fn held(alloc: Global) -> Result<Held, Fault> {
     let classes = classes(alloc)?;
     let bytes = datagram(alloc, DISCOVER)?;
     held_over(alloc, &classes, &bytes)
 }
 
-// The names that a datagram holds then.
+// Returns the names that a datagram then holds.
 fn held_over(alloc: Global, classes: &Classes, bytes: &[u8]) -> Result<Held, Fault> {
     let message = Message::read(alloc, bytes)?;
     Ok(classes.held(alloc, &message)?)
@@ -73,7 +73,7 @@ fn definitions_stand_at_their_indexes(rt: HostRuntime) -> Result<(), Fail> {
     Ok(())
 }
 
-// Whether these names are held, in this order, and no others.
+// Reports whether exactly these names are held, in this order.
 fn are(held: &Held, names: &[&[u8]]) -> bool {
     for (index, name) in names.iter().enumerate() {
         if held.name_at(index) != Some(*name) {
@@ -83,8 +83,8 @@ fn are(held: &Held, names: &[&[u8]]) -> bool {
     held.name_at(names.len()).is_none()
 }
 
-// Names join in the order of their definitions. With a refused request for memory the answer is
-// want of it; the same call made again gives what it gives with ample memory.
+// Names are added in the order of their definitions. If a memory request is refused, the call
+// reports it; the same call repeated gives the same as with enough memory.
 #[test]
 fn want_of_memory_is_answered_as_such(rt: HostRuntime) -> Result<(), Fail> {
     let names: [&[u8]; 5] = [b"ALL", b"VENDOR_CLASS_kd", b"A", b"C", b""];
@@ -97,7 +97,7 @@ fn want_of_memory_is_answered_as_such(rt: HostRuntime) -> Result<(), Fail> {
     Ok(())
 }
 
-// So many definitions, each named by its number.
+// Makes `count` definitions, each named by its number.
 fn numbered(alloc: Global, count: u16) -> Result<Vec<ClassDef>, AllocError> {
     let mut list = Vec::new(alloc);
     for number in 0..count {
@@ -106,14 +106,14 @@ fn numbered(alloc: Global, count: u16) -> Result<Vec<ClassDef>, AllocError> {
     Ok(list)
 }
 
-// A configuration's list of classes is refused before it has so many.
+// A configuration's list of classes is refused before it has this many.
 #[test]
 fn there_are_at_most_256_definitions(rt: HostRuntime) -> Result<(), Fail> {
     let most = Classes::new(numbered(rt.alloc(), 256)?);
     assert!(rt; most.map(|classes| classes.len()) == Ok(256));
     let over = Classes::new(numbered(rt.alloc(), 257)?);
     assert!(rt; over.err() == Some(ClassFault::TooMany));
-    // before any other fault
+    // The fault comes before any other.
     let mut same = Vec::new(rt.alloc());
     for _ in 0..257 {
         define(rt.alloc(), &mut same, b"A", None)?;
@@ -122,8 +122,8 @@ fn there_are_at_most_256_definitions(rt: HostRuntime) -> Result<(), Fail> {
     Ok(())
 }
 
-// A configuration prints the names of these faults within another's, without their numbers, and the
-// last not at all.
+// A configuration prints the names of these faults inside those of others, without their numbers,
+// and never prints the last.
 #[test]
 fn faults_have_their_numbers(rt: HostRuntime) -> Result<(), Fail> {
     assert!(rt; ClassFault::Duplicate(7).number() == 60);

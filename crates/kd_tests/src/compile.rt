@@ -6,7 +6,7 @@ use kd_token::Verified;
 use std::alloc::Global;
 use std::test::Fail;
 
-// The class test of a text.
+// Returns the class test in a text.
 fn typed_of(alloc: Global, text: &[u8]) -> Result<Typed, Fault> {
     match type_of(read(alloc, text)?) {
         Ok(typed) => Ok(typed),
@@ -14,14 +14,14 @@ fn typed_of(alloc: Global, text: &[u8]) -> Result<Typed, Fault> {
     }
 }
 
-// What it is compiled to.
+// Returns the program that it is compiled to.
 fn program_of(alloc: Global, text: &[u8]) -> Result<Verified, Fault> {
     let typed = typed_of(alloc, text)?;
     Ok(compile(alloc, &typed)?)
 }
 
-// What a class test gives over a datagram, with the names that the message has before any
-// definition.
+// Returns the outcome of a class test over a datagram, with the names that the message has before
+// any definition.
 fn outcome(alloc: Global, text: &[u8], bytes: &[u8]) -> Result<Outcome, Fault> {
     let program = program_of(alloc, text)?;
     outcome_over(alloc, &program, bytes)
@@ -31,8 +31,8 @@ fn outcome(alloc: Global, text: &[u8], bytes: &[u8]) -> Result<Outcome, Fault> {
 const LONG: &[u8] =
     b"member('A') and (member('B') or ifelse(option[60].exists, lcase(option[60].hex), 'x') + 1 == hexstring(substring('k', 0, all), ':')) or not pkt4.mac == 0x0a0000000001 or member('ALL')";
 
-// With a refused request for memory the answer is want of it; the same call made again gives what
-// it gives with ample memory.
+// If a memory request is refused, the call reports it; the same call repeated gives the same as
+// with enough memory.
 #[test]
 fn want_of_memory_is_answered_as_such(rt: HostRuntime) -> Result<(), Fail> {
     let bytes = datagram(rt.alloc(), DISCOVER)?;

@@ -2,7 +2,7 @@ use kd_expr::{Expr, ExprFault, Node, Typed, read, read_address, type_of};
 use std::alloc::Global;
 use std::test::Fail;
 
-// The class test of a text.
+// Returns the class test in a text.
 fn test_of(alloc: Global, text: &[u8]) -> Result<Typed, Fail> {
     match type_of(read(alloc, text)?) {
         Ok(typed) => Ok(typed),
@@ -10,8 +10,8 @@ fn test_of(alloc: Global, text: &[u8]) -> Result<Typed, Fail> {
     }
 }
 
-// Whether a tree is the negation of one that compares two values, and these are the places of the
-// four nodes, that of a node before those of its operands.
+// Reports whether a tree is the negation of a comparison of two values, with these positions of the
+// four nodes, each node before its operands.
 fn has_places(tree: &Node, places: [usize; 4]) -> bool {
     let Node::Not { operand, .. } = tree else {
         return false;
@@ -22,7 +22,7 @@ fn has_places(tree: &Node, places: [usize; 4]) -> bool {
     [tree.at(), operand.at(), left.at(), right.at()] == places
 }
 
-// What a class test is compiled to shows the rest of its tree: those are cases.
+// The rest of the tree shows in what a class test is compiled to, which the cases cover.
 #[test]
 fn nodes_have_their_places(rt: HostRuntime) -> Result<(), Fail> {
     let typed = test_of(rt.alloc(), b" not 'a' + 'b' == '\x00\xff \"#'")?;
@@ -31,8 +31,8 @@ fn nodes_have_their_places(rt: HostRuntime) -> Result<(), Fail> {
     Ok(())
 }
 
-// Texts that are no word of a command line, since they are no UTF-8 or have a zero, with the place
-// of the fault.
+// Texts that cannot be arguments of a command line, because they are not UTF-8 or contain a zero
+// byte, with the position of the fault.
 #[test]
 fn bytes_that_no_word_has_are_bad(rt: HostRuntime) {
     let rows: [(&[u8], usize); 5] = [
@@ -50,7 +50,8 @@ fn bytes_that_no_word_has_are_bad(rt: HostRuntime) {
     }
 }
 
-// Whether an expression has a fault of type, which the expression that comes back has too.
+// Reports whether an expression has a type fault, and the expression that is returned has it as
+// well.
 fn is_refused_twice(expr: Expr) -> bool {
     match type_of(expr) {
         Ok(_typed) => false,
@@ -97,7 +98,7 @@ fn addresses_are_four_small_numbers(rt: HostRuntime) {
 const TEXT: &[u8] =
     b"not (member('a') or ifelse(1 == 2,lcase('b') + 0x123,substring(ucase(1.2.3.4),0,all)) == '') and uint32totext(3) == hexstring('c',':')";
 
-// Each of these calls may meet the one request for memory that is refused.
+// Each of these calls may meet the one memory request that is refused.
 #[test]
 fn want_of_memory_is_answered_as_such(rt: HostRuntime) -> Result<(), Fail> {
     let rows: [(&[u8], Option<ExprFault>); 3] = [

@@ -1,9 +1,9 @@
-//! Tests of messages, class tests and their programs by what a value alone can show: an allocator
-//! that refuses, laws, and readers that no command of the program reaches. All else is data:
+//! Tests of messages, class tests and their programs by what only values can show: an allocator
+//! that refuses, laws, and readers that no command of the program reaches. Everything else is data:
 //! `kd_cases/data`.
 //!
-//! They are a crate of their own since a crate is proved once more with its tests: so these are
-//! proved alone.
+//! They are a separate crate because a crate is proved again together with its tests; so these are
+//! proved by themselves.
 #![tactic(auto)]
 
 #[cfg(test)]

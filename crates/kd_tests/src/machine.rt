@@ -4,19 +4,19 @@ use kd_options::Message;
 use std::alloc::{AllocError, Global};
 use std::test::Fail;
 
-// The names that a DISCOVER of vendor class `kd` holds before any definition.
+// Returns the names that a DISCOVER of vendor class `kd` holds before any definition.
 fn base(alloc: Global) -> Result<Held, Fault> {
     let bytes = datagram(alloc, DISCOVER)?;
     let message = Message::read(alloc, &bytes)?;
     Ok(Held::base(alloc, &message)?)
 }
 
-// Names that are added to them, and what they are then.
+// Names that are added, and the names held afterwards.
 const ADDED: [&[u8]; 7] = [b"B", b"A", b"ALL", b"B", b"VENDOR_CLASS_kd", b"", b""];
 
 const HELD: [&[u8]; 5] = [b"ALL", b"VENDOR_CLASS_kd", b"B", b"A", b""];
 
-// Whether each name is held once it is added.
+// Reports whether each name is held once it is added.
 fn holds_each(held: &mut Held) -> Result<bool, AllocError> {
     for name in ADDED {
         held.add(name)?;
@@ -27,7 +27,7 @@ fn holds_each(held: &mut Held) -> Result<bool, AllocError> {
     Ok(true)
 }
 
-// Whether these names are held, in this order, and no others.
+// Reports whether exactly these names are held, in this order.
 fn are(held: &Held, names: &[&[u8]]) -> bool {
     for (index, name) in names.iter().enumerate() {
         if !is(held.name_at(index), name) {
@@ -46,11 +46,11 @@ fn a_name_is_added_once_and_last(rt: HostRuntime) -> Result<(), Fault> {
     Ok(())
 }
 
-// The digits of two joined literals, in lower case, are compared with `61:62`: 8 tokens, at most 2
+// Compares the digits of two joined literals, in lower case, with `61:62`: 8 tokens, at most 2
 // values.
 const DIGITS: &[u8] = b"\x01\x00\x01a\x01\x00\x01b\x0f\x01\x00\x01:\x10\x11\x01\x00\x0561:62\x09";
 
-// The outcome of that program over a DISCOVER.
+// Returns the outcome of that program over a DISCOVER.
 fn outcome(alloc: Global) -> Result<Outcome, Fault> {
     let file = token_file(alloc, b"\x00", 8, DIGITS)?;
     let program = program_in(alloc, &file)?;
@@ -58,8 +58,8 @@ fn outcome(alloc: Global) -> Result<Outcome, Fault> {
     outcome_over(alloc, &program, &bytes)
 }
 
-// With a refused request for memory the answer is want of it; the same call made again gives what
-// it gives with ample memory.
+// If a memory request is refused, the call reports it; the same call repeated gives the same as
+// with enough memory.
 #[test]
 fn want_of_memory_is_answered_as_such(rt: HostRuntime) -> Result<(), Fail> {
     let want = Ok(Outcome {

@@ -3,7 +3,7 @@ use kd_options::{AddressOption, Message, MessageType, ReadFault, laws};
 use std::alloc::Global;
 use std::test::Fail;
 
-// An option or a sub-option is there with this code and value.
+// Reports whether an option or a sub-option is present with this code and value.
 fn is_at(entry: Option<(u8, &[u8])>, code: u8, want: &[u8]) -> bool {
     match entry {
         Some((own, value)) => own == code && value == want,
@@ -11,7 +11,8 @@ fn is_at(entry: Option<(u8, &[u8])>, code: u8, want: &[u8]) -> bool {
     }
 }
 
-// Whether a message is a DISCOVER of 258 bytes, with xid 1 and the hardware address 0a0000000001.
+// Reports whether a message is a DISCOVER of 258 bytes, with xid 1 and the hardware address
+// 0a0000000001.
 fn has_header(message: &Message<'_>) -> bool {
     message.len() == 258
         && message.header().xid == 1
@@ -19,7 +20,7 @@ fn has_header(message: &Message<'_>) -> bool {
         && message.kind() == MessageType::Discover
 }
 
-// Whether it has three options, the second one 60.
+// Reports whether it has three options, the second of which is 60.
 fn has_options(message: &Message<'_>) -> bool {
     is_at(message.option_at(1), 60, b"kd")
         && message.option_at(3).is_none()
@@ -27,7 +28,7 @@ fn has_options(message: &Message<'_>) -> bool {
         && message.option(61).is_none()
 }
 
-// Whether it has two sub-options.
+// Reports whether it has two sub-options.
 fn has_sub_options(message: &Message<'_>) -> bool {
     is(message.relay(1), b"")
         && is(message.relay(2), b"z")
@@ -49,7 +50,7 @@ fn a_message_tells_its_parts(rt: HostRuntime) -> Result<(), Fail> {
     Ok(())
 }
 
-// Whether option 61 is joined from its pieces in the three areas of a datagram.
+// Reports whether option 61 is joined from its pieces in the three areas of a datagram.
 fn is_joined(alloc: Global) -> Result<bool, Fault> {
     let bytes = datagram_over(
         alloc,
@@ -61,7 +62,7 @@ fn is_joined(alloc: Global) -> Result<bool, Fault> {
     Ok(is(message.option(61), b"\x01\xaa\xbb\xcc"))
 }
 
-// Where an allocation is refused the answer is Memory, and the same call made again gives the
+// If an allocation is refused, the call reports Memory, and the same call repeated gives the
 // message.
 #[test]
 fn want_of_memory_is_answered_as_such(rt: HostRuntime) -> Result<(), Fail> {

@@ -17,7 +17,8 @@ fn item(alloc: Global, code: u8, value: &[u8]) -> Result<Item, AllocError>
     })
 }
 
-// An ACK with a client identifier of 100 bytes: with cookie and End it has 346.
+// An ACK with a client identifier of 100 bytes. With the cookie and the end option it has 346
+// bytes.
 fn ack(alloc: Global) -> Result<Reply, AllocError> {
     let mut list = Vec::new(alloc);
     list.push(item(alloc, 53, b"\x05")?)?;
@@ -58,7 +59,7 @@ fn a_reply_fits_or_is_too_long(rt: HostRuntime) -> Result<(), Fail> {
     Ok(())
 }
 
-// Where an allocation is refused the answer is Memory, and the same call made again gives the text.
+// If an allocation is refused, the call reports Memory, and the same call repeated gives the text.
 #[test]
 fn want_of_memory_is_answered_as_such(rt: HostRuntime) -> Result<(), Fail> {
     let reply = ack(rt.alloc())?;

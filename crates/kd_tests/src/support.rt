@@ -6,10 +6,10 @@ use kd_options::{Message, ReadFault};
 use kd_token::{FileFault, Program, Verified, VerifyFault, verify};
 use std::alloc::{AllocError, Global};
 
-/// Why a call gives nothing.
+/// Why a call returns nothing.
 #[derive(Clone, Copy, Debug, PartialEq, Eq)]
 pub(crate) enum Fault {
-    /// There is no memory.
+    /// Out of memory.
     Memory,
     /// Any other cause.
     Other,
@@ -68,13 +68,13 @@ pub(crate) const COOKIE: [u8; 4] = [99, 130, 83, 99];
 /// The options of a DISCOVER of vendor class `kd`.
 pub(crate) const DISCOVER: &[u8] = b"\x35\x01\x01\x3c\x02kd\xff";
 
-/// A datagram with these options: of op 1, htype 1, hlen 6, xid 1 and the hardware address
-/// 0a0000000001, and zeros.
+/// Makes a datagram with these options, op 1, htype 1, hlen 6, xid 1, the hardware address
+/// 0a0000000001, and zeros otherwise.
 pub(crate) fn datagram(alloc: Global, options: &[u8]) -> Result<Vec<u8>, AllocError> {
     datagram_over(alloc, b"", b"", options)
 }
 
-/// The same with these bytes at the front of sname and file.
+/// Does the same with these bytes at the start of sname and file.
 pub(crate) fn datagram_over(
     alloc: Global,
     sname: &[u8],
@@ -94,8 +94,8 @@ pub(crate) fn datagram_over(
     Ok(bytes)
 }
 
-/// The token file of so many tokens, which declares all that a program may, and has these names, in
-/// their spelling with the count before them.
+/// Makes the token file of `count` tokens that declares the most that a program may and has these
+/// names, given as they are written, with the count before them.
 pub(crate) fn token_file(
     alloc: Global,
     names: &[u8],
@@ -109,7 +109,7 @@ pub(crate) fn token_file(
     Ok(file)
 }
 
-/// The program of a token file that is accepted.
+/// Returns the program of a token file that is accepted.
 pub(crate) fn program_in(alloc: Global, file: &[u8]) -> Result<Verified, Fault> {
     match verify(alloc, Program::read(alloc, file)?) {
         Ok(verified) => Ok(verified),
@@ -117,7 +117,8 @@ pub(crate) fn program_in(alloc: Global, file: &[u8]) -> Result<Verified, Fault> 
     }
 }
 
-/// What a program gives over a datagram, with the names that the message has before any definition.
+/// Returns the outcome of a program over a datagram, with the names that the message has before any
+/// definition.
 pub(crate) fn outcome_over(
     alloc: Global,
     program: &Verified,
@@ -127,13 +128,13 @@ pub(crate) fn outcome_over(
     outcome_of(alloc, program, &message)
 }
 
-// The same over its message.
+// Does the same over its message.
 fn outcome_of(alloc: Global, program: &Verified, message: &Message<'_>) -> Result<Outcome, Fault> {
     let held = Held::base(alloc, message)?;
     Ok(eval(alloc, program, message, &held)?)
 }
 
-/// A value is there and has these bytes.
+/// Reports whether a value is present and has these bytes.
 pub(crate) fn is(value: Option<&[u8]>, want: &[u8]) -> bool {
     match value {
         Some(value) => value == want,

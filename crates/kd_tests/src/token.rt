@@ -12,14 +12,14 @@ const EACH: &[u8] = b"K4TK\x02\x04\x00\x40\xff\xff\x01\x02kd\x00\x1a\
     \x09\x0a\x0b\x0c\x0d\x0e\xff\xff\xff\xfb\x00\x00\x00\x00\x04\x0e\x80\x00\x00\x00\x01\
     \x0f\x10\x11\x12\x13\x14\x20\x00\x04\x21\x00\x00\x22\x00\x01\x23\x00\x00\x0a";
 
-// One of two literals, by whether option 60 is there.
+// One of two literals, by whether option 60 is present.
 const CHOICE: &[u8] = b"K4TK\x02\x00\x06\x02\x00\x01\x00\x00\x07\
     \x06\x3c\x21\x00\x02\x01\x00\x01a\x20\x00\x01\x01\x00\x01b\x01\x00\x01a\x09";
 
-// Its second token wants two values and finds one.
+// A program whose second token needs two values and finds one.
 const REFUSED: &[u8] = b"K4TK\x01\x00\x02\x01\x00\x00\x00\x00\x02\x06\x3c\x0b";
 
-// Whether a program declares all that one may, and has the one name `kd`.
+// Reports whether a program declares the most that it may, and has only the name `kd`.
 fn declares_all(program: &Program) -> bool {
     program.version() == Version::Two
         && (program.steps(), program.depth(), program.length()) == (1024, 64, 65535)
@@ -27,7 +27,7 @@ fn declares_all(program: &Program) -> bool {
         && program.name_at(1).is_none()
 }
 
-// Whether tokens have these at their places.
+// Reports whether tokens have these at their positions.
 fn are_each(tokens: &[Token]) -> bool {
     tokens.len() == 26
         && matches!(tokens[1], Token::PushInt(0xffff_ffff))
@@ -37,7 +37,7 @@ fn are_each(tokens: &[Token]) -> bool {
         && matches!(tokens[21], Token::Branch(4))
 }
 
-// Whether a file's program is written as that file.
+// Reports whether a file's program is written back as that file.
 fn is_written_again(alloc: Global, file: &[u8]) -> Result<bool, FileFault> {
     Ok(Program::read(alloc, file)?.write(alloc)?.as_slice() == file)
 }
@@ -89,7 +89,7 @@ fn a_program_made_has_its_file(rt: HostRuntime) -> Result<(), Fail> {
     Ok(())
 }
 
-// A program that is made.
+// A program made by hand.
 fn made(alloc: Global) -> Result<Program, AllocError> {
     let text = Bytes::own(Vec::from_slice(alloc, b"a")?);
     let mut tokens = Vec::new(alloc);
@@ -99,7 +99,8 @@ fn made(alloc: Global) -> Result<Program, AllocError> {
     Ok(Program::new(Version::One, 3, 2, 4096, Vec::new(alloc), tokens))
 }
 
-// The fault that the verifier answers to a file, if any, and whether its program came back whole.
+// Returns the fault that the verifier reports for a file, if any, and whether its program was
+// returned whole.
 fn answer(alloc: Global, file: &[u8]) -> Result<(Option<VerifyFault>, bool), FileFault> {
     match verify(alloc, Program::read(alloc, file)?) {
         Ok(verified) => Ok((None, verified.program().write(alloc)?.as_slice() == file)),
@@ -107,8 +108,8 @@ fn answer(alloc: Global, file: &[u8]) -> Result<(Option<VerifyFault>, bool), Fil
     }
 }
 
-// With a refused request for memory the answer is want of it, with the program; the same call made
-// again gives what it gives with ample memory.
+// If a memory request is refused, the call reports it and returns the program; the same call
+// repeated gives the same as with enough memory.
 #[test]
 fn want_of_memory_is_answered_as_such(rt: HostRuntime) -> Result<(), Fail> {
     let first = answer(rt.alloc(), CHOICE);

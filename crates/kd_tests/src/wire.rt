@@ -36,7 +36,7 @@ fn pieces_are_walked_to_their_end_and_written_in_place(rt: HostRuntime) -> Resul
     Ok(())
 }
 
-// And a cut of an area, which no command prints by itself, says its place.
+// A cut of an area, which no command prints by itself, says its position.
 #[test]
 fn bytes_keep_their_vector(rt: HostRuntime) -> Result<(), Fail> {
     let bytes = Bytes::own(Vec::from_slice(rt.alloc(), b"kd")?);
