@@ -23,7 +23,7 @@ const BUILT_IN: &[u8] = br#"{"Dhcp4":{"server-address":"192.0.2.1","valid-lifeti
 "offer-hold":60,"decline-hold":600,"subnet4":[{"subnet":"192.0.2.0/24",
 "pools":[{"pool":"192.0.2.10 - 192.0.2.11"}]}]}}"#;
 
-// Whether a configuration has the settings of the built-in one.
+// Reports whether a configuration has the settings of the built-in one.
 fn is_built_in(config: &Config) -> bool {
     let times = Times {
         lifetime: 3600,
@@ -39,7 +39,7 @@ fn is_built_in(config: &Config) -> bool {
         && matches!(config.subnets(), [subnet] if is_built_in_subnet(subnet))
 }
 
-// Whether a subnet is that of the built-in configuration.
+// Reports whether a subnet is that of the built-in configuration.
 fn is_built_in_subnet(subnet: &Subnet) -> bool {
     let prefix = Prefix {
         address: 0xc000_0200,
@@ -52,7 +52,7 @@ fn is_built_in_subnet(subnet: &Subnet) -> bool {
         && matches!(subnet.pools.as_slice(), [pool] if is_built_in_pool(pool))
 }
 
-// Whether a pool is that of the built-in configuration.
+// Reports whether a pool is that of the built-in configuration.
 fn is_built_in_pool(pool: &Pool) -> bool {
     let range = Range {
         first: 0xc000_020a,
@@ -70,19 +70,19 @@ fn the_built_in_text_has_the_settings_of_the_built_in_configuration(
     Ok(())
 }
 
-// The times of a configuration of a server's address and these further keys.
+// Returns the times of a configuration with a server address and these further keys.
 fn times_of(alloc: Global, more: &str) -> Result<Times, Fail> {
     let text = format!(in alloc; "{{\"Dhcp4\":{{\"server-address\":\"192.0.2.1\"{more}}}}}")?;
     Ok(Config::read(alloc, text.as_bytes(), &[])?.times())
 }
 
-// The same with this lifetime.
+// Returns the same with this lifetime.
 fn times_for(alloc: Global, lifetime: u32) -> Result<Times, Fail> {
     let more = format!(in alloc; ",\"valid-lifetime\":{lifetime}")?;
     times_of(alloc, more.as_str())
 }
 
-// A lifetime, and half and 7/8 of it, rounded down.
+// A lifetime, and 1/2 and 7/8 of it, rounded down.
 const TIMES: [(u32, u32, u32); 4] = [
     (1, 0, 0),
     (9, 4, 7),
@@ -107,7 +107,7 @@ fn times_have_their_defaults(rt: HostRuntime) -> Result<(), Fail> {
     Ok(())
 }
 
-// Whether a configuration has no lists.
+// Reports whether a configuration has no lists.
 fn has_no_lists(config: &Config) -> bool {
     config.options().is_empty() && config.classes().len() == 0 && config.subnets().is_empty()
 }
@@ -136,7 +136,7 @@ fn full(alloc: Global) -> Result<Config, Fail> {
     Ok(Config::read(alloc, FULL, &files)?)
 }
 
-// The one option of a list.
+// Returns the option of a list that has only one.
 fn one(options: &[OptionData]) -> Option<(u8, &[u8])> {
     match options {
         [option] => Some((option.code, option.value.as_slice())),
@@ -152,12 +152,12 @@ fn first_token(class: &ClassDef) -> Option<&Token> {
     }
 }
 
-// Whether an option list has one option, of this code and value.
+// Reports whether an option list has only one option, with this code and value.
 fn is_one(options: &OptionList, code: u8, value: &[u8]) -> bool {
     one(options.as_slice()) == Some((code, value))
 }
 
-// Whether a class stands at an index, with this name and so many options.
+// Reports whether the class at an index has this name and this many options.
 fn is_class(classes: &Classes, index: usize, name: &[u8], options: usize) -> bool {
     match classes.def_at(index) {
         Some(class) => class.name.as_slice() == name && class.options.as_slice().len() == options,
@@ -165,7 +165,7 @@ fn is_class(classes: &Classes, index: usize, name: &[u8], options: usize) -> boo
     }
 }
 
-// Whether there are three classes: by a text, by a token file, and without a test.
+// Reports whether there are three classes: by a text, by a token file, and without a test.
 fn are_three(classes: &Classes) -> bool {
     classes.len() == 3
         && is_class(classes, 0, b"A", 0)
@@ -198,7 +198,7 @@ fn each_key_has_its_setting(rt: HostRuntime) -> Result<(), Fail> {
     Ok(())
 }
 
-// Whether a pool is 10.1.0.0/16 with its router.
+// Reports whether a pool is 10.1.0.0/16 with its router.
 fn is_pool(pool: &Pool) -> bool {
     let range = Range {
         first: 0x0a01_0000,
@@ -207,7 +207,7 @@ fn is_pool(pool: &Pool) -> bool {
     pool.range == range && is_one(&pool.options, 3, b"\x0a\x00\x00\x01")
 }
 
-// Whether reservations are one by hardware address and one by client identifier.
+// Reports whether reservations are one by hardware address and one by client identifier.
 fn are_reservations(reservations: &[Reservation]) -> bool {
     match reservations {
         [first, second] => {
@@ -219,7 +219,7 @@ fn are_reservations(reservations: &[Reservation]) -> bool {
     }
 }
 
-// Whether an identity is the hardware address 0a0000000002.
+// Reports whether an identity is the hardware address 0a0000000002.
 fn is_hardware(identity: &Identity) -> bool {
     match identity {
         Identity::Hardware(mac) => mac.as_slice() == b"\x0a\x00\x00\x00\x00\x02".as_slice(),
@@ -227,7 +227,7 @@ fn is_hardware(identity: &Identity) -> bool {
     }
 }
 
-// Whether an identity is the client identifier 01.
+// Reports whether an identity is the client identifier 01.
 fn is_client(identity: &Identity) -> bool {
     match identity {
         Identity::ClientId(id) => id.as_slice() == b"\x01".as_slice(),
@@ -235,7 +235,7 @@ fn is_client(identity: &Identity) -> bool {
     }
 }
 
-// Whether a subnet is 10.0.0.0/8 of class A with its option.
+// Reports whether a subnet is 10.0.0.0/8 of class A with its option.
 fn is_first(subnet: &Subnet) -> bool {
     let prefix = Prefix {
         address: 0x0a00_0000,
@@ -247,7 +247,7 @@ fn is_first(subnet: &Subnet) -> bool {
         && is_one(&subnet.options, 42, b"\x0a\x00\x00\x02")
 }
 
-// Whether a subnet is 0.0.0.0/0 of no class.
+// Reports whether a subnet is 0.0.0.0/0 without a class.
 fn is_everything(subnet: &Subnet) -> bool {
     let prefix = Prefix {
         address: 0,
@@ -256,7 +256,7 @@ fn is_everything(subnet: &Subnet) -> bool {
     subnet.prefix == prefix && subnet.class.is_none()
 }
 
-// Whether subnets are those two, the first with one pool and two reservations.
+// Reports whether subnets are those two, the first with one pool and two reservations.
 fn are_both(subnets: &[Subnet]) -> bool {
     match subnets {
         [first, second] => {
@@ -299,7 +299,7 @@ fn prefixes_and_pools_know_their_addresses(rt: HostRuntime) {
     }
 }
 
-// The number and the text of the fault of a text, or `accepted`.
+// Returns the number and the text of the fault of a text, or `accepted`.
 fn answer(alloc: Global, text: &[u8], files: &[TokenFile]) -> Result<String, AllocError> {
     match Config::read(alloc, text, files) {
         Ok(_) => String::from_str(alloc, "accepted"),
@@ -311,7 +311,7 @@ fn answer(alloc: Global, text: &[u8], files: &[TokenFile]) -> Result<String, All
 const BY_FILE: &[u8] =
     br#"{"Dhcp4":{"server-address":"192.0.2.1","client-classes":[{"name":"B","tokens":"t"}]}}"#;
 
-// Names and bytes of three token files, and what is answered with them.
+// Names and bytes of three token files, and the result with them.
 const FILES: [([(&[u8], &[u8]); 3], &str); 4] = [
     ([(b"s", b""), (b"t", HAS_CLIENT), (b"t", b"")], "accepted"),
     (
@@ -322,14 +322,14 @@ const FILES: [([(&[u8], &[u8]); 3], &str); 4] = [
         [(b"", HAS_CLIENT), (b"T", HAS_CLIENT), (b"tt", HAS_CLIENT)],
         "78 Tokens 0 Absent",
     ),
-    // a file that no class names is not read
+    // A file that no class names is not read.
     (
         [(b"t", HAS_CLIENT), (b"u", b""), (b"v", b"K4TX")],
         "accepted",
     ),
 ];
 
-// What is answered with these token files.
+// Returns the result with these token files.
 fn answer_with(alloc: Global, rows: &[(&[u8], &[u8])]) -> Result<String, AllocError> {
     let mut files = Vec::new(alloc);
     for (name, bytes) in rows {
@@ -346,7 +346,7 @@ fn of_files_with_equal_names_the_first_counts(rt: HostRuntime) -> Result<(), Fai
     Ok(())
 }
 
-// Texts, and the number of each one's fault where no memory is refused, with the token file `t`.
+// Texts, and the number of the fault of each if no memory is refused, with the token file `t`.
 const ROWS: [(&str, Option<u8>); 6] = [
     (
         r#"{"Dhcp4":{"server-address":"192.0.2.1","client-classes":[{"name":"A","test":"option[61].exists"},
@@ -377,7 +377,7 @@ const ROWS: [(&str, Option<u8>); 6] = [
     ),
 ];
 
-// The number of the fault of a text.
+// Returns the number of the fault of a text.
 fn number_of(alloc: Global, text: &str, files: &[TokenFile]) -> Option<u8> {
     match Config::read(alloc, text.as_bytes(), files) {
         Ok(_) => None,
@@ -385,8 +385,8 @@ fn number_of(alloc: Global, text: &str, files: &[TokenFile]) -> Option<u8> {
     }
 }
 
-// With a refused request for memory the answer is want of it; the same call made again gives what
-// it gives with ample memory.
+// If a memory request is refused, the call reports it; the same call repeated gives the same as
+// with enough memory.
 #[test]
 fn want_of_memory_is_answered_as_such(rt: HostRuntime) -> Result<(), Fail> {
     let files = [file(rt.alloc(), b"t", HAS_CLIENT)?];

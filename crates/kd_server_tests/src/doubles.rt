@@ -1,10 +1,10 @@
-// Ends of a replay: a source that gives a slice, and a sink that keeps what it is given.
+// Ends of a replay: a source that returns a slice, and a sink that keeps what it receives.
 ghost use Rattle.std.specs.Prelude.{◌≡◌, ◌<◌, false};
 
 use kd_replay::{EndFailed, Sink, Source};
 use std::alloc::Global;
 
-/// Gives at most so many bytes a call; after them it ends, or fails.
+/// Returns at most `most` bytes a call; after them it ends, or fails.
 #[derive(Drop)]
 pub(crate) struct Giving<'a> {
     rest: &'a [u8],
@@ -47,7 +47,7 @@ impl<'a> Source for Giving<'a> {
     }
 }
 
-/// Takes at most so many bytes a call, and fails once it holds so many as `until` says.
+/// Takes at most `most` bytes a call, and fails once it holds `until` bytes.
 #[derive(Drop)]
 pub(crate) struct Keeping {
     bytes: Vec<u8>,

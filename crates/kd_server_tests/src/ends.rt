@@ -5,7 +5,7 @@ use std::os::unix::fs::symlink;
 use std::test::Fail;
 use std::{env, fs, process};
 
-// A new folder for this test.
+// Makes a new folder for this test.
 fn folder(rt: &HostRuntime, test: &str) -> Result<String, Fail> {
     let alloc = rt.alloc();
     let id = process::id(rt.process());
@@ -19,7 +19,7 @@ fn folder(rt: &HostRuntime, test: &str) -> Result<String, Fail> {
     Ok(path)
 }
 
-// The path of a name in a folder.
+// Returns the path of a name in a folder.
 fn within(rt: &HostRuntime, folder: &str, name: &str) -> Result<String, Fail> {
     Ok(format!(in rt.alloc(); "{folder}/{name}")?)
 }
@@ -35,7 +35,8 @@ const LIMITS: [(usize, u32, bool); 7] = [
     (100_001, 100_000, false),
 ];
 
-// Whether a file of so many bytes is read, whole; it may not be where it is longer than the limit.
+// Reports whether a file of `length` bytes is read whole; it must not be if it is longer than the
+// limit.
 fn is_read(rt: &HostRuntime, path: &str, length: usize, most: u32) -> Result<bool, Fail> {
     let mut bytes: Vec<u8> = Vec::new(rt.alloc());
     bytes.resize(length, 7)?;
@@ -61,7 +62,7 @@ fn a_file_has_at_most_its_bytes(rt: HostRuntime) -> Result<(), Fail> {
     Ok(())
 }
 
-// Whether a path is that of no file.
+// Reports whether no file can be read at a path.
 fn is_unread(rt: &HostRuntime, path: &str) -> bool {
     read_file(rt, path, MOST_BYTES).err() == Some(InputFault::Read)
 }
@@ -86,14 +87,14 @@ fn want_of_memory_is_fault_91(rt: HostRuntime) -> Result<(), Fail> {
     Ok(())
 }
 
-// A token file as `name=bytes;`.
+// Returns a token file as `name=bytes;`.
 fn row(alloc: Global, file: &TokenFile) -> Result<String, Fail> {
     let name = str::from_utf8(file.name.as_slice())?;
     let bytes = str::from_utf8(file.bytes.as_slice())?;
     Ok(format!(in alloc; "{name}={bytes};")?)
 }
 
-// The names and the bytes of a folder's token files, as a text of rows in rising order.
+// Returns the names and the bytes of a folder's token files, as a text of sorted rows.
 fn listed(rt: &HostRuntime, folder: &str) -> Result<String, Fail> {
     let mut rows = Vec::new(rt.alloc());
     for file in token_files(rt, folder)? {
@@ -115,26 +116,26 @@ const NAMED: [(&str, &str); 8] = [
     ("plain", "other"),
 ];
 
-// What links lead to, and their names.
+// The targets of links, and their names.
 const LINKS: [(&str, &str); 3] = [
     ("plain", "link.k4tk"),
     ("folder.k4tk", "to-folder.k4tk"),
     ("nothing", "to-nothing.k4tk"),
 ];
 
-// A file of a name in a folder.
+// Makes a file with a name in a folder.
 fn put_file(rt: &HostRuntime, folder: &str, name: &str, text: &str) -> Result<(), Fail> {
     let path = within(rt, folder, name)?;
     Ok(fs::write(rt, path.as_str(), text.as_bytes())?)
 }
 
-// A link of a name in a folder.
+// Makes a link with a name in a folder.
 fn put_link(rt: &HostRuntime, folder: &str, target: &str, name: &str) -> Result<(), Fail> {
     let path = within(rt, folder, name)?;
     Ok(symlink(rt, target, path.as_str())?)
 }
 
-// Those files and links, and a folder whose name is that of a token file.
+// Makes those files and links, and a folder with a name like that of a token file.
 fn fill(rt: &HostRuntime, folder: &str) -> Result<(), Fail> {
     for (name, text) in NAMED {
         put_file(rt, folder, name, text)?;
@@ -157,7 +158,7 @@ fn token_files_are_those_of_the_name(rt: HostRuntime) -> Result<(), Fail> {
     Ok(())
 }
 
-// How many token files a folder has where there is one of so many bytes, or none where one is too
+// Returns how many token files a folder has when one has `length` bytes, or none if that is too
 // long.
 fn files_of(rt: &HostRuntime, folder: &str, length: u32) -> Result<Option<usize>, Fail> {
     let path = within(rt, folder, "large.k4tk")?;

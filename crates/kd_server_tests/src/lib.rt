@@ -1,8 +1,8 @@
-//! Tests of the server by what a value alone can show: an allocator that refuses, configurations
-//! that no text gives, files and folders, sources and sinks that fail in mid-stream, sockets, the
+//! Tests of the server by what only values can show: an allocator that refuses, configurations that
+//! no text gives, files and folders, sources and sinks that fail in mid-stream, sockets, and the
 //! lines of events.
 //!
-//! They stand beside `kd_tests`, whose crates are below the server's.
+//! They are separate from `kd_tests`, because the crates tested there are below the server's.
 #![tactic(auto)]
 
 #[cfg(test)]

@@ -6,8 +6,8 @@ use kd_wire::Bytes;
 use std::alloc::{AllocError, Global};
 use std::test::Fail;
 
-// How a reply is sent, to which address and port, and the line of a reply of four bytes that is sent
-// so at the moment 200.
+// How a reply is sent, to which address and port, and the line of a reply of four bytes that is
+// sent this way at time 200.
 const REPLIES: [(Mode, u32, u16, &str); 4] = [
     (
         Mode::Relay,
@@ -35,7 +35,7 @@ const REPLIES: [(Mode, u32, u16, &str); 4] = [
     ),
 ];
 
-// The line of such a reply.
+// Returns the line of such a reply.
 fn reply_line(alloc: Global, destination: Destination) -> Result<Vec<u8>, AllocError> {
     let bytes = Vec::from_slice(alloc, &[2, 1, 10, 255])?;
     let handled = Handled {
@@ -59,7 +59,7 @@ fn the_line_of_a_reply_has_its_way_and_its_bytes(rt: HostRuntime) -> Result<(), 
     Ok(())
 }
 
-// Moments, reasons for which nothing is sent, and the lines of that.
+// Times, reasons why nothing is sent, and the lines for them.
 const QUIET: [(u64, Reason, &str); 3] = [
     (0, Reason::Unreadable, "0 quiet 1 Unreadable\n"),
     (1_100, Reason::NotHeld, "1100 quiet 14 NotHeld\n"),
@@ -70,7 +70,7 @@ const QUIET: [(u64, Reason, &str); 3] = [
     ),
 ];
 
-// The line of an event for which nothing is sent.
+// Returns the line of an event for which nothing is sent.
 fn quiet_line(alloc: Global, now: u64, reason: Reason) -> Result<Vec<u8>, AllocError> {
     let response = Response::Quiet(reason);
     event_line(alloc, &Handled { now, response })

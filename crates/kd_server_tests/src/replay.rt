@@ -7,8 +7,8 @@ use kd_table_tests::Fused;
 use std::alloc::{AllocError, Global};
 use std::test::Fail;
 
-// How a replay reads and writes: the source gives at most so many bytes a call, and fails after
-// them or ends; the sink takes as many a call, up to a limit at which it fails.
+// How a replay reads and writes: the source returns at most this many bytes a call, and after them
+// fails or ends; the sink takes as many a call, up to a limit at which it fails.
 type Ends = (usize, bool, usize);
 
 // The ports of a server.
@@ -17,7 +17,7 @@ const PORTS: Ports = Ports {
     client: 68,
 };
 
-// Replays an input between such ends; what is found are the answer, and the sink after it.
+// Replays an input between such ends, and finds the result and the sink afterwards.
 #[derive(Drop)]
 struct Replays<'a> {
     input: &'a str,
@@ -41,7 +41,8 @@ impl<'a> Work for Replays<'a> {
     }
 }
 
-// What a replay of this input by the built-in configuration answers, and the sink after it.
+// Returns the result of a replay of this input with the built-in configuration, and the sink
+// afterwards.
 fn replayed(
     alloc: Global,
     input: &str,
@@ -50,7 +51,7 @@ fn replayed(
     with_server(alloc, PORTS, Replays { input, ends })
 }
 
-// How many events were handled, or the number and the text of the fault.
+// Returns how many events were handled, or the number and the text of the fault.
 fn printed(alloc: Global, handled: Result<u64, ReplayFault>) -> Result<String, AllocError> {
     match handled {
         Ok(count) => format!(in alloc; "{count}"),
@@ -58,14 +59,14 @@ fn printed(alloc: Global, handled: Result<u64, ReplayFault>) -> Result<String, A
     }
 }
 
-// Whether a replay of an input answers this, and writes this.
+// Reports whether a replay of an input has this result and writes this.
 fn ends_as(alloc: Global, input: &str, ends: Ends, want: &str, output: &str) -> Result<bool, Fail> {
     let (result, sink) = replayed(alloc, input, ends)?;
     let found = printed(alloc, result)?;
     Ok(found.as_str() == want && sink.as_slice() == output.as_bytes())
 }
 
-// An input and its ends, the answer, and what stands written.
+// An input and its ends, the result, and what is written.
 const ENDED: [(&str, Ends, &str, &str); 7] = [
     (
         "5 \n6 00",
@@ -105,13 +106,14 @@ fn a_replay_ends_as_its_ends_do(rt: HostRuntime) -> Result<(), Fail> {
     Ok(())
 }
 
-// What a replay of an input answers whose source gives at most so many bytes a call.
+// Reports whether a replay of an input has this result if its source returns at most `step` bytes a
+// call.
 fn answers(alloc: Global, input: &str, step: usize, want: &str) -> Result<bool, Fail> {
     let (result, _) = replayed(alloc, input, (step, false, 1000))?;
     Ok(printed(alloc, result)?.as_str() == want)
 }
 
-// Inputs, and what a replay of them answers.
+// Inputs, and the result of a replay of each.
 const CUT: [(&str, &str); 8] = [
     ("", "0"),
     ("\n", "97 BadLine 1"),
@@ -123,7 +125,7 @@ const CUT: [(&str, &str); 8] = [
     ("5 00\n6 01\n7 02\n8 03\n", "4"),
 ];
 
-// Lines end at line feeds and at the end of the input, however many bytes each call gives.
+// Lines end at line feeds and at the end of the input, however many bytes each call returns.
 #[test]
 fn lines_are_found_in_pieces(rt: HostRuntime) -> Result<(), Fail> {
     for (input, want) in CUT {
@@ -137,21 +139,21 @@ fn lines_are_found_in_pieces(rt: HostRuntime) -> Result<(), Fail> {
     Ok(())
 }
 
-// What a replay of a line with so many digits answers.
+// Reports whether a replay of a line with `count` digits has this result.
 fn answers_long(alloc: Global, count: usize, step: usize, want: &str) -> Result<bool, Fail> {
     let zeros = "0".repeat(alloc, count)?;
     let input = format!(in alloc; "5 {zeros}\n")?;
     answers(alloc, input.as_str(), step, want)
 }
 
-// Numbers of digits of a line's datagram, and what a replay of the line answers.
+// Numbers of digits of a line's datagram, and the result of a replay of the line.
 const LONG: [(usize, &str); 3] = [
     (131_070, "1"),
     (131_072, "97 BadLine 1"),
     (200_000, "97 BadLine 1"),
 ];
 
-// A line has at most 131,072 bytes, however many each call gives.
+// A line has at most 131,072 bytes, however many each call returns.
 #[test]
 fn a_line_may_be_long(rt: HostRuntime) -> Result<(), Fail> {
     for (count, want) in LONG {
@@ -165,13 +167,13 @@ fn a_line_may_be_long(rt: HostRuntime) -> Result<(), Fail> {
     Ok(())
 }
 
-// What a replay of two datagrams that are no messages writes: its first line, and both.
+// What a replay of two datagrams that are not messages writes: its first line, and both.
 const FIRST_LINE: &[u8] = b"5 quiet 1 Unreadable\n";
 
 const BOTH_LINES: &[u8] = b"5 quiet 1 Unreadable\n6 quiet 1 Unreadable\n";
 
-// Whether a replay of them ends well with both lines, or answers want of memory, or its sink has
-// failed for want of it; then the lines are whole.
+// Reports whether a replay of them ends well with both lines, or runs out of memory, or its sink
+// has failed because memory ran out; then the lines are whole.
 fn is_right(end: &Result<u64, ReplayFault>, sink: &Keeping) -> bool {
     let written = sink.as_slice();
     match end {
@@ -183,8 +185,8 @@ fn is_right(end: &Result<u64, ReplayFault>, sink: &Keeping) -> bool {
     }
 }
 
-// With a refused request for memory a replay answers want of memory, or the sink has failed for
-// want of it; the same replay made again gives what it gives with ample memory.
+// If a memory request is refused, a replay runs out of memory or its sink fails for that reason;
+// the same replay repeated gives the same as with enough memory.
 #[test]
 fn want_of_memory_is_answered_as_such(rt: HostRuntime) -> Result<(), Fail> {
     let (result, sink) = replayed(rt.alloc(), "5 \n6 00\n", (1000, false, 1000))?;
@@ -193,7 +195,7 @@ fn want_of_memory_is_answered_as_such(rt: HostRuntime) -> Result<(), Fail> {
     Ok(())
 }
 
-// Replays bytes that are held; what is found are the lines, and the answer.
+// Replays bytes that are held in memory, and finds the lines and the result.
 #[derive(Drop)]
 struct ReplaysHeld<'a>(&'a [u8]);
 
@@ -209,7 +211,7 @@ impl<'a> Work for ReplaysHeld<'a> {
     }
 }
 
-// Bytes, the answer to a replay of them, and its lines.
+// Bytes, the result of a replay of them, and its lines.
 const HELD: [(&str, &str, &str); 4] = [
     (
         "5 \n6 00\n",

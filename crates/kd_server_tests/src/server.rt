@@ -8,13 +8,13 @@ use kd_wire::Bytes;
 use std::alloc::{AllocError, Global};
 use std::test::Fail;
 
-// Ports of their own.
+// Nonstandard ports.
 const PORTS: Ports = Ports {
     server: 1067,
     client: 1068,
 };
 
-// An INFORM of 192.0.2.77, through this relay.
+// Makes an INFORM from 192.0.2.77, through this relay.
 fn inform(alloc: Global, relay: &[u8; 4]) -> Result<Vec<u8>, AllocError> {
     let mut bytes = Vec::from_slice(alloc, &[1, 1, 6, 0, 0, 0, 0, 1, 0, 0, 0, 0])?;
     bytes.extend_from_slice(&[192, 0, 2, 77])?;
@@ -27,7 +27,7 @@ fn inform(alloc: Global, relay: &[u8; 4]) -> Result<Vec<u8>, AllocError> {
     Ok(bytes)
 }
 
-// Where the reply to an INFORM through a relay goes, with the moment at which it was handled.
+// Returns where the reply to an INFORM through a relay goes, and the time at which it was handled.
 fn sent(
     alloc: Global,
     server: &mut Server<Fused>,
@@ -41,7 +41,7 @@ fn sent(
     }
 }
 
-// Relays, and where replies go then.
+// Relays, and where replies then go.
 const WAYS: [([u8; 4], Destination); 2] = [
     (
         [0, 0, 0, 0],
@@ -61,7 +61,7 @@ const WAYS: [([u8; 4], Destination); 2] = [
     ),
 ];
 
-// Finds whether replies go those ways.
+// Finds whether replies are sent that way.
 #[derive(Drop)]
 struct Sends;
 
@@ -78,7 +78,7 @@ impl Work for Sends {
     }
 }
 
-// The configuration that a server gives back.
+// Returns the configuration that a server returns when it is closed.
 fn given_back(alloc: Global) -> Result<Config, AllocError> {
     let config = Config::builtin(alloc)?;
     let server = server_of(alloc, config, PORTS, u64::MAX)?;
@@ -94,7 +94,7 @@ fn a_server_has_its_ports_and_gives_its_configuration_back(rt: HostRuntime) -> R
     Ok(())
 }
 
-// An event of this moment and these bytes.
+// Makes an event at this time with these bytes.
 fn event(moment: u64, bytes: Vec<u8>) -> Event {
     Event {
         moment,
@@ -102,7 +102,8 @@ fn event(moment: u64, bytes: Vec<u8>) -> Event {
     }
 }
 
-// How many events were handled, and the fault; the first is a reply and the others are unreadable.
+// Returns how many events were handled, and the fault. The first is a reply and the others are
+// unreadable.
 fn run(server: &mut Server<Fused>, events: &[Event]) -> (usize, Option<ServeFault>) {
     let (list, fault) = server.run(events);
     for (index, handled) in list.iter().enumerate() {
@@ -117,7 +118,7 @@ fn run(server: &mut Server<Fused>, events: &[Event]) -> (usize, Option<ServeFaul
     (list.len(), fault)
 }
 
-// An INFORM, and a datagram of no bytes, at these moments.
+// Makes an INFORM at time 1, and datagrams without bytes at these times.
 fn events(alloc: Global, moments: &[u64]) -> Result<Vec<Event>, AllocError> {
     let mut events = Vec::new(alloc);
     events.push(event(1, inform(alloc, &[0; 4])?))?;
@@ -127,7 +128,7 @@ fn events(alloc: Global, moments: &[u64]) -> Result<Vec<Event>, AllocError> {
     Ok(events)
 }
 
-// Whether so many events of such a list are handled, and then there is this fault.
+// Reports whether this many events of such a list are handled, followed by this fault.
 fn runs_to(
     alloc: Global,
     server: &mut Server<Fused>,
@@ -138,7 +139,8 @@ fn runs_to(
     Ok(run(server, &events) == want)
 }
 
-// Finds whether events that are run give what they give one by one, and a fault ends the list.
+// Finds whether events that are run together give what they give one by one, and a fault ends the
+// list.
 #[derive(Drop)]
 struct Runs;
 
@@ -152,14 +154,14 @@ impl Work for Runs {
     }
 }
 
-// Nothing is left out.
+// No event is left out.
 #[test]
 fn a_run_ends_at_the_first_fault(rt: HostRuntime) -> Result<(), Fail> {
     assert!(rt; with_server(rt.alloc(), PORTS, Runs)?);
     Ok(())
 }
 
-// Whether an INFORM is answered.
+// Reports whether an INFORM is answered, or memory was refused.
 fn is_answered(alloc: Global, server: &mut Server<Fused>) -> Result<bool, Fail> {
     let bytes = inform(alloc, &[0; 4])?;
     match server.handle(5, bytes.as_slice()) {
@@ -168,15 +170,16 @@ fn is_answered(alloc: Global, server: &mut Server<Fused>) -> Result<bool, Fail> 
     }
 }
 
-// Whether an event that is run is handled, or memory was refused; and is handled when it is run again.
+// Reports whether an event that is run is handled, or memory was refused; and is handled when it is
+// run again.
 fn runs_twice(server: &mut Server<Fused>, events: &[Event]) -> bool {
     let first = run(server, events);
     let is_right = first == (0, Some(ServeFault::Memory)) || first == (1, None);
     is_right && run(server, events) == (1, None)
 }
 
-// Finds whether a run and an event answer want of memory where it is refused, and the same call made
-// again gives what it gives with ample memory.
+// Finds whether a run and an event report out of memory when it is refused, and the same call
+// repeated gives the same as with enough memory.
 #[derive(Drop)]
 struct RunsTwice;
 

@@ -1,4 +1,4 @@
-// Datagrams that are served as they are received: over a socket, and over links that fail.
+// Datagrams that are served as they arrive: over a socket, and over links that fail.
 ghost use Rattle.std.specs.Prelude.{◌≡◌, ◌<◌, ◌≤◌, IfOk, IfSome, false, length};
 
 use crate::doubles::Keeping;
@@ -31,7 +31,7 @@ const PORTS: Ports = Ports {
     client: 68,
 };
 
-// So many datagrams in batches of at most so many, whatever the clock says.
+// Limits to `count` datagrams in batches of at most `most`, whatever the clock says.
 fn limits(most: usize, count: u64) -> Limits
     ensures { result.most ≡ most }
 {
@@ -42,7 +42,7 @@ fn limits(most: usize, count: u64) -> Limits
     }
 }
 
-// The DISCOVER of the client 0a00000000 with this last byte.
+// Makes the DISCOVER of the client 0a00000000 with this last byte.
 fn discover(alloc: Global, client: u8) -> Result<Vec<u8>, AllocError> {
     let mut bytes = Vec::from_slice(alloc, &[1, 1, 6, 0, 0, 0, 0, 1])?;
     bytes.resize(28, 0)?;
@@ -53,7 +53,7 @@ fn discover(alloc: Global, client: u8) -> Result<Vec<u8>, AllocError> {
     Ok(bytes)
 }
 
-// The line of a reply that offers the first address of the pool, where these bytes are one.
+// Returns the line of a reply that offers the first address of the pool, if these bytes are one.
 fn offer_line(alloc: Global, reply: &[u8]) -> Result<String, Fail> {
     let is_offer = reply.len() == 300
         && reply[0] == 2
@@ -66,7 +66,7 @@ fn offer_line(alloc: Global, reply: &[u8]) -> Result<String, Fail> {
     Ok(format!(in alloc; "100 reply hardware 192.0.2.10:68 {text}\n")?)
 }
 
-// A socket on a free port of loopback, which waits ten seconds for a datagram.
+// Opens a socket on a free port of loopback that waits ten seconds for a datagram.
 fn bound(rt: &HostRuntime) -> Result<(UdpSocket, SocketAddr), Fail> {
     let socket = UdpSocket::bind(rt, ("127.0.0.1", 0))?;
     socket.set_read_timeout(Some(Duration::from_secs(10)))?;
@@ -74,8 +74,8 @@ fn bound(rt: &HostRuntime) -> Result<(UdpSocket, SocketAddr), Fail> {
     Ok((socket, address))
 }
 
-// These lines are of this OFFER and of a datagram that is no message, at moments of the clock, which have
-// ten digits.
+// Reports whether these lines are for this OFFER and for a datagram that is not a message, at times
+// of the clock, which have ten digits.
 fn tells_both(alloc: Global, reply: &[u8], written: &[u8]) -> Result<bool, Fail> {
     let offer = offer_line(alloc, reply)?;
     match (written.get(10..), offer.as_bytes().get(3..)) {
@@ -107,7 +107,8 @@ impl<'a> Work for Two<'a> {
     }
 }
 
-// Whether a client's socket has received a reply from this address, of which these lines are.
+// Reports whether a client's socket has received a reply from this address that these lines are
+// about.
 fn is_told(
     alloc: Global,
     client: &UdpSocket,
@@ -130,7 +131,7 @@ fn two_datagrams_are_served_over_a_socket(rt: HostRuntime) -> Result<(), Fail> {
     Ok(())
 }
 
-// Sends a DISCOVER and a datagram that is no message.
+// Sends a DISCOVER and a datagram that is not a message.
 fn send(alloc: Global, client: &UdpSocket, address: SocketAddr) -> Result<(), Fail> {
     let bytes = discover(alloc, 1)?;
     client.send_to(bytes.as_slice(), address)?;
@@ -138,9 +139,8 @@ fn send(alloc: Global, client: &UdpSocket, address: SocketAddr) -> Result<(), Fa
     Ok(())
 }
 
-// A link that gives a DISCOVER so many times and then fails, and keeps the last reply; none is sent
-// where it loses them. Its clock says a moment, and jumps with each datagram; so does what its steady
-// clock has counted.
+// A link that delivers a DISCOVER a number of times and then fails, and keeps the last reply; none
+// is sent if it loses them. Its clock jumps with each datagram, and so does its steady clock.
 #[derive(Drop)]
 struct Wired {
     discover: Vec<u8>,
@@ -171,7 +171,7 @@ impl Wired {
         })
     }
 
-    // The length of the next datagram.
+    // Returns the length of the next datagram.
     fn next(&mut self, buf: &mut [u8]) -> Option<usize>
         ensures count { IfSome result (λ n. n ≤ length buf.new) }
         ensures failed { self.new.failed ≡ self.old.failed }
@@ -228,7 +228,7 @@ impl Link for Wired {
     }
 }
 
-// How serving so many datagrams in batches of at most so many ends, without a record.
+// Returns how serving `count` datagrams in batches of at most `most` ends, without a record.
 fn served_by<L: Link>(
     link: &mut L,
     sink: &mut Keeping,
@@ -243,7 +243,7 @@ fn served_by<L: Link>(
     serve(alloc, link, &mut None::<Keeping>, sink, server, limits)
 }
 
-// Serves three datagrams where two come, and finds how that ends, what was written up to so many
+// Serves three datagrams when two arrive, and finds how that ends, what was written up to `until`
 // bytes, and the last reply.
 #[derive(Drop)]
 struct Three {
@@ -300,7 +300,7 @@ const WIDE: &[u8] =
     b"{\"Dhcp4\":{\"server-address\":\"192.0.2.1\",\"valid-lifetime\":3600,\"subnet4\":[\
     {\"subnet\":\"192.0.2.0/24\",\"pools\":[{\"pool\":\"192.0.2.10 - 192.0.2.199\"}]}]}}";
 
-// A socket at which the DISCOVERs of so many clients wait.
+// Makes a socket at which the DISCOVERs of `clients` clients are waiting.
 fn crowded(rt: &HostRuntime, clients: u8) -> Result<UdpSocket, Fail> {
     let (socket, address) = bound(rt)?;
     let (client, _) = bound(rt)?;
@@ -310,7 +310,7 @@ fn crowded(rt: &HostRuntime, clients: u8) -> Result<UdpSocket, Fail> {
     Ok(socket)
 }
 
-// How many lines there are.
+// Returns the number of lines.
 fn lines_of(text: &[u8]) -> usize {
     let mut lines = 0usize;
     for byte in text {
@@ -321,7 +321,7 @@ fn lines_of(text: &[u8]) -> usize {
     lines
 }
 
-// Serves so many datagrams of a socket, up to 32 in a batch, and finds how that ends and how many
+// Serves `count` datagrams of a socket, up to 32 in a batch, and finds how that ends and how many
 // lines are written.
 #[derive(Drop)]
 struct Crowd<'a> {
@@ -346,7 +346,8 @@ impl<'a> Work for Crowd<'a> {
     }
 }
 
-// The same where the DISCOVERs of so many clients wait, over a store that answers so many calls.
+// Does the same with the DISCOVERs of `clients` clients waiting, over a store on which `calls`
+// calls succeed.
 fn waited(
     rt: &HostRuntime,
     clients: u8,
@@ -361,11 +362,11 @@ fn waited(
     with_server_of(rt.alloc(), config, PORTS, calls, work)
 }
 
-// How many clients wait, how many commits there are, and how many lines where the last commit fails.
+// How many clients wait, how many commits there are, and how many lines if the last commit fails.
 const WAITING: [(u8, u64, usize); 5] = [(1, 1, 0), (2, 1, 0), (31, 1, 0), (32, 1, 0), (33, 2, 32)];
 
-// What waits is handled with one commit, 32 datagrams at most: the store is opened by one call, and
-// each commit is one.
+// Waiting datagrams are handled with one commit, at most 32 of them. Opening the store takes one
+// call, and each commit takes one.
 #[test]
 fn datagrams_that_wait_share_a_commit(rt: HostRuntime) -> Result<(), Fail> {
     for (clients, commits, before) in WAITING {
@@ -384,7 +385,7 @@ fn datagrams_that_wait_share_a_commit(rt: HostRuntime) -> Result<(), Fail> {
     Ok(())
 }
 
-// The DISCOVER of a client at a moment.
+// Makes the DISCOVER of a client at a time.
 fn discovered(alloc: Global, moment: u64, client: u8) -> Result<Event, AllocError> {
     Ok(Event {
         moment,
@@ -392,7 +393,7 @@ fn discovered(alloc: Global, moment: u64, client: u8) -> Result<Event, AllocErro
     })
 }
 
-// The last byte of a reply's yiaddr.
+// Returns the last byte of a reply's yiaddr.
 fn last_of_yiaddr(reply: &[u8]) -> u8 {
     match reply.get(19) {
         Some(byte) => *byte,
@@ -400,8 +401,8 @@ fn last_of_yiaddr(reply: &[u8]) -> u8 {
     }
 }
 
-// What happened, a line each: a datagram that was waited for or that waited, with its length, what
-// the clock said, and a reply with the last byte of its yiaddr.
+// Returns what happened, one line each: a datagram that was waited for or was waiting, with its
+// length; what the clock said; and a reply with the last byte of its yiaddr.
 fn told(alloc: Global, log: &[Happening]) -> Result<String, AllocError> {
     let mut text = String::new(alloc);
     for happening in log {
@@ -422,7 +423,7 @@ fn told(alloc: Global, log: &[Happening]) -> Result<String, AllocError> {
     Ok(text)
 }
 
-// Three events: two DISCOVERs, and between them a datagram that reads as no message.
+// Makes three events: two DISCOVERs, and between them a datagram that cannot be read as a message.
 fn input(alloc: Global) -> Result<Vec<Event>, AllocError> {
     let mut events = Vec::with_capacity(alloc, 3)?;
     events.push(discovered(alloc, 100, 1)?)?;
@@ -431,7 +432,7 @@ fn input(alloc: Global) -> Result<Vec<Event>, AllocError> {
     Ok(events)
 }
 
-// A datagram of one byte at the moment 110.
+// Makes a datagram of one byte at time 110.
 fn unreadable(alloc: Global) -> Result<Event, AllocError> {
     let bytes = Vec::from_slice(alloc, &[0x0a])?;
     Ok(Event {
@@ -440,7 +441,7 @@ fn unreadable(alloc: Global) -> Result<Event, AllocError> {
     })
 }
 
-// Serves them, where one waits behind each that is waited for, and finds what that leaves.
+// Serves them, with one waiting after each that is waited for, and finds what that leaves.
 #[derive(Drop)]
 struct Served;
 
@@ -456,16 +457,16 @@ impl Work for Served {
     }
 }
 
-// The record of them.
+// Returns the record of them.
 fn record(alloc: Global) -> Result<String, AllocError> {
     let first = hex::encode(alloc, discover(alloc, 1)?.as_slice())?;
     let last = hex::encode(alloc, discover(alloc, 2)?.as_slice())?;
     format!(in alloc; "100 {first}\n110 0a\n300 {last}\n")
 }
 
-// Two batches, of two events and of one: both clocks are asked at the start and behind each batch, the
-// clock also after each datagram, the record is of all, and the replies of a batch go behind its last
-// datagram.
+// There are two batches, of two events and of one. Both clocks are read at the start and after each
+// batch, and the clock also after each datagram; the record has all datagrams; and the replies of a
+// batch are sent after its last datagram.
 #[test]
 fn what_happens_is_told_in_its_order(rt: HostRuntime) -> Result<(), Fail> {
     let served = with_server(rt.alloc(), PORTS, Served)?;
@@ -505,9 +506,9 @@ fn what_is_recorded_replays_to_what_was_written(rt: HostRuntime) -> Result<(), F
     Ok(())
 }
 
-// How serving one datagram ends over a server where the clock may run 50 seconds ahead. It says a
-// moment at the start, and so many seconds more once the datagram has come; the steady clock has
-// counted `passes` by then.
+// Returns how serving one datagram ends over a server whose clock may run 50 seconds ahead. The
+// clock says `moment` at the start, and `jump` seconds more once the datagram has arrived; the
+// steady clock has counted `passes` by then.
 fn ended(
     alloc: Global,
     server: &mut Server<Fused>,
@@ -528,8 +529,8 @@ fn ended(
     Ok(served_by(&mut link, &mut sink, server, alloc, limits))
 }
 
-// The moment at the start, the seconds by which the clock jumps, those that the steady clock counts,
-// and whether that is ahead, over no leases.
+// The time at the start, the seconds by which the clock jumps, those that the steady clock counts,
+// and whether that is ahead, without leases.
 const JUMPS: [(u64, u64, u64, bool); 8] = [
     (1_000, 50, 0, false),
     (1_000, 51, 0, true),
@@ -541,7 +542,7 @@ const JUMPS: [(u64, u64, u64, bool); 8] = [
     (0, 51, 0, true),
 ];
 
-// Whether serving ends because the clock is ahead, or well.
+// Reports whether serving ends because the clock is ahead, or well, as expected.
 fn is_end(end: &Result<(), LoopFault>, is_ahead: bool) -> bool {
     match end {
         Ok(()) => !is_ahead,
@@ -549,7 +550,7 @@ fn is_end(end: &Result<(), LoopFault>, is_ahead: bool) -> bool {
     }
 }
 
-// Finds whether serving over no leases ends so.
+// Finds whether serving without leases ends this way.
 #[derive(Drop)]
 struct Jumps((u64, u64, u64, bool));
 
@@ -572,8 +573,9 @@ fn serving_ends_where_the_clock_jumps_ahead(rt: HostRuntime) -> Result<(), Fail>
     Ok(())
 }
 
-// The same over an offer that was made at the moment 1,000: the clock may be 50 seconds behind it at the
-// start, and where it was set back it is not ahead before it is 50 seconds after it.
+// The same with an offer that was made at time 1,000: the clock may be 50 seconds behind it at the
+// start; if the clock was set back, it is not ahead until it is more than 50 seconds after the
+// offer.
 const SETS_BACK: [(u64, u64, u64, bool); 6] = [
     (949, 0, 0, true),
     (950, 0, 0, false),
@@ -583,7 +585,7 @@ const SETS_BACK: [(u64, u64, u64, bool); 6] = [
     (960, 50, 0, false),
 ];
 
-// Finds whether serving over that offer ends so.
+// Finds whether serving with that offer ends this way.
 #[derive(Drop)]
 struct SetsBack((u64, u64, u64, bool));
 

@@ -10,10 +10,10 @@ use std::test::Fail;
 /// The bytes 236 to 239 of a datagram.
 pub(crate) const COOKIE: [u8; 4] = [99, 130, 83, 99];
 
-/// What is done with a server. What holds a server is proved against all parts of its table, so
-/// `with_server_of` alone does, and all else borrows one.
+/// Work with a server. Code that holds a server is proved against all parts of its table, so only
+/// `with_server_of` does, and everything else borrows one.
 pub(crate) trait Work: Drop {
-    /// What comes of it.
+    /// What it finds.
     type Found: Drop;
 
     /// Does it.
@@ -28,7 +28,7 @@ pub(crate) fn with_server<W: Work>(alloc: Global, ports: Ports, work: W) -> Resu
     }
 }
 
-/// The same with a configuration, over an empty store that answers so many calls.
+/// Does the same with a configuration, over an empty store on which `calls` calls succeed.
 pub(crate) fn with_server_of<W: Work>(
     alloc: Global,
     config: Config,
@@ -42,7 +42,7 @@ pub(crate) fn with_server_of<W: Work>(
     }
 }
 
-/// A server of a configuration, over an empty store that answers so many calls.
+/// Makes a server with a configuration, over an empty store on which `calls` calls succeed.
 pub(crate) fn server_of(
     alloc: Global,
     config: Config,
