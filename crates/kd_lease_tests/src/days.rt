@@ -10,10 +10,10 @@ use kd_table_tests::Fused;
 use std::alloc::{AllocError, Global};
 use std::test::Fail;
 
-/// Why a call gives nothing.
+/// Why a call returns nothing.
 #[derive(Clone, Copy, Debug, PartialEq, Eq)]
 pub(crate) enum Fault {
-    /// There is no memory.
+    /// Out of memory.
     Memory,
     /// Any other cause.
     Other,
@@ -25,27 +25,26 @@ impl From<AllocError> for Fault {
     }
 }
 
-// A message: the moment, the number at the end of its client's hardware address, its options after
+// A message: its time, the number at the end of its client's hardware address, its options after
 // the cookie, and ciaddr.
 type Sent = (u64, u32, &'static [u8], u32);
 
-// What comes back: the type of a reply, its yiaddr and how it is sent; or the reason for which
-// there is none.
+// The result: the type of a reply, its yiaddr and how it is sent; or the reason why there is none.
 #[derive(Clone, Copy, PartialEq, Eq)]
 enum Got {
     Reply(u8, u32, Mode),
     Quiet(Reason),
 }
 
-// A day: messages, and what comes back for each.
+// A day: messages, and the result for each.
 type Day = &'static [(Sent, Got)];
 
-// The server's address, 192.0.2.1, and the two of its pool.
+// The two addresses of the pool. The server's is 192.0.2.1.
 const POOL: [u32; 2] = [0xc000_020a, 0xc000_020b];
 
 const DISCOVER: &[u8] = b"\x35\x01\x01\xff";
 
-// A DISCOVER that asks for 192.0.2.10, and one that asks for .11.
+// A DISCOVER that requests 192.0.2.10, and one that requests .11.
 const DISCOVER_10: &[u8] = b"\x35\x01\x01\x32\x04\xc0\x00\x02\x0a\xff";
 
 // REQUESTs to this server for .10 and .11; to 192.0.2.99; and without a server, for .10 and for
@@ -68,8 +67,8 @@ const DECLINE_10: &[u8] = b"\x35\x01\x04\x32\x04\xc0\x00\x02\x0a\xff";
 
 const INFORM: &[u8] = b"\x35\x01\x08\xff";
 
-// An address is offered while it is free, the next client gets the next one, and a third none; what
-// is not asked for in time goes to the third.
+// An address is offered while it is free, the next client gets the next one, and a third gets none.
+// An address that is not requested in time goes to the third.
 const OFFERS: Day = &[
     (
         (100, 1, DISCOVER, 0),
@@ -104,15 +103,15 @@ const OTHERS: Day = &[
     ),
 ];
 
-// A client without a row is not answered; one that asks for an address elsewhere is refused.
+// A client without a row gets no reply; one that requests an address elsewhere gets a NAK.
 const STRANGERS: Day = &[
     ((200, 1, REBOOT_FAR, 0), Got::Reply(6, 0, Mode::Broadcast)),
     ((200, 4, REBOOT_10, 0), Got::Quiet(Reason::NoRecord)),
     ((200, 4, RENEW, 0), Got::Quiet(Reason::NoRequested)),
 ];
 
-// A lease is renewed, also at a moment that goes back, and by its client alone; it is given back
-// once; an address that is declined is held back.
+// A lease is renewed, even at a time that goes back, but only by its client; it is released once;
+// an address that is declined is held back.
 const LEASES: Day = &[
     (
         (990, 1, DISCOVER, 0),
@@ -152,7 +151,8 @@ const PORTS: Ports = Ports {
     client: 68,
 };
 
-/// A server of the built-in configuration over an empty store that answers so many calls.
+/// Opens a server with the built-in configuration, over an empty store on which `calls` calls
+/// succeed.
 pub(crate) fn opened(alloc: Global, calls: u64) -> Result<Server<Fused>, Fault> {
     let config = Config::builtin(alloc)?;
     match Fused::new(alloc, calls) {
@@ -161,7 +161,7 @@ pub(crate) fn opened(alloc: Global, calls: u64) -> Result<Server<Fused>, Fault> 
     }
 }
 
-// The same over a store.
+// Does the same over a store.
 fn opened_over(alloc: Global, config: Config, store: Fused) -> Result<Server<Fused>, Fault>
     requires { store.fault ≡ None }
 {
@@ -171,7 +171,8 @@ fn opened_over(alloc: Global, config: Config, store: Fused) -> Result<Server<Fus
     }
 }
 
-// Why a server gives nothing: there is no memory for the event, or none within its store.
+// Returns why a server returns nothing: out of memory for the event or within its store, or another
+// cause.
 fn cause_of(fault: ServeFault) -> Fault {
     match fault {
         ServeFault::Memory => Fault::Memory,
@@ -180,7 +181,7 @@ fn cause_of(fault: ServeFault) -> Fault {
     }
 }
 
-// The datagram of a message.
+// Returns the datagram of a message.
 fn datagram(alloc: Global, message: Sent) -> Result<Vec<u8>, AllocError> {
     let (_, client, options, ciaddr) = message;
     bytes_of(
@@ -194,7 +195,7 @@ fn datagram(alloc: Global, message: Sent) -> Result<Vec<u8>, AllocError> {
     )
 }
 
-// The byte at a place, and 0 after the end.
+// Returns the byte at a position, and 0 after the end.
 fn byte_at(bytes: &[u8], at: usize) -> u8 {
     match bytes.get(at) {
         Some(byte) => *byte,
@@ -202,7 +203,7 @@ fn byte_at(bytes: &[u8], at: usize) -> u8 {
     }
 }
 
-// The address that a reply gives, its bytes 16 to 19.
+// Returns the address that a reply gives, its bytes 16 to 19.
 fn yiaddr_of(bytes: &[u8]) -> u32 {
     u32::from_be_bytes([
         byte_at(bytes, 16),
@@ -212,7 +213,7 @@ fn yiaddr_of(bytes: &[u8]) -> u32 {
     ])
 }
 
-// What a response is.
+// Returns the result that a response is.
 fn received(response: &Response) -> Got {
     match response {
         Response::Quiet(reason) => Got::Quiet(*reason),
@@ -223,7 +224,7 @@ fn received(response: &Response) -> Got {
     }
 }
 
-// What comes back for a message.
+// Returns the result for a message.
 fn sent(alloc: Global, server: &mut Server<Fused>, message: Sent) -> Result<Got, Fault> {
     let bytes = datagram(alloc, message)?;
     match server.handle(message.0, bytes.as_slice()) {
@@ -232,7 +233,7 @@ fn sent(alloc: Global, server: &mut Server<Fused>, message: Sent) -> Result<Got,
     }
 }
 
-// How many messages of a day got what they should, up to the first that did not.
+// Returns how many messages of a day had the expected result, up to the first that did not.
 fn as_worked_out(alloc: Global, day: &[(Sent, Got)]) -> Result<usize, Fault> {
     match opened(alloc, 1000) {
         Ok(mut server) => right_in(alloc, &mut server, day),
@@ -240,7 +241,7 @@ fn as_worked_out(alloc: Global, day: &[(Sent, Got)]) -> Result<usize, Fault> {
     }
 }
 
-// The same over a server.
+// Does the same over a server.
 fn right_in(
     alloc: Global,
     server: &mut Server<Fused>,
@@ -278,8 +279,8 @@ fn leases_are_renewed_given_back_and_declined(rt: HostRuntime) -> Result<(), Fai
     Ok(())
 }
 
-// Whether a server over a store that fails at its second put answers an offer, the fault, and the
-// same at the next.
+// Reports whether a server over a store that fails at its second put answers an offer, then reports
+// the fault, and then reports failure at the next event.
 fn stops_so(alloc: Global, server: &mut Server<Fused>) -> Result<bool, Fault> {
     let first = sent(alloc, server, (100, 1, DISCOVER, 0))?;
     let bytes = datagram(alloc, (110, 2, DISCOVER, 0))?;
@@ -292,7 +293,7 @@ fn stops_so(alloc: Global, server: &mut Server<Fused>) -> Result<bool, Fault> {
     )
 }
 
-// The same of a server that is opened.
+// Does the same with a server that is opened.
 fn stops(alloc: Global) -> Result<bool, Fault> {
     match opened(alloc, 2) {
         Ok(mut server) => stops_so(alloc, &mut server),
@@ -306,8 +307,8 @@ fn no_reply_is_sent_once_the_store_has_failed(rt: HostRuntime) -> Result<(), Fai
     Ok(())
 }
 
-// With a refused request for memory the answer is want of it; the same day again gives what it
-// gives with ample memory.
+// If a memory request is refused, the call reports it; the same day repeated gives the same as with
+// enough memory.
 #[test]
 fn want_of_memory_is_answered_as_such(rt: HostRuntime) -> Result<(), Fail> {
     match as_worked_out(rt.alloc(), OFFERS) {

@@ -1,4 +1,4 @@
-// What is decided for a message by its configuration and table alone.
+// The decision for a message, from only its configuration and table.
 
 use crate::fields::{DIRECT, bytes_of};
 use kd_config::Config;
@@ -11,7 +11,7 @@ use std::test::Fail;
 // 192.0.2.10, the first address of the built-in pool.
 const FIRST: u32 = 0xc000_020a;
 
-// What is decided for the DISCOVER of the client 0a0000000001 at the moment 100, over an empty table
+// Returns the decision for the DISCOVER of the client 0a0000000001 at time 100, over an empty table
 // of the built-in configuration.
 fn first_decision(alloc: Global) -> Result<Decision, Fail> {
     match Config::builtin(alloc) {
@@ -20,7 +20,7 @@ fn first_decision(alloc: Global) -> Result<Decision, Fail> {
     }
 }
 
-// The same by a configuration.
+// Does the same with a configuration.
 fn decided_by(alloc: Global, config: &Config) -> Result<Decision, Fail> {
     match Rows::new(Vec::new(alloc)) {
         Ok(rows) => decided_over(alloc, config, &rows),
@@ -28,7 +28,7 @@ fn decided_by(alloc: Global, config: &Config) -> Result<Decision, Fail> {
     }
 }
 
-// The same over a table.
+// Does the same over a table.
 fn decided_over(alloc: Global, config: &Config, rows: &Rows) -> Result<Decision, Fail> {
     let bytes = bytes_of(alloc, &DIRECT)?;
     let message = Message::read(alloc, bytes.as_slice())?;
@@ -36,7 +36,7 @@ fn decided_over(alloc: Global, config: &Config, rows: &Rows) -> Result<Decision,
     Ok(decide(alloc, config, rows, &message, &names, 100)?)
 }
 
-// The row holds the first address for the client, for a minute.
+// Reports whether the row holds the first address for the client, for a minute.
 fn is_held(row: &Row) -> bool {
     row.address == FIRST
         && row.client.as_slice() == [0, 1, 10, 0, 0, 0, 0, 1].as_slice()
@@ -46,12 +46,12 @@ fn is_held(row: &Row) -> bool {
 }
 
 // The cookie and the options of the OFFER: its type, the server 192.0.2.1, a lease of 3600 seconds
-// that is renewed after 1800 and rebound after 3150, the mask, End.
+// that is renewed after 1800 and rebound after 3150, the subnet mask, and the end option.
 const OPTIONS: &[u8] = b"\x63\x82\x53\x63\x35\x01\x02\x36\x04\xc0\x00\x02\x01\
     \x33\x04\x00\x00\x0e\x10\x3a\x04\x00\x00\x07\x08\x3b\x04\x00\x00\x0c\x4e\
     \x01\x04\xff\xff\xff\x00\xff";
 
-// The bytes of the OFFER.
+// Returns the bytes of the OFFER.
 fn offer(alloc: Global) -> Result<Vec<u8>, AllocError> {
     let mut bytes = Vec::from_slice(alloc, &[2, 1, 6, 0, 0, 0, 0, 1])?;
     bytes.resize(16, 0)?;
@@ -64,10 +64,10 @@ fn offer(alloc: Global) -> Result<Vec<u8>, AllocError> {
     Ok(bytes)
 }
 
-// The room of a client that does not say how much it takes.
+// The room for a client that does not say how much it accepts.
 const ROOM: u16 = 548;
 
-// The plan is an OFFER of the first address, which has these bytes.
+// Reports whether the plan is an OFFER of the first address with these bytes.
 fn is_offered(alloc: Global, plan: &Plan) -> Result<bool, Fail> {
     let written = plan.reply.write(alloc, ROOM)?;
     let is_first = plan.kind == PlanKind::Offer && plan.yiaddr == FIRST && plan.room == ROOM;

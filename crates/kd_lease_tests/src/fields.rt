@@ -21,7 +21,7 @@ pub(crate) const DIRECT: Fields<'static> = Fields {
     flags: 0,
 };
 
-/// The datagram of a message.
+/// Returns the datagram of a message.
 pub(crate) fn bytes_of(alloc: Global, fields: &Fields<'_>) -> Result<Vec<u8>, AllocError> {
     let mut bytes = Vec::from_slice(alloc, &[1, 1, 6, 0, 0, 0, 0, 1, 0, 0])?;
     bytes.extend_from_slice(&fields.flags.to_be_bytes())?;

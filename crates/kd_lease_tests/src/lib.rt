@@ -1,9 +1,9 @@
 //! Tests of the server with leases by values: days of a few events, worked out by hand from the
-//! rules, over a store in memory; what stands after a store that fails, and after a refused request
-//! for memory; what is decided for a message alone; where replies go; what is offered where hundreds
+//! rules, over a store in memory; the state after a store that fails, and after a refused memory
+//! request; the decision for a single message; where replies go; and what is offered when hundreds
 //! of addresses are reserved.
 //!
-//! They are a crate of their own since a crate is proved once more with its tests.
+//! They are a separate crate because a crate is proved again together with its tests.
 #![tactic(auto)]
 
 #[cfg(test)]

@@ -13,8 +13,8 @@ const PORTS: Ports = Ports {
     client: 68,
 };
 
-// A message's relay, client's address and flags, and the kind of its reply; how that is sent, to
-// which address and port.
+// A message's relay, client's address and flags, and the kind of its reply; how that is sent, and
+// to which address and port.
 type Way = (u32, u32, u16, PlanKind, (Mode, u32, u16));
 
 const WAYS: [Way; 6] = [
@@ -56,7 +56,7 @@ const WAYS: [Way; 6] = [
     (0, 0, 0, PlanKind::Offer, (Mode::Hardware, 0xc000_020a, 68)),
 ];
 
-// Where the reply goes to a message with these fields, which gives 192.0.2.10.
+// Returns where the reply to a message with these fields goes. The reply gives 192.0.2.10.
 fn sent_to(alloc: Global, way: Way) -> Result<Destination, Fail> {
     let (giaddr, ciaddr, flags, kind, _) = way;
     let fields = Fields {
@@ -89,15 +89,15 @@ fn a_reply_goes_where_the_message_says(rt: HostRuntime) -> Result<(), Fail> {
     Ok(())
 }
 
-// A DISCOVER's relay, and how it is answered: its place is the relay's address, or the server's
-// without one.
+// A DISCOVER's relay, and how it is answered. Its place is the relay's address, or the server's if
+// there is no relay.
 const RELAYS: [(u32, Result<Mode, Reason>); 3] = [
     (0, Ok(Mode::Hardware)),
     (0xc000_02fe, Ok(Mode::Relay)),
     (0xc633_6401, Err(Reason::NoSubnet)),
 ];
 
-// How a DISCOVER through this relay is answered.
+// Returns how a DISCOVER through this relay is answered.
 fn answered(alloc: Global, giaddr: u32) -> Result<Result<Mode, Reason>, Fail> {
     match opened(alloc, 10) {
         Ok(mut server) => answer_of(alloc, &mut server, giaddr),
@@ -105,7 +105,7 @@ fn answered(alloc: Global, giaddr: u32) -> Result<Result<Mode, Reason>, Fail> {
     }
 }
 
-// The same by a server.
+// Does the same with a server.
 fn answer_of(
     alloc: Global,
     server: &mut Server<Fused>,

@@ -1,4 +1,4 @@
-// What clients are offered over a table that withholds the addresses that are reserved.
+// What clients are offered over a table that withholds the reserved addresses.
 
 use crate::days::Fault;
 use crate::fields::{DIRECT, Fields, bytes_of};
@@ -11,17 +11,17 @@ use kd_rows::{Row, Rows};
 use std::alloc::Global;
 use std::test::Fail;
 
-// Clients that send a DISCOVER one after another, and the address that each is offered, if it is.
+// Clients that send a DISCOVER one after another, and the address that each is offered, if any.
 type Offers = &'static [(u32, Option<u32>)];
 
-// Two clients without a row for which no address is reserved.
+// Two clients without a row and without a reservation.
 const STRANGER: u32 = 200_000;
 
 const NEXT: u32 = 200_001;
 
 // Pools of some thousands of addresses, with three hundred reservations.
 const LARGE: [(Scene, Offers); 9] = [
-    // In an empty pool the reserved addresses are passed over; each is there for its client.
+    // In an empty pool the reserved addresses are passed over; each is available for its client.
     (
         (4000, Layout::Empty, 300, Place::First),
         &[
@@ -43,8 +43,8 @@ const LARGE: [(Scene, Offers); 9] = [
             (299, Some(POOL + 1199)),
         ],
     ),
-    // The first three hundred addresses are reserved, and three in four of them are leased: the
-    // client for which such an address is reserved does not get it, and the one that leases it
+    // The first three hundred addresses are reserved, and three in four of them are leased. The
+    // client for which such an address is reserved does not get it, and the client that leases it
     // does not keep it.
     (
         (4000, Layout::Gaps, 300, Place::First),
@@ -56,8 +56,8 @@ const LARGE: [(Scene, Offers); 9] = [
             (OWNER + 301, Some(POOL + 301)),
         ],
     ),
-    // The first three hundred whose rows have ended are reserved; a client gets back the one that
-    // it had, unless it is reserved for another.
+    // The first three hundred addresses whose rows have ended are reserved. A client gets back the
+    // one that it had, unless it is reserved for another.
     (
         (4000, Layout::Ended, 300, Place::Vacant),
         &[
@@ -78,7 +78,7 @@ const LARGE: [(Scene, Offers); 9] = [
             (OWNER + 4, Some(POOL + 4)),
         ],
     ),
-    // All gaps are reserved, and all whose rows have ended.
+    // All gaps and all addresses whose rows have ended are reserved.
     (
         (1200, Layout::Gaps, 300, Place::Vacant),
         &[(STRANGER, None), (299, Some(POOL + 1199))],
@@ -91,7 +91,7 @@ const LARGE: [(Scene, Offers); 9] = [
             (299, Some(POOL + 1199)),
         ],
     ),
-    // What is reserved is in no pool.
+    // The reserved addresses are in no pool.
     (
         (4000, Layout::Empty, 300, Place::Behind),
         &[
@@ -134,7 +134,7 @@ const SMALL: [(Scene, Offers); 4] = [
     ),
 ];
 
-// What is decided for a datagram.
+// Returns the decision for a datagram.
 fn decided(alloc: Global, leases: &Leases, bytes: &[u8]) -> Result<Decision, Fault> {
     match Message::read(alloc, bytes) {
         Ok(message) => decided_for(alloc, leases, &message),
@@ -143,14 +143,14 @@ fn decided(alloc: Global, leases: &Leases, bytes: &[u8]) -> Result<Decision, Fau
     }
 }
 
-// What is decided for a message.
+// Returns the decision for a message.
 fn decided_for(alloc: Global, leases: &Leases, message: &Message<'_>) -> Result<Decision, Fault> {
     let names = leases.config().classes().held(alloc, message)?;
     let decision = decide_on(alloc, leases.ground(), message, &names, MOMENT)?;
     Ok(decision)
 }
 
-// The address that an OFFER has; none where there is no address for the client.
+// Returns the address in an OFFER, or `None` if there is no address for the client.
 fn address_in(answer: &Result<Plan, Reason>) -> Result<Option<u32>, Fault> {
     match answer {
         Ok(plan) if plan.kind == PlanKind::Offer => Ok(Some(plan.yiaddr)),
@@ -169,7 +169,7 @@ fn set(leases: &mut Leases, row: Row) -> Result<(), Fault> {
     Ok(())
 }
 
-// What a client is offered for a DISCOVER. The row of the offer is set.
+// Returns what a client is offered for a DISCOVER. The row of the offer is set.
 fn offered(alloc: Global, leases: &mut Leases, client: u32) -> Result<Option<u32>, Fault> {
     let bytes = bytes_of(alloc, &Fields { client, ..DIRECT })?;
     let Verdict { row, answer } = decided(alloc, leases, bytes.as_slice())?;
@@ -179,7 +179,7 @@ fn offered(alloc: Global, leases: &mut Leases, client: u32) -> Result<Option<u32
     address_in(&answer)
 }
 
-// How many rows there are, and a sum of what is in them.
+// Returns the number of rows, and a sum of what is in them.
 fn sum_of(rows: &Rows) -> (usize, u64) {
     let mut sum = 0u64;
     for i in 0..rows.len() {
@@ -193,7 +193,7 @@ fn sum_of(rows: &Rows) -> (usize, u64) {
     (rows.len(), sum)
 }
 
-// The same once more where there was no memory for it, which leaves the leases as they were.
+// Does the same again if there was no memory for it, which must leave the leases as they were.
 fn offered_again(alloc: Global, leases: &mut Leases, client: u32) -> Result<Option<u32>, Fault> {
     let before = sum_of(leases.rows());
     match offered(alloc, leases, client) {
@@ -208,7 +208,7 @@ fn offered_again(alloc: Global, leases: &mut Leases, client: u32) -> Result<Opti
     }
 }
 
-// How many clients were offered what they should, up to the first that was not.
+// Returns how many clients were offered the expected address, up to the first that was not.
 fn right_in(
     alloc: Global,
     leases: &mut Leases,
@@ -222,8 +222,8 @@ fn right_in(
     Ok(offers.len())
 }
 
-// The same over the leases of a configuration, which are made once more where there was no memory
-// for them.
+// Does the same over the leases of a configuration, which are made again if there was no memory for
+// them.
 fn right_over(
     alloc: Global,
     scene: &Scene,
@@ -240,7 +240,7 @@ fn right_over(
     }
 }
 
-// The same in a scene.
+// Does the same in a scene.
 fn as_worked_out(
     alloc: Global,
     scene: &Scene,
@@ -261,8 +261,8 @@ fn reserved_addresses_are_passed_over(rt: HostRuntime) -> Result<(), Fail> {
     Ok(())
 }
 
-// With a refused request for memory the answer is want of it, and the leases are as they were; the
-// same once more gives what it gives with ample memory.
+// If a memory request is refused, the call reports it and the leases are as they were; the same
+// call repeated gives the same as with enough memory.
 #[test]
 fn want_of_memory_is_answered_as_such(rt: HostRuntime) -> Result<(), Fail> {
     for (scene, offers) in SMALL {

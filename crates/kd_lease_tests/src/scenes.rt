@@ -1,4 +1,4 @@
-// Leases with many rows, of a configuration with many reservations.
+// Leases with many rows, with a configuration of many reservations.
 
 use crate::days::Fault;
 use kd_config::Config;
@@ -11,27 +11,26 @@ use std::fmt::Write;
 /// The first address of the pool, 10.0.1.0.
 pub(crate) const POOL: u32 = 0x0a00_0100;
 
-/// The first of the addresses behind it, 10.0.128.0, which are in no pool.
+/// The first of the addresses after it, 10.0.128.0, which are in no pool.
 pub(crate) const BEHIND: u32 = 0x0a00_8000;
 
-/// The client of the row at the first address of the pool; that of the next is the next client.
+/// The client of the row at the first address of the pool. The next address has the next client.
 pub(crate) const OWNER: u32 = 100_000;
 
-/// The moment of each message.
+/// The time of each message.
 pub(crate) const MOMENT: u64 = 10_000;
 
-// The moments at which the rows were set, at which those end that have ended, and at which the
-// others do.
+// The time at which the rows were set, the end of those that have ended, and the end of the others.
 const SET: u64 = 1_000;
 
 const ENDED: u64 = 9_999;
 
 const FAR: u64 = 1_000_000;
 
-// Of each four addresses of the pool the last is vacant.
+// The last of each four addresses of the pool is vacant.
 const STEP: u32 = 4;
 
-/// Which addresses of the pool have rows. Those that are not vacant are leased to a client each.
+/// Which addresses of the pool have rows. Each that is not vacant is leased to its own client.
 #[derive(Clone, Copy, PartialEq, Eq)]
 pub(crate) enum Layout {
     /// None.
@@ -44,7 +43,7 @@ pub(crate) enum Layout {
     Full,
 }
 
-/// Where the reserved addresses lie, the first for the client 0 and so on.
+/// Where the reserved addresses are, the first for client 0 and so on.
 #[derive(Clone, Copy, PartialEq, Eq)]
 pub(crate) enum Place {
     /// At the first addresses of the pool.
@@ -56,10 +55,10 @@ pub(crate) enum Place {
 }
 
 /// Leases: how many addresses the pool has, which of them have rows, how many addresses are
-/// reserved, and where they lie.
+/// reserved, and where they are.
 pub(crate) type Scene = (u32, Layout, u32, Place);
 
-/// The configuration of a scene.
+/// Returns the configuration of a scene.
 pub(crate) fn config_of(alloc: Global, scene: &Scene) -> Result<Config, Fault> {
     let text = text_of(alloc, scene)?;
     match Config::read(alloc, text.as_bytes(), &[]) {
@@ -69,8 +68,8 @@ pub(crate) fn config_of(alloc: Global, scene: &Scene) -> Result<Config, Fault> {
     }
 }
 
-/// The leases of a scene over its configuration. Where there is no memory for them the
-/// configuration is given back.
+/// Returns the leases of a scene over its configuration. If there is no memory for them, the
+/// configuration is returned.
 pub(crate) fn leases_of(
     alloc: Global,
     scene: &Scene,
@@ -82,7 +81,7 @@ pub(crate) fn leases_of(
     }
 }
 
-// The same with these rows, where they can be a table.
+// Does the same with these rows, if they can be a table.
 fn over(alloc: Global, config: Config, rows: Vec<Row>) -> Result<Leases, (Fault, Config)> {
     if !Rows::accepts(&rows) {
         return Err((Fault::Other, config));
@@ -93,7 +92,7 @@ fn over(alloc: Global, config: Config, rows: Vec<Row>) -> Result<Leases, (Fault,
     }
 }
 
-// The text of the configuration of a scene.
+// Returns the text of the configuration of a scene.
 fn text_of(alloc: Global, scene: &Scene) -> Result<String, AllocError> {
     let (pooled, _, reserved, place) = *scene;
     let mut text = String::new(alloc);
@@ -113,7 +112,7 @@ fn text_of(alloc: Global, scene: &Scene) -> Result<String, AllocError> {
     Ok(text)
 }
 
-// Puts the reservation of an address for the client with a number.
+// Writes the reservation of an address for the client with a number.
 fn put_reservation(text: &mut String, number: u32, address: u32) -> Result<(), AllocError> {
     write!(
         text,
@@ -123,13 +122,13 @@ fn put_reservation(text: &mut String, number: u32, address: u32) -> Result<(), A
     text.push_str("\"}")
 }
 
-// Puts an address with its dots.
+// Writes an address in dotted decimal.
 fn put_address(text: &mut String, address: u32) -> Result<(), AllocError> {
     let [a, b, c, d] = address.to_be_bytes();
     write!(text, "{a}.{b}.{c}.{d}")
 }
 
-// The reserved address with a number.
+// Returns the reserved address with a number.
 fn reserved_address(place: Place, number: u32) -> u32 {
     match place {
         Place::First => POOL.wrapping_add(number),
@@ -140,7 +139,7 @@ fn reserved_address(place: Place, number: u32) -> u32 {
     }
 }
 
-// The rows of a scene.
+// Returns the rows of a scene.
 fn rows_of(alloc: Global, scene: &Scene) -> Result<Vec<Row>, AllocError> {
     let (pooled, layout, _, _) = *scene;
     let mut rows = Vec::new(alloc);
@@ -152,7 +151,7 @@ fn rows_of(alloc: Global, scene: &Scene) -> Result<Vec<Row>, AllocError> {
     Ok(rows)
 }
 
-// When the row of an address of the pool ends, which is vacant or not, where it has one.
+// Returns when the row of a vacant or other address of the pool ends, if it has one.
 fn end_of(layout: Layout, is_vacant: bool) -> Option<u64> {
     match layout {
         Layout::Empty => None,
@@ -162,7 +161,7 @@ fn end_of(layout: Layout, is_vacant: bool) -> Option<u64> {
     }
 }
 
-// The row of the address of the pool with a number.
+// Returns the row of the address of the pool with a number.
 fn row_of(alloc: Global, number: u32, ends: u64) -> Result<Row, AllocError> {
     let [a, b, c, d] = OWNER.wrapping_add(number).to_be_bytes();
     let client = Vec::from_slice(alloc, &[0, 1, 10, 0, a, b, c, d])?;
