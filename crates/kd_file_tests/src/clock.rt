@@ -22,7 +22,7 @@ fn the_hosts_clock_tells_the_time(rt: HostRuntime) -> Result<(), Fail> {
     Ok(())
 }
 
-// The steady clock is the system's: it is read between two readings of that.
+// The steady clock is the system's: it is read between two readings of the system's.
 #[test]
 fn the_steady_clock_counts_the_systems_seconds(rt: HostRuntime) -> Result<(), Fail> {
     let sending = Sending {
@@ -38,7 +38,7 @@ fn the_steady_clock_counts_the_systems_seconds(rt: HostRuntime) -> Result<(), Fa
     Ok(())
 }
 
-// 1,767,225,600.9 s are that second, and not the next.
+// 1,767,225,600.9 s count as that second, not as the next.
 #[test]
 fn a_moment_counts_as_its_second(rt: HostRuntime) -> Result<(), Fail> {
     let Some(time) = UNIX_EPOCH.checked_add(Duration::from_millis(1_767_225_600_900)) else {

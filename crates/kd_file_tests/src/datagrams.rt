@@ -7,8 +7,8 @@ use std::alloc::{AllocError, Global};
 /// The options of a DISCOVER, after the cookie.
 pub(crate) const DISCOVER: &[u8] = b"\x35\x01\x01\xff";
 
-/// What a reply says: its bytes op, xid and yiaddr (RFC 2131 section 2), and its type, which is its
-/// first option (RFC 2132 section 9.6).
+/// What a reply says: its op, xid and yiaddr (RFC 2131 section 2), and its type, which is its first
+/// option (RFC 2132 section 9.6).
 #[derive(Clone, Copy, PartialEq, Eq)]
 pub(crate) struct Reply {
     pub(crate) op: u8,
@@ -24,19 +24,19 @@ pub(crate) const ACK: [u8; 3] = [53, 1, 5];
 
 pub(crate) const NAK: [u8; 3] = [53, 1, 6];
 
-// The hardware address of a client.
+// Returns the hardware address of a client.
 fn hardware(client: u32) -> [u8; 6] {
     let [a, b, c, d] = client.to_be_bytes();
     [10, 0, a, b, c, d]
 }
 
-/// The identity of a client that sends its hardware address alone.
+/// Returns the identity of a client that sends only its hardware address.
 pub(crate) fn identity(client: u32) -> [u8; 8] {
     let [a, b, c, d, e, f] = hardware(client);
     [0, 1, a, b, c, d, e, f]
 }
 
-/// The datagram of a client's message, with the client's number as xid.
+/// Returns the datagram of a client's message, with the client's number as xid.
 pub(crate) fn datagram(alloc: Global, client: u32, options: &[u8]) -> Result<Vec<u8>, AllocError> {
     let mut bytes = Vec::from_slice(alloc, &[1, 1, 6, 0])?;
     bytes.extend_from_slice(&client.to_be_bytes())?;
@@ -48,7 +48,7 @@ pub(crate) fn datagram(alloc: Global, client: u32, options: &[u8]) -> Result<Vec
     Ok(bytes)
 }
 
-/// The options of a DISCOVER that asks for an address.
+/// Returns the options of a DISCOVER that requests an address.
 pub(crate) fn asking(alloc: Global, address: u32) -> Result<Vec<u8>, AllocError> {
     let mut options = Vec::from_slice(alloc, b"\x35\x01\x01\x32\x04")?;
     options.extend_from_slice(&address.to_be_bytes())?;
@@ -56,7 +56,7 @@ pub(crate) fn asking(alloc: Global, address: u32) -> Result<Vec<u8>, AllocError>
     Ok(options)
 }
 
-/// The options of a REQUEST that selects a server's address.
+/// Returns the options of a REQUEST that selects a server's address.
 pub(crate) fn selecting(alloc: Global, server: u32, address: u32) -> Result<Vec<u8>, AllocError> {
     let mut options = Vec::from_slice(alloc, b"\x35\x01\x03\x36\x04")?;
     options.extend_from_slice(&server.to_be_bytes())?;
@@ -66,7 +66,7 @@ pub(crate) fn selecting(alloc: Global, server: u32, address: u32) -> Result<Vec<
     Ok(options)
 }
 
-// The byte at a place, and 0 after the end.
+// Returns the byte at a position, and 0 after the end.
 fn byte_at(bytes: &[u8], at: usize) -> u8 {
     match bytes.get(at) {
         Some(byte) => *byte,
@@ -74,7 +74,7 @@ fn byte_at(bytes: &[u8], at: usize) -> u8 {
     }
 }
 
-// The number of the four bytes from a place on.
+// Returns the number in the four bytes from a position on.
 fn number_at(bytes: &[u8], at: u8) -> u32 {
     let at = usize::from(at);
     u32::from_be_bytes([
@@ -85,7 +85,7 @@ fn number_at(bytes: &[u8], at: u8) -> u32 {
     ])
 }
 
-/// What the bytes of a reply say.
+/// Returns what the bytes of a reply say.
 pub(crate) fn reply_in(bytes: &[u8]) -> Reply {
     Reply {
         op: byte_at(bytes, 0),
@@ -99,7 +99,7 @@ pub(crate) fn reply_in(bytes: &[u8]) -> Reply {
     }
 }
 
-/// What a server replies to a client's message at a moment, where it does.
+/// Returns what a server replies to a client's message at a time, if it does.
 pub(crate) fn answer<S: Keeps>(
     alloc: Global,
     server: &mut Server<S>,

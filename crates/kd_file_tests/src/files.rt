@@ -1,6 +1,6 @@
-// Steps over the store of a file. What moves the store of a file is proved against all parts of a
-// connection, which takes the prover a minute: so `over_store` alone does, and all else is over any
-// store.
+// Steps over the store of a file. Code that moves the store of a file is proved against all parts
+// of a connection, which takes the prover a minute. So only `over_store` does, and everything else
+// works over any store.
 ghost use Rattle.std.specs.Prelude.{◌≡◌, false, is_some};
 ghost use Rattle.kd_keeps.specs.Reading.{AreRead};
 
@@ -12,7 +12,7 @@ use sqlite::Alter;
 use std::fs;
 use std::test::Fail;
 
-/// What is done with a store that was just opened, which is given back.
+/// Steps with a store that was just opened, which they return.
 pub(crate) trait Steps: Drop {
     ghost use Rattle.std.specs.Prelude.{◌≡◌, false, is_some};
     ghost use Rattle.kd_keeps.specs.Reading.{AreRead};
@@ -22,7 +22,7 @@ pub(crate) trait Steps: Drop {
         requires read { AreRead S.Keeps opened.store opened.rows.items };
 }
 
-// The same with a store of any database, which is closed then.
+// Does the same with a store of any database, which is then closed.
 fn taken<S: Alter + Drop, T: Steps>(
     rt: &HostRuntime,
     opened: Opened<Store<S>>,
@@ -44,7 +44,7 @@ pub(crate) fn over_file<T: Steps>(rt: &HostRuntime, path: &str, steps: T) -> Res
     }
 }
 
-/// The same, with the fault of a store that is not opened.
+/// Does the same, and reports the fault of a store that cannot be opened.
 pub(crate) fn over_store<T: Steps>(
     rt: &HostRuntime,
     path: &str,
@@ -56,19 +56,19 @@ pub(crate) fn over_store<T: Steps>(
     }
 }
 
-/// Removes the files at these paths, those that are there.
+/// Removes the files at these paths, if they exist.
 pub(crate) fn remove(rt: &HostRuntime, paths: &[&str]) {
     for path in paths {
         let _gone = fs::remove_file(rt, *path);
     }
 }
 
-/// Fails with a message where what it says does not hold. An assertion would leave the store open.
+/// Fails with a message if its condition does not hold. An assertion would leave the store open.
 pub(crate) fn expect(holds: bool, message: &'static str) -> Result<(), Fail> {
     if holds { Ok(()) } else { Err(message.into()) }
 }
 
-/// Puts a row, which is in range, in a store that has not failed.
+/// Puts a row that is in range into a store that has not failed.
 pub(crate) fn put<S: Keeps>(store: &mut S, row: &Row) -> Result<(), Fail> {
     if store.failed() || !row.is_in_range() {
         return Err("no row can be put".into());

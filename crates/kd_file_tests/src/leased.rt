@@ -10,16 +10,16 @@ pub(crate) const PORTS: Ports = Ports {
     client: 68,
 };
 
-/// The address with a number in 10.0.0.0/8.
+/// Returns the address with a number in 10.0.0.0/8.
 pub(crate) fn address(number: u32) -> u32 {
     0x0a00_0000 | number
 }
 
-/// When each lease was set.
+/// The time at which each lease was set.
 pub(crate) const CHANGED: u64 = 100;
 
-/// The row of the lease of the address with a number to the client with it, which lasts so many
-/// seconds.
+/// Returns the row of the lease with a number: of the address with that number to the client with
+/// that number, for that many seconds.
 pub(crate) fn lease(alloc: Global, number: u32) -> Result<Row, AllocError> {
     Ok(Row {
         address: address(number),

@@ -1,9 +1,9 @@
-//! Tests of what meets the host: rows and whole servers over a file that is closed and opened again
-//! by its path or looked at while it is open, a damaged log, more rows than any block of them, the
-//! record of what came, replies over sockets, the host's clocks, and what stands in the way of a
-//! start.
+//! Tests of what touches the host: rows and whole servers over a file that is closed and opened
+//! again by its path, or looked at while it is open; a damaged log; more rows than any block of
+//! them; the record of received datagrams; replies over sockets; the host's clocks; and what
+//! prevents a start.
 //!
-//! They are a crate of their own since a crate is proved once more with its tests.
+//! They are a separate crate because a crate is proved again together with its tests.
 #![tactic(auto)]
 
 #[cfg(test)]

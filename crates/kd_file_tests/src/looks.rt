@@ -1,11 +1,11 @@
-// A look at a database whose log is begun anew meanwhile.
+// A look at a database whose log is restarted in the meantime.
 use kd_io::{InputFault, LookFault, Watched, settled_copy};
 use kd_wire::Bytes;
 use std::alloc::{AllocError, Global};
 use std::test::Fail;
 
-// A database and its log, whose header changes so many times, each behind the log. The calls are
-// noted: `h` for the header, `d` for the database, `l` for the log.
+// A database and its log. The log's header changes `changes` times, each time after the log is
+// read. The calls are noted: `h` for the header, `d` for the database, `l` for the log.
 #[derive(Drop)]
 struct Restless {
     alloc: Global,
@@ -44,12 +44,12 @@ impl Watched for Restless {
     }
 }
 
-// Bytes are those of a text.
+// Reports whether bytes are those of a text.
 fn is(bytes: &Bytes, text: &str) -> bool {
     bytes.as_slice() == text.as_bytes()
 }
 
-// A look at a header that changes so many times, and the calls that it made.
+// Looks at a database whose header changes this many times, and returns the calls that were made.
 fn looked(alloc: Global, changes: u32) -> (Result<(), LookFault>, String) {
     let mut files = Restless {
         alloc,

@@ -8,16 +8,16 @@ use kd_table_tests::Fused;
 use std::alloc::Global;
 use std::test::Fail;
 
-// Two pools, each of as many addresses as a pool can have, 65,536.
+// Two pools with as many addresses as a pool can have, 65,536 each.
 const CONFIG: &[u8] =
     b"{\"Dhcp4\":{\"server-address\":\"10.255.255.254\",\"valid-lifetime\":3600,\"subnet4\":[\
     {\"subnet\":\"10.0.0.0/8\",\"pools\":[{\"pool\":\"10.0.0.1 - 10.1.0.0\"},\
     {\"pool\":\"10.1.0.1 - 10.2.0.0\"}]}]}}";
 
-// How many leases there are, of the first addresses of the pools.
+// The number of leases, at the first addresses of the pools.
 const LEASES: u32 = 100_100;
 
-// A store of all leases.
+// Makes a store of all leases.
 fn store(alloc: Global) -> Result<Fused, Fail> {
     let mut store = Fused::new(alloc, u64::MAX)?;
     for number in 1..=LEASES {
@@ -26,7 +26,7 @@ fn store(alloc: Global) -> Result<Fused, Fail> {
     Ok(store)
 }
 
-// A server over it.
+// Makes a server over it.
 fn server(alloc: Global) -> Result<Server<Fused>, Fail> {
     let config = Config::read(alloc, CONFIG, &[])?;
     let store = store(alloc)?;

@@ -1,4 +1,4 @@
-// The record of what came, in a file.
+// The record of received datagrams, in a file.
 use crate::files::remove;
 use kd_io::journal;
 use kd_replay::write_all;
@@ -8,14 +8,14 @@ use std::test::Fail;
 
 const PATH: &str = "record.txt";
 
-// Writes a text to the record, which is opened for it.
+// Opens the record and writes a text to it.
 fn write(rt: &HostRuntime, text: &[u8]) -> Result<(), Fail> {
     let mut sink = journal(rt, PATH)?;
     write_all(&mut sink, text)?;
     Ok(())
 }
 
-// A record is made for its owner alone, and what is written later stands behind what was there.
+// A record is created so that only its owner can use it, and later text is appended.
 #[test]
 fn a_record_is_appended_to_and_is_its_owners(rt: HostRuntime) -> Result<(), Fail> {
     remove(&rt, &[PATH]);
@@ -29,7 +29,7 @@ fn a_record_is_appended_to_and_is_its_owners(rt: HostRuntime) -> Result<(), Fail
     Ok(())
 }
 
-// Where there is no folder of that name there is no record.
+// If there is no folder with that name there is no record.
 #[test]
 fn a_record_in_no_folder_is_refused(rt: HostRuntime) -> Result<(), Fail> {
     assert!(rt; journal(&rt, "no-such-folder/record.txt").is_err());

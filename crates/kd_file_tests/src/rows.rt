@@ -9,15 +9,15 @@ use std::fs;
 use std::os::unix::fs::PermissionsExt;
 use std::test::Fail;
 
-// How many rows there are. They are numbered in rising address.
+// The number of rows. They are numbered in ascending order of address.
 const ROWS: u32 = 5_000;
 
-// The row that is put twice, first with what belongs to another.
+// The row that is put twice, first with the contents of another.
 const TWICE: u32 = 2_500;
 
 const OTHER: u32 = 77;
 
-// The address of a row: from the least to the greatest that there is.
+// Returns the address of a row, from the least to the greatest possible.
 fn address(number: u32) -> u32 {
     if number == ROWS - 1 {
         u32::MAX
@@ -26,7 +26,7 @@ fn address(number: u32) -> u32 {
     }
 }
 
-// The client of a row, of up to 299 bytes, and now and then of more than a page.
+// Returns the client of a row: up to 299 bytes, and sometimes more than a page.
 fn client(alloc: Global, number: u32) -> Result<Bytes, AllocError> {
     let length = if number % 1_000 == 999 {
         5_000
@@ -40,7 +40,7 @@ fn client(alloc: Global, number: u32) -> Result<Bytes, AllocError> {
     Ok(Bytes::own(bytes))
 }
 
-// The state of a row: each of the four in turn.
+// Returns the state of a row: each of the four in turn.
 fn state(number: u32) -> State {
     match number % 4 {
         0 => State::Offered,
@@ -50,7 +50,8 @@ fn state(number: u32) -> State {
     }
 }
 
-// When a row was set, and how many seconds it lasts: now and then the least and the most of each.
+// Returns when a row was set, and how many seconds it lasts: sometimes the least or the most
+// possible.
 fn times(number: u32) -> (u64, u64) {
     match number % 100 {
         0 => (0, 0),
@@ -61,7 +62,7 @@ fn times(number: u32) -> (u64, u64) {
     }
 }
 
-// The row with a number.
+// Returns the row with a number.
 fn row(alloc: Global, number: u32) -> Result<Row, AllocError> {
     let (changed, lasts) = times(number);
     Ok(Row {
@@ -73,7 +74,7 @@ fn row(alloc: Global, number: u32) -> Result<Row, AllocError> {
     })
 }
 
-// Puts every row, in mixed order.
+// Puts all rows, in mixed order.
 fn put_all<S: Keeps>(alloc: Global, store: &mut S) -> Result<(), Fail> {
     let mut twice = row(alloc, OTHER)?;
     twice.address = address(TWICE);
@@ -84,7 +85,7 @@ fn put_all<S: Keeps>(alloc: Global, store: &mut S) -> Result<(), Fail> {
     Ok(())
 }
 
-// A row is another, in each field.
+// Reports whether two rows are equal in each field.
 fn is_same(row: &Row, other: &Row) -> bool {
     row.address == other.address
         && row.client.as_slice() == other.client.as_slice()
@@ -93,7 +94,7 @@ fn is_same(row: &Row, other: &Row) -> bool {
         && row.ends == other.ends
 }
 
-// These are all rows, in rising address.
+// Reports whether these are all rows, in ascending order of address.
 fn are_all(alloc: Global, rows: &[Row]) -> Result<bool, AllocError> {
     let mut number = 0;
     for found in rows {
@@ -105,19 +106,19 @@ fn are_all(alloc: Global, rows: &[Row]) -> Result<bool, AllocError> {
     Ok(number == ROWS)
 }
 
-// A file of an open store is for its user alone.
+// Reports whether only its user can read and write a file of an open store.
 fn is_own(rt: &HostRuntime, path: &str) -> Result<bool, Fail> {
     Ok(fs::metadata(rt, path)?.permissions().mode() & 0o777 == 0o600)
 }
 
-// The rows of the file, which a store has open.
+// Returns the rows of the file while a store has it open.
 fn look(rt: &HostRuntime) -> Result<Vec<Row>, Fail> {
     let copy = copy_at(rt, "rows.db")?;
     Ok(rows_in_bytes(rt.alloc(), copy.log.as_slice(), copy.db.as_slice())?)
 }
 
-// The log of the file is whole. Where a byte of its first frame is another, all of it is left out but
-// its header, which has 32 bytes.
+// Checks that the log of the file is whole. If a byte of its first frame is changed, all of the log
+// is left out except its header, which has 32 bytes.
 fn look_at_log(rt: &HostRuntime) -> Result<(), Fail> {
     let alloc = rt.alloc();
     let copy = copy_at(rt, "rows.db")?;
@@ -150,7 +151,7 @@ fn fill<S: Keeps>(rt: &HostRuntime, store: &mut S, rows: &[Row]) -> Result<(), F
     look_at_log(rt)
 }
 
-// Finds all rows in a store, whose file and its log are for their user alone.
+// Finds all rows in a store. Only their user can use its file and its log.
 fn find(rt: &HostRuntime, rows: &[Row]) -> Result<(), Fail> {
     expect(
         are_all(rt.alloc(), rows)?,
@@ -160,7 +161,7 @@ fn find(rt: &HostRuntime, rows: &[Row]) -> Result<(), Fail> {
     expect(is_own(rt, "rows.db-wal")?, "the log is open to others")
 }
 
-// What is done with a store.
+// A step with a store.
 #[derive(Drop)]
 enum Step {
     // It is filled.

@@ -19,20 +19,20 @@ const CONFIG: &[u8] =
 
 const SERVER: u32 = 0x0a00_fffe;
 
-// The numbers of the first address of the pool without a lease, and of the second: those up to the
-// second have leases, but for the first.
+// The numbers of the first and the second address of the pool without a lease. All other addresses
+// up to the second have leases.
 const FIRST: u32 = 2_222;
 
 const SECOND: u32 = 5_002;
 
-// The clients without a lease that come first and second, and the moment of the first one's.
+// The clients without a lease that come first and second, and the time of the first.
 const NEW: u32 = 60_001;
 
 const LATE: u32 = 60_002;
 
 const MOMENT: u64 = 3_100;
 
-// Puts all leases in mixed order in a store that has no rows.
+// Puts all leases in mixed order into a store that has no rows.
 fn put_all<S: Keeps>(alloc: Global, store: &mut S, rows: &[Row]) -> Result<(), Fail> {
     expect(rows.is_empty(), "a new file has rows")?;
     for turn in 1..SECOND {
@@ -44,7 +44,7 @@ fn put_all<S: Keeps>(alloc: Global, store: &mut S, rows: &[Row]) -> Result<(), F
     Ok(())
 }
 
-// A store with no rows is filled.
+// Fills a store that has no rows.
 #[derive(Drop)]
 struct Fill;
 
@@ -56,7 +56,7 @@ impl Steps for Fill {
     }
 }
 
-// The number of the lease at a place in the list.
+// Returns the number of the lease at a position in the list.
 fn number_at(place: u32) -> u32 {
     let number = place.wrapping_add(1);
     if number < FIRST {
@@ -66,8 +66,8 @@ fn number_at(place: u32) -> u32 {
     }
 }
 
-// A server's leases are those that were put, of which those have ended whose numbers are up to
-// 3,000.
+// Reports whether a server's leases are those that were put, and those with numbers up to 3,000
+// have ended.
 fn are_all<S: Keeps>(server: &Server<S>) -> Result<bool, Fail> {
     let mut place = 0;
     for lease in &server.leases(MOMENT)? {
@@ -80,7 +80,7 @@ fn are_all<S: Keeps>(server: &Server<S>) -> Result<bool, Fail> {
     Ok(place == 5_000)
 }
 
-// The reply to a client.
+// Returns the reply to a client.
 fn reply(xid: u32, option: [u8; 3], yiaddr: u32) -> Option<Reply> {
     Some(Reply {
         op: 2,
@@ -90,7 +90,7 @@ fn reply(xid: u32, option: [u8; 3], yiaddr: u32) -> Option<Reply> {
     })
 }
 
-// A client is leased the first address that has no lease.
+// Leases the first address without a lease to a client.
 fn lease_one<S: Keeps>(alloc: Global, server: &mut Server<S>) -> Result<(), Fail> {
     expect(are_all(server)?, "the leases are not those that were put")?;
     let offer = answer(alloc, server, MOMENT, NEW, DISCOVER)?;
@@ -104,7 +104,7 @@ fn lease_one<S: Keeps>(alloc: Global, server: &mut Server<S>) -> Result<(), Fail
     Ok(())
 }
 
-// The row is that of the lease which was given.
+// Reports whether the row is that of the lease that was given.
 fn is_given(row: &Row) -> bool {
     row.address == address(FIRST)
         && row.client.as_slice() == identity(NEW).as_slice()
@@ -113,7 +113,7 @@ fn is_given(row: &Row) -> bool {
         && row.ends == MOMENT + 3_601
 }
 
-// Whether the lease which was given is among as many as there are to be.
+// Reports whether the lease that was given is there, among the expected number.
 fn has_given<S: Keeps>(server: &Server<S>) -> Result<bool, Fail> {
     let leases = server.leases(MOMENT + 2)?;
     let mut found = 0;
@@ -125,8 +125,8 @@ fn has_given<S: Keeps>(server: &Server<S>) -> Result<bool, Fail> {
     Ok(found == 1 && leases.len() == 5_001)
 }
 
-// The lease is there, and its address is not given to another client, whether that selects it or
-// asks for it; it gets the next address that has no lease.
+// Checks that the lease is there, and that its address is not given to another client, whether that
+// client selects it or requests it; the other client gets the next address without a lease.
 fn keep_one<S: Keeps>(alloc: Global, server: &mut Server<S>) -> Result<(), Fail> {
     expect(has_given(server)?, "the lease that was given is lost")?;
     let select = selecting(alloc, SERVER, address(FIRST))?;
@@ -144,7 +144,7 @@ fn keep_one<S: Keeps>(alloc: Global, server: &mut Server<S>) -> Result<(), Fail>
     Ok(())
 }
 
-// A server's day: the first one, or the one after it.
+// A server's day: the first, or the one after it.
 #[derive(Drop)]
 struct Day {
     config: Config,

@@ -1,5 +1,5 @@
-// Replies over sockets of loopback. A socket waits five seconds for a datagram, and each datagram is
-// sent before it is received, so that nothing waits for ever.
+// Replies over sockets of loopback. A socket waits five seconds for a datagram, and each datagram
+// is sent before it is received, so that nothing waits forever.
 ghost use Rattle.std.specs.Prelude.{◌≡◌, IfOk, false};
 
 use crate::datagrams::{DISCOVER, OFFER, Reply, datagram, reply_in};
@@ -18,7 +18,7 @@ use std::net::{IpAddr, Ipv4Addr, UdpSocket};
 use std::test::Fail;
 use std::time::{Duration, Instant};
 
-// 127.0.0.1, and the address that stands for all hosts of its link.
+// 127.0.0.1, and the broadcast address of its link.
 const LOOPBACK: u32 = 0x7f00_0001;
 
 const ALL_OF_LOOPBACK: u32 = 0x7fff_ffff;
@@ -26,7 +26,7 @@ const ALL_OF_LOOPBACK: u32 = 0x7fff_ffff;
 // The client of every datagram.
 const CLIENT: u32 = 1;
 
-// A socket on a free port of an address, and the port.
+// Opens a socket on a free port of an address, and returns the port.
 fn bound(rt: &HostRuntime, address: u32) -> Result<(UdpSocket, u16), Fail> {
     let socket = UdpSocket::bind(rt, (IpAddr::V4(Ipv4Addr::from(address)), 0))?;
     socket.set_read_timeout(Some(Duration::from_secs(5)))?;
@@ -34,13 +34,13 @@ fn bound(rt: &HostRuntime, address: u32) -> Result<(UdpSocket, u16), Fail> {
     Ok((socket, port))
 }
 
-// A port that is free once it is given.
+// Returns a port that was free a moment ago.
 fn free_port(rt: &HostRuntime) -> Result<u16, Fail> {
     let (_, port) = bound(rt, LOOPBACK)?;
     Ok(port)
 }
 
-// A port of loopback has a socket.
+// Reports whether a port of loopback has a socket.
 fn is_taken(rt: &HostRuntime, port: u16) -> bool {
     UdpSocket::bind(rt, (IpAddr::V4(Ipv4Addr::from(LOOPBACK)), port)).is_err()
 }
@@ -53,20 +53,20 @@ fn send_discover(alloc: Global, sender: &UdpSocket, port: u16) -> Result<(), Fai
     Ok(())
 }
 
-// What a socket receives: a reply, and the port that it comes from.
+// Returns what a socket receives: a reply, and the port that it comes from.
 fn received(socket: &UdpSocket) -> Result<(Reply, u16), Fail> {
     let mut room = [0; 1_500];
     let (length, sender) = socket.recv_from(&mut room)?;
     Ok((reply_in(&room[..length]), sender.port()))
 }
 
-// No datagram has come to a socket.
+// Reports whether no datagram has arrived at a socket.
 fn is_left_out(socket: &UdpSocket) -> Result<bool, Fail> {
     socket.set_nonblocking(true)?;
     Ok(socket.recv_from(&mut [0; 10]).is_err())
 }
 
-// A server of the built-in configuration.
+// Makes a server with the built-in configuration.
 fn server(alloc: Global, ports: Ports) -> Result<Server<Fused>, AllocError> {
     let store = Fused::new(alloc, u64::MAX)?;
     match Server::open(alloc, Config::builtin(alloc)?, store, ports) {
@@ -97,7 +97,7 @@ fn serve_one(rt: &HostRuntime, link: &mut Socket<'_>, ports: Ports) -> Result<()
     Ok(())
 }
 
-// The first address of the built-in pool is offered to the client.
+// The OFFER of the first address of the built-in pool to the client.
 const OFFERED: Reply = Reply {
     op: 2,
     xid: CLIENT,
@@ -105,8 +105,8 @@ const OFFERED: Reply = Reply {
     option: OFFER,
 };
 
-// A reply for all hosts comes to the one and to all hosts of loopback where these stand in for
-// them, at the clients' port.
+// A reply to all hosts arrives at the address that is used in their place, loopback or all hosts of
+// loopback, at the clients' port.
 #[test]
 fn a_reply_that_is_not_mirrored_goes_to_the_clients_port(rt: HostRuntime) -> Result<(), Fail> {
     for address in [LOOPBACK, ALL_OF_LOOPBACK] {
@@ -131,15 +131,16 @@ fn a_reply_that_is_not_mirrored_goes_to_the_clients_port(rt: HostRuntime) -> Res
     Ok(())
 }
 
-// The socket of a host, which has not failed.
+// Returns the socket of a host. It has not failed.
 fn socket_of<H: Host>(host: &mut H, listening: Listening) -> Result<H::Socket, EndFailed>
     ensures { IfOk result (λ link. H.Socket.has_failed link ≡ false) }
 {
     host.socket(listening)
 }
 
-// The socket of this machine, to which one may have been handed. What moves a machine is proved against all parts of a connection,
-// which takes the prover a minute: so this alone does.
+// Returns the socket of this machine, to which a socket may have been handed. Code that moves a
+// machine is proved against all parts of a connection, which takes the prover a minute; so only
+// this does.
 fn machine_socket<'a, F: Start>(
     rt: &'a HostRuntime,
     start: F,
@@ -162,7 +163,7 @@ fn mirrored(port: u16, client_port: u16) -> Listening {
     }
 }
 
-// A mirrored reply goes to its sender, and not where it says.
+// A mirrored reply goes to its sender, and not where the reply says.
 #[test]
 fn a_mirrored_reply_goes_to_its_sender_through_the_machine(rt: HostRuntime) -> Result<(), Fail> {
     let (client, client_port) = bound(&rt, LOOPBACK)?;
@@ -183,7 +184,7 @@ fn a_mirrored_reply_goes_to_its_sender_through_the_machine(rt: HostRuntime) -> R
     Ok(())
 }
 
-// A datagram that came before the server began is in the socket that is handed to it, and is
+// A datagram that arrived before the server started is in the socket that is handed to it, and is
 // answered.
 #[test]
 fn what_waits_in_a_socket_that_is_handed_over_is_answered(rt: HostRuntime) -> Result<(), Fail> {
@@ -201,8 +202,8 @@ fn what_waits_in_a_socket_that_is_handed_over_is_answered(rt: HostRuntime) -> Re
     Ok(())
 }
 
-// A socket that is handed over is refused where the words name another port, and so is what is no
-// socket.
+// A socket that is handed over is refused if the arguments name another port; so is anything that
+// is not a socket.
 #[test]
 fn another_socket_than_the_words_name_is_refused(rt: HostRuntime) -> Result<(), Fail> {
     let (socket, _) = bound(&rt, LOOPBACK)?;
@@ -219,7 +220,8 @@ const MIRRORED: Sending = Sending {
     broadcast_as: None,
 };
 
-// A socket that is asked for what waits does not wait for more, and gives what has come.
+// A socket that is asked for waiting datagrams does not wait for more, and returns what has
+// arrived.
 #[test]
 fn what_waits_is_taken_without_waiting(rt: HostRuntime) -> Result<(), Fail> {
     let (socket, port) = bound(&rt, LOOPBACK)?;
@@ -238,7 +240,7 @@ fn what_waits_is_taken_without_waiting(rt: HostRuntime) -> Result<(), Fail> {
     Ok(())
 }
 
-// One that was asked for what waits waits again for the next datagram.
+// A socket that was asked for waiting datagrams waits again for the next one.
 #[test]
 fn a_socket_waits_again_for_the_next_datagram(rt: HostRuntime) -> Result<(), Fail> {
     let (socket, _) = bound(&rt, LOOPBACK)?;
@@ -253,12 +255,12 @@ fn a_socket_waits_again_for_the_next_datagram(rt: HostRuntime) -> Result<(), Fai
 }
 
 // The cookie and the options of the OFFER: its type, the server 192.0.2.1, a lease of 3600 seconds
-// that is renewed after 1800 and rebound after 3150, the mask, End.
+// that is renewed after 1800 and rebound after 3150, the subnet mask, and the end option.
 const OFFERED_OPTIONS: &[u8] = b"\x63\x82\x53\x63\x35\x01\x02\x36\x04\xc0\x00\x02\x01\
     \x33\x04\x00\x00\x0e\x10\x3a\x04\x00\x00\x07\x08\x3b\x04\x00\x00\x0c\x4e\
     \x01\x04\xff\xff\xff\x00\xff";
 
-// All bytes of the OFFER to the client.
+// Returns all bytes of the OFFER to the client.
 fn offer_bytes(alloc: Global) -> Result<Vec<u8>, AllocError> {
     let mut bytes = Vec::from_slice(alloc, &[2, 1, 6, 0, 0, 0, 0, 1])?;
     bytes.resize(16, 0)?;
@@ -271,14 +273,14 @@ fn offer_bytes(alloc: Global) -> Result<Vec<u8>, AllocError> {
     Ok(bytes)
 }
 
-// What a socket receives next has these bytes and no others.
+// Reports whether what a socket receives next has exactly these bytes.
 fn receives(socket: &UdpSocket, bytes: &[u8]) -> Result<bool, Fail> {
     let mut room = [0; 1_500];
     let (length, _) = socket.recv_from(&mut room)?;
     Ok(&room[..length] == bytes)
 }
 
-// Each byte of an OFFER comes over a socket.
+// Each byte of an OFFER arrives over a socket.
 #[test]
 fn an_offer_comes_whole_over_a_socket(rt: HostRuntime) -> Result<(), Fail> {
     let (socket, port) = bound(&rt, LOOPBACK)?;

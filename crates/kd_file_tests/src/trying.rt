@@ -1,4 +1,4 @@
-// What stands in the way of a start: files, a database that is open, and ports. Nothing is made.
+// What prevents a start: files, a database that is open, and ports. Nothing is created.
 use crate::files::{Steps, expect, over_file, over_store, remove};
 use kd_check::findings::{SocketTrouble, StoreTrouble};
 use kd_io::{InputFault, StartFault, start_words, try_database, try_socket};
@@ -17,12 +17,12 @@ const LOOPBACK: u32 = 0x7f00_0001;
 
 const NOWHERE: u32 = 0xcb00_7101;
 
-// Whether a path has something.
+// Reports whether there is something at a path.
 fn is_there(rt: &HostRuntime, path: &str) -> bool {
     fs::metadata(rt, path).is_ok()
 }
 
-// While a store is open it is tried.
+// Tries a store while it is open.
 #[derive(Drop)]
 struct Tried;
 
@@ -49,7 +49,7 @@ fn a_database_is_tried_and_stays_as_it_is(rt: HostRuntime) -> Result<(), Fail> {
     Ok(())
 }
 
-// Nothing is done with a store that is open.
+// Does nothing with a store that is open.
 #[derive(Drop)]
 struct Nothing;
 
@@ -60,8 +60,8 @@ impl Steps for Nothing {
     }
 }
 
-// Fails where the database at a path is not found so, or where a server opens it all the same, or
-// does not open what is found good.
+// Fails if the database at a path is not found as expected, or if a server opens a bad one or does
+// not open a good one.
 fn expect_tried(
     rt: &HostRuntime,
     path: &str,
@@ -71,7 +71,7 @@ fn expect_tried(
     expect_agreement(rt, path)
 }
 
-// Fails where a server does not open what is found good, or opens what is not.
+// Fails if a server does not open what was found good, or opens what was not.
 fn expect_agreement(rt: &HostRuntime, path: &str) -> Result<(), Fail> {
     let is_good = try_database(rt, path).is_ok();
     match over_store(rt, path, Nothing) {
@@ -88,8 +88,8 @@ fn a_rollback_journal_is_found(rt: HostRuntime) -> Result<(), Fail> {
     let (path, log, journal) = ("played.db", "played.db-wal", "played.db-journal");
     let made = [path, log, journal];
     remove(&rt, &made);
-    // The first byte of SQLite's header of a journal, that of one which was played back, and none.
-    // A server makes the database before it looks for a journal.
+    // The first byte of SQLite's header of a journal, the first byte of a journal that was played
+    // back, and an empty journal. A server creates the database before it looks for a journal.
     for (bytes, wanted) in [
         (&b"\xd9"[..], Err(StoreTrouble::Other)),
         (&b"\0"[..], Ok(true)),
@@ -124,7 +124,7 @@ fn a_log_that_is_no_plain_file_is_found(rt: HostRuntime) -> Result<(), Fail> {
     Ok(())
 }
 
-// The log lies where a link leads.
+// The log is where a link leads.
 #[test]
 fn a_link_to_a_database_is_followed(rt: HostRuntime) -> Result<(), Fail> {
     let (link, path, log) = ("linked.db", "linked.real", "linked.real-wal");
@@ -141,7 +141,7 @@ fn a_link_to_a_database_is_followed(rt: HostRuntime) -> Result<(), Fail> {
     Ok(())
 }
 
-// Which rights are enough is the account's: root has them all.
+// Which rights are enough depends on the account: root has them all.
 #[test]
 fn rights_are_tried(rt: HostRuntime) -> Result<(), Fail> {
     let (folder, path, log) = ("rights", "rights/a.db", "rights/a.db-wal");
@@ -166,7 +166,7 @@ fn rights_are_tried(rt: HostRuntime) -> Result<(), Fail> {
     Ok(())
 }
 
-// Sets the mode of what is at a path.
+// Sets the mode of the file or folder at a path.
 fn set_mode(rt: &HostRuntime, path: &str, mode: u32) -> io::Result<()> {
     fs::set_permissions(rt, path, fs::Permissions::from_mode(mode))
 }
@@ -183,7 +183,7 @@ fn a_port_is_tried_and_is_free_again(rt: HostRuntime) -> Result<(), Fail> {
     Ok(())
 }
 
-// The words for files that are not read: no file, a folder in place of one, and no folder.
+// The words for files that cannot be read: no file, a folder in place of a file, and no folder.
 #[test]
 fn a_file_that_is_not_read_is_named(rt: HostRuntime) -> Result<(), Fail> {
     let fault = StartFault::Input(InputFault::Read);
