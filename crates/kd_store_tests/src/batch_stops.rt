@@ -1,5 +1,5 @@
 // A batch of three events, each of which sets a row, over files whose device stops at each of its
-// calls: what is left is the table from before the batch or the one after it, nothing of it was
+// calls. What is left is the table before the batch or the one after it, no event of it was
 // answered, and the day goes on.
 use crate::days::{Lease, RENEWED, Step};
 use crate::device::{
@@ -24,7 +24,7 @@ enum End {
     Stopped,
     // The batch was answered, and the event after it was not.
     Batched,
-    // All were answered.
+    // All events were answered.
     Whole,
 }
 
@@ -34,7 +34,7 @@ fn steps() -> (&'static [Step], &'static [Step]) {
     steps.split_at(3)
 }
 
-// A log that goes into the database file after each few commits.
+// A log that is copied into the database file after each few commits.
 const OPTIONS: Options = Options {
     cache_pages: 8,
     spill_pages: 8,
@@ -42,7 +42,7 @@ const OPTIONS: Options = Options {
     seed: 1,
 };
 
-// Sends steps as one batch: whether they are answered as it was worked out, or none is.
+// Sends steps as one batch, and reports whether all have the expected answers, or none is answered.
 fn is_answered<S: Keeps>(
     alloc: Global,
     server: &mut Server<S>,
@@ -68,7 +68,7 @@ fn is_answered<S: Keeps>(
     Ok(true)
 }
 
-// What was done with the steps is what was worked out.
+// Reports whether the results of the steps are the expected ones.
 fn are_answers(alloc: Global, steps: &[Step], list: &[Handled]) -> Result<bool, AllocError> {
     if list.len() != steps.len() {
         return Ok(false);
@@ -82,7 +82,7 @@ fn are_answers(alloc: Global, steps: &[Step], list: &[Handled]) -> Result<bool, 
     Ok(true)
 }
 
-// The table after the last of some steps.
+// Returns the table after the last of some steps.
 fn table_after(steps: &[Step]) -> &'static [Lease] {
     match steps.last() {
         Some((_, _, leases)) => *leases,
@@ -102,7 +102,7 @@ fn sent<S: Keeps>(alloc: Global, server: &mut Server<S>) -> Result<End, Fail> {
     Ok(End::Whole)
 }
 
-// Does so, and finds where it ended.
+// Does so, and finds where the events ended.
 #[derive(Drop)]
 struct Sends;
 
@@ -117,7 +117,7 @@ impl Work for Sends {
     }
 }
 
-// The same under a configuration.
+// Does the same with a configuration.
 fn sent_with<S: Alter + Drop>(
     alloc: Global,
     config: Config,
@@ -132,7 +132,7 @@ fn sent_with<S: Alter + Drop>(
     }
 }
 
-// The events end at the opening where that stops.
+// If the opening stops, the events end there.
 fn unopened(refusal: &Refusal) -> Result<End, Fail> {
     if refusal.is_stop() {
         Ok(End::Unopened)
@@ -141,7 +141,7 @@ fn unopened(refusal: &Refusal) -> Result<End, Fail> {
     }
 }
 
-// The same over files.
+// Does the same over files.
 fn sent_to(alloc: Global, files: Files<Device>) -> Result<(End, Files<Device>), Fail> {
     let (found, files) = over_files(alloc, files, OPTIONS, Sends);
     match found {
@@ -151,7 +151,8 @@ fn sent_to(alloc: Global, files: Files<Device>) -> Result<(End, Files<Device>), 
     }
 }
 
-// The server stands where the end leaves it, and the day goes on from there to its last table.
+// Checks that the server has the table that the end leaves, and that the day goes on from there to
+// its last table.
 fn goes_on_at<S: Keeps>(alloc: Global, server: &mut Server<S>, end: End) -> Result<(), Fail> {
     let (batch, after) = steps();
     let is_before = stands_at(server, &[])?;
@@ -175,7 +176,7 @@ fn goes_on_at<S: Keeps>(alloc: Global, server: &mut Server<S>, end: End) -> Resu
     Ok(())
 }
 
-// Finds that it is so.
+// Checks that this holds.
 #[derive(Drop)]
 struct GoesOn(End);
 
@@ -190,7 +191,7 @@ impl Work for GoesOn {
     }
 }
 
-// The same under a configuration.
+// Does the same with a configuration.
 fn goes_on_with<S: Alter + Drop>(
     alloc: Global,
     config: Config,
@@ -206,7 +207,7 @@ fn goes_on_with<S: Alter + Drop>(
     }
 }
 
-// And with what a loss leaves of the files.
+// Does the same with what a loss leaves of the files.
 fn goes_on(alloc: Global, left: &Left, loss: Loss, end: End) -> Result<(), Fail> {
     let files = files_left(alloc, left, loss, (u64::MAX, u64::MAX))?;
     let (found, _files) = over_files(alloc, files, OPTIONS, GoesOn(end));
@@ -223,7 +224,7 @@ enum Stopped {
     Database,
 }
 
-// How many calls log and database answer.
+// Returns how many calls of the log and of the database succeed.
 fn answered(stopped: Stopped, calls: u64) -> (u64, u64) {
     match stopped {
         Stopped::Log => (calls, u64::MAX),
@@ -231,8 +232,8 @@ fn answered(stopped: Stopped, calls: u64) -> (u64, u64) {
     }
 }
 
-// Stops a file at each call, upwards until all is answered: at how many calls the batch stopped, and
-// at how many the event after it.
+// Stops a file at each call, from the first until all succeed. Returns at how many calls the batch
+// stopped, and at how many the event after it.
 fn stops(alloc: Global, stopped: Stopped) -> Result<(u64, u64), Fail> {
     let (mut batch, mut after) = (0u64, 0u64);
     for calls in 0..1000u64 {
@@ -251,7 +252,7 @@ fn stops(alloc: Global, stopped: Stopped) -> Result<(u64, u64), Fail> {
     Err("the day is never whole".into())
 }
 
-// One commit stands behind the three: a sync and a few writes of the log.
+// The three events share one commit: a sync and a few writes of the log.
 #[test]
 fn a_stop_of_the_log_in_a_batch_leaves_the_table_before_or_after(
     rt: HostRuntime,

@@ -30,9 +30,9 @@ enum Stopped {
     Database,
 }
 
-// How the database is kept: with few pages in memory, and a log that goes into the database file
-// after each few commits, so that this one is written too; after each commit where its device is the
-// one that stops.
+// Returns how the database is kept: with few pages in memory, and a log that is copied into the
+// database file after each few commits, so that this file is written as well; after each commit if
+// the device of the database file stops.
 fn options(stopped: Stopped) -> Options {
     let checkpoint_frames = match stopped {
         Stopped::Log => 2,
@@ -46,7 +46,7 @@ fn options(stopped: Stopped) -> Options {
     }
 }
 
-// How many calls log and database answer.
+// Returns how many calls of the log and of the database succeed.
 fn answered(stopped: Stopped, calls: u64) -> (u64, u64) {
     match stopped {
         Stopped::Log => (calls, u64::MAX),
@@ -54,8 +54,8 @@ fn answered(stopped: Stopped, calls: u64) -> (u64, u64) {
     }
 }
 
-// What comes back is what was worked out. A RELEASE that is sent again may have done its work
-// before.
+// Reports whether the response is the expected one. A RELEASE that is sent again may have done its
+// work the first time.
 fn is_right(alloc: Global, step: Step, response: &Response, again: bool) -> Result<bool, Fail> {
     let (message, want, _) = step;
     if again && want == Got::Quiet(Reason::Released) {
@@ -68,14 +68,15 @@ fn is_right(alloc: Global, step: Step, response: &Response, again: bool) -> Resu
     Ok(is_answer(alloc, message, response, want)?)
 }
 
-// It is the fault of a store whose device stops, and Failed is all that comes after it.
+// Reports whether the fault is that of a store whose device stops, and everything after it is
+// Failed.
 fn is_stop<S: Keeps>(alloc: Global, server: &mut Server<S>, fault: ServeFault) -> bool {
     fault == ServeFault::Store(STOPPED)
         && matches!(sent(alloc, server, INFORMED), Err(ServeFault::Failed))
         && matches!(server.leases(0), Err(ServeFault::Failed))
 }
 
-// Sends a step: whether it is answered, or stops.
+// Sends a step, and reports whether it is answered or stops.
 fn is_answered<S: Keeps>(
     alloc: Global,
     server: &mut Server<S>,
@@ -99,8 +100,8 @@ fn is_answered<S: Keeps>(
     }
 }
 
-// Sends the steps of a day from one on, which may have been sent before, up to the first that
-// stops.
+// Sends the steps of a day from one on, up to the first that stops. The first may have been sent
+// before.
 fn sent_from<S: Keeps>(
     alloc: Global,
     server: &mut Server<S>,
@@ -135,7 +136,7 @@ impl Work for Sends {
     }
 }
 
-// The same under a configuration.
+// Does the same with a configuration.
 fn sent_with<S: Alter + Drop>(
     alloc: Global,
     config: Config,
@@ -152,7 +153,7 @@ fn sent_with<S: Alter + Drop>(
     }
 }
 
-// A day ends at its opening where that stops.
+// If the opening stops, the day ends there.
 fn unopened(refusal: &Refusal) -> Result<End, Fail> {
     if refusal.is_stop() {
         Ok(End::Unopened)
@@ -161,7 +162,7 @@ fn unopened(refusal: &Refusal) -> Result<End, Fail> {
     }
 }
 
-// The same over files: where it stops, and the files.
+// Does the same over files, and returns where it stops, and the files.
 fn day_over(
     alloc: Global,
     day: Day,
@@ -177,7 +178,7 @@ fn day_over(
     }
 }
 
-// The number of the step that is sent next: the one that stopped.
+// Returns the number of the step to send next: the one that stopped.
 fn next_of(end: End, steps: &[Step]) -> usize {
     match end {
         End::Unopened => 0,
@@ -186,7 +187,7 @@ fn next_of(end: End, steps: &[Step]) -> usize {
     }
 }
 
-// The table in front of a step.
+// Returns the table before a step.
 fn table_before(steps: &[Step], at: usize) -> &'static [Lease] {
     if at == 0 || at > steps.len() {
         return &[];
@@ -194,8 +195,8 @@ fn table_before(steps: &[Step], at: usize) -> &'static [Lease] {
     steps[at - 1].2
 }
 
-// The server stands at the table from before the step that stopped, or at the one after it. In the
-// table from before stands the row of each reply that was handed out.
+// Reports whether the server has the table before the step that stopped, or the one after it. The
+// table before it contains the row of each reply that was sent.
 fn is_beside<S: Keeps>(server: &Server<S>, steps: &[Step], end: End) -> Result<bool, Fail> {
     let next = next_of(end, steps);
     if stands_at(server, table_before(steps, next))? {
@@ -204,7 +205,7 @@ fn is_beside<S: Keeps>(server: &Server<S>, steps: &[Step], end: End) -> Result<b
     Ok(end == End::At(next) && next < steps.len() && stands_at(server, steps[next].2)?)
 }
 
-// The day goes on from the step that stopped, and ends as it was worked out.
+// Checks that the day goes on from the step that stopped, and ends as expected.
 fn goes_on_at<S: Keeps>(
     alloc: Global,
     server: &mut Server<S>,
@@ -220,7 +221,7 @@ fn goes_on_at<S: Keeps>(
     Ok(())
 }
 
-// Finds that it is so.
+// Checks that this holds.
 #[derive(Drop)]
 struct GoesOn {
     day: Day,
@@ -240,7 +241,7 @@ impl Work for GoesOn {
     }
 }
 
-// The same under a configuration.
+// Does the same with a configuration.
 fn goes_on_with<S: Alter + Drop>(
     alloc: Global,
     config: Config,
@@ -257,7 +258,7 @@ fn goes_on_with<S: Alter + Drop>(
     }
 }
 
-// And so it does with what a loss leaves of the files.
+// Does the same with what a loss leaves of the files.
 fn goes_on(alloc: Global, day: Day, left: &Left, loss: Loss, end: End) -> Result<(), Fail> {
     let files = files_left(alloc, left, loss, (u64::MAX, u64::MAX))?;
     let (found, _files) = over_files(alloc, files, options(Stopped::Log), GoesOn { day, end });
@@ -267,8 +268,8 @@ fn goes_on(alloc: Global, day: Day, left: &Left, loss: Loss, end: End) -> Result
     }
 }
 
-// Stops a file at each call, upwards until the day is whole: how many stops there were, and at how
-// many places.
+// Stops a file at each call, from the first until the day is whole. Returns how many stops there
+// were, and at how many places.
 fn stops(alloc: Global, day: Day, stopped: Stopped) -> Result<(u64, usize), Fail> {
     let (mut last, mut places) = (End::Whole, 0usize);
     for calls in 0..1000u64 {
@@ -289,7 +290,7 @@ fn stops(alloc: Global, day: Day, stopped: Stopped) -> Result<(u64, usize), Fail
     Err("the day is never whole".into())
 }
 
-// Days, and how many places to stop each has: its opening, and the steps that change a row.
+// Days, and how many places each has to stop at: its opening, and the steps that change a row.
 const DAYS: [(Day, usize); 5] = [
     (FIRST, 3),
     (RENEWED, 5),
@@ -326,8 +327,8 @@ fn in_a_day_a_stop_of_the_database_leaves_the_table_before_or_after(
     Ok(())
 }
 
-// What is left of a day that stopped is opened on a device that stops again, at each call, and the
-// day goes on.
+// Opens what is left of a day that stopped on a device that stops again, at each call, and checks
+// that the day goes on.
 fn stops_again(alloc: Global, day: Day, left: &Left, end: End) -> Result<u64, Fail> {
     let from = next_of(end, day.1);
     for calls in 0..1000u64 {

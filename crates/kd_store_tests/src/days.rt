@@ -1,11 +1,11 @@
 use kd_event::Reason;
 use kd_rows::State;
 
-/// A message: the moment, the last byte of its client's hardware address, its options after the
+/// A message: its time, the last byte of its client's hardware address, its options after the
 /// cookie, and ciaddr.
 pub(crate) type Sent = (u64, u8, &'static [u8], u32);
 
-/// What comes back: the type of a reply and its yiaddr; or the reason for which there is none.
+/// The result: the type of a reply and its yiaddr; or the reason why there is none.
 #[derive(Clone, Copy, PartialEq, Eq)]
 pub(crate) enum Got {
     Reply(u8, u32),
@@ -16,7 +16,7 @@ pub(crate) enum Got {
 /// when it ends.
 pub(crate) type Lease = (u32, u8, State, u64, u64);
 
-/// A message, what comes back for it, and the table after it.
+/// A message, its result, and the table after it.
 pub(crate) type Step = (Sent, Got, &'static [Lease]);
 
 /// A day: the configuration of its server, and its steps.
@@ -27,7 +27,7 @@ const TEN: u32 = 0xc000_020a;
 
 const ELEVEN: u32 = 0xc000_020b;
 
-// A pool of both, and one of .10 alone. A lease lasts an hour, an offer a minute.
+// A pool of both, and one of only .10. A lease lasts an hour, an offer a minute.
 const OF_TWO: &[u8] =
     b"{\"Dhcp4\":{\"server-address\":\"192.0.2.1\",\"valid-lifetime\":3600,\"subnet4\":[\
     {\"subnet\":\"192.0.2.0/24\",\"pools\":[{\"pool\":\"192.0.2.10 - 192.0.2.11\"}]}]}}";
@@ -36,8 +36,7 @@ const OF_ONE: &[u8] =
     b"{\"Dhcp4\":{\"server-address\":\"192.0.2.1\",\"valid-lifetime\":3600,\"subnet4\":[\
     {\"subnet\":\"192.0.2.0/24\",\"pools\":[{\"pool\":\"192.0.2.10 - 192.0.2.10\"}]}]}}";
 
-// Options of a message. A REQUEST that selects .10 of this server, or that says nothing but that it
-// is one.
+// Options of a message. A REQUEST selects .10 of this server, or has no other option.
 const DISCOVER: &[u8] = b"\x35\x01\x01\xff";
 
 const SELECT: &[u8] = b"\x35\x01\x03\x36\x04\xc0\x00\x02\x01\x32\x04\xc0\x00\x02\x0a\xff";
@@ -51,7 +50,7 @@ const INFORM: &[u8] = b"\x35\x01\x08\xff";
 /// An INFORM of a client at 192.0.2.77, for which no row is set.
 pub(crate) const INFORMED: Sent = (0, 7, INFORM, 0xc000_024d);
 
-/// A first lease, and a renewal at a moment that goes back: its row is there already.
+/// A first lease, and a renewal at a time that goes back: its row is there already.
 pub(crate) const FIRST: Day = (
     OF_TWO,
     &[
@@ -73,7 +72,7 @@ pub(crate) const FIRST: Day = (
     ],
 );
 
-/// A lease that is renewed and given back.
+/// A lease that is renewed and released.
 pub(crate) const RENEWED: Day = (
     OF_TWO,
     &[

@@ -6,10 +6,10 @@ use std::alloc::{AllocError, Global};
 use std::io;
 use std::test::Fail;
 
-/// A file in memory that answers so many calls and fails at each one after.
+/// A file in memory on which a number of calls succeed and each later one fails.
 pub(crate) type Device = Fuse<Memory>;
 
-/// New files: a log and a database, each of which answers so many calls.
+/// Makes new files: a log and a database, on each of which a number of calls succeed.
 pub(crate) fn files(alloc: Global, calls: (u64, u64)) -> Files<Device> {
     Files {
         log: Fuse::new(Memory::new(alloc), calls.0),
@@ -17,7 +17,7 @@ pub(crate) fn files(alloc: Global, calls: (u64, u64)) -> Files<Device> {
     }
 }
 
-// The connection to the files; or why there is none, and the files.
+// Connects to the files, or returns why that failed, and the files.
 fn connected(
     alloc: Global,
     files: Files<Device>,
@@ -32,9 +32,9 @@ fn connected(
     }
 }
 
-/// What is done over a connection to any store of SQLite's, whose other side is given back.
+/// Work over a connection to any store of SQLite, which returns what is below the connection.
 pub(crate) trait Work: Drop {
-    /// What comes of it.
+    /// What it finds.
     type Found: Drop;
 
     /// Does it.
@@ -45,9 +45,10 @@ pub(crate) trait Work: Drop {
     ) -> (Result<Self::Found, Fail>, S);
 }
 
-/// Does work over files: what comes of it, or nothing where they are not opened since their device
-/// stops; and the files. What moves a connection to files is proved against all parts of one, which
-/// takes the prover a minute: so this alone does, and all else is over any store.
+/// Does work over files. Returns what it found, or `None` if the files cannot be opened because
+/// their device stops; and the files. Code that moves a connection to files is proved against all
+/// parts of it, which takes the prover a minute; so only this does, and everything else works over
+/// any store.
 pub(crate) fn over_files<W: Work>(
     alloc: Global,
     files: Files<Device>,
@@ -63,7 +64,7 @@ pub(crate) fn over_files<W: Work>(
     }
 }
 
-// Nothing is done over files that are not opened.
+// Nothing is done over files that cannot be opened.
 fn unopened<T>(error: Error) -> Option<Result<T, Fail>> {
     if error == UNOPENED {
         None
@@ -72,7 +73,7 @@ fn unopened<T>(error: Error) -> Option<Result<T, Fail>> {
     }
 }
 
-/// The store over a connection; or why there is none, and what lies below it.
+/// Makes the store over a connection, or returns why that failed, and what is below it.
 pub(crate) fn stored<S: Alter + Drop>(
     alloc: Global,
     conn: Connection<S>,
@@ -89,26 +90,26 @@ pub(crate) fn stored<S: Alter + Drop>(
 /// The fault of a store whose device stops.
 pub(crate) const STOPPED: StoreFault = StoreFault::Sql(Cause::SystemIoFailure);
 
-// The error of files that are not opened since their device stops.
+// The error for files that cannot be opened because their device stops.
 const UNOPENED: Error = Error::SqliteFailure(ErrorCode::SystemIoFailure);
 
-/// What a stop leaves of the bytes that were written and not synced.
+/// What a stop leaves of the bytes that were written but not synced.
 #[derive(Clone, Copy)]
 pub(crate) enum Loss {
-    /// All of them, as where the process alone was killed.
+    /// All of them, as when only the process was killed.
     Nothing,
     /// None of them.
     All,
-    /// Those of every second sector, the first of them left: writes are torn, and a later one is
-    /// there without an earlier one.
+    /// Those of every second sector, from the first on: writes are torn, and a later one is there
+    /// without an earlier one.
     OddSectors,
-    /// The same, the second of them left.
+    /// The same, from the second on.
     EvenSectors,
     /// Each third byte.
     Bytes,
 }
 
-/// All of them.
+/// All losses.
 pub(crate) const LOSSES: [Loss; 5] = [
     Loss::Nothing,
     Loss::All,
@@ -117,10 +118,10 @@ pub(crate) const LOSSES: [Loss; 5] = [
     Loss::Bytes,
 ];
 
-// The bytes of a sector.
+// The number of bytes in a sector.
 const SECTOR: usize = 512;
 
-// Whether a byte that was written and not synced is left.
+// Reports whether a byte that was written but not synced is left.
 fn is_left(loss: Loss, at: usize) -> bool {
     match loss {
         Loss::Nothing => true,
@@ -131,7 +132,7 @@ fn is_left(loss: Loss, at: usize) -> bool {
     }
 }
 
-// How long a file of these two lengths is left.
+// Returns the length that is left of a file with these two lengths.
 fn length_left(loss: Loss, written: usize, synced: usize) -> usize {
     match loss {
         Loss::Nothing => written,
@@ -143,9 +144,9 @@ fn length_left(loss: Loss, written: usize, synced: usize) -> usize {
 // What a file held when its device stopped.
 #[derive(Drop)]
 struct Image {
-    // With all that was written.
+    // All that was written.
     written: Vec<u8>,
-    // With what was synced.
+    // Only what was synced.
     synced: Vec<u8>,
 }
 
@@ -156,7 +157,7 @@ pub(crate) struct Left {
     db: Image,
 }
 
-// What a file held.
+// Returns what a file held.
 fn image_of(alloc: Global, mut file: Device) -> Result<Image, AllocError> {
     let written = Vec::from_slice(alloc, file.inner().bytes())?;
     file.crash();
@@ -164,7 +165,7 @@ fn image_of(alloc: Global, mut file: Device) -> Result<Image, AllocError> {
     Ok(Image { written, synced })
 }
 
-/// What the files held.
+/// Returns what the files held.
 pub(crate) fn left_of(alloc: Global, files: Files<Device>) -> Result<Left, AllocError> {
     let Files { log, db } = files;
     Ok(Left {
@@ -173,7 +174,7 @@ pub(crate) fn left_of(alloc: Global, files: Files<Device>) -> Result<Left, Alloc
     })
 }
 
-/// The byte at a place, and 0 after the end.
+/// Returns the byte at a position, and 0 after the end.
 pub(crate) fn byte_at(bytes: &[u8], at: usize) -> u8 {
     match bytes.get(at) {
         Some(byte) => *byte,
@@ -181,7 +182,7 @@ pub(crate) fn byte_at(bytes: &[u8], at: usize) -> u8 {
     }
 }
 
-// The bytes that a loss leaves.
+// Returns the bytes that a loss leaves.
 fn bytes_left(alloc: Global, image: &Image, loss: Loss) -> Result<Vec<u8>, AllocError> {
     let (written, synced) = (image.written.as_slice(), image.synced.as_slice());
     let mut bytes = Vec::new(alloc);
@@ -192,7 +193,7 @@ fn bytes_left(alloc: Global, image: &Image, loss: Loss) -> Result<Vec<u8>, Alloc
     Ok(bytes)
 }
 
-// A file that a loss leaves, on a device that answers so many calls.
+// Makes the file that a loss leaves, on a device on which `calls` calls succeed.
 fn file_left(alloc: Global, image: &Image, loss: Loss, calls: u64) -> io::Result<Device> {
     let bytes = bytes_left(alloc, image, loss)?;
     let mut file = Memory::new(alloc);
@@ -201,7 +202,7 @@ fn file_left(alloc: Global, image: &Image, loss: Loss, calls: u64) -> io::Result
     Ok(Fuse::new(file, calls))
 }
 
-/// The files that a loss leaves, each of which answers so many calls.
+/// Makes the files that a loss leaves, on each of which a number of calls succeed.
 pub(crate) fn files_left(
     alloc: Global,
     left: &Left,

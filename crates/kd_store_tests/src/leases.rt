@@ -17,7 +17,7 @@ pub(crate) fn row(alloc: Global, lease: Lease) -> Result<Row, AllocError> {
     })
 }
 
-// The row has all that the lease says.
+// Reports whether the row has all that the lease says.
 fn is_row_of(row: &Row, lease: Lease) -> bool {
     let (address, client, state, changed, ends) = lease;
     row.address == address
@@ -27,7 +27,7 @@ fn is_row_of(row: &Row, lease: Lease) -> bool {
         && row.ends == ends
 }
 
-// The rows are those of the leases, in their order.
+// Reports whether the rows are those of the leases, in order.
 pub(crate) fn are_rows_of(rows: &[Row], leases: &[Lease]) -> bool {
     if rows.len() != leases.len() {
         return false;

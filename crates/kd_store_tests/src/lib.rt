@@ -1,11 +1,11 @@
-//! Tests of leases in a database. Of the store by values: over a database in memory, what is read
-//! of what was put, a table that is not ours, and a refused request for memory; over files, what
-//! stands after a stop of the device at each of its calls. Of a whole server over files whose device
-//! stops: short days of a few clients, stopped at each call of the log and of the database, upwards
-//! until there is no stop. Each stop is followed by what it may leave of the writes that were not
-//! synced, a server that is opened on that, and the rest of the day.
+//! Tests of leases in a database. The store is tested by values: over a database in memory, what is
+//! read of what was put, a table that is not ours, and a refused memory request; over files, the
+//! state after the device stops at each of its calls. A whole server is tested over files whose
+//! device stops: short days of a few clients, stopped at each call of the log and of the database,
+//! from the first until there is no stop. After each stop comes what it may leave of the writes
+//! that were not synced, a server that is opened on that, and the rest of the day.
 //!
-//! They are a crate of their own since a crate is proved once more with its tests.
+//! They are a separate crate because a crate is proved again together with its tests.
 #![tactic(auto)]
 
 #[cfg(test)]

@@ -9,7 +9,7 @@ use sqlite::{Connection, Error, MemStore};
 use std::alloc::Global;
 use std::test::Fail;
 
-// The store over a connection.
+// Opens the store over a connection.
 fn opened(alloc: Global, conn: Connection<MemStore>) -> Result<Store<MemStore>, Fail> {
     if !conn.is_autocommit() {
         return Err("the connection is in a transaction".into());
@@ -32,7 +32,7 @@ fn put_all(alloc: Global, store: &mut Store<MemStore>, leases: &[Lease]) -> Resu
     Ok(())
 }
 
-// The store has not failed, and holds the rows of the leases and no other.
+// Reports whether the store has not failed, and holds exactly the rows of the leases.
 fn holds(store: &mut Store<MemStore>, leases: &[Lease]) -> Result<bool, Fail> {
     if store.failed() {
         return Ok(false);
@@ -41,7 +41,7 @@ fn holds(store: &mut Store<MemStore>, leases: &[Lease]) -> Result<bool, Fail> {
     Ok(!store.failed() && are_rows_of(rows.as_slice(), leases))
 }
 
-// Leases in mixed order, with the ends of all ranges; the address 7 comes twice.
+// Leases in mixed order, with the limits of all ranges; address 7 occurs twice.
 const PUT: [Lease; 6] = [
     (7, b"a", State::Offered, 5, 5),
     (0xffff_ffff, b"b", State::Bound, 9, 2_147_483_656),
@@ -51,7 +51,7 @@ const PUT: [Lease; 6] = [
     (7, b"c", State::Released, 4, 60),
 ];
 
-// The same in rising address, one an address.
+// The same in ascending order of address, one for each address.
 const KEPT: [Lease; 5] = [
     (0, b"", State::Declined, 0, 0),
     (7, b"c", State::Released, 4, 60),
@@ -60,7 +60,7 @@ const KEPT: [Lease; 5] = [
     (0xffff_ffff, b"b", State::Bound, 9, 2_147_483_656),
 ];
 
-// A new store is empty, and holds what is put.
+// Checks that a new store is empty, and reports whether it holds what is put.
 fn keeps_what_is_put(alloc: Global, store: &mut Store<MemStore>) -> Result<bool, Fail> {
     if !holds(store, &[])? {
         return Err("a new store is not empty".into());
@@ -82,7 +82,7 @@ fn rows_are_kept_in_rising_address_and_found_again(rt: HostRuntime) -> Result<()
     Ok(())
 }
 
-// Sets rows that rise in address together.
+// Sets rows in ascending order of address together.
 fn put_together(store: &mut Store<MemStore>, rows: &[Row]) -> Result<(), Fail> {
     if store.failed() || !Rows::accepts(rows) {
         return Err("the store has failed, or the rows do not rise or are out of range".into());
@@ -100,7 +100,7 @@ fn rows_of(alloc: Global, leases: &[Lease]) -> Result<Vec<Row>, Fail> {
     Ok(rows)
 }
 
-// So many leases of the addresses from 1,000 on.
+// Makes `count` leases of the addresses from 1,000 on.
 fn many(alloc: Global, count: u32) -> Result<Vec<Row>, Fail> {
     let mut rows = Vec::new(alloc);
     for number in 0..count {
@@ -110,7 +110,8 @@ fn many(alloc: Global, count: u32) -> Result<Vec<Row>, Fail> {
     Ok(rows)
 }
 
-// No rows that are put together change nothing, and 3,000 are all there, beside those from before.
+// Reports whether putting no rows together changes nothing, and 3,000 rows put together are all
+// there, next to those from before.
 fn keeps_many(alloc: Global, store: &mut Store<MemStore>) -> Result<bool, Fail> {
     put_together(store, rows_of(alloc, &KEPT)?.as_slice())?;
     put_together(store, &[])?;
@@ -139,7 +140,7 @@ fn rows_that_are_put_together_are_kept(rt: HostRuntime) -> Result<(), Fail> {
     Ok(())
 }
 
-// A table of our name and columns that has none of our rules.
+// A table with our name and columns but none of our rules.
 const LOOSE: &str =
     "CREATE TABLE lease (address INTEGER PRIMARY KEY, client BLOB, state INTEGER, changed INTEGER, ends INTEGER) STRICT";
 
@@ -188,13 +189,13 @@ fn run(conn: &mut Connection<MemStore>, statement: &str) -> Result<(), Error> {
     Ok(())
 }
 
-// How many rows the table has.
+// Returns the number of rows in the table.
 fn count(conn: &mut Connection<MemStore>) -> Result<i64, Error> {
     conn.query_row("SELECT count(*) FROM lease", &[])?.get(0)
 }
 
-// The fault with which a connection is refused, and how many rows the table has over the connection
-// that comes back.
+// Returns the fault with which a connection is refused, and the number of rows in the table over
+// the connection that is returned.
 fn refused(alloc: Global, conn: Connection<MemStore>) -> Result<(StoreFault, i64), Fail> {
     if !conn.is_autocommit() {
         return Err("the connection is in a transaction".into());
@@ -217,7 +218,7 @@ fn a_table_that_is_not_ours_is_refused_and_stays(rt: HostRuntime) -> Result<(), 
     Ok(())
 }
 
-// The name of the table is an index's, so that the table is not made.
+// The name of the table is already that of an index, so that the table cannot be created.
 #[test]
 fn a_table_that_can_not_be_made_is_a_refused_statement(rt: HostRuntime) -> Result<(), Fail> {
     let conn = connected(
@@ -240,7 +241,7 @@ fn a_table_that_can_not_be_made_is_a_refused_statement(rt: HostRuntime) -> Resul
     }
 }
 
-// A row in range, in the table that has none of our rules.
+// A row in range, for the table that has none of our rules.
 const IN_RANGE: &str = "INSERT INTO lease VALUES (8, x'6127', 2, 1099511627775, 1101659111422)";
 
 #[test]
@@ -255,7 +256,7 @@ fn a_row_in_range_is_read_from_a_table_without_rules(rt: HostRuntime) -> Result<
     Ok(())
 }
 
-// Puts two rows: how many are read then.
+// Puts two rows, and returns how many are then read.
 fn read_back(store: &mut Store<MemStore>, first: &Row, second: &Row) -> Result<usize, StoreFault>
     requires ready { store.old.fault ≡ None }
     requires first { IsInRange first.now }
@@ -267,7 +268,7 @@ fn read_back(store: &mut Store<MemStore>, first: &Row, second: &Row) -> Result<u
     Ok(rows.len())
 }
 
-// Two rows, put in a new store: how many are read.
+// Puts two rows into a new store, and returns how many are read.
 fn two(alloc: Global) -> Result<usize, StoreFault> {
     let Ok(first) = row(alloc, KEPT[0]) else {
         return Err(StoreFault::Sql(Cause::OutOfMemory));
@@ -290,8 +291,8 @@ fn two(alloc: Global) -> Result<usize, StoreFault> {
     read
 }
 
-// With a refused request for memory the answer is want of it; the same calls made again give what
-// they give with ample memory.
+// If a memory request is refused, the call reports it; the same calls repeated give the same as
+// with enough memory.
 #[test]
 fn want_of_memory_is_answered_as_such(rt: HostRuntime) -> Result<(), Fail> {
     match two(rt.alloc()) {

@@ -23,7 +23,7 @@ pub(crate) enum Refusal {
 }
 
 impl Refusal {
-    /// The device has stopped, and the fault is just that.
+    /// Reports whether the device has stopped, and the fault is exactly that.
     pub(crate) fn is_stop(&self) -> bool {
         match self {
             Refusal::Store(fault) => *fault == STOPPED,
@@ -32,7 +32,7 @@ impl Refusal {
     }
 }
 
-// The server over a store; or why there is none, and what lies below it.
+// Makes the server over a store, or returns why that failed, and what is below it.
 fn served<S: Alter + Drop>(
     alloc: Global,
     config: Config,
@@ -50,7 +50,7 @@ fn served<S: Alter + Drop>(
     }
 }
 
-/// The server over a connection; or why there is none, and what lies below it.
+/// Makes the server over a connection, or returns why that failed, and what is below it.
 pub(crate) fn opened<S: Alter + Drop>(
     alloc: Global,
     config: Config,
@@ -62,7 +62,7 @@ pub(crate) fn opened<S: Alter + Drop>(
     }
 }
 
-/// What lies below a server that is let go.
+/// Closes a server and returns what is below it.
 pub(crate) fn let_go<S: Alter + Drop>(server: Server<Store<S>>) -> S {
     let (_, store) = server.close();
     store.close().into_store()
@@ -81,13 +81,13 @@ fn datagram(alloc: Global, message: Sent) -> Result<Vec<u8>, AllocError> {
     Ok(bytes)
 }
 
-// The options of a lease of an hour: its time, and those at which it is renewed and rebound.
+// The options of a lease of an hour: its time, and its renewal and rebinding times.
 const TIMES: &[u8] = b"\x33\x04\x00\x00\x0e\x10\x3a\x04\x00\x00\x07\x08\x3b\x04\x00\x00\x0c\x4e";
 
-// The least that a reply has, in bytes.
+// The least length of a reply, in bytes.
 const LEAST: usize = 300;
 
-// The reply of a type to a message, with this yiaddr: an INFORM's has no times.
+// Returns the reply of a type to a message, with this yiaddr. That to an INFORM has no times.
 fn reply(alloc: Global, message: Sent, kind: u8, yiaddr: u32) -> Result<Vec<u8>, AllocError> {
     let (_, client, _, ciaddr) = message;
     let mut bytes = Vec::from_slice(alloc, &[2, 1, 6, 0, 0, 0, 0, 1, 0, 0, 0, 0])?;
@@ -105,7 +105,7 @@ fn reply(alloc: Global, message: Sent, kind: u8, yiaddr: u32) -> Result<Vec<u8>,
     Ok(bytes)
 }
 
-/// A response is what was worked out: of a reply each byte.
+/// Reports whether a response is the expected one, byte for byte if it is a reply.
 pub(crate) fn is_answer(
     alloc: Global,
     message: Sent,
@@ -122,7 +122,7 @@ pub(crate) fn is_answer(
     }
 }
 
-/// What comes back for a message, or the fault.
+/// Returns the response to a message, or the fault.
 pub(crate) fn sent<S: Keeps>(
     alloc: Global,
     server: &mut Server<S>,
@@ -143,7 +143,7 @@ pub(crate) fn arrived(alloc: Global, steps: &[Step]) -> Result<Vec<Arrived>, All
     Ok(events)
 }
 
-// The row has all that the lease says.
+// Reports whether the row has all that the lease says.
 fn is_row_of(row: &Row, lease: Lease) -> bool {
     let (address, client, state, changed, ends) = lease;
     row.address == address
@@ -153,7 +153,7 @@ fn is_row_of(row: &Row, lease: Lease) -> bool {
         && row.ends == ends
 }
 
-/// The server's table is this one.
+/// Reports whether the server has this table.
 pub(crate) fn stands_at<S: Keeps>(
     server: &Server<S>,
     leases: &[Lease],

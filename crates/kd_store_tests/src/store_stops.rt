@@ -33,8 +33,8 @@ fn are_read<S: Keeps>(store: &mut S) -> bool {
     store.rows().is_ok()
 }
 
-// How many calls are answered up to the first fault, with the one that opened the store: puts and
-// reads twice.
+// Returns how many calls succeed before the first fault: the one that opened the store, then two
+// puts, each followed by a read.
 fn answered<S: Keeps>(alloc: Global, store: &mut S) -> Result<usize, Fail> {
     if !is_put(alloc, store, FIRST)? {
         return Ok(1);
@@ -51,7 +51,7 @@ fn answered<S: Keeps>(alloc: Global, store: &mut S) -> Result<usize, Fail> {
     Ok(5)
 }
 
-// Makes the five calls up to the first fault, and finds how many are answered.
+// Makes the five calls up to the first fault, and finds how many succeed.
 #[derive(Drop)]
 struct Calls;
 
@@ -66,13 +66,13 @@ impl Work for Calls {
     }
 }
 
-// The same over a store.
+// Does the same over a store.
 fn called<S: Alter + Drop>(alloc: Global, mut store: Store<S>) -> (Result<usize, Fail>, S) {
     let calls = answered(alloc, &mut store);
     (calls, store.close().into_store())
 }
 
-// No call is answered by a store that is not opened since its device stops.
+// No call succeeds on a store that cannot be opened because its device stops.
 fn none(fault: StoreFault) -> Result<usize, Fail> {
     if fault == STOPPED {
         Ok(0)
@@ -81,7 +81,7 @@ fn none(fault: StoreFault) -> Result<usize, Fail> {
     }
 }
 
-// The same over files: what is left of them, and how many are answered.
+// Does the same over files, and returns what is left of them, and how many calls succeed.
 fn stopped(alloc: Global, files: Files<Device>) -> Result<(Files<Device>, usize), Fail> {
     let (found, left) = over_files(alloc, files, Options::new(1), Calls);
     match found {
@@ -91,10 +91,10 @@ fn stopped(alloc: Global, files: Files<Device>) -> Result<(Files<Device>, usize)
     }
 }
 
-// Of so many answered calls, the numbers of the tables before and after the next.
+// By the number of calls that succeeded, the numbers of the tables before and after the next call.
 const LEFT: [(usize, usize); 6] = [(0, 0), (0, 1), (1, 1), (1, 2), (2, 2), (2, 2)];
 
-// The store is at the table before the next call, or at the one after it.
+// Reports whether the store has the table before the next call, or the one after it.
 fn is_at_either<S: Keeps>(store: &mut S, answered: usize) -> Result<bool, Fail> {
     if store.failed() || answered >= LEFT.len() {
         return Ok(false);
@@ -107,7 +107,7 @@ fn is_at_either<S: Keeps>(store: &mut S, answered: usize) -> Result<bool, Fail> 
     )
 }
 
-// Finds whether it is so, of so many answered calls.
+// Finds whether this holds after a number of calls that succeeded.
 #[derive(Drop)]
 struct Beside(usize);
 
@@ -122,14 +122,14 @@ impl Work for Beside {
     }
 }
 
-// The same over a store.
+// Does the same over a store.
 fn looked<S: Alter + Drop>(mut store: Store<S>, answered: usize) -> (Result<bool, Fail>, S) {
     let is_there = is_at_either(&mut store, answered);
     (is_there, store.close().into_store())
 }
 
-// After a crash the store in the files is at the table before the next call, or at the one after
-// it.
+// Reports whether, after a crash, the store in the files has the table before the next call, or the
+// one after it.
 fn is_left(alloc: Global, mut files: Files<Device>, answered: usize) -> Result<bool, Fail> {
     files.log.crash();
     files.db.crash();
