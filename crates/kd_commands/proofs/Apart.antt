@@ -1,4 +1,4 @@
--- Options whose names differ: what a look-up of a name finds in them, in whichever order they stand.
+-- Options whose names differ: what a look-up of a name finds in them, in any order.
 use Rattle.std.proofs.Common.{◌≡◌, ◌⊎◌, ◌∙◌, sym, ap, refl, subst, inl, inr, true, false, Bool, List, [], ◌∷◌, ◌++◌, map, Option, Some, None, is_some, option_map, if◌then◌else◌}
 use Rattle.std.specs.List.{All, AllByRecursion, IsDistinct}
 use Rattle.std.specs.List.Sorted.{IsPermutation}
@@ -156,7 +156,7 @@ one_value n v w (o ∷ os) all h = go (bytes_eq o.0 n) refl (one_value n v w os 
         let rest : value_of n os ≡ Some w = rw e at h in
         more rest
 
--- options whose names differ have the same values in whichever order they stand
+-- options whose names differ have the same values in any order
 pub same_value : (n : Text) (os vs : List (Text × Value)) → IsPermutation os vs → IsDistinct bytes_eq (keys_of vs) → value_of n os ≡ value_of n vs
 same_value n os vs order apart = go (value_of n vs) refl
   where
@@ -264,7 +264,7 @@ have_given ((n, Some v) ∷ l) h =
     let same : bytes_eq n n ≡ true = (bytes_eq-Decides n n).1 refl in
     (rw same refl, have_more n v (kept l) l h.0 (have_given l h.1))
 
--- and so in whichever order they stand
+-- and so in any order
 pub have_in_order : (os vs : List (Text × Value)) (l : List (Text × Option Value)) → IsPermutation os vs → IsDistinct bytes_eq (keys_of vs)
     → Have vs l → Have os l
 have_in_order os vs [] order apart h = tt

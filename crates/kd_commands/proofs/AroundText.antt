@@ -1,5 +1,5 @@
--- Which words are a line of a subcommand that has one text among its options and flags, by the walk of clap
--- over them.
+-- Which arguments are a line of a subcommand that has one text among its options and flags, by
+-- clap's walk over them.
 use Rattle.std.proofs.Common.{◌≡◌, ◌∙◌, sym, ap, refl, subst, inl, inr, true, false, Bool, List, [], ◌∷◌, ◌++◌, codes, fold, Some, None, append_assoc}
 use Rattle.std.specs.Prelude.{◌&&◌, ◌||◌, if◌then◌else◌, not}
 use Rattle.std.specs.List.{All, AllByRecursion, IsDistinct}
@@ -23,7 +23,7 @@ use Rattle.kd_commands.proofs.OptionLine.{Belongs, HowRead, IsEntry, Passes, Stu
 use Rattle.kd_commands.proofs.Options.{AreRules, needed_built}
 use Rattle.kd_commands.proofs.Top.{IsSub, line_fault, line_found}
 
--- the rules have one text of this name, which has to be there
+-- the rules have one text of this name, which is required
 pub record HasText (id : Text) (names flags wanted : List Text) (c : List Rule) : Type 0 where
   pub by_id : arg_by_id c id ≡ Some (needed_built id)
   pub first : arg_by_index c 1 ≡ Some (needed_built id)
@@ -35,7 +35,7 @@ one_value : {A : Type 0} (b : Bool) (x y : A) → (if b && false then x else y) 
 one_value true x y = refl
 one_value false x y = refl
 
--- what is wanted and has no row is missing
+-- what is required and has no row is missing
 lacks_text : (id : Text) (wanted : List Text) (gs : List (Text × Value)) → IsOneOf id wanted → has_row id (rows_of gs) ≡ false → lacks_of wanted gs ≡ true
 lacks_text id [] gs one fresh = absurd one
 lacks_text id (n ∷ wanted) gs (inl is) fresh =
@@ -77,7 +77,7 @@ module _ (name id : Text) (names flags wanted : List Text) (c : List Rule) (ours
 
   -- ---- that a line passes
 
-  -- the text and what stands behind it
+  -- the text and what comes after it
   text_passes : (h : Held) (gs after : List (Text × Value)) (text : Text) (words : List Text) → IsHeld c h gs → All (IsEntry names flags) after
       → IsDistinct bytes_eq (keys_of (gs ++ (id, Some text) ∷ after)) → lacks_of wanted (gs ++ (id, Some text) ∷ after) ≡ false
       → AreTextAndOptions text words after → Passes name names flags wanted c ours (walk_at 1 h idle false) words (gs ++ (id, Some text) ∷ after)
@@ -117,9 +117,9 @@ module _ (name id : Text) (names flags wanted : List Text) (c : List Rule) (ours
       (around_passes more (gs ++ o ∷ []) os after text rest from_text now (All-tail (IsEntry names flags) o os ones) ones_after
       (subst (λ l. IsDistinct bytes_eq (keys_of l)) (sym all) apart) (ap (lacks_of wanted) all ∙ enough) begin text_then))
 
-  -- ---- that words which pass are a line
+  -- ---- that arguments which pass are a line
 
-  -- words that pass are a text among options
+  -- arguments that pass are a text among options
   pub record ReadsAround (gs : List (Text × Value)) (words : List Text) : Type 0 where
     pub text : Text
     pub from_text : List Text
@@ -164,7 +164,7 @@ module _ (name id : Text) (names flags wanted : List Text) (c : List Rule) (ours
       let bad : MissingRequiredArgument ∷ [] ≡ [] = sym missing ∙ none in
       cc
 
-  -- nothing is missing at the end, so that all that is wanted is there
+  -- nothing is missing at the end, so that all that is required is there
   all_there : (h : Held) (gs : List (Text × Value)) (t : Bool) → IsHeld c h gs → level (shape_with name c) (walk_at 2 h idle t) [] ≡ [] → lacks_of wanted gs ≡ false
   all_there h gs t held none = go (lacks_of wanted gs) refl
     where

@@ -1,4 +1,4 @@
--- Which words are a line of `check`: its rules, and what its options ask for.
+-- Which arguments are a line of `check`: its rules, and what its options ask for.
 use Rattle.std.proofs.Common.{◌≡◌, ◌⊎◌, ◌∙◌, sym, ap, refl, subst, inl, inr, ℕ, true, false, Bool, List, [], ◌∷◌, codes, Option, Some, None}
 use Rattle.std.specs.Prelude.{if◌then◌else◌, option_and_then}
 use Rattle.std.specs.List.{All, AllByRecursion, IsDistinct}
@@ -78,7 +78,7 @@ names_apart = ((refl, (refl, (refl, (refl, (refl, tt))))), ((refl, (refl, (refl,
 
 -- ---- its lines
 
--- words that ask for help at once fail by that alone
+-- arguments that ask for help at the start fail only by that
 pub check_helps : (word : Text) (rest : List Text) → IsSub (codes "check") check_built → IsHelpFlag word
     → fault_of command_line (codes "check" ∷ word ∷ rest) ≡ DisplayHelp ∷ []
 unfolding clap_on_literals
@@ -128,7 +128,7 @@ check_passes ws checking sub h =
     let got = found_in ws checking.config checking.token_dir checking.store h.bind h.port h.seconds sub h.line in
     (got.0, got.1 ∙ rw (h.binds, h.opens, h.bounds) refl)
 
--- a line asks for this, or for nothing where a text is out of range
+-- a line asks for this, or for nothing if a text is out of range
 asks_or_not : (rest : List Text) (c d s a p m : Option Text) (x y : Option ℕ) (z : Option (Option ℕ)) → IsSub (codes "check") check_built
     → IsOptionLine (codes "check") (codes "check" ∷ rest) (given_values (values_of c d s a p m))
     → read_or address_of loopback a ≡ x → read_or port_of 67 p ≡ y → read_if_given number_of m ≡ z

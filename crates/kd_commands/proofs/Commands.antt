@@ -11,7 +11,7 @@ pub record Has (c : Command) (a : App) : Type 0 where
   pub app : app_of c ≡ a
   pub local : (out-Command c).has_globals ≡ false
 
--- with an argument more
+-- with one more argument
 pub with_arg : (old : Command) (arg : Arg) (new : Command) (a : App) (r : Rule) → AddsArg old arg new → Has old a → rule_of arg ≡ r → arg.global ≡ false
     → Has new (with_rule a r)
 with_arg old arg new a r adds has is local = record {

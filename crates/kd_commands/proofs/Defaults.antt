@@ -1,4 +1,4 @@
--- What is found once the flags that do not stand have their defaults.
+-- What is found once the flags that are not given have their defaults.
 use Rattle.std.proofs.Common.{◌≡◌, ◌∙◌, sym, ap, refl, inl, inr, true, false, Bool, List, [], ◌∷◌, Option, Some, None, is_some, option_map}
 use Rattle.std.specs.Prelude.{find, option_and_then, slice_get, unwrap_or}
 use Rattle.std.specs.List.{AllByRecursion, IsDistinct}
@@ -68,13 +68,13 @@ defaults_own f (g ∷ fs) rows apart (inr later) =
 
 -- ---- what is found
 
--- the text of a name that is no flag's
+-- the text of a name that is not a flag's
 pub text_beside : (n : Text) (fs : List Text) (os : List (Text × Value)) (text : Option Text) → AllByRecursion (λ f. bytes_eq f n ≡ false) fs
     → value_of n os ≡ option_map (λ v. Some v) text → first_of n (with_defaults fs (rows_of os)) ≡ text
 text_beside n fs os text apart is =
     ap (λ o. option_and_then (λ r. slice_get r.values 0) o) (defaults_apart n fs (rows_of os) apart) ∙ found_text n os text is
 
--- and whether a flag stands
+-- and whether a flag is given
 pub flag_beside : (f : Text) (fs : List Text) (os : List (Text × Value)) (b : Bool) → IsDistinct bytes_eq fs → IsOneOf f fs
     → value_of f os ≡ standing b → flag_is_given (first_of f (with_defaults fs (rows_of os))) ≡ b
 flag_beside f fs os b apart one is =

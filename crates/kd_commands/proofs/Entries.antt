@@ -21,7 +21,7 @@ use Rattle.kd_commands.proofs.OptionLine.{Belongs, IsEntry}
 abbrev pub text_at : Text → List (Text × Value) → Option Text
 text_at n os = option_and_then (λ v. v) (value_of n os)
 
--- a name that is no flag's has a value
+-- a name that is not a flag's has a value
 pub is_valued : (names flags : List Text) (n : Text) (os : List (Text × Value)) → (IsOneOf n flags → ⊥) → All (IsEntry names flags) os
     → value_of n os ≡ option_map (λ v. Some v) (text_at n os)
 is_valued names flags n [] no_flag ones = refl
@@ -34,7 +34,7 @@ is_valued names flags n ((m, v) ∷ os) no_flag ones =
     go true e (Some text) one more = rw e refl
     go false e w one more = rw e more
 
--- a name that is no option's has none
+-- a name that is not an option's has none
 pub is_standing : (names flags : List Text) (n : Text) (os : List (Text × Value)) → (IsOneOf n names → ⊥) → All (IsEntry names flags) os
     → value_of n os ≡ (if is_some (value_of n os) then Some None else None)
 is_standing names flags n [] no_option ones = refl
@@ -58,7 +58,7 @@ found_text n os text is = first_is n os ∙ ap (option_map text_of) is ∙ back 
 
 -- ---- what a line gives
 
--- an option's value as what stands after its name
+-- an option's value as what comes after its name
 abbrev pub wrapped : Text × Option Text → Text × Option Value
 wrapped option = (option.0, option_map (λ v. Some v) option.1)
 
@@ -67,7 +67,7 @@ given_kept [] = refl
 given_kept ((n, None) ∷ values) = given_kept values
 given_kept ((n, Some v) ∷ values) = ap (λ l. (n, Some v) ∷ l) (given_kept values)
 
--- what options give to names that are no flags
+-- what options give to names that are not flags
 pub given_texts : (names flags ns : List Text) (os : List (Text × Value)) → AllByRecursion (λ n. IsOneOf n flags → ⊥) ns → All (IsEntry names flags) os
     → given_to ns os ≡ given_values (map (λ n. (n, text_at n os)) ns)
 given_texts names flags ns os no_flags ones = ap kept (go ns no_flags) ∙ sym (given_kept (map (λ n. (n, text_at n os)) ns))
@@ -83,7 +83,7 @@ ones_given names flags [] h = All-nil (IsEntry names flags)
 ones_given names flags ((n, None) ∷ values) h = ones_given names flags values h.1
 ones_given names flags ((n, Some v) ∷ values) h = All-cons (IsEntry names flags) (n, Some v) (given_values values) h.0 (ones_given names flags values h.1)
 
--- options have what is given, in whichever order they stand
+-- options have what is given, in any order
 pub have_of : (os options : List (Text × Value)) (l : List (Text × Option Value)) → IsPermutation os options → options ≡ kept l
     → IsDistinct bytes_eq (keys_of l) → Have os l
 have_of os options l order is apart = have_in_order os (kept l) l (subst (IsPermutation os) is order) (apart_given l apart) (have_given l apart)
@@ -109,7 +109,7 @@ of_both names flags (o ∷ os) ones = All-cons (λ x. IsOneOf x.0 (names ++ flag
 
 -- ---- a flag among them
 
--- a flag as what stands after its name
+-- a flag as what comes after its name
 abbrev pub standing : Bool → Option Value
 standing mirror = if mirror then Some None else None
 
@@ -133,7 +133,7 @@ has_is n (o ∷ os) = go (bytes_eq o.0 n) refl (has_is n os)
     go true e more = rw e refl
     go false e more = rw e more
 
--- whether the flag stands
+-- whether the flag is given
 pub found_flag : (f : Text) (os : List (Text × Value)) (b : Bool) → value_of f os ≡ standing b
     → flag_is_given (first_of f (with_default (rows_of os) (flag_of f))) ≡ b
 found_flag f os true is =

@@ -1,4 +1,4 @@
--- Which words are a line of `eval`, by the walk of clap over them.
+-- Which arguments are a line of `eval`, by the walk of clap over them.
 use Rattle.std.proofs.Common.{◌≡◌, ◌⊎◌, ◌∙◌, sym, ap, refl, subst, inl, inr, ℕ, zero, suc, true, false, Bool, List, [], ◌∷◌, ◌++◌, length, codes, Some, None, append_assoc, arith}
 use Rattle.std.specs.Prelude.{slice_get, if◌then◌else◌}
 use Rattle.std.specs.List.{All}
@@ -27,9 +27,9 @@ flag_built = with_index 1 (filled (flag_rule (codes "text")))
 flags : FlagsFailBut (codes "text") flag_built eval_built.rules
 flags = flags_fail_but (codes "text") flag_built eval_built.rules (λ n. refl) (λ x. refl) refl
 
--- ---- how far the words are read
+-- ---- how far the arguments are read
 
--- the texts so far, and where the flag stood: before them, between them or after them
+-- the texts so far, and where the flag was: before them, between them or after them
 data State : Type 0 where
   nothing : State
   one : Text → State
@@ -75,7 +75,7 @@ texts (one_flagged a) = a ∷ []
 texts (one_flagged_two a b) = a ∷ b ∷ []
 texts (two_flagged a b) = a ∷ b ∷ []
 
--- how many texts are wanted yet
+-- how many texts are still needed
 abbrev wanted : State → ℕ
 wanted nothing = 2
 wanted (one a) = 1
@@ -107,7 +107,7 @@ position (two_flagged a b) = 3
 abbrev at : State → Bool → Walk
 at s t = record { held = held_at s; waiting = idle; position = position s; is_trailing = t; stopped = None }
 
--- with one text more, and with the flag
+-- with one more text, and with the flag
 abbrev next : State → Text → State
 next nothing a = one a
 next (one a) b = two a b
@@ -323,7 +323,7 @@ incomplete (one_flagged a) n t h = refl
 incomplete (one_flagged_two a b) n t h = never n h
 incomplete (two_flagged a b) n t h = never n h
 
--- from this walk on the words do not fail, and the flag and the texts are found
+-- from this walk on the arguments do not fail, and the flag and the texts are found
 record Passes (w : Walk) (rest : List Text) (f : Bool) (ps : List Text) : Type 0 where
   whole : level eval_built w rest ≡ []
   has_flag : flag_is_given (first_of (codes "text") (found eval_built w rest)) ≡ f
@@ -342,7 +342,7 @@ ended (one_flagged a) t h = never_more _ h
 ended (one_flagged_two a b) t h = record { whole = refl; has_flag = refl; program = refl; datagram = refl }
 ended (two_flagged a b) t h = record { whole = refl; has_flag = refl; program = refl; datagram = refl }
 
--- and so do they from the walk a word before
+-- and so do they from the walk an argument before
 before : (w v : Walk) (x : Text) (rest : List Text) (f : Bool) (ps : List Text) → turn_fault eval_built [] w x ≡ [] → walked eval_built.rules [] w x ≡ v
     → Passes v rest f ps → Passes w (x ∷ rest) f ps
 before w v x rest f ps turn to h = record {
@@ -354,7 +354,7 @@ before w v x rest f ps turn to h = record {
 
 -- ---- that a line passes
 
--- with one text more there are these flags and texts
+-- with one more text there are these flags and texts
 with_next : (s : State) (n : ℕ) (x : Text) (w : Walk) (rest ps : List Text) → wanted s ≡ suc n
     → Passes w rest (has_flag (next s x)) (texts (next s x) ++ ps) → Passes w rest (has_flag s) (texts s ++ x ∷ ps)
 with_next s n x w rest ps h passes =
@@ -364,7 +364,7 @@ with_next s n x w rest ps h passes =
 full_passes : (s : State) (t : Bool) → wanted s ≡ 0 → Passes (at s t) [] (has_flag s) (texts s ++ [])
 full_passes s t h = subst (λ l. Passes (at s t) [] (has_flag s) l) (sym (append-nil (texts s))) (ended s t h)
 
--- behind `--`
+-- after `--`
 behind_passes : (s : State) (ps : List Text) → length ps ≡ wanted s → Passes (at s true) ps (has_flag s) (texts s ++ ps)
 behind_passes s [] h = full_passes s true (sym h)
 behind_passes s (p ∷ ps) h =
@@ -404,9 +404,9 @@ flag_passes s (x ∷ bef) aft (p ∷ ps) f h plain_before (inr (more, is, plain,
     before (at s false) (at (next s x) false) x (bef ++ codes "--text" ∷ aft) true _ (turn_text s (length ps) x wants is_plain) (to_text s (length ps) x wants is_plain)
     (subst (λ l. Passes (at (next s x) false) (bef ++ codes "--text" ∷ aft) true l) list got)
 
--- ---- that words which pass are a line
+-- ---- that arguments which pass are a line
 
--- words that pass are texts, as many as are wanted, with the flag or without it
+-- arguments that pass are texts, as many as are required, with the flag or without it
 record Flagged (s : State) (rest : List Text) : Type 0 where
   first_flag : has_flag s ≡ false
   bef : List Text
@@ -524,7 +524,7 @@ reads s (x ∷ rest) utf8 none = elim (no_other_flag (codes "text") flag_built e
 
 -- ---- the lines of `eval`
 
--- words that ask for help at once fail by that alone
+-- arguments that ask for help at the start fail only by that
 pub eval_helps : (word : Text) (rest : List Text) → IsSub (codes "eval") eval_built → IsHelpFlag word
     → fault_of command_line (codes "eval" ∷ word ∷ rest) ≡ DisplayHelp ∷ []
 unfolding clap_on_literals
@@ -570,7 +570,7 @@ gives : (rows : List Row) (f : Bool) (a b : Text) → flag_is_given (first_of (c
     → evaluation_of (first_of (codes "text") rows) (first_of (codes "PROGRAM") rows) (first_of (codes "DATAGRAM") rows) ≡ Some (asked f a b)
 gives rows f a b flag_is program datagram = rw (program, datagram, flag_is) refl
 
--- words that pass do not fail, and are found
+-- arguments that pass do not fail, and are found
 passed : (ws rest : List Text) (f : Bool) (a b : Text) → IsSub (codes "eval") eval_built → ws ≡ codes "eval" ∷ rest → Passes start rest f (a ∷ b ∷ [])
     → (rows : List Row) × (fault_of command_line ws ≡ []) × (subcommand_of command_line ws ≡ Some (codes "eval", rows))
     × (evaluation_of (first_of (codes "text") rows) (first_of (codes "PROGRAM") rows) (first_of (codes "DATAGRAM") rows) ≡ Some (asked f a b))

@@ -1,4 +1,4 @@
--- Which words are a line of `events`: its rules, and what its options ask for.
+-- Which arguments are a line of `events`: its rules, and what its options ask for.
 use Rattle.std.proofs.Common.{◌≡◌, ◌⊎◌, ◌∙◌, sym, ap, refl, subst, inl, inr, ℕ, true, false, Bool, List, [], ◌∷◌, codes, Option, Some, None}
 use Rattle.std.specs.Prelude.{if◌then◌else◌}
 use Rattle.std.specs.List.{All, AllByRecursion, IsDistinct}
@@ -68,7 +68,7 @@ names_apart = ((refl, tt), (tt, tt))
 
 -- ---- its lines
 
--- words that ask for help at once fail by that alone
+-- arguments that ask for help at the start fail only by that
 pub events_helps : (word : Text) (rest : List Text) → IsSub (codes "events") events_built → IsHelpFlag word
     → fault_of command_line (codes "events" ∷ word ∷ rest) ≡ DisplayHelp ∷ []
 unfolding clap_on_literals
@@ -98,7 +98,7 @@ events_passes ws bytes number sub h =
     let got = found_in ws h.mac h.address sub h.line in
     (got.0, got.1 ∙ rw (h.has_bytes, h.has_number) refl)
 
--- a line asks for this, or for nothing where a text is out of form
+-- a line asks for this, or for nothing if a text is malformed
 asks_or_not : (rest : List Text) (m a : Option Text) (x : Option (Option (List ℕ))) (y : Option (Option ℕ)) → IsSub (codes "events") events_built
     → IsOptionLine (codes "events") (codes "events" ∷ rest) (given_values (values_of m a))
     → read_if_given hardware_of m ≡ x → read_if_given address_of a ≡ y

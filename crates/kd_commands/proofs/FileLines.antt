@@ -1,4 +1,5 @@
--- Which words are a line of `replay` or of `import`: the rules of the two, and what their options ask for.
+-- Which arguments are a line of `replay` or of `import`: the rules of the two, and what their
+-- options ask for.
 use Rattle.std.proofs.Common.{◌≡◌, ◌⊎◌, ◌∙◌, sym, ap, refl, subst, inl, inr, ℕ, true, false, Bool, List, [], ◌∷◌, ◌++◌, codes, Option, Some, None, option_map}
 use Rattle.std.specs.Prelude.{◌||◌, if◌then◌else◌, not}
 use Rattle.std.specs.List.{All, AllByRecursion, IsDistinct}
@@ -128,7 +129,7 @@ store_name_apart = (tt, tt)
 
 -- ---- the lines of `replay`
 
--- words that ask for help at once fail by that alone
+-- arguments that ask for help at the start fail only by that
 pub replay_helps : (word : Text) (rest : List Text) → IsSub (codes "replay") replay_built → IsHelpFlag word
     → fault_of command_line (codes "replay" ∷ word ∷ rest) ≡ DisplayHelp ∷ []
 unfolding clap_on_literals
@@ -163,7 +164,7 @@ replay_passes ws c d s line sub (digits, spells, is) =
     let p = replay_found ws c d s digits sub is in
     (p.0, p.1 ∙ rw spells refl)
 
--- a line asks for a replay, or for nothing where the text is no line of an event
+-- a line asks for a replay, or for nothing if the text is not a line of an event
 replays_or_not : (ws : List Text) (c d s y : Option Text) (o : Option (Option ℕ)) → IsSub (codes "replay") replay_built
     → IsOptionLine (codes "replay") ws (given_values (replay_values c d s y)) → read_if_given event_line_of y ≡ o
     → ((asked : Asked) × IsLine ws asked) ⊎ (asked_of (subcommand_of command_line ws) ≡ None)

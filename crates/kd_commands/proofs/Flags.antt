@@ -1,4 +1,5 @@
--- Which words clap takes for flags, and that no flag passes but those that ask for help or for the version.
+-- Which arguments clap takes for flags, and that no flag passes except those that ask for help or
+-- for the version.
 use Rattle.std.proofs.Common.{◌≡◌, ◌⊎◌, ◌∙◌, ap, refl, subst, sym, inl, inr, ℕ, suc, ◌+◌, arith, true, false, Bool, List, [], ◌∷◌, Option, Some, None}
 use Rattle.std.specs.Prelude.{slice_get, ◌==◌, ◌||◌, if◌then◌else◌}
 use Rattle.std.specs.List.{before_first, position_or_len}
@@ -24,7 +25,7 @@ help_built = with_index 1 (filled help_rule)
 abbrev pub version_built : Rule
 version_built = with_index 1 (filled version_rule)
 
--- ---- two steps of which neither fails
+-- ---- two steps, neither of which fails
 
 pub neither : (a b : Kinds) → or_else a b ≡ [] → (a ≡ []) × (b ≡ [])
 neither [] b h = (refl, h)
@@ -34,7 +35,7 @@ pub then_none : (a : Kinds) → or_else a [] ≡ a
 then_none [] = refl
 then_none (k ∷ ks) = refl
 
--- ---- words that are no flags
+-- ---- arguments that are no flags
 
 pub no_dashes : (w : Text) → is_flag w ≡ false → bytes_eq w (45 ∷ 45 ∷ []) ≡ false
 no_dashes [] h = refl
@@ -171,7 +172,7 @@ hyphen_fails c fails d rest h start text none = go (d == 45) refl
     go true e = long rest (eqb-true d 45 e) refl
     go false e = absurd (letters_refused c fails.short d rest h start text (let once = rw e at none in rw e at once))
 
--- a word that neither fails nor names a subcommand is `--` or no flag
+-- an argument that neither fails nor names a subcommand is `--` or no flag
 pub no_flag : (c : List Rule) → FlagsFail c → (w : Text) (h : Held) → h.skip ≡ 0 → IsUtf8 w
     → (if bytes_eq w (45 ∷ 45 ∷ []) then [] else flag_word_fault c false (long_of w) w h) ≡ []
     → (w ≡ 45 ∷ 45 ∷ []) ⊎ (is_flag w ≡ false)
@@ -188,7 +189,7 @@ no_flag c fails (b ∷ d ∷ rest) h start text none = go (b == 45) refl
 
 -- ---- one flag that passes
 
--- a text without `=` (61) stands whole before it
+-- a text without `=` (61) is whole before it
 pub whole_before : (text : Text) → has_byte 61 text ≡ false → before_first (λ x. x == 61) text ≡ text
 whole_before [] h = refl
 whole_before (b ∷ text) h = go (b == 61) refl (whole_before text)
@@ -228,7 +229,7 @@ flags_fail_but name own c long short bare = record {
     letter false o e = inl e
 
 module _ (name : Text) (own : Rule) (c : List Rule) (fails : FlagsFailBut name own c) where
-  -- what stands after two hyphens is the flag's name, and no value
+  -- what comes after two hyphens is the flag's name, and no value
   is_name : (text : Text) (h : Held) → long_fault c false (arg_by_long c (name_and_value text).0) (name_and_value text).1 h ≡ [] → text ≡ name
   is_name text h none = go (has_byte 61 text) refl (fails.long (name_and_value text).0)
     where
@@ -261,7 +262,7 @@ module _ (name : Text) (own : Rule) (c : List Rule) (fails : FlagsFailBut name o
       go true e = long rest (eqb-true d 45 e) refl
       go false e = absurd (bundle_fails c fails.short d rest h start text (let once = rw e at none in rw e at once))
 
-  -- a word that neither fails nor names a subcommand is `--`, this flag, or no flag
+  -- an argument that neither fails nor names a subcommand is `--`, this flag, or no flag
   pub no_other_flag : (w : Text) (h : Held) → h.skip ≡ 0 → IsUtf8 w
       → (if bytes_eq w (45 ∷ 45 ∷ []) then [] else flag_word_fault c false (long_of w) w h) ≡ []
       → (w ≡ 45 ∷ 45 ∷ []) ⊎ ((w ≡ 45 ∷ 45 ∷ name) ⊎ (is_flag w ≡ false))

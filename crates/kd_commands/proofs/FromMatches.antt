@@ -1,4 +1,4 @@
--- From what clap says of a parse to the order that the words give.
+-- From what clap says of a parse to the order that the arguments give.
 use Rattle.std.proofs.Common.{◌≡◌, ◌⊎◌, ◌∙◌, sym, ap, ap₂, codes, refl, subst, inl, inr, true, List, [], ◌∷◌, map, Option, Some, None, Result, Ok, Err}
 use Rattle.std.specs.Result.{IfErr, IfOk}
 use Rattle.std.specs.Prelude.{Box, String, option_map}
@@ -26,7 +26,7 @@ use Rattle.kd_commands.specs.declared.orders.Order.TheVariants.{Help, Version, S
 use Rattle.kd_commands.specs.declared.orders.Listing.{Listing}
 use Rattle.kd_commands.specs.declared.orders.Listing.TheVariants.{Leases}
 
--- clap tells the matches of this command line, and the kinds of its faults
+-- clap reports the matches of this command line, and the kinds of its faults
 is_told : is_simple command_line ≡ true
 unfolding clap_on_literals
 is_told = refl
@@ -35,7 +35,7 @@ is_free : is_simple_and_free command_line ≡ true
 unfolding clap_on_literals
 is_free = refl
 
--- what an answer has to say of the words
+-- what a result must say of the arguments
 pub record Answers (ws : List Text) (r : Result Order LineFault) : Type 0 where
   pub order : IfOk r (AsksFor ws)
   pub fault : IfErr r (HasFault ws)
@@ -48,7 +48,7 @@ pub are_texts : {Z : Type 0} (ws : List (String Z)) → All IsUtf8 (map string_b
 are_texts [] = All-nil IsUtf8
 are_texts (w ∷ ws) = All-cons IsUtf8 (string_bytes w) (map string_bytes ws) (IsUtf8-string_bytes w) (are_texts ws)
 
--- an order gives what the words ask for
+-- an order gives what the arguments ask for
 asks_for : (ws : List Text) (order : Order) (asked : Asked) → given_by order ≡ Some asked → Asks ws asked → AsksFor ws order
 asks_for ws (Help text) asked gives h = cc
 asks_for ws Version asked gives h = cc
@@ -107,11 +107,11 @@ asks_for ws (Serve files listening count journal max_ahead) asked gives h =
     }) ≡ asked = cc in
     subst (Asks ws) (sym is) h
 
--- where memory ran out
+-- if memory runs out
 memory_answers : (ws : List Text) → Answers ws (Err Memory)
 memory_answers ws = record { order = tt; fault = tt; only = λ asked h. tt; help = λ h. tt; version = λ h. tt }
 
--- where clap finds no fault
+-- if clap finds no fault
 pub at_matches : (ws : List Text) (o : Option Asked) (r : Result Order LineFault) → All IsUtf8 ws → fault_of command_line ws ≡ []
     → asked_of (subcommand_of command_line ws) ≡ o → GivesIfThere o r → Answers ws r
 at_matches ws None (Ok order) texts none is gives = absurd gives
@@ -135,7 +135,7 @@ at_matches ws (Some asked) (Ok order) texts none is gives =
 at_matches ws (Some asked) (Err CommandLine) texts none is gives = absurd gives
 at_matches ws (Some asked) (Err Memory) texts none is gives = memory_answers ws
 
--- no kind stands in an empty list
+-- no kind is in an empty list
 none_among : (k : ErrorKind) (ks : Kinds) → ks ≡ [] → IsAmong k ks → ⊥
 none_among k ks is h = rw is at h
 
@@ -143,7 +143,7 @@ none_among k ks is h = rw is at h
 one_among : (k only : ErrorKind) (ks : Kinds) → ks ≡ only ∷ [] → IsAmong k ks → k ≡ only
 one_among k only ks is h = elim (subst (IsAmong k) is h) [ inl same ↦ same | inr never ↦ absurd never ]
 
--- where clap's fault has this kind
+-- if clap's fault has this kind
 pub at_kind : (ws : List Text) (k : ErrorKind) (r : Result Order LineFault)
     → ((k ≡ OutOfMemory) ⊎ IsAmong k (fault_of command_line ws)) → AnswersKind k r → Answers ws r
 at_kind ws k (Ok (Help text)) (inl full) answers = let bad : DisplayHelp ≡ OutOfMemory = sym answers ∙ full in cc

@@ -1,5 +1,5 @@
--- The lines of a subcommand that has options and flags, and perhaps a text among them, by the values of its
--- options and whether each flag stands.
+-- The lines of a subcommand that has options and flags, and perhaps a text among them, by the
+-- values of its options and whether each flag is given.
 use Rattle.std.proofs.Common.{◌≡◌, ◌⊎◌, ◌∙◌, inl, inr, sym, ap, ap₂, refl, subst, true, false, Bool, List, [], ◌∷◌, ◌++◌, map, fold, Option, Some, None, is_some, option_map}
 use Rattle.std.specs.Prelude.{◌||◌, not}
 use Rattle.std.specs.List.{All, AllByRecursion, IsDistinct}
@@ -22,15 +22,15 @@ use Rattle.kd_commands.proofs.OptionLine.{AreRead, IsEntry, lacks_of, line_passe
 use Rattle.kd_commands.proofs.Options.{AreRules}
 use Rattle.kd_commands.proofs.Top.{IsSub}
 
--- a flag's name, and what stands after it where it stands
+-- a flag's name, and what comes after it, if it is given
 abbrev pub stood : Text × Bool → Text × Option Value
 stood flag = (flag.0, standing flag.1)
 
--- those of the flags that stand
+-- the flags that are given
 abbrev pub flags_given : List (Text × Bool) → List (Text × Value)
 flags_given flags = kept (map stood flags)
 
--- which of these flags stand
+-- which of these flags are given
 abbrev pub flags_of : List Text → List (Text × Value) → List (Text × Bool)
 flags_of fs os = map (λ f. (f, is_some (value_of f os))) fs
 
@@ -38,9 +38,9 @@ flags_of fs os = map (λ f. (f, is_some (value_of f os))) fs
 abbrev pub texts_of : List Text → List (Text × Value) → List (Text × Option Text)
 texts_of ns os = map (λ n. (n, text_at n os)) ns
 
--- ---- an option that has to be there
+-- ---- an option that is required
 
--- where a text has to be given, one is
+-- if a text is required, one is given
 is_there : (o : Option Value) (text : Option Text) → o ≡ option_map (λ v. Some v) text → not (is_some o) || false ≡ false → (given : Text) × (text ≡ Some given)
 is_there o None is h = let bad : true ≡ false = rw is at h in cc
 is_there o (Some given) is h = (given, refl)
@@ -75,7 +75,7 @@ flags_read names flags fs os no_options ones = ap kept (go fs no_options)
     go (m ∷ ms) (no_option, more) = ap₂ (λ v l. (m, v) ∷ l) (is_standing names flags m os no_option ones) (go ms more)
 
 module _ (name : Text) (names flags wanted : List Text) (c : List Rule) (ours : AreRules names flags wanted c) where
-  -- the words do not fail, and options are found that have these values
+  -- the arguments do not fail, and options are found that have these values
   pub record Passing (ws : List Text) (l : List (Text × Option Value)) : Type 0 where
     pub options : List (Text × Value)
     pub whole : fault_of command_line ws ≡ []
@@ -135,7 +135,7 @@ both_parts P (x ∷ xs) ys h =
     let more = both_parts P xs ys (All-tail P x (xs ++ ys) h) in
     (All-cons P x xs (All-head P x (xs ++ ys) h) more.0, more.1)
 
--- one of what is wanted is not missing where nothing is
+-- something required is not missing if nothing is
 lacks_one : (n : Text) (wanted : List Text) (os : List (Text × Value)) → IsOneOf n wanted → lacks_of wanted os ≡ false → lacks_of (n ∷ []) os ≡ false
 lacks_one n [] os one enough = absurd one
 lacks_one n (m ∷ wanted) os one enough = go (not (is_given m (rows_of os))) refl one (lacks_one n wanted os)
@@ -173,7 +173,7 @@ module _ (name id : Text) (names flags wanted : List Text) (c : List Rule) (ours
       (apart_in_order found (kept all) (subst (IsPermutation found) is order) (apart_given all apart)) (enough found have) line.options_before line.text_then in
       record { options = found; whole = passes.0; found = passes.1; have = have }
 
-  -- the options of words that are read
+  -- the options of arguments that are read
   abbrev pub options_read : (rest : List Text) → ReadsAround name id names flags wanted c ours has [] rest → List (Text × Value)
   options_read rest read = read.os ++ read.after
 
@@ -184,7 +184,7 @@ module _ (name id : Text) (names flags wanted : List Text) (c : List Rule) (ours
       apart_in_order (own ∷ read.os ++ read.after) (read.os ++ own ∷ read.after)
       (IsPermutation-sym (read.os ++ own ∷ read.after) (own ∷ read.os ++ read.after) (IsPermutation-middle read.os own read.after)) read.apart
 
-  -- what is wanted beside the text is there
+  -- what is required besides the text is there
   pub wanted_beside : (n : Text) (rest : List Text) (read : ReadsAround name id names flags wanted c ours has [] rest) → IsOneOf n wanted → bytes_eq id n ≡ false
       → lacks_of (n ∷ []) (options_read rest read) ≡ false
   wanted_beside n rest read one other =

@@ -14,7 +14,7 @@ use Rattle.clap.specs.declared.parser.matches.ValueSource.TheVariants.{CommandLi
 use Rattle.clap.proofs.OnLiterals.{clap_on_literals}
 use Rattle.kd_commands.proofs.Options.{IsOption, built_of, flag_of, needed_built}
 
--- what stands after a name: a value, or none after that of a flag
+-- what comes after a name: a value, or none after that of a flag
 abbrev pub Value : Type 0
 Value = Option Text
 
@@ -42,7 +42,7 @@ rows_of = map row_of
 
 -- ---- one use
 
--- where no row has the name, one more is put after them
+-- if no row has the name, one more is put after them
 pub at_row_missing : (n : Text) (change : Row → List Row) (missing rows : List Row) → has_row n rows ≡ false → at_row n change missing rows ≡ rows ++ missing
 at_row_missing n change missing [] h = refl
 at_row_missing n change missing (r ∷ rows) h = go (bytes_eq r.id n) refl (at_row_missing n change missing rows)
@@ -99,7 +99,7 @@ pub record IsHeld (c : List Rule) (h : Held) (gs : List (Text × Value)) : Type 
   pub settles : settle_fault c false h ≡ []
   pub skip : h.skip ≡ 0
 
--- with an option and its value in one word
+-- with an option and its value in one argument
 abbrev pub put : List Rule → Bool → Text → Text → Held → Held
 put c needed n v h = reacted c (built_of needed n) (v ∷ []) h
 
@@ -145,7 +145,7 @@ filled_in_is_held c n v h gs option held fresh =
       skip = held.skip;
     }
 
--- and with a text, which has to be there
+-- and with a text, which is required
 text_used : (id v : Text) (rows : List Row) → used (needed_built id) (v ∷ []) rows ≡ used (built_of true id) (v ∷ []) rows
 unfolding clap_on_literals
 text_used id v rows = refl
@@ -165,7 +165,7 @@ text_is_held c id v h gs by_id held fresh =
       skip = held.skip;
     }
 
--- a name has no row where it has none and the last option has another
+-- a name has no row if it had none and the last option has another name
 pub no_row_more : (id n : Text) (v : Value) (gs : List (Text × Value)) → has_row id (rows_of gs) ≡ false → bytes_eq n id ≡ false
     → has_row id (rows_of (gs ++ (n, v) ∷ [])) ≡ false
 no_row_more id n v [] fresh other = rw other refl
@@ -243,7 +243,7 @@ find_last n (x ∷ rows) r none own = go (bytes_eq x.id n) refl (find_last n row
         let rest : has_row n rows ≡ false = rw e at none in
         rw e (more rest own)
 
--- the row of a flag that does not stand
+-- the row of a flag that is not given
 abbrev pub default_row : Text → Row
 default_row n = record {
   id = n;
@@ -268,7 +268,7 @@ default_apart f n rows other = go (has_row f rows) refl
     go true e = ap (find (λ x. bytes_eq x.id n)) (default_kept f rows e)
     go false e = ap (find (λ x. bytes_eq x.id n)) (default_put f rows e) ∙ find_behind n rows (default_row f) other
 
--- a flag that does not stand is found to be `false`
+-- a flag that is not given is found to be `false`
 pub default_found : (n : Text) (rows : List Row) → has_row n rows ≡ false → first_of n (with_default rows (flag_of n)) ≡ Some (codes "false")
 default_found n rows none =
     ap (first_of n) (default_put n rows none)

@@ -1,4 +1,4 @@
--- The walk of clap over the words after a subcommand, whichever it is.
+-- The walk of clap over the arguments after a subcommand, whichever it is.
 use Rattle.std.proofs.Common.{◌≡◌, ◌∙◌, ap, false, true, List, [], ◌∷◌}
 use Rattle.std.specs.Prelude.{fold}
 use Rattle.clap.specs.Words.{App, Kinds, Row, Shape, Text}
@@ -13,14 +13,14 @@ use Rattle.kd_commands.proofs.Flags.{neither}
 abbrev pub leaf : App → Shape
 leaf a = built_leaf (inherited (with_leaf_noted (marked_built command_line.top)) a.top)
 
--- before the first word, and behind `--`
+-- before the first argument, and after `--`
 abbrev pub start : Walk
 start = walk_from nothing_held
 
 abbrev pub dashed : Walk
 dashed = record start { is_trailing = true }
 
--- the faults of the words from here on
+-- the faults of the arguments from here on
 abbrev pub after : Shape → Walk → Kinds
 after s w = or_else (settle_fault s.rules s.args_override_self w.held)
     (or_else (defaults_fault (settled s.rules w.held).rows s.rules) (check_fault s (finished s.rules w.held) false))
@@ -28,11 +28,11 @@ after s w = or_else (settle_fault s.rules s.args_override_self w.held)
 abbrev pub level : Shape → Walk → List Text → Kinds
 level s w rest = or_else (walk_fault s [] w rest) (after s (fold (walked s.rules []) w rest))
 
--- what is found by the end of the words from here on
+-- what is found by the end of the arguments from here on
 abbrev pub found : Shape → Walk → List Text → List Row
 found s w rest = finished s.rules (fold (walked s.rules []) w rest).held
 
--- words pass where the first does and those after it do
+-- arguments pass where the first does and those after it do
 pub step_down : (s : Shape) (w : Walk) (a : Text) (rest : List Text) → level s w (a ∷ rest) ≡ []
     → (turn_fault s [] w a ≡ []) × (level s (walked s.rules [] w a) rest ≡ [])
 unfolding walk_fault

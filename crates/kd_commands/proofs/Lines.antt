@@ -1,4 +1,4 @@
--- Which words are a line of the program, subcommand by subcommand.
+-- Which arguments are a line of the program, subcommand by subcommand.
 use Rattle.std.proofs.Common.{◌≡◌, ◌⊎◌, ◌∙◌, sym, ap, refl, subst, inl, inr, List, [], ◌∷◌, codes, Some, None}
 use Rattle.std.specs.Prelude.{option_map}
 use Rattle.std.specs.List.{All}
@@ -63,7 +63,7 @@ check = record { met = refl; ours = refl; found = refl }
 serve : IsSub (codes "serve") serve_built
 serve = record { met = refl; ours = refl; found = refl }
 
--- the words are a line that asks for something, or their subcommand asks for nothing
+-- the arguments are a line that asks for something, or their subcommand asks for nothing
 abbrev pub IsLineOrNothing : List Text → Type 0
 IsLineOrNothing ws = ((asked : Asked) × IsLine ws asked) ⊎ (asked_of (subcommand_of command_line ws) ≡ None)
 
@@ -91,7 +91,7 @@ asked_in name rest (inr (inr (inr (inr (inr (inr (inr (inr (inr (inr (inr (inl i
 asked_in name rest (inr (inr (inr (inr (inr (inr (inr (inr (inr (inr (inr (inr (inl is))))))))))))) texts none = rw is (serve_in rest serve texts (rw is at none))
 asked_in name rest (inr (inr (inr (inr (inr (inr (inr (inr (inr (inr (inr (inr (inr never))))))))))))) texts none = absurd never
 
--- a line asks by clap for what it asks for in plain words
+-- by clap, a line asks for what it asks for in plain words
 pub clap_from_line : (ws : List Text) (asked : Asked) → IsLine ws asked → Asks ws asked
 clap_from_line ws (shows hex names) h =
     let got = show_passes ws hex names show h in
@@ -136,7 +136,7 @@ clap_from_line ws (serves serving) h =
     let got = serve_passes ws serving serve h in
     record { whole = got.0; entered = got.1 }
 
--- a line that goes on with a flag for help fails by that alone
+-- a line that goes on with a flag for help fails only by that
 helps_second : (name next : Text) (rest : List Text) → IsOneOf name subcommands → IsHelpFlag next
     → fault_of command_line (name ∷ next ∷ rest) ≡ DisplayHelp ∷ []
 helps_second name next rest (inl is) h = rw is (show_helps next rest show h)
@@ -156,18 +156,18 @@ helps_second name next rest (inr (inr (inr (inr (inr (inr (inr (inr (inr (inr (i
 
 -- ---- whatever the subcommands
 
--- words that do not fail are a line that asks for something, or ask for nothing
+-- arguments that do not fail are a line that asks for something, or ask for nothing
 pub some_line : (ws : List Text) → All IsUtf8 ws → fault_of command_line ws ≡ [] → IsLineOrNothing ws
 some_line ws texts none =
     let first = begins ws texts none in
     subst IsLineOrNothing (sym first.3) (asked_in first.0 first.1 first.2 (All-tail IsUtf8 first.0 first.1 (subst (All IsUtf8) first.3 texts))
     (subst (λ x. fault_of command_line x ≡ []) first.3 none))
 
--- words ask for one thing
+-- arguments ask for one thing
 pub one_asked : (ws : List Text) (a b : Asked) → Asks ws a → Asks ws b → a ≡ b
 one_asked ws a b x y = let same : Some a ≡ Some b = sym x.entered ∙ y.entered in cc
 
--- words ask in plain words for what they ask for by clap
+-- arguments ask in plain words for what they ask for by clap
 pub line_from_clap : (ws : List Text) (asked : Asked) → All IsUtf8 ws → Asks ws asked → IsLine ws asked
 line_from_clap ws asked texts h = elim (some_line ws texts h.whole) [
   | inl line ↦ subst (IsLine ws) (one_asked ws line.0 asked (clap_from_line ws line.0 line.1) h) line.1
@@ -176,7 +176,7 @@ line_from_clap ws asked texts h = elim (some_line ws texts h.whole) [
       cc
 ]
 
--- words that ask for help at once fail by that alone
+-- arguments that ask for help at the start fail only by that
 pub help_line : (ws : List Text) → IsHelpLine ws → fault_of command_line ws ≡ DisplayHelp ∷ []
 help_line [] h = absurd h
 help_line (w ∷ []) h = helps_first w [] h

@@ -1,5 +1,5 @@
--- Which words are a line of `leases` or of `pools`: the rules of the two, and what their options and their
--- flags ask for.
+-- Which arguments are a line of `leases` or of `pools`: the rules of the two, and what their
+-- options and their flags ask for.
 use Rattle.std.proofs.Common.{◌≡◌, ◌⊎◌, ◌∙◌, sym, ap, ap₂, refl, subst, inl, inr, ℕ, true, false, Bool, List, [], ◌∷◌, ◌++◌, codes, fold, Option, Some, None, is_some, option_map, append_assoc}
 use Rattle.std.specs.Prelude.{◌||◌, if◌then◌else◌, not}
 use Rattle.std.specs.Option.{option_map_or}
@@ -208,7 +208,7 @@ leases_passes ws c d s digits live sub line =
           (flag_beside (codes "live") leases_flags p.options live live_apart (inl refl) p.have.1.1.1.1.0) (beside (codes "at") (Some digits) refl p.have.1.1.1.0),
     )
 
--- two flags as what stands after their names
+-- two flags as what comes after their names
 both_kept : (live metrics : Bool) → flag_given (codes "live") live ++ flag_given (codes "prometheus") metrics
     ≡ flags_given ((codes "live", live) ∷ (codes "prometheus", metrics) ∷ [])
 both_kept true true = refl
@@ -287,7 +287,7 @@ asks_or_not ws listing c d s digits live = go (number_of digits) refl s live
     go (Some moment) spells (Some file) true line = inl (looks listing c d file moment, (digits, spells, line))
     go (Some moment) spells None true line = inr (rw spells refl)
 
--- words that do not fail are a line that asks for something, or ask for nothing
+-- arguments that do not fail are a line that asks for something, or ask for nothing
 line_or_not : AreSubs → (ws : List Text) (listing : Listing) (c d s : Option Text) (digits : Text) (live : Bool)
     → IsListingLine ws listing (listing_options c d s digits live)
     → ((asked : Asked) × IsLine ws asked) ⊎ (asked_of (subcommand_of command_line ws) ≡ None)

@@ -1,5 +1,5 @@
--- Which words are a line of a subcommand that has options and flags, by the walk of clap over them: what
--- a walk makes of them wherever it stands, and the whole of it where no text may stand among them.
+-- Which arguments are a line of a subcommand that has options and flags, by clap's walk over them:
+-- what a walk makes of them wherever it is, and the whole of it if no text may be among them.
 use Rattle.std.proofs.Common.{◌≡◌, ◌∙◌, ℕ, sym, ap, ap₂, refl, subst, inl, inr, true, false, Bool, List, [], ◌∷◌, ◌++◌, codes, fold, Option, Some, None, append_assoc}
 use Rattle.std.specs.Prelude.{if◌then◌else◌, not}
 use Rattle.std.specs.List.{All, IsDistinct, list_any}
@@ -33,11 +33,11 @@ shape_with name c = record (leaf (new_app name)) { rules = c }
 abbrev pub walk_at : ℕ → Held → Waiting → Bool → Walk
 walk_at place h waiting t = record { held = h; waiting = waiting; position = place; is_trailing = t; stopped = None }
 
--- what these options leave out of what is wanted, if anything
+-- what these options leave out of what is required, if anything
 abbrev pub lacks_of : List Text → List (Text × Value) → Bool
 lacks_of wanted os = list_any (λ n. not (is_given n (rows_of os))) wanted
 
--- a value stands after the name of an option, and none after that of a flag
+-- a value comes after the name of an option, and none after that of a flag
 abbrev pub Belongs : List Text → List Text → Text → Value → Type 0
 Belongs names flags n (Some v) = IsOneOf n names
 Belongs names flags n None = IsOneOf n flags
@@ -45,7 +45,8 @@ Belongs names flags n None = IsOneOf n flags
 abbrev pub IsEntry : List Text → List Text → Text × Value → Type 0
 IsEntry names flags o = Belongs names flags o.0 o.1
 
--- the words are options and flags of these names, each once, with those that are wanted among them
+-- the arguments are options and flags of these names, each once, and the required ones are among
+-- them
 pub record AreRead (names flags wanted words : List Text) : Type 0 where
   pub options : List (Text × Value)
   pub are : AreOptionWords words options
@@ -68,12 +69,12 @@ module _ (name : Text) (names flags wanted : List Text) (c : List Rule) (ours : 
   finished_rows : (h : Held) (gs : List (Text × Value)) → IsHeld c h gs → finished c h ≡ fold with_default (rows_of gs) c
   finished_rows h gs held = ap (λ l. fold with_default l c) held.rows
 
-  -- from this walk on the words do not fail, and these options are found
+  -- from this walk on the arguments do not fail, and these options are found
   pub record Passes (w : Walk) (rest : List Text) (gs : List (Text × Value)) : Type 0 where
     pub whole : level shape w rest ≡ []
     pub rows : found shape w rest ≡ fold with_default (rows_of gs) c
 
-  -- and so do they from the walk a word before
+  -- and so do they from the walk an argument before
   pub before : (w v : Walk) (x : Text) (rest : List Text) (gs : List (Text × Value)) → turn_fault shape [] w x ≡ [] → walked c [] w x ≡ v
       → Passes v rest gs → Passes w (x ∷ rest) gs
   before w v x rest gs turn to h = record {
@@ -98,7 +99,7 @@ module _ (name : Text) (names flags wanted : List Text) (c : List Rule) (ours : 
       let bad : stuck.kind ∷ [] ≡ [] = sym stuck.fails ∙ (neither (settle_fault c false h) _ none).0 in
       cc
 
-  -- words that pass are options
+  -- arguments that pass are options
   pub record Reads (gs : List (Text × Value)) (rest : List Text) : Type 0 where
     pub options : List (Text × Value)
     pub ones : All (IsEntry names flags) options
@@ -245,9 +246,10 @@ module _ (name : Text) (names flags wanted : List Text) (c : List Rule) (ours : 
         (options_pass more (gs ++ o ∷ []) os behind now (All-tail (IsEntry names flags) o os ones)
         (subst (λ l. IsDistinct bytes_eq (keys_of l)) (sym all) apart) (ap lacks all ∙ enough) are))
 
-    -- ---- that words which pass are a line
+    -- ---- that arguments which pass are a line
 
-    -- where a value that is held fails, a word that is no flag does, and each word behind `--`
+    -- if a value that is held fails, so does an argument that is no flag, and each argument after
+    -- `--`
     pub record StuckFails : Type 0 where
       pub plain : (h : Held) → IsStuck h → (x : Text) → is_flag x ≡ false → turn_fault shape [] (walk_at place h idle false) x ≡ [] → ⊥
       pub behind : (h : Held) → IsStuck h → (waiting : Waiting) (x : Text) → turn_fault shape [] (walk_at place h waiting true) x ≡ [] → ⊥
@@ -306,7 +308,7 @@ module _ (name : Text) (names flags wanted : List Text) (c : List Rule) (ours : 
           let bad : ArgumentConflict ∷ [] ≡ [] = sym (flag_fails n (settled c h).rows again) ∙ (neither (settle_fault c false h) _ none).1 in
           cc
 
-      -- after an option's name stands its value
+      -- after an option's name comes its value
       value_then : {A : Type 0} (h : Held) (gs : List (Text × Value)) (n : Text) (rest : List Text) → IsOption c n → IsHeld c h gs → All IsUtf8 rest
           → level shape (walk_at place (opened c n h) (option n) false) rest ≡ []
           → ((v : Text) (more : List Text) → rest ≡ v ∷ more → is_flag v ≡ false → level shape (walk_at place (filled_in c n v h) idle false) more ≡ [] → A) → A
@@ -330,7 +332,7 @@ module _ (name : Text) (names flags wanted : List Text) (c : List Rule) (ours : 
           go (is_raised m one is fault) = absurd (stuck_flag (opened c n h) stuck m fault)
           go (is_joined m w needed one is fault) = absurd (stuck_option (opened c n h) stuck needed m (Some w) fault)
 
-      -- what words that pass are, from what is held before them, by what the rest of them are
+      -- what arguments that pass are, from what is held before them, by what the rest of them are
       pub record HowRead (R : List (Text × Value) → List Text → Type 0) : Type 0 where
         pub option : (gs : List (Text × Value)) (n : Text) (v : Value) (words rest : List Text) → Belongs names flags n v → BeginWith n v words rest
             → R (gs ++ (n, v) ∷ []) rest → R gs words
@@ -343,12 +345,12 @@ module _ (name : Text) (names flags wanted : List Text) (c : List Rule) (ours : 
             → level shape (walked c [] (walk_at place h idle false) x) xs ≡ [] → R gs (x ∷ xs)
 
       module _ (R : List (Text × Value) → List Text → Type 0) (how : HowRead R) where
-        -- what the words after the first are, from the walk that stands there
+        -- what the arguments after the first are, from the walk at that point
         abbrev ReadsOn : List Text → Type 0
         ReadsOn rest = (h : Held) (gs : List (Text × Value)) → IsHeld c h gs → IsDistinct bytes_eq (keys_of gs)
             → level shape (walk_at place h idle false) rest ≡ [] → R gs rest
 
-        -- the first word, from what the words after it are
+        -- the first argument, from what the arguments after it are
         by_word : (h : Held) (gs : List (Text × Value)) (x : Text) (rest : List Text) → IsHeld c h gs → IsDistinct bytes_eq (keys_of gs) → All IsUtf8 (x ∷ rest)
             → level shape (walk_at place h idle false) (x ∷ rest) ≡ [] → ReadsOn rest
             → ((n v : Text) (more : List Text) → rest ≡ v ∷ more → ReadsOn more) → R gs (x ∷ rest)
@@ -416,7 +418,7 @@ module _ (name : Text) (names flags wanted : List Text) (c : List Rule) (ours : 
             let same_rest : more ≡ rest = cc in
             subst ReadsOn same_rest (reads more (All-tail IsUtf8 v more behind)))
 
-    -- ---- where no text may stand
+    -- ---- if no text may be among them
 
     module _ (no_place : arg_by_index c place ≡ None) where
       stray : (h : Held) (x : Text) → is_flag x ≡ false → turn_fault shape [] (walk_at place h idle false) x ≡ UnknownArgument ∷ []
@@ -438,7 +440,7 @@ module _ (name : Text) (names flags wanted : List Text) (c : List Rule) (ours : 
         behind = λ h stuck waiting x none. let bad : UnknownArgument ∷ [] ≡ [] = sym (stray_behind h waiting x) ∙ none in cc;
       }
 
-      -- no option more
+      -- no more option
       pub ends : (h : Held) (gs : List (Text × Value)) (t : Bool) (words : List Text) → IsHeld c h gs → IsDistinct bytes_eq (keys_of gs) → AreTexts words []
           → level shape (walk_at place h idle t) [] ≡ [] → Reads gs words
       ends h gs t words held apart are none =
@@ -476,7 +478,7 @@ module _ (name : Text) (names flags wanted : List Text) (c : List Rule) (ours : 
 
   -- ---- the lines
 
-  -- words that ask for help at once fail by that alone
+  -- arguments that ask for help at the start fail only by that
   pub option_helps : (word : Text) (rest : List Text) → IsSub name shape → level shape start (codes "--help" ∷ rest) ≡ DisplayHelp ∷ []
       → level shape start (codes "-h" ∷ rest) ≡ DisplayHelp ∷ [] → IsHelpFlag word → fault_of command_line (name ∷ word ∷ rest) ≡ DisplayHelp ∷ []
   option_helps word rest sub long short (inl is) = line_fault name shape (word ∷ rest) sub ∙ ap (λ x. level shape start (x ∷ rest)) is ∙ long

@@ -1,4 +1,4 @@
--- Which words clap takes for the options of a subcommand that has options alone.
+-- Which arguments clap takes for the options of a subcommand that has only options.
 use Rattle.std.proofs.Common.{◌≡◌, ◌⊎◌, ◌∙◌, ap, refl, subst, sym, inl, inr, ℕ, suc, ◌+◌, arith, true, false, Bool, List, [], ◌∷◌, ◌++◌, codes, fold, Option, Some, None, append_assoc}
 use Rattle.std.specs.Prelude.{◌==◌, ◌&&◌, if◌then◌else◌, not}
 use Rattle.std.specs.List.{AllByRecursion, after_first, before_first, list_any, position_or_len}
@@ -16,7 +16,7 @@ use Rattle.kd_commands.specs.Line.{IsOneOf, is_flag}
 use Rattle.kd_commands.specs.Order.{flag_rule, needed_rule, value_rule}
 use Rattle.kd_commands.proofs.Flags.{ShortsFail, bundle_fails, help_built, long_fails, whole_before}
 
--- an option, as clap builds it, and whether it has to be there
+-- an option, as clap builds it, and whether it is required
 abbrev pub built_of : Bool → Text → Rule
 built_of needed name = record (with_index 1 (filled (value_rule name))) { required = needed }
 
@@ -24,11 +24,11 @@ built_of needed name = record (with_index 1 (filled (value_rule name))) { requir
 abbrev pub flag_of : Text → Rule
 flag_of name = with_index 1 (filled (flag_rule name))
 
--- a text that has to be there, as clap builds it
+-- a text that is required, as clap builds it
 abbrev pub needed_built : Text → Rule
 needed_built id = with_index 1 (filled (needed_rule id))
 
--- the option's word, alone and with a value
+-- the option's argument, without and with a value
 abbrev pub alone : Text → Text
 alone name = codes "--" ++ name
 
@@ -58,7 +58,8 @@ abbrev pub Known : List Text → List Text → Text → Option Rule → Type 0
 Known names flags n o = (o ≡ None) ⊎ ((o ≡ Some help_built) ⊎ ((IsOneOf n names × ((needed : Bool) × (o ≡ Some (built_of needed n))))
     ⊎ (IsOneOf n flags × (o ≡ Some (flag_of n)))))
 
--- the rules are options and flags of these names and the flags for help, and those wanted have to be there
+-- the rules are options and flags of these names and the flags for help, and the needed ones are
+-- required
 pub record AreRules (names flags wanted : List Text) (c : List Rule) : Type 0 where
   pub option : (n : Text) → IsOneOf n names → IsOption c n
   pub flag : (n : Text) → IsOneOf n flags → IsFlag c n
@@ -106,9 +107,9 @@ known_of names flags (a ∷ c) n (first, more) = go first (known_of names flags 
     go (inr (inl (m, one, is))) later = rw is (flag_first m one (bytes_eq m n) refl later)
     go (inr (inr is)) later = rw is (help_first (has_long help_built n) refl later)
 
--- ---- a word
+-- ---- an argument
 
--- a text with `=` (61) is what stands before the first, and what stands after it
+-- a text with `=` (61) is what comes before the first, and what comes after it
 around : (text : Text) → has_byte 61 text ≡ true → text ≡ before_first (λ x. x == 61) text ++ 61 ∷ after_first (λ x. x == 61) text
 around [] h = cc
 around (b ∷ text) h = go (b == 61) refl (around text)
@@ -126,7 +127,8 @@ is_joined_word : (n value : Text) → codes "--" ++ (n ++ 61 ∷ value) ≡ join
 is_joined_word n value = ap (λ l. codes "--" ++ l) (sym (append_assoc n (codes "=") value))
 
 module _ (names flags wanted : List Text) (c : List Rule) (ours : AreRules names flags wanted c) where
-  -- what a word is that does not fail: `--`, no flag, an option, alone or with a value, or a flag
+  -- what an argument is that does not fail: `--`, no flag, an option, with or without a value, or a
+  -- flag
   pub data IsMet (h : Held) (word : Text) : Type 0 where
     dashes : word ≡ codes "--" → IsMet h word
     plain : is_flag word ≡ false → IsMet h word

@@ -1,4 +1,4 @@
--- Which words are a line of `serve`: its rules, and what its options and its flag ask for.
+-- Which arguments are a line of `serve`: its rules, and what its options and its flag ask for.
 use Rattle.std.proofs.Common.{◌≡◌, ◌⊎◌, ◌∙◌, sym, ap, ap₂, refl, subst, inl, inr, ℕ, true, false, Bool, List, [], ◌∷◌, ◌++◌, codes, fold, Option, Some, None, is_some, option_map}
 use Rattle.std.specs.Prelude.{◌||◌, if◌then◌else◌, not, option_and_then}
 use Rattle.std.specs.Option.{option_map_or}
@@ -83,7 +83,7 @@ serve_short x = go (has_short help_built x) (arg_by_short serve_built.rules x) r
     go true o e = inr e
     go false o e = inl e
 
--- the options stand before the flag, but for the last two, and the flag for help after them
+-- the options come before the flag, except the last two, and the flag for help after them
 abbrev options_built : List Rule
 options_built = built_of false (codes "config") ∷ built_of false (codes "token-dir") ∷ built_of false (codes "store") ∷ built_of false (codes "bind") ∷ built_of false (codes "port") ∷ built_of false (codes "client-port") ∷ built_of true (codes "count") ∷ built_of false (codes "broadcast-as") ∷ []
 
@@ -117,7 +117,7 @@ mirror_apart = (tt, tt)
 
 -- ---- its lines
 
--- words that ask for help at once fail by that alone
+-- arguments that ask for help at the start fail only by that
 pub serve_helps : (word : Text) (rest : List Text) → IsSub (codes "serve") serve_built → IsHelpFlag word
     → fault_of command_line (codes "serve" ∷ word ∷ rest) ≡ DisplayHelp ∷ []
 unfolding clap_on_literals
@@ -133,7 +133,7 @@ abbrev asked_with : Option Text → Option Text → Option Text → Option Text 
 asked_with c d s j o n t =
     option_and_then (λ listening. option_and_then (λ count. option_and_then (λ seconds. Some (serves (serving_with c d s j listening count seconds))) t) n) o
 
--- what these rows ask for, where they have these texts
+-- what these rows ask for, if they have these texts
 asked_by_texts : (rows : List Row) (c d s a p q b j x : Option Text) (digits : Text) (m : Bool) (o : Option Listening) (n : Option ℕ) (t : Option (Option ℕ))
     → first_of (codes "config") rows ≡ c → first_of (codes "token-dir") rows ≡ d → first_of (codes "store") rows ≡ s
     → first_of (codes "bind") rows ≡ a → first_of (codes "port") rows ≡ p → first_of (codes "client-port") rows ≡ q
@@ -183,7 +183,7 @@ pub serve_passes : (ws : List Text) (serving : Serving) → IsSub (codes "serve"
 serve_passes ws serving sub h = found_in ws serving.config serving.token_dir serving.store h.bind h.port h.client_port h.broadcast_as serving.journal
     h.seconds h.digits serving.listening.mirror (Some serving.listening) (Some serving.count) (Some serving.max_ahead) sub h.line h.listens h.counts h.bounds
 
--- where a socket is said to be, the flag is as it was given
+-- where the socket is said to be, the flag is as it was given
 same_mirror : (a p q b : Option Text) (m : Bool) (listening : Listening) → listening_of a p q b m ≡ Some listening → listening.mirror ≡ m
 same_mirror a p q b m listening is = go (read_or address_of loopback a) (read_or port_of 67 p) (read_or port_of 68 q)
     (read_if_given address_of b) is
@@ -202,7 +202,7 @@ same_mirror a p q b m listening is = go (read_or address_of loopback a) (read_or
     go (Some x) (Some y) (Some z) None e = cc
     go (Some x) (Some y) (Some z) (Some w) e = let same : (record { bind = x; port = y; client_port = z; broadcast_as = w; mirror = m }) ≡ listening = cc in ap (λ l. l.mirror) (sym same)
 
--- a line asks for a serving, or for nothing where a text is out of range
+-- a line asks for serving, or for nothing if a text is out of range
 asks_or_not : (rest : List Text) (c d s a p q b j x : Option Text) (digits : Text) (m : Bool) (o : Option Listening) (n : Option ℕ) (t : Option (Option ℕ))
     → IsSub (codes "serve") serve_built
     → IsOptionLine (codes "serve") (codes "serve" ∷ rest) (given_values (values_of c d s a p q (Some digits) b j x) ++ flag_given (codes "mirror") m)
@@ -233,7 +233,7 @@ asks_or_not rest c d s a p q b j x digits m (Some listening) (Some count) (Some 
       },
     )
 
--- a line that does not fail asks for a serving, or for nothing
+-- a line that does not fail asks for serving, or for nothing
 pub serve_in : (rest : List Text) → IsSub (codes "serve") serve_built → All IsUtf8 rest → fault_of command_line (codes "serve" ∷ rest) ≡ []
     → ((asked : Asked) × IsLine (codes "serve" ∷ rest) asked) ⊎ (asked_of (subcommand_of command_line (codes "serve" ∷ rest)) ≡ None)
 serve_in rest sub utf8 none =

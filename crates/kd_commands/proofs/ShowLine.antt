@@ -1,4 +1,4 @@
--- Which words are a line of `show`: its rules, and what its text and its flag ask for.
+-- Which arguments are a line of `show`: its rules, and what its text and its flag ask for.
 use Rattle.std.proofs.Common.{◌≡◌, ◌⊎◌, ◌∙◌, sym, ap, refl, subst, inl, inr, true, false, Bool, List, [], ◌∷◌, codes, fold, Option, Some, None, is_some}
 use Rattle.std.specs.Prelude.{◌||◌, if◌then◌else◌, not}
 use Rattle.std.specs.Option.{option_map_or}
@@ -81,7 +81,7 @@ all_apart = ((refl, tt), (tt, tt))
 
 -- ---- its lines
 
--- words that ask for help at once fail by that alone
+-- arguments that ask for help at the start fail only by that
 pub show_helps : (word : Text) (rest : List Text) → IsSub (codes "show") show_built → IsHelpFlag word
     → fault_of command_line (codes "show" ∷ word ∷ rest) ≡ DisplayHelp ∷ []
 unfolding clap_on_literals

@@ -1,4 +1,4 @@
--- The bytes of a hardware address, by its first and those behind it.
+-- The bytes of a hardware address, by its first and those after it.
 use Rattle.std.proofs.Common.{◌≡◌, ◌∙◌, sym, ap, refl, subst, ℕ, ◌<◌, arith, true, false, Bool, List, [], ◌∷◌, ◌++◌, length, Option, Some, None, option_map, append_assoc}
 use Rattle.std.specs.Prelude.{◌==◌, nat_le, if◌then◌else◌, option_and_then, unwrap_or}
 use Rattle.clap.specs.Words.{Text}
@@ -12,7 +12,7 @@ parts : (byte b : ℕ) (behind rest : Text) → ◌≡◌ {A = Option (ℕ × Te
     → (byte ≡ b) × (behind ≡ rest)
 parts byte b behind rest h = (ap (λ (x : Option (ℕ × Text)). (unwrap_or x (0, [])).0) h, ap (λ (x : Option (ℕ × Text)). (unwrap_or x (0, [])).1) h)
 
--- a byte that is read, and those behind it
+-- a byte that is read, and those after it
 pub record IsFirst (text : Text) (byte : ℕ) (behind : Text) : Type 0 where
   pub bytes : bytes_behind text ≡ option_map (λ more. byte ∷ more) (bytes_behind behind)
   pub smaller : length behind < length text
@@ -43,7 +43,7 @@ one_more (colon ∷ high ∷ low ∷ rest) byte behind h = go (colon == 58) refl
         map_is x None = refl
         map_is x (Some bytes) = refl
 
--- where none is read, and something is left, the text has no such bytes
+-- if none is read, and something remains, the text has no such bytes
 pub no_more : (first : ℕ) (text : Text) → None ≡ byte_behind_colon (first ∷ text) → bytes_behind (first ∷ text) ≡ None
 unfolding bytes_behind byte_behind_colon byte_at_front
 no_more colon [] h = refl
@@ -59,7 +59,7 @@ pub none_left : bytes_behind [] ≡ Some []
 unfolding bytes_behind
 none_left = refl
 
--- with a byte more before them
+-- with one more byte before them
 pub put_behind : (xs : List ℕ) (b : ℕ) (o : Option (List ℕ)) → option_map (λ more. (xs ++ b ∷ []) ++ more) o ≡ option_map (λ more. xs ++ more) (option_map (λ more. b ∷ more) o)
 put_behind xs b None = refl
 put_behind xs b (Some more) = ap (λ l. Some l) (append_assoc xs (b ∷ []) more)
@@ -74,7 +74,7 @@ pub front_none : (text : Text) → None ≡ byte_at_front text → bytes_behind 
 unfolding byte_behind_colon
 front_none text h = no_more 58 text h
 
--- and the whole address, where those behind its first byte are put behind it
+-- and the whole address, if those after its first byte are put after it
 pub hardware_is : (seen text : Text) (byte : ℕ) (none front : List ℕ) (behind : Text) (all : Option (List ℕ)) → seen ≡ text
     → Some (byte, behind) ≡ byte_at_front seen → none ≡ [] → front ≡ none ++ byte ∷ [] → all ≡ option_map (λ more. front ++ more) (bytes_behind behind)
     → hardware_of text ≡ option_and_then (λ bytes. if nat_le (length bytes) 16 then Some bytes else None) all

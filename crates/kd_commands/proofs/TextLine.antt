@@ -1,4 +1,4 @@
--- Which words are a line of a subcommand with one text, by the walk of clap over them.
+-- Which arguments are a line of a subcommand with one text, by the walk of clap over them.
 use Rattle.std.proofs.Common.{◌≡◌, ◌∙◌, sym, ap, ap₂, refl, subst, inl, inr, true, false, Bool, List, [], ◌∷◌, codes, Some, None}
 use Rattle.std.specs.List.{All}
 use Rattle.std.specs.Str.{bytes_eq, IsUtf8}
@@ -60,7 +60,7 @@ module _ (name id : Text) where
   unfolding walked
   text_ends a = refl
 
-  -- ---- the words after the name
+  -- ---- the arguments after the name
 
   -- a text and nothing more
   text_is_last : (a : Text) (rest : List Text) → level (one name id) (at_text id true a) rest ≡ [] → rest ≡ []
@@ -93,7 +93,7 @@ module _ (name id : Text) where
       let last = text_is_last b rest (ap (λ x. level (one name id) x rest) (sym (text_dashed b)) ∙ down.1) in
       (b, ap (λ x. b ∷ x) last)
 
-  -- words that do not fail are a text
+  -- arguments that do not fail are a text
   is_text : (rest : List Text) → All IsUtf8 rest → level (one name id) start rest ≡ [] → (text : Text) × AreTexts rest (text ∷ [])
   unfolding walk_fault defaults_fault
   is_text [] text none = let bad : MissingRequiredArgument ∷ [] ≡ [] = none in cc
@@ -109,7 +109,7 @@ module _ (name id : Text) where
             (a, inr (rest, refl, plain, behind_text a rest (All-tail IsUtf8 a rest text) on))
       ]
 
-  -- words that ask for help at once fail by that alone
+  -- arguments that ask for help at the start fail only by that
   pub text_helps : (next : Text) (rest : List Text) → IsSub name (one name id) → IsHelpFlag next
       → fault_of command_line (name ∷ next ∷ rest) ≡ DisplayHelp ∷ []
   unfolding clap_on_literals
@@ -126,7 +126,7 @@ module _ (name id : Text) where
       let got = is_text rest texts (sym (line_fault name (one name id) rest sub) ∙ none) in
       (got.0, record { behind = rest; named = refl; texts_behind = got.1 })
 
-  -- ---- that a text passes, where the argument is not `help`
+  -- ---- that a text passes, if the argument is not `help`
 
   module _ (apart : bytes_eq id (codes "help") ≡ false) where
     at_end : (t : Bool) (a : Text) → level (one name id) (at_text id t a) [] ≡ []

@@ -1,5 +1,5 @@
--- The walk of clap over the words from the first on: which subcommand the first word names, and that a
--- line fails as the words after the subcommand.
+-- clap's walk over the arguments from the first on: which subcommand the first argument names, and
+-- that a line fails as the arguments after the subcommand do.
 use Rattle.std.proofs.Common.{◌≡◌, ◌⊎◌, ◌∙◌, ◌++◌, sym, ap, ap₂, refl, subst, inl, inr, true, false, Bool, List, [], ◌∷◌, codes, Option, Some, None, append_assoc, is_some, map}
 use Rattle.std.specs.Prelude.{find, fold, option_map}
 use Rattle.std.specs.List.{All}
@@ -47,7 +47,7 @@ pub record IsSub (name : Text) (s : Shape) : Type 0 where
 abbrev stop : Text → List Text → Walk
 stop name rest = record start { stopped = Some (name, rest) }
 
--- the walk over the words after a subcommand only keeps them
+-- the walk over the arguments after a subcommand only keeps them
 stopped_walk : (rest : List Text) (p : Text × List Text)
     → fold (walked top.rules names) (stop p.0 p.1) rest ≡ stop p.0 (p.1 ++ rest)
 unfolding walked
@@ -71,7 +71,7 @@ unfolding walk_fault
 passes_by name s rest sub =
     ap₂ or_else (at_stop name s sub) (ap (λ w. walk_fault top names w rest) (to_stop name s sub) ∙ stopped_fault top names start (name, []) rest)
 
--- a line of the subcommand fails as the words after the name
+-- a line of the subcommand fails as the arguments after the name do
 pub line_fault : (name : Text) (s : Shape) (rest : List Text) → IsSub name s → fault_of command_line (name ∷ rest) ≡ level s start rest
 unfolding defaults_fault
 line_fault name s rest sub =
@@ -85,9 +85,9 @@ line_found name s rest sub =
     let at_end : entered (built command_line) (Some (name, rest)) ≡ Some (s.name, found s start rest) = rw sub.found refl in
     ap (λ w. entered (built command_line) w.stopped) (to_end name s rest sub) ∙ at_end
 
--- ---- the first word
+-- ---- the first argument
 
--- which of these names a word is
+-- which of these names an argument is
 abbrev met_of : List Text → Text → Option Text
 met_of ns w = option_map (λ s. s.0) (find (answers_to w) (map (λ n. (n, [])) ns))
 
@@ -113,7 +113,7 @@ but_last (n ∷ ns) last w (inr more) = elim (but_last ns last w more) [
   | inr is ↦ inr is
 ]
 
--- the faults of a first word that names this subcommand
+-- the faults of a first argument that names this subcommand
 abbrev turn_by : Text → Option Text → Kinds
 turn_by w m = or_else (other_fault top m w nothing_held)
     (step_fault top 1 (subcommand_or_other top.rules m idle 1 w nothing_held).0 (subcommand_or_other top.rules m idle 1 w nothing_held).1)
@@ -121,7 +121,7 @@ turn_by w m = or_else (other_fault top m w nothing_held)
 stray_first : (w : Text) → is_flag w ≡ false → turn_by w None ≡ UnknownArgument ∷ InvalidSubcommand ∷ []
 stray_first w h = rw (no_dashes w h, no_long w h, no_short w h) refl
 
--- `--` first, and no word after it passes
+-- `--` first, and no argument after it passes
 dashes_fail : (rest : List Text) → in_all (walk_fault top names dashed rest) (fold (walked top.rules names) dashed rest) ≡ [] → ⊥
 unfolding walk_fault defaults_fault
 dashes_fail [] none = let bad : MissingSubcommand ∷ [] ≡ [] = none in cc
@@ -133,7 +133,7 @@ first_dashes : (rest : List Text) → fault_of command_line (codes "--" ∷ rest
 unfolding walk_fault defaults_fault walked
 first_dashes rest none = dashes_fail rest none
 
--- words that do not fail begin with the name of a subcommand
+-- arguments that do not fail begin with the name of a subcommand
 pub begins : (ws : List Text) → All IsUtf8 ws → fault_of command_line ws ≡ [] → (w : Text) × (rest : List Text) × IsOneOf w subcommands × (ws ≡ w ∷ rest)
 unfolding walk_fault defaults_fault
 begins [] text none = let bad : MissingSubcommand ∷ [] ≡ [] = none in cc
@@ -161,7 +161,7 @@ begins (w ∷ rest) text none =
 
 -- ---- help and version
 
--- a first word that asks for help
+-- a first argument that asks for help
 pub helps_first : (w : Text) (rest : List Text) → IsHelpFlag w → fault_of command_line (w ∷ rest) ≡ DisplayHelp ∷ []
 unfolding clap_on_literals
 helps_first w rest (inl is) = ap (λ x. fault_of command_line (x ∷ rest)) is

@@ -1,4 +1,5 @@
--- Which words are a line of `why`: its rules, and what its datagram, its options and its flag ask for.
+-- Which arguments are a line of `why`: its rules, and what its datagram, its options and its flag
+-- ask for.
 use Rattle.std.proofs.Common.{◌≡◌, ◌⊎◌, ◌∙◌, sym, ap, ap₂, refl, subst, inl, inr, ℕ, true, false, Bool, List, [], ◌∷◌, ◌++◌, codes, fold, Option, Some, None, is_some, option_map}
 use Rattle.std.specs.Prelude.{◌||◌, if◌then◌else◌, not, option_and_then}
 use Rattle.std.specs.Option.{option_map_or}
@@ -110,7 +111,7 @@ live_apart = (tt, tt)
 
 -- ---- its lines
 
--- words that ask for help at once fail by that alone
+-- arguments that ask for help at the start fail only by that
 pub why_helps : (word : Text) (rest : List Text) → IsSub (codes "why") why_built → IsHelpFlag word
     → fault_of command_line (codes "why" ∷ word ∷ rest) ≡ DisplayHelp ∷ []
 unfolding clap_on_literals
@@ -120,7 +121,7 @@ why_helps word rest sub h = option_helps (codes "why") option_names flag_names n
 abbrev explaining_at : Option Text → Option Text → Option Text → Bool → Text → ℕ → Explaining
 explaining_at c d s live hex moment = record { config = c; token_dir = d; store = s; live = live; at = moment; hex = hex }
 
--- what is asked for, by what is read of the moment
+-- what is asked for, by what is read of the time
 abbrev asked_with : Option Text → Option Text → Option Text → Bool → Text → Option ℕ → Option Asked
 asked_with c d s live hex n = option_and_then (λ moment. explaining_with (explaining_at c d s live hex moment)) n
 
@@ -165,7 +166,7 @@ why_passes ws explaining sub h =
     let p = found_in ws explaining.config explaining.token_dir explaining.store h.digits explaining.hex explaining.live sub h.line in
     (p.0, p.1 ∙ rw (h.dates, h.has_store) refl)
 
--- a line asks for this, or for nothing where the moment is no number or the store is not there
+-- a line asks for this, or for nothing if the time is not a number or the store is missing
 why_or_not : (ws : List Text) (c d s : Option Text) (digits hex : Text) (live : Bool) (n : Option ℕ) (b : Bool) → IsSub (codes "why") why_built
     → IsLineAround (codes "why") hex ws (listing_options c d s digits live) → number_of digits ≡ n → not live || is_some s ≡ b
     → ((asked : Asked) × IsLine ws asked) ⊎ (asked_of (subcommand_of command_line ws) ≡ None)

@@ -56,7 +56,7 @@ impl From<InputFault> for LookFault {
 /// A part of a database and its log that was read.
 #[derive(Drop)]
 pub enum Part {
-    /// The first 32 bytes of the log, or fewer where it has fewer.
+    /// The first 32 bytes of the log, or all of them if it has fewer.
     Header(Bytes),
     /// The whole database.
     Database(Bytes),

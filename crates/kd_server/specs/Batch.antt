@@ -1,4 +1,4 @@
--- Events that a server handles together, with one commit behind them.
+-- Events that a server handles together, with one commit for all of them.
 use Rattle.std.specs.Prelude.{◌≡◌, ◌≢◌, ◌++◌, ◌^◌, ◌≤◌, ◌<◌, true, false, List, [], Option, None, Some, is_some}
 use Rattle.kd_event.specs.declared.event.Event.{Event}
 use Rattle.kd_event.specs.declared.event.Handled.{Handled}

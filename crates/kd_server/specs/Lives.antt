@@ -72,7 +72,7 @@ module _ {S : Type 0} (g : Ghosts S) where
   IsDone config ports calls store left =
       IsRun config ports calls store left ⊎ IsNoRun config calls store left
 
-  -- these rows are one of any two tables one of which a crash of the store leaves
+  -- whenever a crash of the store leaves one of two tables, these rows are one of the two
   abbrev pub IsLeft : S → List Row → Type 0
   IsLeft store rows =
       (before after : List Row) → g.leaves store before after → (rows ≡ before) ⊎ (rows ≡ after)

@@ -33,7 +33,7 @@ now_of e = max e.moment (latest_of e.before)
 abbrev pub lifetime_of : LeaseStep → ℕ
 lifetime_of e = e.config.times.lifetime
 
--- the end of such a lease, as its client is told
+-- the end of such a lease, as reported to its client
 abbrev pub end_of : LeaseStep → ℕ
 end_of e = now_of e + lifetime_of e
 
@@ -131,9 +131,9 @@ pub record Regives (es : List LeaseStep) (i j : ℕ) (e f : LeaseStep) (client :
   pub apart : other ≢ client
 
 -- whatever the first table, and whatever the configurations of the steps: if a step leased an
--- address to a client, and a later step gives it to another, then the end that the client was told
--- has passed; or between the two the client gave the address up, or renewed its lease under a
--- shorter lifetime, and that lease has ended
+-- address to a client, and a later step gives it to another, then the end that was reported to the
+-- client has passed; or between the two the client gave the address up, or renewed its lease under
+-- a shorter lifetime, and that lease has ended
 abbrev pub NoOverlapAcross : Type 0
 NoOverlapAcross =
     (rows : List Row) (es : List LeaseStep) → LeaseHistory rows es

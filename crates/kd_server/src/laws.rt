@@ -67,7 +67,7 @@ pub fn openings_end<S: Keeps>()
 /// Openings that follow one another, each starting at the rows found after the previous one, form
 /// one history with stops, to which `no_overlap_across` applies. Their configurations and the types
 /// of their stores may differ. Each step is a call of `Server::handle` under the configuration of
-/// its opening; where the store failed, the step was stopped.
+/// its opening; if the store failed, the step was stopped.
 pub fn lives_are_histories()
     ensures { LivesAreHistories }
 {}

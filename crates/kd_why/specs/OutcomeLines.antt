@@ -85,7 +85,7 @@ abbrev pub room_word : Option (List ℕ) → List ℕ
 room_word None = codes ": no room\n"
 room_word (Some value) = codes "\n"
 
--- the line of an option at an address, where the written reply reads as this message
+-- the line of an option at an address; the written reply reads as this message
 pub record IsSentLine (config : Configuration) (e : Explanation) (a : ℕ) (reply : Seen)
     (item : Item) (line : List ℕ) : Type 0 where
   pub source : List ℕ

@@ -17,7 +17,7 @@ loop-byte-preserved c =
     ∙ ap (option_map (λ l. c.loop-byte.bytes.items ++ l)) (sym more.bytes)
     ∙ c.loop-byte.invariant
 
--- what is made of the bytes where nothing is left, and where something is
+-- what is made of the bytes if nothing remains, and if something does
 at_end : (xs left : List ℕ) → true ≡ (length left == 0) → Some xs ≡ option_map (λ l. xs ++ l) (bytes_behind left)
 at_end xs [] h = ap (λ l. Some l) (sym (append-nil xs)) ∙ ap (option_map (λ l. xs ++ l)) (sym none_left)
 at_end xs (b ∷ left) h = let empty : length (b ∷ left) ≡ 0 = eqb-true (length (b ∷ left)) 0 (sym h) in absurd (omega arith)
