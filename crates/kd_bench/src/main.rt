@@ -1,9 +1,9 @@
 //! Does one task many times, so that its time can be measured from outside, and prints how often it
 //! was done. It prints no time.
 //!
-//! `kd_bench discover 2000000` or `kd_bench pieces 100000` reads a datagram, and `kd_bench file
-//! 10000` a token file. `kd_bench verify 10000` also verifies the token file that it reads.
-//! `kd_bench short 1000000`, `long` and `digits` run a program, and `kd_bench strings 1000`,
+//! `kd_bench discover 2000000` or `kd_bench pieces 100000` reads a datagram, and
+//! `kd_bench file 10000` a token file. `kd_bench verify 10000` also verifies the token file that it
+//! reads. `kd_bench short 1000000`, `long` and `digits` run a program, and `kd_bench strings 1000`,
 //! `members` and `choices` compile a class test.
 //!
 //! `kd_bench get 60000 1000000` makes a table of 60,000 rows of leases and reads a row of it a

@@ -229,8 +229,8 @@ fn at_moment<'a>(alloc: Global) -> Arg<'a>
     value_option(alloc, "at", "M", "The time in whole seconds (date +%s)").required(true)
 }
 
-// A subcommand that lists a store at a time: `NAME [--config F] [--token-dir D] [--store F]
-// [--live] --at M`.
+// A subcommand that lists a store at a time:
+// `NAME [--config F] [--token-dir D] [--store F] [--live] --at M`.
 fn over_store<'a>(
     alloc: Global,
     name: &'a str,

@@ -5,8 +5,8 @@ use kd_replay::EndFailed;
 use std::fs::{File, OpenOptions};
 use std::os::unix::fs::OpenOptionsExt;
 
-/// Opens a sink that appends to the file at a path. If there is no such file, it is created, and
-/// only its owner can read and write it.
+/// Opens a sink that appends to the file at a path. It has not failed. If there is no such file, it
+/// is created, and only its owner can read and write it.
 ///
 /// # Errors
 ///

@@ -72,8 +72,8 @@ pub struct Socket<'a> {
 }
 
 impl<'a> Socket<'a> {
-    /// Opens a link over a new socket at an address, a number in host order, and a port. It may
-    /// send to all hosts of its link.
+    /// Opens a link over a new socket at an address, a number in host order, and a port. It has not
+    /// failed, and may send to all hosts of its link.
     ///
     /// # Errors
     ///
@@ -93,7 +93,8 @@ impl<'a> Socket<'a> {
         }
     }
 
-    /// Makes a link over a socket that was handed over. It may send to all hosts of its link.
+    /// Makes a link over a socket that was handed over. It has not failed, and may send to all
+    /// hosts of its link.
     ///
     /// # Errors
     ///

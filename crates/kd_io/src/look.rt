@@ -114,9 +114,9 @@ pub struct Copied {
 // How many times a copy is tried.
 const TRIES: u32 = 100;
 
-/// Copies a database and its log while the log was not restarted: its header was read before and
-/// after both, and is the same (SQLite's file format, section 4). This takes no lock, so another
-/// process may serve from the files in the meantime.
+/// Copies a database and its log, and makes sure that the log was not restarted in between: its
+/// header is read before and after both, and is the same (SQLite's file format, section 4). This
+/// takes no lock, so another process may serve from the files in the meantime.
 ///
 /// # Errors
 ///

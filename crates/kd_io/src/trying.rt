@@ -27,8 +27,8 @@ const CLIENT_PORT: u16 = 68;
 // many.
 const LOCKED: (u64, u64) = (0x4000_0000, 512);
 
-/// Says in words why there is no configuration: a few lines, each with its line feed. The folder of
-/// the token files and the file are tried again.
+/// Returns, in words, why there is no configuration: a few lines, each with its line feed. The
+/// folder of the token files and the file are tried again.
 ///
 /// # Errors
 ///
@@ -51,7 +51,7 @@ pub fn start_words(
     }
 }
 
-// Says what is wrong with the text of a configuration, which is read again.
+// Returns what is wrong with the text of a configuration, which is read again.
 fn config_words(
     rt: &HostRuntime,
     file: Option<&str>,
@@ -67,7 +67,7 @@ fn config_words(
     }
 }
 
-// Says why the folder or the file cannot be read.
+// Returns why the folder or the file cannot be read.
 fn unread_words(
     rt: &HostRuntime,
     file: Option<&str>,
@@ -106,7 +106,7 @@ fn folder_trouble(rt: &HostRuntime, folder: &str) -> Option<FileTrouble> {
     }
 }
 
-// Returns why a file of at most 16 MiB cannot be read, if so.
+// Returns why a file cannot be read, if so. A file of more than 16 MiB is too large.
 fn file_trouble(rt: &HostRuntime, path: &str) -> Option<FileTrouble> {
     match fs::metadata(rt, path) {
         Ok(found) if found.is_dir() => return Some(FileTrouble::IsFolder),

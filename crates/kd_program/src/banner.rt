@@ -41,8 +41,9 @@ pub fn pool_addresses(subnets: &[Subnet]) -> u64 {
     sum
 }
 
-/// Returns `serving ADDRESS:PORT, subnets N, addresses N, leases N, latest change MOMENT, store
-/// PATH`, with its line feed. If there are no leases, the latest change is a dash.
+/// Returns the line
+/// `serving ADDRESS:PORT, subnets N, addresses N, leases N, latest change MOMENT, store PATH`, with
+/// its line feed. If there are no leases, the latest change is a dash.
 pub fn banner_line(alloc: Global, banner: &Banner<'_>) -> Result<String, AllocError> {
     let mut line = String::new(alloc);
     line.push_str("serving ")?;

@@ -38,8 +38,8 @@ pub trait Host {
     type Journal: Sink + Drop;
 
     /// The result of asking for the configuration of a file, with a folder of token files, and the
-    /// host afterwards. The relations below have the same shape: the host before, the result, the
-    /// host afterwards.
+    /// host afterwards. The relations up to `records` have the same form: the host before, what it
+    /// is asked for, what it gives or takes back, and the host afterwards.
     ghost configures: { Self → Option (List ℕ) → Option (List ℕ) → Result Configuration StartFault
         → Self → Type 0 };
 
@@ -147,8 +147,8 @@ pub trait Host {
         ensures given { records self.old path.now result self.new }
         ensures works { IfOk result (λ sink. Self.Journal.has_failed sink ≡ false) };
 
-    /// Says in words why these files give no configuration: lines, each with its line feed. The
-    /// files are tried again.
+    /// Returns, in words, why these files give no configuration: lines, each with its line feed.
+    /// The files are tried again.
     ///
     /// # Errors
     ///

@@ -26,8 +26,8 @@ pub fn tell<E: Sink>(faults: &mut E, text: &[u8])
     }
 }
 
-/// Writes to standard output, and returns the exit status. If writing fails, reports `fault 95
-/// Write` and returns its status.
+/// Writes to standard output, and returns the exit status. If writing fails, reports
+/// `fault 95 Write` and returns its status.
 pub fn show<O: Sink, E: Sink>(output: &mut O, faults: &mut E, text: &[u8], status: u8) -> u8
     ensures { ShowsOrBreaks text.now status result
         (written_to O.Sink output.old) (written_to O.Sink output.new)

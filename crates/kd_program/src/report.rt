@@ -10,7 +10,7 @@ use std::alloc::{AllocError, Global};
 use std::fmt::Write;
 use std::net::Ipv4Addr;
 
-// Says in words what the steps of a start found: a few lines.
+// Returns, in words, what the steps of a start found: a few lines.
 pub(crate) fn report_of<H: Host>(
     alloc: Global,
     host: &H,

@@ -8,8 +8,9 @@ use Rattle.kd_rows.specs.Row.{IsInRange}
 use Rattle.kd_rows.specs.Table.{with_rows}
 use Rattle.kd_rows.specs.declared.row.Row.{Row}
 
--- the rows become others, and the list of rows to be committed grows with them: either nothing
--- changes, or, over any table, the old list makes the old rows and the new list makes the new ones
+-- the rows become others, and the list of rows to be committed grows with them: if the old list
+-- turns a table into the old rows, the new list turns it into the new ones, and if the rows stay,
+-- so does the list
 pub record Stages (before : List Row) (old : List Row) (rows : List Row)
     (new : List Row) : Type 0 where
   pub sets : (table : List Row) → with_rows old table ≡ before → with_rows new table ≡ rows

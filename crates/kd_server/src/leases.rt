@@ -83,9 +83,9 @@ pub(crate) fn copy_of(alloc: Global, row: &Row) -> Result<Row, AllocError>
     })
 }
 
-/// Returns the lines of leases, each with its line feed: `ADDRESS STATE CLIENT changed MOMENT ends
-/// MOMENT`, and `live` or `past`. The client's identity is in hexadecimal, or a dash if there is
-/// none.
+/// Returns the lines of leases, each with its line feed:
+/// `ADDRESS STATE CLIENT changed MOMENT ends MOMENT`, and `live` or `past`. The client's identity
+/// is in hexadecimal, or a dash if there is none.
 ///
 /// # Errors
 ///

@@ -3,9 +3,9 @@ ghost use Rattle.kd_tools.specs.Status.{replay_status_of, serve_status_of, statu
 
 use kd_replay::{LoopFault, ReplayFault};
 
-/// Returns the exit status of the fault with this number: 1 for out of memory and for a failed
-/// stream, 2 for a mistake on the command line, 4 for the store and the clock, 3 for every other
-/// fault.
+/// Returns the exit status of the fault with this number: 1 for out of memory and for an input,
+/// output, socket or record that fails, 2 for a mistake on the command line, 4 for the store and
+/// the clock, 3 for every other fault.
 pub fn exit_status(number: u8) -> u8
     ensures { result ≡ status_of number }
 {

@@ -60,9 +60,10 @@ fn is_reserved_for(message: &Message<'_>, subnet: &Subnet, address: u32) -> bool
     }
 }
 
-/// Returns the address that a message is about, in host order. For a RELEASE, an INFORM and a
-/// REQUEST that names no server, this is the address that the client has; for other messages, the
-/// one that it requests.
+/// Returns the address that a message is about, in host order. For a RELEASE and an INFORM, this is
+/// the address that the client says it has; for a REQUEST that names no server, the address that
+/// the client says it has or, if it has none, the one that it requests; for other messages, the one
+/// that the client requests.
 pub fn subject_of(message: &Message<'_>) -> Option<u32>
     ensures { result ≡ subject_in message.now }
 {
