@@ -6,7 +6,7 @@ use std::error::Error;
 use std::fmt;
 
 /// Why a run has no outcome.
-#[derive(Clone, Copy, PartialEq, Eq)]
+#[derive(Clone, Copy, PartialEq, Eq, Debug)]
 pub enum EvalFault {
     /// There is not enough memory for a value.
     Memory,
@@ -22,12 +22,6 @@ impl fmt::Display for EvalFault {
         match self {
             EvalFault::Memory => f.write_str("Memory"),
         }
-    }
-}
-
-impl fmt::Debug for EvalFault {
-    fn fmt<W: fmt::Write>(&self, f: &mut fmt::Formatter<W>) -> fmt::Result {
-        fmt::Display::fmt(self, f)
     }
 }
 

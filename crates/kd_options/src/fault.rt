@@ -41,7 +41,7 @@ impl fmt::Display for AddressOption {
 }
 
 /// Why a datagram cannot be read as a message.
-#[derive(Clone, Copy, PartialEq, Eq, Error)]
+#[derive(Clone, Copy, PartialEq, Eq, Debug, Error)]
 pub enum ReadFault {
     /// The bytes do not have the header of a DHCP message.
     #[error("{0}")]
@@ -62,12 +62,6 @@ pub enum ReadFault {
     /// There is no memory for the options.
     #[error("Memory")]
     Memory,
-}
-
-impl fmt::Debug for ReadFault {
-    fn fmt<W: fmt::Write>(&self, f: &mut fmt::Formatter<W>) -> fmt::Result {
-        fmt::Display::fmt(self, f)
-    }
 }
 
 impl ReadFault {
@@ -98,7 +92,7 @@ impl From<WireFault> for ReadFault {
 }
 
 /// Why a reply cannot be written.
-#[derive(Clone, Copy, PartialEq, Eq, Error)]
+#[derive(Clone, Copy, PartialEq, Eq, Debug, Error)]
 pub enum WriteFault {
     /// The obligatory options do not fit in the room.
     #[error("TooLong")]
@@ -106,12 +100,6 @@ pub enum WriteFault {
     /// There is no memory for the reply's bytes.
     #[error("Memory")]
     Memory,
-}
-
-impl fmt::Debug for WriteFault {
-    fn fmt<W: fmt::Write>(&self, f: &mut fmt::Formatter<W>) -> fmt::Result {
-        fmt::Display::fmt(self, f)
-    }
 }
 
 impl WriteFault {

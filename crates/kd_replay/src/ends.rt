@@ -1,16 +1,9 @@
-use std::fmt;
 use thiserror::Error;
 
 /// A source cannot be read, or a sink cannot be written.
-#[derive(Clone, Copy, PartialEq, Eq, Error)]
+#[derive(Clone, Copy, PartialEq, Eq, Debug, Error)]
 #[error("EndFailed")]
 pub struct EndFailed;
-
-impl fmt::Debug for EndFailed {
-    fn fmt<W: fmt::Write>(&self, f: &mut fmt::Formatter<W>) -> fmt::Result {
-        fmt::Display::fmt(self, f)
-    }
-}
 
 /// Where a replay reads its input.
 pub trait Source {
