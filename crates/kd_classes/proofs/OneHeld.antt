@@ -5,12 +5,13 @@ use Rattle.kd_classes.specs.HeldSet.{RunGives, HeldSet, JoinInOrder, JoinsBy}
 use Rattle.kd_classes.specs.declared.definition.ClassDef.{ClassDef}
 use Rattle.kd_machine.specs.Held.{base_names, with_name}
 use Rattle.kd_machine.specs.Laws.{HasOneEnd}
+use Rattle.kd_machine.specs.declared.run.Outcome.{Outcome}
 use Rattle.kd_options.specs.Joined.{value_of}
 use Rattle.kd_options.specs.Message.{Seen}
 use Rattle.kd_token.specs.File.{Code}
 
 one_value : HasOneEnd → (p : Code) (message : Seen) (held : List (List ℕ)) (v x : Bool) → RunGives p message held v → RunGives p message held x → v ≡ x
-one_value one_end p message held v x a b = (one_end p message held v x a.0 b.0 a.1 b.1 a.2 b.2 a.3 b.3).0
+one_value one_end p message held v x a b = sym a.1 ∙ ap (λ (o : Outcome). o.value) (one_end p message held a.0 b.0 a.2 b.2) ∙ b.1
 
 one_more : HasOneEnd → (test : Option Code) (message : Seen) (name : List ℕ) (held more others : List (List ℕ)) → JoinsBy test message name held more → JoinsBy test message name held others → more ≡ others
 one_more one_end None message name held more others a b = a ∙ sym b

@@ -4,6 +4,7 @@ use Rattle.std.specs.Prelude.{◌≡◌, ℕ, Bool, if◌then◌else◌, List, [
 use Rattle.kd_classes.specs.declared.definition.ClassDef.{ClassDef}
 use Rattle.kd_machine.specs.Held.{base_names, with_name}
 use Rattle.kd_machine.specs.Run.{Run}
+use Rattle.kd_machine.specs.declared.run.Outcome.{Outcome}
 use Rattle.kd_options.specs.Joined.{value_of}
 use Rattle.kd_options.specs.Message.{Seen}
 use Rattle.kd_token.specs.Accepts.{Accepts}
@@ -11,7 +12,8 @@ use Rattle.kd_token.specs.File.{Code, HasFile}
 
 -- a run of a program over a message with names held gives this truth value
 abbrev pub RunGives : Code → Seen → List (List ℕ) → Bool → Type 0
-RunGives program message held v = (n : ℕ) × (d : ℕ) × (l : ℕ) × Run program message held v n d l
+RunGives program message held v =
+    (o : Outcome) × (o.value ≡ v) × Run program message held o
 
 -- a name joins those held if its test is true; without a test it does not
 abbrev pub JoinsBy : Option Code → Seen → List ℕ → List (List ℕ) → List (List ℕ) → Type 0

@@ -1,5 +1,5 @@
 -- The program of a class test runs to the test's value.
-use Rattle.std.proofs.Common.{◌≡◌, ℕ, ◌+◌, Bool, List, [], ◌∷◌, length, None, Ok, refl, sym, subst, arith}
+use Rattle.std.proofs.Common.{◌≡◌, ℕ, ◌+◌, Bool, List, [], ◌∷◌, length, None, Ok, refl, ap, subst, arith}
 use Rattle.kd_compile.specs.Compiled.{HasMeasures, Keeps, first_over}
 use Rattle.kd_compile.specs.Measures.{names}
 use Rattle.kd_compile.specs.Tokens.{code_of, program_for}
@@ -16,7 +16,7 @@ use Rattle.kd_expr.specs.Tree.{Tree}
 use Rattle.kd_expr.specs.Typing.{type_of}
 use Rattle.kd_expr.specs.declared.typing.ValueType.TheVariants as types
 use Rattle.kd_machine.specs.Laws.{AcceptedEnds, HasOneEnd}
-use Rattle.kd_machine.specs.Run.{Run}
+use Rattle.kd_machine.specs.declared.run.Outcome.{Outcome}
 use Rattle.kd_machine.specs.Val.{Val, Truth}
 use Rattle.kd_machine.specs.World.{world}
 use Rattle.kd_options.specs.Message.{Seen}
@@ -40,9 +40,8 @@ keeps : AcceptedEnds → HasOneEnd → (t : Tree) → type_of t ≡ Ok types.Boo
 keeps accepted_ends one_end t typed file accepts message held is =
     let made = comes_to_value t message held typed in
     let ends = accepted_ends (program_for t) message held file accepts is in
-    let same = one_end (program_for t) message held (truth message held t) ends.0 made.0 ends.1 made.1 ends.2 made.2 ends.3 made.3 ends.4 in
-    let R : Bool → Type 0 = λ v. Run (program_for t) message held v ends.1 ends.2 ends.3 in
-    (ends.1, ends.2, ends.3, (subst R (sym same.0) ends.4, ends.5, ends.6, ends.7))
+    let came : Outcome = record { value = truth message held t; steps = made.0; peak_depth = made.1; peak_length = made.2 } in
+    (ends.0, ap (λ (o : Outcome). o.value) (one_end (program_for t) message held ends.0 came ends.1.0 made.3), ends.1)
 
 -- the program of a class test has its measures
 pub has_measures : (t : Tree) → HasMeasures t (program_for t)

@@ -7,6 +7,7 @@ use Rattle.kd_compile.specs.declared.fault.CompileFault.{CompileFault}
 use Rattle.kd_compile.specs.declared.fault.CompileFault.TheVariants as faults
 use Rattle.kd_expr.specs.Tree.{Tree}
 use Rattle.kd_machine.specs.Run.{EndsAs}
+use Rattle.kd_machine.specs.declared.run.Outcome.{Outcome}
 use Rattle.kd_options.specs.Message.{Seen, IsMessage}
 use Rattle.kd_token.specs.Accepts.{Accepts}
 use Rattle.kd_token.specs.File.{Code}
@@ -49,7 +50,7 @@ pub record HasMeasures (t : Tree) (p : Code) : Type 0 where
 -- within what it declares, to the expression's truth value
 abbrev pub Keeps : Tree → Code → Type 0
 Keeps t p = (message : Seen) (held : List (List ℕ)) → IsMessage message
-    → (n : ℕ) × (d : ℕ) × (l : ℕ) × EndsAs p message held (truth message held t) n d l
+    → (o : Outcome) × (o.value ≡ truth message held t) × EndsAs p message held o
 
 -- a program that an expression compiles to: it has the expression's measures, is accepted, and
 -- keeps its meaning

@@ -100,9 +100,9 @@ running_next p message held i n s d l token j t stand sizes run there moved =
     subst R (sym (top_alone t l rest)) (running_on p message held i n s d l token j t stand sizes run there moved)
 
 -- at the end a run has the outcome of its one truth value
-pub running_end : (p : Code) (message : Seen) (held : List (List ℕ)) (n : ℕ) (s : List Val) (d l : ℕ) → IsRunning p message held (length p.tokens) n s d l → (n ≤ p.steps) × MatchOption (take_truth s) ⊥ (λ r. Run p message held r.0 n d l)
+pub running_end : (p : Code) (message : Seen) (held : List (List ℕ)) (n : ℕ) (s : List Val) (d l : ℕ) → IsRunning p message held (length p.tokens) n s d l → (n ≤ p.steps) × MatchOption (take_truth s) ⊥ (λ r. Run p message held (record { value = r.0; steps = n; peak_depth = d; peak_length = l }))
 running_end p message held n s d l run = let e = stands_end p n s run.stands in (e.0, by (take_truth s) e.1) where
-  by : (o : Option (Bool × List Val)) → MatchOption o ⊥ (λ r. s ≡ Truth r.0 ∷ []) → MatchOption o ⊥ (λ r. Run p message held r.0 n d l)
+  by : (o : Option (Bool × List Val)) → MatchOption o ⊥ (λ r. s ≡ Truth r.0 ∷ []) → MatchOption o ⊥ (λ r. Run p message held (record { value = r.0; steps = n; peak_depth = d; peak_length = l }))
   by None e = absurd e
   by (Some r) e = let S : List Val → Type 0 = λ u. Segment p (world p message held) 0 [] n (length p.tokens) u d l in subst S e run.chain
 
@@ -112,9 +112,9 @@ finishes p message held i n s d l run e =
     let last : IsRunning p message held (length p.tokens) n s d l = subst R e run in
     let end = running_end p message held n s d l last in
     by (take_truth s) end.1 end.0 where
-      by : (o : Option (Bool × List Val)) → MatchOption o ⊥ (λ r. Run p message held r.0 n d l) → n ≤ p.steps → EndsWithin p message held
+      by : (o : Option (Bool × List Val)) → MatchOption o ⊥ (λ r. Run p message held (record { value = r.0; steps = n; peak_depth = d; peak_length = l })) → n ≤ p.steps → EndsWithin p message held
       by None r le = absurd r
-      by (Some v) r le = (v.0, n, d, l, r, le, run.depth, run.bound)
+      by (Some v) r le = (record { value = v.0; steps = n; peak_depth = d; peak_length = l }, (r, le, run.depth, run.bound))
 
 -- a run ends if it has at most `fuel` places left
 ends_from : (fuel : ℕ) (p : Code) (message : Seen) (held : List (List ℕ)) (i n : ℕ) (s : List Val) (d l : ℕ) → TokensStandIn p → HasSizes message → length p.tokens ≤ i + fuel → IsRunning p message held i n s d l → EndsWithin p message held

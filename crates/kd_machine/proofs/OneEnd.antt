@@ -9,6 +9,7 @@ use Rattle.kd_machine.specs.Val.{Val, Truth, longest}
 use Rattle.kd_machine.specs.World.{World, world}
 use Rattle.kd_machine.specs.Run.{moves, Step, Segment}
 use Rattle.kd_machine.specs.Laws.{HasOneEnd}
+use Rattle.kd_machine.specs.declared.run.Outcome.{Outcome}
 
 some_same : {A : Type 0} (x y : A) → Some x ≡ Some y → x ≡ y
 some_same x y e = cc
@@ -64,17 +65,27 @@ stops p w v n m d l j e h t a b less =
 truth_same : (v x : Bool) → Truth v ∷ [] ≡ Truth x ∷ [] → v ≡ x
 truth_same v x e = cc
 
--- two runs of a program over the same message and names end alike
+abbrev outcome_of : Bool → ℕ → ℕ → ℕ → Outcome
+outcome_of v n d l = record { value = v; steps = n; peak_depth = d; peak_length = l }
+
+parts_same : (v x : Bool) (n m d e l h : ℕ) → v ≡ x → n ≡ m → d ≡ e → l ≡ h → outcome_of v n d l ≡ outcome_of x m e h
+parts_same v x n m d e l h value steps deep long = cc
+
+-- outcomes of the same parts are the same
+outcome_same : (o r : Outcome) → o.value ≡ r.value → o.steps ≡ r.steps → o.peak_depth ≡ r.peak_depth → o.peak_length ≡ r.peak_length → o ≡ r
+outcome_same o r = parts_same o.value r.value o.steps r.steps o.peak_depth r.peak_depth o.peak_length r.peak_length
+
+-- two runs of a program over the same message and names have the same outcome
 pub one_end : HasOneEnd
-one_end p message held v x n m d e l h a b = by (cases_lt n m) (cases_lt m n) where
+one_end p message held o r a b = by (cases_lt o.steps r.steps) (cases_lt r.steps o.steps) where
   w : World
   w = world p message held
 
-  by : (n < m) ⊎ (m ≤ n) → (m < n) ⊎ (n ≤ m) → (v ≡ x) × (n ≡ m) × (d ≡ e) × (l ≡ h)
-  by (inl less) other = absurd (stops p (world p message held) v n m d l (length p.tokens) e h (Truth x ∷ []) a b less)
-  by (inr le) (inl less) = absurd (stops p (world p message held) x m n e h (length p.tokens) d l (Truth v ∷ []) b a less)
+  by : (o.steps < r.steps) ⊎ (r.steps ≤ o.steps) → (r.steps < o.steps) ⊎ (o.steps ≤ r.steps) → o ≡ r
+  by (inl less) other = absurd (stops p w o.value o.steps r.steps o.peak_depth o.peak_length (length p.tokens) r.peak_depth r.peak_length (Truth r.value ∷ []) a b less)
+  by (inr le) (inl less) = absurd (stops p w r.value r.steps o.steps r.peak_depth r.peak_length (length p.tokens) o.peak_depth o.peak_length (Truth o.value ∷ []) b a less)
   by (inr le) (inr ge) =
-      let steps : n ≡ m = omega (arith, le, ge) in
-      let S : ℕ → Type 0 = λ k. Segment p (world p message held) 0 [] k (length p.tokens) (Truth v ∷ []) d l in
-      let same = segment_same m p (world p message held) 0 [] (length p.tokens) (length p.tokens) (Truth v ∷ []) (Truth x ∷ []) d e l h (subst S steps a) b in
-      (truth_same v x same.1, steps, same.2, same.3)
+      let steps : o.steps ≡ r.steps = omega (arith, le, ge) in
+      let S : ℕ → Type 0 = λ k. Segment p w 0 [] k (length p.tokens) (Truth o.value ∷ []) o.peak_depth o.peak_length in
+      let same = segment_same r.steps p w 0 [] (length p.tokens) (length p.tokens) (Truth o.value ∷ []) (Truth r.value ∷ []) o.peak_depth r.peak_depth o.peak_length r.peak_length (subst S steps a) b in
+      outcome_same o r (truth_same o.value r.value same.1) steps same.2 same.3

@@ -1,6 +1,7 @@
 -- What is true of every run, whatever the program, the message and the held names.
-use Rattle.std.specs.Prelude.{◌≡◌, ℕ, Bool, List}
+use Rattle.std.specs.Prelude.{◌≡◌, ℕ, List}
 use Rattle.kd_machine.specs.Run.{EndsWithin, Run}
+use Rattle.kd_machine.specs.declared.run.Outcome.{Outcome}
 use Rattle.kd_options.specs.Message.{IsMessage, Seen}
 use Rattle.kd_token.specs.Accepts.{Accepts}
 use Rattle.kd_token.specs.File.{Code, HasFile}
@@ -12,10 +13,8 @@ AcceptedEnds =
     (p : Code) (message : Seen) (held : List (List ℕ)) → HasFile p → Accepts p → IsMessage message
     → EndsWithin p message held
 
--- all runs of a program over the same message and held names have the same truth value, steps and
--- peaks
+-- all runs of a program over the same message and held names have the same outcome
 abbrev pub HasOneEnd : Type 0
 HasOneEnd =
-    (p : Code) (message : Seen) (held : List (List ℕ)) (v x : Bool) (n m d e l h : ℕ)
-    → Run p message held v n d l → Run p message held x m e h
-    → (v ≡ x) × (n ≡ m) × (d ≡ e) × (l ≡ h)
+    (p : Code) (message : Seen) (held : List (List ℕ)) (o r : Outcome)
+    → Run p message held o → Run p message held r → o ≡ r

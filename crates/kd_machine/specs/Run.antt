@@ -1,6 +1,6 @@
 -- A step of a program and a run (our own format): one rule for each token, on stacks without a
 -- limit on depth or length.
-use Rattle.std.specs.Prelude.{◌≡◌, ℕ, zero, suc, ◌+◌, ◌≤◌, max, Bool, not, ◌&&◌, ◌||◌, if◌then◌else◌, is_some, List, [], ◌∷◌, ◌++◌, map, length, slice_get, Option, Some, None}
+use Rattle.std.specs.Prelude.{◌≡◌, ℕ, zero, suc, ◌+◌, ◌≤◌, max, not, ◌&&◌, ◌||◌, if◌then◌else◌, is_some, List, [], ◌∷◌, ◌++◌, map, length, slice_get, Option, Some, None}
 use Rattle.std.specs.Bool.{beq}
 use Rattle.std.specs.Char.{to_ascii_lowercase, to_ascii_uppercase}
 use Rattle.std.specs.Fmt.{decimal}
@@ -17,6 +17,7 @@ use Rattle.kd_machine.specs.Val.{Val, Truth, Number, Text, longest}
 use Rattle.kd_machine.specs.Values.{take_text, take_truth, take_number}
 use Rattle.kd_machine.specs.Strings.{substring, hex_of}
 use Rattle.kd_machine.specs.World.{World, world, option_in, relay_in}
+use Rattle.kd_machine.specs.declared.run.Outcome.{Outcome}
 use Rattle.kd_machine.specs.Parts.{same, is_held, or_empty, value_of_field}
 
 -- what a token other than a branch makes of the stack; none if the stack lacks what the token
@@ -80,11 +81,12 @@ Segment p w i s (suc n) k u d l =
     (j : ℕ) × (t : List Val) × (e : ℕ) × (h : ℕ) × Segment p w i s n j t e h × Step p w j t k u
     × (d ≡ max e (length u)) × (l ≡ max h (longest u))
 
--- a run of a program over a message with these names held: n steps from its first place with an
--- empty stack to its end with the one truth value v
-abbrev pub Run : Code → Seen → List (List ℕ) → Bool → ℕ → ℕ → ℕ → Type 0
-Run p message held v n d l =
-    Segment p (world p message held) 0 [] n (length p.tokens) (Truth v ∷ []) d l
+-- a run of a program over a message with these names held, and its outcome: the steps go from the
+-- program's first place with an empty stack to its end with the one truth value
+abbrev pub Run : Code → Seen → List (List ℕ) → Outcome → Type 0
+Run p message held o =
+    Segment p (world p message held) 0 [] o.steps (length p.tokens) (Truth o.value ∷ [])
+    o.peak_depth o.peak_length
 
 -- a token that allocates no memory
 abbrev pub IsFree : Token → Type 0
@@ -95,13 +97,12 @@ IsFree tokens.Upper = ⊥
 IsFree tokens.IntToText = ⊥
 IsFree token = Unit {0}
 
--- a run to the value v in n steps with the peaks d and l, within what a program declares
-abbrev pub EndsAs : Code → Seen → List (List ℕ) → Bool → ℕ → ℕ → ℕ → Type 0
-EndsAs p message held v n d l =
-    Run p message held v n d l × (n ≤ p.steps) × (d ≤ p.depth) × (l ≤ p.bound)
+-- a run with this outcome, within the steps, the depth and the value length that a program declares
+abbrev pub EndsAs : Code → Seen → List (List ℕ) → Outcome → Type 0
+EndsAs p message held o =
+    Run p message held o × (o.steps ≤ p.steps) × (o.peak_depth ≤ p.depth)
+    × (o.peak_length ≤ p.bound)
 
 -- some run within what a program declares
 abbrev pub EndsWithin : Code → Seen → List (List ℕ) → Type 0
-EndsWithin p message held =
-    (v : Bool) × (n : ℕ) × (d : ℕ) × (l : ℕ) × Run p message held v n d l × (n ≤ p.steps)
-    × (d ≤ p.depth) × (l ≤ p.bound)
+EndsWithin p message held = (o : Outcome) × EndsAs p message held o

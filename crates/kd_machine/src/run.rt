@@ -37,8 +37,7 @@ pub fn eval<'a>(
     message: &'a Message<'_>,
     held: &Held,
 ) -> Result<Outcome, EvalFault>
-    ensures run { IfOk result
-        (λ o. Run verified.now message.now held.now o.value o.steps o.peak_depth o.peak_length) }
+    ensures run { IfOk result (λ o. Run verified.now message.now held.now o) }
     ensures steps { IfOk result (λ o. o.steps ≤ verified.now.steps) }
     ensures depth { IfOk result (λ o. o.peak_depth ≤ verified.now.depth) }
     ensures length { IfOk result (λ o. o.peak_length ≤ verified.now.bound) }
@@ -64,8 +63,7 @@ fn within<'a, const ROOM: usize>(
 ) -> Result<Outcome, EvalFault>
     requires empty { stack.old ≡ [] }
     requires room { verified.now.depth ≤ ROOM }
-    ensures run { IfOk result
-        (λ o. EndsAs verified.now message.now held.now o.value o.steps o.peak_depth o.peak_length) }
+    ensures run { IfOk result (λ o. EndsAs verified.now message.now held.now o) }
     ensures free { AllByRecursion IsFree verified.now.tokens → IsOk result }
 {
     let program = verified.program();

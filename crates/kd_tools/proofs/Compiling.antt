@@ -1,5 +1,5 @@
 -- From what the compiler says of a class test to what is printed of it.
-use Rattle.std.proofs.Common.{◌≡◌, ℕ, suc, ◌<◌, subst, List, [], ◌∷◌, ◌++◌, get_or, None, Result, Ok, Err}
+use Rattle.std.proofs.Common.{◌≡◌, ℕ, suc, ◌<◌, ap, ◌∙◌, subst, List, [], ◌∷◌, ◌++◌, get_or, None, Result, Ok, Err}
 use Rattle.std.specs.Result.{IfOk}
 use Rattle.hex.specs.Hex.{encode_lower}
 use Rattle.kd_compile.specs.Compiled.{IsCompiled, first_over}
@@ -7,7 +7,7 @@ use Rattle.kd_compile.specs.Value.{truth}
 use Rattle.kd_expr.specs.Tree.{Tree}
 use Rattle.kd_machine.specs.Held.{base_names}
 use Rattle.kd_machine.specs.Laws.{HasOneEnd}
-use Rattle.kd_machine.specs.Run.{Run}
+use Rattle.kd_machine.specs.declared.run.Outcome.{Outcome}
 use Rattle.kd_options.specs.Joined.{value_of}
 use Rattle.kd_options.specs.Message.{AreBytes, IsMessage, Seen}
 use Rattle.kd_token.specs.File.{Code, IsFileOf}
@@ -40,15 +40,13 @@ over : (tree : Tree) (program : Code) (m : Seen) (p : Printed) → HasOneEnd →
 over tree program m p one compiled is h =
     let held = base_names (value_of 60 m.options) in
     let kept = compiled.keeps m held is in
-    let value : h.value ≡ truth m held tree = (one program m held h.value (truth m held tree) h.steps kept.0 h.depth kept.1 h.longest kept.2 h.run kept.3.0).0 in
     record {
       program = program;
       compiled = compiled;
-      steps = h.steps;
-      depth = h.depth;
-      longest = h.longest;
-      run = subst (λ v. Run program m held v h.steps h.depth h.longest) value h.run;
-      line = subst (λ v. IsSuccess (run_line v h.steps h.depth h.longest) p) value h.line;
+      outcome = h.outcome;
+      run = h.run;
+      value = ap (λ (o : Outcome). o.value) (one program m held h.outcome kept.0 h.run kept.2.0) ∙ kept.1;
+      line = h.line;
     }
 
 -- the same over a datagram

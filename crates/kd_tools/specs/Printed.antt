@@ -15,6 +15,7 @@ use Rattle.kd_expr.specs.declared.fault.ExprFault.{ExprFault}
 use Rattle.kd_expr.specs.declared.fault.ExprFault.TheVariants as reading
 use Rattle.kd_machine.specs.Held.{base_names}
 use Rattle.kd_machine.specs.Run.{Run}
+use Rattle.kd_machine.specs.declared.run.Outcome.{Outcome}
 use Rattle.kd_options.specs.Faults.{read_fault_number}
 use Rattle.kd_options.specs.Joined.{value_of}
 use Rattle.kd_options.specs.Message.{Seen, Reads, IsFirstFault}
@@ -176,21 +177,18 @@ abbrev pub truth_text : Bool → List ℕ
 truth_text value = if value then codes "true" else codes "false"
 
 -- a run's line: its truth value, its steps, its greatest depth and the length of its longest value
-abbrev pub run_line : Bool → ℕ → ℕ → ℕ → List ℕ
-run_line value steps depth longest =
-    truth_text value ++ codes " steps " ++ decimal steps ++ codes " depth " ++ decimal depth
-    ++ codes " length "
-    ++ decimal longest ++ line_feed
+abbrev pub run_line : Outcome → List ℕ
+run_line o =
+    truth_text o.value ++ codes " steps " ++ decimal o.steps ++ codes " depth "
+    ++ decimal o.peak_depth ++ codes " length "
+    ++ decimal o.peak_length ++ line_feed
 
 -- the line of a program's run over a message that has only the class names that hold before any
 -- definition
 pub record RunsOver (c : Code) (m : Seen) (p : Printed) : Type 0 where
-  pub value : Bool
-  pub steps : ℕ
-  pub depth : ℕ
-  pub longest : ℕ
-  pub run : Run c m (base_names (value_of 60 m.options)) value steps depth longest
-  pub line : IsSuccess (run_line value steps depth longest) p
+  pub outcome : Outcome
+  pub run : Run c m (base_names (value_of 60 m.options)) outcome
+  pub line : IsSuccess (run_line outcome) p
 
 -- the same over the message of a datagram, for a program that is accepted
 abbrev pub RunsProgram : List ℕ → Code → Printed → Type 0
@@ -208,13 +206,10 @@ RunsDecoded program datagram =
 pub record TestsOver (tree : Tree) (m : Seen) (p : Printed) : Type 0 where
   pub program : Code
   pub compiled : IsCompiled tree program
-  pub steps : ℕ
-  pub depth : ℕ
-  pub longest : ℕ
-  pub run : Run program m (base_names (value_of 60 m.options))
-      (truth m (base_names (value_of 60 m.options)) tree) steps depth longest
-  pub line : IsSuccess
-      (run_line (truth m (base_names (value_of 60 m.options)) tree) steps depth longest) p
+  pub outcome : Outcome
+  pub run : Run program m (base_names (value_of 60 m.options)) outcome
+  pub value : outcome.value ≡ truth m (base_names (value_of 60 m.options)) tree
+  pub line : IsSuccess (run_line outcome) p
 
 -- the same over the message of a datagram
 abbrev pub TestsDatagram : List ℕ → Tree → Printed → Type 0

@@ -133,9 +133,7 @@ fn eval_test(alloc: Global, test: &Typed, datagram: &[u8]) -> Result<Printed, Al
 
 // Returns the line of a run.
 fn run_text(alloc: Global, outcome: &Outcome) -> Result<String, AllocError>
-    ensures { IfOk result (λ line. string_bytes line
-        ≡ run_line outcome.now.value outcome.now.steps outcome.now.peak_depth
-        outcome.now.peak_length) }
+    ensures { IfOk result (λ line. string_bytes line ≡ run_line outcome.now) }
 {
     let value = outcome.value;
     let steps = outcome.steps;

@@ -21,7 +21,7 @@ joins_by : (test : Option Code) (m : Seen) (name : List ℕ) (held : List (List 
 joins_by None m name held None more t = t
 joins_by None m name held (Some outcome) more t = absurd t
 joins_by (Some program) m name held None more t = absurd t
-joins_by (Some program) m name held (Some outcome) more t = (outcome.value, (outcome.steps, outcome.peak_depth, outcome.peak_length, t.0), t.1)
+joins_by (Some program) m name held (Some outcome) more t = (outcome.value, (outcome, refl, t.0), t.1)
 
 pub joined : (m : Seen) (classes : List ClassDef) (held : List (List ℕ)) (list : List (Option Outcome)) (names : List (List ℕ))
     → AreTested m classes held list names → JoinInOrder m classes held names

@@ -16,7 +16,7 @@ IsTestedBy None message name held None more = more ≡ held
 IsTestedBy None message name held (Some outcome) more = ⊥
 IsTestedBy (Some program) message name held None more = ⊥
 IsTestedBy (Some program) message name held (Some outcome) more =
-    Run program message held outcome.value outcome.steps outcome.peak_depth outcome.peak_length
+    Run program message held outcome
     × (more ≡ (if outcome.value then with_name name held else held))
 
 -- a class is tested with the names held before it
