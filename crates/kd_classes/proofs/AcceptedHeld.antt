@@ -14,7 +14,7 @@ one_step : AcceptedEnds → (test : Option Code) (message : Seen) (name : List �
 one_step accepted_ends None message name held is accepted = (held, refl)
 one_step accepted_ends (Some p) message name held is accepted =
     let end = accepted_ends p message held accepted.0 accepted.1 is in
-    ((if end.0 then with_name name held else held), (end.0, (end.1, end.2, end.3, end.4), refl))
+    ((if end.0.value then with_name name held else held), (end.0.value, (end.0, refl, end.1.0), refl))
 
 in_order : AcceptedEnds → (defs : List ClassDef) (message : Seen) (held : List (List ℕ)) → IsMessage message → AllByRecursion IsAccepted defs → (names : List (List ℕ)) × JoinInOrder message defs held names
 in_order accepted_ends [] message held is accepted = (held, refl)

@@ -1,5 +1,5 @@
 -- The program of a class test runs to the test's value.
-use Rattle.std.proofs.Common.{◌≡◌, ℕ, ◌+◌, Bool, List, [], ◌∷◌, length, None, Ok, refl, ap, subst, arith}
+use Rattle.std.proofs.Common.{◌≡◌, ℕ, ◌+◌, List, [], ◌∷◌, length, None, Ok, refl, ap, subst, arith}
 use Rattle.kd_compile.specs.Compiled.{HasMeasures, Keeps, first_over}
 use Rattle.kd_compile.specs.Measures.{names}
 use Rattle.kd_compile.specs.Tokens.{code_of, program_for}
