@@ -5,11 +5,10 @@ ghost use Rattle.kd_options.specs.Message.{mac_of};
 ghost use Rattle.kd_events.specs.People.{IsPeopleLine, address_or_dash, colon_byte, mac_text, reply_words, type_word, value_text};
 
 use crate::time::time_text;
+use kd_options::codes::OPTION_CLIENT_IDENTIFIER;
 use kd_options::{Message, MessageType};
 use kd_replay::{put_address, put_bytes};
 use std::alloc::{AllocError, Global};
-
-const OPTION_CLIENT_IDENTIFIER: u8 = 61;
 
 const RELAY_CIRCUIT: u8 = 1;
 

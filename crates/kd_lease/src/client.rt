@@ -2,6 +2,7 @@ ghost use Rattle.std.specs.Prelude.{◌≡◌};
 ghost use Rattle.kd_options.specs.Joined.{value_of};
 ghost use Rattle.kd_lease.specs.Client.{wants_option, greatest_by, server_message, reply_room};
 
+use kd_options::codes::{OPTION_MAXIMUM_MESSAGE_SIZE, OPTION_PARAMETER_REQUEST_LIST};
 use kd_options::{Message, MessageType};
 
 // Reports whether the message is one that servers send.
@@ -24,7 +25,7 @@ pub(crate) fn is_from_server(message: &Message<'_>) -> bool
 pub fn asks_for(message: &Message<'_>, code: u8) -> bool
     ensures { result ≡ wants_option code message.now }
 {
-    match message.option(55) {
+    match message.option(OPTION_PARAMETER_REQUEST_LIST) {
         Some(list) => list.contains(&code),
         None => true,
     }
@@ -41,7 +42,7 @@ pub(crate) fn room_of(message: &Message<'_>) -> u16
 fn greatest_of(message: &Message<'_>) -> u16
     ensures { result ≡ greatest_by (value_of 57 message.now.options) }
 {
-    match message.option(57) {
+    match message.option(OPTION_MAXIMUM_MESSAGE_SIZE) {
         Some([high, low]) => u16::from(*high) * 256 + u16::from(*low),
         _ => 576,
     }

@@ -16,6 +16,7 @@ use crate::setting::{declined, leased, offer_row, released};
 use crate::verdict::{Verdict, quiet};
 use kd_config::{Config, Subnet};
 use kd_event::Reason;
+use kd_options::codes::OPTION_SERVER_IDENTIFIER;
 use kd_options::{Message, MessageType};
 use std::alloc::{AllocError, Global};
 
@@ -319,7 +320,7 @@ fn nak() -> Verdict<Outline>
 pub fn server_of(message: &Message<'_>) -> Option<u32>
     ensures { result ≡ named_server message.now }
 {
-    address_in(message.option(54))
+    address_in(message.option(OPTION_SERVER_IDENTIFIER))
 }
 
 // Reports whether a message names another server.

@@ -10,6 +10,7 @@ use crate::question::Question;
 use crate::reservation::{is_reserved, reserved_address};
 use kd_config::{Config, Subnet};
 use kd_options::Message;
+use kd_options::codes::OPTION_REQUESTED_ADDRESS;
 use kd_rows::{Row, State};
 
 /// Reports whether an address, in host order, fits: it is in a pool of the subnet and not reserved,
@@ -134,7 +135,7 @@ pub(crate) fn is_holding(state: State) -> bool
 pub fn requested_of(message: &Message<'_>) -> Option<u32>
     ensures { result ≡ requested_address message.now }
 {
-    address_in(message.option(50))
+    address_in(message.option(OPTION_REQUESTED_ADDRESS))
 }
 
 // Returns the address in a value of four bytes.

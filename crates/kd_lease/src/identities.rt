@@ -2,6 +2,7 @@ ghost use Rattle.std.specs.Prelude.{◌≡◌, ◌++◌, IfOk};
 ghost use Rattle.kd_lease.specs.Client.{identity_by_hardware, client_identity};
 
 use kd_options::Message;
+use kd_options::codes::OPTION_CLIENT_IDENTIFIER;
 use kd_wire::Bytes;
 use std::alloc::{AllocError, Global};
 
@@ -15,7 +16,7 @@ use std::alloc::{AllocError, Global};
 pub fn identity(alloc: Global, message: &Message<'_>) -> Result<Option<Bytes>, AllocError>
     ensures { IfOk result (λ found. found ≡ client_identity message.now) }
 {
-    match message.option(61) {
+    match message.option(OPTION_CLIENT_IDENTIFIER) {
         Some([first, rest @ ..]) => Ok(Some(joined(alloc, &[1, *first], rest)?)),
         _ => hardware_identity(alloc, message.header().htype, message.mac()),
     }

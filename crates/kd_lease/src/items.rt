@@ -8,6 +8,10 @@ use crate::plan::PlanKind;
 use crate::question::Question;
 use crate::reply::{put_obligatory, put_returned};
 use kd_config::Times;
+use kd_options::codes::{
+    OPTION_CLIENT_IDENTIFIER, OPTION_LEASE_TIME, OPTION_MESSAGE_TYPE, OPTION_REBINDING_TIME,
+    OPTION_RELAY_INFORMATION, OPTION_RENEWAL_TIME, OPTION_SERVER_IDENTIFIER,
+};
 use kd_options::{Item, Items};
 use std::alloc::{AllocError, Global};
 
@@ -28,12 +32,22 @@ pub(crate) fn reply_items(
     let message = question.message;
     let server = question.config.server().to_be_bytes();
     let mut list = Vec::with_capacity(alloc, USUAL)?;
-    put_obligatory(alloc, &mut list, 53, &[reply_type(kind)])?;
-    put_obligatory(alloc, &mut list, 54, &server)?;
+    put_obligatory(alloc, &mut list, OPTION_MESSAGE_TYPE, &[reply_type(kind)])?;
+    put_obligatory(alloc, &mut list, OPTION_SERVER_IDENTIFIER, &server)?;
     put_times(alloc, &mut list, kind, question.config.times())?;
-    put_returned(alloc, &mut list, 61, message.option(61))?;
+    put_returned(
+        alloc,
+        &mut list,
+        OPTION_CLIENT_IDENTIFIER,
+        message.option(OPTION_CLIENT_IDENTIFIER),
+    )?;
     put_configured_for(alloc, &mut list, question, kind, yiaddr)?;
-    put_returned(alloc, &mut list, 82, message.option(82))?;
+    put_returned(
+        alloc,
+        &mut list,
+        OPTION_RELAY_INFORMATION,
+        message.option(OPTION_RELAY_INFORMATION),
+    )?;
     Ok(Items::own(list))
 }
 
@@ -72,9 +86,19 @@ fn put_lease_times(alloc: Global, list: &mut Vec<Item>, times: Times) -> Result<
     ensures { OnOk result (map option_of_item list.new.items ≡ map option_of_item list.old.items
         ++ lease_times times) }
 {
-    put_obligatory(alloc, list, 51, &times.lifetime.to_be_bytes())?;
-    put_obligatory(alloc, list, 58, &times.renew.to_be_bytes())?;
-    put_obligatory(alloc, list, 59, &times.rebind.to_be_bytes())
+    put_obligatory(
+        alloc,
+        list,
+        OPTION_LEASE_TIME,
+        &times.lifetime.to_be_bytes(),
+    )?;
+    put_obligatory(alloc, list, OPTION_RENEWAL_TIME, &times.renew.to_be_bytes())?;
+    put_obligatory(
+        alloc,
+        list,
+        OPTION_REBINDING_TIME,
+        &times.rebind.to_be_bytes(),
+    )
 }
 
 // Appends the configured options of a reply: those at the address that it assigns, or at the

@@ -6,6 +6,7 @@ ghost use Rattle.kd_lease.specs.Seeking.{reserves};
 
 use kd_config::{Config, Reservation, Subnet};
 use kd_options::Message;
+use kd_options::codes::OPTION_CLIENT_IDENTIFIER;
 
 // Returns the address that is reserved in a subnet for the client of a message.
 pub(crate) fn reserved_address(message: &Message<'_>, subnet: &Subnet) -> Option<u32>
@@ -25,7 +26,7 @@ pub fn reservation_of<'a>(message: &Message<'_>, subnet: &'a Subnet) -> Option<&
 {
     subnet
         .reservations
-        .of_client(message.mac(), message.option(61))
+        .of_client(message.mac(), message.option(OPTION_CLIENT_IDENTIFIER))
 }
 
 /// Reports whether an address, in host order, is reserved in a subnet of the configuration.

@@ -6,6 +6,7 @@ ghost use Rattle.kd_options.specs.Joined.{value_of};
 
 use indexmap::IndexSet;
 use kd_options::Message;
+use kd_options::codes::OPTION_VENDOR_CLASS;
 use std::alloc::{AllocError, Global};
 use std::marker::Model;
 
@@ -43,7 +44,7 @@ impl Held {
             names: IndexSet::new(alloc),
         };
         held.add(b"ALL")?;
-        if let Some(class) = message.option(60) {
+        if let Some(class) = message.option(OPTION_VENDOR_CLASS) {
             let mut name = Vec::from_slice(alloc, b"VENDOR_CLASS_")?;
             name.extend_from_slice(class)?;
             held.add(&name)?;

@@ -5,6 +5,7 @@ ghost use Rattle.kd_options.specs.Joined.{HasOptions, IsAreaIf, options_field, u
 ghost use Rattle.kd_options.specs.Joining.{JoinsPieces, JoinsArea, entries_of};
 ghost use Rattle.kd_options.specs.declared.fault.AreaFault.TheVariants.{Memory};
 
+use crate::codes::OPTION_OVERLOAD;
 use crate::fault::AreaFault;
 use crate::joining::{Value, join, value_in};
 use indexmap::IndexMap;
@@ -28,7 +29,7 @@ pub(crate) fn options_in<'a>(
 {
     let mut options = IndexMap::with_capacity(alloc, USUAL_OPTIONS)?;
     add_area(alloc, &mut options, true, field_of(bytes), 240)?;
-    let (file, sname) = overload_of(value_in(&options, 52));
+    let (file, sname) = overload_of(value_in(&options, OPTION_OVERLOAD));
     add_area(alloc, &mut options, file, &bytes[108..236], 108)?;
     add_area(alloc, &mut options, sname, &bytes[44..108], 44)?;
     Ok(options)

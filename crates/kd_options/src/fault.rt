@@ -1,6 +1,7 @@
 ghost use Rattle.std.specs.Prelude.{◌≡◌};
 ghost use Rattle.kd_options.specs.Faults.{read_fault_number, write_fault_number, address_option_code};
 
+use crate::codes::{OPTION_REQUESTED_ADDRESS, OPTION_SERVER_IDENTIFIER};
 use kd_wire::WireFault;
 use std::alloc::AllocError;
 use std::fmt;
@@ -21,8 +22,8 @@ impl AddressOption {
         ensures { result ≡ address_option_code self }
     {
         match self {
-            AddressOption::RequestedAddress => 50,
-            AddressOption::ServerIdentifier => 54,
+            AddressOption::RequestedAddress => OPTION_REQUESTED_ADDRESS,
+            AddressOption::ServerIdentifier => OPTION_SERVER_IDENTIFIER,
         }
     }
 }

@@ -10,6 +10,7 @@
 #![tactic(auto)]
 
 mod areas;
+pub mod codes;
 mod fault;
 mod item;
 mod joining;

@@ -10,6 +10,10 @@ ghost use Rattle.kd_options.specs.RelayWalk.{relay_list};
 ghost use Rattle.kd_options.specs.declared.fault.ReadFault.TheVariants.{Memory};
 
 use crate::areas::options_in;
+use crate::codes::{
+    OPTION_MESSAGE_TYPE, OPTION_RELAY_INFORMATION, OPTION_REQUESTED_ADDRESS,
+    OPTION_SERVER_IDENTIFIER,
+};
 use crate::fault::{AddressOption, ReadFault};
 use crate::joining::{Value, entry_in, value_in};
 use crate::kind::{MessageType, type_of_number};
@@ -120,7 +124,7 @@ impl<'a> Message<'a> {
         ensures list { IsRelayList (value_of 82 self.now.options) (relay_list self.now.options) }
         ensures value { option_copied result ≡ lookup (nat_eq code) (relay_list self.now.options) }
     {
-        match self.option(82) {
+        match self.option(OPTION_RELAY_INFORMATION) {
             Some(value) => sub_option(value, code),
             None => None,
         }
@@ -134,7 +138,7 @@ impl<'a> Message<'a> {
             ≡ slice_get (firsts (relay_list self.now.options)) index }
         ensures within { IsSome result → index < 256 }
     {
-        match self.option(82) {
+        match self.option(OPTION_RELAY_INFORMATION) {
             Some(value) => sub_option_at(value, index),
             None => None,
         }
@@ -147,7 +151,7 @@ fn type_in(fields: &IndexMap<u8, Value<'_>>) -> MessageType
     requires { IsSomeAnd (value_of 53 (entries_of fields.now.entries)) IsType }
     ensures { value_of 53 (entries_of fields.now.entries) ≡ Some (type_number result ∷ []) }
 {
-    match value_in(fields, 53) {
+    match value_in(fields, OPTION_MESSAGE_TYPE) {
         Some(value) => type_of_number(value[0]),
         None => unreachable!(),
     }
@@ -158,15 +162,15 @@ fn type_in(fields: &IndexMap<u8, Value<'_>>) -> MessageType
 fn fault_in(fields: &IndexMap<u8, Value<'_>>) -> Option<ReadFault>
     ensures { result ≡ option_fault (entries_of fields.now.entries) }
 {
-    match value_in(fields, 53) {
+    match value_in(fields, OPTION_MESSAGE_TYPE) {
         None => return Some(ReadFault::NoType),
         Some([1..=8]) => {}
         Some(_) => return Some(ReadFault::BadType),
     }
-    if !may_be_address(value_in(fields, 50)) {
+    if !may_be_address(value_in(fields, OPTION_REQUESTED_ADDRESS)) {
         return Some(ReadFault::BadOption(AddressOption::RequestedAddress));
     }
-    if !may_be_address(value_in(fields, 54)) {
+    if !may_be_address(value_in(fields, OPTION_SERVER_IDENTIFIER)) {
         return Some(ReadFault::BadOption(AddressOption::ServerIdentifier));
     }
     None

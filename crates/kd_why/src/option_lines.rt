@@ -9,14 +9,11 @@ use crate::words::put_name;
 use kd_classes::{ClassDef, Classes};
 use kd_config::Subnet;
 use kd_lease::{Plan, PlanKind};
+use kd_options::codes::{OPTION_CLIENT_IDENTIFIER, OPTION_RELAY_INFORMATION};
 use kd_options::{Item, Message};
 use kd_replay::put_bytes;
 use std::alloc::{AllocError, Global};
 use std::fmt::Write;
-
-const OPTION_CLIENT_IDENTIFIER: u8 = 61;
-
-const OPTION_RELAY_INFORMATION: u8 = 82;
 
 // The least room of a reply, in bytes.
 const LEAST_ROOM: u16 = 548;
