@@ -5,7 +5,7 @@ ghost use Rattle.kd_keeps.specs.Fault.{store_fault_number};
 use thiserror::Error;
 
 /// Why a call to a database failed, named after SQLite's result codes.
-#[derive(Clone, Copy, PartialEq, Eq)]
+#[derive(Clone, Copy, PartialEq, Eq, Debug)]
 pub enum Cause {
     /// There is no memory.
     OutOfMemory,

@@ -8,7 +8,7 @@ use std::fmt;
 use thiserror::Error;
 
 /// An option that holds one IPv4 address (RFC 2132 sections 9.1 and 9.7).
-#[derive(Clone, Copy, PartialEq, Eq)]
+#[derive(Clone, Copy, PartialEq, Eq, Debug)]
 pub enum AddressOption {
     /// Option 50, the address that the client asks for.
     RequestedAddress,

@@ -1,7 +1,8 @@
 use crate::support::{DISCOVER, Fault, datagram, outcome_over};
 use kd_compile::{CompileFault, compile};
 use kd_expr::{ExprFault, Typed, read, type_of};
-use kd_machine::Outcome;
+use kd_machine::{Held, Outcome, eval};
+use kd_options::Message;
 use kd_token::Verified;
 use std::alloc::Global;
 use std::test::Fail;
@@ -49,6 +50,38 @@ fn want_of_memory_is_answered_as_such(rt: HostRuntime) -> Result<(), Fail> {
         let first = outcome(rt.alloc(), text, &bytes);
         assert!(rt; first == Ok(want) || first == Err(Fault::Memory));
         assert!(rt; outcome(rt.alloc(), text, &bytes) == Ok(want));
+    }
+    Ok(())
+}
+
+// Class tests whose programs borrow every value, with the value and the steps of each over a
+// DISCOVER, and the length of its longest value.
+const BORROWING: [(&[u8], bool, u32, u32); 2] = [
+    (b"option[60].hex == 'a'", false, 3, 2),
+    (
+        b"substring(ifelse(option[61].exists, option[61].hex, pkt4.mac), 1, 2) == 0x0000",
+        true,
+        6,
+        6,
+    ),
+];
+
+// Whichever request for memory is refused, a run of such a program over a message that was read
+// is not affected.
+#[test]
+fn programs_that_borrow_every_value_take_no_memory(rt: HostRuntime) -> Result<(), Fault> {
+    let bytes = datagram(rt.alloc(), DISCOVER)?;
+    let message = Message::read(rt.alloc(), &bytes)?;
+    let held = Held::base(rt.alloc(), &message)?;
+    for (text, value, steps, peak_length) in BORROWING {
+        let program = program_of(rt.alloc(), text)?;
+        let want = Outcome {
+            value,
+            steps,
+            peak_depth: 2,
+            peak_length,
+        };
+        assert!(rt; eval(rt.alloc(), &program, &message, &held) == Ok(want));
     }
     Ok(())
 }
