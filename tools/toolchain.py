@@ -1,4 +1,4 @@
-"""The toolchain's `rt` as a module, for the scripts beside this file: what it does is not written again here."""
+"""Loads the toolchain's `rt` as a module, so that the scripts in this folder can use its functions."""
 import importlib.machinery
 import os
 import subprocess
@@ -9,7 +9,7 @@ ROOT = os.path.dirname(os.path.dirname(os.path.realpath(__file__)))
 
 
 def load_rt():
-    """The module. Its guard is started, so that what it runs ends with the script."""
+    """Returns the module. Starts its guard, so that the processes it runs end with the script."""
     rt = types.ModuleType("rt")
     rt.__file__ = f"{KIT}/bin/rt"
     importlib.machinery.SourceFileLoader("rt", rt.__file__).exec_module(rt)
@@ -18,14 +18,14 @@ def load_rt():
 
 
 def load_prove():
-    """The script `prove` beside this file, as a module."""
+    """Returns the script `prove` in this folder as a module."""
     made = types.ModuleType("prove")
     importlib.machinery.SourceFileLoader("prove", f"{ROOT}/tools/prove").exec_module(made)
     return made
 
 
 def crates(rt):
-    """The repository's crates, lowest first, held to HANDLES as in the gate."""
+    """The repository's crates, lowest first, limited to HANDLES as in the gate."""
     rt.Crate.allowed = rt.handles_of(ROOT)
     rt.rtlib.Crate = rt.Crate
     return rt.rtlib.crates_below(ROOT)
