@@ -1,8 +1,8 @@
 #!/usr/bin/env python3
-"""A large configuration for measuring: config.py MIB prints one of about so many MiB on standard output.
+"""Prints a large configuration for measurements, of about MIB MiB: config.py MIB.
 
-256 subnets of up to 64 pools each, 256 classes, and as many reservations, spread
-over the subnets, as fill the rest: 191,790 at 16 MiB.
+It has 256 subnets of up to 64 pools each and 256 classes. Reservations, spread over the subnets, fill the rest: 191,790 at
+16 MiB. The counts go to standard error.
 """
 import json
 import sys

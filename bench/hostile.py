@@ -1,12 +1,12 @@
 #!/usr/bin/env python3
-"""What a message costs where clients are hostile and numbers large, beside the goals.
+"""Measures the cost of a message with hostile clients and large numbers, and compares it with the goals.
 
     hostile.py [--program P] [--only WORK]
 
-Runs works of crates/kd_bench (P, or its out/kd_bench) and prints a table in Markdown: the work, its rows and reservations,
-the instructions of a round by callgrind, its microseconds of processor time as the best of five runs, the work that it is
-compared with, the ratios of both, the goal, and whether it is met. What the program takes without a round is taken off.
---only prints the rows of one work.
+Runs works of kd_bench and prints a Markdown table. P is the program, by default crates/kd_bench/out/kd_bench. The columns
+are the work, its rows and reservations, the instructions of a round (callgrind), its microseconds of processor time (best of
+five runs), the work that it is compared with, the ratios of both figures, the goal, and whether it is met. The cost of a
+run without rounds is subtracted. --only prints the rows of one work. It needs valgrind.
 """
 import argparse
 import os
@@ -17,7 +17,7 @@ TOP = os.path.dirname(os.path.dirname(os.path.realpath(__file__)))
 HOLDERS = ["all", "beside", "away", "ended"]
 MANY, MOST, FEW = 60_000, 1_000_000, 1_000
 SUBNET, WHOLE = 4096, 200_000
-# Each work with its rows and reservations (None: a work over the table alone), what it is compared with, and the goal.
+# Each work with its rows and reservations (None for works on the table only), the work to compare it with, and the goal.
 ROWS = [((f"renewal-{holder}", MANY, 0), ("renewal", MANY, 0), 3) for holder in HOLDERS[:3]]
 ROWS += [((f"known-{holder}", MANY, 0), ("known", MANY, 0), 3) for holder in HOLDERS]
 ROWS += [((f"other-{holder}", MANY, 0), ("other", MANY, 0), 3) for holder in HOLDERS + ["offers"]]
@@ -44,7 +44,7 @@ def instructions(program, work, rounds):
 
 
 def microseconds(program, work, rounds):
-    """Processor time of the best of five runs."""
+    """The processor time of the best of five runs."""
     best = []
     for _ in range(5):
         process = subprocess.Popen(words_of(program, work, rounds), stdout=subprocess.DEVNULL)
@@ -67,7 +67,7 @@ def microseconds_of_round(program, work):
 
 
 def met(ratios, time, goal):
-    """Whether a goal is met: a ratio by instructions and by time, or a time."""
+    """Whether a goal is met. The goal is a ratio, of instructions and of time, or else 2 us."""
     if not ratios:
         return "yes" if time <= 2 else "no"
     by_instructions, by_time = (ratio <= goal for ratio in ratios)

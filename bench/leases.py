@@ -1,8 +1,9 @@
 #!/usr/bin/env python3
-"""A day of leases: bench/leases.py [PROGRAM [EVENTS [CLIENTS [STORE]]]], 1,000,000 events of 10,000 clients over a
-store in memory and ./kdhcp without words. Each client sends a DISCOVER by way of a relay, then a REQUEST, and then renews.
-Prints how many lines of each kind came, the program's resident memory after some of them, and its processor time; with
-`-` in place of PROGRAM it prints the events alone."""
+"""Replays a day of leases: bench/leases.py [PROGRAM [EVENTS [CLIENTS [STORE]]]].
+
+The defaults are ./kdhcp, 1,000,000 events, 10,000 clients and leases in memory only. Each client sends a DISCOVER through a
+relay, then a REQUEST, and then renews. It prints how many lines of each kind the program printed, its resident memory at
+nine points of the run, and its processor time. With `-` in place of PROGRAM it only prints the events."""
 import json
 import os
 import resource
@@ -28,13 +29,13 @@ CONFIG = {
 
 
 def datagram(client, options, ciaddr=0):
-    """A message of a client with this number, through the relay 10.0.0.1."""
+    """A message of the client with this number, through the relay 10.0.0.1."""
     head = f"010106000000000100000000{ciaddr:08x}{'0' * 16}0a000001{client:012x}{'0' * 20}"
     return f"{head}{'00' * 192}63825363{options}ff"
 
 
 def event(number):
-    """The line of the event with this number: round by round, each client in turn."""
+    """The line of the event with this number. In each round every client sends one message."""
     turn, client = divmod(number, CLIENTS)
     address = FIRST + client
     if turn == 0:
@@ -52,7 +53,7 @@ def resident(process):
 
 
 def count(process, kinds, memory):
-    """Counts the lines by their kind, and notes the resident memory at ten places."""
+    """Counts the lines by kind, and records the resident memory nine times on the way."""
     for number, line in enumerate(process.stdout, 1):
         words = line.split()
         kind = " ".join(words[1:3]) if words[1] == "quiet" else words[1]
@@ -80,7 +81,7 @@ def main():
         process.wait()
     used = resource.getrusage(resource.RUSAGE_CHILDREN)
     print(f"status {process.returncode}, lines {kinds}, {used.ru_utime + used.ru_stime:.1f} s of processor time")
-    print(f"resident KB after so many lines: {memory}, greatest {used.ru_maxrss}")
+    print(f"lines printed and resident KB: {memory}, greatest {used.ru_maxrss}")
 
 
 main()

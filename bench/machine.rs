@@ -1,4 +1,4 @@
-// A plain stack machine over the same tokens, for comparison: `machine short 1000000`, `long`, `digits`.
+// A plain stack machine for the same tokens, for comparison: `machine short 1000000`, `long`, `digits`.
 use std::borrow::Cow;
 
 enum Token {

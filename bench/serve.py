@@ -1,8 +1,10 @@
 #!/usr/bin/env python3
-"""Measures servers in turn on loopback; serve.sh calls it: serve.py ROOM KDHCP PICTURE, in a network namespace. With the
-word `million` in place of the picture it measures one round over 1,000,000 leases, with the word `durable` the two
-servers that sync a lease before they answer, kdhcp with a store and coredhcp, and with `batches` and a picture behind it
-servers under so many clients at a time."""
+"""Measures servers in turn on loopback, in a network namespace; called by serve.sh.
+
+    serve.py ROOM KDHCP PICTURE            kdhcp and Kea at several numbers of leases and of class tests
+    serve.py ROOM KDHCP million            kdhcp and Kea, one round with 1,000,000 leases
+    serve.py ROOM KDHCP durable            the servers that sync a lease before they answer: kdhcp with a store, and coredhcp
+    serve.py ROOM KDHCP batches PICTURE    servers with several numbers of clients at a time"""
 import json
 import os
 import socket
@@ -25,12 +27,12 @@ NAMES["alone"] = "kdhcp, file, a commit each"
 
 
 def tests_of(count):
-    """Class tests of which a client of `MEASURED` passes the last alone."""
+    """Class tests. A measured client passes only the last one."""
     return [{"name": f"c{i}", "test": f"option[60].hex == 'class-{i}'"} for i in range(count)]
 
 
 def pools():
-    """The addresses of `POOL`, 65,536 in each."""
+    """The addresses of `POOL`, as pools of 65,536 addresses."""
     return [{"pool": f"10.{i}.0.0 - 10.{i}.255.255"} for i in range(1, 18)]
 
 
@@ -60,12 +62,12 @@ def kdhcp_words(room, kdhcp, tests, store):
 
 
 def alone(words):
-    """The words with which kdhcp handles each datagram alone. Its replies go to the sender, which is the relay anyway."""
+    """Makes kdhcp handle each datagram alone. It then replies to the sender, which is the relay anyway."""
     return [*words, "--mirror"]
 
 
 def coredhcp_words(room):
-    """Its range of addresses is kept in a file of text, of which each new line is synced before the reply; JSON is YAML."""
+    """coredhcp keeps its range in a text file and syncs each new line before the reply. Its YAML file may be JSON."""
     plugins = [{"lease_time": "3600s"}, {"server_id": SERVER}, {"netmask": "255.0.0.0"}]
     plugins.append({"range": f"{room}/leases.txt {POOL.replace('-', ' ')} 3600s"})
     with open(f"{room}/coredhcp.yml", "w", encoding="utf-8") as it:
@@ -74,7 +76,7 @@ def coredhcp_words(room):
 
 
 def started(room, kdhcp, which, tests):
-    """A server that has begun to answer, on the first processor, or on three where it has three threads."""
+    """Starts a server, on the first processor, or on three processors if it has three threads."""
     for name in os.listdir(room):
         if name.startswith(("kea.csv", "leases.db", "leases.txt")):
             os.remove(f"{room}/{name}")
@@ -108,7 +110,7 @@ def started(room, kdhcp, which, tests):
 
 
 def loaded(room, server, base, clients, vendor, *more):
-    """What kdload counts of so many clients, from this number on, 32 at a time if `more` does not say another number."""
+    """The results of kdload for this many clients, numbered from `base`, 32 at a time unless `more` has another number."""
     words = [f"{room}/kdload", "--netns", "--server", SERVER, "--giaddr", RELAY, "--clients", str(clients)]
     words += ["--base", str(base), "--window", "32", "--pid", str(server.pid), "--pool", POOL, "--max-seconds", "600"]
     words += [*more, *(["--opt", f"60:{vendor.encode().hex()}"] if vendor else [])]
@@ -119,7 +121,7 @@ def loaded(room, server, base, clients, vendor, *more):
 
 
 def commit_us(room):
-    """What a commit of SQLite's own library takes now, as durable, of 2,000 rows in an empty database."""
+    """The time of a commit of SQLite's own library, equally durable, as the mean of 2,000 in an empty database."""
     begun = time.time()
     subprocess.run(["taskset", "-c", "0", f"{room}/store", f"{room}/c.db", "2000"], check=True, stdout=subprocess.DEVNULL)
     spent = time.time() - begun
@@ -130,7 +132,7 @@ def commit_us(room):
 
 
 def climbed(room, kdhcp, which):
-    """A server's measures at each number of leases that stand before; for one with a file, with what commits take then."""
+    """Measures a server at each number of leases, and for a server with a file also the time of a commit."""
     server, base, found = started(room, kdhcp, which, 0), 0, []
     for level in LEVELS:
         if level > base:
@@ -146,7 +148,7 @@ def climbed(room, kdhcp, which):
 
 
 def tested(room, kdhcp, which):
-    """A server's measures with each number of class tests."""
+    """Measures a server with each number of class tests."""
     found = []
     for count in TESTS:
         server = started(room, kdhcp, which, count)
@@ -171,7 +173,7 @@ def table(title, heads, rounds, read, form):
 
 
 def picture(path, rounds, heads, over):
-    """DORA a second over the numbers in `heads`, a line a server."""
+    """Draws DORA a second over the numbers in `heads`, one line for each server."""
     colours = dict(zip(rounds, ["#888888", "#444444", "#1f77b4", "#d62728"]))
     lines = {which: [middle(all_rounds, i, lambda it: it["per_s"]) for i in range(len(heads))] for which, all_rounds in rounds.items()}
     most = max(max(line) for line in lines.values()) * 1.1
@@ -192,14 +194,14 @@ def picture(path, rounds, heads, over):
 
 
 def laid_out():
-    """The addresses of the server and of the relays, in the network namespace."""
+    """Adds the addresses of the server and the relays to the network namespace."""
     subprocess.run(["ip", "link", "set", "lo", "up"], check=True)
     for address in (SERVER, RELAY, OTHER_RELAY):
         subprocess.run(["ip", "address", "add", f"{address}/8", "dev", "lo"], check=True)
 
 
 def million(room, kdhcp):
-    """One round of Kea and of kdhcp without a store over a million leases: memory, new leases, renewals."""
+    """Measures Kea and kdhcp without a store with a million leases, one round: memory, new leases, renewals."""
     laid_out()
     print("| 1,000,000 leases | Resident memory in MB | DORA a second | Processor us a DORA | Processor us a renewal |")
     print("|---|---|---|---|---|")
@@ -231,7 +233,7 @@ def tables_of_commits(levels):
 
 
 def durable(room, kdhcp):
-    """Rounds of the servers that sync each lease, in turn, at each number of leases."""
+    """Measures the servers that sync each lease, in turn, at each number of leases."""
     laid_out()
     levels = {which: [] for which in DURABLE}
     for _ in range(ROUNDS):
@@ -256,7 +258,7 @@ def main(room, kdhcp, path):
 
 
 def crowded(room, kdhcp, which):
-    """A server's measures under so many clients at a time, with what commits take then."""
+    """Measures a server with each number of clients at a time, and the time of a commit."""
     server, base, found = started(room, kdhcp, which, 0), 0, []
     for window in WINDOWS:
         found.append(loaded(room, server, base, MEASURED, "", "--window", str(window)))
@@ -269,7 +271,7 @@ def crowded(room, kdhcp, which):
 
 
 def renewed(room, kdhcp, which):
-    """What kdload counts of renewals of leases in mixed order."""
+    """The results of kdload for renewals of leases in mixed order."""
     server = started(room, kdhcp, which, 0)
     loaded(room, server, 0, RENEWED, "", "--save", f"{room}/renewed")
     found = loaded(room, server, 0, RENEWED, "", "--mode", "rebind", "--load", f"{room}/renewed")
@@ -279,8 +281,9 @@ def renewed(room, kdhcp, which):
 
 
 def flooded(room, kdhcp):
-    """The slowest answer in ms of `HARMED` clients that renew at once, ten times, while others send `FLOOD` DISCOVERs a
-    second by way of another relay. The socket is handed over with a buffer of 4 MiB, as that of packaging/kdhcp.socket."""
+    """The slowest reply, in ms, to `HARMED` clients that renew at once, ten times, while others send `FLOOD` DISCOVERs a
+    second through another relay. The server is given a socket with a buffer of 4 MiB, as by packaging/kdhcp.socket. None
+    if the flood ended before the renewals."""
     server = started(room, kdhcp, "handed", 0)
     loaded(room, server, 0, HARMED, "", "--save", f"{room}/harmed")
     words = [f"{room}/kdload", "--netns", "--server", SERVER, "--giaddr", OTHER_RELAY, "--mode", "discover", "--pool", POOL]
@@ -301,7 +304,7 @@ def flooded(room, kdhcp):
 
 
 def batches(room, kdhcp, path):
-    """Rounds of servers in turn, under so many clients at a time."""
+    """Measures servers in turn with each number of clients at a time, then renewals and a flood."""
     laid_out()
     crowds = {which: [] for which in BATCHED}
     renewals = {which: [] for which in ("file", "alone")}
@@ -314,7 +317,7 @@ def batches(room, kdhcp, path):
     table("Processor us a DORA, clients at a time", WINDOWS, crowds, lambda it: it["server"]["cpu_us_per_done"], lambda n: f"{n:.1f}")
     synced = {which: crowds[which] for which in ("file", "alone", "coredhcp")}
     table("A commit of SQLite's library, us, clients at a time", WINDOWS, synced, lambda it: it["commit_us"], lambda n: f"{n:.0f}")
-    table("Renewals a second of so many leases", [RENEWED], renewals, lambda it: it["per_s"], whole)
+    table("Renewals a second, number of leases", [RENEWED], renewals, lambda it: it["per_s"], whole)
     slowest = [flooded(room, kdhcp) for _ in range(ROUNDS)]
     print(f"\nThe slowest of {HARMED} renewals at once, ten times, under {FLOOD:,} DISCOVERs a second, ms: {slowest}")
     picture(path, {which: crowds[which] for which in BATCHED[:4]}, WINDOWS, "clients at a time")

@@ -1,12 +1,16 @@
 #!/usr/bin/env bash
-# Measures kdhcp beside Kea under one load, a relay's DISCOVER to ACK: bench/serve.sh [WORK]. WORK is `levels`,
-# where it is left out: three rounds up to 250,000 leases and 250 class tests, a page in Markdown, and serve.svg of
-# docs/benchmarks; `million`: one round over 1,000,000 leases; `durable`: three rounds up to 250,000 leases of kdhcp with a
-# store and of coredhcp, which syncs too; `batches`: three rounds under 1 to 64 clients at a time, and batches.svg; `soak`
-# or `soak-file`: renewals and garbage for ten minutes, kdhcp alone. It
-# installs Kea and SQLite's library by apt where they lack, takes coredhcp from its package without installing it, as
-# that would start it, and works in a network namespace of its own and on a folder of the disk below /var/tmp. Nothing
-# else should run on the machine. The program is that of KDHCP, or crates/kdhcp/out/kdhcp.
+# Measures kdhcp, Kea and coredhcp under the same load, DISCOVER to ACK through a relay: bench/serve.sh [WORK]. WORK is one of:
+#
+#   levels     the default: kdhcp and Kea, three rounds up to 250,000 leases and 250 class tests; also makes serve.svg
+#   million    kdhcp and Kea, one round with 1,000,000 leases
+#   durable    kdhcp with a store and coredhcp, which also syncs, three rounds up to 250,000 leases
+#   batches    all three, three rounds with 1 to 64 clients at a time; also makes batches.svg
+#   soak       only kdhcp: renewals and garbage for ten minutes (SECONDS_OF_SOAK); `soak-file` is the same with a store
+#
+# It prints tables in Markdown; the pictures go to docs/benchmarks. It needs root. If Kea or SQLite's library is missing, it
+# installs them with apt. It unpacks coredhcp without installing it, because the package would start it. It runs in a network
+# namespace of its own, and writes to a folder on disk below /var/tmp. Nothing else should run on the machine. The program is
+# $KDHCP if it is set, otherwise crates/kdhcp/out/kdhcp.
 set -euo pipefail
 here=$(cd "$(dirname "$0")" && pwd)
 work=${1:-levels}
@@ -27,5 +31,5 @@ batches) unshare --net python3 "$here/serve.py" "$room" "$kdhcp" batches "$here/
 million | durable) unshare --net python3 "$here/serve.py" "$room" "$kdhcp" "$work" ;;
 soak) unshare --net python3 "$here/soak.py" "$room" "$kdhcp" "${SECONDS_OF_SOAK:-600}" ;;
 soak-file) unshare --net python3 "$here/soak.py" "$room" "$kdhcp" "${SECONDS_OF_SOAK:-600}" --store ;;
-*) echo "serve.sh: levels, million, durable, batches, soak or soak-file, and not $work" >&2; exit 2 ;;
+*) echo "serve.sh: WORK must be levels, million, durable, batches, soak or soak-file, not $work" >&2; exit 2 ;;
 esac

@@ -1,8 +1,8 @@
 #!/usr/bin/env python3
-"""A soak on loopback; serve.sh calls it: soak.py ROOM KDHCP SECONDS [--store], in a network namespace.
+"""Runs a soak on loopback, in a network namespace; called by serve.sh: soak.py ROOM KDHCP SECONDS [--store].
 
-250,000 clients get a lease each; then they renew by way of their relay at half of the greatest rate that was measured
-just before, for so long, while every fifth datagram is garbage. It prints what came of them, and the server's memory."""
+250,000 clients get a lease each, and the greatest rate of renewals is measured. Then for SECONDS they renew through their
+relay at half of that rate, while every fifth datagram is garbage. It prints the results and the server's memory."""
 import json
 import os
 import random
@@ -21,7 +21,7 @@ COOKIE = bytes([99, 130, 83, 99])
 
 
 def garbage(chance):
-    """A datagram that asks for nothing: noise, a head of a message that is cut, one with a wrong cookie, broken options."""
+    """A malformed datagram: noise, a truncated header, a wrong cookie, malformed options, or an unknown message type."""
     head = bytes([1, 1, 6, 0]) + chance.randbytes(232)
     return chance.choice(
         [
@@ -35,7 +35,7 @@ def garbage(chance):
 
 
 class Garbage(threading.Thread):
-    """Sends so many of them a second to the server, until it is told to end."""
+    """Sends garbage to the server at `rate` datagrams a second, until `is_over` is set."""
 
     def __init__(self, rate):
         super().__init__(daemon=True)
@@ -54,7 +54,7 @@ class Garbage(threading.Thread):
 
 
 class Watch(threading.Thread):
-    """Looks at the server's memory every second."""
+    """Records the server's memory every second."""
 
     def __init__(self, pid):
         super().__init__(daemon=True)
@@ -68,14 +68,14 @@ class Watch(threading.Thread):
 
 
 def drops():
-    """The datagrams that the kernel gave up for want of room, at all sockets of this namespace."""
+    """How many datagrams the kernel dropped because a buffer was full, at all sockets of this namespace."""
     with open("/proc/net/snmp", encoding="utf-8") as it:
         names, numbers = [line.split() for line in it if line.startswith("Udp:")]
     return int(numbers[names.index("RcvbufErrors")])
 
 
 def renewed(room, server, clients, rate):
-    """What kdload counts of so many renewals, at a rate, or as fast as they go."""
+    """The results of kdload for this many renewals, at a rate, or as fast as possible if the rate is 0."""
     words = [f"{room}/kdload", "--netns", "--server", serve.SERVER, "--giaddr", serve.RELAY, "--pool", serve.POOL]
     words += ["--mode", "rebind", "--load", f"{room}/leases", "--clients", str(clients), "--pid", str(server.pid)]
     words += ["--max-seconds", "600", "--window", "4096" if rate else "32"] + (["--rate", str(rate)] if rate else [])

@@ -1,6 +1,6 @@
-/* Sets leases in a database of SQLite, one commit each, as the server does: store FILE COUNT. It prints the commits and the
-   seconds that they took. The log is a WAL and each commit is synced (synchronous=FULL), which is the durability of the
-   server's own store. To build: cc -O2 -o store bench/store.c -lsqlite3 */
+/* Writes leases to an SQLite database, one commit each, as the server does: store FILE COUNT. It prints the number of
+   commits and the time they took. The database has a WAL and each commit is synced (synchronous=FULL), so it is as durable
+   as the server's store. To build: cc -O2 -o store bench/store.c -lsqlite3 */
 #include <sqlite3.h>
 #include <stdio.h>
 #include <stdlib.h>
@@ -38,7 +38,7 @@ int main(int argc, char **argv) {
         -1, &put, 0), SQLITE_OK, db);
     double begun = now();
     for (long n = 0; n < count; n++) {
-        long address = 167772161 + n / 2; /* each twice: an offer, then a lease */
+        long address = 167772161 + n / 2; /* each address twice: an offer, then a lease */
         client[6] = (unsigned char)(n / 512);
         client[7] = (unsigned char)(n / 2);
         must(sqlite3_bind_int64(put, 1, address), SQLITE_OK, db);
