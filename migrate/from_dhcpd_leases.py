@@ -1,7 +1,7 @@
 #!/usr/bin/env python3
-"""Leases of ISC's DHCP server as lines for `kdhcp import`: from_dhcpd_leases.py FILE
+"""Converts leases of ISC's DHCP server to lines for `kdhcp import`: from_dhcpd_leases.py FILE
 
-FILE is `dhcpd.leases`. The last entry of an address counts. What has no place in a store is dropped, with a line on
+FILE is `dhcpd.leases`. The last entry of an address counts. An entry that a store cannot hold is dropped, with a line on
 standard error.
 """
 import calendar
@@ -11,19 +11,19 @@ import time
 
 from lease_lines import LONGEST, Leases, hardware, identifier
 
-# An entry, and the kinds of link by their words.
+# An entry, and the hardware types by name.
 ENTRY = re.compile(r"^lease ([0-9.]+) \{\n(.*?)^\}", re.MULTILINE | re.DOTALL)
 KINDS = {"ethernet": 1, "token-ring": 6, "fddi": 8, "infiniband": 32}
 
 
 def word(text, name):
-    """What stands behind a name up to the semicolon, or None."""
+    """The text after a name, up to the semicolon, or None."""
     found = re.search(rf"^\s*{name} (.*);\s*(?:#.*)?$", text, re.MULTILINE)
     return found and found[1]
 
 
 def moment(text):
-    """`4 2026/11/26 15:00:00`, which is in UTC, or `epoch 1764169200`; None stands for `never`."""
+    """The time of `4 2026/11/26 15:00:00` (UTC) or `epoch 1764169200`; None for `never`."""
     if text is None or text == "never":
         return None
     parts = text.split()
@@ -52,7 +52,7 @@ def client_of(text):
 def read(leases, address, text):
     state, begun, ends = word(text, "binding state"), moment(word(text, "starts")), moment(word(text, "ends"))
     if begun is None:
-        leases.drop(address, "it has no time at which it starts")
+        leases.drop(address, "it has no start time")
         return
     ends = begun + LONGEST if ends is None else ends
     client = client_of(text)
@@ -64,7 +64,7 @@ def read(leases, address, text):
     elif state in (None, "active"):
         leases.add(address, "Bound", client, begun, ends)
     elif state in ("free", "expired", "released", "reset"):
-        # It is not set later than now: a server never goes behind the latest change of its store.
+        # Not later than now, because the time of a server is never before the latest change of its store.
         given_back = min(ends, int(time.time()))
         leases.add(address, "Released", client, given_back, given_back)
     else:
@@ -79,7 +79,7 @@ def main():
             try:
                 read(leases, address, text)
             except (IndexError, ValueError) as fault:
-                leases.drop(address, f"its entry is not understood ({fault})")
+                leases.drop(address, f"its entry is malformed ({fault})")
     leases.show()
 
 

@@ -1,10 +1,10 @@
 #!/usr/bin/env python3
-"""Turns a configuration of Kea's DHCPv4 server into one for kdhcp; docs/FROM_KEA.md says what is taken.
+"""Converts a configuration of Kea's DHCPv4 server to one for kdhcp; docs/FROM_KEA.md lists what is supported.
 
     from_kea.py [--server-address A] FILE > config.json
 
-Each key that is not taken is a line on standard error: `aside PATH: why` where no client notices, `dropped PATH: why`
-where one may. The status is 0 where nothing was dropped, 1 where something was, 2 where there is no configuration.
+Each key that is left out is a line on standard error: `aside PATH: why` if no client notices, `dropped PATH: why` if one
+may. The exit status is 0 if nothing was dropped, 1 if something was, and 2 if there is no configuration.
 """
 import argparse
 import json
@@ -17,11 +17,11 @@ from kea.notes import Notes
 from kea.options import defined, octets, standard, written
 from kea.tests import test_of
 
-# What is no JSON: comments, and numbers that begin with a point.
+# What JSON does not allow: comments, and numbers that begin with a point.
 LOOSE = re.compile(r'("(?:[^"\\\n]|\\.)*")|//[^\n]*|#[^\n]*|/\*.*?\*/|(?<![\w.])(\.)(?=\d)', re.S)
 OWN_CODES = {50, 51, 52, 53, 54, 55, 57, 58, 59, 61, 82}
 LONGEST = 2147483647
-# What a text, a number, an address that do not read raise.
+# What malformed texts, numbers and addresses raise.
 MISTAKES = (AttributeError, KeyError, OverflowError, TypeError, ValueError)
 
 
@@ -40,7 +40,7 @@ def span(text: str) -> tuple:
 
 
 class Reader(Notes):
-    """Reads the objects of a configuration, and says what of them is not taken."""
+    """Reads the objects of a configuration, and reports what is left out."""
 
     def __init__(self) -> None:
         self.named = standard()
@@ -64,13 +64,13 @@ class Reader(Notes):
             if entry.get("space", "dhcp4") != "dhcp4":
                 raise ValueError(f"an option of the space {entry['space']}")
             if code is None:
-                raise ValueError(f"no option has the name {entry.get('name')}")
+                raise ValueError(f"no option is named {entry.get('name')}")
             if code in OWN_CODES or not 1 <= code <= 254:
-                raise ValueError("the server makes this option itself" if code in OWN_CODES else "no code of an option")
+                raise ValueError("the server makes this option itself" if code in OWN_CODES else "not an option code")
             if code in seen:
                 raise ValueError(f"a second option {code}")
             if has_text and (kind is None or kind.types == ("empty",)):
-                raise ValueError("its value is made of other options, or its type is not known")
+                raise ValueError("its value consists of other options, or its type is unknown")
             value = written(kind, str(entry.get("data", ""))) if has_text else octets(entry.get("data", ""))
             if len(value) > 1024:
                 raise ValueError("more than 1,024 bytes")
@@ -82,7 +82,7 @@ class Reader(Notes):
         return [{"code": code, "data": value.hex(":"), "csv-format": False}]
 
     def definitions(self, root: dict) -> None:
-        """Takes the types of the options that `option-def` defines in Kea's own space."""
+        """Takes over the types of options that `option-def` defines in the space dhcp4."""
         for at, entry in enumerate(root.get("option-def", [])):
             if entry.get("space", "dhcp4") == "dhcp4":
                 self.named[entry["name"]] = defined(entry)
@@ -95,12 +95,12 @@ class Reader(Notes):
     def client_class(self, entry: dict, path: str) -> list:
         name = entry.get("name", "")
         if not 1 <= len(name.encode()) <= 255 or name in self.classes:
-            self.drop(path, "no name of its own")
+            self.drop(path, "its name is missing, too long, or used before")
             return []
         found = {"name": name}
         try:
             if entry.get("only-if-required"):
-                raise ValueError("it is tried only where it is required")
+                raise ValueError("it is evaluated only if required")
             if entry.get("test", "") != "":
                 found["test"] = test_of(entry["test"], self.classes, self.named)
         except ValueError as fault:
@@ -116,7 +116,7 @@ class Reader(Notes):
         try:
             network = IPv4Network(entry["subnet"].replace(" ", ""), strict=False)
         except MISTAKES as fault:
-            self.drop(path, f"no prefix: {fault}")
+            self.drop(path, f"not a prefix: {fault}")
             return []
         found: dict = {"id": entry["id"]} if 1 <= entry.get("id", 0) <= 4294967294 else {}
         found["subnet"] = str(network)
@@ -142,7 +142,7 @@ class Reader(Notes):
             if not int(network[0]) <= first <= last <= int(network[-1]):
                 raise ValueError("not in the subnet's prefix")
             if any(first <= end and start <= last for start, end in self.spans):
-                raise ValueError("it has an address of an earlier pool")
+                raise ValueError("it overlaps an earlier pool")
             if entry.get("client-class"):
                 raise ValueError("a pool for a class")
         except MISTAKES as fault:
@@ -161,9 +161,9 @@ class Reader(Notes):
                 raise ValueError("it has no address, or neither hw-address nor client-id")
             address, client = IPv4Address(entry["ip-address"]), octets(entry[key])
             if address not in network or address in self.reserved or (key, client) in clients:
-                raise ValueError("its address is not in the prefix, or it or its client is reserved before")
+                raise ValueError("its address is outside the prefix, or the address or the client has a reservation already")
             if not 1 <= len(client) <= most:
-                raise ValueError(f"{key} has not 1 to {most} bytes")
+                raise ValueError(f"{key} must have 1 to {most} bytes")
         except MISTAKES as fault:
             self.drop(path, str(fault))
             return []
@@ -192,12 +192,12 @@ class Reader(Notes):
         return found if hold is None else {**found, "decline-hold": hold}
 
     def code_of(self, entry: dict) -> Optional[int]:
-        """The code of an option by its name, where that is known."""
+        """The code of an option by its name, or None if the name is unknown."""
         kind = self.named.get(entry.get("name", ""))
         return kind and kind.code
 
     def server_of(self, root: dict, given: Optional[str]) -> IPv4Address:
-        """The server's address: as given, else the global option 54, else that of an interface."""
+        """The server's address: the given one, else the global option 54, else that of an interface."""
         options = root.get("option-data", [])
         found = [given] if given else []
         found += [each["data"] for each in options if 54 == each.get("code", self.code_of(each))]

@@ -1,16 +1,16 @@
 #!/usr/bin/env python3
-"""Leases of Kea's DHCPv4 server as lines for `kdhcp import`: from_kea_leases.py FILE.csv ..
+"""Converts leases of Kea's DHCPv4 server to lines for `kdhcp import`: from_kea_leases.py FILE.csv ..
 
-FILE is Kea's lease file (memfile), `kea-leases4.csv`. Beside it may lie files of a cleaning that was under way: give them
-all, the oldest first: `kea-leases4.csv.2` or `.completed`, then `.1`, then the file itself. Later lines count. What has no
-place in a store is dropped, with a line on standard error.
+FILE is Kea's lease file (memfile), `kea-leases4.csv`. If a cleanup was in progress, there are more files beside it: name
+all of them, oldest first: `kea-leases4.csv.2` or `.completed`, then `.1`, then the file itself. The last line of an address
+counts. A line that a store cannot hold is dropped, with a line on standard error.
 """
 import csv
 import sys
 
 from lease_lines import Leases, hardware, identifier
 
-# Kea's numbers of states.
+# Kea's numbers for states.
 ASSIGNED, DECLINED, RECLAIMED, RELEASED = 0, 1, 2, 3
 
 
@@ -33,7 +33,7 @@ def read(leases, row):
     elif state in (ASSIGNED, RECLAIMED):
         leases.add(address, "Bound", client, ends - lifetime, ends)
     else:
-        leases.drop(address, f"its state {state} is not known")
+        leases.drop(address, f"its state {state} is unknown")
 
 
 def main():
@@ -44,7 +44,7 @@ def main():
                 try:
                     read(leases, row)
                 except (KeyError, TypeError, ValueError) as fault:
-                    leases.drop(f"a line of {name}", f"it is no lease ({fault})")
+                    leases.drop(f"a line of {name}", f"it is malformed ({fault})")
     leases.show()
 
 

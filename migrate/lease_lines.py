@@ -1,13 +1,13 @@
-"""The lines that `kdhcp import` reads, and what the converters of this folder share."""
+"""The lines that `kdhcp import` reads, and what the converters in this folder share."""
 import ipaddress
 import sys
 
-# The longest lease that a store takes, in seconds, and the first time that it does not take.
+# The longest lease that a store holds, in seconds, and the first time that it cannot hold.
 LONGEST, END_OF_TIME = 2**31 - 1, 2**40
 
 
 class Leases:
-    """Leases by their address: of two with one address the later counts. `dropped` are named on standard error."""
+    """Leases by address; the later of two with the same address counts. `dropped` counts those reported on standard error."""
 
     def __init__(self):
         self.lines, self.dropped = {}, 0
@@ -20,8 +20,8 @@ class Leases:
         self.lines.pop(number(address), None)
 
     def add(self, address, state, client, changed, ends):
-        """A lease: its address and state, the identity of its client as `hardware` or `identifier` gives it, when it was
-        set and when it ends, in seconds since 1970."""
+        """Adds a lease: its address and state, the identity of its client from `hardware` or `identifier`, when it was set
+        and when it ends, in seconds since 1970."""
         if not 0 <= changed < END_OF_TIME:
             self.drop(address, f"its time {changed} is out of range")
             return
@@ -41,7 +41,7 @@ def number(address):
 
 
 def hardware(kind, text):
-    """The identity of a client by its hardware: the number of the kind of link (1 is Ethernet) and `02:00:5e:..`."""
+    """The identity of a client by its hardware: the hardware type (1 is Ethernet) and `02:00:5e:..`."""
     return f"00{kind:02x}" + "".join(f"{int(part, 16):02x}" for part in text.split(":"))
 
 

@@ -1,4 +1,4 @@
-"""What of a Kea configuration is not taken: lines on standard error, each with its path (for ../from_kea.py)."""
+"""Reports what of a Kea configuration is left out, as lines with paths on standard error (for ../from_kea.py)."""
 import sys
 from typing import Callable, Optional
 
@@ -9,7 +9,7 @@ ASIDE = set(
     " cache-max-age statistic-default-sample-count statistic-default-sample-age store-extended-info"
     " host-reservation-identifiers hostname-char-set hostname-char-replacement".split()
 )
-# Values that ask for what is done here anyway.
+# Values that ask for what kdhcp does anyway.
 SAME: dict = {
     "match-client-id": True,
     "echo-client-id": True,
@@ -27,7 +27,7 @@ SAME: dict = {
 
 
 class Notes:
-    """Says what is not taken, and remembers whether a client may notice."""
+    """Reports what is left out, and remembers whether a client may notice."""
 
     has_dropped = False
 
@@ -39,7 +39,7 @@ class Notes:
         print(f"aside {path}: {why}", file=sys.stderr)
 
     def rest(self, holder: dict, path: str, taken: str, above: Optional[dict] = None) -> None:
-        """Names the keys of an object that are not taken; one of the same value as above changes nothing."""
+        """Reports the keys of an object that are left out. A key with the same value as in `above` changes nothing."""
         for key, value in holder.items():
             where = f"{path}/{key}"
             if key in taken.split():
@@ -49,20 +49,20 @@ class Notes:
             elif key.startswith("ddns-") or key == "dhcp-ddns" and not value.get("enable-updates"):
                 self.set_aside(where, "no names are updated")
             elif value in ("", [], {}) or SAME.get(key) == value or above is not None and above.get(key) == value:
-                self.set_aside(where, "so it is here anyway")
+                self.set_aside(where, "kdhcp does so anyway")
             else:
-                self.drop(where, "not taken")
+                self.drop(where, "not supported")
 
     def listed(self, holder: dict, key: str, path: str, most: int, read: Callable) -> dict:
-        """What is made of the entries of a list, under its key; a list has so many at most."""
+        """The converted entries of a list, under its key, `most` of them at most."""
         found = [read(entry, f"{path}/{key}/{at}") for at, entry in enumerate(holder.get(key, []))]
         kept = [each for part in found for each in part]
         if len(kept) > most:
-            self.drop(f"{path}/{key}", f"all behind the first {most}")
+            self.drop(f"{path}/{key}", f"all after the first {most}")
         return {key: kept[:most]} if kept else {}
 
     def number(self, holder: dict, key: str, path: str, most: int) -> Optional[int]:
-        """A whole number from 1; a greater one counts as the greatest."""
+        """A whole number from 1 to `most`. A greater one counts as `most`."""
         value = holder.get(key)
         if value is None or 1 <= value <= most:
             return value

@@ -3,7 +3,7 @@ import ipaddress
 import re
 from typing import Callable, NamedTuple
 
-# Of each type the names and codes; a star behind it stands for many values, a plus for one value behind another.
+# The names and codes of each type. A star after the last type means that it repeats; a plus joins types.
 STANDARD = {
     "ipv4-address": "subnet-mask 1 swap-server 16 broadcast-address 28 router-solicitation-address 32"
     " dhcp-requested-address 50 dhcp-server-identifier 54 subnet-selection 118",
@@ -13,7 +13,7 @@ STANDARD = {
     " nisplus-servers 65 mobile-ip-home-agent 68 smtp-server 69 pop-server 70 nntp-server 71 www-server 72"
     " finger-server 73 irc-server 74 streettalk-server 75 streettalk-directory-assistance-server 76 nds-servers 85"
     " bcms-controller-address 89 associated-ip 92 netinfo-server-address 112 pana-agent 136 capwap-ac-v4 138",
-    # Kea's manual calls domain-name an fqdn; Kea 2.2.0 sends it as the text that it is (RFC 2132 section 3.17).
+    # Kea's manual calls domain-name an fqdn, but Kea 2.2.0 sends it as text (RFC 2132 section 3.17).
     "string": "host-name 12 merit-dump 14 domain-name 15 root-path 17 extensions-path 18 nis-domain 40"
     " netbios-scope 47 dhcp-message 56 vendor-class-identifier 60 nwip-domain-name 62 nisplus-domain-name 64"
     " tftp-server-name 66 boot-file-name 67 nds-tree-name 86 nds-context 87 uap-servers 98 pcode 100 tcode 101"
@@ -45,7 +45,7 @@ STANDARD = {
 
 
 class Kind(NamedTuple):
-    """An option: its code, the types of its values, and whether the last of them may stand again."""
+    """An option: its code, the types of its values, and whether the last type may repeat."""
 
     code: int
     types: tuple
@@ -53,7 +53,7 @@ class Kind(NamedTuple):
 
 
 def standard() -> dict:
-    """The standard options by their names."""
+    """The standard options by name."""
     found = {}
     for types, names in STANDARD.items():
         words = names.split()
@@ -69,7 +69,7 @@ def defined(entry: dict) -> Kind:
 
 
 def octets(text: str) -> bytes:
-    """The bytes of Kea's hexadecimal text, or of a text between quotes."""
+    """The bytes of Kea's hexadecimal text, or of a quoted text."""
     text = text.strip()
     if re.fullmatch("'.*'", text):
         return text[1:-1].encode()
@@ -87,7 +87,7 @@ def truth(text: str) -> bytes:
 
 
 def domain(text: str) -> bytes:
-    """A domain name as labels, each behind its length (RFC 1035 section 3.1)."""
+    """A domain name as labels, each after its length (RFC 1035 section 3.1)."""
     labels = [label.encode("ascii") for label in text.rstrip(".").split(".")]
     if not all(1 <= len(label) <= 63 for label in labels):
         raise ValueError(text)
@@ -95,7 +95,7 @@ def domain(text: str) -> bytes:
 
 
 def port_set(text: str) -> bytes:
-    """A port set identifier and its length (RFC 7597)."""
+    """The length of a port set identifier, and the identifier (RFC 7597)."""
     port, length = map(int, text.split("/"))
     return bytes([length]) + (port << (16 - length)).to_bytes(2, "big")
 
@@ -119,13 +119,13 @@ for bits in (8, 16, 32):
 
 
 def written(kind: Kind, text: str) -> bytes:
-    """The value of an option of a kind, from values with commas between them; `\\,` is a comma in a value."""
+    """The bytes of an option of this kind, from values separated by commas. `\\,` is a comma in a value."""
     texts = [part.replace("\\,", ",").strip() for part in re.split(r"(?<!\\),", text)] if text.strip() else []
     types = kind.types
     if kind.again:
         types += types[-1:] * (len(texts) - len(types))
     if len(texts) != len(types):
-        raise ValueError(f"{len(texts)} values in place of {len(types)}")
+        raise ValueError(f"{len(texts)} values instead of {len(types)}")
     if any(each not in WRITERS for each in types):
-        raise ValueError("a value of type " + ", ".join(types))
+        raise ValueError("unsupported types: " + ", ".join(types))
     return b"".join(WRITERS[each](part) for each, part in zip(types, texts))
