@@ -1,11 +1,11 @@
-# Completion of kdhcp's words in bash: copy it to /usr/share/bash-completion/completions/kdhcp, or source it.
+# Bash completion for kdhcp. Copy this file to /usr/share/bash-completion/completions/kdhcp, or source it.
 
-# The words of a list that begin with what is typed.
+# Completes from a list of words.
 _kdhcp_words() {
     mapfile -t COMPREPLY < <(compgen -W "$1" -- "$2")
 }
 
-# The paths that begin with what is typed: `-f` files and folders, `-d` folders alone.
+# Completes paths: `-f` files and folders, `-d` only folders.
 _kdhcp_paths() {
     mapfile -t COMPREPLY < <(compgen "$1" -- "$2")
     compopt -o filenames 2> /dev/null
@@ -15,7 +15,7 @@ _kdhcp() {
     local current=${COMP_WORDS[COMP_CWORD]} option=${COMP_WORDS[COMP_CWORD - 1]} command="" word
     local files="--config --token-dir --store"
     COMPREPLY=()
-    # `--config=F` comes as three words
+    # bash splits `--config=F` into three words.
     if [[ $current == = ]]; then
         current=""
     elif [[ $option == = ]]; then
