@@ -1,14 +1,14 @@
-/* flood: DHCP messages at a steady rate from one Ethernet port, as a host sends them that means harm.
+/* flood: sends DHCP messages at a steady rate from one Ethernet port, as a hostile host does.
  *
  *     flood DEVICE KIND RATE SECONDS SERVER FIRST
  *
- * Each message has a random hardware address, in the frame too. KIND is what is sent:
+ * Each message has a random hardware address, also in the frame. KIND is one of:
  *   discover  DISCOVERs, broadcast from 0.0.0.0
  *   spoofed   DISCOVERs, to the server's address, from random addresses of its /8
  *   renew     REQUESTs that renew random addresses of its /8, to the server's address, from these addresses
  *   lease     REQUESTs that accept an offer of one of the 1,024 addresses from FIRST on, broadcast from 0.0.0.0
- *   relay     DISCOVERs, to the server's address, from DEVICE's address, which is that of their relay (giaddr)
- * It prints how many it sent. DEVICE has to be in a network namespace that was made for it: system-tests/floods starts it so.
+ *   relay     DISCOVERs, to the server's address, from DEVICE's address, which is also the relay's (giaddr)
+ * It prints how many messages it sent. DEVICE must be in a network namespace made for the test; system-tests/floods does that.
  */
 #define _GNU_SOURCE
 #include <arpa/inet.h>
@@ -77,7 +77,7 @@ static void put_header(uint8_t *ip, uint32_t sender)
     put16(ip + 10, ~sum & 0xffff);
 }
 
-/* The message type; for LEASE the server identifier and the requested address, too. */
+/* The message type; for LEASE also the server identifier and the requested address. */
 static void put_options(uint8_t *at)
 {
     memcpy(at, kind == RENEW || kind == LEASE ? "\x35\x01\x03" : "\x35\x01\x01", 3);
@@ -117,7 +117,7 @@ static void put_message(uint8_t *frame)
     put_options(dhcp + 240);
 }
 
-/* The hardware address of the server, of which the ARP table knows after one datagram to it. */
+/* The hardware address of the server, from the ARP table, which has it after one datagram to the server. */
 static void find_server(const char *device)
 {
     int fd = socket(AF_INET, SOCK_DGRAM, 0);
@@ -158,7 +158,7 @@ static void read_arguments(int count, char **words)
     first = ntohl(pool.s_addr);
 }
 
-/* Sends what is due each millisecond, and what was late with it. */
+/* Each millisecond, sends the messages that are due, including late ones. */
 static uint64_t send_all(int fd, double rate, double seconds)
 {
     uint8_t frame[FRAME];

@@ -1,8 +1,9 @@
 #!/usr/bin/env python3
-"""Refuses each request for memory in turn while `serve --store` handles a batch: batch.py KDHCP FAIL.so. Three datagrams wait
-in the socket that is handed to it, two DISCOVERs with a REQUEST between them. It ends well with all lines, or with
-`fault 91 Memory` or the store's `Sql` and the lines of the events before; and each lease that a line tells of is in the
-store."""
+"""Makes each memory allocation fail in turn while `serve --store` handles a batch: batch.py KDHCP FAIL.so.
+
+Three datagrams wait in the socket that the server is given: a DISCOVER, a REQUEST and another DISCOVER. The server must
+either print all lines and end with status 0, or report `fault 91 Memory` or a fault of the store or the socket after the
+lines of the events before it. Each lease that a line shows must be in the store."""
 import os
 import socket
 import subprocess
@@ -11,7 +12,7 @@ import tempfile
 
 PROGRAM, LIBRARY = os.path.realpath(sys.argv[1]), os.path.realpath(sys.argv[2])
 REQUEST = "350103" "3604c0000201" "3204c000020a"
-# 94 where there is no memory to ask whether a socket was handed over.
+# 94 if there is no memory to find out whether a socket was passed.
 FAULTS = ["", "fault 91 Memory", "fault 81 Sql", "fault 94 Read", "fault 96 Serve Store Sql"]
 
 
@@ -20,7 +21,7 @@ def datagram(client, options):
 
 
 def served(store, more):
-    """What `serve` writes for the three datagrams, what it says, and its status."""
+    """The lines that `serve` prints for the three datagrams, its error messages, and its status."""
     with socket.socket(socket.AF_INET, socket.SOCK_DGRAM) as ours, socket.socket(socket.AF_INET, socket.SOCK_DGRAM) as client:
         ours.bind(("127.0.0.1", 0))
         for one in (datagram(1, "350101"), datagram(1, REQUEST), datagram(2, "350101")):

@@ -1,5 +1,5 @@
-// A library to preload: the FAIL_AT-th request for memory is refused. With FAIL_TELL it says at the end
-// how many requests there were. With SHORT_IO each read and each write moves one byte.
+// A library to preload. The FAIL_AT-th memory allocation fails. With FAIL_TELL it prints the number of
+// allocations at the end. With SHORT_IO each read and each write transfers one byte.
 #define _GNU_SOURCE
 #include <dlfcn.h>
 #include <errno.h>

@@ -1,7 +1,7 @@
 #!/usr/bin/env bash
-# Refuses each request for memory in turn: of the built program over many command lines, where the answer
-# must be `fault 91 Memory`, the store's `Sql`, or the one that it gives with ample memory; and of the tests that expect such
-# a refusal, once more in the call that they repeat. Run it at the top, after `rt ci`; it needs cc.
+# Makes each memory allocation fail in turn: system-tests/fail-alloc/run.sh. First in the built program with many command
+# lines: the result must be `fault 91 Memory`, the store's `Sql`, or the same as with ample memory. Then in the tests that
+# expect such a failure, also in the call that they repeat. Run it after `rt ci`; it needs cc.
 set -euo pipefail
 cd "$(dirname "${BASH_SOURCE[0]}")/../.."
 room=$(mktemp -d)
@@ -10,7 +10,7 @@ cc -shared -fPIC -O1 -o "$room/fail.so" system-tests/fail-alloc/fail.c
 
 asked_by() { FAIL_TELL=1 LD_PRELOAD=$room/fail.so "$@" 2>&1 >/dev/null </dev/null | sed -n 's/^asked=//p'; }
 
-# Want of memory: 91, or within the store of leases that of its calls, Sql 81, alone or in what came of it.
+# Whether a result reports that memory ran out: fault 91, or the store's Sql, by itself or within another fault.
 is_memory() {
     case $1 in
         "1 fault 91 Memory" | "1 serving "*$'\n'"fault 91 Memory" | "4 fault 81 Sql" | "4 fault 92 Store Sql" | "4 fault 96 Serve Store Sql") true ;;
@@ -68,7 +68,7 @@ for text in "{" '{"Dhcp4":{}}' "{\"Dhcp4\":{$builtin,$(subnet "$pool")}}" "{\"Dh
 done
 echo "configurations: runs=$all memory=$memory same=$same other=$other"
 
-# A replay writes whole lines of the events before the one that met the refusal, and answers 91, or the store's Sql.
+# A replay prints whole lines for the events before the failed allocation, and reports 91 or the store's Sql.
 all=0 memory=0 same=0 other=0
 each_refusal_of_replay() {
     local lines=$1 replies=$2 asked n status
@@ -95,8 +95,8 @@ for folder in crates/kd_cases/data/examples/*/; do
 done
 echo "replay: runs=$all memory=$memory same=$same other=$other"
 
-# With a store in a file each refusal is followed by a start on that file, with ample memory: the events whose lines are
-# not there are sent again, and all lines of the day come out.
+# With a store in a file, each failure is followed by a start on that file with ample memory. The events that have no lines
+# yet are sent again, and all lines of the day must come out.
 all=0 memory=0 same=0 other=0
 each_refusal_with_store() {
     local lines=$1 replies=$2 asked n status done
@@ -112,7 +112,7 @@ each_refusal_with_store() {
             echo "refusal $n of a replay of $lines with a store: status $status, $(cat "$room/err")"
         elif ! tail -n "+$((done + 1))" "$lines" | "${run[@]}" >>"$room/out" || ! cmp -s "$room/out" "$replies"; then
             other=$((other + 1))
-            echo "refusal $n of a replay of $lines with a store: the day does not go on as it should"
+            echo "refusal $n of a replay of $lines with a store: the day does not continue as expected"
         elif [ $status = 0 ]; then same=$((same + 1))
         else memory=$((memory + 1)); fi
     done
@@ -121,7 +121,7 @@ each_refusal_with_store examples/replay/leases.lines examples/replay/leases.repl
 echo "stores: runs=$all memory=$memory same=$same other=$other"
 python3 system-tests/fail-alloc/batch.py crates/kdhcp/out/kdhcp "$room/fail.so"
 
-# Reads and writes of one byte each change nothing.
+# Reading and writing one byte at a time changes nothing.
 SHORT_IO=1 LD_PRELOAD=$room/fail.so crates/kdhcp/out/kdhcp replay <examples/replay/informs.lines |
     cmp - examples/replay/informs.replies
 echo "replay byte by byte: the same"
@@ -135,7 +135,7 @@ for test in kd_tests:{answer,classes,compile,expr,machine,message,reply,token} k
         all=$((all + 1))
         if got=$(FAIL_AT=$n LD_PRELOAD=$room/fail.so "${run[@]}" 2>&1); then passed=$((passed + 1))
         elif [[ $got == *AllocError* || $got == *AllocFailed* || $got == *OutOfMemory* ]]; then building=$((building + 1))
-        # a sink of a test that cannot grow has failed, which is Write; a store's want of memory is Sql
+        # A test's sink that cannot grow reports Write; a store that is out of memory reports Sql.
         elif [[ $got == *Memory* || $got == *"Err(Write)"* || $got == *"Some(91)"* || $got == *"error: Sql"* ]]; then second=$((second + 1))
         else
             other=$((other + 1))
