@@ -1,12 +1,12 @@
 #!/usr/bin/env python3
-"""What a server with the configuration of an example answers to INFORMs.
+"""Computes the replies of a server to INFORMs, for the configuration of an example.
 
-    answers.py FOLDER      reads FOLDER/config.json, FOLDER/*.k4tk and FOLDER/events.lines, prints the answers
-    answers.py             writes replies.lines into each folder of crates/kd_cases/data/examples
-                           that has no leases.lines; those are of examples.py
+    answers.py FOLDER      reads FOLDER/config.json, FOLDER/*.k4tk and FOLDER/events.lines, and prints the replies
+    answers.py             writes replies.lines to each folder of crates/kd_cases/data/examples that has no
+                           leases.lines; examples.py writes those of the others
 
-The answers are worked out here once more, from RFC 2131, 2132, 3046 and Kea's manual, in another language and
-by another hand than the server's. Nothing of the server's code is used.
+It computes the replies a second time, from RFC 2131, 2132, 3046 and Kea's manual. It was written separately from the
+server, in another language, and uses none of the server's code.
 """
 import glob
 import json
@@ -26,7 +26,7 @@ def number(four):
 
 
 def relay_options(found):
-    """The sub-options of option 82, the first of each code; none where the value does not read so."""
+    """The sub-options of option 82, the first of each code; none if the value is malformed."""
     value, subs = found.get(82, b""), {}
     while value:
         if len(value) < 2 or len(value) < 2 + value[1]:
@@ -62,7 +62,7 @@ class Test:
         return all(self.operands("and", self.negated))
 
     def operands(self, word, operand):
-        """The values of operands with a word between them, all of which are read."""
+        """The values of all operands that this word joins."""
         values = [operand()]
         while self.at(word):
             self.take()
@@ -124,11 +124,11 @@ class Test:
         return value[start:] if size == "all" else value[start : start + int(size)]
 
 
-# ---- token files: the few tokens that the examples have
+# ---- token files: only the tokens that the examples use
 
 
 def run(file, found):
-    """The truth value of a token file's program over a message's options."""
+    """The truth value of a token file's program for the options of a message."""
     assert file[:4] == b"K4TK" and file[10] == 0
     at, stack = 13, []
     while at < len(file):
@@ -193,7 +193,7 @@ def classes(root, files, datagram, found):
 
 
 def given(root, subnet, held, ciaddr):
-    """The configured options by code: pool, subnet, held classes in order, the global list, the mask."""
+    """The configured options by code, from the pool, the subnet, the client's classes in order, the global list, and the mask."""
     first, last = prefix(subnet["subnet"])
     holders = [entry for entry in subnet.get("pools", []) if pool(entry["pool"])[0] <= ciaddr <= pool(entry["pool"])[1]][:1]
     holders.append(subnet)

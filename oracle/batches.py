@@ -1,8 +1,9 @@
 #!/usr/bin/env python3
-"""A day of long_day.py, served in batches of random sizes: batches.py SEED [EVENTS] [CLIENTS] [--program P]
+"""Serves a day of long_day.py in batches of random sizes: batches.py SEED [EVENTS] [CLIENTS] [--program P]
 
-`crates/kd_cases/out/kd_cases` serves it by `kdhcp serve --store` in runs of random length over one store, each at a port of
-1 to 32, at which so many datagrams come together. Each line is the one that the judge says, and so is the table at the end.
+The defaults are 20,000 events, 4,000 clients and the program crates/kd_cases/out/kd_cases. It runs cases of `kdhcp serve
+--store` of random length with one store, each at a port from 1 to 32: in the cases, that many datagrams arrive together.
+Each line must be the one from the judge, and so must the table at the end.
 """
 import argparse
 import json
@@ -31,7 +32,7 @@ def main():
         cases.append(f"$ kdhcp serve --config config.json --store day.db --port {port} --count {count}")
         cases += [f"< {line}" for line in lines[at : at + count]]
         cases.append("! serving ..")
-        # A reply to a relay goes to the server's own port.
+        # A reply to a relay is sent to the server's own port number.
         cases += [line.replace(":67 ", f":{port} ", 1) for line in wanted[at : at + count]]
         cases.append("")
         at, runs = at + count, runs + 1

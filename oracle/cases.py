@@ -1,10 +1,10 @@
 #!/usr/bin/env python3
-"""Judges cases of `kdhcp replay` and `kdhcp leases` by judge.py: does each have the lines that judge.py prints?
+"""Checks the expected lines of cases of `kdhcp replay` and `kdhcp leases` with judge.py.
 
-    cases.py [FILE ..]     files of cases (crates/kd_cases/README.md); without any, the cases of leases
+    cases.py [FILE ..]     files of cases (crates/kd_cases/README.md), by default crates/kd_cases/data/leases_*.cases
 
-Prints each case that is not as judge.py says, and how many there are. Cases of other commands are left out, and those
-that want a fault of words, files or a configuration.
+It prints each case that differs from judge.py, and the counts. It skips cases of other commands, and cases that expect a
+fault of arguments, files or a configuration. The exit status is 1 if a case differs.
 """
 import glob
 import json
@@ -18,7 +18,7 @@ DATA = os.path.join(judge.HERE, "..", "crates", "kd_cases", "data")
 
 
 def expanded(names, text):
-    """A text with the names' texts in their places."""
+    """A text with its names expanded."""
 
     def text_of(reference):
         name, *bounds = reference.group(1).split(":")
@@ -30,12 +30,12 @@ def expanded(names, text):
 
 
 def words_of(names, text):
-    """The words of a line; what stands between quotes is taken as it is."""
+    """The words of a line. A quoted text is one word."""
     return [expanded(names, word.replace('"', "")) for word in re.findall(r'(?:"[^"]*"|[^ "])+', text)]
 
 
 def cases(lines):
-    """The cases of a file: title, remark, configuration or None, events, wanted lines, wanted fault."""
+    """The cases of a file: line, words, remark, configuration or None, events, expected lines, expected fault."""
     names, files, file, case, remark = {}, {}, None, None, []
     for count, line in enumerate(lines, 1):
         text = line.rstrip("\n")
@@ -74,13 +74,13 @@ def word_behind(words, flag):
 
 
 def is_judged(case):
-    """Whether a case is of events or of leases, with no fault but those of moments and lines."""
+    """Whether a case is of `replay` or `leases`, with no faults other than those of times and lines."""
     numbers = [fault.split(" ")[1] for fault in case["fault"]]
     return case["words"][:1] in (["replay"], ["leases"]) and all(number in ("90", "96", "97") for number in numbers)
 
 
 def judged(case, stores):
-    """What judge.py prints for a case, and its fault; the rows of a store stay for the next case with its name."""
+    """The lines and the fault of judge.py for a case. The rows of a store are kept for the next case that names it."""
     store = word_behind(case["words"], "--store")
     rows = stores.get(store, judge.Rows())
     if case["words"][0] == "leases":
@@ -112,9 +112,9 @@ def main():
                 print(f"{os.path.basename(path)}:{case['line']}", *case["remark"], sep="\n")
                 for event, wanted, came in zip(case["events"], case["wanted"], out):
                     if wanted != came:
-                        print(f"event  {event}\nwanted {wanted}\njudged {came}")
+                        print(f"event    {event}\nexpected {wanted}\njudge    {came}")
                 if len(out) != len(case["wanted"]) or fault != case["fault"]:
-                    print(f"{len(case['wanted'])} lines wanted, {len(out)} judged; {case['fault']} {fault}")
+                    print(f"{len(case['wanted'])} lines expected, {len(out)} from the judge; {case['fault']} {fault}")
     print(f"{well} as judged, {badly} not")
     sys.exit(badly > 0)
 

@@ -1,14 +1,16 @@
 #!/usr/bin/env python3
-"""Random histories over one store with two to five configurations, one after another, with a restart at each change.
+"""Tests random histories of one store with two to five configurations, with a restart at each change.
 
     changes.py SEED COUNT [--program P]
 
-The configurations of a history differ in what operators change: pools, reservations, the lifetime, holds, the server's
-address, classes, options, and subnets that go and come back. Each part is one run of `kdhcp replay` over the store; its
-lines are compared with judge.py's, and the table at the end as `kdhcp leases` prints it. The promise is looked at in the
-program's own lines: an address that was acknowledged to a client is offered or acknowledged to no other before the end
-that the client was told, unless the client gave it up, or asked for it again under a shorter lifetime, whose end has
-passed. P is the program, `crates/kdhcp/out/kdhcp` where nothing is said.
+P is the program, by default `crates/kdhcp/out/kdhcp`. The configurations of a history differ in what operators change:
+pools, reservations, the lifetime, holds, the server's address, classes, options, and subnets that are removed and come
+back. Each part is one run of `kdhcp replay` with the store. Its lines must be those of judge.py, and so must the table at
+the end, as `kdhcp leases` prints it.
+
+The promise is also checked in the program's own lines: until the end of an acknowledged lease, its address is neither
+offered nor acknowledged to another client, unless the client released or declined it, or requested it again under a shorter
+lifetime that has ended.
 """
 import argparse
 import copy
@@ -22,12 +24,12 @@ import tempfile
 import histories
 import judge
 
-# The types of replies that give an address.
+# The types of replies that assign an address.
 OFFER, ACK = 2, 5
 
 
 def with_changes(chance, root):
-    """A configuration in which some of what an operator may change is changed."""
+    """A copy of a configuration with some of the changes that an operator may make."""
     other = histories.configuration(chance)
     root = copy.deepcopy(root)
     for key in ("valid-lifetime", "offer-hold", "decline-hold", "server-address", "option-data", "client-classes"):
@@ -51,7 +53,7 @@ def with_changes(chance, root):
 
 
 def is_valid(program, folder, root):
-    """The program takes the configuration: pools of two subnets may have come to overlap."""
+    """Whether the program accepts the configuration. After the changes, pools may overlap."""
     return run(program, folder, root, ["replay"], "")[1] == ""
 
 
@@ -65,7 +67,7 @@ def run(program, folder, root, words, text):
 
 
 def history(chance, program, folder):
-    """Parts, each a configuration with its events, and judge.py's lines of each; and the rows at the end."""
+    """The parts of a history, each with its configuration, events and lines of judge.py; and the rows at the end."""
     first = histories.configuration(chance)
     roots = [first]
     for _ in range(chance.choice([1, 2, 3, 4])):
@@ -87,20 +89,20 @@ def history(chance, program, folder):
 
 
 class Promise:
-    """What a client was told: the end of its lease, and the moment from which another may have the address."""
+    """An acknowledged lease: until `end`, no other client may have the address."""
 
     def __init__(self, client, address, lifetime, end):
         self.client, self.address, self.lifetime, self.end = client, address, lifetime, end
 
 
 class Promises:
-    """The promises of a history, looked at in the lines that the program printed."""
+    """The promises of a history, checked in the lines that the program printed."""
 
     def __init__(self):
         self.made, self.leases, self.shortened, self.given_up = [], 0, 0, 0
 
     def broken_by(self, root, event, line, before, after):
-        """The promise that a line breaks, or None; then what the event changes of the promises."""
+        """Returns the promise that a line breaks, if any. Otherwise updates the promises for the event and returns None."""
         _, message = judge.event_of(event)
         found = judge.readable(message)
         if found is None:
@@ -108,7 +110,7 @@ class Promises:
         client, kind = judge.identity(message, found), found[53][0]
         now, words = int(line.split(" ")[0]), line.split(" ")
         reply = bytes.fromhex(words[4]) if words[1] == "reply" else b""
-        # A reply's type is its first option.
+        # The message type is the first option of a reply.
         gives = reply[242] in (OFFER, ACK) and kind in (judge.DISCOVER, judge.REQUEST) if reply else False
         place = judge.number(reply[16:20]) if gives else None
         for promise in self.made:
@@ -135,7 +137,7 @@ class Promises:
 
 
 def looked_at(program, folder, parts, rows, promises):
-    """What is wrong with a history, or None."""
+    """The first error of a history, or None."""
     store = os.path.join(folder, "leases.db")
     for suffix in ("", "-wal"):
         if os.path.exists(store + suffix):
@@ -182,7 +184,7 @@ def main():
             shortened += promises.shortened
             given_up += promises.given_up
     print(f"{words.count} histories, {parts_run} configurations, {events} events: no difference")
-    print(f"{leases} leases were acknowledged, {given_up} given up, {shortened} shortened by their client: no promise was broken")
+    print(f"{leases} leases were acknowledged, {given_up} released or declined, {shortened} shortened by their client: no promise was broken")
 
 
 if __name__ == "__main__":

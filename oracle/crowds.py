@@ -1,14 +1,13 @@
 #!/usr/bin/env python3
-"""Random histories of hostile clients for `kdhcp replay`, compared line by line with what the judge says.
+"""Tests random histories of hostile clients with `kdhcp replay`, compared line by line with the judge.
 
     crowds.py SEED COUNT [--program P] [--leases]
 
-One to four subnets, with pools of up to 400 addresses and up to 120 reservations each: at the first addresses of the
-pools, at others of them, outside of them, and two for one client. A few clients take addresses by the dozen and the
-hundred with REQUESTs to this server, in rising, falling or mixed order and in every subnet; they renew them, give them
-back, let them end, turn to another server, and send a DISCOVER among it. Clients without a lease and clients with a
-reservation ask in between. The judge goes over its table by an index (indexed.py). The comparison and its options are
-those of histories.py.
+There are one to four subnets, with pools of up to 400 addresses and up to 120 reservations each: for the first addresses of
+the pools, for others in them, for addresses outside, and two for one client. A few clients take dozens or hundreds of
+addresses with REQUESTs to this server, in rising, falling or mixed order and in every subnet. They renew and release them,
+let them end, turn to another server, and send DISCOVERs in between, as do clients without a lease and clients with a
+reservation. The judge's table has an index (indexed.py). The comparison and its options are those of histories.py.
 """
 import histories
 import judge
@@ -16,14 +15,14 @@ from day import COOKIE, address, written  # noqa: E402
 from histories import dotted_number
 from indexed import Indexed
 
-# Prefixes, each with the address from which on its pools are laid out. The last one has all others in it.
+# Prefixes, each with the first address of its pools. The last one contains all others.
 PREFIXES = {
     "10.1.0.0/16": "10.1.1.0",
     "10.2.0.0/16": "10.2.0.0",
     "10.3.0.0/20": "10.3.8.250",
     "10.0.0.0/8": "10.9.0.250",
 }
-# How many addresses the pools of a subnet have, and how many reservations it has at most: of the two, one is large.
+# About how many addresses a subnet's pools have, and its greatest number of reservations: one of the two is large.
 SIZES = [(400, 4), (250, 12), (250, 12), (200, 40), (60, 60), (24, 120)]
 OTHER_SERVER = address("192.0.2.99")
 ANOTHER = 5000
@@ -37,7 +36,7 @@ def hardware(number):
 
 
 def subnet_pools(chance, text, size):
-    """Up to three pools of so many addresses of the prefix, side by side or with a gap between them."""
+    """Up to three pools of at most `size` addresses of the prefix each, adjacent or with gaps between them."""
     made, start = [], judge.number(address(PREFIXES[text]))
     for _ in range(chance.choice([1, 1, 2, 3])):
         end = start + max(1, size // chance.choice([1, 2, 3])) - 1
@@ -47,7 +46,7 @@ def subnet_pools(chance, text, size):
 
 
 def reserved_addresses(chance, pools, count):
-    """Up to so many addresses: at the front of the pools, anywhere in them, behind them, or any of these."""
+    """Up to `count` addresses: the first ones of the pools, any in them, those after them, or a mixture."""
     inside = [each for first, last in pools for each in range(first, last + 1)]
     behind = list(range(pools[-1][1] + 1, pools[-1][1] + 1 + count))
     some = chance.choice([inside[:count], inside, behind, inside + behind])
@@ -55,7 +54,7 @@ def reserved_addresses(chance, pools, count):
 
 
 def reservations(chance, pools, count, taken):
-    """Up to so many reservations: of clients with numbers from 0 on, some of which have two, and of many others."""
+    """Up to `count` reservations, for clients with numbers from 0 to 5, some of which have two, and for many others."""
     made, keys = [], set()
     for wanted in reserved_addresses(chance, pools, count):
         number = chance.choice([chance.randrange(6), ANOTHER + len(made), ANOTHER + len(made)])
@@ -88,7 +87,7 @@ def configuration(chance):
 
 
 class Client:
-    """A client: its hardware, and the identifier that it sends, if any."""
+    """A client: its hardware address, and its client identifier, if any."""
 
     def __init__(self, chance, number):
         self.hardware = hardware(number)
@@ -98,7 +97,7 @@ class Client:
         return b"\x01" + self.about[0][1] if self.about else b"\x00\x01" + self.hardware
 
     def message(self, kind, pairs=(), ciaddr=bytes(4), relay=bytes(4)):
-        """A datagram of this kind by way of a relay, or without one."""
+        """A datagram of this type, through a relay or without one."""
         header = bytes([1, 1, 6, 0]) + self.hardware[2:] + bytes(4) + ciaddr + bytes(8) + relay
         options = b"".join(written(*pair) for pair in [(53, bytes([kind])), *pairs, *self.about])
         return header + self.hardware.ljust(16, b"\0") + bytes(192) + COOKIE + options + b"\xff"
@@ -110,7 +109,7 @@ def relay_in(subnet):
 
 
 class Crowd:
-    """A history as it comes to be: the configuration, the table, the lines so far, and what must come of them."""
+    """A history under construction: the configuration, the table, the events so far, and the expected lines."""
 
     def __init__(self, chance):
         self.chance, self.root = chance, configuration(chance)
@@ -120,7 +119,7 @@ class Crowd:
         self.here = (54, address(self.root["server-address"]))
 
     def says(self, datagram):
-        """One event, mostly at the moment of the one before; the words of its answer."""
+        """Adds an event, mostly at the time of the previous one. Returns the words of its line."""
         self.now += self.chance.random() < 0.1
         moment = self.now if self.chance.random() < 0.98 else self.chance.randrange(self.now)
         line, self.table = judge.handle(self.root, self.table, moment, datagram)
@@ -134,7 +133,7 @@ class Crowd:
         return subnet, relay_in(subnet)
 
     def pooled(self, subnet, count):
-        """So many addresses of a subnet's pools that stand side by side, in some order."""
+        """At most `count` consecutive addresses of a subnet's pools, in some order."""
         ranges = [judge.pool(entry["pool"]) for entry in subnet["pools"]]
         inside = [each for first, last in ranges for each in range(first, last + 1)]
         at = self.chance.choice([0, self.chance.randrange(len(inside))])
@@ -143,7 +142,7 @@ class Crowd:
         return self.chance.sample(some, len(some)) if order == "mixed" else some[:: 1 if order == "rising" else -1]
 
     def own(self, client, count):
-        """Up to so many addresses of the rows of a client."""
+        """At most `count` addresses from the rows of a client."""
         rows = sorted(self.table.of(client.identity()))
         return [row.address.to_bytes(4, "big") for row in self.chance.sample(rows, min(count, len(rows)))]
 
@@ -157,7 +156,7 @@ class Crowd:
             self.says(client.message(judge.REQUEST, [(50, wanted.to_bytes(4, "big")), self.here], relay=relay))
 
     def renew(self, most):
-        """REQUESTs that name no server, by the client's address or by option 50."""
+        """REQUESTs without a server identifier, with ciaddr or with option 50."""
         client = self.one()
         for wanted in self.own(client, self.chance.randrange(1, most)):
             relay = self.chance.choice([bytes(4), self.place()[1]])
@@ -184,7 +183,7 @@ class Crowd:
             self.says(client.message(judge.REQUEST, [(50, wanted), (54, OTHER_SERVER)], relay=self.place()[1]))
 
     def discover(self, _):
-        """DISCOVERs of a client with many leases, one of which may ask for an address."""
+        """DISCOVERs of a client with many leases. Some request an address."""
         client = self.one()
         for _time in range(self.chance.choice([1, 1, 2])):
             subnet, relay = self.place()
@@ -192,14 +191,14 @@ class Crowd:
             self.asks(client, pairs, relay)
 
     def asks(self, client, pairs, relay):
-        """A DISCOVER, and mostly a REQUEST for what is offered."""
+        """A DISCOVER, and mostly a REQUEST for the offered address."""
         words = self.says(client.message(judge.DISCOVER, pairs, relay=relay))
         if words[0] == "reply" and self.chance.random() < 0.7:
             offered = bytes.fromhex(words[-1])[16:20]
             self.says(client.message(judge.REQUEST, [(50, offered), self.here], relay=relay))
 
     def arrive(self, _):
-        """Clients without a lease, of which some have a reservation."""
+        """DISCOVERs of clients without a lease, some of which have a reservation."""
         _subnet, relay = self.place()
         for _client in range(self.chance.randrange(1, 12)):
             self.newcomers += 1
@@ -207,7 +206,7 @@ class Crowd:
             self.asks(Client(self.chance, number), [], relay)
 
     def wait(self, _):
-        """Time passes: to the end of a row or a second beside it, or beyond the end of many."""
+        """Lets time pass: to the end of a row or a second before or after it, or by up to 1,000 seconds."""
         ends = [row.end for row in self.table if row.end > self.now]
         if ends and self.chance.random() < 0.7:
             self.now = max(self.now, self.chance.choice(ends) + self.chance.choice([-1, 0, 1]))
@@ -216,7 +215,7 @@ class Crowd:
 
 
 def history(chance):
-    """A configuration, events, and what the judge says of them: lines, rows, and no fault."""
+    """A configuration, events, and the judge's result: lines, rows, and no fault."""
     crowd = Crowd(chance)
     acts = [crowd.take, crowd.renew, crowd.release, crowd.decline, crowd.turn, crowd.discover, crowd.arrive, crowd.wait]
     length, most = chance.choice([(120, 80), (120, 120), (300, 250), (700, 400)])

@@ -1,9 +1,10 @@
 #!/usr/bin/env python3
-"""Writes what the server must answer to the examples with leases: replies.lines, and the table at the end, leases.lines.
+"""Writes the lines that the server must print for the examples with leases: replies.lines, and the table at the end,
+leases.lines.
 
-    examples.py     in each folder of crates/kd_cases/data/examples that has leases.lines
+    examples.py     for each folder of crates/kd_cases/data/examples that has leases.lines
 
-The moment of the table is that of the last event. Examples without leases are those of answers.py.
+The time of the table is that of the last event. answers.py writes the examples without leases.
 """
 import glob
 import os

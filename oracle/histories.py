@@ -1,13 +1,14 @@
 #!/usr/bin/env python3
-"""Random histories for `kdhcp replay`, compared line by line with what judge.py prints.
+"""Tests random histories with `kdhcp replay`, compared line by line with judge.py.
 
     histories.py SEED COUNT [--program P] [--leases]
 
-Each history is a small configuration (one to three subnets, small pools, reservations, a few classes and options)
-and some dozens of datagrams of a few clients: of all kinds, with fields that fit the table of leases and fields that
-do not, at moments that mostly rise, often to the end of a row or a second beside it, and sometimes go back. The
-first difference is printed with the configuration and as few events as still show it. With --leases the table at
-the end is compared too, by way of a store: as `kdhcp leases` prints it, and as `sqlite3` reads it. P is the program, `crates/kdhcp/out/kdhcp` where nothing is said.
+P is the program, by default `crates/kdhcp/out/kdhcp`. Each history is a small configuration (one to three subnets, small
+pools, reservations, a few classes and options) and up to 49 datagrams of a few clients. The datagrams are of all types, with
+fields that match the table of leases and fields that do not. Their times mostly rise, often to the end of a row or a second
+before or after it, and sometimes go back. The first difference is printed with the configuration and as few events as
+possible. With --leases the table at the end is also compared, through a store: as `kdhcp leases` prints it, and as `sqlite3`
+reads it.
 """
 import argparse
 import json
@@ -21,7 +22,7 @@ import judge
 from day import COOKIE, address, dotted, written  # noqa: E402
 
 ROOT = os.path.join(judge.HERE, "..")
-# Prefixes, with an address from which on pools and reservations are laid out.
+# Prefixes, each with the address from which pools and reservations start.
 PREFIXES = {
     "192.0.2.0/24": "192.0.2.8",
     "198.51.100.0/24": "198.51.100.250",
@@ -44,7 +45,7 @@ TESTS = [
 ]
 
 
-# What sqlite3 reads of a store, in the words of `kdhcp leases` without the last.
+# Makes sqlite3 print a store as `kdhcp leases` does, without the last word of each line.
 QUERY = """SELECT address, CASE state WHEN 1 THEN 'Offered' WHEN 2 THEN 'Bound' WHEN 3 THEN 'Released' WHEN 4 THEN 'Declined' END,
     CASE length(client) WHEN 0 THEN '-' ELSE lower(hex(client)) END, 'changed', changed, 'ends', ends
     FROM lease ORDER BY address"""
@@ -54,7 +55,7 @@ QUERY = """SELECT address, CASE state WHEN 1 THEN 'Offered' WHEN 2 THEN 'Bound' 
 
 
 def options(chance, often):
-    """An `option-data` of some codes, each once."""
+    """An `option-data` with some codes, each once; or none."""
     if chance.random() > often:
         return {}
     sizes = [0, 1, 1, 4, 4, 60, 200, 255, 256, 300, 600]
@@ -77,13 +78,13 @@ def dotted_number(value):
 
 
 def near(chance, text, count):
-    """One of the prefix's addresses from its base on."""
+    """An address of the prefix, near its base address."""
     first, last = judge.prefix(text)
     return min(last, max(first, judge.number(address(PREFIXES[text])) + chance.randrange(count)))
 
 
 def subnet_pools(chance, text, taken):
-    """Up to three pools of a few addresses of the prefix, apart from all pools so far."""
+    """Up to three small pools of the prefix that do not overlap earlier pools."""
     made = []
     for _ in range(chance.choice([0, 1, 1, 1, 2, 3])):
         start = near(chance, text, 6)
@@ -138,7 +139,7 @@ def configuration(chance):
 
 
 class Client:
-    """A client, which mostly says of itself what it always says."""
+    """A client. Its hardware address and identifier stay the same."""
 
     def __init__(self, chance):
         self.hardware = chance.choice(MACS)
@@ -154,7 +155,7 @@ class Client:
 
 
 def some_address(chance, root, rows, client):
-    """An address that is likely to mean something: of a row, of a pool or beside it, of a reservation, or any."""
+    """An address that is likely to matter: of a row, of a pool or next to it, of a reservation, or a random one."""
     own = [row.address for row in rows if row.client == client.identity()]
     pools = [judge.pool(entry["pool"]) for subnet in root["subnet4"] for entry in subnet["pools"]]
     likely = [row.address for row in rows] + judge.all_reserved(root)
@@ -181,7 +182,7 @@ def some_relay(chance, root):
 
 
 def some_moment(chance, rows, now):
-    """Mostly a little later; often the end of a row or a second beside it; sometimes earlier; seldom the last one."""
+    """Mostly a little later; often the end of a row or a second before or after it; sometimes earlier; rarely the last time."""
     place = chance.random()
     if place < 0.25 and rows:
         return max(0, min(judge.END_OF_TIME - 1, chance.choice(rows).end + chance.choice([-1, 0, 1])))
@@ -193,7 +194,7 @@ def some_moment(chance, rows, now):
 
 
 def message_options(chance, root, rows, client, kind):
-    """The options of a message behind its kind, as pairs of code and value."""
+    """The options of a message after its type, as pairs of code and value."""
     pairs = []
     if chance.random() < (0.9 if kind in (judge.REQUEST, judge.DECLINE) else 0.3):
         pairs.append((50, some_address(chance, root, rows, client)))
@@ -216,7 +217,7 @@ def message_options(chance, root, rows, client, kind):
 
 
 def spread(chance, pairs):
-    """The three fields that hold options: options, file, sname; mostly the first alone."""
+    """The three fields that hold options: options, file, sname; mostly only the first is used."""
     if chance.random() < 0.9:
         field = b"".join(written(*pair) for pair in pairs)
         return field + chance.choice([b"", b"\xff", b"\xff" + bytes(9)]), bytes(128), bytes(64)
@@ -250,13 +251,13 @@ def datagram(chance, root, rows, clients):
 
 
 def bad_line(chance, event):
-    """A line that is an event but for one sign, mostly."""
+    """The line of an event with one character replaced, which is mostly malformed."""
     at = chance.randrange(len(event))
     return event[:at] + chance.choice(["", " ", "g", "\r", "-", "00000000000000000000"]) + event[at + 1 :]
 
 
 def history(chance):
-    """A configuration, events, and what judge.py says of them: lines, rows, and the fault that ends them or None."""
+    """A configuration, events, and the result of judge.py: lines, rows, and the fault that ends them or None."""
     root = configuration(chance)
     clients = [Client(chance) for _ in range(chance.choice([2, 3, 4]))]
     rows, events, now = judge.Rows(), [], chance.choice([0, 100, 1000])
@@ -276,13 +277,13 @@ def history(chance):
 
 
 def table_moment(events):
-    """The moment at which the table is looked at: that of the last event, where it is one."""
+    """The time at which the table is read: that of the last event, or 0 if its line is malformed."""
     event = judge.event_of(events[-1])
     return min(event[0], judge.END_OF_TIME - 1) if event else 0
 
 
 def program_lines(program, folder, root, events, with_leases):
-    """What the program prints for the events, with the table behind them if it is asked for."""
+    """The output of the program for the events, followed by the table if it is requested."""
     path, store = os.path.join(folder, "config.json"), os.path.join(folder, "leases.db")
     with open(path, "w", encoding="utf-8") as file:
         json.dump({"Dhcp4": root}, file)
@@ -302,7 +303,7 @@ def program_lines(program, folder, root, events, with_leases):
 
 
 def sqlite_lines(store):
-    """The rows that another program reads in the store."""
+    """The rows of the store as sqlite3 reads them."""
     words = ["sqlite3", "-separator", " ", store, QUERY]
     done = subprocess.run(words, capture_output=True, check=False)
     rows = (line.split(" ", 1) for line in done.stdout.decode().splitlines())
@@ -319,7 +320,7 @@ def wanted_lines(events, judged, with_leases):
 
 
 def first_difference(one, other):
-    """The number of the first line that differs, or None."""
+    """The index of the first line that differs, or None."""
     for at in range(max(len(one), len(other))):
         if one[at : at + 1] != other[at : at + 1]:
             return at
@@ -327,7 +328,7 @@ def first_difference(one, other):
 
 
 def show(differs, root, events):
-    """Prints a difference, with as few events as still show one."""
+    """Prints a difference, with as few events as possible."""
     at = 0
     while at < len(events):
         fewer = events[:at] + events[at + 1 :]

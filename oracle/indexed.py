@@ -1,12 +1,12 @@
 #!/usr/bin/env python3
-"""The judge's table with an index, for days of many rows.
+"""The judge's table with an index, for days with many rows.
 
     indexed.py SEED COUNT [crowds]     compares it with the plain list of judge.py, on the random histories of
-                                       histories.py, or of crowds.py
+                                       histories.py or of crowds.py
 
-A row is found by its address and by its client in a dict. The addresses of a subnet's pools that are reserved for
-nobody are worked out once: the client's own reserved one need not stand among them, since a DISCOVER gets it before its
-pools are looked at, or finds that somebody else has it.
+Dicts find a row by its address and by its client. The unreserved addresses of a subnet's pools are computed once. The
+client's own reserved address need not be among them: a DISCOVER gets it before the pools are searched, or another client
+has it.
 """
 import importlib
 import random
@@ -63,7 +63,7 @@ def main():
             line, table = judge.handle(root, table, *event)
             lines.append(line)
         if lines != wanted or sorted(table) != sorted(rows):
-            sys.exit(f"history {number} of {seed}: the index gives another answer")
+            sys.exit(f"history {number} of {seed}: the index gives a different result")
         handled += len(lines)
     print(f"{count} histories, {handled} events: no difference")
 

@@ -1,15 +1,15 @@
 #!/usr/bin/env python3
-"""What a server must answer to a list of events, by a program that is slow and plain.
+"""Computes what a server must print for a list of events, with a slow and simple program.
 
-    judge.py [--config F] [--leases M]     reads events from standard input (`MOMENT HEX`, a line each)
+    judge.py [--config F] [--leases M]     reads events from standard input (`MOMENT HEX`, one a line)
 
-For each event it prints the line that `kdhcp replay` must print, and with `--leases M` the rows of the table of
-leases at the moment M behind them. The table is a plain list that is gone through for every question. The rules
-are written here once more, from RFC 2131, 2132, 3046, 3396, 6842 and the project's own profile, in another
-language and by another hand than the server's; nothing of the server's code is used.
+For each event it prints the line that `kdhcp replay` must print. With `--leases M` it then prints the table of leases at the
+time M. The table is a plain list, and each lookup goes through all of it. The rules are implemented here a second time, from
+RFC 2131, 2132, 3046, 3396, 6842 and the project's own rules. The program was written separately from the server, in another
+language, and uses none of the server's code.
 
-Of class tests it takes what answers.py takes: strings, hexadecimal, option, relay4, pkt4.mac, substring without
-negative numbers, member, ==, not, and, or. Classes with token files it does not take.
+It supports the class tests that answers.py supports: strings, hexadecimal, option, relay4, pkt4.mac, substring without
+negative numbers, member, ==, not, and, or. It does not support classes with token files.
 """
 import argparse
 import json
@@ -31,14 +31,14 @@ BUILT_IN = {
     "subnet4": [{"subnet": "192.0.2.0/24", "pools": [{"pool": "192.0.2.10 - 192.0.2.11"}]}],
 }
 DISCOVER, REQUEST, DECLINE, RELEASE = 1, 3, 4, 7
-# Moments are below the first of these; what is below the second can stand in a line.
+# Times are less than the first of these. Numbers in a line are less than the second.
 END_OF_TIME = 2**40
 END_OF_NUMBERS = 2**64
 LONGEST_LINE = 131072
 
 
 class Row(NamedTuple):
-    """What the table knows of an address."""
+    """A row of the table, for one address."""
 
     address: int
     client: bytes
@@ -48,7 +48,7 @@ class Row(NamedTuple):
 
 
 class Rows(list):
-    """The table: a plain list of rows that is gone through for every question."""
+    """The table: a plain list of rows. Each lookup goes through all of it."""
 
     def at(self, wanted):
         """The row of an address, or None."""
@@ -62,11 +62,11 @@ class Rows(list):
         return [row for row in self if row.client == client]
 
     def latest(self):
-        """The greatest change, and 0 of no rows."""
+        """The time of the latest change, or 0 if there are no rows."""
         return max([0] + [row.changed for row in self])
 
     def with_row(self, new):
-        """The table with this row in place of that of its address."""
+        """The table with this row instead of the old row of its address."""
         return Rows([row for row in self if row.address != new.address] + [new])
 
     def in_order(self, asked):
@@ -75,7 +75,7 @@ class Rows(list):
 
 
 class Asked(NamedTuple):
-    """A message with all that is needed to judge it."""
+    """A message with all that is needed to decide its reply."""
 
     root: dict
     rows: Rows
@@ -88,22 +88,22 @@ class Asked(NamedTuple):
 
 
 class Plan(NamedTuple):
-    """A reply before it is written: OFFER, ACK, NAK or the ACK of an INFORM, and the address given, or 0."""
+    """A reply before it is written: OFFER, ACK, NAK, or INFORMED for the ACK to an INFORM; and the assigned address, or 0."""
 
     kind: str
     yiaddr: int
 
 
-# ---- what a message says
+# ---- the fields of a message
 
 
 def mac(datagram):
-    """The hardware address: as much of chaddr as hlen says, and at most its 16 bytes."""
+    """The hardware address: the first hlen bytes of chaddr, at most 16."""
     return datagram[28 : 28 + min(datagram[2], 16)]
 
 
 def identity(datagram, found):
-    """Who the client is: 1 and its identifier, else 0, the kind of hardware and the hardware address."""
+    """The identity of the client: 1 and its identifier, or else 0, the hardware type and the hardware address."""
     if found.get(61):
         return b"\x01" + found[61]
     return b"\x00" + datagram[1:2] + mac(datagram)
@@ -131,7 +131,7 @@ def names_another_server(asked):
 
 
 def subnet_of(root, datagram, held):
-    """The first subnet with the message's place in it and with no class or one that is held, or None."""
+    """The first subnet that contains the message's place and has no class or one of the client's, or None."""
     place = number(datagram[24:28]) or number(datagram[12:16]) or server_address(root)
     for subnet in root.get("subnet4", []):
         first, last = prefix(subnet["subnet"])
@@ -153,7 +153,7 @@ def is_live(row, now):
 
 
 def holds(asked, row):
-    """Whether a row is the client's, and Offered or Bound."""
+    """Whether a row belongs to the client and is Offered or Bound."""
     return row is not None and row.client == asked.client and row.state in ("Offered", "Bound")
 
 
@@ -162,7 +162,7 @@ def holds_live(asked, row):
 
 
 def newest(rows):
-    """Of rows the one of greatest change, of these the one of least address; None of none."""
+    """The row that was changed last, and of several the one with the lowest address; None if there are no rows."""
     return min(rows, key=lambda row: (-row.changed, row.address), default=None)
 
 
@@ -174,7 +174,7 @@ def changed_row(asked, address_of_row, client, state, seconds):
 
 
 def reserved(asked):
-    """The address of the first reservation of the subnet that is for this client, or None."""
+    """The address of the subnet's first reservation for this client, or None."""
     for entry in asked.subnet.get("reservations", []):
         by_hardware = "hw-address" in entry and hexadecimal(entry["hw-address"]) == mac(asked.datagram)
         by_identifier = "client-id" in entry and hexadecimal(entry["client-id"]) == asked.found.get(61)
@@ -194,7 +194,7 @@ def pools(asked):
 
 
 def fits(asked, wanted):
-    """Whether an address is the client's reserved one, or in a pool and reserved for nobody."""
+    """Whether an address is reserved for the client, or is in a pool and not reserved."""
     if wanted == reserved(asked):
         return True
     return any(first <= wanted <= last for first, last in pools(asked)) and wanted not in all_reserved(asked.root)
@@ -210,7 +210,7 @@ def is_usable(asked, wanted):
 
 
 def choice(asked):
-    """The address for a DISCOVER, or None: the first of six that there is."""
+    """The address for a DISCOVER, from the first of six rules that finds one, or None."""
     fixed = reserved(asked)
     if fixed is not None and is_free(asked, fixed):
         return fixed
@@ -234,7 +234,7 @@ def choice(asked):
     return None
 
 
-# ---- what each message does: a plan or why there is no reply, and the row that is set or None
+# ---- each type of message: a plan or the reason for no reply, and the row to set or None
 
 
 def discover(asked):
@@ -262,7 +262,7 @@ def request(asked):
 
 
 def given_back(asked):
-    """The row that a client's choice of another server sets: its newest offer is over."""
+    """The row to set when a client chooses another server: its newest offer ends."""
     offers = [row for row in asked.rows.of(asked.client) if holds_live(asked, row) and row.state == "Offered"]
     row = newest(offers)
     return row and changed_row(asked, row.address, asked.client, "Released", 0)
@@ -280,7 +280,7 @@ def selecting(asked):
 
 
 def renewing(asked):
-    """A REQUEST that names no server: of ciaddr (RENEWING, REBINDING), else of option 50 (INIT-REBOOT)."""
+    """A REQUEST without a server identifier: for ciaddr (RENEWING, REBINDING), else for option 50 (INIT-REBOOT)."""
     wanted = ciaddr(asked) or requested(asked)
     if wanted is None:
         return "7 NoRequested", None
@@ -330,7 +330,7 @@ def inform(asked):
 
 
 def room_of(found):
-    """The most bytes that a reply may have."""
+    """The greatest length of a reply in bytes."""
     greatest = number(found[57]) if len(found.get(57, b"")) == 2 else 576
     return min(1472, max(576, greatest) - 28)
 
@@ -343,7 +343,7 @@ def times(root):
 
 
 def configured(asked, plan):
-    """The configured options that the client may have, in rising code, each written."""
+    """The configured options for the client, encoded, in the order of their codes."""
     if plan.kind == "NAK":
         return []
     at = ciaddr(asked) if plan.kind == "INFORMED" else plan.yiaddr
@@ -352,7 +352,7 @@ def configured(asked, plan):
 
 
 def options_of(asked, plan):
-    """The options field of a reply up to its end, or None where those that it must have do not fit."""
+    """The options field of a reply up to its end, or None if the required options do not fit."""
     found = asked.found
     kind = {"OFFER": b"\x02", "ACK": b"\x05", "INFORMED": b"\x05", "NAK": b"\x06"}[plan.kind]
     front = written(53, kind) + written(54, address(asked.root["server-address"]))
@@ -383,7 +383,7 @@ def header_of(asked, plan):
 
 
 def destination(asked, plan):
-    """Where a reply goes, by the fields of the message."""
+    """The destination of a reply, from the fields of the message."""
     if giaddr(asked) != 0:
         return f"relay {dotted(asked.datagram[24:28])}:67"
     if plan.kind == "NAK":
@@ -396,7 +396,7 @@ def destination(asked, plan):
 
 
 def replied(asked, plan):
-    """The words behind the moment of a reply's line, or None where it does not fit."""
+    """The words after the time in the line of a reply, or None if the reply does not fit."""
     options = options_of(asked, plan)
     if options is None:
         return None
@@ -408,12 +408,12 @@ def replied(asked, plan):
 
 
 def moment_of(rows, moment):
-    """The moment of an event: no earlier than the latest change."""
+    """The time of an event: not before the latest change."""
     return max(moment, rows.latest())
 
 
 def judge(asked):
-    """The words behind the moment of an event's line, and the row that is set or None."""
+    """The words after the time in the line of an event, and the row to set or None."""
     kind = asked.found[53][0]
     by_kind = {DISCOVER: discover, REQUEST: request, DECLINE: decline, RELEASE: release}
     outcome, row = by_kind.get(kind, inform)(asked)
@@ -424,7 +424,7 @@ def judge(asked):
 
 
 def handle(root, rows, moment, datagram):
-    """The line of an event, and the rows behind it."""
+    """The line of an event, and the rows after it."""
     now = moment_of(rows, moment)
     found = readable(datagram)
     reason = unheard(datagram, found)
@@ -440,7 +440,7 @@ def handle(root, rows, moment, datagram):
 
 
 def event_of(line):
-    """The moment and the datagram of a line, or None where it is no event."""
+    """The time and the datagram of a line, or None if the line is malformed."""
     parts = re.fullmatch("([0-9]{1,20}) ((?:[0-9a-fA-F]{2})*)", line)
     if parts is None or int(parts.group(1)) >= END_OF_NUMBERS or len(line) > LONGEST_LINE:
         return None
@@ -448,7 +448,7 @@ def event_of(line):
 
 
 def replay(root, lines, rows=()):
-    """What is printed for the lines up to the first fault, the rows behind them, and the fault's line or None."""
+    """The output for the lines up to the first fault, the rows after them, and the line of the fault or None."""
     rows, out = Rows(rows), []
     for count, line in enumerate(lines, 1):
         event = event_of(line)

@@ -1,11 +1,11 @@
 #!/usr/bin/env python3
-"""A day of many clients for `kdhcp replay`, compared line by line with what the judge says.
+"""Tests a day of many clients with `kdhcp replay`, compared line by line with the judge.
 
-    long_day.py SEED [EVENTS] [CLIENTS] [--program P]     100,000 events of 20,000 clients where nothing is said
+    long_day.py SEED [EVENTS] [CLIENTS] [--program P]     by default 100,000 events of 20,000 clients
 
-Four subnets, each behind a relay, two of them with pools too small for their clients. A client asks for an address,
-takes what the judge says it is offered, renews, gives back, declines; some events are garbage, and some moments go back.
-The table at the end is compared too, by way of a store. The judge goes over its table by an index (indexed.py).
+There are four subnets, each behind a relay, two of them with pools too small for their clients. A client requests an
+address, accepts the one that the judge offers, renews, releases and declines. Some events are garbage, and some times go
+back. The table at the end is also compared, through a store. The judge's table has an index (indexed.py).
 """
 import argparse
 import json
@@ -24,7 +24,7 @@ from indexed import Indexed
 INFORM = 8
 DAY = 86400
 SERVER = "10.0.0.1"
-# How many addresses the pools of each subnet have, of each hundred clients of that subnet.
+# How many addresses the pools of each subnet have for each hundred clients of that subnet.
 ROOM = [130, 110, 60, 15]
 
 
@@ -33,7 +33,7 @@ def option(code, data):
 
 
 def subnet(chance, number, size):
-    """10.NUMBER.0.0/16 with so many addresses in two pools, of which some are reserved."""
+    """The subnet 10.NUMBER.0.0/16 with `size` addresses in two pools. Some of them are reserved."""
     start = judge.number(address(f"10.{number}.1.0"))
     middle, last = start + size // 3, start + size + 4
     kept = enumerate(chance.sample(range(start, last), min(20, size)))
@@ -65,7 +65,7 @@ def hardware(number):
 
 
 class Client:
-    """A client: who it is, its relay, and the address that it was offered or has."""
+    """A client: its identity, its relay, and its offered or leased address."""
 
     def __init__(self, chance, number):
         self.hardware = hardware(number)
@@ -75,13 +75,13 @@ class Client:
         self.offered = self.bound = None
 
     def message(self, chance, kind, pairs=(), ciaddr=bytes(4)):
-        """A datagram of this kind by way of the relay."""
+        """A datagram of this type through the relay."""
         header = bytes([1, 1, 6, 1]) + chance.randbytes(4) + bytes(4) + ciaddr + bytes(8) + self.relay
         options = b"".join(written(*pair) for pair in [(53, bytes([kind])), *pairs, *self.about])
         return header + self.hardware.ljust(16, b"\0") + bytes(192) + judge.COOKIE + options + b"\xff"
 
     def says(self, chance):
-        """What it sends next."""
+        """The next datagram of the client."""
         here = [(54, address(SERVER))]
         place = chance.random()
         if self.offered is not None:
@@ -106,7 +106,7 @@ class Client:
         return self.message(chance, judge.DISCOVER)
 
     def is_offered(self, words):
-        """Remembers what the judge says of its message: whether that is an OFFER."""
+        """Records the judge's reply to the client. Returns whether it is an OFFER."""
         if words[0] == "reply":
             datagram = bytes.fromhex(words[-1])
             kind, yiaddr = datagram[242], datagram[16:20]
@@ -121,14 +121,14 @@ class Client:
 
 
 def garbled(chance, datagram):
-    """No datagram, part of one, one with a byte changed, or any bytes."""
+    """An empty datagram, part of one, one with a changed byte, or random bytes."""
     at = chance.randrange(len(datagram))
     changed = datagram[:at] + chance.randbytes(1) + datagram[at + 1 :]
     return chance.choice([b"", datagram[:at], changed, chance.randbytes(chance.randrange(600))])
 
 
 def day(chance, events, clients):
-    """The configuration; the lines of the day and those that must come; the table behind them."""
+    """The configuration, the events of the day, the expected lines, and the table at the end."""
     root = configuration(chance, clients)
     everyone, asking = [Client(chance, number) for number in range(clients)], []
     table, lines, wanted = Indexed(root), [], []
@@ -149,14 +149,14 @@ def day(chance, events, clients):
 
 
 def counted(wanted):
-    """How many lines there are of each kind: a reply's type, or why there was none."""
+    """The number of lines of each kind: the type of the reply, or the reason for none."""
     kinds = {2: "OFFER", 5: "ACK", 6: "NAK"}
     words = [line.split() for line in wanted]
     return Counter(kinds[int(each[-1][484:486], 16)] if each[1] == "reply" else each[-1] for each in words)
 
 
 def printed(words, said):
-    """The lines that a program prints for its input."""
+    """The lines that a command prints for an input."""
     done = subprocess.run(words, input=said, capture_output=True, text=True, check=False)
     return (done.stdout + done.stderr).splitlines()
 

@@ -1,8 +1,8 @@
 #!/usr/bin/env python3
-"""Random histories of histories.py, of which each event is explained: whys.py SEED COUNT [--program P] [--jobs N]
+"""Explains each event of random histories of histories.py: whys.py SEED COUNT [--program P] [--jobs N]
 
-Of each event `kdhcp replay --why` over the history's lines, and `kdhcp why` over a store in which the events before the
-last were replayed, end in the line that judge.py says, and the store's leases stay as they were.
+For each event, the explanation of `kdhcp replay --why` must end with the line of judge.py. For the last event, `kdhcp why`
+with a store after the events before it must print the same explanation, and leave the store's leases unchanged.
 """
 import argparse
 import json
@@ -28,7 +28,7 @@ def explained(program, path, events, number):
 
 
 def over_store(program, folder, path, events):
-    """The explanation of the last event over the store of those before it, and whether the store stayed as it was."""
+    """The explanation of the last event with the store after those before it, and whether --live agrees and no lease changed."""
     files = ["--config", path, "--store", os.path.join(folder, "leases.db")]
     text = "".join(f"{event}\n" for event in events[:-1])
     run(program, ["replay", *files], text)
@@ -41,7 +41,7 @@ def over_store(program, folder, path, events):
 
 
 def differs(program, seed):
-    """What is wrong with one history, or None; and how many events it has."""
+    """The first error of a history, or None; and the number of its events."""
     root, events, (lines, _, fault) = history(random.Random(seed))
     wanted = lines + ([fault] if fault else [])
     with tempfile.TemporaryDirectory() as folder:
