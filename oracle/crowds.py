@@ -22,7 +22,7 @@ PREFIXES = {
     "10.3.0.0/20": "10.3.8.250",
     "10.0.0.0/8": "10.9.0.250",
 }
-# About how many addresses a subnet's pools have, and its greatest number of reservations: one of the two is large.
+# The greatest size of a subnet's pools, and its greatest number of reservations: one of the two is large.
 SIZES = [(400, 4), (250, 12), (250, 12), (200, 40), (60, 60), (24, 120)]
 OTHER_SERVER = address("192.0.2.99")
 ANOTHER = 5000
