@@ -34,6 +34,20 @@ def words_of(names, text):
     return [expanded(names, word.replace('"', "")) for word in re.findall(r'(?:"[^"]*"|[^ "])+', text)]
 
 
+def define(names, line):
+    """Takes a line that gives a text a name."""
+    name, _, *rest = words_of(names, line)
+    names[name] = rest[0] if len(rest) == 1 else int(rest[0]) * rest[2]
+
+
+def include(names, path):
+    """Takes the names of a file of DATA."""
+    with open(os.path.join(DATA, path), encoding="utf-8") as file:
+        for line in file.read().splitlines():
+            if line and not line.startswith("#"):
+                define(names, line)
+
+
 def cases(lines):
     """The cases of a file: line, words, remark, configuration or None, events, expected lines, expected fault."""
     names, files, file, case, remark = {}, {}, None, None, []
@@ -62,9 +76,10 @@ def cases(lines):
             files[file] = ""
         elif text.startswith("| "):
             files[file] += expanded(names, text[2:]) + "\n"
+        elif text.startswith("include "):
+            include(names, expanded(names, text[8:]))
         else:
-            name, _, *rest = words_of(names, text)
-            names[name] = rest[0] if len(rest) == 1 else int(rest[0]) * rest[2]
+            define(names, text)
     if case is not None:
         yield case
 

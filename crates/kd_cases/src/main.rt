@@ -8,6 +8,7 @@
 mod case;
 mod command;
 mod datagrams;
+mod fault;
 mod files;
 mod host;
 mod names;
@@ -39,7 +40,7 @@ fn main(rt: HostRuntime) -> io::Result<()> {
 // Runs the cases of a file.
 fn run_cases(rt: &HostRuntime, path: &str) -> io::Result<()> {
     let text = fs::read_to_string(rt, path)?;
-    let mut session = Session::new(rt.alloc());
+    let mut session = Session::new(rt.alloc(), path);
     for line in text.lines() {
         session.take(rt, line)?;
     }

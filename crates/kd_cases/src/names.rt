@@ -16,10 +16,9 @@ impl Names {
         }
     }
 
-    /// Gives a name to a text, in place of the text that the name had.
-    pub fn define(&mut self, name: String, text: String) -> Result<(), AllocError> {
-        self.texts.insert(name, text)?;
-        Ok(())
+    /// Gives a name to a text, in place of the text that the name had. Returns whether it had none.
+    pub fn define(&mut self, name: String, text: String) -> Result<bool, AllocError> {
+        Ok(self.texts.insert(name, text)?.is_none())
     }
 
     /// Returns a line with each name replaced by its text. An unknown name stays as it is.

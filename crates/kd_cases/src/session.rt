@@ -1,15 +1,18 @@
 use crate::case::{Case, put_line};
 use crate::command::written;
+use crate::fault::{LineFault, Passage};
 use crate::files::Files;
 use crate::names::Names;
 use crate::stores::Stores;
 use crate::words::{definition, words};
 use std::alloc::{AllocError, Global};
+use std::io::ErrorKind;
 use std::{fs, io};
 
 /// The reading of a file of cases, line by line.
 #[derive(Drop)]
-pub struct Session {
+pub struct Session<'a> {
+    path: &'a str,
     names: Names,
     files: Files,
     stores: Stores,
@@ -21,10 +24,11 @@ pub struct Session {
     pub badly: usize,
 }
 
-impl Session {
-    /// Starts a session.
-    pub fn new(alloc: Global) -> Session {
+impl<'a> Session<'a> {
+    /// Starts a session over the file of a path.
+    pub fn new(alloc: Global, path: &'a str) -> Session<'a> {
         Session {
+            path,
             names: Names::new(alloc),
             files: Files::new(alloc),
             stores: Stores::new(alloc),
@@ -61,8 +65,8 @@ impl Session {
         Ok(())
     }
 
-    // Takes a line outside the cases: a remark, a file in memory, or a name. Any other line counts
-    // as a case with another outcome than the written one.
+    // Takes a line outside the cases: a remark, a file in memory, an included file, or a name. Any
+    // other line counts as a case with another outcome than the written one.
     fn prepare(&mut self, rt: &HostRuntime, line: &str, text: &str) -> io::Result<()> {
         let alloc = rt.alloc();
         if line.starts_with('#') {
@@ -77,13 +81,62 @@ impl Session {
         if let Some(digits) = text.strip_prefix("% ") {
             return Ok(self.files.put_bytes(alloc, digits)?);
         }
-        match definition(alloc, &self.names, line)? {
-            Some((name, text)) => Ok(self.names.define(name, text)?),
-            None => {
-                self.badly = self.badly.saturating_add(1);
-                println!(rt; "line {}: not read: {line}", self.line)
+        let passage = Passage {
+            path: self.path,
+            number: self.line,
+            line,
+        };
+        match text.strip_prefix("include ") {
+            Some(path) => self.include(rt, passage, path),
+            None => self.define(rt, passage, LineFault::NotRead),
+        }
+    }
+
+    // Takes the names of a file, which has nothing else but comments.
+    fn include(&mut self, rt: &HostRuntime, passage: Passage<'_>, path: &str) -> io::Result<()> {
+        let text = match fs::read_to_string(rt, path) {
+            Ok(text) => text,
+            Err(error) if error.kind() == ErrorKind::NotFound => {
+                return self.refuse(rt, passage, LineFault::NoFile);
+            }
+            Err(error) => return Err(error),
+        };
+        for (index, line) in text.lines().enumerate() {
+            if !line.is_empty() && !line.starts_with('#') {
+                let number = index.saturating_add(1);
+                self.define(rt, Passage { path, number, line }, LineFault::NoName)?;
             }
         }
+        Ok(())
+    }
+
+    // Takes a line that gives a text a name which has none yet. Any other line has a fault.
+    fn define(
+        &mut self,
+        rt: &HostRuntime,
+        passage: Passage<'_>,
+        other: LineFault,
+    ) -> io::Result<()> {
+        let Some((name, text)) = definition(rt.alloc(), &self.names, passage.line)? else {
+            return self.refuse(rt, passage, other);
+        };
+        if self.names.define(name, text)? {
+            return Ok(());
+        }
+        self.refuse(rt, passage, LineFault::NamedTwice)
+    }
+
+    // Prints a line that has a fault, and counts it as a case that is not as written.
+    fn refuse(
+        &mut self,
+        rt: &HostRuntime,
+        passage: Passage<'_>,
+        fault: LineFault,
+    ) -> io::Result<()> {
+        self.badly = self.badly.saturating_add(1);
+        let Passage { path, number, line } = passage;
+        let words = fault.words();
+        println!(rt; "{path}: line {number}: {words}: {line}")
     }
 
     /// Runs the case that was started, if there is one, and prints it if its outcome is not as
