@@ -1,6 +1,6 @@
 -- The program of a class test runs to the test's value.
 use Rattle.std.proofs.Common.{◌≡◌, ℕ, ◌+◌, List, [], ◌∷◌, length, None, Ok, refl, ap, subst, arith}
-use Rattle.kd_compile.specs.Compiled.{HasMeasures, Keeps, first_over}
+use Rattle.kd_compile.specs.Compiled.{HasMeasures, KeepsMeaning, first_over}
 use Rattle.kd_compile.specs.Measures.{names}
 use Rattle.kd_compile.specs.Tokens.{code_of, program_for}
 use Rattle.kd_compile.specs.Value.{value, truth}
@@ -36,7 +36,7 @@ comes_to_value t message held typed =
     subst B (truth_is message held t well.0 well.1) (subst A all made)
 
 -- an accepted program of a class test keeps its meaning
-keeps : AcceptedEnds → HasOneEnd → (t : Tree) → type_of t ≡ Ok types.Bool → HasFile (program_for t) → Accepts (program_for t) → Keeps t (program_for t)
+keeps : AcceptedEnds → HasOneEnd → (t : Tree) → type_of t ≡ Ok types.Bool → HasFile (program_for t) → Accepts (program_for t) → KeepsMeaning t (program_for t)
 keeps accepted_ends one_end t typed file accepts message held is =
     let made = comes_to_value t message held typed in
     let ends = accepted_ends (program_for t) message held file accepts is in
@@ -55,5 +55,5 @@ has_measures t = record {
 }
 
 -- a class test that is over no limit has a program that keeps its meaning
-pub keeps_in_limits : AcceptedEnds → HasOneEnd → (t : Tree) → HasText t → type_of t ≡ Ok types.Bool → first_over t ≡ None → Keeps t (program_for t)
+pub keeps_in_limits : AcceptedEnds → HasOneEnd → (t : Tree) → HasText t → type_of t ≡ Ok types.Bool → first_over t ≡ None → KeepsMeaning t (program_for t)
 keeps_in_limits accepted_ends one_end t text typed within = keeps accepted_ends one_end t typed (has_file t text within) (accepted t typed)

@@ -48,8 +48,8 @@ pub record HasMeasures (t : Tree) (p : Code) : Type 0 where
 
 -- a program keeps an expression's meaning: over every message and every list of held names it runs,
 -- within what it declares, to the expression's truth value
-abbrev pub Keeps : Tree → Code → Type 0
-Keeps t p = (message : Seen) (held : List (List ℕ)) → IsMessage message
+abbrev pub KeepsMeaning : Tree → Code → Type 0
+KeepsMeaning t p = (message : Seen) (held : List (List ℕ)) → IsMessage message
     → (o : Outcome) × (o.value ≡ truth message held t) × EndsAs p message held o
 
 -- a program that an expression compiles to: it has the expression's measures, is accepted, and
@@ -57,4 +57,4 @@ Keeps t p = (message : Seen) (held : List (List ℕ)) → IsMessage message
 pub record IsCompiled (t : Tree) (p : Code) : Type 0 where
   pub measures : HasMeasures t p
   pub accepted : Accepts p
-  pub keeps : Keeps t p
+  pub keeps : KeepsMeaning t p

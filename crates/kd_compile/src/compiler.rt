@@ -1,5 +1,5 @@
 ghost use Rattle.std.specs.Prelude.{◌≡◌, ◌⊎◌, IfOk, MatchResult, None, Ok, Some};
-ghost use Rattle.kd_compile.specs.Compiled.{HasMeasures, Keeps, first_over, version_for};
+ghost use Rattle.kd_compile.specs.Compiled.{HasMeasures, KeepsMeaning, first_over, version_for};
 ghost use Rattle.kd_compile.specs.Measures.{greatest, names};
 ghost use Rattle.kd_compile.specs.Tokens.{program_for};
 ghost use Rattle.kd_compile.specs.declared.fault.CompileFault.TheVariants.{Memory};
@@ -29,7 +29,7 @@ use std::alloc::{AllocError, Global};
 pub fn compile(alloc: Global, typed: &Typed) -> Result<Verified, CompileFault>
     ensures measured { IfOk result (λ v. HasMeasures (tree_of typed.now) v) }
     ensures accepted { IfOk result (λ v. Accepts v) }
-    ensures keeps { IfOk result (λ v. Keeps (tree_of typed.now) v) }
+    ensures keeps { IfOk result (λ v. KeepsMeaning (tree_of typed.now) v) }
     ensures exact { IfOk result (λ v. v ≡ program_for (tree_of typed.now)) }
     ensures refused { MatchResult result (λ _. first_over (tree_of typed.now) ≡ None)
         (λ fault. (fault ≡ Memory) ⊎ (first_over (tree_of typed.now) ≡ Some fault)) }

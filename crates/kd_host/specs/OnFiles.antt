@@ -17,7 +17,7 @@ use Rattle.kd_database.specs.Stores.{IsStoreIn, StandsAsHeld}
 use Rattle.kd_io.specs.Start.{IsOfFiles}
 use Rattle.kd_io.specs.declared.link.Sending.{Sending}
 use Rattle.kd_keeps.specs.declared.keeps.Keeps.{Ghosts}
-use Rattle.kd_program.specs.Running.{Serves}
+use Rattle.kd_program.specs.Running.{ServesWork}
 use Rattle.kd_program.specs.Streams.{Stream, Streams, Tells, TellsWith}
 use Rattle.kd_program.specs.declared.host.Host.{Ghosts as Hosts}
 use Rattle.kd_program.specs.declared.listing.View.TheVariants as views
@@ -77,7 +77,7 @@ module _ {D H U L R : Type 0} (d : Disks D) (h : Hosts H (Kept (FileStore D d)) 
     pub back : Kept (FileStore D d)
     pub before : H
     pub after : H
-    pub serves : Serves h l r k work config
+    pub serves : ServesWork h l r k work config
         (record { held = store; at = record { host = before; streams = old } })
         (record { held = back; at = record { host = after; streams = left.streams } }) status
     pub it : FileStore D d

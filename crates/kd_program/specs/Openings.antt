@@ -2,7 +2,7 @@
 use Rattle.std.specs.Prelude.{ℕ, List}
 use Rattle.kd_config.specs.Configuration.{Configuration}
 use Rattle.kd_keeps.specs.declared.keeps.Keeps.{Ghosts}
-use Rattle.kd_program.specs.Running.{Serves, ports_asked}
+use Rattle.kd_program.specs.Running.{ServesWork, ports_asked}
 use Rattle.kd_program.specs.Streams.{With}
 use Rattle.kd_program.specs.declared.host.Host.{Ghosts as Hosts}
 use Rattle.kd_program.specs.declared.serving.Work.{Work}
@@ -16,5 +16,5 @@ abbrev pub CommandsAreOpenings : {H N U L R S : Type 0} → Hosts H N U L R → 
     → Ghosts S → Type 0
 CommandsAreOpenings {H} {N} {U} {L} {R} {S} h l r g =
     (work : Work) (config : Configuration) (before after : With S H) (status : ℕ)
-    → Serves h l r g work config before after status
+    → ServesWork h l r g work config before after status
     → (calls : List Call) × IsDone g config (ports_asked work) calls before.held after.held

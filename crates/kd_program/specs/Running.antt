@@ -230,8 +230,8 @@ module _ {H N U L R S : Type 0} (h : Hosts H N U L R) (l : Links L) (r : Sinks R
     pub told : Tells (serve_fault_number fault) status before.at.streams after.at.streams
 
   -- one of the two
-  abbrev pub Serves : Work → Configuration → With S H → With S H → ℕ → Type 0
-  Serves work config before after status =
+  abbrev pub ServesWork : Work → Configuration → With S H → With S H → ℕ → Type 0
+  ServesWork work config before after status =
       IsServed work config before after status ⊎ IsNotServed config before after status
 
 -- over a host with its two sorts of stores, its sockets and its records
@@ -247,7 +247,7 @@ module _ {H N U L R : Type 0} (h : Hosts H N U L R) (named : Ghosts N) (unnamed 
     pub works : is_some (named.fault store) ≡ false
     pub back : N
     pub left : H
-    pub serves : Serves h l r named work config
+    pub serves : ServesWork h l r named work config
         (record { held = store; at = record before { host = opened } })
         (record { held = back; at = record after { host = left } }) status
     pub closed : h.closes left path back after.host
@@ -260,7 +260,7 @@ module _ {H N U L R : Type 0} (h : Hosts H N U L R) (named : Ghosts N) (unnamed 
     pub given : h.makes before.host (Ok store) made
     pub works : is_some (unnamed.fault store) ≡ false
     pub back : U
-    pub serves : Serves h l r unnamed work config
+    pub serves : ServesWork h l r unnamed work config
         (record { held = store; at = record before { host = made } })
         (record { held = back; at = after }) status
 

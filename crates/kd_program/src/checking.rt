@@ -48,12 +48,12 @@ pub(crate) enum StoreFinding {
     // There is no memory for its rows.
     Memory,
     // Its rows were read.
-    Open(Seen),
+    Open(SeenRows),
 }
 
 // What was found out about the rows of a store.
 #[derive(Clone, Copy)]
-pub(crate) struct Seen {
+pub(crate) struct SeenRows {
     pub(crate) count: usize,
     pub(crate) latest: u64,
     pub(crate) moment: u64,
@@ -128,7 +128,7 @@ fn find_rows<H: Host>(host: &mut H, path: &str, limit: Option<u64>) -> StoreFind
             Ok(rows) => {
                 let moment = host.clock();
                 let latest = rows.latest();
-                StoreFinding::Open(Seen {
+                StoreFinding::Open(SeenRows {
                     count: rows.len(),
                     latest,
                     moment,

@@ -1,5 +1,5 @@
 use crate::banner::pool_addresses;
-use crate::checking::{Found, Place, Seen, StoreFinding};
+use crate::checking::{Found, Place, SeenRows, StoreFinding};
 use crate::host::Host;
 use kd_check::findings::{SocketTrouble, StoreTrouble};
 use kd_commands::Files;
@@ -108,8 +108,8 @@ fn put_log<H: Host>(
 }
 
 // Prints what was found out about the rows of a store.
-fn put_seen(text: &mut String, seen: Seen) -> Result<(), AllocError> {
-    let Seen {
+fn put_seen(text: &mut String, seen: SeenRows) -> Result<(), AllocError> {
+    let SeenRows {
         count,
         latest,
         moment,

@@ -6,7 +6,7 @@ ghost use Rattle.kd_keeps.specs.Fault.{store_fault_number};
 ghost use Rattle.kd_keeps.specs.Reading.{AreRead};
 ghost use Rattle.kd_program.specs.Streams.{TellsWith, at_ends, streams, written_to};
 ghost use Rattle.kd_replay.specs.Serving.{failed_in};
-ghost use Rattle.kd_program.specs.Running.{GivesJournal, Listens, ReplaysInput, Serves, Starts, Works, ports_asked};
+ghost use Rattle.kd_program.specs.Running.{GivesJournal, Listens, ReplaysInput, ServesWork, Starts, Works, ports_asked};
 
 use crate::banner::{Banner, Sizes, banner_line, pool_addresses};
 use crate::ends::Ends;
@@ -166,7 +166,7 @@ fn run_over_store<H: Host, R: Source, O: Sink, E: Sink, S: Keeps>(
     requires read { AreRead S.Keeps opened.store opened.rows.items }
     requires input { R.has_failed ends.old.input ≡ false }
     requires output { O.has_failed ends.old.output ≡ false }
-    ensures { Serves H.Host H.Socket.Link H.Journal.Sink S.Keeps
+    ensures { ServesWork H.Host H.Socket.Link H.Journal.Sink S.Keeps
         work.now config
         (record { held = opened.store; at = at_ends R.Source O.Sink E.Sink host.old ends.old })
         (record { held = result.1; at = at_ends R.Source O.Sink E.Sink host.new ends.new })

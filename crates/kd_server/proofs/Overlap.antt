@@ -22,7 +22,7 @@ use Rattle.kd_rows.specs.Laws.{GetOfSet, LatestOfSet}
 use Rattle.kd_rows.specs.Table.{belongs_to, latest_of, row_at, with_row}
 use Rattle.kd_rows.specs.declared.row.Row.{Row}
 use Rattle.kd_rows.specs.declared.row.State.TheVariants as states
-use Rattle.kd_server.specs.NoOverlap.{ChangesTo, GivesTo, GivesUp, GivesUpBetween, Happens, LeaseHistory, Leases, Offers, LeaseStep, NoOverlapAcross, Renews, ShortenedBetween, end_of, lifetime_of, now_of}
+use Rattle.kd_server.specs.NoOverlap.{ChangesTo, GivesTo, GivesUp, GivesUpBetween, Happens, LeaseHistory, GivesLease, GivesOffer, LeaseStep, NoOverlapAcross, Renews, ShortenedBetween, end_of, lifetime_of, now_of}
 use Rattle.kd_server.proofs.LiveLeases.{IsGivingUp, IsLease, MayReplace, acked, may_set}
 use Rattle.kd_server.proofs.Ruled.{Ruled, ruled}
 
@@ -244,7 +244,7 @@ module _ (get_of_set : GetOfSet) (latest_of_set : LatestOfSet) (sets_now : SetsN
   kept e None a client start time (inr h) safe = changed_keeps e h.0 a client start time h.1 safe
 
   -- a step that leases an address leaves it safe
-  leased_safe : (e : LeaseStep) (a : ℕ) (client : List ℕ) → Happens e e.outcome → Leases e client a → IsSafe e.after a client (now_of e) (lifetime_of e)
+  leased_safe : (e : LeaseStep) (a : ℕ) (client : List ℕ) → Happens e e.outcome → GivesLease e client a → IsSafe e.after a client (now_of e) (lifetime_of e)
   leased_safe e a client happens l = ⊎_elim silent by_rule (ruled e.config e.before c.names e.message (now_of e) c.set (planned kinds.Ack a l.options) c.decides) where
     c : ChangesTo e (planned kinds.Ack a l.options)
     c = subst (Happens e) l.ack happens
@@ -282,7 +282,7 @@ module _ (get_of_set : GetOfSet) (latest_of_set : LatestOfSet) (sets_now : SetsN
     by_live (inr ended) = let e : h.row.ends ≤ now_of f = ltb-false (now_of f) h.row.ends ended in let l = h.lasts in omega arith
 
   -- so does an OFFER
-  offered_late : (f : LeaseStep) (a : ℕ) (client other : List ℕ) (start time : ℕ) → Happens f f.outcome → Offers f other a → other ≢ client → Holds f.before a client (start + time) → start + time ≤ now_of f
+  offered_late : (f : LeaseStep) (a : ℕ) (client other : List ℕ) (start time : ℕ) → Happens f f.outcome → GivesOffer f other a → other ≢ client → Holds f.before a client (start + time) → start + time ≤ now_of f
   offered_late f a client other start time happens o apart h = ⊎_elim silent by_rule (ruled f.config f.before c.names f.message (now_of f) c.set (planned kinds.Offer a o.options) c.decides) where
     c : ChangesTo f (planned kinds.Offer a o.options)
     c = subst (Happens f) o.offer happens
@@ -294,7 +294,7 @@ module _ (get_of_set : GetOfSet) (latest_of_set : LatestOfSet) (sets_now : SetsN
     by_rule r = given_by f a client other start time (planned kinds.Offer a o.options) o.options (inl refl) c r o.by apart h
 
   -- and so does an ACK
-  leased_late : (f : LeaseStep) (a : ℕ) (client other : List ℕ) (start time : ℕ) → Happens f f.outcome → Leases f other a → other ≢ client → Holds f.before a client (start + time) → start + time ≤ now_of f
+  leased_late : (f : LeaseStep) (a : ℕ) (client other : List ℕ) (start time : ℕ) → Happens f f.outcome → GivesLease f other a → other ≢ client → Holds f.before a client (start + time) → start + time ≤ now_of f
   leased_late f a client other start time happens l apart h = ⊎_elim silent by_rule (ruled f.config f.before c.names f.message (now_of f) c.set (planned kinds.Ack a l.options) c.decides) where
     c : ChangesTo f (planned kinds.Ack a l.options)
     c = subst (Happens f) l.ack happens
@@ -370,13 +370,13 @@ module _ (get_of_set : GetOfSet) (latest_of_set : LatestOfSet) (sets_now : SetsN
 
   -- in a history from any rows, an address that was leased is given to another only then
   none_overlap : (rows : List Row) (es : List LeaseStep) (i j : ℕ) (e f : LeaseStep) (client other : List ℕ) (a : ℕ)
-      → LeaseHistory rows es → i < j → slice_get es i ≡ Some e → slice_get es j ≡ Some f → Leases e client a → GivesTo f other a → other ≢ client
+      → LeaseHistory rows es → i < j → slice_get es i ≡ Some e → slice_get es j ≡ Some f → GivesLease e client a → GivesTo f other a → other ≢ client
       → (end_of e ≤ now_of f) ⊎ Loosened es i j e client a (now_of f)
   none_overlap rows [] i j e f client other a history before is_e is_f leases gives apart = absurd (none-some e is_e)
   none_overlap rows (x ∷ es) i zero e f client other a history before is_e is_f leases gives apart = absurd (omega arith)
   none_overlap rows (x ∷ es) zero (suc j) e f client other a history before is_e is_f leases gives apart =
       let same : x ≡ e = same_Some x e is_e in
-      let safe = leased_safe x a client history.1 (subst (λ (g : LeaseStep). Leases g client a) (sym same) leases) in
+      let safe = leased_safe x a client history.1 (subst (λ (g : LeaseStep). GivesLease g client a) (sym same) leases) in
       subst (λ (g : LeaseStep). (end_of g ≤ now_of f) ⊎ Loosened (x ∷ es) zero (suc j) g client a (now_of f)) same
       (⊎_elim inl (λ l. inr (from_lease x es j client a (now_of f) l))
       (onward x.after es a client other (now_of x) (lifetime_of x) j f history.2 safe is_f gives apart))

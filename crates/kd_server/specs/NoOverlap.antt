@@ -60,21 +60,21 @@ HistoryTo rows (e ∷ es) last =
     (e.before ≡ rows) × Happens e e.outcome × HistoryTo e.after es last
 
 -- a step leases an address to a client: the ACK of a REQUEST
-pub record Leases (e : LeaseStep) (client : List ℕ) (a : ℕ) : Type 0 where
+pub record GivesLease (e : LeaseStep) (client : List ℕ) (a : ℕ) : Type 0 where
   pub by : client_identity e.message ≡ Some client
   pub request : kind_of e.message ≡ type_number types.Request
   pub options : List ReplyOption
   pub ack : e.outcome ≡ Some (planned kinds.Ack a options)
 
 -- a step offers an address to a client
-pub record Offers (e : LeaseStep) (client : List ℕ) (a : ℕ) : Type 0 where
+pub record GivesOffer (e : LeaseStep) (client : List ℕ) (a : ℕ) : Type 0 where
   pub by : client_identity e.message ≡ Some client
   pub options : List ReplyOption
   pub offer : e.outcome ≡ Some (planned kinds.Offer a options)
 
 -- a step gives an address to a client: it offers or leases it
 abbrev pub GivesTo : LeaseStep → List ℕ → ℕ → Type 0
-GivesTo e client a = Offers e client a ⊎ Leases e client a
+GivesTo e client a = GivesOffer e client a ⊎ GivesLease e client a
 
 -- the client gives up an address in a step: its RELEASE or DECLINE changed the row of the address
 pub record GivesUp (e : LeaseStep) (client : List ℕ) (a : ℕ) : Type 0 where
@@ -125,7 +125,7 @@ pub record Regives (es : List LeaseStep) (i j : ℕ) (e f : LeaseStep) (client :
   pub before : i < j
   pub first : slice_get es i ≡ Some e
   pub second : slice_get es j ≡ Some f
-  pub leases : Leases e client a
+  pub leases : GivesLease e client a
   pub other : List ℕ
   pub gives : GivesTo f other a
   pub apart : other ≢ client

@@ -2,7 +2,7 @@ use Rattle.std.proofs.Common.{◌≡◌, None, ap, sym, subst, ◌∙◌, arith}
 use Rattle.kd_compile.proofs.Accepting.{accepted}
 use Rattle.kd_compile.proofs.Keeping.{has_measures, keeps_in_limits}
 use Rattle.kd_compile.proofs.Ranges.{few_tokens, depth_le}
-use Rattle.kd_compile.specs.Compiled.{HasMeasures, Keeps, first_over}
+use Rattle.kd_compile.specs.Compiled.{HasMeasures, KeepsMeaning, first_over}
 use Rattle.kd_compile.specs.Measures.{token_count, stack_depth}
 use Rattle.kd_compile.specs.Tokens.{program_for}
 use Rattle.kd_expr.specs.Tree.{Tree}
@@ -35,7 +35,7 @@ returns-in-Ok-clause-keeps c =
     let within = subst P same c.in_ok-program.ensures.within in
     let is = c.in-Ok.ensures.accepted ∙ c.in_ok-program.ensures.program ∙ ap program_for same in
     let kept = keeps_in_limits c.accepted_ends.ensures c.one_end.ensures (tree_of c.args.typed.now) c.tree-tree.ensures.text c.tree-tree.ensures.typed within in
-    subst (Keeps (tree_of c.args.typed.now)) (sym is) kept
+    subst (KeepsMeaning (tree_of c.args.typed.now)) (sym is) kept
 
 pub returns-in-Ok-clause-exact : goal.returns-in-Ok-clause-exact
 returns-in-Ok-clause-exact c =
