@@ -1,7 +1,7 @@
 #!/usr/bin/env python3
 """Serves a day of long_day.py in batches of random sizes: batches.py SEED [EVENTS] [CLIENTS] [--program P]
 
-The defaults are 20,000 events, 4,000 clients and the program crates/kd_cases/out/kd_cases. It runs cases of `kdhcp serve
+The defaults are 20,000 events, 4,000 clients and the program crates/cases/out/cases. It runs cases of `kdhcp serve
 --store` of random length with one store, each at a port from 1 to 32: in the cases, that many datagrams arrive together.
 Each line must be the one from the judge, and so must the table at the end.
 """
@@ -22,7 +22,7 @@ def main():
     words.add_argument("seed", type=int)
     words.add_argument("events", type=int, nargs="?", default=20_000)
     words.add_argument("clients", type=int, nargs="?", default=4_000)
-    words.add_argument("--program", default=os.path.join(ROOT, "crates", "kd_cases", "out", "kd_cases"))
+    words.add_argument("--program", default=os.path.join(ROOT, "crates", "cases", "out", "cases"))
     words = words.parse_args()
     chance = random.Random(words.seed)
     root, lines, wanted, table = day(chance, words.events, words.clients)

@@ -89,7 +89,7 @@ each_refusal_of_replay() {
 }
 each_refusal_of_replay examples/replay/informs.lines examples/replay/informs.replies
 each_refusal_of_replay examples/replay/leases.lines examples/replay/leases.replies
-for folder in crates/kd_cases/data/examples/*/; do
+for folder in crates/cases/data/examples/*/; do
     each_refusal_of_replay "$folder/events.lines" "$folder/replies.lines" \
         --config "$folder/config.json" --token-dir "$folder"
 done
@@ -127,7 +127,7 @@ SHORT_IO=1 LD_PRELOAD=$room/fail.so crates/kdhcp/out/kdhcp replay <examples/repl
 echo "replay byte by byte: the same"
 
 all=0 passed=0 building=0 second=0 other=0
-for test in kd_tests:{answer,classes,compile,expr,machine,message,reply,token} kd_server_tests:{config,replay,server} \
+for test in test_texts:{answer,classes,compile,expr,machine,message,reply,token} test_server:{config,replay,server} \
     kd_{table_tests:{rows,withheld},lease_tests:{days,reserved},store_tests:memory}; do
     name=${test%:*}
     run=("crates/$name/out/${name}_tests" "${test#*:}::want_of_memory_is_answered_as_such")

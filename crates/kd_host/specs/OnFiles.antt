@@ -28,7 +28,7 @@ use Rattle.kd_replay.specs.declared.ends.Sink.{Ghosts as Sinks}
 use Rattle.kd_replay.specs.declared.link.Link.{Ghosts as Links}
 use Rattle.kd_rows.specs.declared.row.Row.{Row}
 use Rattle.kd_store.specs.Kept.{Kept}
-use Rattle.kd_tools.specs.Status.{status_of}
+use Rattle.kd_print.specs.Status.{status_of}
 
 -- how a socket sends: each reply to its sender, or those to all hosts to another address
 abbrev pub sending_of : Listening → Sending

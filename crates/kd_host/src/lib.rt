@@ -12,7 +12,7 @@ mod machine;
 mod running;
 
 pub use kd_commands::{LineFault, Order, order};
+pub use kd_print::{Printed, answer};
 pub use kd_server::{Lease, lease_lines};
-pub use kd_tools::{Printed, answer};
 pub use machine::{Below, Machine};
 pub use running::{carry_out, refuse, run_on};

@@ -16,7 +16,7 @@ use Rattle.kd_commands.specs.declared.orders.Files.{Files}
 use Rattle.kd_replay.specs.Ahead.{is_behind}
 use Rattle.kd_rows.specs.Table.{latest_of}
 use Rattle.kd_rows.specs.declared.row.Row.{Row}
-use Rattle.kd_tools.specs.Status.{status_of}
+use Rattle.kd_print.specs.Status.{status_of}
 
 -- the exit status of a check: that of the first fault that was found
 abbrev pub check_status : List (Option ℕ) → ℕ

@@ -10,7 +10,7 @@ use Rattle.kd_replay.specs.declared.fault.ServeFault.{ServeFault}
 use Rattle.kd_rows.specs.declared.row.Row.{Row}
 use Rattle.kd_server.specs.Leases.{IsNoList}
 use Rattle.kd_server.specs.Trial.{Trying}
-use Rattle.kd_tools.specs.Status.{replay_status_of}
+use Rattle.kd_print.specs.Status.{replay_status_of}
 use Rattle.kd_why.specs.Inquiring.{IsExplainedAt, IsNotExplained}
 use Rattle.kd_why.specs.Saying.{ExplainsEvent}
 

@@ -8,7 +8,7 @@ use Rattle.kd_keeps.specs.declared.fault.StoreFault.{StoreFault}
 use Rattle.kd_keeps.specs.declared.keeps.Keeps.{Ghosts}
 use Rattle.kd_program.specs.Streams.{Stream, Streams, Tells, TellsWith}
 use Rattle.kd_rows.specs.declared.row.Row.{Row}
-use Rattle.kd_tools.specs.Status.{status_of}
+use Rattle.kd_print.specs.Status.{status_of}
 
 -- the largest input in bytes that is imported: 256 MiB
 abbrev pub most_imported : ℕ

@@ -1,9 +1,9 @@
 -- What the arguments of a command line do: what is written, and the exit status.
 use Rattle.std.specs.Prelude.{◌≡◌, ◌⊎◌, ℕ, false, true, List, Option, Some, None, Result, Ok, Err, if◌then◌else◌, is_some, option_map, string_bytes, vec_items}
 use Rattle.std.specs.Result.{IsErrOf}
-use Rattle.kd_tools.specs.Printed.{Answers}
-use Rattle.kd_tools.specs.Status.{replay_status_of, serve_status_of}
-use Rattle.kd_tools.specs.declared.printed.Printed.{Printed}
+use Rattle.kd_print.specs.Printed.{Answers}
+use Rattle.kd_print.specs.Status.{replay_status_of, serve_status_of}
+use Rattle.kd_print.specs.declared.printed.Printed.{Printed}
 use Rattle.kd_config.specs.Configuration.{Configuration}
 use Rattle.kd_io.specs.Faults.{look_fault_number, start_fault_number}
 use Rattle.kd_io.specs.declared.look.LookFault.{LookFault}

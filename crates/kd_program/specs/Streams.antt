@@ -2,9 +2,9 @@
 use Rattle.std.specs.Prelude.{◌≡◌, ◌≢◌, ◌⊎◌, ℕ, Bool, true, List, [], ◌++◌, Option, codes}
 use Rattle.std.specs.Fmt.{decimal}
 use Rattle.std.specs.Io.KnownBytes.{Appends}
-use Rattle.kd_tools.specs.Show.{line_feed}
-use Rattle.kd_tools.specs.Status.{status_of}
-use Rattle.kd_tools.specs.declared.printed.Printed.{Printed}
+use Rattle.kd_print.specs.Show.{line_feed}
+use Rattle.kd_print.specs.Status.{status_of}
+use Rattle.kd_print.specs.declared.printed.Printed.{Printed}
 use Rattle.kd_replay.specs.Parts.{WritesPart}
 use Rattle.kd_replay.specs.declared.ends.Sink.{Ghosts as Sinks}
 use Rattle.kd_replay.specs.declared.ends.Source.{Ghosts as Sources}

@@ -12,9 +12,9 @@ use kd_check::findings::{SocketTrouble, StoreTrouble};
 use kd_commands::Files;
 use kd_config::Config;
 use kd_io::{LookFault, StartFault};
+use kd_print::exit_status;
 use kd_replay::{Sink, Source, starts_behind};
 use kd_rows::Rows;
-use kd_tools::exit_status;
 use std::alloc::Global;
 
 // The number of the fault that the clock is ahead or behind.

@@ -10,9 +10,9 @@ use crate::printing::{refuse, refuse_as, refuse_memory, refuse_words, show};
 use hex::FromHexError;
 use kd_commands::LineFault;
 use kd_event::Ports;
+use kd_print::replay_status;
 use kd_replay::{ServeFault, Sink, Source};
 use kd_server::Rules;
-use kd_tools::replay_status;
 use kd_why::{why_line, why_text};
 use std::alloc::Global;
 

@@ -5,8 +5,8 @@ ghost use Rattle.kd_program.specs.Streams.{streams};
 use crate::ends::Ends;
 use crate::printing::refuse_as;
 use kd_events::{Filter, events_with};
+use kd_print::replay_status;
 use kd_replay::{Sink, Source};
-use kd_tools::replay_status;
 use kd_wire::Bytes;
 use std::alloc::Global;
 

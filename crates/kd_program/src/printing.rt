@@ -1,14 +1,14 @@
 ghost use Rattle.std.specs.Prelude.{◌≡◌, ◌++◌, ℕ, IfOk, List, codes, string_bytes};
 ghost use Rattle.std.specs.Fmt.{decimal};
-ghost use Rattle.kd_tools.specs.Show.{line_feed};
+ghost use Rattle.kd_print.specs.Show.{line_feed};
 ghost use Rattle.kd_program.specs.Streams.{Prints, Puts, ShowsOrBreaks, TellsWith, fault_line, memory_line, streams, written_to};
 ghost use Rattle.kd_commands.specs.Order.{line_fault_number};
-ghost use Rattle.kd_tools.specs.Status.{status_of};
+ghost use Rattle.kd_print.specs.Status.{status_of};
 
 use crate::ends::Ends;
 use kd_commands::LineFault;
+use kd_print::{Printed, exit_status};
 use kd_replay::{Sink, Source, write_all};
-use kd_tools::{Printed, exit_status};
 use std::alloc::{AllocError, Global};
 use std::fmt::Display;
 

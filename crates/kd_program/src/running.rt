@@ -12,8 +12,8 @@ use crate::looking::look;
 use crate::printing::{print, refuse_memory, refuse_words, show};
 use crate::serving::{Service, Work, start_server};
 use kd_commands::{Files, Order, order};
+use kd_print::answer;
 use kd_replay::{Sink, Source};
-use kd_tools::answer;
 use std::alloc::Global;
 
 /// Carries out the arguments after the program's name, and returns the exit status. Each refusal

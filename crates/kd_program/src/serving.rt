@@ -1,6 +1,6 @@
 ghost use Rattle.std.specs.Prelude.{◌≡◌, ◌<◌, IfOk, false, is_some, option_map, string_bytes};
 ghost use Rattle.std.specs.Option.{option_copied};
-ghost use Rattle.kd_tools.specs.Status.{status_of};
+ghost use Rattle.kd_print.specs.Status.{status_of};
 ghost use Rattle.kd_io.specs.Faults.{start_fault_number};
 ghost use Rattle.kd_keeps.specs.Fault.{store_fault_number};
 ghost use Rattle.kd_keeps.specs.Reading.{AreRead};
@@ -19,9 +19,9 @@ use kd_config::Config;
 use kd_event::Ports;
 use kd_io::StartFault;
 use kd_keeps::{Keeps, Opened, StoreFault};
+use kd_print::{replay_status, serve_status};
 use kd_replay::{EndFailed, Limits, Link, LoopFault, Sink, Source};
 use kd_server::{Server, replay, serve};
-use kd_tools::{replay_status, serve_status};
 use std::alloc::{AllocError, Global};
 
 /// How datagrams of a socket are served.

@@ -1,0 +1,610 @@
+// Datagrams that are served as they arrive: over a socket, and over links that fail.
+ghost use Rattle.std.specs.Prelude.{◌≡◌, ◌<◌, ◌≤◌, IfOk, IfSome, false, length};
+
+use crate::doubles::Keeping;
+use crate::support::{COOKIE, Work, with_server, with_server_of};
+use kd_config::Config;
+use kd_event::{Destination, Event, Ports};
+use kd_io::{Sending, Socket};
+use kd_replay::{
+    EndFailed, Happening, Limits, Link, LoopFault, ServeFault, ServedBytes, replay_bytes,
+    serve_bytes,
+};
+use kd_server::{Server, serve};
+use kd_wire::Bytes;
+use std::alloc::{AllocError, Global};
+use std::fmt::Write;
+use std::net::{SocketAddr, UdpSocket};
+use std::test::Fail;
+use std::time::Duration;
+use test_tables::Fused;
+
+// Replies go to their senders.
+const MIRRORED: Sending = Sending {
+    mirror: true,
+    broadcast_as: None,
+};
+
+// The ports of a server.
+const PORTS: Ports = Ports {
+    server: 67,
+    client: 68,
+};
+
+// Limits to `count` datagrams in batches of at most `most`, whatever the clock says.
+fn limits(most: usize, count: u64) -> Limits
+    ensures { result.most ≡ most }
+{
+    Limits {
+        most,
+        count,
+        max_ahead: None,
+    }
+}
+
+// Makes the DISCOVER of the client 0a00000000 with this last byte.
+fn discover(alloc: Global, client: u8) -> Result<Vec<u8>, AllocError> {
+    let mut bytes = Vec::from_slice(alloc, &[1, 1, 6, 0, 0, 0, 0, 1])?;
+    bytes.resize(28, 0)?;
+    bytes.extend_from_slice(&[10, 0, 0, 0, 0, client])?;
+    bytes.resize(236, 0)?;
+    bytes.extend_from_slice(&COOKIE)?;
+    bytes.extend_from_slice(b"\x35\x01\x01\xff")?;
+    Ok(bytes)
+}
+
+// Returns the line of a reply that offers the first address of the pool, if these bytes are one.
+fn offer_line(alloc: Global, reply: &[u8]) -> Result<String, Fail> {
+    let is_offer = reply.len() == 300
+        && reply[0] == 2
+        && reply[16..20] == [192, 0, 2, 10]
+        && reply[240..243] == [53, 1, 2];
+    if !is_offer {
+        return Err("no OFFER of 192.0.2.10".into());
+    }
+    let text = hex::encode(alloc, reply)?;
+    Ok(format!(in alloc; "100 reply hardware 192.0.2.10:68 {text}\n")?)
+}
+
+// Opens a socket on a free port of loopback that waits ten seconds for a datagram.
+fn bound(rt: &HostRuntime) -> Result<(UdpSocket, SocketAddr), Fail> {
+    let socket = UdpSocket::bind(rt, ("127.0.0.1", 0))?;
+    socket.set_read_timeout(Some(Duration::from_secs(10)))?;
+    let address = socket.local_addr()?;
+    Ok((socket, address))
+}
+
+// Reports whether these lines are for this OFFER and for a datagram that is not a message, at times
+// of the clock, which have ten digits.
+fn tells_both(alloc: Global, reply: &[u8], written: &[u8]) -> Result<bool, Fail> {
+    let offer = offer_line(alloc, reply)?;
+    match (written.get(10..), offer.as_bytes().get(3..)) {
+        (Some(told), Some(line)) => {
+            Ok(told.starts_with(line) && told.ends_with(b" quiet 1 Unreadable\n"))
+        }
+        _ => Ok(false),
+    }
+}
+
+// Serves two datagrams of a socket, and finds what that writes.
+#[derive(Drop)]
+struct Two<'a> {
+    rt: &'a HostRuntime,
+    socket: UdpSocket,
+}
+
+impl<'a> Work for Two<'a> {
+    type Found = Keeping;
+
+    fn done(self, alloc: Global, server: &mut Server<Fused>) -> Result<Keeping, Fail> {
+        let Two { rt, socket } = self;
+        let mut link = Socket::over(rt, socket, MIRRORED);
+        let mut sink = Keeping::new(alloc, 7, usize::MAX);
+        match served_by(&mut link, &mut sink, server, alloc, limits(1, 2)) {
+            Ok(()) => Ok(sink),
+            Err(fault) => Err(fault.into()),
+        }
+    }
+}
+
+// Reports whether a client's socket has received a reply from this address that these lines are
+// about.
+fn is_told(
+    alloc: Global,
+    client: &UdpSocket,
+    address: SocketAddr,
+    written: &[u8],
+) -> Result<bool, Fail> {
+    let mut reply = [0; 1_500];
+    let (len, sender) = client.recv_from(&mut reply)?;
+    Ok(sender == address && tells_both(alloc, &reply[..len], written)?)
+}
+
+#[test]
+fn two_datagrams_are_served_over_a_socket(rt: HostRuntime) -> Result<(), Fail> {
+    let (socket, address) = bound(&rt)?;
+    let (client, _) = bound(&rt)?;
+    send(rt.alloc(), &client, address)?;
+    let work = Two { rt: &rt, socket };
+    let sink = with_server(rt.alloc(), PORTS, work)?;
+    assert!(rt; is_told(rt.alloc(), &client, address, sink.as_slice())?);
+    Ok(())
+}
+
+// Sends a DISCOVER and a datagram that is not a message.
+fn send(alloc: Global, client: &UdpSocket, address: SocketAddr) -> Result<(), Fail> {
+    let bytes = discover(alloc, 1)?;
+    client.send_to(bytes.as_slice(), address)?;
+    client.send_to(&[0], address)?;
+    Ok(())
+}
+
+// A link that delivers a DISCOVER a number of times and then fails, and keeps the last reply; none
+// is sent if it loses them. Its clock jumps with each datagram, and so does its steady clock.
+#[derive(Drop)]
+struct Wired {
+    discover: Vec<u8>,
+    left: u64,
+    loses: bool,
+    moment: u64,
+    jump: u64,
+    counted: u64,
+    passes: u64,
+    reply: Vec<u8>,
+    failed: bool,
+}
+
+impl Wired {
+    fn new(alloc: Global, left: u64, loses: bool) -> Result<Wired, AllocError>
+        ensures { IfOk result (λ link. link.failed ≡ false) }
+    {
+        Ok(Wired {
+            discover: discover(alloc, 1)?,
+            left,
+            loses,
+            moment: 100,
+            jump: 0,
+            counted: 0,
+            passes: 0,
+            reply: Vec::new(alloc),
+            failed: false,
+        })
+    }
+
+    // Returns the length of the next datagram.
+    fn next(&mut self, buf: &mut [u8]) -> Option<usize>
+        ensures count { IfSome result (λ n. n ≤ length buf.new) }
+        ensures failed { self.new.failed ≡ self.old.failed }
+    {
+        let len = self.discover.len();
+        if self.left == 0 || len > buf.len() {
+            return None;
+        }
+        self.left -= 1;
+        self.moment = self.moment.saturating_add(self.jump);
+        self.counted = self.counted.saturating_add(self.passes);
+        buf[..len].copy_from_slice(self.discover.as_slice());
+        Some(len)
+    }
+}
+
+impl Link for Wired {
+    ghost use Rattle.std.specs.Prelude.{None};
+
+    ghost trace = { λ _. None };
+
+    ghost has_failed = { λ link. link.failed };
+
+    #[tactic(auto, using(kd_replay::proofs::Coming::came_unknown))]
+    fn receive(&mut self, buf: &mut [u8]) -> Result<usize, EndFailed> {
+        match self.next(buf) {
+            Some(len) => Ok(len),
+            None => {
+                self.failed = true;
+                Err(EndFailed)
+            }
+        }
+    }
+
+    #[tactic(auto, using(kd_replay::proofs::Coming::came_unknown))]
+    fn receive_waiting(&mut self, buf: &mut [u8]) -> Option<usize> {
+        self.next(buf)
+    }
+
+    fn now(&mut self) -> u64 {
+        self.moment
+    }
+
+    fn steady(&mut self) -> u64 {
+        self.counted
+    }
+
+    fn send(&mut self, bytes: &[u8], _to: Destination) -> Result<(), EndFailed> {
+        self.reply.clear();
+        match self.reply.extend_from_slice(bytes) {
+            Ok(()) if !self.loses => Ok(()),
+            _ => Err(EndFailed),
+        }
+    }
+}
+
+// Returns how serving `count` datagrams in batches of at most `most` ends, without a record.
+fn served_by<L: Link>(
+    link: &mut L,
+    sink: &mut Keeping,
+    server: &mut Server<Fused>,
+    alloc: Global,
+    limits: Limits,
+) -> Result<(), LoopFault>
+    requires link { L.has_failed link.old ≡ false }
+    requires sink { sink.old.failed ≡ false }
+    requires some { 0 < limits.most }
+{
+    serve(alloc, link, &mut None::<Keeping>, sink, server, limits)
+}
+
+// Serves three datagrams when two arrive, and finds how that ends, what was written up to `until`
+// bytes, and the last reply.
+#[derive(Drop)]
+struct Three {
+    loses: bool,
+    until: usize,
+}
+
+impl Work for Three {
+    type Found = (Result<(), LoopFault>, Keeping, Vec<u8>);
+
+    fn done(
+        self,
+        alloc: Global,
+        server: &mut Server<Fused>,
+    ) -> Result<(Result<(), LoopFault>, Keeping, Vec<u8>), Fail> {
+        let Three { loses, until } = self;
+        let mut link = Wired::new(alloc, 2, loses)?;
+        let mut sink = Keeping::new(alloc, usize::MAX, until);
+        let result = served_by(&mut link, &mut sink, server, alloc, limits(2, 3));
+        let Wired { reply, .. } = link;
+        Ok((result, sink, reply))
+    }
+}
+
+#[test]
+fn serving_ends_where_nothing_is_received_and_tells_of_lost_replies(
+    rt: HostRuntime,
+) -> Result<(), Fail> {
+    let alloc = rt.alloc();
+    let (loses, until) = (true, usize::MAX);
+    let (result, sink, reply) = with_server(alloc, PORTS, Three { loses, until })?;
+    assert!(rt; result == Err(LoopFault::Read));
+    let line = offer_line(alloc, reply.as_slice())?;
+    let wanted = format!(in alloc; "{line}fault 99 Send\n{line}fault 99 Send\n")?;
+    assert!(rt; sink.as_slice() == wanted.as_bytes());
+    Ok(())
+}
+
+#[test]
+fn serving_ends_where_a_line_is_not_written(rt: HostRuntime) -> Result<(), Fail> {
+    let alloc = rt.alloc();
+    let (loses, until) = (false, 700);
+    let (result, sink, reply) = with_server(alloc, PORTS, Three { loses, until })?;
+    assert!(rt; result == Err(LoopFault::Write));
+    let line = offer_line(alloc, reply.as_slice())?;
+    let wanted = format!(in alloc; "{line}{line}")?;
+    let written = sink.as_slice();
+    assert!(rt; written.len() == 700 && wanted.as_bytes().starts_with(written));
+    Ok(())
+}
+
+// A pool of 190 addresses.
+const WIDE: &[u8] =
+    b"{\"Dhcp4\":{\"server-address\":\"192.0.2.1\",\"valid-lifetime\":3600,\"subnet4\":[\
+    {\"subnet\":\"192.0.2.0/24\",\"pools\":[{\"pool\":\"192.0.2.10 - 192.0.2.199\"}]}]}}";
+
+// Makes a socket at which the DISCOVERs of `clients` clients are waiting.
+fn crowded(rt: &HostRuntime, clients: u8) -> Result<UdpSocket, Fail> {
+    let (socket, address) = bound(rt)?;
+    let (client, _) = bound(rt)?;
+    for number in 0..clients {
+        client.send_to(discover(rt.alloc(), number)?.as_slice(), address)?;
+    }
+    Ok(socket)
+}
+
+// Returns the number of lines.
+fn lines_of(text: &[u8]) -> usize {
+    let mut lines = 0usize;
+    for byte in text {
+        if *byte == b'\n' {
+            lines = lines.saturating_add(1);
+        }
+    }
+    lines
+}
+
+// Serves `count` datagrams of a socket, up to 32 in a batch, and finds how that ends and how many
+// lines are written.
+#[derive(Drop)]
+struct Crowd<'a> {
+    rt: &'a HostRuntime,
+    socket: UdpSocket,
+    count: u64,
+}
+
+impl<'a> Work for Crowd<'a> {
+    type Found = (Result<(), LoopFault>, usize);
+
+    fn done(
+        self,
+        alloc: Global,
+        server: &mut Server<Fused>,
+    ) -> Result<(Result<(), LoopFault>, usize), Fail> {
+        let Crowd { rt, socket, count } = self;
+        let mut link = Socket::over(rt, socket, MIRRORED);
+        let mut sink = Keeping::new(alloc, usize::MAX, usize::MAX);
+        let served = served_by(&mut link, &mut sink, server, alloc, limits(32, count));
+        Ok((served, lines_of(sink.as_slice())))
+    }
+}
+
+// Does the same with the DISCOVERs of `clients` clients waiting, over a store on which `calls`
+// calls succeed.
+fn waited(
+    rt: &HostRuntime,
+    clients: u8,
+    calls: u64,
+) -> Result<(Result<(), LoopFault>, usize), Fail> {
+    let work = Crowd {
+        rt,
+        socket: crowded(rt, clients)?,
+        count: u64::from(clients),
+    };
+    let config = Config::read(rt.alloc(), WIDE, &[])?;
+    with_server_of(rt.alloc(), config, PORTS, calls, work)
+}
+
+// How many clients wait, how many commits there are, and how many lines if the last commit fails.
+const WAITING: [(u8, u64, usize); 5] = [(1, 1, 0), (2, 1, 0), (31, 1, 0), (32, 1, 0), (33, 2, 32)];
+
+// Waiting datagrams are handled with one commit, at most 32 of them. Opening the store takes one
+// call, and each commit takes one.
+#[test]
+fn datagrams_that_wait_share_a_commit(rt: HostRuntime) -> Result<(), Fail> {
+    for (clients, commits, before) in WAITING {
+        let (served, lines) = waited(&rt, clients, commits.saturating_add(1))?;
+        assert!(rt;
+            served == Ok(()) && lines == usize::from(clients),
+            "{clients}: {lines} lines"
+        );
+        let (served, lines) = waited(&rt, clients, commits)?;
+        let is_stopped = matches!(served, Err(LoopFault::Serve(ServeFault::Store(_))));
+        assert!(rt;
+            is_stopped && lines == before,
+            "{clients}: {lines} lines before the stop"
+        );
+    }
+    Ok(())
+}
+
+// Makes the DISCOVER of a client at a time.
+fn discovered(alloc: Global, moment: u64, client: u8) -> Result<Event, AllocError> {
+    Ok(Event {
+        moment,
+        bytes: Bytes::own(discover(alloc, client)?),
+    })
+}
+
+// Returns the last byte of a reply's yiaddr.
+fn last_of_yiaddr(reply: &[u8]) -> u8 {
+    match reply.get(19) {
+        Some(byte) => *byte,
+        None => 0,
+    }
+}
+
+// Returns what happened, one line each: a datagram that was waited for or was waiting, with its
+// length; what the clock said; and a reply with the last byte of its yiaddr.
+fn told(alloc: Global, log: &[Happening]) -> Result<String, AllocError> {
+    let mut text = String::new(alloc);
+    for happening in log {
+        match happening {
+            Happening::Came(true, bytes) => {
+                write!(text, "waited for {}\n", bytes.as_slice().len())?
+            }
+            Happening::Came(false, bytes) => write!(text, "waits {}\n", bytes.as_slice().len())?,
+            Happening::Said(moment) => write!(text, "said {moment}\n")?,
+            Happening::Passed(seconds) => write!(text, "passed {seconds}\n")?,
+            Happening::Went(packet) => write!(
+                text,
+                "went {}\n",
+                last_of_yiaddr(packet.bytes.as_slice())
+            )?,
+        }
+    }
+    Ok(text)
+}
+
+// Makes three events: two DISCOVERs, and between them a datagram that cannot be read as a message.
+fn input(alloc: Global) -> Result<Vec<Event>, AllocError> {
+    let mut events = Vec::with_capacity(alloc, 3)?;
+    events.push(discovered(alloc, 100, 1)?)?;
+    events.push(unreadable(alloc)?)?;
+    events.push(discovered(alloc, 300, 2)?)?;
+    Ok(events)
+}
+
+// Makes a datagram of one byte at time 110.
+fn unreadable(alloc: Global) -> Result<Event, AllocError> {
+    let bytes = Vec::from_slice(alloc, &[0x0a])?;
+    Ok(Event {
+        moment: 110,
+        bytes: Bytes::own(bytes),
+    })
+}
+
+// Serves them, with one waiting after each that is waited for, and finds what that leaves.
+#[derive(Drop)]
+struct Served;
+
+impl Work for Served {
+    type Found = ServedBytes;
+
+    fn done(self, alloc: Global, server: &mut Server<Fused>) -> Result<ServedBytes, Fail> {
+        let events = input(alloc)?;
+        match serve_bytes(alloc, &events, 1, server, 32) {
+            Some(served) => Ok(served),
+            None => Err(AllocError.into()),
+        }
+    }
+}
+
+// Returns the record of them.
+fn record(alloc: Global) -> Result<String, AllocError> {
+    let first = hex::encode(alloc, discover(alloc, 1)?.as_slice())?;
+    let last = hex::encode(alloc, discover(alloc, 2)?.as_slice())?;
+    format!(in alloc; "100 {first}\n110 0a\n300 {last}\n")
+}
+
+// There are two batches, of two events and of one. Both clocks are read at the start and after each
+// batch, and the clock also after each datagram; the record has all datagrams; and the replies of a
+// batch are sent after its last datagram.
+#[test]
+fn what_happens_is_told_in_its_order(rt: HostRuntime) -> Result<(), Fail> {
+    let served = with_server(rt.alloc(), PORTS, Served)?;
+    assert!(rt; served.end == Ok(()));
+    let wanted = "said 0\npassed 0\n\
+        waited for 244\nsaid 100\nwaits 1\nsaid 110\nsaid 110\npassed 110\nwent 10\n\
+        waited for 244\nsaid 300\nsaid 300\npassed 300\nwent 11\n";
+    assert!(rt; told(rt.alloc(), served.log.as_slice())?.as_str() == wanted);
+    assert!(rt; served.journal.as_slice() == record(rt.alloc())?.as_bytes());
+    Ok(())
+}
+
+// Finds whether a record of three events replays to these lines.
+#[derive(Drop)]
+struct Replays<'a> {
+    journal: &'a [u8],
+    lines: &'a [u8],
+}
+
+impl<'a> Work for Replays<'a> {
+    type Found = bool;
+
+    fn done(self, alloc: Global, server: &mut Server<Fused>) -> Result<bool, Fail> {
+        let (lines, done) = replay_bytes(alloc, self.journal, server);
+        Ok(done == Ok(3) && lines.as_slice() == self.lines)
+    }
+}
+
+// The record replays to the lines that were written.
+#[test]
+fn what_is_recorded_replays_to_what_was_written(rt: HostRuntime) -> Result<(), Fail> {
+    let served = with_server(rt.alloc(), PORTS, Served)?;
+    let lines = served.lines.as_slice();
+    assert!(rt; lines.starts_with(b"100 reply hardware 192.0.2.10:68 02"));
+    let journal = served.journal.as_slice();
+    assert!(rt; with_server(rt.alloc(), PORTS, Replays { journal, lines })?);
+    Ok(())
+}
+
+// Returns how serving one datagram ends over a server whose clock may run 50 seconds ahead. The
+// clock says `moment` at the start, and `jump` seconds more once the datagram has arrived; the
+// steady clock has counted `passes` by then.
+fn ended(
+    alloc: Global,
+    server: &mut Server<Fused>,
+    moment: u64,
+    jump: u64,
+    passes: u64,
+) -> Result<Result<(), LoopFault>, AllocError> {
+    let mut link = Wired::new(alloc, 1, false)?;
+    link.moment = moment;
+    link.jump = jump;
+    link.passes = passes;
+    let limits = Limits {
+        most: 1,
+        count: 1,
+        max_ahead: Some(50),
+    };
+    let mut sink = Keeping::new(alloc, usize::MAX, usize::MAX);
+    Ok(served_by(&mut link, &mut sink, server, alloc, limits))
+}
+
+// The time at the start, the seconds by which the clock jumps, those that the steady clock counts,
+// and whether that is ahead, without leases.
+const JUMPS: [(u64, u64, u64, bool); 8] = [
+    (1_000, 50, 0, false),
+    (1_000, 51, 0, true),
+    (1_000, 51, 1, false),
+    (1_000, 52, 1, true),
+    (1_000, 100_000, 100_000, false),
+    (1_000, 0, 9, false),
+    (0, 50, 0, false),
+    (0, 51, 0, true),
+];
+
+// Reports whether serving ends because the clock is ahead, or well, as expected.
+fn is_end(end: &Result<(), LoopFault>, is_ahead: bool) -> bool {
+    match end {
+        Ok(()) => !is_ahead,
+        Err(fault) => is_ahead && *fault == LoopFault::Ahead,
+    }
+}
+
+// Finds whether serving without leases ends this way.
+#[derive(Drop)]
+struct Jumps((u64, u64, u64, bool));
+
+impl Work for Jumps {
+    type Found = bool;
+
+    fn done(self, alloc: Global, server: &mut Server<Fused>) -> Result<bool, Fail> {
+        let (moment, jump, passes, is_ahead) = self.0;
+        let end = ended(alloc, server, moment, jump, passes)?;
+        Ok(is_end(&end, is_ahead))
+    }
+}
+
+#[test]
+fn serving_ends_where_the_clock_jumps_ahead(rt: HostRuntime) -> Result<(), Fail> {
+    for row in JUMPS {
+        let is_so = with_server(rt.alloc(), PORTS, Jumps(row))?;
+        assert!(rt; is_so, "{} {} {}", row.0, row.1, row.2);
+    }
+    Ok(())
+}
+
+// The same with an offer that was made at time 1,000: the clock may be 50 seconds behind it at the
+// start; if the clock was set back, it is not ahead until it is more than 50 seconds after the
+// offer.
+const SETS_BACK: [(u64, u64, u64, bool); 6] = [
+    (949, 0, 0, true),
+    (950, 0, 0, false),
+    (960, 90, 0, false),
+    (960, 91, 0, true),
+    (960, 91, 41, false),
+    (960, 50, 0, false),
+];
+
+// Finds whether serving with that offer ends this way.
+#[derive(Drop)]
+struct SetsBack((u64, u64, u64, bool));
+
+impl Work for SetsBack {
+    type Found = bool;
+
+    fn done(self, alloc: Global, server: &mut Server<Fused>) -> Result<bool, Fail> {
+        let (moment, jump, passes, is_ahead) = self.0;
+        let first = ended(alloc, server, 1_000, 0, 0)?;
+        let end = ended(alloc, server, moment, jump, passes)?;
+        Ok(first == Ok(()) && is_end(&end, is_ahead))
+    }
+}
+
+#[test]
+fn the_clock_is_measured_at_the_latest_change(rt: HostRuntime) -> Result<(), Fail> {
+    for row in SETS_BACK {
+        let is_so = with_server(rt.alloc(), PORTS, SetsBack(row))?;
+        assert!(rt; is_so, "{} {} {}", row.0, row.1, row.2);
+    }
+    Ok(())
+}

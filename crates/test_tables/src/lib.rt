@@ -1,0 +1,21 @@
+//! Tests of the table of leases by values: what is found in it, by address and by client, and what
+//! it contains after a refused memory request; and a store in memory that fails on demand
+//! (`Fused`), for tests of what is built on a store.
+//!
+//! They are a separate crate because a crate is proved again together with its tests, and are
+//! separate from `test_texts` because they need only the table's crates.
+#![tactic(auto)]
+
+#[cfg(test)]
+mod ages;
+mod fused;
+#[cfg(test)]
+mod rows;
+#[cfg(test)]
+mod stores;
+#[cfg(test)]
+mod tiers;
+#[cfg(test)]
+mod withheld;
+
+pub use fused::Fused;

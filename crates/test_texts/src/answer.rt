@@ -1,0 +1,211 @@
+use crate::support::{DISCOVER, datagram};
+use kd_commands::{Order, order};
+use kd_print::{Printed, answer, exit_status};
+use std::alloc::{AllocError, Global};
+use std::test::Fail;
+
+// Makes the arguments of a command line.
+fn owned(alloc: Global, words: &[&str]) -> Result<Vec<String>, AllocError> {
+    let mut owned = Vec::new(alloc);
+    for word in words {
+        owned.push(String::from_str(alloc, word)?)?;
+    }
+    Ok(owned)
+}
+
+// The faults that no case covers: those of the store, of memory and of the output, and those inside
+// Serve.
+#[test]
+fn each_fault_has_its_exit_status(rt: HostRuntime) {
+    for (number, status) in [
+        (80, 4),
+        (81, 4),
+        (89, 3),
+        (90, 3),
+        (91, 1),
+        (92, 4),
+        (93, 4),
+        (95, 1),
+        (96, 3),
+        (99, 3),
+        (100, 1),
+        (101, 4),
+    ] {
+        assert!(rt; exit_status(number) == status, "{number}");
+    }
+}
+
+// Returns what is printed for these arguments.
+fn printed(alloc: Global, words: &[String]) -> Result<Printed, AllocError> {
+    match order(alloc, words) {
+        Ok(
+            Order::Replay { .. }
+            | Order::List { .. }
+            | Order::Look { .. }
+            | Order::Why { .. }
+            | Order::Import { .. }
+            | Order::Events { .. }
+            | Order::Check { .. }
+            | Order::Version
+            | Order::Serve { .. },
+        )
+        | Err(_) => { Err(AllocError) }
+        Ok(order) => answer(alloc, &order),
+    }
+}
+
+fn prints(printed: &Printed, out: &str, fault: &str) -> bool {
+    printed.out.as_slice() == out.as_bytes()
+        && printed.fault.as_slice() == fault.as_bytes()
+        && printed.status == if fault.is_empty() { 0 } else { 3 }
+}
+
+const SHOWN: &str =
+    "len 250\nop 1 htype 1 hlen 6 hops 0 xid 00000001 secs 0 flags 0000\nciaddr 0.0.0.0 yiaddr 0.0.0.0 siaddr 0.0.0.0 giaddr 0.0.0.0\nmac 0a0000000001\ntype 1\noption 53 01\noption 60 6b6461\n";
+
+// Arguments, and what they print: the line on standard output, and the fault line.
+const PRINTED: [(&[&str], &str, &str); 9] = [
+    (
+        &["expr", "not option[host-name].exists and 'a' + 'b' == 0x1"],
+        "bool 8\n",
+        "",
+    ),
+    (&["expr", "concat('a','b')"], "", "fault 26 WantsBool 0\n"),
+    (
+        &["expr", "concat('a','b') == $"],
+        "",
+        "fault 20 BadToken 19\n",
+    ),
+    (
+        &["compile", "option[60].hex == 'a'"],
+        "4b34544b010003021000000003033c0100016109\n",
+        "",
+    ),
+    (&["compile", "option[60].hex"], "", "fault 26 WantsBool 0\n"),
+    (
+        &[
+            "compile",
+            "hexstring(option[43].hex, option[60].hex) == 'x'",
+        ],
+        "",
+        "fault 53 TooLong\n",
+    ),
+    (
+        &["verify", "4b34544b010003021000000003033c0100016109"],
+        "accepted steps 3 depth 2 length 4096 tokens 3\n",
+        "",
+    ),
+    (
+        &["verify", "4b34544b010002010000000002063c0b"],
+        "",
+        "fault 40 Short 1\n",
+    ),
+    (
+        &["verify", "4b34544b010001010000000001063c00"],
+        "",
+        "fault 35 Rest 15\n",
+    ),
+];
+
+// The arguments of `eval` without the datagram, of vendor class `kd`, and the line that they print.
+const RUN: [(&[&str], &str); 2] = [
+    (
+        &["eval", "4b34544b010005022fff000005033c0100013a100100017809"],
+        "false steps 5 depth 2 length 5\n",
+    ),
+    (
+        &["eval", "--text", "hexstring(option[60].hex,':') == '6b:64'"],
+        "true steps 5 depth 2 length 5\n",
+    ),
+];
+
+// The same for a datagram without a type, and the fault line.
+const REFUSED: [(&[&str], &str); 4] = [
+    (
+        &["eval", "4b34544b010001010000000001063c"],
+        "fault 6 NoType\n",
+    ),
+    (
+        &["eval", "4b34544b010002010000000002063c0b"],
+        "fault 40 Short 1\n",
+    ),
+    (&["eval", "--text", "'a' == 'a'"], "fault 6 NoType\n"),
+    (
+        &["eval", "--text", "option[60].hex"],
+        "fault 26 WantsBool 0\n",
+    ),
+];
+
+// Reports whether arguments print this, or out of memory at the first call but not at the second.
+fn print_again(
+    alloc: Global,
+    words: &[String],
+    out: &str,
+    fault: &str,
+) -> Result<bool, AllocError> {
+    if let Ok(first) = printed(alloc, words) {
+        if !prints(&first, out, fault) {
+            return Ok(false);
+        }
+    }
+    Ok(prints(&printed(alloc, words)?, out, fault))
+}
+
+// Does the same for arguments that are not owned.
+fn prints_again(alloc: Global, words: &[&str], out: &str, fault: &str) -> Result<bool, AllocError> {
+    print_again(alloc, &owned(alloc, words)?, out, fault)
+}
+
+// Does the same for arguments followed by a datagram with these options.
+fn prints_with(
+    alloc: Global,
+    words: &[&str],
+    options: &[u8],
+    out: &str,
+    fault: &str,
+) -> Result<bool, AllocError> {
+    let mut all = owned(alloc, words)?;
+    all.push(hex::encode(alloc, datagram(alloc, options)?)?)?;
+    print_again(alloc, &all, out, fault)
+}
+
+// Reports whether each row of `PRINTED` is printed as expected.
+fn print_rows(alloc: Global) -> Result<bool, AllocError> {
+    for (words, out, fault) in &PRINTED {
+        if !prints_again(alloc, words, out, fault)? {
+            return Ok(false);
+        }
+    }
+    Ok(true)
+}
+
+// Does the same for `RUN`.
+fn run_rows(alloc: Global) -> Result<bool, AllocError> {
+    for (words, out) in &RUN {
+        if !prints_with(alloc, words, DISCOVER, out, "")? {
+            return Ok(false);
+        }
+    }
+    Ok(true)
+}
+
+// Does the same for `REFUSED`.
+fn refuse_rows(alloc: Global) -> Result<bool, AllocError> {
+    for (words, fault) in &REFUSED {
+        if !prints_with(alloc, words, b"\x3c\x01a\xff", "", fault)? {
+            return Ok(false);
+        }
+    }
+    Ok(true)
+}
+
+// If an allocation is refused, the call reports it, and the same call repeated gives the lines.
+#[test]
+fn want_of_memory_is_answered_as_such(rt: HostRuntime) -> Result<(), Fail> {
+    let joined = b"\x35\x01\x01\x3c\x02kd\x3c\x01a";
+    assert!(rt; prints_with(rt.alloc(), &["show"], joined, SHOWN, "")?);
+    assert!(rt; print_rows(rt.alloc())?);
+    assert!(rt; run_rows(rt.alloc())?);
+    assert!(rt; refuse_rows(rt.alloc())?);
+    Ok(())
+}
