@@ -5,7 +5,7 @@ use crate::files::Files;
 use crate::host::Room;
 use crate::stores::Stores;
 use kd_io::{Input, Output};
-use kd_program::{Ends, run};
+use kd_program::{StandardEnds, run};
 use std::alloc::{AllocError, Global};
 use std::io;
 
@@ -21,7 +21,7 @@ pub fn written(
     let mut out = Vec::new(alloc);
     let mut fault = Vec::new(alloc);
     let mut record = Vec::new(alloc);
-    let mut ends = Ends {
+    let mut ends = StandardEnds {
         input: Input::over(input.as_bytes()),
         output: Output::over(&mut out),
         faults: Output::over(&mut fault),

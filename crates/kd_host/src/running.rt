@@ -9,7 +9,7 @@ use crate::machine::{Below, Machine};
 use kd_commands::LineFault;
 use kd_io::{Input, Output, Socket, inherited};
 use kd_keeps::{Keeps, Volatile};
-use kd_program::{Ends, Host, refuse_words, run};
+use kd_program::{Host, StandardEnds, refuse_words, run};
 use kd_replay::{Link, Sink, Source};
 use kd_store::Store;
 use sqlite::{FileFrom, Start};
@@ -23,7 +23,7 @@ use std::io;
 pub fn run_on<'a, F: Start, R: Source, O: Sink, E: Sink>(
     machine: &mut Machine<'a, F, Below<F>>,
     words: &[String],
-    ends: &mut Ends<R, O, E>,
+    ends: &mut StandardEnds<R, O, E>,
 ) -> u8
     requires input { R.has_failed ends.old.input ≡ false }
     requires output { O.has_failed ends.old.output ≡ false }
@@ -57,7 +57,7 @@ pub fn carry_out<'a, F: Start>(
 {
     let handed = inherited(rt);
     let stderr = rt.stderr();
-    let mut ends = Ends {
+    let mut ends = StandardEnds {
         input: Input::over(rt.reader()),
         output: Output::over(io::writer(rt)),
         faults: Output::over(io::writer(&stderr)),

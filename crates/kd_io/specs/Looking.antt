@@ -4,49 +4,49 @@
 -- stayed the same (SQLite's file format, section 4).
 use Rattle.std.specs.Prelude.{◌≡◌, ◌≢◌, ℕ, suc, zero, List, [], ◌∷◌, ◌++◌, Option, Some, None}
 use Rattle.kd_io.specs.declared.look.Copied.{Copied}
-use Rattle.kd_io.specs.declared.look.Part.{Part}
-use Rattle.kd_io.specs.declared.look.Part.TheVariants.{Header, Database, Log}
+use Rattle.kd_io.specs.declared.look.FilePart.{FilePart}
+use Rattle.kd_io.specs.declared.look.FilePart.TheVariants.{Header, Database, Log}
 
 -- how many times a copy is tried
 abbrev pub most_tries : ℕ
 most_tries = 100
 
 -- if it is known what was read, it is still known, with these parts added
-abbrev pub AreReadAs : List Part → Option (List Part) → Option (List Part) → Type 0
-AreReadAs more old new = (parts : List Part) → old ≡ Some parts → new ≡ Some (parts ++ more)
+abbrev pub AreReadAs : List FilePart → Option (List FilePart) → Option (List FilePart) → Type 0
+AreReadAs more old new = (parts : List FilePart) → old ≡ Some parts → new ≡ Some (parts ++ more)
 
 -- the same with one part
-abbrev pub IsReadAs : Part → Option (List Part) → Option (List Part) → Type 0
+abbrev pub IsReadAs : FilePart → Option (List FilePart) → Option (List FilePart) → Type 0
 IsReadAs part = AreReadAs (part ∷ [])
 
 -- one try: the header of the log, the database, the log, and the header again
-abbrev pub one_try : List ℕ → List ℕ → List ℕ → List ℕ → List Part
+abbrev pub one_try : List ℕ → List ℕ → List ℕ → List ℕ → List FilePart
 one_try before db log after = Header before ∷ Database db ∷ Log log ∷ Header after ∷ []
 
 -- the parts of n tries, at each of which the header changed
-abbrev pub AreChanged : ℕ → List Part → Type 0
+abbrev pub AreChanged : ℕ → List FilePart → Type 0
 AreChanged zero parts = parts ≡ []
 AreChanged (suc n) parts =
-    (earlier : List Part) × (before db log after : List ℕ) × AreChanged n earlier × (before ≢ after)
+    (earlier : List FilePart) × (before db log after : List ℕ) × AreChanged n earlier × (before ≢ after)
     × (parts ≡ earlier ++ one_try before db log after)
 
 -- a log and a database were read at a try at which the header stayed the same, after others at
 -- which it changed
-pub record IsSettledCopy (log db : List ℕ) (old new : Option (List Part)) : Type 0 where
+pub record IsSettledCopy (log db : List ℕ) (old new : Option (List FilePart)) : Type 0 where
   pub tries : ℕ
-  pub parts : List Part
+  pub parts : List FilePart
   pub changed : AreChanged tries parts
   pub header : List ℕ
   pub read : AreReadAs (parts ++ one_try header db log header) old new
 
 -- the header changed at each of this many tries
-pub record IsUnsettled (tries : ℕ) (old new : Option (List Part)) : Type 0 where
-  pub parts : List Part
+pub record IsUnsettled (tries : ℕ) (old new : Option (List FilePart)) : Type 0 where
+  pub parts : List FilePart
   pub changed : AreChanged tries parts
   pub read : AreReadAs parts old new
 
 -- one try, by whether it gives a copy
-abbrev pub IsTry : Option Copied → Option (List Part) → Option (List Part) → Type 0
+abbrev pub IsTry : Option Copied → Option (List FilePart) → Option (List FilePart) → Type 0
 IsTry (Some copy) old new =
     (header : List ℕ) × AreReadAs (one_try header copy.db copy.log header) old new
 IsTry None old new =

@@ -23,7 +23,7 @@ pub use activation::inherited;
 pub use appending::journal;
 pub use files::{InputFault, MOST_BYTES, read_file, read_whole, token_files};
 pub use link::{Sending, Socket, seconds_of, target};
-pub use look::{Copied, LookFault, Part, Watched, settled_copy};
+pub use look::{Copied, FilePart, LookFault, Watched, settled_copy};
 pub use source::read_source;
 pub use start::{StartFault, configuration, configured};
 pub use streams::{Input, Output};

@@ -48,7 +48,7 @@ impl From<InputFault> for LookFault {
 
 /// A part of a database and its log that was read.
 #[derive(Drop)]
-pub enum Part {
+pub enum FilePart {
     /// The first 32 bytes of the log, or all of them if it has fewer.
     Header(Bytes),
     /// The whole database.
@@ -61,8 +61,8 @@ pub enum Part {
 pub trait Watched {
     ghost use Rattle.std.specs.Prelude.{IfOk, List, Option};
     ghost use Rattle.kd_io.specs.Looking.{IsReadAs};
-    ghost use Rattle.kd_io.specs.declared.look.Part.{Part as Read};
-    ghost use Rattle.kd_io.specs.declared.look.Part.TheVariants as parts;
+    ghost use Rattle.kd_io.specs.declared.look.FilePart.{FilePart as Read};
+    ghost use Rattle.kd_io.specs.declared.look.FilePart.TheVariants as parts;
 
     /// What was read, in order, if that is known.
     ghost trace: { Self → Option (List Read) };

@@ -8,7 +8,7 @@ use Rattle.kd_print.specs.declared.printed.Printed.{Printed}
 use Rattle.kd_replay.specs.Parts.{WritesPart}
 use Rattle.kd_replay.specs.declared.ends.Sink.{Ghosts as Sinks}
 use Rattle.kd_replay.specs.declared.ends.Source.{Ghosts as Sources}
-use Rattle.kd_program.specs.declared.ends.Ends.{Ends}
+use Rattle.kd_program.specs.declared.ends.StandardEnds.{StandardEnds}
 
 -- a stream: its remaining bytes to read or the bytes written to it, if they are known, and whether
 -- it has failed
@@ -31,7 +31,7 @@ abbrev pub written_to : {W : Type 0} → Sinks W → W → Stream
 written_to g sink = record { bytes = g.contents sink; failed = g.has_failed sink }
 
 -- the three ends of a command as streams
-abbrev pub streams : {R O E : Type 0} → Sources R → Sinks O → Sinks E → Ends R O E → Streams
+abbrev pub streams : {R O E : Type 0} → Sources R → Sinks O → Sinks E → StandardEnds R O E → Streams
 streams r o e ends =
     record {
       input = read_from r ends.input;
@@ -51,7 +51,7 @@ pub record With (S H : Type 0) : Type 0 where
   pub at : At H
 
 -- a host and the three ends of a command as its state
-abbrev pub at_ends : {H R O E : Type 0} → Sources R → Sinks O → Sinks E → H → Ends R O E → At H
+abbrev pub at_ends : {H R O E : Type 0} → Sources R → Sinks O → Sinks E → H → StandardEnds R O E → At H
 at_ends r o e host ends = record { host = host; streams = streams r o e ends }
 
 -- the line of a fault: its number, its name and the operands after that

@@ -3,7 +3,7 @@ ghost use Rattle.kd_program.specs.Checking.{ChecksStart, FindsRows, FindsStore, 
 ghost use Rattle.kd_program.specs.Staging.{finding_number};
 ghost use Rattle.kd_program.specs.Streams.{at_ends};
 
-use crate::ends::Ends;
+use crate::ends::StandardEnds;
 use crate::host::Host;
 use crate::printing::{refuse_memory, show};
 use crate::report::report_of;
@@ -75,7 +75,7 @@ pub(crate) struct Found<'a> {
 pub fn check<H: Host, R: Source, O: Sink, E: Sink>(
     alloc: Global,
     host: &mut H,
-    ends: &mut Ends<R, O, E>,
+    ends: &mut StandardEnds<R, O, E>,
     files: &Files,
     place: Place,
 ) -> u8

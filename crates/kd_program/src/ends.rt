@@ -2,7 +2,7 @@ use kd_replay::{Sink, Source};
 
 /// The standard streams of a command.
 #[derive(Drop)]
-pub struct Ends<R: Source, O: Sink, E: Sink> {
+pub struct StandardEnds<R: Source, O: Sink, E: Sink> {
     /// Standard input.
     pub input: R,
     /// Standard output.

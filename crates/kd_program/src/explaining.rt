@@ -4,8 +4,8 @@ ghost use Rattle.kd_program.specs.Streams.{streams};
 ghost use Rattle.kd_server.specs.Leases.{IsNoList};
 ghost use Rattle.kd_why.specs.Saying.{ExplainsEvent};
 
-use crate::ends::Ends;
-use crate::listing::Table;
+use crate::ends::StandardEnds;
+use crate::listing::LeaseTable;
 use crate::printing::{refuse, refuse_as, refuse_memory, refuse_words, show};
 use hex::FromHexError;
 use kd_commands::LineFault;
@@ -20,9 +20,9 @@ use std::alloc::Global;
 /// returns the exit status.
 pub fn explain_word<R: Source, O: Sink, E: Sink>(
     alloc: Global,
-    ends: &mut Ends<R, O, E>,
+    ends: &mut StandardEnds<R, O, E>,
     word: &str,
-    table: &Table<'_>,
+    table: &LeaseTable<'_>,
     at: u64,
 ) -> u8
     ensures { ExplainsWord word.now table.now.failed table.now.config.now
@@ -39,9 +39,9 @@ pub fn explain_word<R: Source, O: Sink, E: Sink>(
 // Explains a datagram.
 fn explain_datagram<R: Source, O: Sink, E: Sink>(
     alloc: Global,
-    ends: &mut Ends<R, O, E>,
+    ends: &mut StandardEnds<R, O, E>,
     bytes: &[u8],
-    table: &Table<'_>,
+    table: &LeaseTable<'_>,
     at: u64,
 ) -> u8
     ensures { ShowsWhy bytes.now table.now.failed table.now.config.now table.now.rows.now.rows at
@@ -55,7 +55,12 @@ fn explain_datagram<R: Source, O: Sink, E: Sink>(
 }
 
 // Returns the explanation of a datagram over a table.
-fn text_over(alloc: Global, bytes: &[u8], table: &Table<'_>, at: u64) -> Result<Vec<u8>, ServeFault>
+fn text_over(
+    alloc: Global,
+    bytes: &[u8],
+    table: &LeaseTable<'_>,
+    at: u64,
+) -> Result<Vec<u8>, ServeFault>
     ensures text { IfOk result (λ text. ExplainsEvent
         (standard_trial table.now.config.now table.now.rows.now.rows)
         (record { moment = at; bytes = bytes.now }) text.items) }
@@ -82,8 +87,8 @@ const STANDARD: Ports = Ports {
 /// events of the lines before it have changed that copy, and returns the exit status.
 pub fn explain_line<R: Source, O: Sink, E: Sink>(
     alloc: Global,
-    ends: &mut Ends<R, O, E>,
-    table: &Table<'_>,
+    ends: &mut StandardEnds<R, O, E>,
+    table: &LeaseTable<'_>,
     number: u64,
 ) -> u8
     requires input { R.has_failed ends.old.input ≡ false }

@@ -6,7 +6,7 @@ ghost use Rattle.kd_program.specs.Streams.{at_ends, streams, written_to};
 ghost use Rattle.kd_rows.specs.Row.{IsInRange};
 ghost use Rattle.kd_rows.specs.Table.{Rise};
 
-use crate::ends::Ends;
+use crate::ends::StandardEnds;
 use crate::host::Host;
 use crate::printing::refuse;
 use crate::serving::refuse_store;
@@ -38,7 +38,7 @@ impl fmt::Display for NotEmpty {
 pub fn import<H: Host, R: Source, O: Sink, E: Sink>(
     alloc: Global,
     host: &mut H,
-    ends: &mut Ends<R, O, E>,
+    ends: &mut StandardEnds<R, O, E>,
     path: &str,
 ) -> u8
     ensures { Imports H.Host H.Named.Keeps H.Unnamed.Keeps H.Socket.Link H.Journal.Sink
@@ -58,7 +58,7 @@ pub fn import<H: Host, R: Source, O: Sink, E: Sink>(
 // Does the same for a store with these rows.
 fn import_into<R: Source, O: Sink, E: Sink, S: Keeps>(
     alloc: Global,
-    ends: &mut Ends<R, O, E>,
+    ends: &mut StandardEnds<R, O, E>,
     store: &mut S,
     rows: &[Row],
 ) -> u8
@@ -76,7 +76,7 @@ fn import_into<R: Source, O: Sink, E: Sink, S: Keeps>(
 // Imports what is on standard input into a store.
 fn import_input<R: Source, O: Sink, E: Sink, S: Keeps>(
     alloc: Global,
-    ends: &mut Ends<R, O, E>,
+    ends: &mut StandardEnds<R, O, E>,
     store: &mut S,
 ) -> u8
     requires works { is_some (S.fault store.old) ≡ false }

@@ -20,7 +20,7 @@ mod report;
 mod running;
 mod serving;
 
-pub use ends::Ends;
+pub use ends::StandardEnds;
 pub use host::Host;
 pub use printing::refuse_words;
 pub use running::run;

@@ -5,7 +5,7 @@ ghost use Rattle.kd_pools.specs.Uses.{subnet_uses};
 ghost use Rattle.kd_rows.specs.Table.{latest_of};
 ghost use Rattle.kd_server.specs.Leases.{IsNoList};
 
-use crate::ends::Ends;
+use crate::ends::StandardEnds;
 use crate::explaining::explain_word;
 use crate::printing::{refuse, show};
 use kd_commands::Listing;
@@ -21,7 +21,7 @@ const MOMENTS: u64 = 1 << 40;
 
 /// Rows of leases under a configuration.
 #[derive(Clone, Copy)]
-pub struct Table<'a> {
+pub struct LeaseTable<'a> {
     /// The configuration.
     pub config: &'a Config,
     /// The rows.
@@ -52,9 +52,9 @@ pub enum View {
 /// Prints a view of a table, and returns the exit status.
 pub fn print_view<R: Source, O: Sink, E: Sink>(
     alloc: Global,
-    ends: &mut Ends<R, O, E>,
+    ends: &mut StandardEnds<R, O, E>,
     view: &View,
-    table: &Table<'_>,
+    table: &LeaseTable<'_>,
 ) -> u8
     ensures { ShowsView view.now table.now.failed table.now.config.now table.now.rows.now.rows
         result
@@ -69,9 +69,9 @@ pub fn print_view<R: Source, O: Sink, E: Sink>(
 // Prints a listing of a table at a time, and returns the exit status.
 fn list<R: Source, O: Sink, E: Sink>(
     alloc: Global,
-    ends: &mut Ends<R, O, E>,
+    ends: &mut StandardEnds<R, O, E>,
     listing: Listing,
-    table: &Table<'_>,
+    table: &LeaseTable<'_>,
     at: u64,
 ) -> u8
     ensures { ShowsListing listing table.now.failed table.now.config.now table.now.rows.now.rows at
@@ -88,7 +88,7 @@ fn list<R: Source, O: Sink, E: Sink>(
 fn text_of(
     alloc: Global,
     listing: Listing,
-    table: &Table<'_>,
+    table: &LeaseTable<'_>,
     at: u64,
 ) -> Result<String, ServeFault>
     ensures text { IfOk result (λ text. string_bytes text
@@ -106,7 +106,7 @@ fn text_of(
 }
 
 // Returns how full the pools are at a time.
-fn uses_at(alloc: Global, table: &Table<'_>, at: u64) -> Result<Vec<SubnetUse>, ServeFault>
+fn uses_at(alloc: Global, table: &LeaseTable<'_>, at: u64) -> Result<Vec<SubnetUse>, ServeFault>
     ensures uses { IfOk result (λ list. list.items
         ≡ subnet_uses table.now.config.now table.now.rows.now.rows
         (max at (latest_of table.now.rows.now.rows))) }

@@ -2,7 +2,7 @@ ghost use Rattle.std.specs.Prelude.{◌≡◌, option_map, vec_items};
 ghost use Rattle.kd_program.specs.Running.{SaysEvents};
 ghost use Rattle.kd_program.specs.Streams.{streams};
 
-use crate::ends::Ends;
+use crate::ends::StandardEnds;
 use crate::printing::refuse_as;
 use kd_events::{Filter, events_with};
 use kd_print::replay_status;
@@ -13,7 +13,7 @@ use std::alloc::Global;
 /// Prints the requested replies of the log on standard input, and returns the exit status.
 pub fn print_events<R: Source, O: Sink, E: Sink>(
     alloc: Global,
-    ends: &mut Ends<R, O, E>,
+    ends: &mut StandardEnds<R, O, E>,
     filter: &Filter,
 ) -> u8
     ensures { SaysEvents filter.now result

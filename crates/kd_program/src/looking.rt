@@ -6,9 +6,9 @@ ghost use Rattle.kd_program.specs.Streams.{Starves, at_ends, streams};
 ghost use Rattle.kd_rows.specs.Row.{IsInRange};
 ghost use Rattle.kd_rows.specs.Table.{Rise};
 
-use crate::ends::Ends;
+use crate::ends::StandardEnds;
 use crate::host::Host;
-use crate::listing::{Table, View, print_view};
+use crate::listing::{LeaseTable, View, print_view};
 use crate::printing::{refuse, refuse_memory};
 use crate::serving::{read_configuration, refuse_start};
 use kd_commands::Files;
@@ -22,7 +22,7 @@ use std::alloc::Global;
 pub fn look<H: Host, R: Source, O: Sink, E: Sink>(
     alloc: Global,
     host: &mut H,
-    ends: &mut Ends<R, O, E>,
+    ends: &mut StandardEnds<R, O, E>,
     files: &Files,
     path: &str,
     view: &View,
@@ -42,7 +42,7 @@ pub fn look<H: Host, R: Source, O: Sink, E: Sink>(
 fn look_at<H: Host, R: Source, O: Sink, E: Sink>(
     alloc: Global,
     host: &mut H,
-    ends: &mut Ends<R, O, E>,
+    ends: &mut StandardEnds<R, O, E>,
     config: &Config,
     path: &str,
     view: &View,
@@ -65,7 +65,7 @@ fn look_at<H: Host, R: Source, O: Sink, E: Sink>(
 // Prints a view of rows.
 fn list_rows<R: Source, O: Sink, E: Sink>(
     alloc: Global,
-    ends: &mut Ends<R, O, E>,
+    ends: &mut StandardEnds<R, O, E>,
     config: &Config,
     rows: Vec<Row>,
     view: &View,
@@ -79,7 +79,7 @@ fn list_rows<R: Source, O: Sink, E: Sink>(
 {
     match Rows::new(rows) {
         Ok(rows) => {
-            let table = Table {
+            let table = LeaseTable {
                 config,
                 rows: &rows,
                 failed: false,

@@ -5,7 +5,7 @@ ghost use Rattle.kd_program.specs.Streams.{Prints, Puts, ShowsOrBreaks, TellsWit
 ghost use Rattle.kd_commands.specs.Order.{line_fault_number};
 ghost use Rattle.kd_print.specs.Status.{status_of};
 
-use crate::ends::Ends;
+use crate::ends::StandardEnds;
 use kd_commands::LineFault;
 use kd_print::{Printed, exit_status};
 use kd_replay::{Sink, Source, write_all};
@@ -43,7 +43,7 @@ pub fn show<O: Sink, E: Sink>(output: &mut O, faults: &mut E, text: &[u8], statu
 }
 
 /// Writes what an order prints, its text or the line of its fault, and returns the exit status.
-pub fn print<R: Source, O: Sink, E: Sink>(ends: &mut Ends<R, O, E>, printed: &Printed) -> u8
+pub fn print<R: Source, O: Sink, E: Sink>(ends: &mut StandardEnds<R, O, E>, printed: &Printed) -> u8
     ensures { Prints printed.now result
         (streams R.Source O.Sink E.Sink ends.old) (streams R.Source O.Sink E.Sink ends.new) }
 {

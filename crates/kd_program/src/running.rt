@@ -3,7 +3,7 @@ ghost use Rattle.kd_program.specs.Streams.{at_ends};
 ghost use Rattle.kd_program.specs.Running.{Carries, CarriesOut, ViewsStore, replay_work};
 
 use crate::checking::{Place, check};
-use crate::ends::Ends;
+use crate::ends::StandardEnds;
 use crate::host::Host;
 use crate::importing::import;
 use crate::listing::View;
@@ -23,7 +23,7 @@ pub fn run<H: Host, R: Source, O: Sink, E: Sink>(
     alloc: Global,
     words: &[String],
     host: &mut H,
-    ends: &mut Ends<R, O, E>,
+    ends: &mut StandardEnds<R, O, E>,
 ) -> u8
     requires input { R.has_failed ends.old.input ≡ false }
     requires output { O.has_failed ends.old.output ≡ false }
@@ -43,7 +43,7 @@ fn carry_out_order<H: Host, R: Source, O: Sink, E: Sink>(
     alloc: Global,
     order: Order,
     host: &mut H,
-    ends: &mut Ends<R, O, E>,
+    ends: &mut StandardEnds<R, O, E>,
 ) -> u8
     requires input { R.has_failed ends.old.input ≡ false }
     requires output { O.has_failed ends.old.output ≡ false }
@@ -136,7 +136,7 @@ fn work_of_replay(why: Option<u64>) -> Work
 fn view_store<H: Host, R: Source, O: Sink, E: Sink>(
     alloc: Global,
     host: &mut H,
-    ends: &mut Ends<R, O, E>,
+    ends: &mut StandardEnds<R, O, E>,
     files: &Files,
     live: bool,
     view: View,

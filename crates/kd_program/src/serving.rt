@@ -9,10 +9,10 @@ ghost use Rattle.kd_replay.specs.Serving.{failed_in};
 ghost use Rattle.kd_program.specs.Running.{GivesJournal, Listens, ReplaysInput, ServesWork, Starts, Works, ports_asked};
 
 use crate::banner::{Banner, Sizes, banner_line, pool_addresses};
-use crate::ends::Ends;
+use crate::ends::StandardEnds;
 use crate::explaining::explain_line;
 use crate::host::Host;
-use crate::listing::{Table, View, print_view};
+use crate::listing::{LeaseTable, View, print_view};
 use crate::printing::{refuse, refuse_as, refuse_memory, tell};
 use kd_commands::{Files, Listening};
 use kd_config::Config;
@@ -72,7 +72,7 @@ fn batch_size(is_file: bool, mirror: bool) -> usize
 pub fn start_server<H: Host, R: Source, O: Sink, E: Sink>(
     alloc: Global,
     host: &mut H,
-    ends: &mut Ends<R, O, E>,
+    ends: &mut StandardEnds<R, O, E>,
     files: &Files,
     work: &Work,
 ) -> u8
@@ -156,7 +156,7 @@ pub fn refuse_store<E: Sink>(alloc: Global, faults: &mut E, fault: &StoreFault) 
 fn run_over_store<H: Host, R: Source, O: Sink, E: Sink, S: Keeps>(
     alloc: Global,
     host: &mut H,
-    ends: &mut Ends<R, O, E>,
+    ends: &mut StandardEnds<R, O, E>,
     config: Config,
     opened: Opened<S>,
     place: Place<'_>,
@@ -188,7 +188,7 @@ fn run_over_store<H: Host, R: Source, O: Sink, E: Sink, S: Keeps>(
 fn do_work<H: Host, R: Source, O: Sink, E: Sink, S: Keeps>(
     alloc: Global,
     host: &mut H,
-    ends: &mut Ends<R, O, E>,
+    ends: &mut StandardEnds<R, O, E>,
     server: &mut Server<S>,
     work: &Work,
     place: Place<'_>,
@@ -210,12 +210,12 @@ fn do_work<H: Host, R: Source, O: Sink, E: Sink, S: Keeps>(
 }
 
 // The rows of a server under its configuration.
-fn table_of<S: Keeps>(server: &Server<S>) -> Table<'_>
+fn table_of<S: Keeps>(server: &Server<S>) -> LeaseTable<'_>
     ensures config { result.config.now ≡ server.now.config }
     ensures rows { result.rows.now.rows ≡ server.now.rows }
     ensures failed { result.failed ≡ is_some (S.fault server.now.store) }
 {
-    Table {
+    LeaseTable {
         config: server.config(),
         rows: server.rows(),
         failed: server.has_failed(),
@@ -241,7 +241,7 @@ fn ports_of(work: &Work) -> Ports
 // Replays the events of standard input to standard output.
 fn replay_input<R: Source, O: Sink, E: Sink, S: Keeps>(
     alloc: Global,
-    ends: &mut Ends<R, O, E>,
+    ends: &mut StandardEnds<R, O, E>,
     server: &mut Server<S>,
 ) -> u8
     requires input { R.has_failed ends.old.input ≡ false }
@@ -266,7 +266,7 @@ fn replay_input<R: Source, O: Sink, E: Sink, S: Keeps>(
 fn serve_link<H: Host, R: Source, O: Sink, E: Sink, S: Keeps>(
     alloc: Global,
     host: &mut H,
-    ends: &mut Ends<R, O, E>,
+    ends: &mut StandardEnds<R, O, E>,
     server: &mut Server<S>,
     service: &Service,
     place: Place<'_>,
