@@ -36,7 +36,7 @@ fn size_of(length: u8) -> u64
 }
 
 // Clears the bits of an address that follow a prefix of this length.
-fn cleared(address: u32, length: u8) -> u32
+fn without_host_bits(address: u32, length: u8) -> u32
     ensures cleared { result ≡ network_address address length }
     ensures within { result + prefix_size length ≤ 2 ^ 32 }
 {
@@ -76,7 +76,7 @@ pub(crate) fn prefix_of(text: &[u8]) -> Option<Prefix>
     let address = address_of(address)?;
     let length = length_of(length)?;
     Some(Prefix {
-        address: cleared(address, length),
+        address: without_host_bits(address, length),
         length,
     })
 }

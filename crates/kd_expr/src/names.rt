@@ -10,7 +10,7 @@ use crate::literal::bytes_of;
 use crate::node::Node;
 use crate::number::number;
 use crate::parser::Source;
-use crate::take::{expect_sign, expect_word, unexpected};
+use crate::take::{expect_sign, expect_word, unexpected_token};
 use crate::token::{Kind, Sign, Token};
 use kd_wire::Field;
 
@@ -138,7 +138,7 @@ fn name_deeper<'t, 'a>(
     let token = *first;
     match token.kind {
         Kind::Text(name) if name.len() >= 1 && name.len() <= 255 => Ok((name, rest)),
-        _ => Err(unexpected(tokens, end)),
+        _ => Err(unexpected_token(tokens, end)),
     }
 }
 
@@ -164,7 +164,7 @@ fn option_code<'t, 'a>(
             Some(code) => Ok((code, rest)),
             None => Err(SyntaxFault::UnknownName(token.at)),
         },
-        _ => Err(unexpected(tokens, end)),
+        _ => Err(unexpected_token(tokens, end)),
     }
 }
 
@@ -186,7 +186,7 @@ fn relay_code<'t, 'a>(
             Some(code) if code < 256 => Ok((code as u8, rest)),
             _ => Err(SyntaxFault::NumberTooLarge(token.at)),
         },
-        _ => Err(unexpected(tokens, end)),
+        _ => Err(unexpected_token(tokens, end)),
     }
 }
 
@@ -206,7 +206,7 @@ fn suffix<'t, 'a>(
     match token.kind {
         Kind::Name(name) if name == b"hex".as_slice() => Ok((false, rest)),
         Kind::Name(name) if name == b"exists".as_slice() => Ok((true, rest)),
-        _ => Err(unexpected(tokens, end)),
+        _ => Err(unexpected_token(tokens, end)),
     }
 }
 
@@ -228,7 +228,7 @@ fn field<'t, 'a>(
             Some(field) => Ok((field, rest)),
             None => Err(SyntaxFault::Expected(token.at)),
         },
-        _ => Err(unexpected(tokens, end)),
+        _ => Err(unexpected_token(tokens, end)),
     }
 }
 
@@ -255,7 +255,7 @@ pub(crate) fn signed_of<'t, 'a>(
             Some(n) if n <= 1 << 31 => Ok((-((n - 1) as i32) - 1, rest)),
             _ => Err(SyntaxFault::NumberTooLarge(token.at)),
         },
-        _ => Err(unexpected(tokens, end)),
+        _ => Err(unexpected_token(tokens, end)),
     }
 }
 
@@ -278,7 +278,7 @@ pub(crate) fn length_of<'t, 'a>(
             let (n, rest) = signed_of(tokens, end)?;
             Ok((Some(n), rest))
         }
-        _ => Err(unexpected(tokens, end)),
+        _ => Err(unexpected_token(tokens, end)),
     }
 }
 

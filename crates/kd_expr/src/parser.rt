@@ -11,7 +11,7 @@ use crate::forms::{named_of, operand_before};
 use crate::literal::{bytes_of, hex_bytes_of};
 use crate::node::Node;
 use crate::number::number;
-use crate::take::{expect_sign, sign, unexpected, word};
+use crate::take::{expect_sign, sign, unexpected_token, word};
 use crate::token::{Kind, Sign, Token};
 use std::alloc::Global;
 
@@ -23,7 +23,7 @@ pub(crate) struct Source {
 }
 
 // Puts two operands in boxes, and returns them with the place of the first.
-fn boxed(
+fn box_node(
     alloc: Global,
     left: Node,
     right: Node,
@@ -43,7 +43,7 @@ fn disjunction(alloc: Global, left: Node, right: Node) -> Result<Node, SyntaxFau
         (λ node. tree_of node ≡ reading.or_of (tree_of left) (tree_of right))
         (λ fault. fault ≡ faults.Memory) }
 {
-    let (at, left, right) = boxed(alloc, left, right)?;
+    let (at, left, right) = box_node(alloc, left, right)?;
     Ok(Node::Or { at, left, right })
 }
 
@@ -53,7 +53,7 @@ fn conjunction(alloc: Global, left: Node, right: Node) -> Result<Node, SyntaxFau
         (λ node. tree_of node ≡ reading.and_of (tree_of left) (tree_of right))
         (λ fault. fault ≡ faults.Memory) }
 {
-    let (at, left, right) = boxed(alloc, left, right)?;
+    let (at, left, right) = box_node(alloc, left, right)?;
     Ok(Node::And { at, left, right })
 }
 
@@ -63,7 +63,7 @@ fn concatenation(alloc: Global, left: Node, right: Node) -> Result<Node, SyntaxF
         (λ node. tree_of node ≡ reading.sum_of (tree_of left) (tree_of right))
         (λ fault. fault ≡ faults.Memory) }
 {
-    let (at, left, right) = boxed(alloc, left, right)?;
+    let (at, left, right) = box_node(alloc, left, right)?;
     Ok(Node::Concat { at, left, right })
 }
 
@@ -73,7 +73,7 @@ fn equality(alloc: Global, left: Node, right: Node) -> Result<Node, SyntaxFault>
         (λ node. tree_of node ≡ Equal (at_of (tree_of left)) (tree_of left) (tree_of right))
         (λ fault. fault ≡ faults.Memory) }
 {
-    let (at, left, right) = boxed(alloc, left, right)?;
+    let (at, left, right) = box_node(alloc, left, right)?;
     Ok(Node::Equal { at, left, right })
 }
 
@@ -228,7 +228,7 @@ fn primary_of<'t, 'a>(
         },
         Kind::Name(name) => named_of(source, at, name, rest, depth),
         Kind::Sign(_) => group_of(source, tokens, depth),
-        Kind::Minus(_) | Kind::Bad => Err(unexpected(tokens, source.end)),
+        Kind::Minus(_) | Kind::Bad => Err(unexpected_token(tokens, source.end)),
     }
 }
 

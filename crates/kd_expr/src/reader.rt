@@ -13,7 +13,7 @@ use crate::fault::{ExprFault, SyntaxFault, seen_outside};
 use crate::lexer::tokens_of;
 use crate::node::Node;
 use crate::parser::{Source, or_of};
-use crate::take::unexpected;
+use crate::take::unexpected_token;
 use std::alloc::Global;
 
 const LONGEST_TEXT: usize = 4096;
@@ -59,6 +59,6 @@ fn node_in(alloc: Global, text: &[u8]) -> Result<Node, SyntaxFault>
     let (tree, rest) = or_of(source, tokens.as_slice(), DEEPEST_NESTING)?;
     match rest {
         [] => Ok(tree),
-        _ => Err(unexpected(rest, source.end)),
+        _ => Err(unexpected_token(rest, source.end)),
     }
 }

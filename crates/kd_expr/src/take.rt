@@ -13,7 +13,7 @@ use kd_wire::Field;
 
 // Returns the fault of the first token, which must not come there, or of the end of the text if
 // there are no tokens.
-pub(crate) fn unexpected(tokens: &[Token<'_>], end: usize) -> SyntaxFault
+pub(crate) fn unexpected_token(tokens: &[Token<'_>], end: usize) -> SyntaxFault
     ensures fault { result ≢ faults.Memory }
     ensures exact { result ≡ unexpected_at (lexemes tokens.now) end }
 {
@@ -77,7 +77,7 @@ pub(crate) fn expect_sign<'t, 'a>(
 {
     match sign(tokens, wanted) {
         Some(found) => Ok(found),
-        None => Err(unexpected(tokens, end)),
+        None => Err(unexpected_token(tokens, end)),
     }
 }
 
@@ -93,6 +93,6 @@ pub(crate) fn expect_word<'t, 'a>(
 {
     match word(tokens, wanted) {
         Some(found) => Ok(found),
-        None => Err(unexpected(tokens, end)),
+        None => Err(unexpected_token(tokens, end)),
     }
 }

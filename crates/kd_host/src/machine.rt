@@ -145,7 +145,7 @@ impl<'a, F: Start> Host for Machine<'a, F, Below<F>> {
         };
         let (address, port) = (listening.bind, listening.port);
         match self.handed.take() {
-            Some(Ok(socket)) => Socket::handed(self.rt, socket, address, port, sending),
+            Some(Ok(socket)) => Socket::of_inherited(self.rt, socket, address, port, sending),
             Some(Err(failed)) => Err(failed),
             None => Socket::bind(self.rt, address, port, sending),
         }

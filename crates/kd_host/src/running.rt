@@ -7,7 +7,7 @@ ghost use Rattle.kd_host.specs.OnFiles.{IsStatusOf, IsStatusOnFiles, RunsOnFiles
 
 use crate::machine::{Below, Machine};
 use kd_commands::LineFault;
-use kd_io::{Input, Output, Socket, inherited};
+use kd_io::{Input, Output, Socket, inherited_socket};
 use kd_keeps::{Keeps, Volatile};
 use kd_program::{Host, StandardEnds, refuse_words, run};
 use kd_replay::{Link, Sink, Source};
@@ -55,7 +55,7 @@ pub fn carry_out<'a, F: Start>(
         ⟦<Store<Below<F>> as Keeps>⟧ ⟦<Socket<'a> as Link>⟧ ⟦<Output<File> as Sink>⟧ (image_at F.Start)
         (map string_bytes words.now) result }
 {
-    let handed = inherited(rt);
+    let handed = inherited_socket(rt);
     let stderr = rt.stderr();
     let mut ends = StandardEnds {
         input: Input::over(rt.reader()),

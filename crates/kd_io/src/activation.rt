@@ -12,7 +12,7 @@ use std::os::fd::IntoRawFd;
 /// # Errors
 ///
 /// Descriptor 3 is not a socket, or there is no memory to read the variable.
-pub fn inherited(rt: &HostRuntime) -> Option<Result<UdpSocket, EndFailed>> {
+pub fn inherited_socket(rt: &HostRuntime) -> Option<Result<UdpSocket, EndFailed>> {
     match var(rt, "LISTEN_FDS") {
         Ok(count) if count.as_str() == "1" => Some(third()),
         Ok(_) => None,

@@ -19,13 +19,13 @@ mod streams;
 mod trying;
 mod watching;
 
-pub use activation::inherited;
+pub use activation::inherited_socket;
 pub use appending::journal;
 pub use files::{InputFault, MOST_BYTES, read_file, read_whole, token_files};
 pub use link::{Sending, Socket, seconds_of, target};
 pub use look::{Copied, FilePart, LookFault, Watched, settled_copy};
 pub use source::read_source;
-pub use start::{StartFault, configuration, configured};
+pub use start::{StartFault, config_of, configuration};
 pub use streams::{Input, Output};
 pub use trying::{start_words, try_database, try_socket};
 pub use watching::copy_at;

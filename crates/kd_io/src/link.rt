@@ -99,7 +99,7 @@ impl<'a> Socket<'a> {
     /// # Errors
     ///
     /// The socket is not bound to this address and port.
-    pub fn handed(
+    pub fn of_inherited(
         rt: &'a HostRuntime,
         socket: UdpSocket,
         address: u32,

@@ -72,7 +72,7 @@ impl From<AllocError> for StartFault {
 /// # Errors
 ///
 /// The first fault of the text, or out of memory.
-pub fn configured(
+pub fn config_of(
     alloc: Global,
     text: Option<&[u8]>,
     tokens: &[TokenFile],
@@ -104,9 +104,9 @@ pub fn configuration<R: Files + AllocGlobal + Clone + Drop>(
     match file {
         Some(path) => {
             let text = read_file(rt, path, MOST_BYTES)?;
-            configured(rt.alloc(), Some(text.as_slice()), &tokens)
+            config_of(rt.alloc(), Some(text.as_slice()), &tokens)
         }
-        None => configured(rt.alloc(), None, &tokens),
+        None => config_of(rt.alloc(), None, &tokens),
     }
 }
 

@@ -6,7 +6,7 @@ ghost use Rattle.kd_lease.specs.Seeking.{IsChosen};
 
 use crate::choosing::Choosing;
 use crate::fitting::{fits_with, is_free, requested_of};
-use crate::pooling::pooled;
+use crate::pooling::pool_choice;
 use crate::question::Question;
 use crate::seeking::newest_known;
 use kd_config::Subnet;
@@ -17,7 +17,7 @@ pub(crate) fn choose(question: &Question<'_>, subnet: &Subnet) -> Option<u32>
     ensures { IsChosen (asking question.now) subnet.now result }
 {
     let choosing = Choosing::new(question, subnet);
-    match kept(&choosing) {
+    match kept_address(&choosing) {
         Some(address) => return Some(address),
         None => {}
     }
@@ -34,15 +34,15 @@ pub(crate) fn choose(question: &Question<'_>, subnet: &Subnet) -> Option<u32>
         Some(address) => return Some(address),
         None => {}
     }
-    match pooled(&choosing, true) {
+    match pool_choice(&choosing, true) {
         Some(address) => return Some(address),
         None => {}
     }
-    pooled(&choosing, false)
+    pool_choice(&choosing, false)
 }
 
 // Returns the address that is reserved for the client, if it is free.
-pub(crate) fn kept(choosing: &Choosing<'_>) -> Option<u32>
+pub(crate) fn kept_address(choosing: &Choosing<'_>) -> Option<u32>
     ensures { IsRanked (asking choosing.now.question.now) choosing.now.subnet.now reserved result }
 {
     match choosing.own {

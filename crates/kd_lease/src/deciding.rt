@@ -87,7 +87,7 @@ fn answer_for(alloc: Global, question: &Question<'_>) -> Result<Decision, AllocE
 {
     let Verdict { row, answer } = effect_of(alloc, question)?;
     match answer {
-        Ok(outline) => replied(alloc, question, row, outline),
+        Ok(outline) => answer_with(alloc, question, row, outline),
         Err(reason) => Ok(Verdict {
             row,
             answer: Err(reason),
@@ -97,7 +97,7 @@ fn answer_for(alloc: Global, question: &Question<'_>) -> Result<Decision, AllocE
 
 // Builds the reply of an outline, with the row to set; there is neither if the reply's mandatory
 // options do not fit.
-fn replied(
+fn answer_with(
     alloc: Global,
     question: &Question<'_>,
     row: Option<Row>,

@@ -17,7 +17,7 @@ pub fn identity(alloc: Global, message: &Message<'_>) -> Result<Option<Bytes>, A
     ensures { IfOk result (λ found. found ≡ client_identity message.now) }
 {
     match message.option(OPTION_CLIENT_IDENTIFIER) {
-        Some([first, rest @ ..]) => Ok(Some(joined(alloc, &[1, *first], rest)?)),
+        Some([first, rest @ ..]) => Ok(Some(join_bytes(alloc, &[1, *first], rest)?)),
         _ => hardware_identity(alloc, message.header().htype, message.mac()),
     }
 }
@@ -28,12 +28,12 @@ fn hardware_identity(alloc: Global, htype: u8, mac: &[u8]) -> Result<Option<Byte
 {
     match mac {
         [] => Ok(None),
-        [first, rest @ ..] => Ok(Some(joined(alloc, &[0, htype, *first], rest)?)),
+        [first, rest @ ..] => Ok(Some(join_bytes(alloc, &[0, htype, *first], rest)?)),
     }
 }
 
 // Joins two lists of bytes.
-fn joined(alloc: Global, front: &[u8], back: &[u8]) -> Result<Bytes, AllocError>
+fn join_bytes(alloc: Global, front: &[u8], back: &[u8]) -> Result<Bytes, AllocError>
     ensures { IfOk result (λ bytes. bytes ≡ front.now ++ back.now) }
 {
     let mut bytes = Vec::with_capacity(alloc, front.len().saturating_add(back.len()))?;

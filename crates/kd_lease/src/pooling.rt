@@ -12,7 +12,7 @@ use kd_config::{Range, Subnet};
 
 // Returns the first address in pool order that fits and has no row (`new`), or whose row has ended
 // (otherwise).
-pub(crate) fn pooled(choosing: &Choosing<'_>, new: bool) -> Option<u32>
+pub(crate) fn pool_choice(choosing: &Choosing<'_>, new: bool) -> Option<u32>
     ensures { IsRanked (asking choosing.now.question.now) choosing.now.subnet.now (pool_rank new)
         result }
 {

@@ -1,9 +1,9 @@
 ghost use Rattle.kd_lease.specs.Ranks.{AreRanks};
 ghost use Rattle.kd_lease.specs.Rules.{asking};
 
-use crate::choice::{asked_for, kept};
+use crate::choice::{asked_for, kept_address};
 use crate::choosing::Choosing;
-use crate::pooling::pooled;
+use crate::pooling::pool_choice;
 use crate::question::Question;
 use crate::seeking::{newest_own, newest_past};
 use kd_config::Subnet;
@@ -34,11 +34,11 @@ pub fn ranks_of(question: &Question<'_>, subnet: &Subnet) -> Ranks
 {
     let choosing = Choosing::new(question, subnet);
     Ranks {
-        reserved: kept(&choosing),
+        reserved: kept_address(&choosing),
         own: newest_own(&choosing),
         past: newest_past(&choosing),
         asked: asked_for(&choosing),
-        fresh: pooled(&choosing, true),
-        expired: pooled(&choosing, false),
+        fresh: pool_choice(&choosing, true),
+        expired: pool_choice(&choosing, false),
     }
 }

@@ -8,7 +8,7 @@ ghost use Rattle.kd_machine.specs.Parts.{same};
 
 use crate::bounds::bounds;
 use crate::stack::Stack;
-use crate::text::{decimal_text, hex_text, joined};
+use crate::text::{decimal_text, hex_text, join_bytes};
 use crate::value::Value;
 use std::alloc::{AllocError, Global};
 
@@ -56,10 +56,10 @@ pub(crate) fn concat<const ROOM: usize>(
         (λ b. MatchOption (take_text b.1) ⊥ (λ a. stack.new ≡ Text (a.0 ++ b.0) ∷ a.1))) }
 {
     let (first, second) = stack.two_texts();
-    let bytes = joined(alloc, first, second)?;
+    let bytes = join_bytes(alloc, first, second)?;
     stack.drop_text();
     stack.drop_text();
-    stack.push(Value::owned(alloc, bytes)?);
+    stack.push(Value::of_bytes(alloc, bytes)?);
     Ok(())
 }
 
@@ -78,7 +78,7 @@ pub(crate) fn hex_string<const ROOM: usize>(
     let bytes = hex_text(alloc, value, separator)?;
     stack.drop_text();
     stack.drop_text();
-    stack.push(Value::owned(alloc, bytes)?);
+    stack.push(Value::of_bytes(alloc, bytes)?);
     Ok(())
 }
 
@@ -94,7 +94,7 @@ pub(crate) fn lower<const ROOM: usize>(
 {
     let bytes = stack.text().to_ascii_lowercase(alloc)?;
     stack.drop_text();
-    stack.push(Value::owned(alloc, bytes)?);
+    stack.push(Value::of_bytes(alloc, bytes)?);
     Ok(())
 }
 
@@ -110,7 +110,7 @@ pub(crate) fn upper<const ROOM: usize>(
 {
     let bytes = stack.text().to_ascii_uppercase(alloc)?;
     stack.drop_text();
-    stack.push(Value::owned(alloc, bytes)?);
+    stack.push(Value::of_bytes(alloc, bytes)?);
     Ok(())
 }
 
@@ -124,7 +124,7 @@ pub(crate) fn digits<const ROOM: usize>(
         (MatchOption (take_number stack.old) ⊥ (λ a. stack.new ≡ Text (decimal a.0) ∷ a.1)) }
 {
     let bytes = decimal_text(alloc, stack.pop_number())?;
-    stack.push(Value::owned(alloc, bytes)?);
+    stack.push(Value::of_bytes(alloc, bytes)?);
     Ok(())
 }
 

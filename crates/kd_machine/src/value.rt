@@ -25,7 +25,7 @@ impl<'a> Default for Value<'a> {
 
 impl<'a> Value<'a> {
     // Makes a byte string that owns these bytes.
-    pub(crate) fn owned(alloc: Global, bytes: Vec<u8>) -> Result<Value<'a>, AllocError>
+    pub(crate) fn of_bytes(alloc: Global, bytes: Vec<u8>) -> Result<Value<'a>, AllocError>
         ensures { IfOk result (λ v. stands_for v ≡ Text bytes.items) }
     {
         Ok(Value::Owned(Box::new(alloc, Owned::new(bytes))?))

@@ -34,13 +34,13 @@ fn verify_program(alloc: Global, program: Program) -> Result<Printed, AllocError
     ensures { IfOk result (VerifiesProgram program) }
 {
     match kd_token::verify(alloc, program) {
-        Ok(verified) => Ok(success(alloc, accepted(alloc, verified.program())?)),
+        Ok(verified) => Ok(success(alloc, accepted_text(alloc, verified.program())?)),
         Err((fault, _)) => refused_program(alloc, fault),
     }
 }
 
 // Returns the line of an accepted program.
-fn accepted(alloc: Global, program: &Program) -> Result<String, AllocError>
+fn accepted_text(alloc: Global, program: &Program) -> Result<String, AllocError>
     ensures { IfOk result (λ line. string_bytes line ≡ accepted_line program.now) }
 {
     let steps = program.steps();

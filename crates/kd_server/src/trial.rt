@@ -44,7 +44,7 @@ impl<'a> Trial<'a> {
     pub fn over(rules: Rules<'a>, rows: &Rows) -> Result<Trial<'a>, AllocError>
         ensures { IfOk result (λ t. t ≡ trying rules.entry rows.now.rows) }
     {
-        let rows = copied(rules.alloc, rows)?;
+        let rows = copy_rows(rules.alloc, rows)?;
         Ok(Trial { rules, rows })
     }
 
@@ -147,15 +147,15 @@ fn put_row(rows: &mut Rows, row: Row) -> Result<(), ServeFault>
 }
 
 // A copy of rows.
-fn copied(alloc: Global, rows: &Rows) -> Result<Rows, AllocError>
+fn copy_rows(alloc: Global, rows: &Rows) -> Result<Rows, AllocError>
     ensures { IfOk result (λ copy. copy.rows ≡ rows.now.rows) }
 {
-    let list = listed(alloc, rows)?;
-    seated(rows, list)
+    let list = list_rows(alloc, rows)?;
+    seat_rows(rows, list)
 }
 
 // Makes a table from a list that has the same rows as this table.
-fn seated(rows: &Rows, list: Vec<Row>) -> Result<Rows, AllocError>
+fn seat_rows(rows: &Rows, list: Vec<Row>) -> Result<Rows, AllocError>
     requires { list.items ≡ rows.now.rows }
     ensures { IfOk result (λ copy. copy.rows ≡ rows.now.rows) }
 {
@@ -165,7 +165,7 @@ fn seated(rows: &Rows, list: Vec<Row>) -> Result<Rows, AllocError>
 }
 
 // A list of copies of rows.
-fn listed(alloc: Global, rows: &Rows) -> Result<Vec<Row>, AllocError>
+fn list_rows(alloc: Global, rows: &Rows) -> Result<Vec<Row>, AllocError>
     ensures { IfOk result (λ list. list.items ≡ rows.now.rows) }
 {
     let mut list = Vec::with_capacity(alloc, rows.len())?;

@@ -73,13 +73,13 @@ fn response_to(
     ensures small { IfOk result IsSmall }
 {
     match answer {
-        Ok(plan) => sent(alloc, ports, message, plan),
+        Ok(plan) => sent_reply(alloc, ports, message, plan),
         Err(reason) => Ok(Response::Quiet(*reason)),
     }
 }
 
 // A planned reply in the form in which it is sent.
-fn sent(
+fn sent_reply(
     alloc: Global,
     ports: Ports,
     message: &Message<'_>,

@@ -4,7 +4,7 @@ ghost use Rattle.kd_why.specs.FoundLines.{client_words, header_words, message_li
 ghost use Rattle.kd_why.specs.Words.{address_word, bytes_word, kind_word};
 
 use crate::text::Scene;
-use crate::words::{filled, put_address_or_dash, type_name};
+use crate::words::{nonzero_address, put_address_or_dash, type_name};
 use kd_lease::{requested_of, server_of};
 use kd_options::Message;
 use kd_replay::put_bytes;
@@ -68,9 +68,9 @@ fn put_header(out: &mut String, header: &Header) -> Result<(), AllocError>
     ensures { OnOk result (string_bytes out.new ≡ string_bytes out.old ++ header_words header.now) }
 {
     out.push_str(" relay ")?;
-    put_address_or_dash(out, filled(header.giaddr))?;
+    put_address_or_dash(out, nonzero_address(header.giaddr))?;
     out.push_str(" ciaddr ")?;
-    put_address_or_dash(out, filled(header.ciaddr))
+    put_address_or_dash(out, nonzero_address(header.ciaddr))
 }
 
 #[tactic(auto, unfolding(crate::specs::FoundLines::option_words))]

@@ -21,7 +21,7 @@ pub(crate) fn put_address_or_dash(out: &mut String, address: Option<u32>) -> Res
 }
 
 // Returns the address in a field of the header, if it is not 0.0.0.0.
-pub(crate) fn filled(address: u32) -> Option<u32>
+pub(crate) fn nonzero_address(address: u32) -> Option<u32>
     ensures { result ≡ unless_zero address }
 {
     if address == 0 { None } else { Some(address) }

@@ -8,7 +8,7 @@ ghost use Rattle.kd_config.specs.declared.objects.faults.SettingsFault.TheVarian
 use crate::objects::faults::SettingsFault;
 use crate::objects::lists::Entry;
 use crate::objects::options::options_of;
-use crate::objects::values::{check_keys, owned, text_or_none};
+use crate::objects::values::{check_keys, own_bytes, text_or_none};
 use crate::rules::place::{Place, bad_value};
 use kd_classes::OptionList;
 use kd_wire::Bytes;
@@ -44,7 +44,7 @@ impl Entry for ClassEntry {
     fn read(alloc: Global, value: &Value, at: &Place<'_>) -> Result<ClassEntry, SettingsFault> {
         check_class(alloc, value, at)?;
         let name = match value.get("name").and_then(name_in) {
-            Some(name) => owned(alloc, name)?,
+            Some(name) => own_bytes(alloc, name)?,
             None => return Err(bad_value(alloc, at, "name")),
         };
         let source = source_in(alloc, value, at)?;

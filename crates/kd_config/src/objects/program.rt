@@ -97,12 +97,12 @@ fn program_of_test(alloc: Global, number: usize, test: &Typed) -> Result<Verifie
             let _tokens = program.program().tokens();
             Ok(program)
         }
-        Err(fault) => Err(uncompiled(number, fault)),
+        Err(fault) => Err(compile_refusal(number, fault)),
     }
 }
 
 // Returns the fault of a class test that cannot be compiled.
-fn uncompiled(number: usize, fault: CompileFault) -> ClassesFault
+fn compile_refusal(number: usize, fault: CompileFault) -> ClassesFault
     ensures { result ≢ Memory → fault ≢ compiling.Memory }
 {
     match fault {
@@ -140,7 +140,7 @@ fn program_in(alloc: Global, number: usize, bytes: &[u8]) -> Result<Verified, Cl
         → ⊥) }
 {
     match Program::read(alloc, bytes) {
-        Ok(program) => verified(alloc, number, program),
+        Ok(program) => verify_program(alloc, number, program),
         Err(fault) => Err(no_file(number, fault)),
     }
 }
@@ -156,7 +156,7 @@ fn no_file(number: usize, fault: FileFault) -> ClassesFault
 }
 
 // Verifies a program; the result is the same program.
-fn verified(alloc: Global, number: usize, program: Program) -> Result<Verified, ClassesFault>
+fn verify_program(alloc: Global, number: usize, program: Program) -> Result<Verified, ClassesFault>
     ensures found { IfOk result (λ verified. verified ≡ program) }
     ensures accepted { IfOk result (λ _. Accepts program) }
     ensures refused { IfErr result (λ fault. fault ≢ Memory → Accepts program → ⊥) }
@@ -167,12 +167,12 @@ fn verified(alloc: Global, number: usize, program: Program) -> Result<Verified, 
             let _program = verified.program();
             Ok(verified)
         }
-        Err((fault, _)) => Err(unaccepted(number, fault)),
+        Err((fault, _)) => Err(verify_refusal(number, fault)),
     }
 }
 
 // Returns the fault of a program that is not accepted.
-fn unaccepted(number: usize, fault: VerifyFault) -> ClassesFault
+fn verify_refusal(number: usize, fault: VerifyFault) -> ClassesFault
     ensures { result ≢ Memory → fault ≢ verifying.Memory }
 {
     match fault {

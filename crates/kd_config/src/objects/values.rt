@@ -145,13 +145,13 @@ pub(crate) fn text_or_none(
         return Ok(None);
     };
     match value.as_str() {
-        Some(text) => Ok(Some(owned(alloc, text.as_bytes())?)),
+        Some(text) => Ok(Some(own_bytes(alloc, text.as_bytes())?)),
         None => Err(bad_value(alloc, at, key)),
     }
 }
 
 // Copies bytes.
-pub(crate) fn owned(alloc: Global, bytes: &[u8]) -> Result<Bytes, AllocError>
+pub(crate) fn own_bytes(alloc: Global, bytes: &[u8]) -> Result<Bytes, AllocError>
     ensures { IfOk result (λ copy. copy ≡ bytes.now) }
 {
     Ok(Bytes::own(Vec::from_slice(alloc, bytes)?))

@@ -73,7 +73,7 @@ pub(crate) fn overlap(alloc: Global, at: &Place<'_>, key: &str) -> ConfigFault
 }
 
 // Returns the fault of a reservation that repeats an earlier one.
-pub(crate) fn repeated(alloc: Global, at: &Place<'_>, key: &str) -> ConfigFault
+pub(crate) fn repeated_key(alloc: Global, at: &Place<'_>, key: &str) -> ConfigFault
     ensures kind { result ≢ Memory → config_fault_number result ≡ 76 }
     ensures path { result ≢ Memory
         → fault_path result ≡ path_below (path_at at.now) key.now }

@@ -12,7 +12,7 @@ ghost use Rattle.kd_config.specs.declared.fault.ConfigFault.TheVariants.{Memory}
 use crate::fault::ConfigFault;
 use crate::prefix::Prefix;
 use crate::reservation::{Identity, Reservation};
-use crate::rules::place::{Place, outside, repeated};
+use crate::rules::place::{Place, outside, repeated_key};
 use indexmap::IndexSet;
 use std::alloc::Global;
 
@@ -100,7 +100,7 @@ fn check_address(
     if earlier.insert(reservation.address)? {
         Ok(())
     } else {
-        Err(repeated(alloc, at, "ip-address"))
+        Err(repeated_key(alloc, at, "ip-address"))
     }
 }
 
@@ -124,8 +124,8 @@ fn check_client<'a>(
         return Ok(());
     }
     match identity {
-        Identity::Hardware(_) => Err(repeated(alloc, at, "hw-address")),
-        Identity::ClientId(_) => Err(repeated(alloc, at, "client-id")),
+        Identity::Hardware(_) => Err(repeated_key(alloc, at, "hw-address")),
+        Identity::ClientId(_) => Err(repeated_key(alloc, at, "client-id")),
     }
 }
 

@@ -11,7 +11,7 @@ use std::alloc::{AllocError, Global};
 pub(crate) fn bytes_of(alloc: Global, text: &[u8]) -> Result<Option<Bytes>, AllocError>
     ensures { IfOk result (λ bytes. bytes ≡ bytes_spelled text.now) }
 {
-    let digits = counted(alloc, text)?;
+    let digits = without_separators(alloc, text)?;
     match hex::decode(alloc, without_prefix(&digits)) {
         Ok(bytes) => Ok(Some(Bytes::own(bytes))),
         Err(error) => match error {
@@ -24,7 +24,7 @@ pub(crate) fn bytes_of(alloc: Global, text: &[u8]) -> Result<Option<Bytes>, Allo
 }
 
 // Removes spaces and colons from a text.
-fn counted(alloc: Global, text: &[u8]) -> Result<Vec<u8>, AllocError>
+fn without_separators(alloc: Global, text: &[u8]) -> Result<Vec<u8>, AllocError>
     ensures { IfOk result (λ digits. digits.items ≡ filter counts text.now) }
 {
     let mut digits = Vec::with_capacity(alloc, text.len())?;

@@ -9,4 +9,4 @@ returns-in-Some g c =
     let short : IfSome (Some c.as_slice.result.now) (λ bytes. length bytes ≤ 16777216) = search rules in
     let of_folder : AreOfFolder (is_some c.args.folder) c.deref.result.now = search rules in
     of_files (is_some c.args.file) (is_some c.args.folder) (Some c.as_slice.result.now)
-    c.deref.result.now c.configured.result named short of_folder c.configured.ensures.found
+    c.deref.result.now c.config_of.result named short of_folder c.config_of.ensures.found

@@ -12,7 +12,7 @@ declares c p = IsSuccess (accepted_line c) p
 
 pub returns-in-Ok : goal.returns-in-Ok
 returns-in-Ok c =
-    let is = c.in_ok-accepted-in-Ok.ensures ∙ ap accepted_line c.program.ensures.program in
+    let is = c.in_ok-accepted_text-in-Ok.ensures ∙ ap accepted_line c.program.ensures.program in
     let line = subst (λ text. IsSuccess text c.success.result) is c.success.ensures in
     accepts {E = ⊤} declares c.args.program c.in-Ok.verified (Ok c.success.result) c.in-Ok.ensures.accepted c.program.ensures.accepted line
 
