@@ -12,7 +12,7 @@ use crate::fitting::{address_in, fits, is_usable, requested_of};
 use crate::plan::{Outline, PlanKind};
 use crate::question::Question;
 use crate::seeking::{Sought, is_client_at, is_held_at, knows_client};
-use crate::setting::{declined_row, leased_row, offer_row, released_row};
+use crate::setting::{make_declined_row, make_leased_row, make_released_row, offer_row};
 use crate::verdict::{Verdict, quiet};
 use kd_config::{Config, Subnet};
 use kd_event::Reason;
@@ -159,7 +159,7 @@ fn other(alloc: Global, question: &Question<'_>) -> Result<Verdict<Outline>, All
 {
     match newest(question, &Sought::Offer) {
         Some(address) => Ok(Verdict {
-            row: Some(released_row(alloc, question, address)?),
+            row: Some(make_released_row(alloc, question, address)?),
             answer: Err(Reason::OtherServer),
         }),
         None => Ok(quiet(Reason::OtherServer)),
@@ -229,7 +229,7 @@ fn decline(alloc: Global, question: &Question<'_>) -> Result<Verdict<Outline>, A
     };
     if is_held_at(question, address) {
         Ok(Verdict {
-            row: Some(declined_row(alloc, question, address)),
+            row: Some(make_declined_row(alloc, question, address)),
             answer: Err(Reason::Declined),
         })
     } else {
@@ -251,7 +251,7 @@ fn release(alloc: Global, question: &Question<'_>) -> Result<Verdict<Outline>, A
     }
     if is_held_at(question, address) {
         Ok(Verdict {
-            row: Some(released_row(alloc, question, address)?),
+            row: Some(make_released_row(alloc, question, address)?),
             answer: Err(Reason::Released),
         })
     } else {
@@ -294,7 +294,7 @@ fn lease(
         }) }
 {
     Ok(Verdict {
-        row: Some(leased_row(alloc, question, address)?),
+        row: Some(make_leased_row(alloc, question, address)?),
         answer: Ok(Outline {
             kind: PlanKind::Ack,
             yiaddr: address,

@@ -19,12 +19,12 @@ pub(crate) fn offer_row(
     if is_leased(question, address) {
         Ok(None)
     } else {
-        Ok(Some(offered_row(alloc, question, address)?))
+        Ok(Some(make_offered_row(alloc, question, address)?))
     }
 }
 
 // Returns the row of an address that is offered.
-fn offered_row(alloc: Global, question: &Question<'_>, address: u32) -> Result<Row, AllocError>
+fn make_offered_row(alloc: Global, question: &Question<'_>, address: u32) -> Result<Row, AllocError>
     requires { question.now.moment < 2 ^ 40 }
     ensures { IfOk result (λ row. row ≡ offered_row (asking question.now) address) }
 {
@@ -33,7 +33,7 @@ fn offered_row(alloc: Global, question: &Question<'_>, address: u32) -> Result<R
 }
 
 // Returns the row of an address that is leased.
-pub(crate) fn leased_row(
+pub(crate) fn make_leased_row(
     alloc: Global,
     question: &Question<'_>,
     address: u32,
@@ -46,7 +46,7 @@ pub(crate) fn leased_row(
 }
 
 // Returns the row of an address that its client released.
-pub(crate) fn released_row(
+pub(crate) fn make_released_row(
     alloc: Global,
     question: &Question<'_>,
     address: u32,
@@ -57,7 +57,7 @@ pub(crate) fn released_row(
 }
 
 // Returns the row of an address that another host uses.
-pub(crate) fn declined_row(alloc: Global, question: &Question<'_>, address: u32) -> Row
+pub(crate) fn make_declined_row(alloc: Global, question: &Question<'_>, address: u32) -> Row
     requires { question.now.moment < 2 ^ 40 }
     ensures { result ≡ declined_row (asking question.now) address }
 {
