@@ -11,8 +11,8 @@ use kd_expr::{Expr, Typed};
 use kd_token::Program;
 use std::alloc::{AllocError, Global};
 
-/// Returns the number of nodes of the class test in an argument.
-pub fn answer_expr(alloc: Global, word: &str) -> Result<Printed, AllocError>
+// Returns the number of nodes of the class test in an argument.
+pub(crate) fn answer_expr(alloc: Global, word: &str) -> Result<Printed, AllocError>
     ensures { IfOk result (TypesText word.now) }
 {
     match kd_expr::read(alloc, word.as_bytes()) {
@@ -35,8 +35,8 @@ fn type_expr(alloc: Global, expr: Expr) -> Result<Printed, AllocError>
     }
 }
 
-/// Returns the token file of the program of the class test in an argument.
-pub fn answer_compile(alloc: Global, word: &str) -> Result<Printed, AllocError>
+// Returns the token file of the program of the class test in an argument.
+pub(crate) fn answer_compile(alloc: Global, word: &str) -> Result<Printed, AllocError>
     ensures { IfOk result (CompilesText word.now) }
 {
     match kd_expr::read(alloc, word.as_bytes()) {

@@ -9,8 +9,8 @@ use hex::FromHexError;
 use kd_options::Message;
 use std::alloc::{AllocError, Global};
 
-/// Returns the lines of the datagram in an argument, with or without the names of its options.
-pub fn answer_show(alloc: Global, word: &str, names: bool) -> Result<Printed, AllocError>
+// Returns the lines of the datagram in an argument, with or without the names of its options.
+pub(crate) fn answer_show(alloc: Global, word: &str, names: bool) -> Result<Printed, AllocError>
     ensures { IfOk result (ShowsDecoded names (decode_of word.now)) }
 {
     match hex::decode(alloc, word) {

@@ -15,8 +15,8 @@ pub struct Printed {
     pub status: u8,
 }
 
-/// Makes a result with a text on standard output and nothing else.
-pub fn success(alloc: Global, text: String) -> Printed
+// Makes a result with a text on standard output and nothing else.
+pub(crate) fn success(alloc: Global, text: String) -> Printed
     ensures { IsSuccess (string_bytes text) result }
 {
     Printed {

@@ -23,16 +23,16 @@ use kd_wire::Bytes;
 use std::alloc::{AllocError, Global};
 use std::fmt::Display;
 
-/// Returns the line for an argument that is not hexadecimal.
-pub fn mistake(alloc: Global) -> Result<Printed, AllocError>
+// Returns the line for an argument that is not hexadecimal.
+pub(crate) fn mistake(alloc: Global) -> Result<Printed, AllocError>
     ensures { IfOk result (IsRefusal 98) }
 {
     let number = LineFault::CommandLine.number();
     refusal(alloc, number, &LineFault::CommandLine)
 }
 
-/// Returns the line for a datagram with this fault.
-pub fn refused_datagram(alloc: Global, fault: ReadFault) -> Result<Printed, AllocError>
+// Returns the line for a datagram with this fault.
+pub(crate) fn refused_datagram(alloc: Global, fault: ReadFault) -> Result<Printed, AllocError>
     ensures ours { IfOk result (λ p. fault ≢ read_faults.Memory) }
     ensures line { IfOk result (IsRefusal (read_fault_number fault)) }
 {
@@ -42,8 +42,8 @@ pub fn refused_datagram(alloc: Global, fault: ReadFault) -> Result<Printed, Allo
     }
 }
 
-/// Returns the line for a text that cannot be read because of this fault.
-pub fn refused_text(alloc: Global, fault: ExprFault) -> Result<Printed, AllocError>
+// Returns the line for a text that cannot be read because of this fault.
+pub(crate) fn refused_text(alloc: Global, fault: ExprFault) -> Result<Printed, AllocError>
     ensures ours { IfOk result (λ p. fault ≢ text_faults.Memory) }
     ensures line { IfOk result (IsRefusal (expr_fault_number fault)) }
 {
@@ -53,16 +53,16 @@ pub fn refused_text(alloc: Global, fault: ExprFault) -> Result<Printed, AllocErr
     }
 }
 
-/// Returns the line for an expression that is not a class test because of this fault.
-pub fn refused_type(alloc: Global, fault: TypeFault) -> Result<Printed, AllocError>
+// Returns the line for an expression that is not a class test because of this fault.
+pub(crate) fn refused_type(alloc: Global, fault: TypeFault) -> Result<Printed, AllocError>
     ensures { IfOk result (IsRefusal (type_fault_number fault)) }
 {
     let number = fault.number();
     refusal(alloc, number, &fault)
 }
 
-/// Returns the line for a class test that exceeds a limit.
-pub fn refused_test(alloc: Global, fault: CompileFault) -> Result<Printed, AllocError>
+// Returns the line for a class test that exceeds a limit.
+pub(crate) fn refused_test(alloc: Global, fault: CompileFault) -> Result<Printed, AllocError>
     ensures ours { IfOk result (λ p. fault ≢ compile_faults.Memory) }
     ensures line { IfOk result (IsRefusal (compile_fault_number fault)) }
 {
@@ -72,8 +72,8 @@ pub fn refused_test(alloc: Global, fault: CompileFault) -> Result<Printed, Alloc
     }
 }
 
-/// Returns the line for bytes that are not a token file because of this fault.
-pub fn refused_file(alloc: Global, fault: FileFault) -> Result<Printed, AllocError>
+// Returns the line for bytes that are not a token file because of this fault.
+pub(crate) fn refused_file(alloc: Global, fault: FileFault) -> Result<Printed, AllocError>
     ensures ours { IfOk result (λ p. fault ≢ file_faults.Memory) }
     ensures line { IfOk result (IsRefusal (file_fault_number fault)) }
 {
@@ -83,8 +83,8 @@ pub fn refused_file(alloc: Global, fault: FileFault) -> Result<Printed, AllocErr
     }
 }
 
-/// Returns the line for a program that is not accepted because of this fault.
-pub fn refused_program(alloc: Global, fault: VerifyFault) -> Result<Printed, AllocError>
+// Returns the line for a program that is not accepted because of this fault.
+pub(crate) fn refused_program(alloc: Global, fault: VerifyFault) -> Result<Printed, AllocError>
     ensures ours { IfOk result (λ p. fault ≢ verify_faults.Memory) }
     ensures line { IfOk result (IsRefusal (verify_fault_number fault)) }
 {

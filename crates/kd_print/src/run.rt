@@ -15,8 +15,12 @@ use kd_options::Message;
 use kd_token::{Program, Verified};
 use std::alloc::{AllocError, Global};
 
-/// Runs the program of the token file in one argument over the datagram in the other.
-pub fn answer_eval(alloc: Global, program: &str, datagram: &str) -> Result<Printed, AllocError>
+// Runs the program of the token file in one argument over the datagram in the other.
+pub(crate) fn answer_eval(
+    alloc: Global,
+    program: &str,
+    datagram: &str,
+) -> Result<Printed, AllocError>
     ensures { IfOk result (RunsDecoded (decode_of program.now) (decode_of datagram.now)) }
 {
     match hex::decode(alloc, program) {
@@ -84,8 +88,12 @@ fn eval_message(
     Ok(success(alloc, run_text(alloc, &outcome)?))
 }
 
-/// Runs the program of the class test in one argument over the datagram in the other.
-pub fn answer_eval_text(alloc: Global, text: &str, datagram: &str) -> Result<Printed, AllocError>
+// Runs the program of the class test in one argument over the datagram in the other.
+pub(crate) fn answer_eval_text(
+    alloc: Global,
+    text: &str,
+    datagram: &str,
+) -> Result<Printed, AllocError>
     ensures { IfOk result (TestsDecoded text.now (decode_of datagram.now)) }
 {
     match hex::decode(alloc, datagram) {

@@ -13,10 +13,10 @@ use kd_wire::Header;
 use std::alloc::{AllocError, Global};
 use std::fmt::Write;
 
-/// Returns the lines of a message: its header, its options in order of first appearance, and the
-/// sub-options of its relay information. With `names`, each option that has a name has a second
-/// line with its name and its value.
-pub fn show(alloc: Global, message: &Message<'_>, names: bool) -> Result<String, AllocError>
+// Returns the lines of a message: its header, its options in order of first appearance, and the
+// sub-options of its relay information. With `names`, each option that has a name has a second
+// line with its name and its value.
+pub(crate) fn show(alloc: Global, message: &Message<'_>, names: bool) -> Result<String, AllocError>
     ensures { IfOk result (λ text. string_bytes text ≡ show_text names message.now) }
 {
     let mut out = String::new(alloc);

@@ -8,8 +8,8 @@ use hex::FromHexError;
 use kd_token::Program;
 use std::alloc::{AllocError, Global};
 
-/// Returns what the program of the token file in an argument declares, if it is accepted.
-pub fn answer_verify(alloc: Global, word: &str) -> Result<Printed, AllocError>
+// Returns what the program of the token file in an argument declares, if it is accepted.
+pub(crate) fn answer_verify(alloc: Global, word: &str) -> Result<Printed, AllocError>
     ensures { IfOk result (VerifiesDecoded (decode_of word.now)) }
 {
     match hex::decode(alloc, word) {

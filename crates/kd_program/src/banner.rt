@@ -28,8 +28,8 @@ pub struct Sizes {
     pub addresses: u64,
 }
 
-/// Returns the number of addresses in the pools of these subnets.
-pub fn pool_addresses(subnets: &[Subnet]) -> u64 {
+// Returns the number of addresses in the pools of these subnets.
+pub(crate) fn pool_addresses(subnets: &[Subnet]) -> u64 {
     let mut sum: u64 = 0;
     for subnet in subnets {
         for pool in subnet.pools.as_slice() {
@@ -41,10 +41,10 @@ pub fn pool_addresses(subnets: &[Subnet]) -> u64 {
     sum
 }
 
-/// Returns the line
-/// `serving ADDRESS:PORT, subnets N, addresses N, leases N, latest change MOMENT, store PATH`, with
-/// its line feed. If there are no leases, the latest change is a dash.
-pub fn banner_line(alloc: Global, banner: &Banner<'_>) -> Result<String, AllocError> {
+// Returns the line
+// `serving ADDRESS:PORT, subnets N, addresses N, leases N, latest change MOMENT, store PATH`, with
+// its line feed. If there are no leases, the latest change is a dash.
+pub(crate) fn banner_line(alloc: Global, banner: &Banner<'_>) -> Result<String, AllocError> {
     let mut line = String::new(alloc);
     line.push_str("serving ")?;
     put_place(&mut line, banner.listening.bind, banner.listening.port)?;

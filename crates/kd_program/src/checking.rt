@@ -70,9 +70,9 @@ pub(crate) struct Found<'a> {
     pub(crate) place: Place,
 }
 
-/// Tries each step of a start, in order, without changing a file. Prints in words what was found,
-/// and returns the exit status: that of the first fault that the host finds, or 0 if there is none.
-pub fn check<H: Host, R: Source, O: Sink, E: Sink>(
+// Tries each step of a start, in order, without changing a file. Prints in words what was found,
+// and returns the exit status: that of the first fault that the host finds, or 0 if there is none.
+pub(crate) fn check<H: Host, R: Source, O: Sink, E: Sink>(
     alloc: Global,
     host: &mut H,
     ends: &mut StandardEnds<R, O, E>,

@@ -16,9 +16,9 @@ use kd_server::Rules;
 use kd_why::{why_line, why_text};
 use std::alloc::Global;
 
-/// Explains the datagram in an argument at a time, in whole seconds, over a table of leases, and
-/// returns the exit status.
-pub fn explain_word<R: Source, O: Sink, E: Sink>(
+// Explains the datagram in an argument at a time, in whole seconds, over a table of leases, and
+// returns the exit status.
+pub(crate) fn explain_word<R: Source, O: Sink, E: Sink>(
     alloc: Global,
     ends: &mut StandardEnds<R, O, E>,
     word: &str,
@@ -83,9 +83,9 @@ const STANDARD: Ports = Ports {
     client: 68,
 };
 
-/// Explains the event of a line of standard input over a copy of a table of leases, after the
-/// events of the lines before it have changed that copy, and returns the exit status.
-pub fn explain_line<R: Source, O: Sink, E: Sink>(
+// Explains the event of a line of standard input over a copy of a table of leases, after the
+// events of the lines before it have changed that copy, and returns the exit status.
+pub(crate) fn explain_line<R: Source, O: Sink, E: Sink>(
     alloc: Global,
     ends: &mut StandardEnds<R, O, E>,
     table: &LeaseTable<'_>,

@@ -33,9 +33,9 @@ impl fmt::Display for NotEmpty {
     }
 }
 
-/// Puts the table that the lines of leases on standard input stand for into the store at a path,
-/// which must have no leases, in one commit; and returns the exit status.
-pub fn import<H: Host, R: Source, O: Sink, E: Sink>(
+// Puts the table that the lines of leases on standard input stand for into the store at a path,
+// which must have no leases, in one commit; and returns the exit status.
+pub(crate) fn import<H: Host, R: Source, O: Sink, E: Sink>(
     alloc: Global,
     host: &mut H,
     ends: &mut StandardEnds<R, O, E>,

@@ -49,8 +49,8 @@ pub enum View {
     },
 }
 
-/// Prints a view of a table, and returns the exit status.
-pub fn print_view<R: Source, O: Sink, E: Sink>(
+// Prints a view of a table, and returns the exit status.
+pub(crate) fn print_view<R: Source, O: Sink, E: Sink>(
     alloc: Global,
     ends: &mut StandardEnds<R, O, E>,
     view: &View,

@@ -10,8 +10,8 @@ use kd_replay::{Sink, Source};
 use kd_wire::Bytes;
 use std::alloc::Global;
 
-/// Prints the requested replies of the log on standard input, and returns the exit status.
-pub fn print_events<R: Source, O: Sink, E: Sink>(
+// Prints the requested replies of the log on standard input, and returns the exit status.
+pub(crate) fn print_events<R: Source, O: Sink, E: Sink>(
     alloc: Global,
     ends: &mut StandardEnds<R, O, E>,
     filter: &Filter,
@@ -31,8 +31,8 @@ pub fn print_events<R: Source, O: Sink, E: Sink>(
     }
 }
 
-/// Selects the replies to a hardware address and with an address, if these are given.
-pub fn filter_of(mac: Option<Vec<u8>>, address: Option<u32>) -> Filter
+// Selects the replies to a hardware address and with an address, if these are given.
+pub(crate) fn filter_of(mac: Option<Vec<u8>>, address: Option<u32>) -> Filter
     ensures { result ≡ record { mac = option_map vec_items mac; address = address } }
 {
     let mac = match mac {

@@ -17,9 +17,9 @@ use kd_replay::{Sink, Source};
 use kd_rows::{Row, Rows};
 use std::alloc::Global;
 
-/// Prints a view of the database at a path, which another process may have open, under the
-/// configuration of these files, and returns the exit status.
-pub fn look<H: Host, R: Source, O: Sink, E: Sink>(
+// Prints a view of the database at a path, which another process may have open, under the
+// configuration of these files, and returns the exit status.
+pub(crate) fn look<H: Host, R: Source, O: Sink, E: Sink>(
     alloc: Global,
     host: &mut H,
     ends: &mut StandardEnds<R, O, E>,

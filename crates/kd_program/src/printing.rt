@@ -16,8 +16,8 @@ const MEMORY_FAULT: &[u8] = b"fault 91 Memory\n";
 
 const WRITE_FAULT: &[u8] = b"fault 95 Write\n";
 
-/// Writes to standard error. A failure is ignored, because there is nowhere to report it.
-pub fn tell<E: Sink>(faults: &mut E, text: &[u8])
+// Writes to standard error. A failure is ignored, because there is nowhere to report it.
+pub(crate) fn tell<E: Sink>(faults: &mut E, text: &[u8])
     ensures { Puts text.now (written_to E.Sink faults.old) (written_to E.Sink faults.new) }
 {
     match write_all(faults, text) {
@@ -26,9 +26,9 @@ pub fn tell<E: Sink>(faults: &mut E, text: &[u8])
     }
 }
 
-/// Writes to standard output, and returns the exit status. If writing fails, reports
-/// `fault 95 Write` and returns its status.
-pub fn show<O: Sink, E: Sink>(output: &mut O, faults: &mut E, text: &[u8], status: u8) -> u8
+// Writes to standard output, and returns the exit status. If writing fails, reports
+// `fault 95 Write` and returns its status.
+pub(crate) fn show<O: Sink, E: Sink>(output: &mut O, faults: &mut E, text: &[u8], status: u8) -> u8
     ensures { ShowsOrBreaks text.now status result
         (written_to O.Sink output.old) (written_to O.Sink output.new)
         (written_to E.Sink faults.old) (written_to E.Sink faults.new) }
@@ -42,8 +42,11 @@ pub fn show<O: Sink, E: Sink>(output: &mut O, faults: &mut E, text: &[u8], statu
     }
 }
 
-/// Writes what an order prints, its text or the line of its fault, and returns the exit status.
-pub fn print<R: Source, O: Sink, E: Sink>(ends: &mut StandardEnds<R, O, E>, printed: &Printed) -> u8
+// Writes what an order prints, its text or the line of its fault, and returns the exit status.
+pub(crate) fn print<R: Source, O: Sink, E: Sink>(
+    ends: &mut StandardEnds<R, O, E>,
+    printed: &Printed,
+) -> u8
     ensures { Prints printed.now result
         (streams R.Source O.Sink E.Sink ends.old) (streams R.Source O.Sink E.Sink ends.new) }
 {
@@ -56,17 +59,22 @@ pub fn print<R: Source, O: Sink, E: Sink>(ends: &mut StandardEnds<R, O, E>, prin
     printed.status
 }
 
-/// Writes the line of a fault with a number, and returns its exit status. If there is no memory for
-/// the line, that is the fault instead.
-pub fn refuse<E: Sink, F: Display>(alloc: Global, faults: &mut E, number: u8, fault: &F) -> u8
+// Writes the line of a fault with a number, and returns its exit status. If there is no memory for
+// the line, that is the fault instead.
+pub(crate) fn refuse<E: Sink, F: Display>(
+    alloc: Global,
+    faults: &mut E,
+    number: u8,
+    fault: &F,
+) -> u8
     ensures { TellsWith number (status_of number) result
         (written_to E.Sink faults.old) (written_to E.Sink faults.new) }
 {
     refuse_as(alloc, faults, number, fault, exit_status(number))
 }
 
-/// Does the same with another exit status.
-pub fn refuse_as<E: Sink, F: Display>(
+// Does the same with another exit status.
+pub(crate) fn refuse_as<E: Sink, F: Display>(
     alloc: Global,
     faults: &mut E,
     number: u8,
@@ -85,8 +93,8 @@ pub fn refuse_as<E: Sink, F: Display>(
     }
 }
 
-/// Writes the line for out of memory, and returns its exit status.
-pub fn refuse_memory<E: Sink>(faults: &mut E) -> u8
+// Writes the line for out of memory, and returns its exit status.
+pub(crate) fn refuse_memory<E: Sink>(faults: &mut E) -> u8
     ensures { (result ≡ 1) × Puts memory_line
         (written_to E.Sink faults.old) (written_to E.Sink faults.new) }
 {

@@ -67,9 +67,9 @@ fn batch_size(is_file: bool, mirror: bool) -> usize
     if is_file && !mirror { 32 } else { 1 }
 }
 
-/// Does this work as a server with the configuration of these files, which keeps its leases in the
-/// store at a path, or in memory if there is none; and returns the exit status.
-pub fn start_server<H: Host, R: Source, O: Sink, E: Sink>(
+// Does this work as a server with the configuration of these files, which keeps its leases in the
+// store at a path, or in memory if there is none; and returns the exit status.
+pub(crate) fn start_server<H: Host, R: Source, O: Sink, E: Sink>(
     alloc: Global,
     host: &mut H,
     ends: &mut StandardEnds<R, O, E>,
@@ -116,8 +116,8 @@ pub fn start_server<H: Host, R: Source, O: Sink, E: Sink>(
     }
 }
 
-/// Returns the configuration that the host gives for these files.
-pub fn read_configuration<H: Host>(host: &mut H, files: &Files) -> Result<Config, StartFault>
+// Returns the configuration that the host gives for these files.
+pub(crate) fn read_configuration<H: Host>(host: &mut H, files: &Files) -> Result<Config, StartFault>
     ensures { H.Host.configures host.old (option_map string_bytes files.now.config)
         (option_map string_bytes files.now.token_dir) result host.new }
 {
@@ -136,16 +136,16 @@ fn text_of(path: &Option<String>) -> Option<&str>
     }
 }
 
-/// Reports why there is no configuration, and returns the exit status.
-pub fn refuse_start<E: Sink>(alloc: Global, faults: &mut E, fault: &StartFault) -> u8
+// Reports why there is no configuration, and returns the exit status.
+pub(crate) fn refuse_start<E: Sink>(alloc: Global, faults: &mut E, fault: &StartFault) -> u8
     ensures { TellsWith (start_fault_number fault.now) (status_of (start_fault_number fault.now))
         result (written_to E.Sink faults.old) (written_to E.Sink faults.new) }
 {
     refuse(alloc, faults, fault.number(), fault)
 }
 
-/// Reports why there is no store, or why it has failed, and returns the exit status.
-pub fn refuse_store<E: Sink>(alloc: Global, faults: &mut E, fault: &StoreFault) -> u8
+// Reports why there is no store, or why it has failed, and returns the exit status.
+pub(crate) fn refuse_store<E: Sink>(alloc: Global, faults: &mut E, fault: &StoreFault) -> u8
     ensures { TellsWith (store_fault_number fault.now) (status_of (store_fault_number fault.now))
         result (written_to E.Sink faults.old) (written_to E.Sink faults.new) }
 {
