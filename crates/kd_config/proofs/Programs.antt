@@ -1,6 +1,6 @@
 -- Programs of class tests: a text spells one tree.
 use Rattle.std.proofs.Common.{◌≡◌, ◌≢◌, ℕ, List, Result, Ok, Err, None, IfOk, IfErr, sym, ap, subst, ◌∙◌}
-use Rattle.kd_compile.specs.Compiled.{HasMeasures, Keeps, first_over}
+use Rattle.kd_compile.specs.Compiled.{HasMeasures, KeepsMeaning, first_over}
 use Rattle.kd_compile.specs.Measures.{names}
 use Rattle.kd_config.specs.Configured.{IsProgramOf, IsTextTest}
 use Rattle.kd_config.specs.declared.objects.faults.ClassesFault.{ClassesFault}
@@ -11,7 +11,7 @@ use Rattle.kd_expr.specs.Typing.{test_type}
 use Rattle.kd_token.specs.Accepts.{Accepts}
 use Rattle.kd_token.specs.File.{Code}
 
-pub compiled : (tree typed : Tree) (program : Code) → typed ≡ tree → test_type tree ≡ Ok tt → HasMeasures typed program → Accepts program → Keeps typed program → first_over typed ≡ None → IsProgramOf tree program
+pub compiled : (tree typed : Tree) (program : Code) → typed ≡ tree → test_type tree ≡ Ok tt → HasMeasures typed program → Accepts program → KeepsMeaning typed program → first_over typed ≡ None → IsProgramOf tree program
 compiled tree typed program same is measured accepted keeps within =
     subst (λ t. IsProgramOf t program) same
     (record { typed = subst (λ t. test_type t ≡ Ok tt) (sym same) is; within = within; compiled = record { measures = measured; accepted = accepted; keeps = keeps } })
