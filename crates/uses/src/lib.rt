@@ -1,0 +1,11 @@
+//! A short caller of each library crate, as a user of the library would write it.
+//!
+//! What this crate shows: the conditions of each call are met, and what the caller promises follows
+//! from the contracts of the calls alone. The README of each library crate quotes its function here
+//! (`tools/uses` compares them).
+#![tactic(auto)]
+
+pub mod event;
+pub mod names;
+pub mod options;
+pub mod wire;
