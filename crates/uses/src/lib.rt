@@ -6,6 +6,9 @@
 #![tactic(auto)]
 
 pub mod event;
+pub mod keeps;
 pub mod names;
 pub mod options;
+pub mod rows;
+pub mod token;
 pub mod wire;
