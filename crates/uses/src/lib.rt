@@ -6,7 +6,9 @@
 #![tactic(auto)]
 
 pub mod event;
+pub mod expr;
 pub mod keeps;
+pub mod machine;
 pub mod names;
 pub mod options;
 pub mod rows;
