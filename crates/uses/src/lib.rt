@@ -5,12 +5,19 @@
 //! (`tools/uses` compares them).
 #![tactic(auto)]
 
+pub mod classes;
+pub mod commands;
+pub mod compile;
 pub mod event;
+pub mod events;
 pub mod expr;
 pub mod keeps;
 pub mod machine;
 pub mod names;
 pub mod options;
+pub mod replay;
 pub mod rows;
+pub mod store;
 pub mod token;
 pub mod wire;
+pub mod words;
