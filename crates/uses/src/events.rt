@@ -5,11 +5,7 @@ use kd_events::{Filter, text_of_line};
 use std::alloc::{AllocError, Global};
 
 /// Returns what is printed for a line of a log, if only the replies of one address are wanted.
-pub fn line_of_address(
-    alloc: Global,
-    line: &[u8],
-    address: u32,
-) -> Result<Option<String>, AllocError>
+pub fn log_line(alloc: Global, line: &[u8], address: u32) -> Result<Option<String>, AllocError>
     ensures { IfOk result (λ found. IfSome found (λ text.
         IsEventText (record { mac = None; address = Some address }) line.now (string_bytes text))) }
 {

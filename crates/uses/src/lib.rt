@@ -8,6 +8,7 @@
 pub mod classes;
 pub mod commands;
 pub mod compile;
+pub mod database;
 pub mod event;
 pub mod events;
 pub mod expr;
@@ -15,6 +16,7 @@ pub mod keeps;
 pub mod machine;
 pub mod names;
 pub mod options;
+pub mod print;
 pub mod replay;
 pub mod rows;
 pub mod store;
