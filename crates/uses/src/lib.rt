@@ -1,8 +1,9 @@
-//! A short caller of each library crate, as a user of the library would write it.
+//! Short callers of the library crates, as a user of each would write them: one function for a
+//! crate, in the module that has its name without `kd_`.
 //!
 //! What this crate shows: the conditions of each call are met, and what the caller promises follows
-//! from the contracts of the calls alone. The README of each library crate quotes its function here
-//! (`tools/uses` compares them).
+//! from the contracts of the calls alone, in the words of the called crate. The README of each of
+//! these crates quotes its function (`tools/uses` compares them).
 #![tactic(auto)]
 
 pub mod classes;
