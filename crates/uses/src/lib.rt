@@ -6,9 +6,11 @@
 //! these crates quotes its function (`tools/uses` compares them).
 #![tactic(auto)]
 
+pub mod check;
 pub mod classes;
 pub mod commands;
 pub mod compile;
+pub mod config;
 pub mod database;
 pub mod event;
 pub mod events;

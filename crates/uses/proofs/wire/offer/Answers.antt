@@ -19,7 +19,7 @@ returns c h e =
     let ends : c.put_end.new.out ≡ with_bytes_at 243 (255 ∷ []) c.put_piece-end.new.out =
     rw c.put_piece-end.ensures.next at c.put_end.ensures.written in
     let three = written_more old (head ++ 53 ∷ 1 ∷ 2 ∷ []) 243 c.put_piece-end.new.out (255 ∷ []) c.put_end.new.out 1 two ends refl in
-    let whole : c.put_end.new.out ≡ head ++ 53 ∷ 1 ∷ 2 ∷ [] ++ 255 ∷ drop 244 old = rw append_assoc at three.is in (
+    let whole : c.put_end.new.out ≡ head ++ 53 ∷ 1 ∷ 2 ∷ [] ++ 255 ∷ drop 244 old = rw (append_assoc (head ++ 53 ∷ 1 ∷ 2 ∷ []) (255 ∷ []) (drop 244 old)) at three.is in (
       ap Ok (c.put_end.ensures.next ∙ ap (λ n. n + 1) c.put_piece-end.ensures.next),
       subst (λ (x : HeaderFields). c.put_end.new.out ≡ header_bytes (record x { op = 2 }) ++ 53 ∷ 1 ∷ 2 ∷ [] ++ 255 ∷ drop 244 old) same whole,
     )
