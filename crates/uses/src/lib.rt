@@ -16,6 +16,7 @@ pub mod event;
 pub mod events;
 pub mod expr;
 pub mod keeps;
+pub mod lease;
 pub mod machine;
 pub mod names;
 pub mod options;
