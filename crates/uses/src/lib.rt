@@ -15,6 +15,7 @@ pub mod database;
 pub mod event;
 pub mod events;
 pub mod expr;
+pub mod io;
 pub mod keeps;
 pub mod lease;
 pub mod machine;
