@@ -24,6 +24,7 @@ pub mod names;
 pub mod options;
 pub mod pools;
 pub mod print;
+pub mod program;
 pub mod replay;
 pub mod rows;
 pub mod server;
