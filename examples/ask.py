@@ -44,6 +44,8 @@ def answered(link, text):
 
 
 def main():
+    if len(sys.argv) not in (3, 4):
+        sys.exit(__doc__)
     address, port = sys.argv[1], int(sys.argv[2])
     hardware = bytes.fromhex(sys.argv[3] if len(sys.argv) > 3 else "0a0000000001")
     with socket.socket(socket.AF_INET, socket.SOCK_DGRAM) as link:

@@ -73,6 +73,8 @@ def read(leases, address, text):
 
 
 def main():
+    if len(sys.argv) != 2 or sys.argv[1] in ("-h", "--help"):
+        sys.exit(__doc__)
     leases = Leases()
     with open(sys.argv[1], encoding="latin-1") as file:
         for address, text in ENTRY.findall(file.read()):

@@ -20,6 +20,8 @@ def client_of(link, name):
 
 
 def main():
+    if len(sys.argv) != 2 or sys.argv[1] in ("-h", "--help"):
+        sys.exit(__doc__)
     leases, now = Leases(), int(time.time())
     with open(sys.argv[1], encoding="utf-8") as file:
         for line in file:

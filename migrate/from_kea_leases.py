@@ -37,6 +37,8 @@ def read(leases, row):
 
 
 def main():
+    if len(sys.argv) < 2 or sys.argv[1] in ("-h", "--help"):
+        sys.exit(__doc__)
     leases = Leases()
     for name in sys.argv[1:]:
         with open(name, encoding="utf-8", newline="") as file:
