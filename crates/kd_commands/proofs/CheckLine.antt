@@ -13,7 +13,7 @@ use Rattle.kd_commands.specs.Order.{Asked, Checking, asked_of, check_line, check
 use Rattle.kd_commands.specs.Values.{address_of, number_of, port_of, read_if_given, read_or}
 use Rattle.kd_commands.proofs.Apart.{each_has}
 use Rattle.kd_commands.proofs.Entries.{found_text, text_at}
-use Rattle.kd_commands.proofs.Flags.{ShortsFail, help_built}
+use Rattle.kd_commands.proofs.Flags.{help_built, shorts_fail}
 use Rattle.kd_commands.proofs.Given.{given_passes, line_of}
 use Rattle.kd_commands.proofs.Held.{defaults_pass, no_defaults, rows_of}
 use Rattle.kd_commands.proofs.Level.{leaf}
@@ -46,13 +46,6 @@ check_option n (inr (inr (inr (inr (inr (inl is)))))) = subst (IsOption check_bu
     (record { needed = false; by_id = refl; by_long = refl; alone_is = refl; joined_is = λ v. refl; alone_apart = refl; joined_apart = λ v. refl })
 check_option n (inr (inr (inr (inr (inr (inr never)))))) = absurd never
 
-check_short : ShortsFail check_built.rules
-check_short x = go (has_short help_built x) (arg_by_short check_built.rules x) refl
-  where
-    go : (t : Bool) (o : Option Rule) → o ≡ (if t then Some help_built else None) → (o ≡ None) ⊎ (o ≡ Some help_built)
-    go true o e = inr e
-    go false o e = inl e
-
 check_long : (n : Text) → Known option_names [] n (arg_by_long check_built.rules n)
 check_long n = known_of option_names [] check_built.rules n
     (inl (codes "config", false, inl refl, refl), (inl (codes "token-dir", false, inr (inl refl), refl), (inl (codes "store", false, inr (inr (inl refl)), refl), (inl (codes "bind", false, inr (inr (inr (inl refl))), refl), (inl (codes "port", false, inr (inr (inr (inr (inl refl)))), refl), (inl (codes "max-ahead", false, inr (inr (inr (inr (inr (inl refl))))), refl), (inr (inr refl), tt)))))))
@@ -65,7 +58,7 @@ check_rules = record {
   option = check_option;
   flag = λ n never. absurd never;
   long = check_long;
-  short = check_short;
+  short = shorts_fail check_built.rules (λ x. refl);
   defaults = λ rows. defaults_pass check_built.rules rows (inl refl, (inl refl, (inl refl, (inl refl, (inl refl, (inl refl, (inl refl, tt)))))));
   needs = λ rows. refl;
 }

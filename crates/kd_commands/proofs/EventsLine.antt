@@ -13,7 +13,7 @@ use Rattle.kd_commands.specs.Order.{Asked, asked_of, command_line, events_line, 
 use Rattle.kd_commands.specs.Values.{address_of, hardware_of, read_if_given}
 use Rattle.kd_commands.proofs.Apart.{each_has}
 use Rattle.kd_commands.proofs.Entries.{found_text, text_at}
-use Rattle.kd_commands.proofs.Flags.{ShortsFail, help_built}
+use Rattle.kd_commands.proofs.Flags.{help_built, shorts_fail}
 use Rattle.kd_commands.proofs.Given.{given_passes, line_of}
 use Rattle.kd_commands.proofs.Held.{defaults_pass, no_defaults, rows_of}
 use Rattle.kd_commands.proofs.Level.{leaf}
@@ -38,13 +38,6 @@ events_option n (inr (inl is)) = subst (IsOption events_built.rules) (sym is)
     (record { needed = false; by_id = refl; by_long = refl; alone_is = refl; joined_is = λ v. refl; alone_apart = refl; joined_apart = λ v. refl })
 events_option n (inr (inr never)) = absurd never
 
-events_short : ShortsFail events_built.rules
-events_short x = go (has_short help_built x) (arg_by_short events_built.rules x) refl
-  where
-    go : (t : Bool) (o : Option Rule) → o ≡ (if t then Some help_built else None) → (o ≡ None) ⊎ (o ≡ Some help_built)
-    go true o e = inr e
-    go false o e = inl e
-
 events_long : (n : Text) → Known option_names [] n (arg_by_long events_built.rules n)
 events_long n = known_of option_names [] events_built.rules n
     (inl (codes "mac", false, inl refl, refl), (inl (codes "address", false, inr (inl refl), refl), (inr (inr refl), tt)))
@@ -57,7 +50,7 @@ events_rules = record {
   option = events_option;
   flag = λ n never. absurd never;
   long = events_long;
-  short = events_short;
+  short = shorts_fail events_built.rules (λ x. refl);
   defaults = λ rows. defaults_pass events_built.rules rows (inl refl, (inl refl, (inl refl, tt)));
   needs = λ rows. refl;
 }

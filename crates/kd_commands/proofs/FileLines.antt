@@ -15,7 +15,7 @@ use Rattle.kd_commands.specs.Order.{Asked, asked_of, command_line, import_line, 
 use Rattle.kd_commands.specs.Values.{event_line_of, read_if_given}
 use Rattle.kd_commands.proofs.Apart.{each_has}
 use Rattle.kd_commands.proofs.Entries.{found_text, text_at}
-use Rattle.kd_commands.proofs.Flags.{ShortsFail, help_built}
+use Rattle.kd_commands.proofs.Flags.{help_built, shorts_fail}
 use Rattle.kd_commands.proofs.Given.{given_passes, lacks_none, line_of, needed_text}
 use Rattle.kd_commands.proofs.Held.{defaults_pass, no_defaults, rows_of}
 use Rattle.kd_commands.proofs.Level.{leaf}
@@ -54,13 +54,6 @@ replay_option n (inr (inr (inr (inl is)))) = subst (IsOption replay_built.rules)
     (record { needed = false; by_id = refl; by_long = refl; alone_is = refl; joined_is = λ v. refl; alone_apart = refl; joined_apart = λ v. refl })
 replay_option n (inr (inr (inr (inr never)))) = absurd never
 
-replay_short : ShortsFail replay_built.rules
-replay_short x = go (has_short help_built x) (arg_by_short replay_built.rules x) refl
-  where
-    go : (t : Bool) (o : Option Rule) → o ≡ (if t then Some help_built else None) → (o ≡ None) ⊎ (o ≡ Some help_built)
-    go true o e = inr e
-    go false o e = inl e
-
 replay_long : (n : Text) → Known replay_names [] n (arg_by_long replay_built.rules n)
 replay_long n = known_of replay_names [] replay_built.rules n (
   inl (codes "config", false, inl refl, refl),
@@ -81,7 +74,7 @@ replay_rules = record {
   option = replay_option;
   flag = λ n never. absurd never;
   long = replay_long;
-  short = replay_short;
+  short = shorts_fail replay_built.rules (λ x. refl);
   defaults = λ rows. defaults_pass replay_built.rules rows (inl refl, (inl refl, (inl refl, (inl refl, (inl refl, tt)))));
   needs = λ rows. refl;
 }
@@ -94,13 +87,6 @@ import_option n (inl is) = subst (IsOption import_built.rules) (sym is)
     (record { needed = true; by_id = refl; by_long = refl; alone_is = refl; joined_is = λ v. refl; alone_apart = refl; joined_apart = λ v. refl })
 import_option n (inr never) = absurd never
 
-import_short : ShortsFail import_built.rules
-import_short x = go (has_short help_built x) (arg_by_short import_built.rules x) refl
-  where
-    go : (t : Bool) (o : Option Rule) → o ≡ (if t then Some help_built else None) → (o ≡ None) ⊎ (o ≡ Some help_built)
-    go true o e = inr e
-    go false o e = inl e
-
 import_long : (n : Text) → Known store_name [] n (arg_by_long import_built.rules n)
 import_long n = known_of store_name [] import_built.rules n (inl (codes "store", true, inl refl, refl), (inr (inr refl), tt))
 
@@ -112,7 +98,7 @@ import_rules = record {
   option = import_option;
   flag = λ n never. absurd never;
   long = import_long;
-  short = import_short;
+  short = shorts_fail import_built.rules (λ x. refl);
   defaults = λ rows. defaults_pass import_built.rules rows (inl refl, (inl refl, tt));
   needs = λ rows. ap (λ r. not (is_given (codes "store") r) || false) (no_defaults import_built.rules rows import_plain);
 }

@@ -145,6 +145,14 @@ first_char x xs text none = go (chars (x ∷ xs)) refl none
 abbrev pub ShortsFail : List Rule → Type 0
 ShortsFail c = (x : ℕ) → (arg_by_short c x ≡ None) ⊎ (arg_by_short c x ≡ Some help_built)
 
+-- rules whose one flag of a letter is that for help
+pub shorts_fail : (c : List Rule) → ((x : ℕ) → arg_by_short c x ≡ (if has_short help_built x then Some help_built else None)) → ShortsFail c
+shorts_fail c short x = go (has_short help_built x) (arg_by_short c x) (short x)
+  where
+    go : (t : Bool) (o : Option Rule) → o ≡ (if t then Some help_built else None) → (o ≡ None) ⊎ (o ≡ Some help_built)
+    go true o e = inr e
+    go false o e = inl e
+
 letters_refused : (c : List Rule) → ((x : ℕ) → IsRefused (arg_by_short c x)) → (x : ℕ) (xs : Text) (h : Held) → h.skip ≡ 0 → IsUtf8 (45 ∷ x ∷ xs)
     → bundle_fault c false (x ∷ xs) h ≡ [] → ⊥
 unfolding flags_fault

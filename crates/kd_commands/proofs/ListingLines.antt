@@ -20,7 +20,7 @@ use Rattle.kd_commands.specs.declared.orders.Listing.TheVariants.{Leases, Metric
 use Rattle.kd_commands.proofs.Apart.{each_has, not_in_both, value_of}
 use Rattle.kd_commands.proofs.Defaults.{defaults_apart, flag_beside, text_beside, with_defaults}
 use Rattle.kd_commands.proofs.Entries.{flag_kept, text_at}
-use Rattle.kd_commands.proofs.Flags.{ShortsFail, help_built}
+use Rattle.kd_commands.proofs.Flags.{help_built, shorts_fail}
 use Rattle.kd_commands.proofs.Given.{flags_given, given_passes, lacks_none, line_of, needed_text}
 use Rattle.kd_commands.proofs.Held.{defaults_pass, first_default, one_default, rows_of}
 use Rattle.kd_commands.proofs.Level.{leaf}
@@ -75,13 +75,6 @@ leases_long : (n : Text) → Known option_names leases_flags n (arg_by_long leas
 leases_long n = known_of option_names leases_flags leases_built.rules n
     (inl (codes "config", false, inl refl, refl), (inl (codes "token-dir", false, inr (inl refl), refl), (inl (codes "store", false, inr (inr (inl refl)), refl), (inr (inl (codes "live", inl refl, refl)), (inl (codes "at", true, inr (inr (inr (inl refl))), refl), (inr (inr refl), tt))))))
 
-leases_short : ShortsFail leases_built.rules
-leases_short x = go (has_short help_built x) (arg_by_short leases_built.rules x) refl
-  where
-    go : (t : Bool) (o : Option Rule) → o ≡ (if t then Some help_built else None) → (o ≡ None) ⊎ (o ≡ Some help_built)
-    go true o e = inr e
-    go false o e = inl e
-
 leases_end : (rows : List Row) → fold with_default rows leases_built.rules ≡ with_defaults leases_flags rows
 leases_end rows = one_default files_built (built_of true (codes "at") ∷ help_built ∷ []) (flag_of (codes "live")) rows (refl, (refl, (refl, tt))) (refl, (refl, tt))
 
@@ -90,7 +83,7 @@ leases_rules = record {
   option = leases_option;
   flag = leases_flag;
   long = leases_long;
-  short = leases_short;
+  short = shorts_fail leases_built.rules (λ x. refl);
   defaults = λ rows. defaults_pass leases_built.rules rows (inl refl, (inl refl, (inl refl, (inr refl, (inl refl, (inl refl, tt))))));
   needs = λ rows. ap (λ r. not (is_given (codes "at") r) || false) (leases_end rows)
       ∙ ap (λ o. not (option_map_or (λ r. explicit_source r.source) o false) || false) (defaults_apart (codes "at") leases_flags rows (refl, tt));
@@ -120,13 +113,6 @@ pools_long : (n : Text) → Known option_names pools_flags n (arg_by_long pools_
 pools_long n = known_of option_names pools_flags pools_built.rules n
     (inl (codes "config", false, inl refl, refl), (inl (codes "token-dir", false, inr (inl refl), refl), (inl (codes "store", false, inr (inr (inl refl)), refl), (inr (inl (codes "live", inl refl, refl)), (inl (codes "at", true, inr (inr (inr (inl refl))), refl), (inr (inl (codes "prometheus", inr (inl refl), refl)), (inr (inr refl), tt)))))))
 
-pools_short : ShortsFail pools_built.rules
-pools_short x = go (has_short help_built x) (arg_by_short pools_built.rules x) refl
-  where
-    go : (t : Bool) (o : Option Rule) → o ≡ (if t then Some help_built else None) → (o ≡ None) ⊎ (o ≡ Some help_built)
-    go true o e = inr e
-    go false o e = inl e
-
 pools_end : (rows : List Row) → fold with_default rows pools_built.rules ≡ with_defaults pools_flags rows
 pools_end rows =
     first_default files_built (built_of true (codes "at") ∷ flag_of (codes "prometheus") ∷ help_built ∷ []) (flag_of (codes "live")) rows (refl, (refl, (refl, tt)))
@@ -137,7 +123,7 @@ pools_rules = record {
   option = pools_option;
   flag = pools_flag;
   long = pools_long;
-  short = pools_short;
+  short = shorts_fail pools_built.rules (λ x. refl);
   defaults = λ rows. defaults_pass pools_built.rules rows (inl refl, (inl refl, (inl refl, (inr refl, (inl refl, (inr refl, (inl refl, tt)))))));
   needs = λ rows. ap (λ r. not (is_given (codes "at") r) || false) (pools_end rows)
       ∙ ap (λ o. not (option_map_or (λ r. explicit_source r.source) o false) || false) (defaults_apart (codes "at") pools_flags rows (refl, (refl, tt)));

@@ -17,7 +17,7 @@ use Rattle.kd_commands.specs.declared.orders.Listening.{Listening}
 use Rattle.kd_commands.proofs.Apart.{each_has, not_in_both, value_of}
 use Rattle.kd_commands.proofs.Defaults.{defaults_apart, flag_beside, text_beside, with_defaults}
 use Rattle.kd_commands.proofs.Entries.{flag_kept, text_at}
-use Rattle.kd_commands.proofs.Flags.{ShortsFail, help_built}
+use Rattle.kd_commands.proofs.Flags.{help_built, shorts_fail}
 use Rattle.kd_commands.proofs.Given.{given_passes, lacks_none, line_of, needed_text}
 use Rattle.kd_commands.proofs.Held.{defaults_pass, one_default, rows_of}
 use Rattle.kd_commands.proofs.Level.{leaf}
@@ -76,13 +76,6 @@ serve_long : (n : Text) → Known option_names flag_names n (arg_by_long serve_b
 serve_long n = known_of option_names flag_names serve_built.rules n
     (inl (codes "config", false, inl refl, refl), (inl (codes "token-dir", false, inr (inl refl), refl), (inl (codes "store", false, inr (inr (inl refl)), refl), (inl (codes "bind", false, inr (inr (inr (inl refl))), refl), (inl (codes "port", false, inr (inr (inr (inr (inl refl)))), refl), (inl (codes "client-port", false, inr (inr (inr (inr (inr (inl refl))))), refl), (inl (codes "count", true, inr (inr (inr (inr (inr (inr (inl refl)))))), refl), (inl (codes "broadcast-as", false, inr (inr (inr (inr (inr (inr (inr (inl refl))))))), refl), (inr (inl (codes "mirror", inl refl, refl)), (inl (codes "record", false, inr (inr (inr (inr (inr (inr (inr (inr (inl refl)))))))), refl), (inl (codes "max-ahead", false, inr (inr (inr (inr (inr (inr (inr (inr (inr (inl refl))))))))), refl), (inr (inr refl), tt))))))))))))
 
-serve_short : ShortsFail serve_built.rules
-serve_short x = go (has_short help_built x) (arg_by_short serve_built.rules x) refl
-  where
-    go : (t : Bool) (o : Option Rule) → o ≡ (if t then Some help_built else None) → (o ≡ None) ⊎ (o ≡ Some help_built)
-    go true o e = inr e
-    go false o e = inl e
-
 -- the options come before the flag, except the last two, and the flag for help after them
 abbrev options_built : List Rule
 options_built = built_of false (codes "config") ∷ built_of false (codes "token-dir") ∷ built_of false (codes "store") ∷ built_of false (codes "bind") ∷ built_of false (codes "port") ∷ built_of false (codes "client-port") ∷ built_of true (codes "count") ∷ built_of false (codes "broadcast-as") ∷ []
@@ -100,7 +93,7 @@ serve_rules = record {
   option = serve_option;
   flag = serve_flag;
   long = serve_long;
-  short = serve_short;
+  short = shorts_fail serve_built.rules (λ x. refl);
   defaults = λ rows. defaults_pass serve_built.rules rows (inl refl, (inl refl, (inl refl, (inl refl, (inl refl, (inl refl, (inl refl, (inl refl, (inr refl, (inl refl, (inl refl, (inl refl, tt))))))))))));
   needs = λ rows. ap (λ b. not b || false) (count_given rows);
 }

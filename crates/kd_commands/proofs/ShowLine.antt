@@ -16,7 +16,7 @@ use Rattle.kd_commands.proofs.Apart.{value_of}
 use Rattle.kd_commands.proofs.AroundText.{HasText, around_in}
 use Rattle.kd_commands.proofs.Defaults.{defaults_apart, flag_beside, text_beside, with_defaults}
 use Rattle.kd_commands.proofs.Entries.{flag_kept}
-use Rattle.kd_commands.proofs.Flags.{ShortsFail, help_built}
+use Rattle.kd_commands.proofs.Flags.{help_built, shorts_fail}
 use Rattle.kd_commands.proofs.Given.{around_given_passes, around_line_of, lacks_none, options_read}
 use Rattle.kd_commands.proofs.Held.{defaults_pass, one_default, rows_of}
 use Rattle.kd_commands.proofs.Level.{leaf}
@@ -44,13 +44,6 @@ show_flag n (inr never) = absurd never
 show_long : (n : Text) → Known [] flag_names n (arg_by_long show_built.rules n)
 show_long n = known_of [] flag_names (flag_of (codes "names") ∷ help_built ∷ []) n (inr (inl (codes "names", inl refl, refl)), (inr (inr refl), tt))
 
-show_short : ShortsFail show_built.rules
-show_short x = go (has_short help_built x) (arg_by_short show_built.rules x) refl
-  where
-    go : (t : Bool) (o : Option Rule) → o ≡ (if t then Some help_built else None) → (o ≡ None) ⊎ (o ≡ Some help_built)
-    go true o e = inr e
-    go false o e = inl e
-
 show_end : (rows : List Row) → fold with_default rows show_built.rules ≡ with_defaults flag_names rows
 show_end rows = one_default [] (needed_built (codes "HEX") ∷ help_built ∷ []) (flag_of (codes "names")) rows tt (refl, (refl, tt))
 
@@ -59,7 +52,7 @@ show_rules = record {
   option = λ n never. absurd never;
   flag = show_flag;
   long = show_long;
-  short = show_short;
+  short = shorts_fail show_built.rules (λ x. refl);
   defaults = λ rows. defaults_pass show_built.rules rows (inr refl, (inl refl, (inl refl, tt)));
   needs = λ rows. ap (λ r. not (is_given (codes "HEX") r) || false) (show_end rows)
       ∙ ap (λ o. not (option_map_or (λ r. explicit_source r.source) o false) || false) (defaults_apart (codes "HEX") flag_names rows (refl, tt));

@@ -18,7 +18,7 @@ use Rattle.kd_commands.proofs.Apart.{each_has, not_in_both, value_of}
 use Rattle.kd_commands.proofs.AroundText.{HasText, around_in}
 use Rattle.kd_commands.proofs.Defaults.{defaults_apart, flag_beside, text_beside, with_defaults}
 use Rattle.kd_commands.proofs.Entries.{flag_kept, text_at}
-use Rattle.kd_commands.proofs.Flags.{ShortsFail, help_built}
+use Rattle.kd_commands.proofs.Flags.{help_built, shorts_fail}
 use Rattle.kd_commands.proofs.Given.{around_given_passes, around_line_of, lacks_none, needed_text, ones_read, options_read, wanted_beside}
 use Rattle.kd_commands.proofs.Held.{defaults_pass, one_default, rows_of}
 use Rattle.kd_commands.proofs.Level.{leaf}
@@ -69,13 +69,6 @@ why_long : (n : Text) → Known option_names flag_names n (arg_by_long why_built
 why_long n = known_of option_names flag_names named_built n
     (inl (codes "config", false, inl refl, refl), (inl (codes "token-dir", false, inr (inl refl), refl), (inl (codes "store", false, inr (inr (inl refl)), refl), (inr (inl (codes "live", inl refl, refl)), (inl (codes "at", true, inr (inr (inr (inl refl))), refl), (inr (inr refl), tt))))))
 
-why_short : ShortsFail why_built.rules
-why_short x = go (has_short help_built x) (arg_by_short why_built.rules x) refl
-  where
-    go : (t : Bool) (o : Option Rule) → o ≡ (if t then Some help_built else None) → (o ≡ None) ⊎ (o ≡ Some help_built)
-    go true o e = inr e
-    go false o e = inl e
-
 why_end : (rows : List Row) → fold with_default rows why_built.rules ≡ with_defaults flag_names rows
 why_end rows = one_default files_built (built_of true (codes "at") ∷ needed_built (codes "HEX") ∷ help_built ∷ []) (flag_of (codes "live")) rows (refl, (refl, (refl, tt))) (refl, (refl, (refl, tt)))
 
@@ -84,7 +77,7 @@ why_rules = record {
   option = why_option;
   flag = why_flag;
   long = why_long;
-  short = why_short;
+  short = shorts_fail why_built.rules (λ x. refl);
   defaults = λ rows. defaults_pass why_built.rules rows (inl refl, (inl refl, (inl refl, (inr refl, (inl refl, (inl refl, (inl refl, tt)))))));
   needs = λ rows. ap (λ r. not (is_given (codes "at") r) || (not (is_given (codes "HEX") r) || false)) (why_end rows)
       ∙ ap₂ (λ o p. not (option_map_or (λ r. explicit_source r.source) o false) || (not (option_map_or (λ r. explicit_source r.source) p false) || false))

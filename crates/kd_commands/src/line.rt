@@ -346,6 +346,24 @@ fn max_ahead<'a>(alloc: Global) -> Arg<'a>
     value_option(alloc, "max-ahead", "SECONDS", help)
 }
 
+// `--bind A`.
+fn bind_address<'a>(alloc: Global) -> Arg<'a>
+    ensures rule { rule_of result ≡ value_rule (codes "bind") }
+    ensures local { result.global ≡ false }
+{
+    let help = "The address to listen on (default 127.0.0.1)";
+    value_option(alloc, "bind", "A", help)
+}
+
+// `--port P`.
+fn port<'a>(alloc: Global) -> Arg<'a>
+    ensures rule { rule_of result ≡ value_rule (codes "port") }
+    ensures local { result.global ≡ false }
+{
+    let help = "The UDP port to listen on (default 67)";
+    value_option(alloc, "port", "P", help)
+}
+
 // `check [--config F] [--token-dir D] [--store F] [--bind A] [--port P] [--max-ahead SECONDS]`.
 fn check<'a>(alloc: Global) -> Result<Command<'a>, AllocError>
     ensures app { IfOk result (λ c. app_of c ≡ check_line) }
@@ -357,13 +375,8 @@ fn check<'a>(alloc: Global) -> Result<Command<'a>, AllocError>
         "Try each step of a start, and explain what is wrong",
         "Example: kdhcp check --config kdhcp.json --store leases.db --bind 0.0.0.0",
     )?
-    .arg(value_option(
-        alloc,
-        "bind",
-        "A",
-        "The address to listen on (default 127.0.0.1)",
-    ))?
-    .arg(value_option(alloc, "port", "P", "The UDP port to listen on (default 67)"))?
+    .arg(bind_address(alloc))?
+    .arg(port(alloc))?
     .arg(max_ahead(alloc))
 }
 
@@ -391,13 +404,8 @@ fn serve<'a>(alloc: Global) -> Result<Command<'a>, AllocError>
         "Serve datagrams on a UDP socket",
         SERVE_EXAMPLE,
     )?
-    .arg(value_option(
-        alloc,
-        "bind",
-        "A",
-        "The address to listen on (default 127.0.0.1)",
-    ))?
-    .arg(value_option(alloc, "port", "P", "The UDP port to listen on (default 67)"))?
+    .arg(bind_address(alloc))?
+    .arg(port(alloc))?
     .arg(value_option(
         alloc,
         "client-port",
