@@ -5,12 +5,12 @@ use Rattle.std.specs.Map.{lookup}
 use Rattle.hex.specs.Hex.{encode_lower}
 use Rattle.jiff.specs.Types.{DateTime}
 use Rattle.jiff.specs.Words.{civil_nanos, iso_datetime_text}
+use Rattle.kd_names.specs.Values.{message_type_word}
 use Rattle.kd_options.specs.Joined.{value_of}
 use Rattle.kd_options.specs.Kind.{type_number}
 use Rattle.kd_options.specs.Message.{Seen, mac_of}
 use Rattle.kd_options.specs.RelayWalk.{relay_list}
 use Rattle.kd_options.specs.declared.kind.MessageType.{MessageType}
-use Rattle.kd_options.specs.declared.kind.MessageType.TheVariants as types
 use Rattle.kd_replay.specs.Text.{address_text, bytes_text}
 
 -- the last time that has a date and time of day: 9999-12-30T22:00:00Z
@@ -28,17 +28,6 @@ pub record IsDateTimeText (moment : ℕ) (text : List ℕ) : Type 0 where
 -- one
 abbrev pub IsTimeText : ℕ → List ℕ → Type 0
 IsTimeText moment text = IsDateTimeText moment text ⊎ ((last_dated < moment) × (text ≡ decimal moment))
-
--- the name of a message type (RFC 2131 section 2, without the prefix DHCP)
-abbrev pub type_word : MessageType → List ℕ
-type_word types.Discover = codes "DISCOVER"
-type_word types.Offer = codes "OFFER"
-type_word types.Request = codes "REQUEST"
-type_word types.Decline = codes "DECLINE"
-type_word types.Ack = codes "ACK"
-type_word types.Nak = codes "NAK"
-type_word types.Release = codes "RELEASE"
-type_word types.Inform = codes "INFORM"
 
 -- a byte of a hardware address, after the one before it
 abbrev pub colon_byte : ℕ → List ℕ
@@ -78,4 +67,5 @@ pub record IsPeopleLine (moment : ℕ) (m : Seen) (text : List ℕ) : Type 0 whe
   pub kind : MessageType
   pub time_is : IsTimeText moment time
   pub kind_is : value_of 53 m.options ≡ Some (type_number kind ∷ [])
-  pub text_is : text ≡ time ++ (codes " " ++ type_word kind) ++ reply_words m ++ codes "\n"
+  pub text_is : text
+      ≡ time ++ (codes " " ++ message_type_word (type_number kind)) ++ reply_words m ++ codes "\n"

@@ -1,10 +1,13 @@
 ghost use Rattle.std.specs.Prelude.{◌≡◌, ◌∷◌, ◌++◌, [], IfOk, OnOk, codes, option_copied, string_bytes};
 ghost use Rattle.std.specs.List.{flat_map};
 ghost use Rattle.hex.specs.Hex.{encode_lower};
+ghost use Rattle.kd_names.specs.Values.{message_type_word};
+ghost use Rattle.kd_options.specs.Kind.{type_number};
 ghost use Rattle.kd_options.specs.Message.{mac_of};
-ghost use Rattle.kd_events.specs.People.{IsPeopleLine, address_or_dash, colon_byte, mac_text, reply_words, type_word, value_text};
+ghost use Rattle.kd_events.specs.People.{IsPeopleLine, address_or_dash, colon_byte, mac_text, reply_words, value_text};
 
 use crate::time::time_text;
+use kd_names::message_type_name;
 use kd_options::codes::OPTION_CLIENT_IDENTIFIER;
 use kd_options::{Message, MessageType};
 use kd_replay::{put_address, put_bytes};
@@ -31,25 +34,11 @@ pub(crate) fn people_line(
 
 fn put_type(out: &mut String, kind: MessageType) -> Result<(), AllocError>
     ensures { OnOk result
-        (string_bytes out.new ≡ string_bytes out.old ++ (codes " " ++ type_word kind)) }
+        (string_bytes out.new
+        ≡ string_bytes out.old ++ (codes " " ++ message_type_word (type_number kind))) }
 {
     out.push_str(" ")?;
-    out.push_str(type_name(kind))
-}
-
-fn type_name(kind: MessageType) -> &'static str
-    ensures { result.now ≡ type_word kind }
-{
-    match kind {
-        MessageType::Discover => "DISCOVER",
-        MessageType::Offer => "OFFER",
-        MessageType::Request => "REQUEST",
-        MessageType::Decline => "DECLINE",
-        MessageType::Ack => "ACK",
-        MessageType::Nak => "NAK",
-        MessageType::Release => "RELEASE",
-        MessageType::Inform => "INFORM",
-    }
+    out.push_str(message_type_name(u32::from(kind.number())))
 }
 
 // Appends what follows the type of a reply.

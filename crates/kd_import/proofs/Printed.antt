@@ -7,7 +7,7 @@ use Rattle.kd_replay.specs.Text.{address_text, bytes_text}
 use Rattle.kd_replay.proofs.Looking.{plain_append}
 use Rattle.kd_rows.specs.Row.{IsInRange}
 use Rattle.kd_rows.specs.declared.row.Row.{Row}
-use Rattle.kd_server.specs.Leases.{lease_line, word_of_live, word_of_state}
+use Rattle.kd_server.specs.Leases.{lease_line, row_text, word_of_live, word_of_state}
 use Rattle.kd_server.specs.declared.leases.Lease.{Lease}
 use Rattle.kd_words.specs.Words.{IsCutOff}
 use Rattle.kd_words.proofs.Cuts.{cut_is}
@@ -32,7 +32,7 @@ abbrev pub body : Lease → List ℕ
 body lease = address_text lease.row.address ++ 32 ∷ (word_of_state lease.row.state ++ 32 ∷ after_state lease)
 
 pub printed : (lease : Lease) → lease_line lease ≡ body lease ++ 10 ∷ []
-unfolding lease_line
+unfolding lease_line row_text
 printed lease = simp append_assoc
 
 pub body_of_line : (line : List ℕ) (lease : Lease) → IsLeaseLine line lease → line ≡ body lease

@@ -92,9 +92,9 @@ signed_text n = if nat_lt n (2 ^ 31) then decimal n else codes "-" ++ decimal (2
 abbrev pub flag_text : ℕ → List ℕ
 flag_text flag = if flag == 0 then codes "false" else codes "true"
 
--- the name of a message type (RFC 2132 section 9.6)
-unfoldable pub type_name : ℕ → List ℕ
-type_name number =
+-- the name of a message type (RFC 2131 section 2), by its number from 1 to 8 (RFC 2132 section 9.6)
+unfoldable pub message_type_word : ℕ → List ℕ
+message_type_word number =
     if number == 1 then codes "DISCOVER"
     else (if number == 2 then codes "OFFER"
     else (if number == 3 then codes "REQUEST"
@@ -106,7 +106,7 @@ type_name number =
 
 -- a message type: its number and its name
 abbrev pub message_type_text : ℕ → List ℕ
-message_type_text number = decimal number ++ codes " " ++ type_name number
+message_type_text number = decimal number ++ codes " " ++ message_type_word number
 
 -- a byte of text: a quotation mark and a backslash after a backslash, any other printable byte as
 -- it is, and the rest as `\x` and two hexadecimal digits

@@ -2,7 +2,8 @@
 //!
 //! What this layer promises to the one above: `put_named` appends the line of an option that has a
 //! name (`specs/Table.antt`) and a value of the form of its type, and that line is the one of
-//! `specs/Values.antt`, byte for byte. For any other option it appends nothing.
+//! `specs/Values.antt`, byte for byte. For any other option it appends nothing. `message_type_name`
+//! returns the name of a message type.
 #![tactic(auto)]
 
 mod form;
@@ -14,3 +15,4 @@ mod text;
 
 pub use kind::Kind;
 pub use named::put_named;
+pub use text::message_type_name;

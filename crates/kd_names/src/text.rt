@@ -1,7 +1,7 @@
 ghost use Rattle.std.specs.Prelude.{◌≡◌, ◌++◌, OnOk, codes, decimal, string_bytes};
 ghost use Rattle.std.specs.List.{flat_map};
 ghost use Rattle.hex.specs.Hex.{encode_lower};
-ghost use Rattle.kd_names.specs.Values.{flag_text, message_type_text, quoted_text, sign_text, type_name};
+ghost use Rattle.kd_names.specs.Values.{flag_text, message_type_text, message_type_word, quoted_text, sign_text};
 
 use std::alloc::{AllocError, Global};
 use std::fmt::Write;
@@ -22,14 +22,15 @@ pub(crate) fn put_message_type(out: &mut String, number: u32) -> Result<(), Allo
     ensures { OnOk result
         (string_bytes out.new ≡ string_bytes out.old ++ message_type_text number) }
 {
-    let name = message_type(number);
+    let name = message_type_name(number);
     write!(out, "{number} {name}")
 }
 
-// Returns the name of a message type.
-#[tactic(auto, unfolding(crate::specs::Values::type_name))]
-fn message_type(number: u32) -> &'static str
-    ensures { result.now ≡ type_name number }
+/// Returns the name of a message type (RFC 2131 section 2), given its number from 1 to 8 (RFC 2132
+/// section 9.6). For any other number it is that of 8.
+#[tactic(auto, unfolding(crate::specs::Values::message_type_word))]
+pub fn message_type_name(number: u32) -> &'static str
+    ensures { result.now ≡ message_type_word number }
 {
     match number {
         1 => "DISCOVER",

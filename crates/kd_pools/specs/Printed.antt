@@ -4,7 +4,7 @@ use Rattle.std.specs.Prelude.{ℕ, List, ◌++◌, codes, decimal}
 use Rattle.std.specs.List.{flat_map}
 use Rattle.kd_config.specs.declared.prefix.Prefix.{Prefix}
 use Rattle.kd_config.specs.declared.range.Range.{Range}
-use Rattle.kd_replay.specs.Text.{address_text}
+use Rattle.kd_replay.specs.Text.{address_text, prefix_text}
 use Rattle.kd_pools.specs.Uses.{UseOfSubnet}
 use Rattle.kd_pools.specs.declared.counts.Counts.{Counts}
 use Rattle.kd_pools.specs.declared.metrics.Metric.{Metric}
@@ -14,10 +14,6 @@ use Rattle.kd_pools.specs.declared.uses.PoolUse.{PoolUse}
 -- a range: its first address, a dash, its last
 unfoldable pub range_text : Range → List ℕ
 range_text range = address_text range.first ++ codes "-" ++ address_text range.last
-
--- a prefix: its address, a slash, its length
-unfoldable pub prefix_text : Prefix → List ℕ
-prefix_text prefix = address_text prefix.address ++ codes "/" ++ decimal prefix.length
 
 -- counts: each number follows a space, its name and a space
 unfoldable pub counts_text : Counts → List ℕ
@@ -30,13 +26,13 @@ counts_text counts =
 -- the line of a pool of a subnet, with its line feed
 unfoldable pub pool_line : Prefix → PoolUse → List ℕ
 pool_line prefix pool =
-    codes "pool " ++ range_text pool.range ++ codes " subnet " ++ prefix_text prefix
-    ++ counts_text pool.counts ++ codes "\n"
+    codes "pool " ++ range_text pool.range ++ codes " subnet "
+    ++ prefix_text prefix.address prefix.length ++ counts_text pool.counts ++ codes "\n"
 
 -- the line of a subnet, with its line feed
 unfoldable pub subnet_line : UseOfSubnet → List ℕ
 subnet_line subnet =
-    codes "subnet " ++ prefix_text subnet.prefix ++ counts_text subnet.counts ++ codes "\n"
+    codes "subnet " ++ prefix_text subnet.prefix.address subnet.prefix.length ++ counts_text subnet.counts ++ codes "\n"
 
 -- the lines of a subnet: one for each of its pools, then its own
 unfoldable pub subnet_lines : UseOfSubnet → List ℕ
@@ -69,7 +65,7 @@ head_text metric =
 -- the labels of a pool, without the brace after them
 unfoldable pub labels_text : Prefix → Range → List ℕ
 labels_text prefix range =
-    codes "{subnet=\"" ++ prefix_text prefix ++ codes "\",pool=\"" ++ range_text range ++ codes "\""
+    codes "{subnet=\"" ++ prefix_text prefix.address prefix.length ++ codes "\",pool=\"" ++ range_text range ++ codes "\""
 
 -- the line of a metric with only the labels of the pool, with its line feed
 unfoldable pub sample_line : Metric → Prefix → Range → ℕ → List ℕ

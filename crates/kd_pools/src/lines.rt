@@ -1,9 +1,10 @@
 ghost use Rattle.std.specs.Prelude.{◌≡◌, ◌++◌, IfOk, OnOk, string_bytes};
 ghost use Rattle.kd_pools.specs.Printed.{lines_text, pool_line, subnet_line, subnet_lines};
 
-use crate::text::{put_counts, put_prefix, put_range};
+use crate::text::{put_counts, put_range};
 use crate::uses::{PoolUse, SubnetUse};
 use kd_config::Prefix;
+use kd_replay::put_prefix;
 use std::alloc::{AllocError, Global};
 
 /// Prints the lines of subnets, each with its line feed. For each subnet there is one line for each
@@ -44,7 +45,7 @@ fn put_pool(out: &mut String, prefix: Prefix, pool: &PoolUse) -> Result<(), Allo
     out.push_str("pool ")?;
     put_range(out, pool.range)?;
     out.push_str(" subnet ")?;
-    put_prefix(out, prefix)?;
+    put_prefix(out, prefix.address, prefix.length)?;
     put_counts(out, pool.counts)?;
     out.push_str("\n")
 }
@@ -56,7 +57,7 @@ fn put_own(out: &mut String, subnet: &SubnetUse) -> Result<(), AllocError>
         ≡ string_bytes out.old ++ subnet_line subnet.now) }
 {
     out.push_str("subnet ")?;
-    put_prefix(out, subnet.prefix)?;
+    put_prefix(out, subnet.prefix.address, subnet.prefix.length)?;
     put_counts(out, subnet.counts)?;
     out.push_str("\n")
 }

@@ -1,9 +1,10 @@
 ghost use Rattle.std.specs.Prelude.{◌≡◌, ◌++◌, IfOk, OnOk, string_bytes};
 ghost use Rattle.kd_pools.specs.Printed.{head_text, labels_text, metric_help, metric_name, metric_text, metrics_text, sample_line, samples_text, state_line, states_text, subnet_samples};
 
-use crate::text::{put_prefix, put_range};
+use crate::text::put_range;
 use crate::uses::{PoolUse, SubnetUse};
 use kd_config::{Prefix, Range};
+use kd_replay::put_prefix;
 use std::alloc::{AllocError, Global};
 use std::fmt::Write;
 
@@ -147,7 +148,7 @@ fn put_labels(out: &mut String, prefix: Prefix, range: Range) -> Result<(), Allo
         ≡ string_bytes out.old ++ labels_text prefix range) }
 {
     out.push_str("{subnet=\"")?;
-    put_prefix(out, prefix)?;
+    put_prefix(out, prefix.address, prefix.length)?;
     out.push_str("\",pool=\"")?;
     put_range(out, range)?;
     out.push_str("\"")

@@ -1,8 +1,8 @@
 ghost use Rattle.std.specs.Prelude.{◌≡◌, ◌++◌, OnOk, string_bytes};
-ghost use Rattle.kd_pools.specs.Printed.{counts_text, prefix_text, range_text};
+ghost use Rattle.kd_pools.specs.Printed.{counts_text, range_text};
 
 use crate::counts::Counts;
-use kd_config::{Prefix, Range};
+use kd_config::Range;
 use kd_replay::put_address;
 use std::alloc::AllocError;
 use std::fmt::Write;
@@ -15,16 +15,6 @@ pub(crate) fn put_range(out: &mut String, range: Range) -> Result<(), AllocError
     put_address(out, range.first)?;
     out.push_str("-")?;
     put_address(out, range.last)
-}
-
-// Appends a prefix: its address and its length.
-#[tactic(auto, unfolding(crate::specs::Printed::prefix_text))]
-pub(crate) fn put_prefix(out: &mut String, prefix: Prefix) -> Result<(), AllocError>
-    ensures { OnOk result (string_bytes out.new ≡ string_bytes out.old ++ prefix_text prefix) }
-{
-    put_address(out, prefix.address)?;
-    let length = prefix.length;
-    write!(out, "/{length}")
 }
 
 // Appends counts, each after its name.

@@ -6,11 +6,10 @@ ghost use Rattle.kd_why.specs.Saying.{ExplainsEvent};
 
 use crate::ends::StandardEnds;
 use crate::listing::LeaseTable;
-use crate::printing::{refuse, refuse_as, refuse_memory, refuse_words, show};
+use crate::printing::{refuse, refuse_memory, refuse_replay, refuse_words, show};
 use hex::FromHexError;
 use kd_commands::LineFault;
 use kd_event::Ports;
-use kd_print::replay_status;
 use kd_replay::{ServeFault, Sink, Source};
 use kd_server::Rules;
 use kd_why::{why_line, why_text};
@@ -103,12 +102,6 @@ pub(crate) fn explain_line<R: Source, O: Sink, E: Sink>(
     };
     match why_line(&mut ends.input, rules, table.rows, number) {
         Ok(text) => show(&mut ends.output, &mut ends.faults, &text, 0),
-        Err(fault) => refuse_as(
-            alloc,
-            &mut ends.faults,
-            fault.number(),
-            &fault,
-            replay_status(fault),
-        ),
+        Err(fault) => refuse_replay(alloc, &mut ends.faults, fault),
     }
 }

@@ -3,9 +3,8 @@ ghost use Rattle.kd_program.specs.Running.{SaysEvents};
 ghost use Rattle.kd_program.specs.Streams.{streams};
 
 use crate::ends::StandardEnds;
-use crate::printing::refuse_as;
+use crate::printing::refuse_replay;
 use kd_events::{Filter, events_with};
-use kd_print::replay_status;
 use kd_replay::{Sink, Source};
 use kd_wire::Bytes;
 use std::alloc::Global;
@@ -21,13 +20,7 @@ pub(crate) fn print_events<R: Source, O: Sink, E: Sink>(
 {
     match events_with(alloc, &mut ends.input, &mut ends.output, filter) {
         Ok(_) => 0,
-        Err(fault) => refuse_as(
-            alloc,
-            &mut ends.faults,
-            fault.number(),
-            &fault,
-            replay_status(fault),
-        ),
+        Err(fault) => refuse_replay(alloc, &mut ends.faults, fault),
     }
 }
 

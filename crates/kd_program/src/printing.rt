@@ -3,12 +3,13 @@ ghost use Rattle.std.specs.Fmt.{decimal};
 ghost use Rattle.kd_print.specs.Show.{line_feed};
 ghost use Rattle.kd_program.specs.Streams.{Prints, Puts, ShowsOrBreaks, TellsWith, fault_line, memory_line, streams, written_to};
 ghost use Rattle.kd_commands.specs.Order.{line_fault_number};
-ghost use Rattle.kd_print.specs.Status.{status_of};
+ghost use Rattle.kd_print.specs.Status.{replay_status_of, status_of};
+ghost use Rattle.kd_replay.specs.Faults.{replay_fault_number};
 
 use crate::ends::StandardEnds;
 use kd_commands::LineFault;
-use kd_print::{Printed, exit_status};
-use kd_replay::{Sink, Source, write_all};
+use kd_print::{Printed, exit_status, replay_status};
+use kd_replay::{ReplayFault, Sink, Source, write_all};
 use std::alloc::{AllocError, Global};
 use std::fmt::Display;
 
@@ -91,6 +92,14 @@ pub(crate) fn refuse_as<E: Sink, F: Display>(
         }
         Err(_) => refuse_memory(faults),
     }
+}
+
+// Writes the line of the fault of a replay, and returns its exit status.
+pub(crate) fn refuse_replay<E: Sink>(alloc: Global, faults: &mut E, fault: ReplayFault) -> u8
+    ensures { TellsWith (replay_fault_number fault) (replay_status_of fault) result
+        (written_to E.Sink faults.old) (written_to E.Sink faults.new) }
+{
+    refuse_as(alloc, faults, fault.number(), &fault, replay_status(fault))
 }
 
 // Writes the line for out of memory, and returns its exit status.

@@ -13,13 +13,13 @@ use crate::ends::StandardEnds;
 use crate::explaining::explain_line;
 use crate::host::Host;
 use crate::listing::{LeaseTable, View, print_view};
-use crate::printing::{refuse, refuse_as, refuse_memory, tell};
+use crate::printing::{refuse, refuse_as, refuse_memory, refuse_replay, tell};
 use kd_commands::{Files, Listening};
 use kd_config::Config;
 use kd_event::Ports;
 use kd_io::StartFault;
 use kd_keeps::{Keeps, Opened, StoreFault};
-use kd_print::{replay_status, serve_status};
+use kd_print::serve_status;
 use kd_replay::{EndFailed, Limits, Link, LoopFault, Sink, Source};
 use kd_server::{Server, replay, serve};
 use std::alloc::{AllocError, Global};
@@ -251,13 +251,7 @@ fn replay_input<R: Source, O: Sink, E: Sink, S: Keeps>(
 {
     match replay(alloc, &mut ends.input, &mut ends.output, server) {
         Ok(_) => 0,
-        Err(fault) => refuse_as(
-            alloc,
-            &mut ends.faults,
-            fault.number(),
-            &fault,
-            replay_status(fault),
-        ),
+        Err(fault) => refuse_replay(alloc, &mut ends.faults, fault),
     }
 }
 

@@ -22,6 +22,10 @@ address_text a =
     decimal (a / 2 ^ 24) ++ codes "." ++ decimal (a / 2 ^ 16 % 256) ++ codes "."
     ++ decimal (a / 2 ^ 8 % 256) ++ codes "." ++ decimal (a % 256)
 
+-- a prefix: its address, a slash, its length in bits
+unfoldable pub prefix_text : ℕ → ℕ → List ℕ
+prefix_text a bits = address_text a ++ codes "/" ++ decimal bits
+
 -- a destination: how it is sent, a space, the address, a colon, the port
 abbrev pub destination_text : Destination → List ℕ
 destination_text d =

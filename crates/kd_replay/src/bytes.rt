@@ -30,26 +30,29 @@ impl Source for Held<'_> {
     }
 }
 
-// Bytes in memory, as a sink.
+/// A sink that keeps what is written in memory.
 #[derive(Drop)]
-pub(crate) struct Kept {
-    pub(crate) bytes: Vec<u8>,
-    pub(crate) failed: bool,
+pub struct MemorySink {
+    /// What was written.
+    pub bytes: Vec<u8>,
+    /// Whether a write failed because there was not enough memory.
+    pub failed: bool,
 }
 
-impl Kept {
-    pub(crate) fn new(alloc: Global) -> Kept
+impl MemorySink {
+    /// Makes a sink to which nothing is written.
+    pub fn new(alloc: Global) -> MemorySink
         ensures bytes { result.bytes.items ≡ [] }
         ensures failed { result.failed ≡ false }
     {
-        Kept {
+        MemorySink {
             bytes: Vec::new(alloc),
             failed: false,
         }
     }
 }
 
-impl Sink for Kept {
+impl Sink for MemorySink {
     ghost use Rattle.std.specs.Prelude.{Some};
 
     ghost contents = { λ s. Some s.bytes.items };
@@ -83,8 +86,8 @@ pub fn replay_bytes<H: Serves>(
         (lines_of input.now) server.old server.new [] result.0.items }
 {
     let mut source = Held { rest: input };
-    let mut sink = Kept::new(alloc);
+    let mut sink = MemorySink::new(alloc);
     let done = replay(alloc, &mut source, &mut sink, server);
-    let Kept { bytes, failed: _ } = sink;
+    let MemorySink { bytes, failed: _ } = sink;
     (bytes, done)
 }

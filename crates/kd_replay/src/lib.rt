@@ -38,7 +38,7 @@ mod words;
 mod writing;
 
 pub use arrived::Arrived;
-pub use bytes::replay_bytes;
+pub use bytes::{MemorySink, replay_bytes};
 pub use clocks::{Clocks, starts_behind};
 pub use ends::{EndFailed, Sink, Source};
 pub use fault::{LoopFault, ReplayFault, ServeFault};
@@ -52,5 +52,5 @@ pub use served::{ServedBytes, serve_bytes};
 pub use serves::{Serves, ServesAll};
 pub use serving::{Limits, serve};
 pub use text::event_line;
-pub use words::{put_address, put_bytes};
+pub use words::{put_address, put_bytes, put_prefix};
 pub use writing::write_all;

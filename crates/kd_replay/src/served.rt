@@ -4,7 +4,7 @@ ghost use Rattle.kd_replay.specs.Log.{HasCome, ServesInput, cut_event};
 ghost use Rattle.kd_replay.specs.Replay.{AreEvents};
 ghost use Rattle.kd_replay.specs.Serving.{ServesTo, nothing};
 
-use crate::bytes::Kept;
+use crate::bytes::MemorySink;
 use crate::fault::LoopFault;
 use crate::happening::Happening;
 use crate::post::{Given, Post};
@@ -93,8 +93,8 @@ fn serve_post<I: Given, H: ServesAll>(
         failed: false,
         of: PhantomData,
     };
-    let mut journal = Some(Kept::new(alloc));
-    let mut sink = Kept::new(alloc);
+    let mut journal = Some(MemorySink::new(alloc));
+    let mut sink = MemorySink::new(alloc);
     let limits = Limits {
         most,
         count: input.len() as u64,

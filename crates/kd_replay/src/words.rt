@@ -1,5 +1,5 @@
 ghost use Rattle.std.specs.Prelude.{◌≡◌, ◌++◌, OnOk, string_bytes};
-ghost use Rattle.kd_replay.specs.Text.{address_text, bytes_text};
+ghost use Rattle.kd_replay.specs.Text.{address_text, bytes_text, prefix_text};
 
 use std::alloc::{AllocError, Global};
 use std::fmt::Write;
@@ -17,6 +17,19 @@ pub fn put_address(out: &mut String, address: u32) -> Result<(), AllocError>
     let c = address / 0x100 % 256;
     let d = address % 256;
     write!(out, "{a}.{b}.{c}.{d}")
+}
+
+/// Appends a prefix: its address, given in host order, a slash and its length in bits.
+///
+/// # Errors
+///
+/// Out of memory.
+#[tactic(auto, unfolding(crate::specs::Text::prefix_text))]
+pub fn put_prefix(out: &mut String, address: u32, bits: u8) -> Result<(), AllocError>
+    ensures { OnOk result (string_bytes out.new ≡ string_bytes out.old ++ prefix_text address bits) }
+{
+    put_address(out, address)?;
+    write!(out, "/{bits}")
 }
 
 /// Appends bytes in hexadecimal, or a dash if there are none.

@@ -1,5 +1,5 @@
--- Lists that are walked from the front, and texts that follow one another.
-use Rattle.std.proofs.Common.{◌≡◌, ℕ, zero, suc, ◌+◌, List, [], ◌∷◌, ◌++◌, map, take, Some, None, refl, sym, ap, arith, append_assoc, true≢false, is_some}
+-- Lists that are walked from the front.
+use Rattle.std.proofs.Common.{◌≡◌, ℕ, zero, suc, ◌+◌, List, [], ◌∷◌, ◌++◌, map, take, Some, None, refl, sym, ap, arith, true≢false, is_some}
 use Rattle.std.specs.Prelude.{slice_get}
 
 module _ {X Y : Type 0} (f : X → Y) where
@@ -27,8 +27,3 @@ all_taken [] zero at = refl
 all_taken [] (suc i) at = refl
 all_taken (q ∷ list) zero at = absurd (true≢false (ap is_some (sym at)))
 all_taken (q ∷ list) (suc i) at = ap (λ x. q ∷ x) (all_taken list i at)
-
--- eight texts in sequence, the sixth of which has five parts
-pub eight_put : (old a b c d e f g h i j k l o1 o2 o3 o4 o5 o6 o7 o8 : List ℕ) → o1 ≡ old ++ a → o2 ≡ o1 ++ b → o3 ≡ o2 ++ c → o4 ≡ o3 ++ d → o5 ≡ o4 ++ e
-    → o6 ≡ o5 ++ (f ++ g ++ h ++ i ++ j) → o7 ≡ o6 ++ k → o8 ≡ o7 ++ l → o8 ≡ old ++ (a ++ b ++ c ++ d ++ e ++ f ++ g ++ h ++ i ++ j ++ k ++ l)
-eight_put old a b c d e f g h i j k l o1 o2 o3 o4 o5 o6 o7 o8 e1 e2 e3 e4 e5 e6 e7 e8 = rw (e8, e7, e6, e5, e4, e3, e2, e1) (simp append_assoc)

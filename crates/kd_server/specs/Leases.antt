@@ -36,11 +36,13 @@ abbrev pub word_of_live : Bool → List ℕ
 word_of_live true = codes "live"
 word_of_live false = codes "past"
 
--- the line of a lease, with its line feed: address, state, client, the time at which it was set,
--- its end, and whether it is live
+-- a row: its address, its state, its client, when it was set and when it ends
+unfoldable pub row_text : Row → List ℕ
+row_text row =
+    address_text row.address ++ codes " " ++ word_of_state row.state ++ codes " "
+    ++ bytes_text row.client ++ codes " changed " ++ decimal row.changed ++ codes " ends "
+    ++ decimal row.ends
+
+-- the line of a lease, with its line feed: its row, and whether it is live
 unfoldable pub lease_line : Lease → List ℕ
-lease_line lease =
-    address_text lease.row.address ++ codes " " ++ word_of_state lease.row.state ++ codes " "
-    ++ bytes_text lease.row.client
-    ++ codes " changed " ++ decimal lease.row.changed ++ codes " ends " ++ decimal lease.row.ends
-    ++ codes " " ++ word_of_live lease.live ++ codes "\n"
+lease_line lease = row_text lease.row ++ codes " " ++ word_of_live lease.live ++ codes "\n"

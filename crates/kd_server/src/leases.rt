@@ -1,7 +1,7 @@
 ghost use Rattle.std.specs.Prelude.{◌≡◌, ◌<◌, ◌^◌, ◌++◌, false, nat_lt, IfErr, IfOk, OnOk, map, codes, string_bytes};
 ghost use Rattle.std.specs.Fmt.{decimal};
 ghost use Rattle.std.specs.List.{flat_map};
-ghost use Rattle.kd_server.specs.Leases.{IsNoList, lease_of_row, lease_line, leases_of_rows, word_of_live, word_of_state};
+ghost use Rattle.kd_server.specs.Leases.{IsNoList, lease_of_row, lease_line, leases_of_rows, row_text, word_of_live, word_of_state};
 
 use crate::server::MOMENTS;
 use kd_replay::{ServeFault, put_address, put_bytes};
@@ -105,24 +105,42 @@ pub fn lease_lines(alloc: Global, leases: &[Lease]) -> Result<String, AllocError
 fn put_lease(alloc: Global, out: &mut String, lease: &Lease) -> Result<(), AllocError>
     ensures { OnOk result (string_bytes out.new ≡ string_bytes out.old ++ lease_line lease.now) }
 {
-    let Lease { row, live } = lease;
-    put_address(out, row.address)?;
-    out.push_str(" ")?;
-    out.push_str(state_word(row.state))?;
-    out.push_str(" ")?;
-    put_bytes(alloc, out, row.client.as_slice())?;
-    put_moments(out, row.changed, row.ends)?;
-    out.push_str(live_word(*live))?;
-    out.push_str("\n")?;
-    Ok(())
+    put_row(alloc, out, &lease.row)?;
+    let word = live_word(lease.live);
+    write!(out, " {word}\n")
 }
 
-// The time at which the row was set, and its end.
-fn put_moments(out: &mut String, changed: u64, ends: u64) -> Result<(), AllocError>
-    ensures { OnOk result (string_bytes out.new ≡ string_bytes out.old
-        ++ (codes " changed " ++ decimal changed ++ codes " ends " ++ decimal ends ++ codes " ")) }
+/// Appends a row: `ADDRESS STATE CLIENT changed MOMENT ends MOMENT`. The client's identity is in
+/// hexadecimal, or a dash if there is none.
+///
+/// # Errors
+///
+/// Out of memory.
+#[tactic(auto, unfolding(crate::specs::Leases::row_text))]
+pub fn put_row(alloc: Global, out: &mut String, row: &Row) -> Result<(), AllocError>
+    ensures { OnOk result (string_bytes out.new ≡ string_bytes out.old ++ row_text row.now) }
 {
-    write!(out, " changed {changed} ends {ends} ")
+    put_address(out, row.address)?;
+    put_state(out, row.state)?;
+    put_bytes(alloc, out, row.client.as_slice())?;
+    put_times(out, row.changed, row.ends)
+}
+
+// The word for a state, between spaces.
+fn put_state(out: &mut String, state: State) -> Result<(), AllocError>
+    ensures { OnOk result (string_bytes out.new
+        ≡ string_bytes out.old ++ (codes " " ++ word_of_state state ++ codes " ")) }
+{
+    let word = state_word(state);
+    write!(out, " {word} ")
+}
+
+// The time at which a row was set, and its end.
+fn put_times(out: &mut String, changed: u64, ends: u64) -> Result<(), AllocError>
+    ensures { OnOk result (string_bytes out.new ≡ string_bytes out.old
+        ++ (codes " changed " ++ decimal changed ++ codes " ends " ++ decimal ends)) }
+{
+    write!(out, " changed {changed} ends {ends}")
 }
 
 // The word for a state.

@@ -17,6 +17,6 @@ mod turning;
 pub use batching::Rules;
 pub use kd_event::{Event, Handled, Ports, Reason, Response};
 pub use kd_replay::{EndFailed, LoopFault, ReplayFault, ServeFault, Sink, Source, replay, serve};
-pub use leases::{Lease, lease_lines, leases_at};
+pub use leases::{Lease, lease_lines, leases_at, put_row};
 pub use server::Server;
 pub use trial::Trial;

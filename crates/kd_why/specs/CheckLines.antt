@@ -11,12 +11,13 @@ use Rattle.kd_lease.specs.declared.plan.Plan.{Plan}
 use Rattle.kd_options.specs.Kind.{type_number}
 use Rattle.kd_options.specs.Message.{Seen}
 use Rattle.kd_options.specs.declared.kind.MessageType.TheVariants as types
-use Rattle.kd_replay.specs.Text.{address_text}
+use Rattle.kd_replay.specs.Text.{address_text, prefix_text}
 use Rattle.kd_rows.specs.Table.{row_at}
 use Rattle.kd_rows.specs.declared.row.Row.{Row}
-use Rattle.kd_server.specs.Leases.{word_of_live}
+use Rattle.kd_server.specs.Leases.{row_text, word_of_live}
 use Rattle.kd_why.specs.Checks.{subject_in}
-use Rattle.kd_why.specs.Words.{prefix_word, row_text, kind_word, yes_word}
+use Rattle.kd_names.specs.Values.{message_type_word}
+use Rattle.kd_why.specs.Words.{yes_word}
 use Rattle.kd_why.specs.declared.checks.Checks.{Checks}
 
 -- ---- a line each
@@ -25,7 +26,7 @@ use Rattle.kd_why.specs.declared.checks.Checks.{Checks}
 unfoldable pub sender_line : Seen → List ℕ
 sender_line m =
     if m.header.op == 2 then codes "check sender: a server, by op 2\n"
-    else codes "check sender: a server, by type " ++ kind_word (kind_of m) ++ codes "\n"
+    else codes "check sender: a server, by type " ++ message_type_word (kind_of m) ++ codes "\n"
 
 -- which server a message names: this one or another
 abbrev pub which_word : Bool → List ℕ
@@ -67,7 +68,7 @@ address_line (Some a) source =
 -- the prefix of a subnet, if there is one
 abbrev pub served_word : Option Subnet → List ℕ
 served_word None = codes "none"
-served_word (Some s) = prefix_word s.prefix
+served_word (Some s) = prefix_text s.prefix.address s.prefix.length
 
 -- the subnet that serves the message
 abbrev pub served_line : Option Subnet → List ℕ

@@ -21,10 +21,11 @@ use Rattle.kd_machine.specs.declared.run.Outcome.{Outcome}
 use Rattle.kd_options.specs.Kind.{type_number}
 use Rattle.kd_options.specs.Message.{Seen, mac_of}
 use Rattle.kd_options.specs.declared.kind.MessageType.TheVariants as types
-use Rattle.kd_replay.specs.Text.{address_text, bytes_text}
+use Rattle.kd_replay.specs.Text.{address_text, bytes_text, prefix_text}
 use Rattle.kd_wire.specs.declared.header.Header.{Header}
 use Rattle.kd_why.specs.declared.explaining.Explanation.{Explanation}
-use Rattle.kd_why.specs.Words.{address_word, bytes_word, name_text, prefix_word, truth_word, kind_word, unless_zero}
+use Rattle.kd_names.specs.Values.{message_type_word}
+use Rattle.kd_why.specs.Words.{address_word, bytes_word, name_text, truth_word, unless_zero}
 
 -- ---- the message
 
@@ -35,7 +36,7 @@ moment_line moment = codes "moment " ++ decimal moment ++ codes "\n"
 -- the type of a message, its hardware address and its client
 unfoldable pub client_words : Seen → Option (List ℕ) → List ℕ
 client_words m client =
-    codes "message " ++ kind_word (kind_of m) ++ codes " mac " ++ bytes_text (mac_of m.header)
+    codes "message " ++ message_type_word (kind_of m) ++ codes " mac " ++ bytes_text (mac_of m.header)
     ++ codes " client " ++ bytes_word client
 
 -- the addresses in its header
@@ -102,7 +103,7 @@ place_line server h =
 
 -- the line of a subnet: its prefix, and whether it serves
 unfoldable pub sought_line : Subnet → List ℕ → List ℕ
-sought_line s words = codes "subnet " ++ prefix_word s.prefix ++ words ++ codes "\n"
+sought_line s words = codes "subnet " ++ prefix_text s.prefix.address s.prefix.length ++ words ++ codes "\n"
 
 -- the class that a subnet is for
 abbrev pub class_word : Option (List ℕ) → List ℕ

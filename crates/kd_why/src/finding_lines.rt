@@ -7,12 +7,13 @@ ghost use Rattle.kd_why.specs.CheckLines.{pool_word, prefix_line, request_source
 ghost use Rattle.kd_why.specs.CheckLines.{sender_line, served_line, served_word, server_line, subject_source, which_word};
 
 use crate::checks::Checks;
-use crate::words::{put_prefix, put_row, type_name, yes_or_no};
+use crate::words::{type_name, yes_or_no};
 use kd_config::Subnet;
 use kd_lease::{Question, server_of};
 use kd_options::{Message, MessageType};
-use kd_replay::put_address;
+use kd_replay::{put_address, put_prefix};
 use kd_rows::Row;
+use kd_server::put_row;
 use std::alloc::{AllocError, Global};
 use std::fmt::Write;
 
@@ -144,7 +145,7 @@ fn put_served(out: &mut String, subnet: Option<&Subnet>) -> Result<(), AllocErro
         ≡ string_bytes out.old ++ served_word (option_copied subnet.entry)) }
 {
     match subnet {
-        Some(subnet) => put_prefix(out, subnet.prefix),
+        Some(subnet) => put_prefix(out, subnet.prefix.address, subnet.prefix.length),
         None => out.push_str("none"),
     }
 }

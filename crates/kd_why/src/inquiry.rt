@@ -2,10 +2,9 @@ ghost use Rattle.std.specs.Prelude.{◌≡◌, ℕ, List, MatchResult, Some, fal
 ghost use Rattle.kd_server.specs.Trial.{trying};
 ghost use Rattle.kd_why.specs.Inquiring.{IsExplainedAt, IsNotExplained, IsReached, ending_fault};
 
-use crate::lines::Lines;
 use crate::why::why_text;
 use kd_event::Handled;
-use kd_replay::{ReplayFault, ServeFault, Serves, Source, replay};
+use kd_replay::{MemorySink, ReplayFault, ServeFault, Serves, Source, replay};
 use kd_rows::Rows;
 use kd_server::{Rules, Trial};
 use std::marker::Model;
@@ -34,7 +33,7 @@ pub fn why_line<R: Source>(
     let Some(left) = number.checked_sub(1) else {
         return Err(ReplayFault::BadLine(0));
     };
-    let mut sink = Lines::new(rules.alloc);
+    let mut sink = MemorySink::new(rules.alloc);
     let mut inquiry = Inquiry {
         trial: Trial::over(rules, rows)?,
         left,

@@ -15,7 +15,6 @@ mod classes;
 mod explaining;
 mod finding_lines;
 mod inquiry;
-mod lines;
 mod message_lines;
 mod option_lines;
 mod origins;

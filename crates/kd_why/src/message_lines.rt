@@ -1,7 +1,8 @@
 ghost use Rattle.std.specs.Prelude.{◌≡◌, ◌++◌, OnOk, codes, string_bytes};
 ghost use Rattle.kd_lease.specs.Client.{kind_of};
 ghost use Rattle.kd_why.specs.FoundLines.{client_words, header_words, message_lines, moment_line, option_words};
-ghost use Rattle.kd_why.specs.Words.{address_word, bytes_word, kind_word};
+ghost use Rattle.kd_names.specs.Values.{message_type_word};
+ghost use Rattle.kd_why.specs.Words.{address_word, bytes_word};
 
 use crate::text::Scene;
 use crate::words::{nonzero_address, put_address_or_dash, type_name};
@@ -48,7 +49,7 @@ fn put_client(
 
 fn put_type(out: &mut String, message: &Message<'_>) -> Result<(), AllocError>
     ensures { OnOk result (string_bytes out.new ≡ string_bytes out.old
-        ++ (codes "message " ++ kind_word (kind_of message.now) ++ codes " mac ")) }
+        ++ (codes "message " ++ message_type_word (kind_of message.now) ++ codes " mac ")) }
 {
     let name = type_name(message.kind());
     write!(out, "message {name} mac ")

@@ -4,11 +4,11 @@ ghost use Rattle.kd_why.specs.OutcomeLines.{AreOptionsOf, IsEndText, silence_lin
 
 use crate::option_lines::put_options;
 use crate::text::Scene;
-use crate::words::put_row;
 use kd_event::Reason;
 use kd_lease::{Plan, PlanKind};
 use kd_replay::put_address;
 use kd_rows::Row;
+use kd_server::put_row;
 use std::alloc::{AllocError, Global};
 use std::fmt::Write;
 

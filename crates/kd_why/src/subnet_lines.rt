@@ -4,11 +4,11 @@ ghost use Rattle.kd_lease.specs.SubnetOf.{class_admits, message_place, served_by
 ghost use Rattle.kd_why.specs.FoundLines.{class_word, key_word, passed_words, place_line, place_word, reservation_line, reserved_line, sought_line, sought_lines, unasked_line};
 
 use crate::text::Scene;
-use crate::words::{put_name, put_prefix};
+use crate::words::put_name;
 use kd_config::{Identity, Reservation, Subnet};
 use kd_lease::place_of;
 use kd_machine::Held;
-use kd_replay::put_address;
+use kd_replay::{put_address, put_prefix};
 use kd_wire::{Bytes, Header};
 use std::alloc::{AllocError, Global};
 
@@ -110,7 +110,7 @@ fn put_serving(out: &mut String, subnet: &Subnet) -> Result<(), AllocError>
         ≡ string_bytes out.old ++ sought_line subnet.now (codes " serves")) }
 {
     out.push_str("subnet ")?;
-    put_prefix(out, subnet.prefix)?;
+    put_prefix(out, subnet.prefix.address, subnet.prefix.length)?;
     out.push_str(" serves")?;
     out.push_str("\n")
 }
@@ -131,7 +131,7 @@ fn put_one_unasked(out: &mut String, subnet: &Subnet) -> Result<(), AllocError>
     ensures { OnOk result (string_bytes out.new ≡ string_bytes out.old ++ unasked_line subnet.now) }
 {
     out.push_str("subnet ")?;
-    put_prefix(out, subnet.prefix)?;
+    put_prefix(out, subnet.prefix.address, subnet.prefix.length)?;
     out.push_str(" not asked")?;
     out.push_str("\n")
 }
@@ -147,7 +147,7 @@ fn put_passed(
         ≡ string_bytes out.old ++ sought_line subnet.now (passed_words place subnet.now)) }
 {
     out.push_str("subnet ")?;
-    put_prefix(out, subnet.prefix)?;
+    put_prefix(out, subnet.prefix.address, subnet.prefix.length)?;
     put_why_passed(alloc, out, place, subnet)?;
     out.push_str("\n")
 }

@@ -1,14 +1,12 @@
-ghost use Rattle.std.specs.Prelude.{◌≡◌, ◌++◌, OnOk, codes, decimal, string_bytes};
-ghost use Rattle.kd_server.specs.Leases.{word_of_state};
+ghost use Rattle.std.specs.Prelude.{◌≡◌, ◌++◌, OnOk, string_bytes};
+ghost use Rattle.kd_names.specs.Values.{message_type_word};
 ghost use Rattle.kd_options.specs.Kind.{type_number};
-ghost use Rattle.kd_why.specs.Words.{address_word, name_byte, name_text, prefix_word, row_text, truth_word, kind_word, unless_zero, yes_word};
+ghost use Rattle.kd_why.specs.Words.{address_word, name_byte, name_text, truth_word, unless_zero, yes_word};
 
-use kd_config::Prefix;
+use kd_names::message_type_name;
 use kd_options::MessageType;
 use kd_replay::{put_address, put_bytes};
-use kd_rows::{Row, State};
 use std::alloc::{AllocError, Global};
-use std::fmt::Write;
 
 // Prints an address, in host order, or a dash if there is none.
 pub(crate) fn put_address_or_dash(out: &mut String, address: Option<u32>) -> Result<(), AllocError>
@@ -25,16 +23,6 @@ pub(crate) fn nonzero_address(address: u32) -> Option<u32>
     ensures { result ≡ unless_zero address }
 {
     if address == 0 { None } else { Some(address) }
-}
-
-// Prints a prefix: its address, a slash, its length.
-#[tactic(auto, unfolding(crate::specs::Words::prefix_word))]
-pub(crate) fn put_prefix(out: &mut String, prefix: Prefix) -> Result<(), AllocError>
-    ensures { OnOk result (string_bytes out.new ≡ string_bytes out.old ++ prefix_word prefix) }
-{
-    put_address(out, prefix.address)?;
-    let length = prefix.length;
-    write!(out, "/{length}")
 }
 
 // Prints the name of a class, without spaces and line feeds.
@@ -59,58 +47,11 @@ fn put_name_byte(alloc: Global, out: &mut String, byte: u8) -> Result<(), AllocE
     put_bytes(alloc, out, &[byte])
 }
 
-// Prints a row, as `kdhcp leases` does: address, state, client, when it was set and when it ends.
-#[tactic(auto, unfolding(crate::specs::Words::row_text))]
-pub(crate) fn put_row(alloc: Global, out: &mut String, row: &Row) -> Result<(), AllocError>
-    ensures { OnOk result (string_bytes out.new ≡ string_bytes out.old ++ row_text row.now) }
-{
-    put_address(out, row.address)?;
-    put_state(out, row.state)?;
-    put_bytes(alloc, out, row.client.as_slice())?;
-    put_times(out, row.changed, row.ends)
-}
-
-fn put_state(out: &mut String, state: State) -> Result<(), AllocError>
-    ensures { OnOk result (string_bytes out.new
-        ≡ string_bytes out.old ++ (codes " " ++ word_of_state state ++ codes " ")) }
-{
-    let word = state_word(state);
-    write!(out, " {word} ")
-}
-
-fn put_times(out: &mut String, changed: u64, ends: u64) -> Result<(), AllocError>
-    ensures { OnOk result (string_bytes out.new ≡ string_bytes out.old
-        ++ (codes " changed " ++ decimal changed ++ codes " ends " ++ decimal ends)) }
-{
-    write!(out, " changed {changed} ends {ends}")
-}
-
-fn state_word(state: State) -> &'static str
-    ensures { result.now ≡ word_of_state state }
-{
-    match state {
-        State::Offered => "Offered",
-        State::Bound => "Bound",
-        State::Released => "Released",
-        State::Declined => "Declined",
-    }
-}
-
 // Returns the name of a message's type (RFC 2131 section 3.1).
-#[tactic(auto, unfolding(crate::specs::Words::kind_word))]
 pub(crate) fn type_name(kind: MessageType) -> &'static str
-    ensures { result.now ≡ kind_word (type_number kind) }
+    ensures { result.now ≡ message_type_word (type_number kind) }
 {
-    match kind {
-        MessageType::Discover => "DISCOVER",
-        MessageType::Offer => "OFFER",
-        MessageType::Request => "REQUEST",
-        MessageType::Decline => "DECLINE",
-        MessageType::Ack => "ACK",
-        MessageType::Nak => "NAK",
-        MessageType::Release => "RELEASE",
-        MessageType::Inform => "INFORM",
-    }
+    message_type_name(u32::from(kind.number()))
 }
 
 // Returns the word for a truth value.

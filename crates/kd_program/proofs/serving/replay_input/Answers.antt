@@ -1,6 +1,4 @@
 use Rattle.std.proofs.Common.{Ok, Err, refl}
-use Rattle.kd_program.specs.Streams.{written_to}
-use Rattle.kd_program.proofs.Told.{told_as}
 use Rattle.kd_program.proofs.serving.replay_input.Goals as goal
 
 pub returns-in-Ok : goal.returns-in-Ok
@@ -14,5 +12,5 @@ pub returns-in-Err : goal.returns-in-Err
 returns-in-Err g c = record {
   result = Err c.in-Err.fault;
   replayed = c.in-Err.ensures.replayed;
-  ends = told_as _ _ _ _ _ (written_to g.E.Sink c.args.ends.now.faults) _ c.number.ensures c.replay_status.ensures c.refuse_as.ensures;
+  ends = c.refuse_replay.ensures;
 }
