@@ -32,7 +32,8 @@ pool_line prefix pool =
 -- the line of a subnet, with its line feed
 unfoldable pub subnet_line : UseOfSubnet → List ℕ
 subnet_line subnet =
-    codes "subnet " ++ prefix_text subnet.prefix.address subnet.prefix.length ++ counts_text subnet.counts ++ codes "\n"
+    codes "subnet " ++ prefix_text subnet.prefix.address subnet.prefix.length
+    ++ counts_text subnet.counts ++ codes "\n"
 
 -- the lines of a subnet: one for each of its pools, then its own
 unfoldable pub subnet_lines : UseOfSubnet → List ℕ
@@ -65,7 +66,8 @@ head_text metric =
 -- the labels of a pool, without the brace after them
 unfoldable pub labels_text : Prefix → Range → List ℕ
 labels_text prefix range =
-    codes "{subnet=\"" ++ prefix_text prefix.address prefix.length ++ codes "\",pool=\"" ++ range_text range ++ codes "\""
+    codes "{subnet=\"" ++ prefix_text prefix.address prefix.length ++ codes "\",pool=\""
+    ++ range_text range ++ codes "\""
 
 -- the line of a metric with only the labels of the pool, with its line feed
 unfoldable pub sample_line : Metric → Prefix → Range → ℕ → List ℕ

@@ -26,7 +26,8 @@ pub fn put_address(out: &mut String, address: u32) -> Result<(), AllocError>
 /// Out of memory.
 #[tactic(auto, unfolding(crate::specs::Text::prefix_text))]
 pub fn put_prefix(out: &mut String, address: u32, bits: u8) -> Result<(), AllocError>
-    ensures { OnOk result (string_bytes out.new ≡ string_bytes out.old ++ prefix_text address bits) }
+    ensures { OnOk result
+        (string_bytes out.new ≡ string_bytes out.old ++ prefix_text address bits) }
 {
     put_address(out, address)?;
     write!(out, "/{bits}")

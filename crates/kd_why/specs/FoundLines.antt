@@ -36,7 +36,8 @@ moment_line moment = codes "moment " ++ decimal moment ++ codes "\n"
 -- the type of a message, its hardware address and its client
 unfoldable pub client_words : Seen → Option (List ℕ) → List ℕ
 client_words m client =
-    codes "message " ++ message_type_word (kind_of m) ++ codes " mac " ++ bytes_text (mac_of m.header)
+    codes "message " ++ message_type_word (kind_of m) ++ codes " mac "
+    ++ bytes_text (mac_of m.header)
     ++ codes " client " ++ bytes_word client
 
 -- the addresses in its header
@@ -103,7 +104,8 @@ place_line server h =
 
 -- the line of a subnet: its prefix, and whether it serves
 unfoldable pub sought_line : Subnet → List ℕ → List ℕ
-sought_line s words = codes "subnet " ++ prefix_text s.prefix.address s.prefix.length ++ words ++ codes "\n"
+sought_line s words =
+    codes "subnet " ++ prefix_text s.prefix.address s.prefix.length ++ words ++ codes "\n"
 
 -- the class that a subnet is for
 abbrev pub class_word : Option (List ℕ) → List ℕ
