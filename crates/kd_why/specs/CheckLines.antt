@@ -8,6 +8,7 @@ use Rattle.kd_lease.specs.Choice.{Asking}
 use Rattle.kd_lease.specs.Client.{kind_of}
 use Rattle.kd_lease.specs.Rules.{held_at, named_server, other_server}
 use Rattle.kd_lease.specs.declared.plan.Plan.{Plan}
+use Rattle.kd_names.specs.Values.{message_type_word}
 use Rattle.kd_options.specs.Kind.{type_number}
 use Rattle.kd_options.specs.Message.{Seen}
 use Rattle.kd_options.specs.declared.kind.MessageType.TheVariants as types
@@ -16,7 +17,6 @@ use Rattle.kd_rows.specs.Table.{row_at}
 use Rattle.kd_rows.specs.declared.row.Row.{Row}
 use Rattle.kd_server.specs.Leases.{row_text, word_of_live}
 use Rattle.kd_why.specs.Checks.{subject_in}
-use Rattle.kd_names.specs.Values.{message_type_word}
 use Rattle.kd_why.specs.Words.{yes_word}
 use Rattle.kd_why.specs.declared.checks.Checks.{Checks}
 

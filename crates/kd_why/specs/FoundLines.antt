@@ -18,13 +18,13 @@ use Rattle.kd_lease.specs.SubnetOf.{message_place, served_by}
 use Rattle.kd_lease.specs.declared.plan.Plan.{Plan}
 use Rattle.kd_lease.specs.declared.ranks.Ranks.{Ranks}
 use Rattle.kd_machine.specs.declared.run.Outcome.{Outcome}
+use Rattle.kd_names.specs.Values.{message_type_word}
 use Rattle.kd_options.specs.Kind.{type_number}
 use Rattle.kd_options.specs.Message.{Seen, mac_of}
 use Rattle.kd_options.specs.declared.kind.MessageType.TheVariants as types
 use Rattle.kd_replay.specs.Text.{address_text, bytes_text, prefix_text}
 use Rattle.kd_wire.specs.declared.header.Header.{Header}
 use Rattle.kd_why.specs.declared.explaining.Explanation.{Explanation}
-use Rattle.kd_names.specs.Values.{message_type_word}
 use Rattle.kd_why.specs.Words.{address_word, bytes_word, name_text, truth_word, unless_zero}
 
 -- ---- the message
