@@ -61,7 +61,7 @@ fn next_zone(rows: &Sorted, client: &[u8], state: State, zone: u32) -> Option<u3
     if place == rows.ages_len() {
         return None;
     }
-    let row = rows.aged(place);
+    let row = rows.row_by_age(place);
     if has_kind(row, client, state) {
         Some(rows.zones().of(row.address))
     } else {

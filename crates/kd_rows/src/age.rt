@@ -88,11 +88,11 @@ fn is_before(rows: &Sorted, i: usize, head: u64, place: &Age) -> bool
         ≡ is_lt (key_order (age_at rows.now.cuts rows.now.rows (slice_index rows.now.ages i))
         (key_of_age place.now)) }
 {
-    let other = rows.aged_head(i);
+    let other = rows.head_by_age(i);
     if other != head {
         return other < head;
     }
-    comes_before(rows.zones(), rows.aged(i), place)
+    comes_before(rows.zones(), rows.row_by_age(i), place)
 }
 
 // Returns the index of a position in the age index: the rows of the addresses before this index
@@ -173,7 +173,7 @@ pub(crate) fn newest_from<'a>(
 {
     let start = age_place(rows, from);
     for place in start..rows.ages_len() {
-        let row = rows.aged(place);
+        let row = rows.row_by_age(place);
         if !is_of(rows.zones(), row, from) {
             return None;
         }

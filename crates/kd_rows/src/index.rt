@@ -28,11 +28,11 @@ fn is_before(rows: &Sorted, i: usize, head: u64, key: (&[u8], u32)) -> bool
     ensures { result ≡ is_lt (key_order (key_at rows.now.rows (slice_index rows.now.index i))
         (key.entry.0.now, key.entry.1)) }
 {
-    let other = rows.indexed_head(i);
+    let other = rows.head_by_client(i);
     if other != head {
         return other < head;
     }
-    let row = rows.indexed(i);
+    let row = rows.row_by_client(i);
     is_below(row.client.as_slice(), row.address, key.0, key.1)
 }
 
@@ -65,7 +65,7 @@ pub(crate) fn nth_of(rows: &Sorted, client: &[u8], i: usize) -> Option<u32>
     if i >= rows.index_len() - start {
         return None;
     }
-    let row = rows.indexed(start + i);
+    let row = rows.row_by_client(start + i);
     if row.client.as_slice() == client {
         Some(row.address)
     } else {
@@ -83,7 +83,7 @@ pub(crate) fn next_of<'a>(rows: &'a Sorted, client: &[u8], first: u32, last: u64
     if place == rows.index_len() {
         return None;
     }
-    let row = rows.indexed(place);
+    let row = rows.row_by_client(place);
     if row.client.as_slice() == client && u64::from(row.address) <= last {
         Some(row)
     } else {

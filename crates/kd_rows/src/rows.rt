@@ -111,7 +111,7 @@ impl Rows {
     }
 
     // Returns the rows in ascending order of address.
-    pub(crate) fn sorted(&self) -> &Sorted
+    pub(crate) fn as_sorted(&self) -> &Sorted
         ensures rows { result.now.rows ≡ self.now.rows }
         ensures rise { Rise result.now.rows }
     {

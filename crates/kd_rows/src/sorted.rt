@@ -124,7 +124,7 @@ impl Sorted {
     }
 
     // Returns the row of the `i`-th address of the client index.
-    pub(crate) fn indexed(&self, i: usize) -> &Row
+    pub(crate) fn row_by_client(&self, i: usize) -> &Row
         requires { i < length self.now.index }
         ensures at { result.now.address ≡ slice_index self.now.index i }
         ensures found { row_at self.now.rows result.now.address ≡ Some result.now }
@@ -133,7 +133,7 @@ impl Sorted {
     }
 
     // Returns the row of the `i`-th address of the age index.
-    pub(crate) fn aged(&self, i: usize) -> &Row
+    pub(crate) fn row_by_age(&self, i: usize) -> &Row
         requires { i < length self.now.ages }
         ensures at { result.now.address ≡ slice_index self.now.ages i }
         ensures found { row_at self.now.rows result.now.address ≡ Some result.now }
@@ -150,7 +150,7 @@ impl Sorted {
     }
 
     // Returns the head of the `i`-th client of the client index.
-    pub(crate) fn indexed_head(&self, i: usize) -> u64
+    pub(crate) fn head_by_client(&self, i: usize) -> u64
         requires { i < length self.now.index }
         ensures { IsHeadAt self.now.rows (slice_index self.now.index i) result }
     {
@@ -158,7 +158,7 @@ impl Sorted {
     }
 
     // Returns the head of the `i`-th client of the age index.
-    pub(crate) fn aged_head(&self, i: usize) -> u64
+    pub(crate) fn head_by_age(&self, i: usize) -> u64
         requires { i < length self.now.ages }
         ensures { IsHeadAt self.now.rows (slice_index self.now.ages i) result }
     {

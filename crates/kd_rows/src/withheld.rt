@@ -56,11 +56,11 @@ impl Withheld {
     {
         let alloc = *withheld.allocator();
         let list = in_order(withheld);
-        let bare = without_rows(&list, rows.sorted())?;
+        let bare = without_rows(&list, rows.as_sorted())?;
         let mut others = Blocks::new(alloc);
         bound_all(
             &mut others,
-            &OpenRows::beside(rows.sorted(), list.as_slice()),
+            &OpenRows::beside(rows.as_sorted(), list.as_slice()),
         )?;
         Ok(Withheld {
             room: rows.room().min(others.room()),
@@ -88,7 +88,7 @@ impl Withheld {
     {
         match self.rows.first_gap(first, last) {
             Some(gap) if is_among(self.bare.as_slice(), gap) => {
-                free_in(self.rows.sorted(), self.bare.as_slice(), gap, last)
+                free_in(self.rows.as_sorted(), self.bare.as_slice(), gap, last)
             }
             gap => gap,
         }
@@ -103,7 +103,7 @@ impl Withheld {
         if moment < self.rows.least_end() {
             return None;
         }
-        let rows = OpenRows::beside(self.rows.sorted(), self.list.as_slice());
+        let rows = OpenRows::beside(self.rows.as_sorted(), self.list.as_slice());
         next_ended(&rows, &self.others, first, last, moment)
     }
 
@@ -156,7 +156,7 @@ impl Withheld {
         } else {
             let block = block_of(address);
             let kept = kept_bound(self.others.find(block), replaced, ends);
-            let rows = OpenRows::beside(self.rows.sorted(), self.list.as_slice());
+            let rows = OpenRows::beside(self.rows.as_sorted(), self.list.as_slice());
             let least = bound_now(&rows, address, kept);
             self.others.set(Bound { block, least });
         }

@@ -9,11 +9,11 @@ returns-then-i-index_len c = sym (nth_none _ _ _ _ _ c.requires.rise c.requires.
 
 pub returns-then-eq : goal.returns-then-eq
 returns-then-eq c =
-    let theirs = c.as_slice.ensures ∙ sym (ap client_in c.indexed-row.ensures.found) ∙ ap (client_at c.args.rows.now.rows) c.indexed-row.ensures.at in
-    ap Some c.indexed-row.ensures.at
+    let theirs = c.as_slice.ensures ∙ sym (ap client_in c.row_by_client-row.ensures.found) ∙ ap (client_at c.args.rows.now.rows) c.row_by_client-row.ensures.at in
+    ap Some c.row_by_client-row.ensures.at
     ∙ sym (nth_some _ _ _ _ _ c.requires.rise c.requires.indexed c.key_place-start.ensures (omega arith) (ap (λ (x : List ℕ). pointwise nat_eq x c.args.client.now) (sym theirs) ∙ sym c.eq.ensures ∙ c.if-eq.true))
 
 pub returns-else-eq : goal.returns-else-eq
 returns-else-eq c =
-    let theirs = c.as_slice.ensures ∙ sym (ap client_in c.indexed-row.ensures.found) ∙ ap (client_at c.args.rows.now.rows) c.indexed-row.ensures.at in
+    let theirs = c.as_slice.ensures ∙ sym (ap client_in c.row_by_client-row.ensures.found) ∙ ap (client_at c.args.rows.now.rows) c.row_by_client-row.ensures.at in
     sym (nth_none _ _ _ _ _ c.requires.rise c.requires.indexed c.key_place-start.ensures (λ within. ap (λ (x : List ℕ). pointwise nat_eq x c.args.client.now) (sym theirs) ∙ sym c.eq.ensures ∙ c.if-eq.false))

@@ -19,5 +19,5 @@ returns c =
     subst (λ (t : WithheldTable). IsNextOpenEnded t.table.rows t.withheld c.args.first c.args.last c.args.moment found) c.self.view_is
     (ended_open list c.self.inside.rows.rows c.args.first c.args.last c.args.moment found
     (subst (λ (xs : List ℕ). IsNextEnded (open_rows xs c.self.inside.rows.rows) c.args.first c.args.last c.args.moment found) c.as_slice.ensures.value
-    (subst (λ (rows : List Row). IsNextEnded (open_rows c.as_slice.result.now rows) c.args.first c.args.last c.args.moment found) c.sorted.ensures.rows
+    (subst (λ (rows : List Row). IsNextEnded (open_rows c.as_slice.result.now rows) c.args.first c.args.last c.args.moment found) c.as_sorted.ensures.rows
     (subst (λ (rows : List Row). IsNextEnded rows c.args.first c.args.last c.args.moment found) c.beside-rows.ensures c.next_ended.ensures))))

@@ -48,8 +48,8 @@ invariant_of-self-else-is_among c =
     let able : (is_some (row_at rows row.address) || nat_lt 0 c.self.inside.room) ≡ true = subst (λ (t : WithheldTable). room_for_row t.table row ≡ true) (sym c.self.view_is) c.requires.spare in
     let open_there : is_some (row_at rows row.address) ≡ is_some (row_at (open_rows list rows) row.address) = ap is_some (sym (open_at list rows row.address out)) in
     let there : is_some c.exchange-replaced.result ≡ is_some (row_at rows row.address) = ap is_some c.exchange-replaced.ensures.replaced ∙ some_end rows row.address in
-    let now : IsNow (open_rows list (with_row row rows)) (block_number row.address) c.kept_bound-kept.result c.bound_now-least.result = subst (λ (xs : List Row). IsNow (open_rows list xs) (block_number row.address) c.kept_bound-kept.result c.bound_now-least.result) (c.sorted.ensures.rows ∙ c.exchange-replaced.ensures.rows)
-    (subst (λ (xs : List ℕ). IsNow (open_rows xs c.sorted.result.now.rows) (block_number row.address) c.kept_bound-kept.result c.bound_now-least.result) c.as_slice-else-is_among.ensures.value (subst (λ (xs : List Row). IsNow xs (block_number row.address) c.kept_bound-kept.result c.bound_now-least.result) c.beside-rows.ensures c.bound_now-least.ensures)) in
+    let now : IsNow (open_rows list (with_row row rows)) (block_number row.address) c.kept_bound-kept.result c.bound_now-least.result = subst (λ (xs : List Row). IsNow (open_rows list xs) (block_number row.address) c.kept_bound-kept.result c.bound_now-least.result) (c.as_sorted.ensures.rows ∙ c.exchange-replaced.ensures.rows)
+    (subst (λ (xs : List ℕ). IsNow (open_rows xs c.as_sorted.result.now.rows) (block_number row.address) c.kept_bound-kept.result c.bound_now-least.result) c.as_slice-else-is_among.ensures.value (subst (λ (xs : List Row). IsNow xs (block_number row.address) c.kept_bound-kept.result c.bound_now-least.result) c.beside-rows.ensures c.bound_now-least.ensures)) in
     let bounded : IsBounded (open_rows list (with_row row rows)) (with_row bound bounds) = open_bounded list rows bounds row bound c.find.result c.kept_bound-kept.result c.exchange-replaced.ensures.rise out c.self.invariant.bounded block (c.find.ensures ∙ ap (end_at bounds) block) c.kept_bound-kept.ensures now in
     record {
       listed = c.self.invariant.listed;

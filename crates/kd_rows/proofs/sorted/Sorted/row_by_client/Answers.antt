@@ -3,7 +3,7 @@ use Rattle.std.proofs.lemmas.List.{length-map}
 use Rattle.kd_rows.specs.Index.{Ordered, row_in}
 use Rattle.kd_rows.specs.Table.{row_at}
 use Rattle.kd_rows.proofs.Slots.{read_indexed}
-use Rattle.kd_rows.proofs.sorted.Sorted.indexed.Goals as goal
+use Rattle.kd_rows.proofs.sorted.Sorted.row_by_client.Goals as goal
 
 pub returns-clause-found : goal.returns-clause-found
 returns-clause-found c =

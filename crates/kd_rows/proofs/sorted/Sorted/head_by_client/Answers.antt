@@ -3,7 +3,7 @@ use Rattle.std.proofs.lemmas.List.{length-map}
 use Rattle.kd_rows.specs.Heads.{IsHeadAt}
 use Rattle.kd_rows.specs.Index.{Ordered, row_in}
 use Rattle.kd_rows.proofs.Fronts.{read_head}
-use Rattle.kd_rows.proofs.sorted.Sorted.indexed_head.Goals as goal
+use Rattle.kd_rows.proofs.sorted.Sorted.head_by_client.Goals as goal
 
 pub returns : goal.returns
 returns c =
