@@ -1,11 +1,11 @@
 -- Which arguments are a line of `check`: its rules, and what its options ask for.
-use Rattle.std.proofs.Common.{◌≡◌, ◌⊎◌, ◌∙◌, sym, ap, refl, subst, inl, inr, ℕ, true, false, Bool, List, [], ◌∷◌, codes, Option, Some, None}
-use Rattle.std.specs.Prelude.{if◌then◌else◌, option_and_then}
+use Rattle.std.proofs.Common.{◌≡◌, ◌⊎◌, ◌∙◌, sym, ap, refl, subst, inl, inr, ℕ, false, List, [], ◌∷◌, codes, Option, Some, None}
+use Rattle.std.specs.Prelude.{option_and_then}
 use Rattle.std.specs.List.{All, AllByRecursion, IsDistinct}
 use Rattle.std.specs.Str.{bytes_eq, IsUtf8}
 use Rattle.std.proofs.lemmas.List.{append-nil}
-use Rattle.clap.specs.Words.{Row, Rule, Shape, Text, fault_of, first_of, subcommand_of}
-use Rattle.clap.specs.Walk.{arg_by_long, arg_by_short, has_short}
+use Rattle.clap.specs.Words.{Row, Shape, Text, fault_of, first_of, subcommand_of}
+use Rattle.clap.specs.Walk.{arg_by_long}
 use Rattle.clap.specs.declared.error.kind.ErrorKind.TheVariants.{DisplayHelp}
 use Rattle.clap.proofs.OnLiterals.{clap_on_literals}
 use Rattle.kd_commands.specs.Line.{IsCheckLine, IsHelpFlag, IsLine, IsOneOf, IsOptionLine, given_values}
@@ -13,7 +13,7 @@ use Rattle.kd_commands.specs.Order.{Asked, Checking, asked_of, check_line, check
 use Rattle.kd_commands.specs.Values.{address_of, number_of, port_of, read_if_given, read_or}
 use Rattle.kd_commands.proofs.Apart.{each_has}
 use Rattle.kd_commands.proofs.Entries.{found_text, text_at}
-use Rattle.kd_commands.proofs.Flags.{help_built, shorts_fail}
+use Rattle.kd_commands.proofs.Flags.{shorts_fail}
 use Rattle.kd_commands.proofs.Given.{given_passes, line_of}
 use Rattle.kd_commands.proofs.Held.{defaults_pass, no_defaults, rows_of}
 use Rattle.kd_commands.proofs.Level.{leaf}

@@ -1,13 +1,13 @@
 -- Which arguments are a line of `replay` or of `import`: the rules of the two, and what their
 -- options ask for.
-use Rattle.std.proofs.Common.{◌≡◌, ◌⊎◌, ◌∙◌, sym, ap, refl, subst, inl, inr, ℕ, true, false, Bool, List, [], ◌∷◌, ◌++◌, codes, Option, Some, None, option_map}
-use Rattle.std.specs.Prelude.{◌||◌, if◌then◌else◌, not}
+use Rattle.std.proofs.Common.{◌≡◌, ◌⊎◌, ◌∙◌, sym, ap, refl, subst, inl, inr, ℕ, true, false, List, [], ◌∷◌, ◌++◌, codes, Option, Some, None, option_map}
+use Rattle.std.specs.Prelude.{◌||◌, not}
 use Rattle.std.specs.List.{All, AllByRecursion, IsDistinct}
 use Rattle.std.specs.Str.{bytes_eq, IsUtf8}
 use Rattle.std.proofs.lemmas.List.{append-nil}
-use Rattle.clap.specs.Words.{Rule, Shape, Text, fault_of, subcommand_of}
+use Rattle.clap.specs.Words.{Shape, Text, fault_of, subcommand_of}
 use Rattle.clap.specs.Takes.{is_given}
-use Rattle.clap.specs.Walk.{arg_by_long, arg_by_short, has_short}
+use Rattle.clap.specs.Walk.{arg_by_long}
 use Rattle.clap.specs.declared.error.kind.ErrorKind.TheVariants.{DisplayHelp}
 use Rattle.clap.proofs.OnLiterals.{clap_on_literals}
 use Rattle.kd_commands.specs.Line.{IsHelpFlag, IsLine, IsOneOf, IsOptionLine, given_values}
@@ -15,7 +15,7 @@ use Rattle.kd_commands.specs.Order.{Asked, asked_of, command_line, import_line, 
 use Rattle.kd_commands.specs.Values.{event_line_of, read_if_given}
 use Rattle.kd_commands.proofs.Apart.{each_has}
 use Rattle.kd_commands.proofs.Entries.{found_text, text_at}
-use Rattle.kd_commands.proofs.Flags.{help_built, shorts_fail}
+use Rattle.kd_commands.proofs.Flags.{shorts_fail}
 use Rattle.kd_commands.proofs.Given.{given_passes, lacks_none, line_of, needed_text}
 use Rattle.kd_commands.proofs.Held.{defaults_pass, no_defaults, rows_of}
 use Rattle.kd_commands.proofs.Level.{leaf}

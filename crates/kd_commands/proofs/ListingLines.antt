@@ -9,7 +9,7 @@ use Rattle.std.proofs.lemmas.List.{append-nil}
 use Rattle.clap.specs.Words.{Row, Rule, Shape, Text, fault_of, first_of, subcommand_of}
 use Rattle.clap.specs.Facts.{explicit_source}
 use Rattle.clap.specs.Takes.{is_given}
-use Rattle.clap.specs.Walk.{arg_by_long, arg_by_short, has_short, with_default}
+use Rattle.clap.specs.Walk.{arg_by_long, with_default}
 use Rattle.clap.specs.declared.error.kind.ErrorKind.TheVariants.{DisplayHelp}
 use Rattle.clap.proofs.OnLiterals.{clap_on_literals}
 use Rattle.kd_commands.specs.Line.{IsHelpFlag, IsLine, IsListingLine, IsOneOf, IsOptionLine, flag_given, given_values, listing_options}

@@ -1,13 +1,13 @@
 -- Which arguments are a line of `show`: its rules, and what its text and its flag ask for.
-use Rattle.std.proofs.Common.{◌≡◌, ◌⊎◌, ◌∙◌, sym, ap, refl, subst, inl, inr, true, false, Bool, List, [], ◌∷◌, codes, fold, Option, Some, None, is_some}
-use Rattle.std.specs.Prelude.{◌||◌, if◌then◌else◌, not}
+use Rattle.std.proofs.Common.{◌≡◌, ◌∙◌, sym, ap, refl, subst, inl, inr, false, Bool, List, [], ◌∷◌, codes, fold, Some, is_some}
+use Rattle.std.specs.Prelude.{◌||◌, not}
 use Rattle.std.specs.Option.{option_map_or}
 use Rattle.std.specs.List.{All, IsDistinct}
 use Rattle.std.specs.Str.{bytes_eq, IsUtf8}
-use Rattle.clap.specs.Words.{Row, Rule, Shape, Text, fault_of, first_of, subcommand_of}
+use Rattle.clap.specs.Words.{Row, Shape, Text, fault_of, first_of, subcommand_of}
 use Rattle.clap.specs.Facts.{explicit_source}
 use Rattle.clap.specs.Takes.{is_given}
-use Rattle.clap.specs.Walk.{arg_by_long, arg_by_short, has_short, with_default}
+use Rattle.clap.specs.Walk.{arg_by_long, with_default}
 use Rattle.clap.specs.declared.error.kind.ErrorKind.TheVariants.{DisplayHelp}
 use Rattle.clap.proofs.OnLiterals.{clap_on_literals}
 use Rattle.kd_commands.specs.Line.{IsHelpFlag, IsLine, IsLineAround, IsOneOf, flag_given}

@@ -1,14 +1,14 @@
 -- Which arguments are a line of `why`: its rules, and what its datagram, its options and its flag
 -- ask for.
 use Rattle.std.proofs.Common.{◌≡◌, ◌⊎◌, ◌∙◌, sym, ap, ap₂, refl, subst, inl, inr, ℕ, true, false, Bool, List, [], ◌∷◌, ◌++◌, codes, fold, Option, Some, None, is_some, option_map}
-use Rattle.std.specs.Prelude.{◌||◌, if◌then◌else◌, not, option_and_then}
+use Rattle.std.specs.Prelude.{◌||◌, not, option_and_then}
 use Rattle.std.specs.Option.{option_map_or}
 use Rattle.std.specs.List.{All, IsDistinct}
 use Rattle.std.specs.Str.{bytes_eq, IsUtf8}
 use Rattle.clap.specs.Words.{Row, Rule, Shape, Text, fault_of, first_of, subcommand_of}
 use Rattle.clap.specs.Facts.{explicit_source}
 use Rattle.clap.specs.Takes.{is_given}
-use Rattle.clap.specs.Walk.{arg_by_long, arg_by_short, has_short, with_default}
+use Rattle.clap.specs.Walk.{arg_by_long, with_default}
 use Rattle.clap.specs.declared.error.kind.ErrorKind.TheVariants.{DisplayHelp}
 use Rattle.clap.proofs.OnLiterals.{clap_on_literals}
 use Rattle.kd_commands.specs.Line.{IsHelpFlag, IsLine, IsLineAround, IsOneOf, IsWhyLine, given_values, listing_options}
