@@ -3,7 +3,6 @@ use Rattle.std.proofs.Common.{◌≡◌, ℕ, ◌+◌, ◌*◌, ◌<◌, ◌≤�
 use Rattle.std.proofs.lemmas.List.{map_more, take_all}
 use Rattle.std.proofs.lemmas.List.Sums.{sum_by_push}
 use Rattle.kd_config.specs.Configuration.{Configuration}
-use Rattle.kd_config.specs.declared.pool.Pool.{Pool}
 use Rattle.kd_config.specs.declared.subnet.Subnet.{Subnet}
 use Rattle.kd_lease.specs.Choice.{reserved_anywhere}
 use Rattle.kd_rows.specs.declared.row.Row.{Row}
@@ -13,14 +12,12 @@ use Rattle.kd_pools.specs.declared.counts.Counts.{Counts}
 use Rattle.kd_pools.specs.declared.uses.PoolUse.{PoolUse}
 use Rattle.kd_pools.proofs.Counting.{same_counts}
 
--- the use of one more pool
-pub next_pool : (reserved : ℕ → Bool) (rows : List Row) (now : ℕ) (pools : List Pool) (i : ℕ) (pool : Pool) (old new : List PoolUse) (used : PoolUse)
-    → i < length pools → pool ≡ get_or pools i pool → old ≡ map (pool_use reserved rows now) (take i pools)
-    → used ≡ pool_use reserved rows now pool → new ≡ old ++ used ∷ [] → new ≡ map (pool_use reserved rows now) (take (i + 1) pools)
-next_pool reserved rows now pools i pool old new used less at before is put =
-    put ∙ ap (λ (list : List PoolUse). list ++ used ∷ []) before
-    ∙ ap (λ (u : PoolUse). map (pool_use reserved rows now) (take i pools) ++ u ∷ []) (is ∙ ap (pool_use reserved rows now) at)
-    ∙ sym (map_more (pool_use reserved rows now) pools i pool less)
+module _ {X Y : Type 0} (make : X → Y) where
+  -- what is made of the entries of a list, and of one more
+  pub next_made : (list : List X) (i : ℕ) (x : X) (old new : List Y) (made : Y) → i < length list → x ≡ get_or list i x
+      → old ≡ map make (take i list) → made ≡ make x → new ≡ old ++ made ∷ [] → new ≡ map make (take (i + 1) list)
+  next_made list i x old new made less at before is put =
+      put ∙ ap (λ (l : List Y). l ++ made ∷ []) before ∙ ap (λ (y : Y). map make (take i list) ++ y ∷ []) (is ∙ ap make at) ∙ sym (map_more make list i x less)
 
 push_sums : (old : List PoolUse) (used : PoolUse) → sums_of (old ++ used ∷ []) ≡ both_counts (sums_of old) used.counts
 push_sums old used =
@@ -59,15 +56,6 @@ whole_subnet reserved rows now subnet pools counts used i is each sums past =
     let same : record { prefix = subnet.prefix; pools = pools; counts = counts } ≡ subnet_use reserved rows now subnet =
     λ j. record { prefix = subnet.prefix; pools = all j; counts = together j } in
     is ∙ same
-
--- the use of one more subnet
-pub next_subnet : (reserved : ℕ → Bool) (rows : List Row) (now : ℕ) (subnets : List Subnet) (i : ℕ) (subnet : Subnet) (old new : List UseOfSubnet) (used : UseOfSubnet)
-    → i < length subnets → subnet ≡ get_or subnets i subnet → old ≡ map (subnet_use reserved rows now) (take i subnets)
-    → used ≡ subnet_use reserved rows now subnet → new ≡ old ++ used ∷ [] → new ≡ map (subnet_use reserved rows now) (take (i + 1) subnets)
-next_subnet reserved rows now subnets i subnet old new used less at before is put =
-    put ∙ ap (λ (list : List UseOfSubnet). list ++ used ∷ []) before
-    ∙ ap (λ (u : UseOfSubnet). map (subnet_use reserved rows now) (take i subnets) ++ u ∷ []) (is ∙ ap (subnet_use reserved rows now) at)
-    ∙ sym (map_more (subnet_use reserved rows now) subnets i subnet less)
 
 -- the uses of all subnets, given a list of the reserved addresses
 pub whole_list : (list : List ℕ) (config : Configuration) (rows : List Row) (now : ℕ) (uses : List UseOfSubnet) (i : ℕ)

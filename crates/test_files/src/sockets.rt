@@ -16,7 +16,7 @@ use std::alloc::{AllocError, Global};
 use std::net::{IpAddr, Ipv4Addr, UdpSocket};
 use std::test::Fail;
 use std::time::{Duration, Instant};
-use test_tables::Fused;
+use test_tables::{Fused, offer_bytes};
 
 // 127.0.0.1, and the broadcast address of its link.
 const LOOPBACK: u32 = 0x7f00_0001;
@@ -252,25 +252,6 @@ fn a_socket_waits_again_for_the_next_datagram(rt: HostRuntime) -> Result<(), Fai
     assert!(rt; link.receive(&mut room).is_err());
     assert!(rt; begun.elapsed(&rt)? >= Duration::from_millis(200));
     Ok(())
-}
-
-// The cookie and the options of the OFFER: its type, the server 192.0.2.1, a lease of 3600 seconds
-// that is renewed after 1800 and rebound after 3150, the subnet mask, and the end option.
-const OFFERED_OPTIONS: &[u8] = b"\x63\x82\x53\x63\x35\x01\x02\x36\x04\xc0\x00\x02\x01\
-    \x33\x04\x00\x00\x0e\x10\x3a\x04\x00\x00\x07\x08\x3b\x04\x00\x00\x0c\x4e\
-    \x01\x04\xff\xff\xff\x00\xff";
-
-// Returns all bytes of the OFFER to the client.
-fn offer_bytes(alloc: Global) -> Result<Vec<u8>, AllocError> {
-    let mut bytes = Vec::from_slice(alloc, &[2, 1, 6, 0, 0, 0, 0, 1])?;
-    bytes.resize(16, 0)?;
-    bytes.extend_from_slice(&[192, 0, 2, 10])?;
-    bytes.resize(28, 0)?;
-    bytes.extend_from_slice(&[10, 0, 0, 0, 0, 1])?;
-    bytes.resize(236, 0)?;
-    bytes.extend_from_slice(OFFERED_OPTIONS)?;
-    bytes.resize(300, 0)?;
-    Ok(bytes)
 }
 
 // Reports whether what a socket receives next has exactly these bytes.

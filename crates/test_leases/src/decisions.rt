@@ -5,8 +5,9 @@ use kd_config::Config;
 use kd_lease::{Decision, Plan, PlanKind, decide};
 use kd_options::Message;
 use kd_rows::{Row, Rows, State};
-use std::alloc::{AllocError, Global};
+use std::alloc::Global;
 use std::test::Fail;
+use test_tables::offer_bytes;
 
 // 192.0.2.10, the first address of the built-in pool.
 const FIRST: u32 = 0xc000_020a;
@@ -45,25 +46,6 @@ fn is_held(row: &Row) -> bool {
         && row.ends == 160
 }
 
-// The cookie and the options of the OFFER: its type, the server 192.0.2.1, a lease of 3600 seconds
-// that is renewed after 1800 and rebound after 3150, the subnet mask, and the end option.
-const OPTIONS: &[u8] = b"\x63\x82\x53\x63\x35\x01\x02\x36\x04\xc0\x00\x02\x01\
-    \x33\x04\x00\x00\x0e\x10\x3a\x04\x00\x00\x07\x08\x3b\x04\x00\x00\x0c\x4e\
-    \x01\x04\xff\xff\xff\x00\xff";
-
-// Returns the bytes of the OFFER.
-fn offer(alloc: Global) -> Result<Vec<u8>, AllocError> {
-    let mut bytes = Vec::from_slice(alloc, &[2, 1, 6, 0, 0, 0, 0, 1])?;
-    bytes.resize(16, 0)?;
-    bytes.extend_from_slice(&[192, 0, 2, 10])?;
-    bytes.resize(28, 0)?;
-    bytes.extend_from_slice(&[10, 0, 0, 0, 0, 1])?;
-    bytes.resize(236, 0)?;
-    bytes.extend_from_slice(OPTIONS)?;
-    bytes.resize(300, 0)?;
-    Ok(bytes)
-}
-
 // The room for a client that does not say how much it accepts.
 const ROOM: u16 = 548;
 
@@ -71,7 +53,7 @@ const ROOM: u16 = 548;
 fn is_offered(alloc: Global, plan: &Plan) -> Result<bool, Fail> {
     let written = plan.reply.write(alloc, ROOM)?;
     let is_first = plan.kind == PlanKind::Offer && plan.yiaddr == FIRST && plan.room == ROOM;
-    Ok(is_first && written.as_slice() == offer(alloc)?.as_slice())
+    Ok(is_first && written.as_slice() == offer_bytes(alloc)?.as_slice())
 }
 
 #[test]

@@ -134,11 +134,8 @@ fn sent_with<S: Alter + Drop>(
 
 // If the opening stops, the events end there.
 fn unopened(refusal: &Refusal) -> Result<End, Fail> {
-    if refusal.is_stop() {
-        Ok(End::Unopened)
-    } else {
-        Err("an opening that stops has another fault".into())
-    }
+    refusal.expect_stop()?;
+    Ok(End::Unopened)
 }
 
 // Does the same over files.

@@ -155,11 +155,8 @@ fn sent_with<S: Alter + Drop>(
 
 // If the opening stops, the day ends there.
 fn unopened(refusal: &Refusal) -> Result<End, Fail> {
-    if refusal.is_stop() {
-        Ok(End::Unopened)
-    } else {
-        Err("an opening that stops has another fault".into())
-    }
+    refusal.expect_stop()?;
+    Ok(End::Unopened)
 }
 
 // Does the same over files, and returns where it stops, and the files.

@@ -9,6 +9,7 @@ use kd_server::Server;
 use kd_store::Store;
 use sqlite::{Alter, Connection};
 use std::alloc::{AllocError, Global};
+use std::test::Fail;
 
 const PORTS: Ports = Ports {
     server: 67,
@@ -28,6 +29,15 @@ impl Refusal {
         match self {
             Refusal::Store(fault) => *fault == STOPPED,
             Refusal::Server(fault) => *fault == ServeFault::Store(STOPPED),
+        }
+    }
+
+    /// Fails unless the device has stopped, and the fault is exactly that.
+    pub(crate) fn expect_stop(&self) -> Result<(), Fail> {
+        if self.is_stop() {
+            Ok(())
+        } else {
+            Err("an opening that stops has another fault".into())
         }
     }
 }

@@ -1,6 +1,6 @@
 //! Tests of the table of leases by values: what is found in it, by address and by client, and what
 //! it contains after a refused memory request; and a store in memory that fails on demand
-//! (`Fused`), for tests of what is built on a store.
+//! (`Fused`), for tests of what is built on a store; and the bytes of an OFFER.
 //!
 //! They are a separate crate because a crate is proved again together with its tests, and are
 //! separate from `test_texts` because they need only the table's crates.
@@ -9,6 +9,7 @@
 #[cfg(test)]
 mod ages;
 mod fused;
+mod offer;
 #[cfg(test)]
 mod rows;
 #[cfg(test)]
@@ -19,3 +20,4 @@ mod tiers;
 mod withheld;
 
 pub use fused::Fused;
+pub use offer::offer_bytes;

@@ -3,7 +3,7 @@ use Rattle.kd_config.specs.declared.pool.Pool.{Pool}
 use Rattle.kd_pools.specs.Uses.{pool_use}
 use Rattle.kd_pools.specs.Walking.{is_listed}
 use Rattle.kd_pools.specs.declared.uses.PoolUse.{PoolUse}
-use Rattle.kd_pools.proofs.Together.{next_most, next_pool, next_sums, whole_subnet}
+use Rattle.kd_pools.proofs.Together.{next_made, next_most, next_sums, whole_subnet}
 use Rattle.kd_pools.proofs.uses.use_of.Goals as goal
 
 pub loop-pool-preserved : goal.loop-pool-preserved
@@ -17,7 +17,7 @@ loop-pool-preserved c =
     let is : used ≡ pool_use (is_listed c.args.reserved.now) c.args.rows.now.rows c.args.now pool =
     λ i. record { range = pool.range; counts = c.counts_in-here.ensures.counts i } in
     record {
-      pools = next_pool (is_listed c.args.reserved.now) c.args.rows.now.rows c.args.now pools n pool c.loop-pool.pools.items c.push.new.self.items used less at c.loop-pool.invariant.pools is c.in_ok-push.ensures.items;
+      pools = next_made (pool_use (is_listed c.args.reserved.now) c.args.rows.now.rows c.args.now) pools n pool c.loop-pool.pools.items c.push.new.self.items used less at c.loop-pool.invariant.pools is c.in_ok-push.ensures.items;
       counts = next_sums c.loop-pool.pools.items c.push.new.self.items used c.loop-pool.counts c.and-counts.result c.loop-pool.invariant.counts c.in_ok-push.ensures.items c.and-counts.ensures;
       few = next_most n c.loop-pool.counts c.counts_in-here.result c.and-counts.result c.loop-pool.invariant.few c.counts_in-here.ensures.few c.and-counts.ensures;
     }

@@ -2,7 +2,7 @@ use Rattle.std.proofs.Common.{◌≡◌, ◌<◌, ℕ, List, length, get_or, ap,
 use Rattle.kd_config.specs.declared.subnet.Subnet.{Subnet}
 use Rattle.kd_pools.specs.Uses.{subnet_use}
 use Rattle.kd_pools.specs.Walking.{is_listed}
-use Rattle.kd_pools.proofs.Together.{next_subnet, whole_list}
+use Rattle.kd_pools.proofs.Together.{next_made, whole_list}
 use Rattle.kd_pools.proofs.uses.uses_of.Goals as goal
 
 pub loop-subnet-preserved : goal.loop-subnet-preserved
@@ -12,7 +12,7 @@ loop-subnet-preserved c =
     let subnets = c.args.config.now.subnets in
     let less : n < length subnets = omega (arith, c.loop-subnet-test.true, ap (length {A = Subnet}) c.subnets-subnets.ensures.same) in
     let at : subnet ≡ get_or subnets n subnet = c.subnet-item.is ∙ ap (λ (xs : List Subnet). get_or xs n subnet) c.subnets-subnets.ensures.same in
-    next_subnet (is_listed c.in_ok-reserved.reserved.items) c.args.rows.now.rows c.args.now subnets n subnet c.loop-subnet.list.items c.push.new.self.items c.in_ok-use_of.field-0 less at
+    next_made (subnet_use (is_listed c.in_ok-reserved.reserved.items) c.args.rows.now.rows c.args.now) subnets n subnet c.loop-subnet.list.items c.push.new.self.items c.in_ok-use_of.field-0 less at
     c.loop-subnet.invariant (c.in_ok-use_of.ensures ∙ ap (λ (list : List ℕ). subnet_use (is_listed list) c.args.rows.now.rows c.args.now subnet) c.as_slice.ensures.value)
     c.in_ok-push.ensures.items
 
