@@ -1,8 +1,8 @@
 -- The newest of a client's addresses by the age of its rows.
-use Rattle.std.proofs.Common.{◌≡◌, ℕ, ◌+◌, ◌-◌, ◌*◌, ◌<◌, ◌≤◌, Bor, Bool, true, false, ◌&&◌, ◌||◌, ◌==◌, nat_lt, nat_le, not, List, [], ◌∷◌, length, get_or, take, suc, Option, Some, None, refl, sym, ap, subst, ◌∙◌, arith, if◌then◌else◌}
+use Rattle.std.proofs.Common.{◌≡◌, ℕ, ◌+◌, ◌-◌, ◌*◌, ◌<◌, ◌≤◌, Bor, Bool, true, false, ◌&&◌, ◌||◌, ◌==◌, nat_lt, nat_le, not, List, [], ◌∷◌, length, get_or, take, suc, Option, Some, None, refl, sym, ap, subst, ◌∙◌, ⊎_elim, arith, if◌then◌else◌}
 use Rattle.std.specs.List.{All, list_any}
 use Rattle.std.specs.Option.{option_copied}
-use Rattle.std.proofs.lemmas.Bool.{eq-eqb, eqb-true, false≢true}
+use Rattle.std.proofs.lemmas.Bool.{and_from, and_parts, eq-eqb, eqb-true, or_cases, or_left, or_right, false≢true}
 use Rattle.std.proofs.lemmas.Bool.Decides.{nat_tests}
 use Rattle.std.proofs.lemmas.List.{take_all}
 use Rattle.std.proofs.lemmas.List.Folds.{list_any_more}
@@ -15,6 +15,7 @@ use Rattle.kd_rows.specs.Table.{IsNewestRow, belongs_to, is_aged, is_newer_row, 
 use Rattle.kd_rows.specs.declared.row.Row.{Row}
 use Rattle.kd_rows.specs.declared.row.State.{State}
 use Rattle.kd_rows.specs.declared.row.State.TheVariants.{Offered, Bound, Released, Declined}
+use Rattle.kd_rows.proofs.Zoned.{no_or, or_no}
 use Rattle.kd_lease.specs.Aging.{is_in_state, is_within, live_sought, newer_found, reserved_sought, sought_for, sought_in, sought_within, state_sought}
 use Rattle.kd_lease.specs.Choice.{Asking, Rank, changed_in, has_rank, has_such, held_row, holding_state, is_before, live_row, pooled, reserved_anywhere, same_address, set_later}
 use Rattle.kd_lease.specs.Choice.Rank.{own, past}
@@ -25,35 +26,6 @@ use Rattle.kd_lease.specs.declared.choosing.Choosing.{Choosing}
 use Rattle.kd_lease.specs.declared.seeking.Sought.{Sought}
 use Rattle.kd_lease.specs.declared.seeking.Sought.TheVariants as seeks
 use Rattle.kd_lease.proofs.Newest.{not_newer, not_newer_itself, own_sought, past_sought, sought_is_mine}
-
-both : (t u : Bool) → (t && u) ≡ true → (t ≡ true) × (u ≡ true)
-both true u h = (refl, h)
-both false u h = absurd (false≢true h)
-
-and_true : (t u : Bool) → t ≡ true → u ≡ true → (t && u) ≡ true
-and_true true u e f = f
-and_true false u e f = e
-
-or_no : (t u : Bool) → t ≡ false → (t || u) ≡ u
-or_no false u e = refl
-or_no true u e = absurd (false≢true (sym e))
-
-no_or : (t u : Bool) → u ≡ false → (t || u) ≡ t
-no_or false u e = e
-no_or true u e = refl
-
--- one of two holds
-one_of : {A : Type 0} (t u : Bool) → (t || u) ≡ true → (t ≡ true → A) → (u ≡ true → A) → A
-one_of true u h f g = f refl
-one_of false u h f g = g h
-
-or_first : (t u : Bool) → t ≡ true → (t || u) ≡ true
-or_first true u e = refl
-or_first false u e = absurd (false≢true e)
-
-or_second : (t u : Bool) → u ≡ true → (t || u) ≡ true
-or_second true u e = refl
-or_second false u e = e
 
 -- the newest that passes a test is the newest that passes an equal test
 pub newest_alike : (rows : List Row) (p r : ℕ → Bool) (best : Option ℕ) → ((a : ℕ) → r a ≡ p a) → IsNewest rows p best → IsNewest rows r best
@@ -72,8 +44,8 @@ newest_of_both rows p r each None y same h g = newest_alike rows r each y (λ a.
 newest_of_both rows p r each (Some a) None same h g = newest_alike rows p each (Some a) (λ b. same b ∙ no_or (p b) (r b) (g b)) h
 newest_of_both rows p r each (Some a) (Some b) same h g = by (set_later rows b a) refl where
   by : (t : Bool) → set_later rows b a ≡ t → IsNewest rows each (if t then Some b else Some a)
-  by true e = (same b ∙ or_second (p b) (r b) g.0, λ c f. one_of (p c) (r c) (sym (same c) ∙ f) (λ k. not_newer rows c b a e (h.1 c k)) (g.1 c))
-  by false e = (same a ∙ or_first (p a) (r a) h.0, λ c f. one_of (p c) (r c) (sym (same c) ∙ f) (h.1 c) (λ k. not_newer_than rows c b a (g.1 c k) e))
+  by true e = (same b ∙ or_right (p b) (r b) g.0, λ c f. ⊎_elim (λ k. not_newer rows c b a e (h.1 c k)) (g.1 c) (or_cases (p c) (r c) (sym (same c) ∙ f)))
+  by false e = (same a ∙ or_left (p a) (r a) h.0, λ c f. ⊎_elim (h.1 c) (λ k. not_newer_than rows c b a (g.1 c k) e) (or_cases (p c) (r c) (sym (same c) ∙ f)))
 
 -- a row is in only one state
 pub same_state : (s t : State) → (state_number s == state_number t) ≡ true → s ≡ t
@@ -127,27 +99,27 @@ by_state q sought first last o b r d ho hb hr hd =
       by w (Some row) mine = one row.state w
 
       each : (a : ℕ) → sought_within q sought first last a ≡ (held a || given a)
-      each a = by (sought_within q sought first last a) (row_at q.rows a) (λ h. sought_is_mine q sought a (both (sought_at q sought a) (is_within first last a) h).0)
+      each a = by (sought_within q sought first last a) (row_at q.rows a) (λ h. sought_is_mine q sought a (and_parts (sought_at q sought a) (is_within first last a) h).0)
 
 -- an address that is sought has a row in one of the states that such a row can be in
 in_states : (q : Asking) (sought : Sought) (a : ℕ) (row : Row) → row_at q.rows a ≡ Some row → sought_at q sought a ≡ true → state_sought sought row.state ≡ true
 in_states q (seeks.Own choosing) a row there h =
-    let held = (both (held_at q a) (fitting_with choosing.now a) h).0 in
+    let held = (and_parts (held_at q a) (fitting_with choosing.now a) h).0 in
     let its : held_row q row ≡ true = sym (ap (has_such (held_row q)) there) ∙ held in
-    (both (belongs_to q.client row) (holding_state row.state) (both (live_row q.now row) (belongs_to q.client row && holding_state row.state) its).1).1
+    (and_parts (belongs_to q.client row) (holding_state row.state) (and_parts (live_row q.now row) (belongs_to q.client row && holding_state row.state) its).1).1
 in_states q (seeks.Past choosing) a row there h = refl
 in_states q seeks.Offer a row there h =
     let its : (live_row q.now row && (belongs_to q.client row && offered_state row.state)) ≡ true = sym (ap (has_such (λ r. live_row q.now r && (belongs_to q.client r && offered_state r.state))) there) ∙ h in
-    (both (belongs_to q.client row) (offered_state row.state) (both (live_row q.now row) (belongs_to q.client row && offered_state row.state) its).1).1
+    (and_parts (belongs_to q.client row) (offered_state row.state) (and_parts (live_row q.now row) (belongs_to q.client row && offered_state row.state) its).1).1
 
 -- such a row has not ended, if only rows that have not ended are sought
 is_live_at : (q : Asking) (sought : Sought) (a : ℕ) (row : Row) → row_at q.rows a ≡ Some row → live_sought sought ≡ true → sought_at q sought a ≡ true → live_row q.now row ≡ true
 is_live_at q (seeks.Own choosing) a row there live h =
-    let held = (both (held_at q a) (fitting_with choosing.now a) h).0 in
-    (both (live_row q.now row) (belongs_to q.client row && holding_state row.state) (sym (ap (has_such (held_row q)) there) ∙ held)).0
+    let held = (and_parts (held_at q a) (fitting_with choosing.now a) h).0 in
+    (and_parts (live_row q.now row) (belongs_to q.client row && holding_state row.state) (sym (ap (has_such (held_row q)) there) ∙ held)).0
 is_live_at q (seeks.Past choosing) a row there live h = absurd (false≢true live)
 is_live_at q seeks.Offer a row there live h =
-    (both (live_row q.now row) (belongs_to q.client row && offered_state row.state) (sym (ap (has_such (λ r. live_row q.now r && (belongs_to q.client r && offered_state r.state))) there) ∙ h)).0
+    (and_parts (live_row q.now row) (belongs_to q.client row && offered_state row.state) (sym (ap (has_such (λ r. live_row q.now r && (belongs_to q.client r && offered_state r.state))) there) ∙ h)).0
 
 -- a sought address from first to last with its row in a state
 record Sighting (q : Asking) (sought : Sought) (state : State) (first last a : ℕ) : Type 0 where
@@ -168,10 +140,10 @@ address_at (r ∷ rows) a row h = by (r.address == a) refl h (address_at rows a 
 seen : (q : Asking) (sought : Sought) (state : State) (first last a : ℕ) → sought_in q sought state first last a ≡ true → Sighting q sought state first last a
 seen q sought state first last a h = by (row_at q.rows a) refl where
   parts : (has_such (is_in_state state) (row_at q.rows a) ≡ true) × (sought_within q sought first last a ≡ true)
-  parts = both (has_such (is_in_state state) (row_at q.rows a)) (sought_within q sought first last a) h
+  parts = and_parts (has_such (is_in_state state) (row_at q.rows a)) (sought_within q sought first last a) h
 
   found : (sought_at q sought a ≡ true) × (is_within first last a ≡ true)
-  found = both (sought_at q sought a) (is_within first last a) parts.1
+  found = and_parts (sought_at q sought a) (is_within first last a) parts.1
 
   within : (x : ℕ) → x ≡ a → (not (nat_lt x first) && (not (nat_lt last x) && true)) ≡ true
   within x e = let h : (nat_le first a && nat_le a last) ≡ true = found.1 in grind (arith, nat_tests)
@@ -181,8 +153,8 @@ seen q sought state first last a h = by (row_at q.rows a) refl where
   by (Some row) e = record {
     row = row;
     there = e;
-    of = and_true (belongs_to q.client row) _ (sym (ap (has_such (belongs_to q.client)) e) ∙ sought_is_mine q sought a found.0)
-        (and_true (state_number row.state == state_number state) _ (sym (ap (has_such (is_in_state state)) e) ∙ parts.0) (within row.address (address_at q.rows a row e)));
+    of = and_from (belongs_to q.client row) _ (sym (ap (has_such (belongs_to q.client)) e) ∙ sought_is_mine q sought a found.0)
+        (and_from (state_number row.state == state_number state) _ (sym (ap (has_such (is_in_state state)) e) ∙ parts.0) (within row.address (address_at q.rows a row e)));
     address = address_at q.rows a row e;
     is = found.0;
   }
@@ -279,18 +251,19 @@ next_is_older q sought state first last r (Some f) bound reached h = older f.cha
   parts = before_too q.client state first last r f h.1
 
   aged : (belongs_to q.client f ≡ true) × (((state_number f.state == state_number state) && (not (nat_lt f.address first) && (not (nat_lt last f.address) && true))) ≡ true)
-  aged = both (belongs_to q.client f) _ parts.0
+  aged = and_parts (belongs_to q.client f) _ parts.0
 
   low : (x : ℕ) → ((state_number f.state == state_number state) && (not (nat_lt x first) && (not (nat_lt last x) && true))) ≡ true → x ≤ 4294967295
   low x g =
-      let w : (not (nat_lt x first) && (not (nat_lt last x) && true)) ≡ true = (both (state_number f.state == state_number state) _ g).1 in
+      let w : (not (nat_lt x first) && (not (nat_lt last x) && true)) ≡ true = (and_parts (state_number f.state == state_number state) _ g).1 in
       let l : x ≤ last = grind (arith, nat_tests) in
       omega arith
 
   older : (m n x y : ℕ) → x ≤ 4294967295 → (nat_lt m n || ((n == m) && nat_lt y x)) ≡ true → 1 + (m * 4294967296 + (4294967295 - x)) < 1 + (n * 4294967296 + (4294967295 - y))
-  older m n x y le newer = one_of (nat_lt m n) ((n == m) && nat_lt y x) newer
-      (λ g. let l : m < n = grind (arith, nat_tests) in omega arith)
-      (λ g. let e : n ≡ m = eqb-true n m (both (n == m) (nat_lt y x) g).0 in let l : y < x = lt y x (both (n == m) (nat_lt y x) g).1 in omega arith) where
+  older m n x y le newer = ⊎_elim
+      (λ g. let l : m < n = lt m n g in omega arith)
+      (λ g. let e : n ≡ m = eqb-true n m (and_parts (n == m) (nat_lt y x) g).0 in let l : y < x = lt y x (and_parts (n == m) (nat_lt y x) g).1 in omega arith)
+      (or_cases (nat_lt m n) ((n == m) && nat_lt y x) newer) where
         lt : (a b : ℕ) → nat_lt a b ≡ true → a < b
         lt a b h = grind (arith, nat_tests)
 
@@ -301,12 +274,12 @@ reached_it q sought state first last r reached it = (sought_is, newest) where
   there = (reached.there r refl).0
 
   sought_is : sought_in q sought state first last r.address ≡ true
-  sought_is = and_true (has_such (is_in_state state) (row_at q.rows r.address)) _ (ap (has_such (is_in_state state)) there ∙ in_state) (and_true (sought_at q sought r.address) _ it (within r.address more.1)) where
+  sought_is = and_from (has_such (is_in_state state) (row_at q.rows r.address)) _ (ap (has_such (is_in_state state)) there ∙ in_state) (and_from (sought_at q sought r.address) _ it (within r.address more.1)) where
     parts : (belongs_to q.client r ≡ true) × (((state_number r.state == state_number state) && (not (nat_lt r.address first) && (not (nat_lt last r.address) && true))) ≡ true)
-    parts = both (belongs_to q.client r) _ (reached.there r refl).1
+    parts = and_parts (belongs_to q.client r) _ (reached.there r refl).1
 
     more : (is_in_state state r ≡ true) × ((not (nat_lt r.address first) && (not (nat_lt last r.address) && true)) ≡ true)
-    more = both (is_in_state state r) _ parts.1
+    more = and_parts (is_in_state state r) _ parts.1
 
     in_state : is_in_state state r ≡ true
     in_state = more.0
@@ -355,7 +328,7 @@ reached_ended q sought state first last r reached not_it live ended a = by (soug
     not_sought true f = reached.none a s.row s.there s.of f
     not_sought false f = absurd (false≢true (sym (ended a s.row s.there state_is (no_later s.row.changed r.changed s.row.address r.address f)) ∙ is_live_at q sought a s.row s.there live s.is)) where
       state_is : s.row.state ≡ state
-      state_is = same_state s.row.state state (both (is_in_state state s.row) _ (both (belongs_to q.client s.row) _ s.of).1).0
+      state_is = same_state s.row.state state (and_parts (is_in_state state s.row) _ (and_parts (belongs_to q.client s.row) _ s.of).1).0
 
 -- nothing is sought in a state that no sought row can be in
 pub not_in_state : (q : Asking) (sought : Sought) (state : State) (first last : ℕ) → state_sought sought state ≡ false → IsNewest q.rows (sought_in q sought state first last) None
@@ -364,7 +337,7 @@ not_in_state q sought state first last out a = by (sought_in q sought state firs
   by false e = e
   by true e =
       let s = seen q sought state first last a e in
-      let is : s.row.state ≡ state = same_state s.row.state state (both (is_in_state state s.row) _ (both (belongs_to q.client s.row) _ s.of).1).0 in
+      let is : s.row.state ≡ state = same_state s.row.state state (and_parts (is_in_state state s.row) _ (and_parts (belongs_to q.client s.row) _ s.of).1).0 in
       absurd (false≢true (sym out ∙ (sym (ap (state_sought sought) is) ∙ in_states q sought a s.row s.there s.is)))
 
 -- the sought addresses that are reserved for the client or are in the first n pools
@@ -400,7 +373,7 @@ fits_somewhere choosing a = by (pooled choosing.subnet.now a) (reserved_anywhere
   by false u false h = h
 
 in_subnet : (choosing : Choosing) (t : ℕ → Bool) (a : ℕ) → ((t a && fitting_with choosing a) && (same_address choosing.own a || pooled choosing.subnet.now a)) ≡ (t a && fitting_with choosing a)
-in_subnet choosing t a = by (t a && fitting_with choosing a) (λ h. fits_somewhere choosing a (both (t a) (fitting_with choosing a) h).1) where
+in_subnet choosing t a = by (t a && fitting_with choosing a) (λ h. fits_somewhere choosing a (and_parts (t a) (fitting_with choosing a) h).1) where
   by : (w : Bool) → (w ≡ true → (same_address choosing.own a || pooled choosing.subnet.now a) ≡ true) → (w && (same_address choosing.own a || pooled choosing.subnet.now a)) ≡ w
   by true h = h refl
   by false h = refl
@@ -454,10 +427,10 @@ past_ranked choosing best = ranked (asking choosing.now.question.now) choosing.n
 
 -- the address that is reserved for the client, if it is sought
 pub reserved_it : (q : Asking) (sought : Sought) (kept : Option ℕ) (a : ℕ) → kept ≡ Some a → sought_at q sought a ≡ true → IsNewest q.rows (reserved_sought q sought kept) (Some a)
-reserved_it q sought kept a is it = (and_true (sought_at q sought a) _ it (ap (λ (o : Option ℕ). same_address o a) is ∙ eq-eqb a a refl), newest) where
+reserved_it q sought kept a is it = (and_from (sought_at q sought a) _ it (ap (λ (o : Option ℕ). same_address o a) is ∙ eq-eqb a a refl), newest) where
   newest : (b : ℕ) → reserved_sought q sought kept b ≡ true → set_later q.rows b a ≡ false
   newest b h =
-      let same : a ≡ b = eqb-true a b (sym (ap (λ (o : Option ℕ). same_address o b) is) ∙ (both (sought_at q sought b) _ h).1) in
+      let same : a ≡ b = eqb-true a b (sym (ap (λ (o : Option ℕ). same_address o b) is) ∙ (and_parts (sought_at q sought b) _ h).1) in
       ap (λ (x : ℕ). set_later q.rows x a) (sym same) ∙ not_newer_itself q.rows a
 
 pub reserved_not_it : (q : Asking) (sought : Sought) (kept : Option ℕ) (a : ℕ) → kept ≡ Some a → sought_at q sought a ≡ false → IsNewest q.rows (reserved_sought q sought kept) None
@@ -465,8 +438,8 @@ reserved_not_it q sought kept a is not_it b = by (reserved_sought q sought kept 
   by : (t : Bool) → reserved_sought q sought kept b ≡ t → reserved_sought q sought kept b ≡ false
   by false h = h
   by true h =
-      let same : a ≡ b = eqb-true a b (sym (ap (λ (o : Option ℕ). same_address o b) is) ∙ (both (sought_at q sought b) _ h).1) in
-      absurd (false≢true (sym not_it ∙ (ap (sought_at q sought) same ∙ (both (sought_at q sought b) _ h).0)))
+      let same : a ≡ b = eqb-true a b (sym (ap (λ (o : Option ℕ). same_address o b) is) ∙ (and_parts (sought_at q sought b) _ h).1) in
+      absurd (false≢true (sym not_it ∙ (ap (sought_at q sought) same ∙ (and_parts (sought_at q sought b) _ h).0)))
 
 -- what was found, as a row or as none
 pub reached_row : (q : Asking) (sought : Sought) (state : State) (first last : ℕ) (found : Option (Bor Row)) (row : Bor Row) → found ≡ Some row → IsReached q sought state first last (option_copied found) → IsReached q sought state first last (Some row.now)

@@ -1,7 +1,7 @@
 -- The lowest open address of a range: the lesser of the one that is reserved for the client and the
 -- lowest that is open to all.
 use Rattle.std.proofs.Common.{◌≡◌, ℕ, ◌+◌, ◌<◌, ◌≤◌, min, Bool, true, false, not, ◌&&◌, ◌||◌, Option, Some, None, refl, sym, ◌∙◌, subst, arith, ⊎_elim}
-use Rattle.std.proofs.lemmas.Bool.{cases_eq, cases_lt, false≢true}
+use Rattle.std.proofs.lemmas.Bool.{cases_eq, cases_lt, or_from, or_left, or_right}
 use Rattle.kd_config.specs.Reservation.{earlier}
 use Rattle.kd_config.specs.declared.subnet.Subnet.{Subnet}
 use Rattle.kd_lease.specs.Choice.{Asking, address_reserved, pooled, reserved_anywhere, same_address}
@@ -14,26 +14,13 @@ NoneUpTo such first end = (a : ℕ) → first ≤ a → a < end → such a ≡ f
 pub none_at_last : (such : ℕ → Bool) (first last end : ℕ) → last < end → NoneUpTo such first end → IsLeast such first last None
 none_at_last such first last end past before a low high = before a low (omega arith)
 
--- neither of two
-neither : (t u : Bool) → t ≡ false → u ≡ false → (t || u) ≡ false
-neither true u h k = h
-neither false u h k = k
-
-first_kind : (t u : Bool) → t ≡ true → (t || u) ≡ true
-first_kind true u h = refl
-first_kind false u h = absurd (false≢true h)
-
-second_kind : (t u : Bool) → u ≡ true → (t || u) ≡ true
-second_kind true u h = refl
-second_kind false u h = h
-
 lesser : (p r : ℕ → Bool) (first last : ℕ) (x y : Option ℕ) → IsLeast p first last x → IsLeast r first last y → IsLeast (λ a. p a || r a) first last (earlier x y)
-lesser p r first last None None hp hr = λ a low high. neither (p a) (r a) (hp a low high) (hr a low high)
-lesser p r first last None (Some b) hp hr = (hr.0, hr.1, second_kind (p b) (r b) hr.2, λ a low less. neither (p a) (r a) (hp a low (omega (arith, hr.1))) (hr.3 a low less))
-lesser p r first last (Some b) None hp hr = (hp.0, hp.1, first_kind (p b) (r b) hp.2, λ a low less. neither (p a) (r a) (hp.3 a low less) (hr a low (omega (arith, hp.1))))
+lesser p r first last None None hp hr = λ a low high. or_from (p a) (r a) (hp a low high) (hr a low high)
+lesser p r first last None (Some b) hp hr = (hr.0, hr.1, or_right (p b) (r b) hr.2, λ a low less. or_from (p a) (r a) (hp a low (omega (arith, hr.1))) (hr.3 a low less))
+lesser p r first last (Some b) None hp hr = (hp.0, hp.1, or_left (p b) (r b) hp.2, λ a low less. or_from (p a) (r a) (hp.3 a low less) (hr a low (omega (arith, hp.1))))
 lesser p r first last (Some b) (Some d) hp hr = ⊎_elim
-    (λ l. subst (λ (m : ℕ). IsLeast (λ a. p a || r a) first last (Some m)) (at_first l) (hp.0, hp.1, first_kind (p b) (r b) hp.2, λ a low less. neither (p a) (r a) (hp.3 a low less) (hr.3 a low (omega arith))))
-    (λ m. subst (λ (m : ℕ). IsLeast (λ a. p a || r a) first last (Some m)) (at_second m) (hr.0, hr.1, second_kind (p d) (r d) hr.2, λ a low less. neither (p a) (r a) (hp.3 a low (omega arith)) (hr.3 a low less)))
+    (λ l. subst (λ (m : ℕ). IsLeast (λ a. p a || r a) first last (Some m)) (at_first l) (hp.0, hp.1, or_left (p b) (r b) hp.2, λ a low less. or_from (p a) (r a) (hp.3 a low less) (hr.3 a low (omega arith))))
+    (λ m. subst (λ (m : ℕ). IsLeast (λ a. p a || r a) first last (Some m)) (at_second m) (hr.0, hr.1, or_right (p d) (r d) hr.2, λ a low less. or_from (p a) (r a) (hp.3 a low (omega arith)) (hr.3 a low less)))
     (cases_lt b d) where
       at_first : b < d → b ≡ min b d
       at_first l = omega arith

@@ -1,6 +1,6 @@
 -- The newest row over several zones.
 use Rattle.std.proofs.Common.{◌≡◌, ℕ, ◌+◌, ◌*◌, ◌<◌, ◌≤◌, Bool, true, false, ◌&&◌, ◌||◌, ◌==◌, not, nat_lt, List, Option, Some, None, refl, sym, ap, ◌∙◌, ⊎_elim, arith, if◌then◌else◌}
-use Rattle.std.proofs.lemmas.Bool.{cases_lt, false≢true}
+use Rattle.std.proofs.lemmas.Bool.{cases_lt, or_cases, or_left, or_right, false≢true}
 use Rattle.std.proofs.lemmas.Bool.Decides.{nat_tests}
 use Rattle.kd_rows.specs.Row.{state_number}
 use Rattle.kd_rows.specs.Table.{IsNewestRow, belongs_to, is_after, is_aged, is_newer_row, row_at}
@@ -14,25 +14,14 @@ pub newest_alike : (rows : List Row) (p r : Row → Bool) (best : Option Row) �
 newest_alike rows p r None same h = λ a row at. same a row at ∙ h a row at
 newest_alike rows p r (Some f) same h = (h.0, same f.address f h.0 ∙ h.1, λ a row at is. h.2 a row at (sym (same a row at) ∙ is))
 
-or_no : (t u : Bool) → t ≡ false → (t || u) ≡ u
+-- one of two is false
+pub or_no : (t u : Bool) → t ≡ false → (t || u) ≡ u
 or_no false u e = refl
 or_no true u e = absurd (false≢true (sym e))
 
-no_or : (t u : Bool) → u ≡ false → (t || u) ≡ t
+pub no_or : (t u : Bool) → u ≡ false → (t || u) ≡ t
 no_or false u e = e
 no_or true u e = refl
-
-one_of : {A : Type 0} (t u : Bool) → (t || u) ≡ true → (t ≡ true → A) → (u ≡ true → A) → A
-one_of true u h f g = f refl
-one_of false u h f g = g h
-
-or_first : (t u : Bool) → t ≡ true → (t || u) ≡ true
-or_first true u e = refl
-or_first false u e = absurd (false≢true e)
-
-or_second : (t u : Bool) → u ≡ true → (t || u) ≡ true
-or_second true u e = refl
-or_second false u e = e
 
 -- if x is not newer than y, and y not newer than z, x is not newer than z
 newer_chain : (x y z : Row) → is_newer_row x y ≡ false → is_newer_row y z ≡ false → is_newer_row x z ≡ false
@@ -51,8 +40,8 @@ newest_of_two rows p r each None y same h g = newest_alike rows r each y (λ a r
 newest_of_two rows p r each (Some x) None same h g = newest_alike rows p each (Some x) (λ a row at. same a row at ∙ no_or (p row) (r row) (g a row at)) h
 newest_of_two rows p r each (Some x) (Some y) same h g = by (is_newer_row y x) refl where
   by : (t : Bool) → is_newer_row y x ≡ t → IsNewestRow rows each (if t then Some y else Some x)
-  by true e = (g.0, same y.address y g.0 ∙ or_second (p y) (r y) g.1, λ a row at is. one_of (p row) (r row) (sym (same a row at) ∙ is) (λ k. newer_step row x y (h.2 a row at k) e) (g.2 a row at))
-  by false e = (h.0, same x.address x h.0 ∙ or_first (p x) (r x) h.1, λ a row at is. one_of (p row) (r row) (sym (same a row at) ∙ is) (h.2 a row at) (λ k. newer_chain row y x (g.2 a row at k) e))
+  by true e = (g.0, same y.address y g.0 ∙ or_right (p y) (r y) g.1, λ a row at is. ⊎_elim (λ k. newer_step row x y (h.2 a row at k) e) (g.2 a row at) (or_cases (p row) (r row) (sym (same a row at) ∙ is)))
+  by false e = (h.0, same x.address x h.0 ∙ or_left (p x) (r x) h.1, λ a row at is. ⊎_elim (h.2 a row at) (λ k. newer_chain row y x (g.2 a row at k) e) (or_cases (p row) (r row) (sym (same a row at) ∙ is)))
 
 -- the rows in the zones before one
 abbrev pub is_aged_below : List ℕ → List ℕ → State → ℕ → ℕ → Option Row → ℕ → Row → Bool
