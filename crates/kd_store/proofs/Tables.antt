@@ -1,8 +1,7 @@
 -- Lists of rows in ascending order of address, and the columns by which they are stored.
-use Rattle.std.proofs.Common.{◌^◌, ◌≡◌, ℕ, ◌+◌, ◌<◌, ◌≤◌, pos, Bool, true, false, not, List, [], ◌∷◌, map, refl, sym, ap, ap₂, subst, subst₂, ◌∙◌, arith, if◌then◌else◌, ◌==◌, nat_lt, Ordering, Less, Equal, Greater, nat_cmp, true≢false}
+use Rattle.std.proofs.Common.{◌^◌, ◌≡◌, ℕ, ◌+◌, ◌<◌, pos, Bool, true, false, not, List, [], ◌∷◌, map, refl, sym, ap, ap₂, subst, subst₂, ◌∙◌, arith, if◌then◌else◌, ◌==◌, nat_lt, Ordering, Less, Equal, Greater, nat_cmp, true≢false}
 use Rattle.std.specs.Prelude.{IsPermutation, filter}
 use Rattle.std.specs.Ordering.{is_eq, match_ordering}
-use Rattle.std.proofs.lemmas.Bool.{eqb-true}
 use Rattle.std.proofs.lemmas.Bool.Decides.{nat_tests}
 use Rattle.std.proofs.lemmas.List.Sorted.{IsPermutation-refl, IsPermutation-trans, IsPermutation-sym, IsPermutation-cons, IsPermutation-map, IsPermutation-middle, length_permutation}
 use Rattle.sqlite_value.specs.declared.value.Value.TheVariants.{Null, Int, Blob as Bytes}
@@ -17,6 +16,7 @@ use Rattle.kd_rows.specs.declared.row.State.{State}
 use Rattle.kd_rows.specs.declared.row.State.TheVariants.{Offered, Bound, Released, Declined}
 use Rattle.kd_rows.specs.Row.{state_number}
 use Rattle.kd_rows.specs.Table.{RiseFrom, with_row}
+use Rattle.kd_rows.proofs.Sets.{rise_from-with_row}
 use Rattle.kd_store.specs.Lease.{columns_of}
 use Rattle.kd_store.specs.Stands.{columns_in, Lists}
 
@@ -32,15 +32,6 @@ pub at_address : (a : ℕ) (row : Row) → has_rowid (pos a) (columns_of row) �
 at_address a row = ap is_eq (number_of row.address a) ∙ grind (arith, nat_tests)
 
 -- ---- a row is set
-
-pub rise_from-with_row : (row : Row) (n : ℕ) (rows : List Row) → n ≤ row.address → RiseFrom n rows → RiseFrom n (with_row row rows)
-rise_from-with_row row n [] le rise = (le, tt)
-rise_from-with_row row n (r ∷ rows) le rise = by (nat_lt row.address r.address) (r.address == row.address) refl refl (rise_from-with_row row (r.address + 1) rows) where
-  by : (b t : Bool) → nat_lt row.address r.address ≡ b → (r.address == row.address) ≡ t → (r.address + 1 ≤ row.address → RiseFrom (r.address + 1) rows → RiseFrom (r.address + 1) (with_row row rows))
-      → RiseFrom n (if b then row ∷ r ∷ rows else if t then row ∷ rows else r ∷ with_row row rows)
-  by true t below same rest = let h : row.address + 1 ≤ r.address = grind (arith, nat_tests) in (le, (h, rise.1))
-  by false true below same rest = (le, subst (λ (a : ℕ). RiseFrom (a + 1) rows) (eqb-true r.address row.address same) rise.1)
-  by false false below same rest = let h : r.address + 1 ≤ row.address = grind (arith, nat_tests) in (rise.0, rest h rise.1)
 
 -- rows above an address stay when that address is left out
 kept_above : (a n : ℕ) (rows : List Row) → a < n → RiseFrom n rows → without_rowid (pos a) (map columns_of rows) ≡ map columns_of rows
