@@ -1,8 +1,9 @@
-ghost use Rattle.std.specs.Prelude.{◌≡◌, ◌≢◌, ◌↔◌, IsTrue, MatchOption};
+ghost use Rattle.std.specs.Prelude.{◌≡◌, ◌≢◌, ◌↔◌, IfOk, IsTrue, MatchOption};
 ghost use Rattle.kd_rows.specs.Row.{IsInRange, state_number};
 ghost use Rattle.kd_rows.specs.declared.row.State.{State};
 
 use kd_wire::Bytes;
+use std::alloc::{AllocError, Global};
 
 /// What became of an address that was offered or leased.
 #[derive(Clone, Copy, PartialEq, Eq)]
@@ -69,5 +70,22 @@ impl Row {
         self.changed < 1 << 40
             && self.changed <= self.ends
             && self.ends - self.changed <= 0x7fff_ffff
+    }
+
+    /// Returns a copy of the row.
+    ///
+    /// # Errors
+    ///
+    /// Out of memory.
+    pub fn try_clone(&self, alloc: Global) -> Result<Row, AllocError>
+        ensures { IfOk result (λ copy. copy ≡ self.now) }
+    {
+        Ok(Row {
+            address: self.address,
+            client: Bytes::own(Vec::from_slice(alloc, self.client.as_slice())?),
+            state: self.state,
+            changed: self.changed,
+            ends: self.ends,
+        })
     }
 }

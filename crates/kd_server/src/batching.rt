@@ -11,7 +11,6 @@ ghost use Rattle.kd_server.specs.Keeping.{StepsTo, StillHolds};
 ghost use Rattle.kd_server.specs.Staging.{IsUnset, Stages};
 ghost use Rattle.kd_server.specs.Unkept.{IsSettable};
 
-use crate::leases::copy_of;
 use crate::server::MOMENTS;
 use crate::turning::turn_at;
 use kd_config::Config;
@@ -159,7 +158,7 @@ fn list_row(alloc: Global, set: &mut Vec<Row>, row: &Row) -> Result<(), AllocErr
     ensures listed { OnOk result (set.new.items ≡ set.old.items ++ row.now ∷ []) }
     ensures same { OnErr result (set.new.items ≡ set.old.items) }
 {
-    set.push(copy_of(alloc, row)?)?;
+    set.push(row.try_clone(alloc)?)?;
     Ok(())
 }
 

@@ -6,7 +6,6 @@ ghost use Rattle.kd_server.specs.Leases.{IsNoList, lease_of_row, lease_line, lea
 use crate::server::MOMENTS;
 use kd_replay::{ServeFault, put_address, put_bytes};
 use kd_rows::{Row, Rows, State};
-use kd_wire::Bytes;
 use std::alloc::{AllocError, Global};
 use std::fmt::Write;
 
@@ -65,21 +64,8 @@ fn lease_at(alloc: Global, row: &Row, now: u64) -> Result<Lease, AllocError>
     ensures { IfOk result (λ lease. lease ≡ lease_of_row now row.now) }
 {
     Ok(Lease {
-        row: copy_of(alloc, row)?,
+        row: row.try_clone(alloc)?,
         live: now < row.ends,
-    })
-}
-
-// A copy of a row.
-pub(crate) fn copy_of(alloc: Global, row: &Row) -> Result<Row, AllocError>
-    ensures { IfOk result (λ copy. copy ≡ row.now) }
-{
-    Ok(Row {
-        address: row.address,
-        client: Bytes::own(Vec::from_slice(alloc, row.client.as_slice())?),
-        state: row.state,
-        changed: row.changed,
-        ends: row.ends,
     })
 }
 

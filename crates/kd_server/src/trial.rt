@@ -8,7 +8,6 @@ ghost use Rattle.kd_server.specs.Trial.{TriesStep, WouldAnswer, at_rows, trying}
 ghost use Rattle.kd_server.specs.Unkept.{IsSettable};
 
 use crate::batching::Rules;
-use crate::leases::copy_of;
 use crate::server::MOMENTS;
 use crate::turning::turn_at;
 use kd_event::Handled;
@@ -171,7 +170,7 @@ fn list_rows(alloc: Global, rows: &Rows) -> Result<Vec<Row>, AllocError>
     let mut list = Vec::with_capacity(alloc, rows.len())?;
     let mut index = 0;
     while let Some(row) = rows.at(index) {
-        list.push(copy_of(alloc, row)?)?;
+        list.push(row.try_clone(alloc)?)?;
         index += 1;
     }
     Ok(list)

@@ -5,7 +5,6 @@ ghost use Rattle.kd_rows.specs.Table.{Rise, with_row, with_rows};
 
 use kd_keeps::{Cause, Keeps, StoreFault, fault_in};
 use kd_rows::{Row, Rows};
-use kd_wire::Bytes;
 use std::alloc::{AllocError, Global};
 use std::marker::Model;
 
@@ -91,19 +90,6 @@ impl Fused {
     }
 }
 
-// A copy of a row.
-fn copied(alloc: Global, row: &Row) -> Result<Row, AllocError>
-    ensures { IfOk result (λ copy. copy ≡ row.now) }
-{
-    Ok(Row {
-        address: row.address,
-        client: Bytes::own(Vec::from_slice(alloc, row.client.as_slice())?),
-        state: row.state,
-        changed: row.changed,
-        ends: row.ends,
-    })
-}
-
 // Copies of all rows.
 fn all_of(alloc: Global, rows: &Rows) -> Result<Vec<Row>, AllocError>
     ensures rows { IfOk result (λ list. list.items ≡ rows.now.rows) }
@@ -113,7 +99,7 @@ fn all_of(alloc: Global, rows: &Rows) -> Result<Vec<Row>, AllocError>
     let mut list = Vec::new(alloc);
     for i in 0..rows.len() {
         match rows.at(i) {
-            Some(row) => list.push(copied(alloc, row)?)?,
+            Some(row) => list.push(row.try_clone(alloc)?)?,
             None => unreachable!(),
         }
     }
@@ -126,7 +112,7 @@ fn set_copy(alloc: Global, table: &mut Rows, row: &Row) -> Result<(), StoreFault
     ensures put { OnOk result (table.new.rows ≡ with_row row.now table.old.rows) }
     ensures stays { OnErr result (table.new.rows ≡ table.old.rows) }
 {
-    let Ok(copy) = copied(alloc, row) else {
+    let Ok(copy) = row.try_clone(alloc) else {
         return Err(StoreFault::Sql(Cause::OutOfMemory));
     };
     if copy.changed < table.latest() {
