@@ -92,11 +92,12 @@ records_replay (event ∷ events) are =
     let is = All-head IsRecordable event events are in
     rw (first_line event is (flat_map record_line events)) (spelled event is, records_replay events (All-tail IsRecordable event events are))
 
-all_recordable : (list : List Batch) → All IsRecordable (flat_map events_in list)
+-- the records of batches are the record of their events
+pub all_recordable : (list : List Batch) → All IsRecordable (flat_map events_in list)
 all_recordable [] = All-nil IsRecordable
 all_recordable (b ∷ list) = All-append IsRecordable (events_in b) (flat_map events_in list) b.recordable (all_recordable list)
 
-records_are : (list : List Batch) → flat_map record_of list ≡ flat_map record_line (flat_map events_in list)
+pub records_are : (list : List Batch) → flat_map record_of list ≡ flat_map record_line (flat_map events_in list)
 records_are [] = refl
 records_are (b ∷ list) = ap (λ r. record_of b ++ r) (records_are list) ∙ sym (flat_map-append record_line (events_in b) (flat_map events_in list))
 

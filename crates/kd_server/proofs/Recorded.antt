@@ -1,7 +1,7 @@
 -- A replay of what serving recorded writes what serving logged.
 use Rattle.std.proofs.Common.{◌≡◌, ◌≢◌, ℕ, true, List, [], ◌∷◌, ◌++◌, map, Option, Some, None, Result, Ok, Err, inl, inr, refl, sym, ap, ◌∙◌, subst, append_assoc}
 use Rattle.std.specs.Io.KnownBytes.{Appends}
-use Rattle.std.specs.List.{All, flat_map}
+use Rattle.std.specs.List.{flat_map}
 use Rattle.std.proofs.lemmas.Bool.{eqb-false}
 use Rattle.std.proofs.lemmas.Grind.{flat_map-append}
 use Rattle.std.proofs.lemmas.List.{append-nil, append_cancel_left, map-append}
@@ -29,7 +29,7 @@ use Rattle.kd_replay.specs.declared.fault.ReplayFault.{ReplayFault}
 use Rattle.kd_replay.specs.declared.fault.ReplayFault.TheVariants as replaying
 use Rattle.kd_replay.specs.declared.happening.Happening.{Happening}
 use Rattle.kd_replay.proofs.Batches.{passes_then}
-use Rattle.kd_replay.proofs.Recorded.{records_replay}
+use Rattle.kd_replay.proofs.Recorded.{all_recordable, records_are, records_replay}
 use Rattle.kd_replay.proofs.Spelling.{digits_plain}
 use Rattle.kd_rows.specs.declared.row.Row.{Row}
 use Rattle.kd_server.specs.Batch.{Batched, LeavesOut}
@@ -108,14 +108,6 @@ one_past one config ports (event ∷ events) (x ∷ list) (y ∷ others) rows ne
     ((λ i. same.0 i ∷ rest.0 i), rest.1)
 
 -- batches in sequence are a history
-
-all_recordable : (list : List Batch) → All IsRecordable (flat_map events_in list)
-all_recordable [] = All-nil IsRecordable
-all_recordable (b ∷ list) = All-append IsRecordable (events_in b) (flat_map events_in list) b.recordable (all_recordable list)
-
-records_are : (list : List Batch) → flat_map record_of list ≡ flat_map record_line (flat_map events_in list)
-records_are [] = refl
-records_are (b ∷ list) = ap (λ r. record_of b ++ r) (records_are list) ∙ sym (flat_map-append record_line (events_in b) (flat_map events_in list))
 
 answers_in : List Batch → List Answered
 answers_in list = flat_map (λ b. b.answers) list
