@@ -1,9 +1,11 @@
 -- The options that classes give, one class after another, and those that are sent, one code after another.
-use Rattle.std.proofs.Common.{◌≡◌, ℕ, zero, suc, ◌+◌, ◌-◌, ◌<◌, ◌≤◌, List, [], ◌∷◌, ◌++◌, Some, sym, ap, ◌∙◌, filter, length, true, slice_get, take, arith}
+use Rattle.std.proofs.Common.{◌≡◌, ℕ, ◌+◌, ◌-◌, ◌<◌, ◌≤◌, List, [], ◌∷◌, ◌++◌, Some, sym, ap, ◌∙◌, filter, length, map, true, slice_get, take, arith}
 use Rattle.std.specs.List.{flat_map, range_with_len}
 use Rattle.std.proofs.lemmas.Grind.{flat_map-append}
 use Rattle.std.proofs.lemmas.List.{append-nil, flat_map_more, take_more}
 use Rattle.std.proofs.lemmas.List.Elements.{filter-append}
+use Rattle.std.proofs.lemmas.List.Folds.{flat_map-map}
+use Rattle.std.proofs.lemmas.List.FromFn.{map-range_with_len_more}
 use Rattle.std.proofs.lemmas.Option.{get_or_from_slice_get, slice_get_within}
 use Rattle.kd_classes.specs.declared.definition.ClassDef.{ClassDef}
 use Rattle.kd_classes.specs.declared.option_list.OptionData.{OptionData}
@@ -29,21 +31,18 @@ more_classes classes names i class at =
     ap (λ cs. class_options cs names) (take_more classes i class within ∙ ap (λ c. take i classes ++ c ∷ []) (get_or_from_slice_get classes i class class at))
     ∙ class_options-append (take i classes) (class ∷ []) names
 
-range_more : (a n : ℕ) → range_with_len a (n + 1) ≡ range_with_len a n ++ (a + n) ∷ []
-range_more a zero = let none : a ≡ a + 0 = omega arith in λ i. none i ∷ []
-range_more a (suc n) =
-    let one : suc n + 1 ≡ suc (n + 1) = omega arith in
-    let step : a + 1 + n ≡ a + suc n = omega arith in
-    rw one (ap (λ r. a ∷ r) (range_more (a + 1) n ∙ ap (λ k. range_with_len (a + 1) n ++ k ∷ []) step))
-
 pub more_codes : (f : ℕ → List ReplyOption) (bs : List ReplyOption) (code : ℕ) → 1 ≤ code
     → (bs ++ flat_map f (range_with_len 1 (code - 1))) ++ f code ≡ bs ++ flat_map f (range_with_len 1 (code + 1 - 1))
 more_codes f bs code some =
+    let same : ℕ → ℕ = λ n. n in
     let front = range_with_len 1 (code - 1) in
     let last : 1 + (code - 1) ≡ code = omega arith in
     let next : code - 1 + 1 ≡ code + 1 - 1 = omega arith in
-    flat_map_more f bs front code
-    ∙ ap (λ codes. bs ++ flat_map f codes) (ap (λ k. front ++ k ∷ []) (sym last) ∙ sym (range_more 1 (code - 1)) ∙ ap (λ n. range_with_len 1 n) next)
+    ap (λ given. (bs ++ given) ++ f code) (sym (flat_map-map f same front))
+    ∙ flat_map_more f bs (map same front) code
+    ∙ ap (λ codes. bs ++ flat_map f codes) (sym (map-range_with_len_more same 1 (code - 1) code last))
+    ∙ ap (λ given. bs ++ given) (flat_map-map f same (range_with_len 1 (code - 1 + 1)))
+    ∙ ap (λ n. bs ++ flat_map f (range_with_len 1 n)) next
 
 -- the options of a configuration, each list as it is found
 pub all_given : (config : Configuration) (subnet : Subnet) (names : List (List ℕ)) (address : ℕ) (pool own classes all : List OptionData) (mask : List ℕ)
