@@ -1,7 +1,6 @@
 -- The line of a handled event: its words with a space after each but the last, and a line feed.
-use Rattle.std.proofs.Common.{◌≡◌, ℕ, ◌^◌, ◌<◌, List, [], ◌∷◌, ◌++◌, refl, sym, ap, ◌∙◌, arith, append_assoc}
+use Rattle.std.proofs.Common.{◌≡◌, ℕ, ◌^◌, ◌<◌, List, [], ◌∷◌, ◌++◌, refl, arith, append_assoc}
 use Rattle.std.specs.Prelude.{codes, decimal}
-use Rattle.std.proofs.lemmas.List.{append_cancel_right, same_from_push}
 use Rattle.kd_event.specs.declared.destination.Destination.{Destination}
 use Rattle.kd_event.specs.declared.event.Handled.{Handled}
 use Rattle.kd_event.specs.declared.event.Response.{Response}
@@ -11,6 +10,7 @@ use Rattle.kd_replay.specs.Text.{address_text, bytes_text, line_of, response_tex
 use Rattle.kd_replay.proofs.Looking.{plain_append}
 use Rattle.kd_words.specs.Words.{IsCutOff}
 use Rattle.kd_words.proofs.Cuts.{cut_is}
+use Rattle.kd_words.proofs.Endings.{one_line}
 use Rattle.kd_words.proofs.Plain.{address_plain, colon_is_none, decimal_plain, newline_is_none, space_is_none}
 use Rattle.kd_events.specs.Logged.{IsHandledLine, IsWritable}
 use Rattle.kd_events.specs.Parts.{AreLineWords, after_mode, after_third, second_word, third_word}
@@ -33,24 +33,12 @@ pub written : (handled : Handled) → line_of handled ≡ body handled ++ 10 ∷
 unfolding line_of
 written handled = text_of (decimal handled.now) handled.response
 
-body_of_line : (line : List ℕ) (handled : Handled) → IsHandledLine line handled → line ≡ body handled
-body_of_line line handled is = sym (append_cancel_right (body handled) line (10 ∷ []) (sym (written handled) ∙ is.written))
-
--- the bytes before the last are the line if and only if the line is that of the event
-pub written_is : (handled : Handled) (front line : List ℕ) (last : ℕ) → line_of handled ≡ front ++ last ∷ [] → line_of handled ≡ line ++ 10 ∷ [] → front ≡ line
-written_is handled front line last whole is = (same_from_push front line last 10 (sym whole ∙ is)).0
-
-pub written_if : (handled : Handled) (front line : List ℕ) (last : ℕ) → line_of handled ≡ front ++ last ∷ [] → front ≡ line → line_of handled ≡ line ++ 10 ∷ []
-written_if handled front line last whole same =
-    let ends = (same_from_push front (body handled) last 10 (sym whole ∙ written handled)).1 in
-    whole ∙ ap (λ t. t ++ last ∷ []) same ∙ ap (λ b. line ++ b ∷ []) ends
-
 -- a line split at its first three spaces has the words of its event
 pub words_are : (words : Words) (line r1 r2 : List ℕ) → IsCutOff 32 line words.moment.now r1 → IsCutOff 32 r1 words.second.now r2 → IsCutOff 32 r2 words.third.now words.rest.now
     → (handled : Handled) → IsHandledLine line handled → AreLineWords words handled
 words_are words line r1 r2 k1 k2 k3 handled is =
     let response = handled.response in
-    let p1 = cut_is k1 (decimal handled.now) (behind response) (decimal_plain 32 handled.now space_is_none is.writable.moment) (body_of_line line handled is) in
+    let p1 = cut_is k1 (decimal handled.now) (behind response) (decimal_plain 32 handled.now space_is_none is.writable.moment) (one_line (line_of handled) (body handled) line (written handled) is.written) in
     let p2 = cut_is k2 (second_word response) (third_word response ++ 32 ∷ after_third response) (second_spaceless response) p1.1 in
     let p3 = cut_is k3 (third_word response) (after_third response) (third_spaceless response) p2.1 in
     record { moment = p1.0; second = p2.0; third = p3.0; rest = p3.1; writable = is.writable }

@@ -1,7 +1,6 @@
 -- The line of a lease: its words with a space after each but the last, and a line feed.
-use Rattle.std.proofs.Common.{◌≡◌, ℕ, ◌^◌, ◌<◌, List, [], ◌∷◌, ◌++◌, refl, sym, ap, ◌∙◌, arith, append_assoc}
+use Rattle.std.proofs.Common.{◌≡◌, ℕ, ◌^◌, ◌<◌, List, [], ◌∷◌, ◌++◌, refl, arith, append_assoc}
 use Rattle.std.specs.Prelude.{codes, decimal}
-use Rattle.std.proofs.lemmas.List.{append_cancel_right, same_from_push}
 use Rattle.kd_replay.specs.Finding.{HasNo}
 use Rattle.kd_replay.specs.Text.{address_text, bytes_text}
 use Rattle.kd_replay.proofs.Looking.{plain_append}
@@ -11,6 +10,7 @@ use Rattle.kd_server.specs.Leases.{lease_line, row_text, word_of_live, word_of_s
 use Rattle.kd_server.specs.declared.leases.Lease.{Lease}
 use Rattle.kd_words.specs.Words.{IsCutOff}
 use Rattle.kd_words.proofs.Cuts.{cut_is}
+use Rattle.kd_words.proofs.Endings.{one_line}
 use Rattle.kd_words.proofs.Plain.{address_plain, bytes_plain, decimal_plain, newline_is_none, space_is_none}
 use Rattle.kd_import.specs.Import.{IsLeaseLine, IsStorable}
 use Rattle.kd_import.specs.Parts.{AreWords}
@@ -35,18 +35,6 @@ pub printed : (lease : Lease) → lease_line lease ≡ body lease ++ 10 ∷ []
 unfolding lease_line row_text
 printed lease = simp append_assoc
 
-pub body_of_line : (line : List ℕ) (lease : Lease) → IsLeaseLine line lease → line ≡ body lease
-body_of_line line lease is = sym (append_cancel_right (body lease) line (10 ∷ []) (sym (printed lease) ∙ is.printed))
-
--- the bytes before the last are the line if and only if the line is that of the lease
-pub prints_is : (lease : Lease) (front line : List ℕ) (last : ℕ) → lease_line lease ≡ front ++ last ∷ [] → lease_line lease ≡ line ++ 10 ∷ [] → front ≡ line
-prints_is lease front line last whole is = (same_from_push front line last 10 (sym whole ∙ is)).0
-
-pub prints_if : (lease : Lease) (front line : List ℕ) (last : ℕ) → lease_line lease ≡ front ++ last ∷ [] → front ≡ line → lease_line lease ≡ line ++ 10 ∷ []
-prints_if lease front line last whole same =
-    let ends = (same_from_push front (body lease) last 10 (sym whole ∙ printed lease)).1 in
-    whole ∙ ap (λ t. t ++ last ∷ []) same ∙ ap (λ b. line ++ b ∷ []) ends
-
 changed_small : (row : Row) → IsInRange row → row.changed < 2 ^ 64
 changed_small row range = let h = range.set_at in omega (arith, h)
 
@@ -58,7 +46,7 @@ pub words_are : (words : Words) (line r1 r2 r3 r4 r5 r6 fourth sixth : List ℕ)
     → IsCutOff 32 r4 words.changed.now r5 → IsCutOff 32 r5 sixth r6 → IsCutOff 32 r6 words.ends.now words.live.now → (lease : Lease) → IsLeaseLine line lease → AreWords words lease
 words_are words line r1 r2 r3 r4 r5 r6 fourth sixth k1 k2 k3 k4 k5 k6 k7 lease is =
     let row = lease.row in
-    let p1 = cut_is k1 (address_text row.address) (word_of_state row.state ++ 32 ∷ after_state lease) (address_plain 32 row.address space_is_none refl is.storable.address) (body_of_line line lease is) in
+    let p1 = cut_is k1 (address_text row.address) (word_of_state row.state ++ 32 ∷ after_state lease) (address_plain 32 row.address space_is_none refl is.storable.address) (one_line (lease_line lease) (body lease) line (printed lease) is.printed) in
     let p2 = cut_is k2 (word_of_state row.state) (after_state lease) (state_spaceless row.state) p1.1 in
     let p3 = cut_is k3 (bytes_text row.client) (codes "changed" ++ 32 ∷ after_changed lease) (bytes_plain 32 refl refl row.client is.storable.client) p2.1 in
     let p4 = cut_is k4 (codes "changed") (after_changed lease) changed_spaceless p3.1 in

@@ -1,3 +1,4 @@
 pub mod Cuts
 pub mod Plain
 pub mod Fields
+pub mod Endings

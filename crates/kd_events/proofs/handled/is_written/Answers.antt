@@ -1,5 +1,7 @@
 use Rattle.std.proofs.Common.{◌≡◌, sym, ◌∙◌, rules, IsTrue}
-use Rattle.kd_events.proofs.Written.{written_if, written_is}
+use Rattle.kd_replay.specs.Text.{line_of}
+use Rattle.kd_words.proofs.Endings.{front_is_line, line_is_front}
+use Rattle.kd_events.proofs.Written.{body, written}
 use Rattle.kd_events.proofs.handled.is_written.Goals as goal
 
 pub returns-in-Some : goal.returns-in-Some
@@ -8,6 +10,6 @@ returns-in-Some c =
     let whole = sym c.in_ok-text.ensures ∙ sym c.as_slice.ensures.value ∙ c.in-Some.ensures.cases.0 in
     let to : IsTrue c.eq.result → c.in-Some.front.now ≡ c.args.line.now = search rules in
     let from : c.in-Some.front.now ≡ c.args.line.now → IsTrue c.eq.result = search rules in (
-      λ same. written_if handled c.in-Some.front.now c.args.line.now c.in-Some.field-0-0.now whole (to same),
-      λ is. from (written_is handled c.in-Some.front.now c.args.line.now c.in-Some.field-0-0.now whole is),
+      λ same. line_is_front (line_of handled) (body handled) c.in-Some.front.now c.args.line.now c.in-Some.field-0-0.now (written handled) whole (to same),
+      λ is. from (front_is_line (line_of handled) c.in-Some.front.now c.args.line.now c.in-Some.field-0-0.now whole is),
     )

@@ -2,7 +2,8 @@ use Rattle.std.proofs.Common.{◌≡◌, sym, ap, ◌∙◌, rules, IsTrue}
 use Rattle.std.specs.List.{flat_map}
 use Rattle.std.proofs.lemmas.List.{append-nil}
 use Rattle.kd_server.specs.Leases.{lease_line}
-use Rattle.kd_import.proofs.Printed.{prints_if, prints_is}
+use Rattle.kd_words.proofs.Endings.{front_is_line, line_is_front}
+use Rattle.kd_import.proofs.Printed.{body, printed}
 use Rattle.kd_import.proofs.lease.prints.Goals as goal
 
 pub returns-in-Some : goal.returns-in-Some
@@ -13,6 +14,6 @@ returns-in-Some c =
     ∙ c.in-Some.ensures.cases.0 in
     let to : IsTrue c.eq.result → c.in-Some.front.now ≡ c.args.line.now = search rules in
     let from : c.in-Some.front.now ≡ c.args.line.now → IsTrue c.eq.result = search rules in (
-      λ same. prints_if lease c.in-Some.front.now c.args.line.now c.in-Some.field-0-0.now whole (to same),
-      λ is. from (prints_is lease c.in-Some.front.now c.args.line.now c.in-Some.field-0-0.now whole is),
+      λ same. line_is_front (lease_line lease) (body lease) c.in-Some.front.now c.args.line.now c.in-Some.field-0-0.now (printed lease) whole (to same),
+      λ is. from (front_is_line (lease_line lease) c.in-Some.front.now c.args.line.now c.in-Some.field-0-0.now whole is),
     )
