@@ -13,10 +13,10 @@ ghost use Rattle.kd_store.specs.Staging.{CommitsTogether, SetsTogether};
 ghost use Rattle.kd_store.specs.Stands.{Leaves, Stands};
 
 use crate::fault::cause_of_error;
-use crate::statement::{PUT, with_sign};
+use crate::statement::{PUT, put_params};
 use kd_keeps::StoreFault;
 use kd_rows::Row;
-use sqlite::{Alter, Connection, Error, ErrorCode, Transaction, params};
+use sqlite::{Alter, Connection, Error, ErrorCode, Transaction};
 
 // Runs the statement that sets a row, within a transaction.
 fn execute_inside<S: Alter>(tx: &mut Transaction<'_, S>, row: &Row) -> Result<usize, Error>
@@ -29,13 +29,8 @@ fn execute_inside<S: Alter>(tx: &mut Transaction<'_, S>, row: &Row) -> Result<us
     ensures survives { Survives (state S.Store tx.old.conn.now) (state S.Store tx.new.conn.now)
         (λ _. ⊥) }
 {
-    let number = u32::from(row.state.number());
-    let changed = with_sign(row.changed);
-    let ends = with_sign(row.ends);
-    tx.execute(
-        PUT,
-        params![row.address, row.client.as_slice(), number, changed, ends],
-    )
+    let params = put_params(row);
+    tx.execute(PUT, &params)
 }
 
 // Sets rows in the given order, within a transaction, up to the first that is refused.

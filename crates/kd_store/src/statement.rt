@@ -4,6 +4,7 @@ ghost use Rattle.sqlite.specs.Held.{state};
 ghost use Rattle.sqlite.specs.State.{CommitsBy, Executes, HasCleanDisk, IsLive, Survives};
 ghost use Rattle.sqlite.specs.Given.{HasGiven};
 ghost use Rattle.sqlite.specs.Order.{Row as Columns};
+ghost use Rattle.sqlite.specs.Values.{bound};
 ghost use Rattle.kd_keeps.specs.Moves.{MovesTable};
 ghost use Rattle.kd_rows.specs.Row.{IsInRange};
 ghost use Rattle.kd_rows.specs.Table.{Rise, with_row};
@@ -17,7 +18,8 @@ use crate::decode::decode;
 use crate::fault::{NO_MEMORY, cause_of_error, fault_of_reading};
 use kd_keeps::StoreFault;
 use kd_rows::Row;
-use sqlite::{Alter, Connection, Error, Rows, params};
+use sqlite::types::{ToSql, ValueRef};
+use sqlite::{Alter, Connection, Error, Rows};
 use std::alloc::Global;
 
 const MAKE: &str =
@@ -45,11 +47,28 @@ pub(crate) fn make<S: Alter>(conn: &mut Connection<S>) -> Result<usize, Error>
 }
 
 // Returns a number as a signed integer, as SQL has it.
-pub(crate) fn with_sign(n: u64) -> i64
+fn with_sign(n: u64) -> i64
     requires { n < 2 ^ 63 }
     ensures { result ≡ pos n }
 {
     n as i64
+}
+
+// Returns the parameters of the statement that sets a row.
+pub(crate) fn put_params<'a>(row: &'a Row) -> [ValueRef<'a>; 5]
+    requires { IsInRange row.now }
+    ensures { bound result ≡ columns_of row.now }
+{
+    let number = u32::from(row.state.number());
+    let changed = with_sign(row.changed);
+    let ends = with_sign(row.ends);
+    [
+        row.address.to_sql(),
+        row.client.as_slice().to_sql(),
+        number.to_sql(),
+        changed.to_sql(),
+        ends.to_sql(),
+    ]
 }
 
 // Runs the statement that sets a row, with its parameters.
@@ -61,13 +80,8 @@ fn execute_put<S: Alter>(conn: &mut Connection<S>, row: &Row) -> Result<usize, E
     ensures survives { Survives (state S.Store conn.old) (state S.Store conn.new)
         (CommitsBy put_text (columns_of row.now) (state S.Store conn.old)) }
 {
-    let number = u32::from(row.state.number());
-    let changed = with_sign(row.changed);
-    let ends = with_sign(row.ends);
-    conn.execute(
-        PUT,
-        params![row.address, row.client.as_slice(), number, changed, ends],
-    )
+    let params = put_params(row);
+    conn.execute(PUT, &params)
 }
 
 // Sets a row, in one statement and one commit.
