@@ -1,11 +1,11 @@
 #!/usr/bin/env python3
 """A day of 1,000 datagrams for `kdhcp replay`, and what a server at 192.0.2.1 answers.
 
-    day.py lines      the day: a moment and a datagram in hexadecimal a line
-    day.py replies    reads such lines from standard input and prints the answers
+    day.py lines      prints the day: on each line a time and a datagram in hexadecimal
+    day.py replies    reads such lines from standard input and prints the replies
 
-The answers are worked out here once more, from RFC 2131, 2132, 3046, 3396 and 6842, in another language
-and by another hand than the server's; only INFORM is answered. Nothing of the server's code is used.
+The replies are computed from RFC 2131, 2132, 3046, 3396 and 6842, with none of the server's code and in another language. Only
+an INFORM has a reply.
 """
 import random
 import sys
