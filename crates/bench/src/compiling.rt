@@ -5,7 +5,7 @@ use kd_expr::{read, type_of};
 use std::alloc::{AllocError, Global};
 
 // Returns how often a text was read, typed and compiled, out of `rounds`.
-fn compiled(alloc: Global, text: &[u8], rounds: u32) -> u32 {
+fn times_compiled(alloc: Global, text: &[u8], rounds: u32) -> u32 {
     let mut compiled = 0u32;
     for _ in 0..rounds {
         let Ok(expr) = read(alloc, text) else {
@@ -28,7 +28,7 @@ pub(crate) fn strings(alloc: Global, rounds: u32) -> Result<u32, AllocError> {
         text.extend_from_slice(b"+'12345'")?;
     }
     text.extend_from_slice(b"+'1234'==''")?;
-    Ok(compiled(alloc, &text, rounds))
+    Ok(times_compiled(alloc, &text, rounds))
 }
 
 // 256 members with 64 names: 4,092 bytes, 511 tokens.
@@ -40,7 +40,7 @@ pub(crate) fn members(alloc: Global, rounds: u32) -> Result<u32, AllocError> {
         text.extend_from_slice(&[b'a' + (name / 8) as u8, b'a' + (name % 8) as u8])?;
         text.extend_from_slice(b"')")?;
     }
-    Ok(compiled(alloc, &text, rounds))
+    Ok(times_compiled(alloc, &text, rounds))
 }
 
 // 63 nested `ifelse`, each the first branch of the one around it: 3,914 bytes, 255 tokens, 63
@@ -55,5 +55,5 @@ pub(crate) fn choices(alloc: Global, rounds: u32) -> Result<u32, AllocError> {
         text.extend_from_slice(b",'vendor class')")?;
     }
     text.extend_from_slice(b"=='a'")?;
-    Ok(compiled(alloc, &text, rounds))
+    Ok(times_compiled(alloc, &text, rounds))
 }

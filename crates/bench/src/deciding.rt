@@ -4,7 +4,7 @@ mod message;
 mod settings;
 mod table;
 
-use crate::mixed;
+use crate::mixed_number;
 use kd_config::ConfigFault;
 use kd_lease::{Leases, PlanKind, Verdict, decide_on};
 use kd_options::Message;
@@ -89,11 +89,15 @@ struct Desk {
 }
 
 // Returns how often a task gave the expected result.
-pub(crate) fn worked(alloc: Global, scene: &Scene, amounts: Amounts) -> Result<u32, ConfigFault> {
+pub(crate) fn times_done(
+    alloc: Global,
+    scene: &Scene,
+    amounts: Amounts,
+) -> Result<u32, ConfigFault> {
     let (_, layout, place, asks) = *scene;
     let size = amounts.rows;
     let setting = Setting {
-        pooled: pooled(layout, size),
+        pooled: pool_size(layout, size),
         size,
         reservations: amounts.reservations,
         place,
@@ -110,7 +114,7 @@ pub(crate) fn worked(alloc: Global, scene: &Scene, amounts: Amounts) -> Result<u
 
 // Returns how many addresses the pools have: as many as there are rows, or enough for them and
 // 131,072 more.
-fn pooled(layout: Layout, size: u32) -> u32 {
+fn pool_size(layout: Layout, size: u32) -> u32 {
     match layout {
         Layout::Full | Layout::Renewed | Layout::Over => size,
         _ => size.wrapping_add(size / 11).wrapping_add(131_072),
@@ -129,27 +133,27 @@ fn again(alloc: Global, desk: &mut Desk, rounds: u32) -> Result<u32, AllocError>
 
 // Reports whether the task of a round was done.
 fn is_done(alloc: Global, desk: &mut Desk, round: u32) -> Result<bool, AllocError> {
-    let bytes = asked(desk, round);
+    let bytes = datagram_of(desk, round);
     if desk.asks == Asks::Read {
         return Ok(Message::read(alloc, &bytes).is_ok());
     }
-    let Some(address) = given(alloc, desk, &bytes, round)? else {
+    let Some(address) = given_address(alloc, desk, &bytes, round)? else {
         return Ok(false);
     };
     if desk.asks != Asks::Dora {
         return Ok(true);
     }
     let bytes = request(newcomer(desk, round), address, SERVER);
-    Ok(given(alloc, desk, &bytes, round)?.is_some())
+    Ok(given_address(alloc, desk, &bytes, round)?.is_some())
 }
 
 // Returns the datagram of a round.
-fn asked(desk: &Desk, round: u32) -> [u8; 300] {
-    let number = mixed(round) % desk.size.max(1);
+fn datagram_of(desk: &Desk, round: u32) -> [u8; 300] {
+    let number = mixed_number(round) % desk.size.max(1);
     let (client, address) = match desk.layout {
         Layout::All | Layout::Offers => (0, address_of(number)),
         Layout::Ended | Layout::Beside | Layout::Away => (0, POOL),
-        _ => (mixed(number), address_of(number)),
+        _ => (mixed_number(number), address_of(number)),
     };
     match desk.asks {
         Asks::Read | Asks::New | Asks::Offer | Asks::Dora => discover(newcomer(desk, round)),
@@ -165,11 +169,11 @@ fn asked(desk: &Desk, round: u32) -> [u8; 300] {
 // Returns the number of a client without a row, a different one in each round, in mixed order among
 // the others.
 fn newcomer(desk: &Desk, round: u32) -> u32 {
-    mixed(desk.size.wrapping_add(round))
+    mixed_number(desk.size.wrapping_add(round))
 }
 
 // Returns the address that the reply to a datagram gives, if there is a reply that is not a NAK.
-fn given(
+fn given_address(
     alloc: Global,
     desk: &mut Desk,
     bytes: &[u8; 300],

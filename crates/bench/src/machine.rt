@@ -7,7 +7,7 @@ use kd_token::{Program, verify};
 use std::alloc::{AllocError, Global};
 
 // Returns how often a program ended with this value over a message, out of `rounds`.
-fn ended(alloc: Global, file: &[u8], datagram: &[u8], want: bool, rounds: u32) -> u32 {
+fn times_ended(alloc: Global, file: &[u8], datagram: &[u8], want: bool, rounds: u32) -> u32 {
     let Ok(message) = Message::read(alloc, datagram) else {
         return 0;
     };
@@ -35,7 +35,7 @@ fn ended(alloc: Global, file: &[u8], datagram: &[u8], want: bool, rounds: u32) -
 pub(crate) fn short(alloc: Global, rounds: u32) -> Result<u32, AllocError> {
     let file = b"K4TK\x01\x00\x03\x02\x10\x00\x00\x00\x03\x03\x3c\x01\x00\x01a\x09";
     let datagram = discover(alloc)?;
-    Ok(ended(alloc, file, datagram.as_slice(), false, rounds))
+    Ok(times_ended(alloc, file, datagram.as_slice(), false, rounds))
 }
 
 // A program of 1,024 tokens: whether option 60 is present and, 204 times, whether it is not "a";
@@ -47,7 +47,7 @@ pub(crate) fn long(alloc: Global, rounds: u32) -> Result<u32, AllocError> {
     }
     file.extend_from_slice(b"\x0a\x0a\x0a")?;
     let datagram = discover(alloc)?;
-    Ok(ended(alloc, file.as_slice(), datagram.as_slice(), false, rounds))
+    Ok(times_ended(alloc, file.as_slice(), datagram.as_slice(), false, rounds))
 }
 
 // The hexadecimal text of an option of 3,820 bytes, with colons, which is not "x".
@@ -63,5 +63,5 @@ pub(crate) fn digits(alloc: Global, rounds: u32) -> Result<u32, AllocError> {
     datagram.extend_from_slice(&[43, 250])?;
     datagram.resize(datagram.len() + 250, 0xa5)?;
     datagram.resize(4096, 0)?;
-    Ok(ended(alloc, file, datagram.as_slice(), false, rounds))
+    Ok(times_ended(alloc, file, datagram.as_slice(), false, rounds))
 }

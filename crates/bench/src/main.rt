@@ -61,13 +61,13 @@ fn main(rt: HostRuntime) -> io::Result<()> {
     let work = words.get(1).map_or("each", |word| word.as_str());
     if work != "each" {
         let numbers = [2, 3, 4].map(|place| number_at(&words, place));
-        return match worked(rt.alloc(), work, numbers) {
+        return match times_done(rt.alloc(), work, numbers) {
             Ok(done) => println!(rt; "{done}"),
             Err(fault) => println!(rt; "{fault}"),
         };
     }
     for work in WORKS.into_iter().chain(SCENES.map(|scene| scene.0)) {
-        match worked(rt.alloc(), work, [None, None, None]) {
+        match times_done(rt.alloc(), work, [None, None, None]) {
             Ok(done) => println!(rt; "{work} {done}")?,
             Err(fault) => println!(rt; "{work} {fault}")?,
         }
@@ -82,7 +82,7 @@ fn number_at(words: &[String], place: usize) -> Option<u32> {
 
 // Returns how often a task was done with these numbers: the rounds, and before them the rows and
 // the reservations.
-fn worked(alloc: Global, work: &str, numbers: [Option<u32>; 3]) -> Result<u32, ConfigFault> {
+fn times_done(alloc: Global, work: &str, numbers: [Option<u32>; 3]) -> Result<u32, ConfigFault> {
     let [first, second, third] = numbers;
     let scene = SCENES.iter().find(|scene| scene.0 == work);
     if let Some(scene) = scene {
@@ -91,12 +91,12 @@ fn worked(alloc: Global, work: &str, numbers: [Option<u32>; 3]) -> Result<u32, C
             reservations: second.unwrap_or(100),
             rounds: third.unwrap_or(10),
         };
-        return deciding::worked(alloc, scene, amounts);
+        return deciding::times_done(alloc, scene, amounts);
     }
     match work {
         "open" | "client" | "gap" | "renew" | "add" | "rise" | "get" => {
             let size = first.unwrap_or(100);
-            Ok(rows::worked(alloc, work, size, second.unwrap_or(10))?)
+            Ok(rows::times_done(alloc, work, size, second.unwrap_or(10))?)
         }
         _ => Ok(again(alloc, work, first.unwrap_or(10))?),
     }
@@ -120,6 +120,6 @@ fn again(alloc: Global, work: &str, rounds: u32) -> Result<u32, AllocError> {
 }
 
 // Numbers below 2^32 in mixed order, each once.
-pub(crate) fn mixed(number: u32) -> u32 {
+pub(crate) fn mixed_number(number: u32) -> u32 {
     number.wrapping_mul(2_654_435_761)
 }

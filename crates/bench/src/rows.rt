@@ -1,16 +1,21 @@
 // Tasks over a table of leases.
 
-use crate::mixed;
+use crate::mixed_number;
 use kd_rows::{Row, Rows, State};
 use kd_wire::Bytes;
 use std::alloc::{AllocError, Global};
 
 // Returns how often the task was done, out of `rounds`, on a table of `size` rows.
-pub(crate) fn worked(alloc: Global, work: &str, size: u32, rounds: u32) -> Result<u32, AllocError> {
+pub(crate) fn times_done(
+    alloc: Global,
+    work: &str,
+    size: u32,
+    rounds: u32,
+) -> Result<u32, AllocError> {
     let mut rows = table(alloc, size)?;
     let mut done = 0u32;
     for round in 0..rounds {
-        let number = mixed(round) % size.max(1);
+        let number = mixed_number(round) % size.max(1);
         let did = match work {
             "get" => rows.get(number.wrapping_mul(2)).is_some(),
             "client" => rows.of_client(&client(number), 0).is_some(),
@@ -34,26 +39,26 @@ fn lease(work: &str, size: u32, round: u32) -> (u32, u32) {
     let newcomer = round.wrapping_add(0x1000_0000);
     match work {
         "add" => {
-            let place = scattered(round, size).wrapping_mul(2);
+            let place = scattered_number(round, size).wrapping_mul(2);
             (place.wrapping_add(1), newcomer)
         }
         "rise" => (size.wrapping_add(round).wrapping_mul(2), newcomer),
         _ => {
-            let number = mixed(round) % size.max(1);
+            let number = mixed_number(round) % size.max(1);
             (number.wrapping_mul(2), number)
         }
     }
 }
 
 // Numbers below a size in mixed order, each once if the prime does not divide the size.
-fn scattered(round: u32, size: u32) -> u32 {
+fn scattered_number(round: u32, size: u32) -> u32 {
     let product = u64::from(round) * 611_953;
     (product % u64::from(size.max(1))) as u32
 }
 
 // The client with a number: nine bytes, in another order than the numbers.
 fn client(number: u32) -> [u8; 9] {
-    let [a, b, c, d] = mixed(number).to_be_bytes();
+    let [a, b, c, d] = mixed_number(number).to_be_bytes();
     let [e, f, g, h] = number.to_be_bytes();
     [1, a, b, c, d, e, f, g, h]
 }

@@ -10,7 +10,7 @@ use std::alloc::{AllocError, Global};
 use std::io;
 
 /// Returns what the program writes for these arguments and this standard input.
-pub fn written(
+pub fn output_of(
     rt: &HostRuntime,
     files: &Files,
     stores: &mut Stores,

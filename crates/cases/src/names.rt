@@ -22,7 +22,7 @@ impl Names {
     }
 
     /// Returns a line with each name replaced by its text. An unknown name stays as it is.
-    pub fn expanded(&self, alloc: Global, line: &str) -> Result<String, AllocError> {
+    pub fn expand(&self, alloc: Global, line: &str) -> Result<String, AllocError> {
         let mut out = String::new(alloc);
         for (index, piece) in line.split("${").enumerate() {
             match piece.split_once('}') {

@@ -1,5 +1,5 @@
 use crate::case::{Case, put_line};
-use crate::command::written;
+use crate::command::output_of;
 use crate::fault::{LineFault, Passage};
 use crate::files::Files;
 use crate::names::Names;
@@ -49,7 +49,7 @@ impl<'a> Session<'a> {
             self.finish(rt)?;
             return Ok(self.begin(rt.alloc(), command)?);
         }
-        let text = self.names.expanded(rt.alloc(), line)?;
+        let text = self.names.expand(rt.alloc(), line)?;
         match &mut self.case {
             Some(case) => take_of_case(rt, case, text.as_str()),
             None => self.prepare(rt, line, text.as_str()),
@@ -150,7 +150,7 @@ impl<'a> Session<'a> {
 
     // Runs a case.
     fn judge(&mut self, rt: &HostRuntime, case: &Case) -> io::Result<()> {
-        let came = written(
+        let came = output_of(
             rt,
             &self.files,
             &mut self.stores,

@@ -38,7 +38,7 @@ impl Line<'_> {
             }
             (Place::Escaped, sign) => {
                 self.place = Place::Quoted;
-                self.put_sign(alloc, meant(sign))
+                self.put_sign(alloc, meaning_of(sign))
             }
             (_, sign) => self.put_sign(alloc, sign),
         }
@@ -60,7 +60,7 @@ impl Line<'_> {
     // Ends the word, if there is one.
     fn end_word(&mut self, alloc: Global) -> Result<(), AllocError> {
         if let Some(word) = self.word.take() {
-            self.words.push(self.names.expanded(alloc, word.as_str())?)?;
+            self.words.push(self.names.expand(alloc, word.as_str())?)?;
         }
         Ok(())
     }
@@ -83,7 +83,7 @@ pub fn words(alloc: Global, names: &Names, text: &str) -> Result<Vec<String>, Al
 }
 
 // Returns what a character after a backslash means.
-fn meant(sign: char) -> char {
+fn meaning_of(sign: char) -> char {
     match sign {
         'n' => '\n',
         't' => '\t',

@@ -7,7 +7,7 @@ use kd_print::{Printed, answer};
 use std::alloc::{AllocError, Global};
 
 /// Returns what `kdhcp show --names` prints for a datagram in hexadecimal.
-pub fn shown(alloc: Global, hex: String) -> Result<Printed, AllocError>
+pub fn show_datagram(alloc: Global, hex: String) -> Result<Printed, AllocError>
     ensures { IfOk result (ShowsDecoded true (decode_of (string_bytes hex))) }
 {
     let order = Order::Show { hex, names: true };

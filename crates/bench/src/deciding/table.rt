@@ -2,7 +2,7 @@ ghost use Rattle.std.specs.List.{All};
 ghost use Rattle.kd_rows.specs.Row.{IsInRange};
 ghost use Rattle.kd_rows.specs.Table.{Rise};
 
-use crate::mixed;
+use crate::mixed_number;
 use kd_config::Config;
 use kd_lease::Leases;
 use kd_rows::{Row, Rows, State};
@@ -77,7 +77,7 @@ pub(crate) fn leases_of(
     rows: u32,
 ) -> Result<Leases, AllocError> {
     let list = list_of(alloc, layout, rows)?;
-    let mut leases = over(alloc, config, accepted(alloc, list))?;
+    let mut leases = over(alloc, config, accepted_rows(alloc, list))?;
     if layout == Layout::Renewed {
         renew_first(alloc, &mut leases)?;
     }
@@ -94,7 +94,7 @@ fn list_of(alloc: Global, layout: Layout, rows: u32) -> Result<Vec<Row>, AllocEr
 }
 
 // Returns these rows if they can be a table, and otherwise none.
-fn accepted(alloc: Global, list: Vec<Row>) -> Vec<Row>
+fn accepted_rows(alloc: Global, list: Vec<Row>) -> Vec<Row>
     ensures rise { Rise result.items }
     ensures ranges { All IsInRange result.items }
 {
@@ -120,7 +120,7 @@ fn over(alloc: Global, config: Config, list: Vec<Row>) -> Result<Leases, AllocEr
 fn row_of(alloc: Global, layout: Layout, number: u32) -> Result<Row, AllocError> {
     let client = match layout {
         Layout::All | Layout::Ended | Layout::Offers | Layout::Beside | Layout::Away => 0,
-        _ => mixed(number),
+        _ => mixed_number(number),
     };
     Ok(Row {
         address: place_of(layout, number),
