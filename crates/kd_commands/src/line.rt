@@ -373,7 +373,7 @@ fn check<'a>(alloc: Global) -> Result<Command<'a>, AllocError>
         alloc,
         "check",
         "Try each step of a start, and explain what is wrong",
-        "Example: kdhcp check --config kdhcp.json --store leases.db --bind 0.0.0.0",
+        "Example: kdhcp check --config config.json --store leases.db --bind 0.0.0.0",
     )?
     .arg(bind_address(alloc))?
     .arg(port(alloc))?

@@ -5,6 +5,7 @@
 //! three standard streams.
 #![tactic(auto)]
 
+mod advice;
 mod banner;
 mod checking;
 mod ends;

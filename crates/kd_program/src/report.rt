@@ -1,3 +1,4 @@
+use crate::advice::put_advice;
 use crate::banner::pool_addresses;
 use crate::checking::{Found, Place, SeenRows, StoreFinding};
 use crate::host::Host;
@@ -40,7 +41,8 @@ fn put_config<H: Host>(
             let name = file.unwrap_or("the built-in configuration");
             let subnets = config.subnets().len();
             let addresses = pool_addresses(config.subnets());
-            write!(text, "{name}: subnets {subnets}, addresses {addresses}\n")
+            write!(text, "{name}: subnets {subnets}, addresses {addresses}\n")?;
+            put_advice(text, host, name, config)
         }
         Err(fault) => {
             let words = host.start_words(file, text_of(&files.token_dir), fault)?;
@@ -141,7 +143,7 @@ fn put_socket(
     match socket {
         Ok(true) => text.push_str("free\n"),
         Ok(false) => text.push_str(
-            "free\n255.255.255.255: there is no route, so clients without an address get no answer\n",
+            "free\n255.255.255.255: there is no route, so clients without an address get no answer, unless the socket unit names their link (BindToDevice)\n",
         ),
         Err(trouble) => {
             text.push_str(trouble.words())?;
