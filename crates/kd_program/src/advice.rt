@@ -87,8 +87,8 @@ fn ends_of(prefix: Prefix) -> Option<(u32, u32)> {
     if prefix.size() <= 2 {
         return None;
     }
-    let last = (u64::from(prefix.address) + prefix.size() - 1) as u32;
-    Some((prefix.address, last))
+    let behind = u64::from(prefix.address).saturating_add(prefix.size());
+    Some((prefix.address, behind.saturating_sub(1) as u32))
 }
 
 // Prints a line if an address is in a pool: `NAME: pool FIRST - LAST: ADDRESS is WHAT`.
