@@ -102,7 +102,7 @@ impl<'a, 'r> Host for Room<'a, 'r> {
 
     fn journal(&mut self, path: &str) -> Result<Page<'r>, EndFailed> {
         match self.record.take() {
-            Some(text) if path != "none" => Ok(Page::with_name(text, path)),
+            Some(text) if path != "none" => Ok(Page::for_name(text, path)),
             _ => Err(EndFailed),
         }
     }

@@ -12,7 +12,7 @@ pub struct Page<'a> {
 
 impl<'a> Page<'a> {
     /// Makes the record with a name: `lines-N` takes N lines, any other name any number.
-    pub fn with_name(text: &'a mut Vec<u8>, name: &str) -> Page<'a>
+    pub fn for_name(text: &'a mut Vec<u8>, name: &str) -> Page<'a>
         ensures { result.failed ≡ false }
     {
         let digits = name.strip_prefix("lines-").unwrap_or("");
