@@ -88,7 +88,8 @@ fn ends_of(prefix: Prefix) -> Option<(u32, u32)> {
         return None;
     }
     let behind = u64::from(prefix.address).saturating_add(prefix.size());
-    Some((prefix.address, behind.saturating_sub(1) as u32))
+    let last = u32::try_from(behind.saturating_sub(1)).unwrap_or(u32::MAX);
+    Some((prefix.address, last))
 }
 
 // Prints a line if an address is in a pool: `NAME: pool FIRST - LAST: ADDRESS is WHAT`.
