@@ -41,12 +41,14 @@ fn main(rt: HostRuntime) -> io::Result<()> {
 fn run_cases(rt: &HostRuntime, path: &str) -> io::Result<()> {
     let text = fs::read_to_string(rt, path)?;
     let mut session = Session::new(rt.alloc(), path);
+    run_session(rt, &mut session, text.as_str())
+}
+
+// Runs the cases of a session's text, and prints how many of them had the written outcome.
+fn run_session(rt: &HostRuntime, session: &mut Session<'_>, text: &str) -> io::Result<()> {
     for line in text.lines() {
         session.take(rt, line)?;
     }
     session.finish(rt)?;
-    println!(rt;
-        "{path}: {} as written, {} not",
-        session.well, session.badly
-    )
+    session.report(rt)
 }

@@ -18,10 +18,10 @@ pub struct Session<'a> {
     stores: Stores,
     case: Option<Case>,
     line: usize,
-    /// The number of cases with the written outcome.
-    pub well: usize,
-    /// The number of other cases.
-    pub badly: usize,
+    // The number of cases with the written outcome.
+    well: usize,
+    // The number of other cases.
+    badly: usize,
 }
 
 impl<'a> Session<'a> {
@@ -146,6 +146,12 @@ impl<'a> Session<'a> {
             Some(case) => self.judge(rt, &case),
             None => Ok(()),
         }
+    }
+
+    /// Prints how many cases of the file had the written outcome, and how many had not.
+    pub fn report(&self, rt: &HostRuntime) -> io::Result<()> {
+        let path = self.path;
+        println!(rt; "{path}: {} as written, {} not", self.well, self.badly)
     }
 
     // Runs a case.

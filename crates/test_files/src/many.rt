@@ -1,5 +1,5 @@
 use crate::datagrams::{DISCOVER, OFFER, Reply, answer};
-use crate::files::put;
+use crate::files::{expect, put};
 use crate::leased::{PORTS, address, lease};
 use kd_config::Config;
 use kd_keeps::Keeps;
@@ -20,10 +20,16 @@ const LEASES: u32 = 100_100;
 // Makes a store of all leases.
 fn store(alloc: Global) -> Result<Fused, Fail> {
     let mut store = Fused::new(alloc, u64::MAX)?;
-    for number in 1..=LEASES {
-        put(&mut store, &lease(alloc, number)?)?;
-    }
+    fill(alloc, &mut store)?;
     Ok(store)
+}
+
+// Puts all leases into a store.
+fn fill(alloc: Global, store: &mut Fused) -> Result<(), Fail> {
+    for number in 1..=LEASES {
+        put(store, &lease(alloc, number)?)?;
+    }
+    Ok(())
 }
 
 // Makes a server over it.
@@ -41,10 +47,15 @@ fn server(alloc: Global) -> Result<Server<Fused>, Fail> {
 
 #[test]
 fn a_server_over_more_rows_than_any_block_of_them(rt: HostRuntime) -> Result<(), Fail> {
-    let alloc = rt.alloc();
-    let mut server = server(alloc)?;
-    assert!(rt; server.row_count() == 100_100);
-    assert!(rt; server.leases(150)?.len() == 100_100);
+    let mut server = server(rt.alloc())?;
+    lease_one_more(rt.alloc(), &mut server)
+}
+
+// Checks a server's leases, and that a new client is offered the next address.
+fn lease_one_more(alloc: Global, server: &mut Server<Fused>) -> Result<(), Fail> {
+    expect(server.row_count() == 100_100, "rows are missing")?;
+    let leases = server.leases(150)?.len();
+    expect(leases == 100_100, "leases are missing")?;
     let client = 0x0100_0000;
     let offer = Reply {
         op: 2,
@@ -52,7 +63,7 @@ fn a_server_over_more_rows_than_any_block_of_them(rt: HostRuntime) -> Result<(),
         yiaddr: address(LEASES + 1),
         option: OFFER,
     };
-    assert!(rt; answer(alloc, &mut server, 150, client, DISCOVER)? == Some(offer));
-    assert!(rt; server.row_count() == 100_101);
-    Ok(())
+    let given = answer(alloc, server, 150, client, DISCOVER)?;
+    expect(given == Some(offer), "no OFFER of the next address")?;
+    expect(server.row_count() == 100_101, "the offer has no row")
 }

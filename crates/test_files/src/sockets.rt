@@ -79,7 +79,18 @@ fn server(alloc: Global, ports: Ports) -> Result<Server<Fused>, AllocError> {
 fn serve_one(rt: &HostRuntime, link: &mut Socket<'_>, ports: Ports) -> Result<(), Fail>
     requires { link.old.failed ≡ false }
 {
-    let alloc = rt.alloc();
+    let mut server = server(rt.alloc(), ports)?;
+    serve_one_by(rt.alloc(), link, &mut server)
+}
+
+// Serves one datagram by a server.
+fn serve_one_by(
+    alloc: Global,
+    link: &mut Socket<'_>,
+    server: &mut Server<Fused>,
+) -> Result<(), Fail>
+    requires { link.old.failed ≡ false }
+{
     let mut sink = Output::over(Vec::new(alloc));
     let limits = Limits {
         most: 1,
@@ -91,7 +102,7 @@ fn serve_one(rt: &HostRuntime, link: &mut Socket<'_>, ports: Ports) -> Result<()
         link,
         &mut None::<Output<Vec<u8>>>,
         &mut sink,
-        &mut server(alloc, ports)?,
+        server,
         limits,
     )?;
     Ok(())

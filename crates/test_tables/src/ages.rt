@@ -1,4 +1,4 @@
-use crate::rows::{Fault, LEASES, name, row, set, set_row, table};
+use crate::rows::{Fault, LEASES, expect, name, row, set, set_row, table};
 use kd_rows::{Row, Rows, State};
 use std::alloc::{AllocError, Global};
 use std::test::Fail;
@@ -59,12 +59,28 @@ fn are_newest(
 #[test]
 fn the_newest_row_of_a_client_is_found(rt: HostRuntime) -> Result<(), Fail> {
     let mut rows = table(rt.alloc(), &LEASES)?;
-    assert!(rt; are_newest(rt.alloc(), &rows, b"a", 0, &[11, 0xffff_ffff, 0])?);
-    set(rt.alloc(), &mut rows, (0, b"a", 9, 120))?;
-    assert!(rt; are_newest(rt.alloc(), &rows, b"a", 0, &[0, 11, 0xffff_ffff])?);
-    assert!(rt; are_newest(rt.alloc(), &rows, b"a", 1, &[11, 0xffff_ffff])?);
-    assert!(rt; rows.longest(State::Bound) == 111 && rows.longest(State::Offered) == 0);
-    Ok(())
+    expect_newest(rt.alloc(), &mut rows)
+}
+
+// Checks the order of a client's rows by age, before and after one is renewed.
+fn expect_newest(alloc: Global, rows: &mut Rows) -> Result<(), Fail> {
+    expect(
+        are_newest(alloc, rows, b"a", 0, &[11, 0xffff_ffff, 0])?,
+        "the newest row of a client",
+    )?;
+    set(alloc, rows, (0, b"a", 9, 120))?;
+    expect(
+        are_newest(alloc, rows, b"a", 0, &[0, 11, 0xffff_ffff])?,
+        "the newest row after a renewal",
+    )?;
+    expect(
+        are_newest(alloc, rows, b"a", 1, &[11, 0xffff_ffff])?,
+        "the newest row from address 1 on",
+    )?;
+    expect(
+        rows.longest(State::Bound) == 111 && rows.longest(State::Offered) == 0,
+        "the longest lease in a state",
+    )
 }
 
 // Three addresses at which a table is cut.
@@ -81,20 +97,31 @@ fn cuts(alloc: Global) -> Result<Vec<u32>, AllocError> {
 fn mixed(alloc: Global) -> Result<Rows, Fault> {
     let cuts = cuts(alloc)?;
     let mut rows = Rows::with_cuts(Vec::new(alloc), cuts)?;
-    for i in 0..600u32 {
-        let changed = u64::from(i / 7);
-        let ends = changed.wrapping_add(u64::from(i % 13));
-        let address = i.wrapping_mul(37) % 211;
-        let mut row = row(alloc, (address, name(i.wrapping_mul(i) % 5), changed, ends))?;
-        row.state = match i.wrapping_mul(11) % 4 {
-            0 => State::Offered,
-            1 => State::Bound,
-            2 => State::Released,
-            _ => State::Declined,
-        };
-        set_row(&mut rows, row)?;
-    }
+    set_mixed(alloc, &mut rows)?;
     Ok(rows)
+}
+
+// Sets the rows of five clients.
+fn set_mixed(alloc: Global, rows: &mut Rows) -> Result<(), Fault> {
+    for i in 0..600u32 {
+        set_row(rows, mixed_row(alloc, i)?)?;
+    }
+    Ok(())
+}
+
+// Makes the row with a number.
+fn mixed_row(alloc: Global, i: u32) -> Result<Row, AllocError> {
+    let changed = u64::from(i / 7);
+    let ends = changed.wrapping_add(u64::from(i % 13));
+    let address = i.wrapping_mul(37) % 211;
+    let mut row = row(alloc, (address, name(i.wrapping_mul(i) % 5), changed, ends))?;
+    row.state = match i.wrapping_mul(11) % 4 {
+        0 => State::Offered,
+        1 => State::Bound,
+        2 => State::Released,
+        _ => State::Declined,
+    };
+    Ok(row)
 }
 
 // Reports whether each address except the first has a row that is no newer than that of the
@@ -117,21 +144,47 @@ fn fall_in_age(rows: &Rows, addresses: &[u32]) -> bool {
 #[test]
 fn rows_set_in_mixed_order_are_found_by_age(rt: HostRuntime) -> Result<(), Fail> {
     let rows = mixed(rt.alloc())?;
+    let total = expect_by_age(rt.alloc(), &rows)?;
+    assert!(rt; total == rows.len() && total == 211);
+    Ok(())
+}
+
+// Checks the rows of each client in each state, in two ranges, and returns how many there are in
+// the first range.
+fn expect_by_age(alloc: Global, rows: &Rows) -> Result<usize, Fail> {
     let mut total = 0usize;
     for i in 0..5u32 {
         for number in 1..5u8 {
             if let Some(state) = State::of_number(number) {
-                for range in [(0u32, u32::MAX), (50, 150)] {
-                    let found = by_age(rt.alloc(), &rows, name(i), state, range.0, range.1)?;
-                    assert!(rt; found.len() == count_of(&rows, name(i), state, range.0, range.1));
-                    assert!(rt; fall_in_age(&rows, &found));
-                    if range.0 == 0 {
-                        total = total.wrapping_add(found.len());
-                    }
-                }
+                total = total.wrapping_add(count_by_age(
+                    alloc,
+                    rows,
+                    name(i),
+                    state,
+                    (0, u32::MAX),
+                )?);
+                count_by_age(alloc, rows, name(i), state, (50, 150))?;
             }
         }
     }
-    assert!(rt; total == rows.len() && total == 211);
-    Ok(())
+    Ok(total)
+}
+
+// Checks that all rows of a client in a state and a range are found, newest first, and returns how
+// many there are.
+fn count_by_age(
+    alloc: Global,
+    rows: &Rows,
+    client: &[u8],
+    state: State,
+    range: (u32, u32),
+) -> Result<usize, Fail> {
+    let (first, last) = range;
+    let found = by_age(alloc, rows, client, state, first, last)?;
+    expect(
+        found.len() == count_of(rows, client, state, first, last),
+        "the number of rows of a client in a state",
+    )?;
+    expect(fall_in_age(rows, &found), "the order of rows by age")?;
+    Ok(found.len())
 }

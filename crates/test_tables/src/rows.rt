@@ -67,6 +67,11 @@ pub(crate) fn set_row(rows: &mut Rows, row: Row) -> Result<(), Fault> {
     Ok(())
 }
 
+// Fails a test, naming what does not hold.
+pub(crate) fn expect(holds: bool, what: &str) -> Result<(), Fail> {
+    if holds { Ok(()) } else { Err(what.into()) }
+}
+
 // Leases of three clients, one of which has an empty name; the third lease was set last.
 pub(crate) const LEASES: [Lease; 5] = [
     (0, b"a", 5, 5),
@@ -128,13 +133,29 @@ pub(crate) fn address_of(row: Option<&Row>) -> Option<u32> {
 #[test]
 fn a_row_is_found_by_its_address(rt: HostRuntime) -> Result<(), Fail> {
     let rows = table(rt.alloc(), &LEASES)?;
+    expect_read(&rows)
+}
+
+// Checks what is found at each address of `READ` and at two indices.
+fn expect_read(rows: &Rows) -> Result<(), Fail> {
     for (address, client, next) in READ {
-        assert!(rt; client_of(rows.get(address)) == client);
-        assert!(rt; address_of(rows.next_from(address)) == next);
+        expect(
+            client_of(rows.get(address)) == client,
+            "a row by its address",
+        )?;
+        expect(
+            address_of(rows.next_from(address)) == next,
+            "the next row from an address",
+        )?;
     }
-    assert!(rt; rows.len() == 5 && rows.latest() == 9 && rows.least_end() == 4);
-    assert!(rt; address_of(rows.at(2)) == Some(11) && address_of(rows.at(5)) == None);
-    Ok(())
+    expect(
+        rows.len() == 5 && rows.latest() == 9 && rows.least_end() == 4,
+        "the counts of the table",
+    )?;
+    expect(
+        address_of(rows.at(2)) == Some(11) && address_of(rows.at(5)) == None,
+        "a row by its index",
+    )
 }
 
 // A client, an index, and the address at that index among the client's.
@@ -178,14 +199,28 @@ const GAPS: [(u32, u32, Option<u32>); 8] = [
 #[test]
 fn a_row_is_found_by_its_client_and_gaps_are_found(rt: HostRuntime) -> Result<(), Fail> {
     let rows = table(rt.alloc(), &LEASES)?;
+    expect_rows_and_gaps(&rows)
+}
+
+// Checks the rows of clients and the gaps of ranges.
+fn expect_rows_and_gaps(rows: &Rows) -> Result<(), Fail> {
     for (client, i, address) in CLIENTS {
-        assert!(rt; rows.of_client(client, i) == address);
+        expect(
+            rows.of_client(client, i) == address,
+            "a row of a client by its index",
+        )?;
     }
     for (client, first, last, address) in NEXT {
-        assert!(rt; address_of(rows.next_of_client(client, first, last)) == address);
+        expect(
+            address_of(rows.next_of_client(client, first, last)) == address,
+            "the next row of a client",
+        )?;
     }
     for (first, last, gap) in GAPS {
-        assert!(rt; first > last || rows.first_gap(first, last) == gap);
+        expect(
+            first > last || rows.first_gap(first, last) == gap,
+            "the first gap of a range",
+        )?;
     }
     Ok(())
 }
@@ -193,11 +228,18 @@ fn a_row_is_found_by_its_client_and_gaps_are_found(rt: HostRuntime) -> Result<()
 #[test]
 fn the_index_follows_a_row_to_another_client(rt: HostRuntime) -> Result<(), Fail> {
     let mut rows = table(rt.alloc(), &[(10, b"A", 1, 2), (11, b"B", 1, 2)])?;
-    set(rt.alloc(), &mut rows, (10, b"B", 1, 2))?;
-    assert!(rt; rows.of_client(b"A", 0) == None);
-    assert!(rt; rows.of_client(b"B", 0) == Some(10) && rows.of_client(b"B", 1) == Some(11));
-    assert!(rt; rows.len() == 2);
-    Ok(())
+    expect_move(rt.alloc(), &mut rows)
+}
+
+// Gives the row of client A to client B, and checks the rows of both.
+fn expect_move(alloc: Global, rows: &mut Rows) -> Result<(), Fail> {
+    set(alloc, rows, (10, b"B", 1, 2))?;
+    expect(rows.of_client(b"A", 0) == None, "no row of A")?;
+    expect(
+        rows.of_client(b"B", 0) == Some(10) && rows.of_client(b"B", 1) == Some(11),
+        "two rows of B",
+    )?;
+    expect(rows.len() == 2, "two rows")
 }
 
 // A lease, and whether setting it would change nothing.
@@ -212,13 +254,26 @@ const SAME: [(Lease, bool); 5] = [
 #[test]
 fn a_row_that_is_there_changes_nothing(rt: HostRuntime) -> Result<(), Fail> {
     let rows = table(rt.alloc(), &LEASES)?;
-    for (lease, is_there) in SAME {
-        assert!(rt; rows.has(&row(rt.alloc(), lease)?) == is_there);
+    expect_same(rt.alloc(), &rows)
+}
+
+// Reports whether setting a lease, as a row in a state, would change nothing.
+fn is_there(alloc: Global, rows: &Rows, lease: Lease, state: State) -> Result<bool, AllocError> {
+    let mut row = row(alloc, lease)?;
+    row.state = state;
+    Ok(rows.has(&row))
+}
+
+// Checks which leases of `SAME` would change nothing, and that another state would.
+fn expect_same(alloc: Global, rows: &Rows) -> Result<(), Fail> {
+    for (lease, changes_nothing) in SAME {
+        let found = is_there(alloc, rows, lease, State::Bound)?;
+        expect(found == changes_nothing, "a lease that is there, or not")?;
     }
-    let mut released = row(rt.alloc(), SAME[0].0)?;
-    released.state = State::Released;
-    assert!(rt; !rows.has(&released));
-    Ok(())
+    expect(
+        !is_there(alloc, rows, SAME[0].0, State::Released)?,
+        "a lease in another state",
+    )
 }
 
 // The names of ten clients.
@@ -228,13 +283,19 @@ const TEN: [&[u8]; 10] = [b"0", b"1", b"2", b"3", b"4", b"5", b"6", b"7", b"8", 
 // address's last digit.
 fn thousand(alloc: Global) -> Result<Rows, Fault> {
     let mut rows = table(alloc, &[])?;
+    set_thousand(alloc, &mut rows)?;
+    Ok(rows)
+}
+
+// Sets the leases of a thousand addresses.
+fn set_thousand(alloc: Global, rows: &mut Rows) -> Result<(), Fault> {
     for i in 0..1000u32 {
         let address = i * 617 % 1000;
         let client = TEN[(address % 10) as usize];
         let ends = u64::from(2000 - address);
-        set(alloc, &mut rows, (address, client, 5, ends))?;
+        set(alloc, rows, (address, client, 5, ends))?;
     }
-    Ok(rows)
+    Ok(())
 }
 
 // Reports whether every row and every client's rows are in their positions.
@@ -253,8 +314,7 @@ fn are_in_order(rows: &Rows) -> bool {
 #[test]
 fn rows_set_in_mixed_order_stand_in_order(rt: HostRuntime) -> Result<(), Fail> {
     let rows = thousand(rt.alloc())?;
-    assert!(rt; are_in_order(&rows));
-    assert!(rt; rows.least_end() == 1001);
+    assert!(rt; are_in_order(&rows) && rows.least_end() == 1001);
     Ok(())
 }
 
@@ -275,13 +335,26 @@ const ENDED: [(u32, u32, u64, Option<u32>); 10] = [
 #[test]
 fn a_row_that_has_ended_is_found(rt: HostRuntime) -> Result<(), Fail> {
     let mut rows = table(rt.alloc(), &LEASES)?;
+    expect_ended(rt.alloc(), &mut rows)
+}
+
+// Checks which rows have ended, before and after one is renewed.
+fn expect_ended(alloc: Global, rows: &mut Rows) -> Result<(), Fail> {
     for (first, last, moment, address) in ENDED {
-        assert!(rt; address_of(rows.next_ended(first, last, moment)) == address);
+        expect(
+            address_of(rows.next_ended(first, last, moment)) == address,
+            "a row that has ended",
+        )?;
     }
-    set(rt.alloc(), &mut rows, (13, b"", 9, 70))?;
-    assert!(rt; address_of(rows.next_ended(1, 20, 49)) == None);
-    assert!(rt; address_of(rows.next_ended(1, 20, 50)) == Some(11));
-    Ok(())
+    set(alloc, rows, (13, b"", 9, 70))?;
+    expect(
+        address_of(rows.next_ended(1, 20, 49)) == None,
+        "no row that has ended",
+    )?;
+    expect(
+        address_of(rows.next_ended(1, 20, 50)) == Some(11),
+        "the row that ended then",
+    )
 }
 
 // Returns the same, by looking at each row.
@@ -299,15 +372,23 @@ fn first_ended(rows: &Rows, first: u32, last: u32, moment: u64) -> Option<u32> {
 #[test]
 fn a_row_that_has_ended_is_found_among_those_renewed(rt: HostRuntime) -> Result<(), Fail> {
     let mut rows = thousand(rt.alloc())?;
+    expect_ended_among_renewed(rt.alloc(), &mut rows)
+}
+
+// Renews rows in mixed order, and checks after each which row of a range has ended.
+fn expect_ended_among_renewed(alloc: Global, rows: &mut Rows) -> Result<(), Fail> {
     for i in 0..300u32 {
         let address = i * 347 % 1000;
         let ends = u64::from(1000 + i * 59 % 1500);
-        set(rt.alloc(), &mut rows, (address, b"0", 6, ends))?;
+        set(alloc, rows, (address, b"0", 6, ends))?;
         let first = i * 211 % 1000;
         let last = first + i % 400;
         let moment = u64::from(1000 + i * 31 % 900);
         let found = address_of(rows.next_ended(first, last, moment));
-        assert!(rt; found == first_ended(&rows, first, last, moment));
+        expect(
+            found == first_ended(rows, first, last, moment),
+            "a row that has ended, among those renewed",
+        )?;
     }
     Ok(())
 }
@@ -324,11 +405,17 @@ pub(crate) fn name(number: u32) -> &'static [u8] {
 // again for another client.
 fn five_thousand(alloc: Global) -> Result<Rows, Fault> {
     let mut rows = table(alloc, &[])?;
+    set_five_thousand(alloc, &mut rows)?;
+    Ok(rows)
+}
+
+// Sets the leases of 5,000 addresses, and a thousand of them again.
+fn set_five_thousand(alloc: Global, rows: &mut Rows) -> Result<(), Fault> {
     for i in 0..6000u32 {
         let address = i * 3571 % 5000 * 3;
-        set(alloc, &mut rows, (address, name(i / 7), 5, 2000))?;
+        set(alloc, rows, (address, name(i / 7), 5, 2000))?;
     }
-    Ok(rows)
+    Ok(())
 }
 
 // Returns the least address of a client in a range, by looking at each row.
@@ -347,18 +434,28 @@ fn first_of(rows: &Rows, client: &[u8], first: u32, last: u64) -> Option<u32> {
 #[test]
 fn a_clients_row_is_found_in_a_range_of_thousands(rt: HostRuntime) -> Result<(), Fail> {
     let rows = five_thousand(rt.alloc())?;
+    expect_first_of_clients(&rows)
+}
+
+// Checks the least address of clients in ranges.
+fn expect_first_of_clients(rows: &Rows) -> Result<(), Fail> {
     let mut count = 0u32;
     for i in 0..80u32 {
         let first = i * 4129 % 15_000;
         let last = u64::from(first + i * 29 % 300);
         let found = address_of(rows.next_of_client(name(i), first, last));
-        assert!(rt; found == first_of(&rows, name(i), first, last));
+        expect(
+            found == first_of(rows, name(i), first, last),
+            "the next row of a client",
+        )?;
         if found.is_some() {
             count = count.wrapping_add(1);
         }
     }
-    assert!(rt; rows.len() == 5000 && count > 20 && count < 60);
-    Ok(())
+    expect(
+        rows.len() == 5000 && count > 20 && count < 60,
+        "the number of rows, and of searches that found one",
+    )
 }
 
 // Numbers, and the states that they stand for.
@@ -385,7 +482,12 @@ fn states_have_numbers(rt: HostRuntime) -> Result<(), Fail> {
 // Makes a table of one row, sets one more row in it, and returns what is read from it.
 fn two(alloc: Global) -> Result<(usize, Option<u32>), Fault> {
     let mut rows = table(alloc, &[(10, b"A", 1, 2)])?;
-    set(alloc, &mut rows, (11, b"B", 1, 2))?;
+    set_second(alloc, &mut rows)
+}
+
+// Sets one more row in a table, and returns what is read from it.
+fn set_second(alloc: Global, rows: &mut Rows) -> Result<(usize, Option<u32>), Fault> {
+    set(alloc, rows, (11, b"B", 1, 2))?;
     Ok((rows.len(), rows.of_client(b"B", 0)))
 }
 

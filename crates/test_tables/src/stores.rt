@@ -1,4 +1,5 @@
 use crate::fused::Fused;
+use crate::rows::expect;
 use kd_keeps::{Cause, Keeps, StoreFault};
 use kd_rows::{Row, State};
 use kd_wire::Bytes;
@@ -21,24 +22,40 @@ fn lease(alloc: Global, address: u32) -> Result<Row, AllocError> {
 fn third(alloc: Global, store: &mut Fused) -> Result<Result<(), StoreFault>, Fail> {
     let first = lease(alloc, 10)?;
     let second = lease(alloc, 11)?;
+    third_over(store, &first, &second)
+}
+
+// Does the same with these rows.
+fn third_over(
+    store: &mut Fused,
+    first: &Row,
+    second: &Row,
+) -> Result<Result<(), StoreFault>, Fail> {
     if store.failed() || !first.is_in_range() || !second.is_in_range() {
         return Err("a new store has not failed".into());
     }
-    store.put(&first)?;
+    store.put(first)?;
     let rows = store.rows()?;
     if rows.len() != 1 {
         return Err("one row was put".into());
     }
-    Ok(store.put(&second))
+    Ok(store.put(second))
 }
 
 #[test]
 fn a_store_fails_once_its_fuse_has_burnt_down(rt: HostRuntime) -> Result<(), Fail> {
     let mut store = Fused::new(rt.alloc(), 2)?;
-    let answer = third(rt.alloc(), &mut store)?;
-    assert!(rt; answer == Err(StoreFault::Sql(Cause::SystemIoFailure)));
-    assert!(rt; store.failed());
-    Ok(())
+    expect_third_to_fail(rt.alloc(), &mut store)
+}
+
+// Checks that the third call of a store fails, and that the store has failed then.
+fn expect_third_to_fail(alloc: Global, store: &mut Fused) -> Result<(), Fail> {
+    let answer = third(alloc, store)?;
+    expect(
+        answer == Err(StoreFault::Sql(Cause::SystemIoFailure)),
+        "the fault of the third call",
+    )?;
+    expect(store.failed(), "a store that has failed")
 }
 
 #[test]

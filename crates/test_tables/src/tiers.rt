@@ -2,7 +2,7 @@ ghost use Rattle.std.specs.Prelude.{◌≤◌};
 
 // A table that grows row by row, over three tiers of 4,096 numbers.
 
-use crate::rows::{Fault, address_of, name, set, table};
+use crate::rows::{Fault, address_of, expect, name, set, table};
 use kd_rows::{Row, Rows};
 use std::alloc::Global;
 use std::test::Fail;
@@ -23,12 +23,18 @@ fn end_of(number: u32) -> u64 {
 // Makes the table, with rows set in mixed order.
 fn grown(alloc: Global) -> Result<Rows, Fault> {
     let mut rows = table(alloc, &[])?;
+    set_all(alloc, &mut rows)?;
+    Ok(rows)
+}
+
+// Sets the rows in mixed order.
+fn set_all(alloc: Global, rows: &mut Rows) -> Result<(), Fault> {
     for i in 0..COUNT {
         let number = i * 6007 % COUNT;
         let lease = (place_of(number), name(number), 5, end_of(number));
-        set(alloc, &mut rows, lease)?;
+        set(alloc, rows, lease)?;
     }
-    Ok(rows)
+    Ok(())
 }
 
 // Reports whether a row is the one with a number.
@@ -100,10 +106,18 @@ fn is_searched(rows: &Rows, first: u32, last: u32) -> bool
 #[test]
 fn a_table_grows_over_several_tiers(rt: HostRuntime) -> Result<(), Fail> {
     let rows = grown(rt.alloc())?;
-    assert!(rt; are_found(&rows));
+    expect_found(&rows)
+}
+
+// Checks that rows are found, and searches of 300 ranges.
+fn expect_found(rows: &Rows) -> Result<(), Fail> {
+    expect(are_found(rows), "rows by index, address and client")?;
     for i in 0..300u32 {
         let first = i * 4129 % 11_400;
-        assert!(rt; is_searched(&rows, first, first + i % 100));
+        expect(
+            is_searched(rows, first, first + i % 100),
+            "searches of a range",
+        )?;
     }
     Ok(())
 }

@@ -1,6 +1,6 @@
 // A table with withheld addresses, against a simple list of what is at each address.
 
-use crate::rows::{Fault, Lease, address_of, name, row};
+use crate::rows::{Fault, Lease, address_of, expect, name, row};
 use kd_rows::{Row, Rows, Withheld};
 use std::alloc::{AllocError, Global};
 use std::test::Fail;
@@ -211,11 +211,18 @@ fn change(alloc: Global, table: &mut Withheld, places: &mut Vec<Place>) -> Resul
 fn withheld_addresses_are_passed_over(rt: HostRuntime) -> Result<(), Fail> {
     let mut places = list(rt.alloc(), MANY, MANY - 1000)?;
     let mut table = table_of(rt.alloc(), &places)?;
-    assert!(rt; are_searched(&table, &places));
-    let changed = change(rt.alloc(), &mut table, &mut places);
-    assert!(rt; changed == Ok(()));
-    assert!(rt; are_rows(&table, &places) && are_searched(&table, &places));
-    Ok(())
+    expect_same(rt.alloc(), &mut table, &mut places)
+}
+
+// Checks the table before and after rows are set.
+fn expect_same(alloc: Global, table: &mut Withheld, places: &mut Vec<Place>) -> Result<(), Fail> {
+    expect(are_searched(table, places), "searches before rows are set")?;
+    let changed = change(alloc, table, places);
+    expect(changed == Ok(()), "setting rows")?;
+    expect(
+        are_rows(table, places) && are_searched(table, places),
+        "searches after rows are set",
+    )
 }
 
 // The table has the rows of the list, and is searched as it says.
@@ -265,9 +272,15 @@ fn are_set(alloc: Global, table: &mut Withheld, places: &mut Vec<Place>) -> bool
 fn want_of_memory_is_answered_as_such(rt: HostRuntime) -> Result<(), Fail> {
     for end in [0u32, 40] {
         let mut places = list(rt.alloc(), FEW, end)?;
-        assert!(rt; is_made(rt.alloc(), &places));
-        let mut table = table_of(rt.alloc(), &places)?;
-        assert!(rt; are_set(rt.alloc(), &mut table, &mut places));
+        expect_made_and_set(rt.alloc(), &mut places)?;
     }
     Ok(())
+}
+
+// Makes a table, and makes it again and sets rows in it.
+fn expect_made_and_set(alloc: Global, places: &mut Vec<Place>) -> Result<(), Fail> {
+    expect(is_made(alloc, places), "making a table")?;
+    let mut table = table_of(alloc, places)?;
+    let was_set = are_set(alloc, &mut table, places);
+    expect(was_set, "setting rows one after another")
 }
