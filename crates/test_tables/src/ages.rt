@@ -144,14 +144,11 @@ fn fall_in_age(rows: &Rows, addresses: &[u32]) -> bool {
 #[test]
 fn rows_set_in_mixed_order_are_found_by_age(rt: HostRuntime) -> Result<(), Fail> {
     let rows = mixed(rt.alloc())?;
-    let total = expect_by_age(rt.alloc(), &rows)?;
-    assert!(rt; total == rows.len() && total == 211);
-    Ok(())
+    expect_by_age(rt.alloc(), &rows)
 }
 
-// Checks the rows of each client in each state, in two ranges, and returns how many there are in
-// the first range.
-fn expect_by_age(alloc: Global, rows: &Rows) -> Result<usize, Fail> {
+// Checks the rows of each client in each state, in two ranges, of which the first has all rows.
+fn expect_by_age(alloc: Global, rows: &Rows) -> Result<(), Fail> {
     let mut total = 0usize;
     for i in 0..5u32 {
         for number in 1..5u8 {
@@ -167,7 +164,7 @@ fn expect_by_age(alloc: Global, rows: &Rows) -> Result<usize, Fail> {
             }
         }
     }
-    Ok(total)
+    expect(total == rows.len() && total == 211, "the number of rows")
 }
 
 // Checks that all rows of a client in a state and a range are found, newest first, and returns how
