@@ -8,6 +8,7 @@ use crate::mixed_number;
 use kd_config::ConfigFault;
 use kd_lease::{Leases, PlanKind, Verdict, decide_on};
 use kd_options::Message;
+use kd_rows::Row;
 use message::{OTHER_SERVER, SERVER, bad_cookie, discover, noise, renewal, request};
 use settings::{Place, Setting, config_of};
 use std::alloc::{AllocError, Global};
@@ -94,6 +95,12 @@ pub(crate) fn times_done(
     scene: &Scene,
     amounts: Amounts,
 ) -> Result<u32, ConfigFault> {
+    let mut desk = desk_of(alloc, scene, amounts)?;
+    again(alloc, &mut desk, amounts.rounds)
+}
+
+// Makes the leases of a task.
+fn desk_of(alloc: Global, scene: &Scene, amounts: Amounts) -> Result<Desk, ConfigFault> {
     let (_, layout, place, asks) = *scene;
     let size = amounts.rows;
     let setting = Setting {
@@ -103,13 +110,12 @@ pub(crate) fn times_done(
         place,
     };
     let config = config_of(alloc, &setting)?;
-    let mut desk = Desk {
+    Ok(Desk {
         leases: leases_of(alloc, config, layout, size)?,
         size,
         layout,
         asks,
-    };
-    Ok(again(alloc, &mut desk, amounts.rounds)?)
+    })
 }
 
 // Returns how many addresses the pools have: as many as there are rows, or enough for them and
@@ -121,7 +127,8 @@ fn pool_size(layout: Layout, size: u32) -> u32 {
     }
 }
 
-fn again(alloc: Global, desk: &mut Desk, rounds: u32) -> Result<u32, AllocError> {
+// Returns how often the task was done, out of `rounds`.
+fn again(alloc: Global, desk: &mut Desk, rounds: u32) -> Result<u32, ConfigFault> {
     let mut done = 0u32;
     for round in 0..rounds {
         if is_done(alloc, desk, round)? {
@@ -179,22 +186,33 @@ fn given_address(
     bytes: &[u8; 300],
     round: u32,
 ) -> Result<Option<u32>, AllocError> {
-    let Ok(message) = Message::read(alloc, bytes) else {
-        return Ok(None);
-    };
-    let names = desk.leases.config().classes().held(alloc, &message)?;
     let moment = MOMENT + u64::from(round);
-    let over = desk.leases.ground();
-    let Verdict { row, answer } = decide_on(alloc, over, &message, &names, moment)?;
-    if let Some(row) = row {
-        if sets_rows(desk.asks) {
-            set(&mut desk.leases, row)?;
-        }
+    let (row, address) = decide_datagram(alloc, &desk.leases, bytes, moment)?;
+    match row {
+        Some(row) if sets_rows(desk.asks) => set(&mut desk.leases, row)?,
+        _ => {}
     }
-    match answer {
-        Ok(plan) if plan.kind != PlanKind::Nak => Ok(Some(plan.yiaddr)),
-        _ => Ok(None),
-    }
+    Ok(address)
+}
+
+// Decides a datagram: the row that it sets, if it does, and the address that the reply gives, if
+// there is a reply that is not a NAK.
+fn decide_datagram(
+    alloc: Global,
+    leases: &Leases,
+    bytes: &[u8; 300],
+    moment: u64,
+) -> Result<(Option<Row>, Option<u32>), AllocError> {
+    let Ok(message) = Message::read(alloc, bytes) else {
+        return Ok((None, None));
+    };
+    let names = leases.config().classes().held(alloc, &message)?;
+    let Verdict { row, answer } = decide_on(alloc, leases.ground(), &message, &names, moment)?;
+    let address = match answer {
+        Ok(plan) if plan.kind != PlanKind::Nak => Some(plan.yiaddr),
+        _ => None,
+    };
+    Ok((row, address))
 }
 
 // Reports whether the rows of replies are set. They are if each round then still finds an

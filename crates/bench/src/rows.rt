@@ -13,6 +13,17 @@ pub(crate) fn times_done(
     rounds: u32,
 ) -> Result<u32, AllocError> {
     let mut rows = table(alloc, size)?;
+    again(alloc, &mut rows, work, size, rounds)
+}
+
+// Does the task over a table, and returns how often it was done.
+fn again(
+    alloc: Global,
+    rows: &mut Rows,
+    work: &str,
+    size: u32,
+    rounds: u32,
+) -> Result<u32, AllocError> {
     let mut done = 0u32;
     for round in 0..rounds {
         let number = mixed_number(round) % size.max(1);
@@ -22,7 +33,7 @@ pub(crate) fn times_done(
             "gap" => rows.first_gap(number, u32::MAX).is_some(),
             "renew" | "add" | "rise" => {
                 let (address, client) = lease(work, size, round);
-                set(alloc, &mut rows, address, client, round)?
+                set(alloc, rows, address, client, round)?
             }
             _ => rows.at(number as usize).is_some(),
         };
