@@ -11,7 +11,7 @@ fn folder(rt: &HostRuntime, test: &str) -> Result<String, Fail> {
     let id = process::id(rt.process());
     let temp = env::temp_dir(rt)?;
     let within = temp.as_path().to_string_lossy();
-    let path = format!(in alloc; "{within}/kd_server_tests_{test}_{id}")?;
+    let path = format!(in alloc; "{within}/test_server_{test}_{id}")?;
     if fs::exists(rt, path.as_str())? {
         fs::remove_dir_all(rt, path.as_str())?;
     }
